@@ -1,8 +1,7 @@
 -- Words by their fields: two records with the same fields are one, and so are two words.
-use Rattle.std.proofs.Common.{◌≡◌, ℕ, ◌+◌, ◌*◌, ◌/◌, ◌%◌, ◌<◌, ◌^◌, Bool, true, false, ◌==◌, ap, refl, arith, sym, ◌∙◌}
-use Rattle.std.proofs.lemmas.Bool.{eqb-true}
+use Rattle.std.proofs.Common.{◌≡◌, ℕ, ◌/◌, ◌%◌, ◌^◌, ◌==◌, ap, arith}
 use Rattle.state_word.specs.declared.word.StateWord.{StateWord}
-use Rattle.state_word.specs.Fields.{bit, fields}
+use Rattle.state_word.specs.Fields.{fields}
 
 -- two records with the same fields are one
 pub same_record : (a b : StateWord) → a.pins ≡ b.pins → a.usage ≡ b.usage → a.locked ≡ b.locked → a.dirty ≡ b.dirty → a.valid ≡ b.valid → a.tag_valid ≡ b.tag_valid → a.in_progress ≡ b.in_progress → a.failed ≡ b.failed

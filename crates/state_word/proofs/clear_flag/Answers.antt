@@ -1,4 +1,4 @@
-use Rattle.std.proofs.Common.{◌≡◌, ◌<◌, ◌^◌, arith}
+use Rattle.std.proofs.Common.{arith}
 use Rattle.state_word.proofs.Masks.{clears_flag}
 use Rattle.state_word.proofs.clear_flag.Goals as goal
 

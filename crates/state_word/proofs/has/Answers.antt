@@ -1,5 +1,3 @@
-use Rattle.std.proofs.Common.{◌≡◌, ◌==◌, ℕ, ◌^◌, ap, ◌∙◌, bit_and}
-use Rattle.state_word.specs.Flags.{place_of}
 use Rattle.state_word.proofs.Masks.{has_flag}
 use Rattle.state_word.proofs.has.Goals as goal
 

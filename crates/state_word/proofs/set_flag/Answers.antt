@@ -1,4 +1,3 @@
-use Rattle.std.proofs.Common.{◌≡◌}
 use Rattle.state_word.proofs.Masks.{sets_flag}
 use Rattle.state_word.proofs.set_flag.Goals as goal
 
