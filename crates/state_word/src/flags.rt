@@ -6,7 +6,8 @@ ghost use Rattle.state_word.specs.Flags.{place_of};
 use crate::word::Flag;
 use bitflags::{Flags, bitflag_items};
 
-/// A set of flags. A state word is one too: what no flag names in it, the counts and the waiter's number, goes along untouched.
+/// A set of flags. A state word is one too: what no flag names in it, the counts and the waiter's
+/// number, goes along untouched.
 #[derive(Clone, Copy, PartialEq, Eq)]
 pub(crate) struct StateFlags(u64);
 

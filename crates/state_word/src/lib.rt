@@ -1,13 +1,22 @@
-//! The state word of a frame of the buffer pool: reference count, usage count and flags packed into one
-//! number, so that one atomic operation changes them together.
+//! The state word of a frame of the buffer pool: reference count, usage count and flags packed into
+//! one number, so that one atomic operation changes them together.
 //!
-//! Bits 0 to 31 are laid out as in PostgreSQL 16's `src/include/storage/buf_internals.h`:
-//! 18 bits of reference count, 4 bits of usage count, 10 flags. The high half is this project's own:
-//! the number of the backend that waits for the frame's pins to go, while `PIN_COUNT_WAITER` is set, else 0.
-//! (PostgreSQL keeps that in the buffer descriptor, as `wait_backend_pgprocno`.)
+//! Bits 0 to 31 lie as in PostgreSQL 16's `src/include/storage/buf_internals.h`:
 //!
-//! The functions are pure. Each takes a word and gives the word after one change, and its contract says
-//! what becomes of each field; all other fields stay.
+//! | Bits | Field |
+//! |---|---|
+//! | 0 to 17 | reference count |
+//! | 18 to 21 | usage count |
+//! | 22 to 31 | the flags, in the order of [`Flag`] |
+//! | 32 to 63 | the number of the backend that waits, while `PIN_COUNT_WAITER` is set, else 0 |
+//!
+//! The high half is this project's own: PostgreSQL keeps the waiter in the buffer descriptor, as
+//! `wait_backend_pgprocno`.
+//!
+//! The functions are pure. Each change takes a word and gives the word after it, and its contract says
+//! what becomes of each field, as `specs/Fields.antt` has it: a field that it does not name stays. They
+//! hold for every word, also for one that the manager never makes, as one with a usage count of 9. The
+//! functions of PostgreSQL that the docs name are in `src/backend/storage/buffer/bufmgr.c`.
 #![tactic(auto)]
 
 ghost use Rattle.std.specs.Prelude.{◌≡◌, ◌<◌, ◌^◌, ℕ, true, false};
@@ -65,13 +74,14 @@ pub fn has(word: u64, flag: Flag) -> bool
     StateFlags::from_bits_retain(word).contains(StateFlags::from(flag))
 }
 
-/// Two words with the same fields are one word. So each contract below, which says every field of the result, fixes the result.
+/// Two words with the same fields are one word. So each contract below, which says every field of the
+/// result, fixes the result.
 pub fn fields_fix_the_word()
     ensures { (v w : ℕ) → fields v ≡ fields w → v ≡ w }
 {}
 
-/// The word with one more pin (`PinBuffer` in `bufmgr.c`). A pin for a buffer ring raises the usage count from 0 alone, another pin
-/// raises it up to `MAX_USAGE`. A count above that stays.
+/// The word with one more pin (`PinBuffer`). A pin for a buffer ring raises the usage count from 0
+/// alone, another pin raises it where it is below `MAX_USAGE`.
 #[tactic(auto, unfolding(crate::specs::Fields::fields))]
 pub fn pinned(word: u64, ring: bool) -> u64
     requires { (fields word).pins < MAX_PINS }
@@ -94,7 +104,8 @@ pub fn unpinned(word: u64) -> u64
     word - ONE_PIN
 }
 
-/// The word with the usage count one lower, as the clock sweep leaves it (`StrategyGetBuffer` in `freelist.c`).
+/// The word with the usage count one lower, as the clock sweep leaves it (`StrategyGetBuffer` of
+/// `freelist.c`).
 #[tactic(auto, unfolding(crate::specs::Fields::fields))]
 pub fn usage_down(word: u64) -> u64
     requires { 0 < (fields word).usage }
@@ -124,8 +135,8 @@ pub fn io_started(word: u64) -> u64
     set_flag(word, Flag::IoInProgress)
 }
 
-/// The word after a read or a write of the page (`TerminateBufferIO`). A good write leaves a page dirty, and the checkpoint with it
-/// to do, where it was dirtied again meanwhile.
+/// The word after a read or a write of the page (`TerminateBufferIO`). A good write leaves the page
+/// dirty, and needed by the checkpoint, where it was dirtied again meanwhile.
 pub fn io_ended(word: u64, end: IoEnd) -> u64
     ensures { fields result ≡ io_ended_fields end (fields word) }
 {
@@ -155,7 +166,8 @@ pub fn dirtied(word: u64) -> u64
     set_flag(set_flag(word, Flag::Dirty), Flag::JustDirtied)
 }
 
-/// The word before the page's bytes are written: a change from now on is seen at the end (`FlushBuffer`).
+/// The word before the page's bytes are written, so that a change from now on is seen at the end
+/// (`FlushBuffer`).
 pub fn just_dirtied_cleared(word: u64) -> u64
     ensures { fields result ≡ just_dirtied_cleared_fields (fields word) }
 {
@@ -177,7 +189,8 @@ pub fn assigned(word: u64) -> u64
     set_usage(set_flag(tagged, Flag::Permanent), 1)
 }
 
-/// The word of a frame whose tag was taken away (`InvalidateVictimBuffer`). Pins, the header's lock and the waiter stay.
+/// The word of a frame whose tag was taken away (`InvalidateVictimBuffer`). Pins, the header's lock and
+/// the waiter stay.
 pub fn cleared(word: u64) -> u64
     ensures { fields result ≡ cleared_fields (fields word) }
 {
@@ -188,7 +201,8 @@ pub fn cleared(word: u64) -> u64
     clear_flag(clear_flag(quiet, Flag::CheckpointNeeded), Flag::Permanent)
 }
 
-/// The word while the backend of this number waits until its pin is the only one (`LockBufferForCleanup`).
+/// The word while the backend of this number waits until its pin is the only one
+/// (`LockBufferForCleanup`).
 pub fn waiter_set(word: u64, number: u32) -> u64
     ensures { fields result ≡ waiter_set_fields number (fields word) }
 {

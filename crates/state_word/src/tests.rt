@@ -19,6 +19,7 @@ const FLAGS: [Flag; 10] = [
 #[test]
 fn fields_of_a_page_that_was_read_once(rt: HostRuntime) {
     let word = 0x83040001;
+    fields_fix_the_word();
     assert_eq!(rt; pins(word), 1);
     assert_eq!(rt; usage(word), 1);
     assert_eq!(rt; waiter(word), 0);
