@@ -26,7 +26,7 @@ abbrev pub log_rule : Rule
 log_rule = record (text_rule (codes "log")) { long = Some (codes "log") }
 
 -- the options of each command, with their defaults
-abbrev pub with_options : App → App
+unfoldable pub with_options : App → App
 with_options app =
     let a = with_rule app (option_rule backends_range (codes "1")) in
     let b = with_rule a (option_rule frames_range (codes "128")) in
@@ -54,7 +54,7 @@ bare_app =
     let app = new_app (codes "page_tool") in
     record app { top = record app.top { no_binary_name = true; subcommand_required = true } }
 
-abbrev pub tool_app : App
+unfoldable pub tool_app : App
 tool_app =
     let a = with_subcommand bare_app (path_app (codes "scan")).top in
     let b = with_subcommand a (path_app (codes "dump")).top in
