@@ -19,6 +19,10 @@ with_page tag page pages = λ t. if tag_eq t tag then Some page else pages t
 abbrev pub with_mark : Tag → Bool → Marks → Marks
 with_mark tag mark marks = λ t. if tag_eq t tag then mark else marks t
 
+-- no tag has a page
+abbrev pub no_pages : Pages
+no_pages = λ t. None
+
 -- no tag is marked
 abbrev pub no_marks : Marks
 no_marks = λ t. false
