@@ -1,0 +1,65 @@
+-- The command that words spell.
+use Rattle.std.specs.Prelude.{ℕ, List, Bool, not, ◌&&◌, Option, Some, None, codes, option_and_then, if◌then◌else◌}
+use Rattle.std.specs.Str.{bytes_eq}
+use Rattle.clap.specs.Words.{Row, Text, fault_of, first_of, subcommand_of}
+use Rattle.clap.specs.Walk.{is_empty}
+use Rattle.segment_store.specs.Paths.{fork_of}
+use Rattle.command_line.specs.RelationPath.{is_main_fork, is_relation_path, is_segment_of}
+use Rattle.command_line.specs.Numbers.{HasOptionsInRange, LiesIn, blocks_range, number_in, options_in, seed_range}
+use Rattle.command_line.specs.Grammar.{tool_app}
+use Rattle.command_line.specs.declared.numbers.Options.{Options}
+use Rattle.command_line.specs.declared.commands.Command.{Command}
+use Rattle.command_line.specs.declared.commands.Command.TheVariants as command
+
+-- a command, with its texts as bytes
+pub data Spelled : Type 0 where
+  scan : Text → Options → Spelled
+  dump : Text → Options → Spelled
+  rewrite : Text → Text → Options → Spelled
+  sample : ℕ → ℕ → Options → Spelled
+
+abbrev pub spelled : Command → Spelled
+spelled (command.Scan path options) = scan path.now options
+spelled (command.Dump path options) = dump path.now options
+spelled (command.Rewrite path log options) = rewrite path.now log.now options
+spelled (command.Sample seed blocks options) = sample seed blocks options
+
+-- each number of the command lies in its range
+abbrev pub HasNumbersInRange : Spelled → Type 0
+HasNumbersInRange (scan path options) = HasOptionsInRange options
+HasNumbersInRange (dump path options) = HasOptionsInRange options
+HasNumbersInRange (rewrite path log options) = HasOptionsInRange options
+HasNumbersInRange (sample seed blocks options) =
+    LiesIn seed_range seed × LiesIn blocks_range blocks × HasOptionsInRange options
+
+-- a scan or a dump, where the path names a file of a relation
+abbrev pub of_path : (Text → Spelled) → Text → Option Spelled
+of_path command path = if is_relation_path path then Some (command path) else None
+
+-- a rewrite, where the path names a relation's main fork and the log is no file of it
+abbrev pub of_path_and_log : Options → Text → Text → Option Spelled
+of_path_and_log options path log =
+    if is_relation_path path && (is_main_fork (fork_of path) && not (is_segment_of path log))
+    then Some (rewrite path log options) else None
+
+-- the command of a subcommand's name, its matches and its options
+abbrev pub command_named : Text → List Row → Options → Option Spelled
+command_named name rows options =
+    if bytes_eq name (codes "scan")
+    then option_and_then (of_path (λ path. scan path options)) (first_of (codes "path") rows)
+    else (if bytes_eq name (codes "dump")
+    then option_and_then (of_path (λ path. dump path options)) (first_of (codes "path") rows)
+    else (if bytes_eq name (codes "rewrite")
+    then option_and_then (λ path. option_and_then (of_path_and_log options path) (first_of (codes "log") rows)) (first_of (codes "path") rows)
+    else (if bytes_eq name (codes "sample")
+    then option_and_then (λ seed. option_and_then (λ blocks. Some (sample seed blocks options)) (number_in blocks_range rows)) (number_in seed_range rows)
+    else None)))
+
+-- the command of a subcommand and its matches
+abbrev pub command_met : Text × List Row → Option Spelled
+command_met met = option_and_then (command_named met.0 met.1) (options_in met.1)
+
+-- the command that the words spell: none where clap refuses them, or where a path or a log doesn't pass its test
+unfoldable pub command_of : List Text → Option Spelled
+command_of words =
+    if is_empty (fault_of tool_app words) then option_and_then command_met (subcommand_of tool_app words) else None

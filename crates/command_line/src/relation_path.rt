@@ -1,0 +1,1 @@
+// Which paths name a file of a relation.
