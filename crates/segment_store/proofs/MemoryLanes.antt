@@ -3,9 +3,9 @@ use Rattle.std.proofs.Common.{rules, ◌≡◌, Bool, true, false, cond, Option,
 use Rattle.std.proofs.lemmas.Bool.Decides.{nat_tests}
 use Rattle.std.specs.Option.{option_map_or}
 use Rattle.std.specs.BTreeMap as tree
-use Rattle.block_tag.specs.contracts.TagOrd.TheImpl as tags
+use Rattle.block_tag.specs.contracts.tag.TagOrd.TheImpl as tags
 use Rattle.block_tag.specs.Names.{tag_eq}
-use Rattle.block_tag.specs.declared.Tag.{Tag}
+use Rattle.block_tag.specs.declared.tag.Tag.{Tag}
 use Rattle.segment_store.specs.Contents.{with_mark, with_page}
 use Rattle.segment_store.specs.MemoryLane.{marks_of, pages_of}
 use Rattle.segment_store.specs.declared.memory_lane.MemBlock.{MemBlock}

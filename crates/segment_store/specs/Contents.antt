@@ -1,7 +1,7 @@
 -- What lanes and sinks hold, where it is known: None where it isn't.
 use Rattle.std.specs.Prelude.{◌≡◌, ℕ, List, ◌++◌, length, Option, Some, None, Bool, false, Result, OnOk, OnErr, IfSome, IsSomeAnd, MatchResult, option_map, if◌then◌else◌}
 use Rattle.block_tag.specs.Names.{tag_eq}
-use Rattle.block_tag.specs.declared.Tag.{Tag}
+use Rattle.block_tag.specs.declared.tag.Tag.{Tag}
 
 -- pages by their tags
 abbrev pub Pages : Type 0

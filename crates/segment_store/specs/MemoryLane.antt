@@ -2,7 +2,7 @@
 use Rattle.std.specs.Prelude.{false, option_map}
 use Rattle.std.specs.Option.{option_map_or}
 use Rattle.std.specs.BTreeMap as tree
-use Rattle.block_tag.specs.contracts.TagOrd.TheImpl as tags
+use Rattle.block_tag.specs.contracts.tag.TagOrd.TheImpl as tags
 use Rattle.segment_store.specs.Contents.{Marks, Pages}
 use Rattle.segment_store.specs.declared.memory_lane.MemLane.{MemLane}
 
