@@ -1,7 +1,7 @@
 -- What lanes and sinks hold, where it is known: None where it isn't.
 use Rattle.std.specs.Prelude.{◌≡◌, ℕ, List, ◌++◌, length, Option, Some, None, Bool, false, Result, OnOk, OnErr, IfSome, IsSomeAnd, MatchResult, option_map, if◌then◌else◌}
 use Rattle.block_tag.specs.Names.{tag_eq}
-use Rattle.block_tag.specs.declared.Tag.{Tag}
+use Rattle.block_tag.specs.declared.tag.Tag.{Tag}
 
 -- pages by their tags
 abbrev pub Pages : Type 0
@@ -18,6 +18,10 @@ with_page tag page pages = λ t. if tag_eq t tag then Some page else pages t
 -- the same marks but for this one
 abbrev pub with_mark : Tag → Bool → Marks → Marks
 with_mark tag mark marks = λ t. if tag_eq t tag then mark else marks t
+
+-- no tag has a page
+abbrev pub no_pages : Pages
+no_pages = λ t. None
 
 -- no tag is marked
 abbrev pub no_marks : Marks

@@ -3,8 +3,8 @@ use Rattle.std.specs.Prelude.{◌≡◌, ℕ, ◌<◌, ◌==◌, ◌&&◌, Bool,
 use Rattle.std.specs.Option.{ForSome, option_and_then}
 use Rattle.std.specs.List.{range_with_len}
 use Rattle.block_tag.specs.Names.{lane_number, tag_eq}
-use Rattle.block_tag.specs.declared.Fork.{Fork}
-use Rattle.block_tag.specs.declared.Tag.{Tag}
+use Rattle.block_tag.specs.declared.tag.Fork.{Fork}
+use Rattle.block_tag.specs.declared.tag.Tag.{Tag}
 use Rattle.segment_store.specs.Contents.{Marks, Pages, no_marks}
 
 -- the tag of a block of the one relation that is open

@@ -5,3 +5,6 @@ pub mod Lanes
 pub mod Paths
 pub mod Restored
 pub mod Opening
+pub mod Plan
+pub mod Memory
+pub mod MemoryLane

@@ -1,6 +1,6 @@
 -- What opening a relation answers.
 use Rattle.std.specs.Prelude.{◌≡◌, ◌≢◌, ℕ, List, [], length, All, Option, IfSome, map, sum_by}
-use Rattle.block_tag.specs.declared.Fork.{Fork}
+use Rattle.block_tag.specs.declared.tag.Fork.{Fork}
 use Rattle.segment_store.specs.declared.host.Opened.{Opened}
 use Rattle.segment_store.specs.Contents.{Marks, Pages, no_marks}
 use Rattle.segment_store.specs.Lanes.{HasBlocks, HoldPages, dealt}

@@ -1,8 +1,8 @@
 -- The paths of a host, and the fork that a path names by its end.
 use Rattle.std.specs.Prelude.{ℕ, List, Bool, codes, nat_eq, if◌then◌else◌}
 use Rattle.std.specs.List.{ends_with}
-use Rattle.block_tag.specs.declared.Fork.{Fork}
-use Rattle.block_tag.specs.declared.Fork.TheVariants.{Main, Fsm, Vm, Init}
+use Rattle.block_tag.specs.declared.tag.Fork.{Fork}
+use Rattle.block_tag.specs.declared.tag.Fork.TheVariants.{Main, Fsm, Vm, Init}
 
 -- paths to the bytes of their segments, of which there is none where the relation isn't there
 abbrev pub Paths : Type 0

@@ -2,7 +2,7 @@
 use Rattle.std.specs.Prelude.{ℕ, false, ◌+◌, ◌*◌, List, [], ◌∷◌, ◌++◌, length, take, drop, unwrap_or, Option, if◌then◌else◌}
 use Rattle.std.specs.List.{concat}
 use Rattle.std.specs.Str.{bytes_eq}
-use Rattle.block_tag.specs.declared.Fork.{Fork}
+use Rattle.block_tag.specs.declared.tag.Fork.{Fork}
 use Rattle.segment_store.specs.Contents.{Marks, Pages}
 use Rattle.segment_store.specs.Lanes.{mark_in, page_in, tag_at}
 use Rattle.segment_store.specs.Paths.{OpenAt, Paths, PathMarks, fork_of}
