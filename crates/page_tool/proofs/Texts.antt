@@ -97,3 +97,8 @@ pub puts_front : {E : Type 0} (text pending : List ℕ) (old mid new : Option (L
     → Puts {E = E} text old new (Err e)
 puts_front text pending None mid new e first second = record { ok = tt; failed = tt }
 puts_front text pending (Some old) mid new e first second = record { ok = tt; failed = fronts_at text pending old mid new first second }
+
+-- a put of nothing leaves an empty front
+pub puts_nothing : {E : Type 0} (text : List ℕ) (old : Option (List ℕ)) (e : E) → Puts {E = E} text old old (Err e)
+puts_nothing text None e = record { ok = tt; failed = tt }
+puts_nothing text (Some old) e = record { ok = tt; failed = record { front = []; rest = text; whole = refl; is = sym (append-nil old) } }
