@@ -1,0 +1,6 @@
+//! Scans the pages of a relation.
+#![tactic(auto)]
+
+mod scan;
+
+fn main() {}

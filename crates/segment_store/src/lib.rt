@@ -1,0 +1,17 @@
+// What the buffer manager asks of the outside, as traits, with forms in memory and over files.
+#![tactic(auto)]
+
+mod count;
+mod device;
+mod host;
+mod memory;
+mod memory_lane;
+mod paths;
+mod plan;
+
+pub use count::FaultCount;
+pub use device::{BlockLane, Failed, Sink};
+pub use host::{Host, HostError, Opened};
+pub use memory::MemSink;
+pub use paths::fork_of_path;
+pub use plan::FaultPlan;
