@@ -1,5 +1,5 @@
 -- The command line as clap reads it: a simple command with one level of subcommands.
-use Rattle.std.specs.Prelude.{ℕ, true, List, [], ◌∷◌, Some, codes}
+use Rattle.std.specs.Prelude.{true, [], ◌∷◌, Some, codes}
 use Rattle.clap.specs.Words.{App, Rule, Text, new_app, new_rule, with_rule, with_subcommand}
 use Rattle.clap.specs.declared.builder.value_parser.ValueParser.TheVariants as parser
 use Rattle.command_line.specs.Numbers.{NumberRange, backends_range, bgwriter_range, blocks_range, frames_range, lanes_range, seed_range, segment_blocks_range}

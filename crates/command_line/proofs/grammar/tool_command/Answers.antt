@@ -1,4 +1,3 @@
-use Rattle.std.proofs.Common.{◌≡◌}
 use Rattle.command_line.specs.Grammar.{tool_app}
 use Rattle.command_line.proofs.Built.{subcommand_added}
 use Rattle.command_line.proofs.grammar.tool_command.Goals as goal

@@ -1,4 +1,4 @@
-use Rattle.std.proofs.Common.{◌≡◌, ◌∙◌, refl}
+use Rattle.std.proofs.Common.{refl}
 use Rattle.command_line.specs.Grammar.{with_options}
 use Rattle.command_line.proofs.Built.{arg_added}
 use Rattle.command_line.proofs.grammar.with_options.Goals as goal

@@ -1,4 +1,4 @@
-use Rattle.std.proofs.Common.{◌≡◌, ◌^◌, arith}
+use Rattle.std.proofs.Common.{arith}
 use Rattle.command_line.specs.Numbers.{range_of}
 use Rattle.command_line.proofs.Ranges.{number_of-refused, number_of-taken}
 use Rattle.command_line.proofs.numbers.number_of.Goals as goal
