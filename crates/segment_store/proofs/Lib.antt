@@ -1,1 +1,5 @@
 pub mod MemoryLanes
+pub mod Segments
+pub mod GivenBack
+pub mod PutBlocks
+pub mod PutSegments

@@ -8,3 +8,4 @@ pub mod Opening
 pub mod Plan
 pub mod Memory
 pub mod MemoryLane
+pub mod MemoryHost

@@ -5,9 +5,11 @@ mod count;
 mod device;
 mod host;
 mod memory;
+mod memory_host;
 mod memory_lane;
 mod paths;
 mod plan;
+mod restore;
 
 pub use count::FaultCount;
 pub use device::{BlockLane, Failed, Sink};

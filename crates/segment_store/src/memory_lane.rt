@@ -1,5 +1,5 @@
 // A lane in memory.
-ghost use Rattle.std.specs.Prelude.{length, ◌≡◌, ◌+◌, ◌&&◌, Some, IfOk, IfSome, MatchResult, OnOk, OnErr, is_ok, is_some, not, nat_lt, true, false};
+ghost use Rattle.std.specs.Prelude.{option_map, length, ◌≡◌, ◌+◌, ◌&&◌, Some, IfOk, IfSome, MatchResult, OnOk, OnErr, is_ok, is_some, not, nat_lt, true, false};
 ghost use Rattle.segment_store.specs.Faults.{HasCause};
 ghost use Rattle.segment_store.specs.Contents.{Writes, no_marks, no_pages, with_mark, with_page};
 ghost use Rattle.segment_store.specs.Memory.{torn_page};
@@ -69,6 +69,13 @@ impl MemLane {
             read_faults: FaultCount::new(),
             write_faults: FaultCount::new(),
         }
+    }
+
+    /// The page of a tag, if the lane has it.
+    pub fn page(&self, tag: &Tag) -> Option<&Page>
+        ensures { option_map (λ page. page.now) result ≡ pages_of self.now tag.now }
+    {
+        self.blocks.get(tag).map(|block| &block.page)
     }
 
     /// How many reads failed.
