@@ -11,8 +11,8 @@ ghost use Rattle.page_tool.specs.Status.{status_of_error};
 ghost use Rattle.page_tool.specs.Request.{IsCrowded, request_of};
 
 use crate::error::{Crowding, ToolError};
-use crate::scan::{Gate, ScanError, scan_fork};
 use crate::request::read_request;
+use crate::scan::{Gate, ScanError, scan_fork};
 use command_line::Options;
 use segment_store::{Host, Opened, Sink, fork_of_path};
 use std::alloc::Global;
@@ -51,7 +51,7 @@ fn scan_opened<H: Host, O: Sink, G: Gate>(
         alloc,
         fork_of_path(path),
         opened.blocks,
-        opened.lanes.as_mut_slice(),
+        &mut opened.lanes,
         out,
         gate,
     );
@@ -78,14 +78,17 @@ fn scan<'a, H: Host, O: Sink, G: Gate>(
 {
     if is_crowded(options) {
         let Options {
-            backends, frames, ..
+            backends,
+            frames,
+            ..
         } = *options;
         return Err(ToolError::Crowded(Crowding { backends, frames }));
     }
     match host.relation(alloc, path, options.seg_blocks, options.lanes) {
         Err(error) => Err(ToolError::from_host(error, path)),
-        Ok(opened) => scan_opened(alloc, path, options, opened, host, out, gate)
-            .map_err(|error| ToolError::from_scan(error)),
+        Ok(opened) => scan_opened(alloc, path, options, opened, host, out, gate).map_err(
+            |error| ToolError::from_scan(error),
+        ),
     }
 }
 

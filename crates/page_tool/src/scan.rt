@@ -246,21 +246,29 @@ pub fn scan_fork<L: BlockLane, O: Sink, G: Gate>(
     alloc: Global,
     fork: Fork,
     blocks: u32,
-    lanes: &mut [L],
+    lanes: &mut Vec<L>,
     out: &mut O,
     gate: &G,
 ) -> Result<(), ScanError>
-    requires some { 0 < length lanes.old }
-    requires few { length lanes.old < 2 ^ 32 }
-    requires has { HasBlocks fork blocks (map L.held lanes.old) }
-    ensures held { map L.held lanes.new ≡ map L.held lanes.old }
-    ensures failed { map L.failed lanes.new ≡ map L.failed lanes.old }
-    ensures writes { sum_by L.write_faults lanes.new ≡ sum_by L.write_faults lanes.old }
-    ensures cause { HasScanCause (sum_by L.read_faults lanes.old) (sum_by L.read_faults lanes.new) (O.faults out.old) (O.faults out.new) result }
-    ensures text { (pages : List (List ℕ)) → HoldPages fork pages (map L.held lanes.old) → blocks ≡ length pages →
+    requires some { 0 < length lanes.old.items }
+    requires few { length lanes.old.items < 2 ^ 32 }
+    requires has { HasBlocks fork blocks (map L.held lanes.old.items) }
+    ensures held { map L.held lanes.new.items ≡ map L.held lanes.old.items }
+    ensures failed { map L.failed lanes.new.items ≡ map L.failed lanes.old.items }
+    ensures writes { sum_by L.write_faults lanes.new.items ≡ sum_by L.write_faults lanes.old.items }
+    ensures cause { HasScanCause (sum_by L.read_faults lanes.old.items) (sum_by L.read_faults lanes.new.items) (O.faults out.old) (O.faults out.new) result }
+    ensures text { (pages : List (List ℕ)) → HoldPages fork pages (map L.held lanes.old.items) → blocks ≡ length pages →
         Puts (scan_text pages) (O.bytes out.old) (O.bytes out.new) result }
 {
     let mut work = Work::new(alloc).map_err(|_| ScanError::Memory)?;
-    let scanned = scan_all(alloc, fork, blocks, lanes, &mut work, out, gate);
+    let scanned = scan_all(
+        alloc,
+        fork,
+        blocks,
+        lanes.as_mut_slice(),
+        &mut work,
+        out,
+        gate,
+    );
     work.finish(scanned, out)
 }

@@ -18,7 +18,7 @@ returns-in_err-scan_block-clause-text g c pages holds is =
     let so_far = c.loop-block.invariant.scanned pages holds is in
     let below : block < length pages = omega (arith, is) in
     let here : HasPage (tag_at c.args.fork block) page (map g.L.BlockLane.held c.loop-block.lanes) =
-        subst (λ (ls : List (Option Pages)). HasPage (tag_at c.args.fork block) page ls) (sym c.loop-block.invariant.held) (holds block below) in
+    subst (λ (ls : List (Option Pages)). HasPage (tag_at c.args.fork block) page ls) (sym c.loop-block.invariant.held) (holds block below) in
     let text = text_after_line pages block below in
     let advanced = c.in_err-scan_block.ensures.text page here in
     let p = err_from_is_err_and c.from_residual.result c.from_residual.ensures.1 in
@@ -40,11 +40,11 @@ loop-block-preserved g c = record {
       let so_far = c.loop-block.invariant.scanned pages holds is in
       let below : block < length pages = omega (arith, is) in
       let here : HasPage (tag_at c.args.fork block) page (map g.L.BlockLane.held c.loop-block.lanes) =
-          subst (λ (ls : List (Option Pages)). HasPage (tag_at c.args.fork block) page ls) (sym c.loop-block.invariant.held) (holds block below) in
+      subst (λ (ls : List (Option Pages)). HasPage (tag_at c.args.fork block) page ls) (sym c.loop-block.invariant.held) (holds block below) in
       let moved = c.in_ok-scan_block.ensures.text page here in
       let totals = c.in_ok-scan_block.ensures.totals page here in
       let lines =
-          moved_after (scan_lines_from 0 (take block pages)) c.loop-block.work.text.items (scan_line_of block page) _ _ _ _ so_far.lines moved in
+      moved_after (scan_lines_from 0 (take block pages)) c.loop-block.work.text.items (scan_line_of block page) _ _ _ _ so_far.lines moved in
       record {
         lines = subst (λ (l : List ℕ). HasMoved l c.scan_block.new.work.text.items (g.O.Sink.bytes c.args.out.now) (g.O.Sink.bytes c.scan_block.new.out))
             (sym (lines_more pages block below)) lines;
