@@ -10,3 +10,6 @@ pub use page::{Header, Item, Lsn, Memory, PAGE_SIZE, Page};
 pub use scan::ScanTotals;
 pub use summary::{PageSummary, PointerCounts, UsedPage};
 pub use text::{Position, append_line, scan_line};
+
+#[cfg(test)]
+mod tests;
