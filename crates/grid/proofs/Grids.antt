@@ -1,11 +1,11 @@
 -- A change of one view keeps a law of the grid where it keeps it at each column that the view touches.
-use Rattle.std.proofs.Common.{◌≡◌, ◌≢◌, ℕ, ◌+◌, ◌<◌, ◌≤◌, List, [], ◌∷◌, ◌++◌, set, sym, refl, ap, ◌∙◌, subst, ⊎_elim, arith}
+use Rattle.std.proofs.Common.{◌≡◌, ◌≢◌, ℕ, ◌+◌, ◌<◌, ◌≤◌, List, [], ◌∷◌, ◌++◌, length, set, sym, refl, ap, ◌∙◌, subst, ⊎_elim, arith}
 use mathlib.Core.Logic.{dite}
 use mathlib.Core.Option.{some}
 use native.Mathlib.Decide.{ℕ_discrete}
 use lib.ListN.{get_elem?}
 use Rattle.grid.specs.Shape.{Shape, tallies, Part, Grid, put}
-use Rattle.grid.proofs.Lists.{at_set, at_snoc, put_at, put_else}
+use Rattle.grid.proofs.Lists.{at_set, at_end, put_at, put_else}
 use Rattle.grid.proofs.Sums.{total-set, total-snoc, term_le, terms_le, total-alone}
 
 -- where each other link counts nothing, the sum is this link's
@@ -99,7 +99,7 @@ module _ (S : Shape) (p : Part S) (n : ℕ) (col : ℕ → S.Column) (block : �
   grows w bare here = record {
     columns = λ g below. subst (λ (t : S.Tally → ℕ). p.column (block (S.spot (col g))) (col g) t) (λ j k. sym (sums g k) j) (grid.columns g below);
     cells = λ j u g there below. ⊎_elim (λ (e : get_elem? views j ≡ some u). grid.cells j u g e below)
-        (λ (e : w ≡ u). subst (λ (x : S.View). p.cell (block (S.spot (col g))) (col g) (S.own x) (S.link x g)) e (here g below)) (at_snoc views w u j there);
+        (λ (e : (w ≡ u) × (j ≡ length views)). subst (λ (x : S.View). p.cell (block (S.spot (col g))) (col g) (S.own x) (S.link x g)) e.0 (here g below)) (at_end views w u j there);
   }
     where
       sums : (g : ℕ) (k : S.Tally) → tallies S (views ++ w ∷ []) g k ≡ tallies S views g k

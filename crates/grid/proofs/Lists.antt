@@ -1,5 +1,5 @@
 -- Lists that change at one place, and functions that do.
-use Rattle.std.proofs.Common.{◌≡◌, ℕ, zero, suc, ◌≢◌, ◌⊎◌, List, [], ◌∷◌, ◌++◌, set, cond, eq-eqb, ne_eqb, sym, refl, ap, ◌∙◌, subst, inl, inr, ⊎_elim, arith}
+use Rattle.std.proofs.Common.{◌≡◌, ℕ, zero, suc, ◌≢◌, ◌⊎◌, List, [], ◌∷◌, ◌++◌, length, set, cond, eq-eqb, ne_eqb, sym, refl, ap, ◌∙◌, subst, inl, inr, ⊎_elim, arith}
 use mathlib.Core.Logic.{dite}
 use mathlib.Core.Option.{some, some-injective, some-ne-none}
 use native.Mathlib.Decide.{ℕ_discrete}
@@ -31,15 +31,15 @@ module _ {A : Type 0} where
   at_longer (x ∷ xs) m zero a e = e
   at_longer (x ∷ xs) m (suc i) a e = at_longer xs m i a e
 
-  pub at_snoc : (l : List A) (a b : A) (j : ℕ) → get_elem? (l ++ a ∷ []) j ≡ some b → (get_elem? l j ≡ some b) ⊎ (a ≡ b)
-  at_snoc [] a b zero e = inr (some-injective a b e)
-  at_snoc [] a b (suc j) e = absurd (some-ne-none b (sym e))
-  at_snoc (x ∷ xs) a b zero e = inl e
-  at_snoc (x ∷ xs) a b (suc j) e = at_snoc xs a b j e
+  pub at_end : (l : List A) (a b : A) (j : ℕ) → get_elem? (l ++ a ∷ []) j ≡ some b → (get_elem? l j ≡ some b) ⊎ ((a ≡ b) × (j ≡ length l))
+  at_end [] a b zero e = inr (some-injective a b e, refl)
+  at_end [] a b (suc j) e = absurd (some-ne-none b (sym e))
+  at_end (x ∷ xs) a b zero e = inl e
+  at_end (x ∷ xs) a b (suc j) e = ⊎_elim (λ t. inl t) (λ t. inr (t.0, ap suc t.1)) (at_end xs a b j e)
 
   -- a list of one
-  pub at_only : (v w : A) (i : ℕ) → get_elem? (v ∷ []) i ≡ some w → v ≡ w
-  at_only v w zero e = some-injective v w e
+  pub at_only : (v w : A) (i : ℕ) → get_elem? (v ∷ []) i ≡ some w → (v ≡ w) × (i ≡ 0)
+  at_only v w zero e = (some-injective v w e, refl)
   at_only v w (suc i) e = absurd (some-ne-none w (sym e))
 
   pub put_here : (g : ℕ → A) (f : ℕ) (x : A) → put g f x f ≡ x

@@ -1,5 +1,7 @@
 -- Sums over a list.
-use Rattle.std.proofs.Common.{◌≡◌, ℕ, zero, suc, ◌+◌, ◌≤◌, ◌≢◌, List, [], ◌∷◌, ◌++◌, length, set, sym, refl, ap, arith}
+use Rattle.std.proofs.Common.{◌≡◌, ℕ, zero, suc, ◌+◌, ◌≤◌, ◌≢◌, Bool, true, false, cond, List, [], ◌∷◌, ◌++◌, length, set, sym, refl, ap, arith}
+use Rattle.std.proofs.lemmas.List.Recursion.{is_count_by}
+use Rattle.std.specs.Prelude.{count_by}
 use mathlib.Core.Option.{some, some-injective, some-ne-none}
 use lib.ListN.{get_elem?}
 use Rattle.grid.specs.Shape.{total}
@@ -46,3 +48,12 @@ module _ {A : Type 0} (g : A → ℕ) where
   total-alone [] i v e h = absurd (some-ne-none v (sym e))
   total-alone (x ∷ xs) zero v e h = omega (arith, ap g (some-injective x v e), total-none xs (λ j u d. h (suc j) u (λ z. omega arith) d))
   total-alone (x ∷ xs) (suc i) v e h = omega (arith, h zero x (λ z. omega arith) refl, total-alone xs i v e (λ j u n d. h (suc j) u (λ z. n (omega arith)) d))
+
+  -- a sum of ones is a count
+  pub total-count : (p : A → Bool) → ((a : A) → g a ≡ cond (p a) 1 0) → (l : List A) → total g l ≡ count_by p l
+  unfolding total
+  total-count p one l = is_count_by (total g) p refl (λ x xs. step (p x) (g x) (total g xs) (one x)) l
+    where
+      step : (b : Bool) (n m : ℕ) → n ≡ cond b 1 0 → n + m ≡ cond b (1 + m) m
+      step true n m e = omega arith
+      step false n m e = omega arith
