@@ -1,0 +1,7 @@
+pub mod Keeping
+pub mod Cases
+pub mod Views
+pub mod Stepping
+pub mod Opening
+pub mod Schedules
+pub mod Sample

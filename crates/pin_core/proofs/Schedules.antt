@@ -1,0 +1,177 @@
+-- What the law says in the field's words.
+use Rattle.std.proofs.Common.{◌≡◌, ◌≢◌, ℕ, ◌+◌, ◌<◌, ◌≤◌, Bool, true, false, cond, List, [], ◌∷◌, Option, Some, None, set, length, sym, refl, ap, ◌∙◌, subst, arith}
+use Rattle.std.specs.Prelude.{if◌then◌else◌}
+use mathlib.Core.Logic.{dite}
+use mathlib.Core.Option.{some, some-injective}
+use native.Mathlib.Decide.{ℕ_discrete}
+use lib.ListN.{get_elem?}
+use Rattle.state_word.specs.declared.word.StateWord.{StateWord}
+use Rattle.pin_core.specs.declared.view.Role.{Role}
+use Rattle.pin_core.specs.declared.view.Role.TheVariants.{Absent, HandedOut, Victim}
+use Rattle.pin_core.specs.declared.view.Link.{Link}
+use Rattle.pin_core.specs.declared.view.View.{View}
+use Rattle.pin_core.specs.State.{Frame, State, link, is_pin, pins_frame, local, new_view, joined_view, spent_view}
+use Rattle.pin_core.specs.Tallies.{Tally, pins, headers, weigh, pin_weight, some_weight, flag_weight, frame_shape}
+use Rattle.pin_core.specs.Lawful.{FrameLaw, HasTag, Lawful}
+use Rattle.pin_core.specs.Kinds.{Kind, load_state, pin, unpin, lock_header, unlock_header, store_tag, erase_tag, load_tag, pin_victim, lower_usage, assign, clear, Allowed, frame_after, link_after, view_after}
+use Rattle.pin_core.specs.Steps.{HoldsNothing, Event, at, Step, touches, splits, joins, Run, rests, goes}
+use Rattle.pin_core.specs.Schedules.{IsReached, TagsAreUnique, PinsAreCounted, HeadersAreHeld, is_held, holds_header, HoldersHaveTheWord, PinsRemember, IsHandedOut, HasNoUnpin, PinnedTagsStay}
+use Rattle.grid.specs.Shape.{tallies}
+use Rattle.grid.proofs.Lists.{set_here, set_else, at_longer, put_at, put_else}
+use Rattle.grid.proofs.Sums.{total-count, terms_le}
+use Rattle.grid.proofs.Grids.{Relinks}
+use Rattle.pin_core.proofs.Opening.{opens}
+use Rattle.pin_core.proofs.Stepping.{relinked, step_keeps, run_keeps}
+
+pub reached : (s : State) → IsReached s → Lawful s
+reached s r = run_keeps r.run (opens r.frames r.partitions r.lanes r.backends r.page r.some_backend)
+
+module _ (s : State) (h : Lawful s) where
+  pub unique : TagsAreUnique s
+  unique f g a b x y same = h.apart f g a b x.named same
+
+  pub counted : PinsAreCounted s
+  counted f below = (h.grid.columns f below).counted ∙ total-count (λ (v : View). weigh pins (link v f)) (pins_frame f) (λ v. one (link v f).role) s.views
+    where
+      one : (r : Role) → pin_weight r ≡ cond (is_pin r) 1 0
+      one Absent = refl
+      one HandedOut = refl
+      one Victim = refl
+
+  pub held : HeadersAreHeld s
+  held f below = sym (total-count (λ (v : View). weigh headers (link v f)) (holds_header f) (λ v. one (link v f).header) s.views) ∙ sym (h.grid.columns f below).locked ∙ flag (s.frame f).word.locked
+    where
+      one : (o : Option StateWord) → some_weight o ≡ cond (is_held o) 1 0
+      one None = refl
+      one (Some w) = refl
+
+      flag : (b : Bool) → flag_weight b ≡ (if b then 1 else 0)
+      flag true = refl
+      flag false = refl
+
+  pub holders : HoldersHaveTheWord s
+  holders i f v w there below e = (h.grid.cells i v f there below).header w e
+
+  pub remembers : PinsRemember s
+  remembers i f v tag there below e = (h.grid.cells i v f there below).remembers tag e
+
+-- a step of the holder's own leaves the tag word, and but for an unpin the pin
+own_tag : (k : Kind) (fr : Frame) (l : Link) → Allowed k fr l → l.role ≡ HandedOut → (frame_after k fr).tag ≡ fr.tag
+own_tag (store_tag tag) fr l a e = grind (arith, a, e)
+own_tag erase_tag fr l a e = grind (arith, a, e)
+own_tag load_state fr l a e = refl
+own_tag (pin ring) fr l a e = refl
+own_tag unpin fr l a e = refl
+own_tag lock_header fr l a e = refl
+own_tag unlock_header fr l a e = refl
+own_tag load_tag fr l a e = refl
+own_tag pin_victim fr l a e = refl
+own_tag lower_usage fr l a e = refl
+own_tag assign fr l a e = refl
+own_tag clear fr l a e = refl
+
+own_pin : (k : Kind) (fr : Frame) (l : Link) → k ≢ unpin → Allowed k fr l → l.role ≡ HandedOut → (link_after k fr l).role ≡ HandedOut
+own_pin unpin fr l other a e = absurd (other refl)
+own_pin pin_victim fr l other a e = grind (arith, a, e)
+own_pin (pin ring) fr l other a e = refl
+own_pin assign fr l other a e = refl
+own_pin load_state fr l other a e = e
+own_pin lock_header fr l other a e = e
+own_pin unlock_header fr l other a e = e
+own_pin (store_tag tag) fr l other a e = e
+own_pin erase_tag fr l other a e = e
+own_pin load_tag fr l other a e = e
+own_pin lower_usage fr l other a e = e
+own_pin clear fr l other a e = e
+
+-- a step of another leaves the tag word
+others_tag : (k : Kind) (fr : Frame) (l m : Link) (t : Tally → ℕ) → Allowed k fr l → FrameLaw fr t → weigh pins l + weigh pins m ≤ t pins → m.role ≡ HandedOut → (frame_after k fr).tag ≡ fr.tag
+others_tag (store_tag tag) fr l m t a c le e = grind (arith, a, c, le, e)
+others_tag erase_tag fr l m t a c le e = grind (arith, a, c, le, e)
+others_tag load_state fr l m t a c le e = refl
+others_tag (pin ring) fr l m t a c le e = refl
+others_tag unpin fr l m t a c le e = refl
+others_tag lock_header fr l m t a c le e = refl
+others_tag unlock_header fr l m t a c le e = refl
+others_tag load_tag fr l m t a c le e = refl
+others_tag pin_victim fr l m t a c le e = refl
+others_tag lower_usage fr l m t a c le e = refl
+others_tag assign fr l m t a c le e = refl
+others_tag clear fr l m t a c le e = refl
+
+-- The backend at the seat j makes a step of the kind k at the frame g, while the one at i has a handed-out pin of f
+module _ (s : State) (h : Lawful s) (i f : ℕ) (v : View) (there : get_elem? s.views i ≡ some v) (below : f < s.frames) (pinned : (link v f).role ≡ HandedOut)
+    (j g : ℕ) (k : Kind) (u : View) (here : get_elem? s.views j ≡ some u) (live : u.spent ≡ false) (inside : g < s.frames) (a : Allowed k (s.frame g) (link u g)) where
+  abbrev moved : View
+  moved = view_after k g (s.frame g) (link u g) u
+
+  abbrev next : State
+  next = local s j g (frame_after k (s.frame g)) moved
+
+  relinked_here : Relinks frame_shape u moved g (link_after k (s.frame g) (link u g))
+  relinked_here = relinked k g (s.frame g) (link u g) u (subst (λ (n : ℕ). g < n) (sym (h.views.wide j u here live)) inside)
+
+  same_view : i ≡ j → v ≡ u
+  same_view e = some-injective v u (sym there ∙ ap (λ (z : ℕ). get_elem? s.views z) e ∙ here)
+
+  pinned_at : i ≡ j → (link u f).role ≡ HandedOut
+  pinned_at e = subst (λ (x : View). (link x f).role ≡ HandedOut) (same_view e) pinned
+
+  pin_stays : at j g k ≢ at i f unpin → IsHandedOut next i f
+  pin_stays other = dite (ℕ_discrete i j)
+      (λ e. (
+        moved,
+        subst (λ (z : ℕ). get_elem? (set s.views j moved) z ≡ some moved) (sym e) (set_here s.views j u moved here),
+        below,
+        dite (ℕ_discrete f g)
+            (λ same. subst (λ (z : ℕ). (link moved z).role ≡ HandedOut) (sym same) (ap (λ (x : Link). x.role) relinked_here.here ∙ own_pin k (s.frame g) (link u g)
+            (λ is. other (λ n. at (sym e n) (sym same n) (is n))) a (subst (λ (z : ℕ). (link u z).role ≡ HandedOut) same (pinned_at e))))
+            (λ o. ap (λ (x : Link). x.role) (relinked_here.else f o) ∙ pinned_at e),
+      ))
+      (λ o. (v, set_else s.views j i moved o ∙ there, below, pinned))
+
+  tag_stays : (next.frame f).tag ≡ (s.frame f).tag
+  tag_stays = dite (ℕ_discrete f g)
+      (λ same. ap (λ (x : Frame). x.tag) (put_at s.frame g (frame_after k (s.frame g)) f same) ∙ unchanged same ∙ ap (λ (z : ℕ). (s.frame z).tag) (sym same))
+      (λ o. ap (λ (x : Frame). x.tag) (put_else s.frame g (frame_after k (s.frame g)) f o))
+    where
+      unchanged : f ≡ g → (frame_after k (s.frame g)).tag ≡ (s.frame g).tag
+      unchanged same = dite (ℕ_discrete i j)
+          (λ e. own_tag k (s.frame g) (link u g) a (subst (λ (z : ℕ). (link u z).role ≡ HandedOut) same (pinned_at e)))
+          (λ o. others_tag k (s.frame g) (link u g) (link v g) (tallies frame_shape s.views g) a (h.grid.columns g inside) (terms_le (λ (x : View). weigh pins (link x g)) s.views j i u v o here there)
+          (subst (λ (z : ℕ). (link v z).role ≡ HandedOut) same pinned))
+
+-- what a step leaves of a handed-out pin and of its frame's tag word
+abbrev Stays : State → State → ℕ → ℕ → Type 0
+Stays s t i f = IsHandedOut t i f × ((t.frame f).tag ≡ (s.frame f).tag)
+
+-- the first view changes, and its links stay
+first_stays : (views : List View) (i f : ℕ) (v first w : View) → get_elem? views i ≡ some v → (link v f).role ≡ HandedOut → get_elem? views 0 ≡ some first → (link w f).role ≡ (link first f).role → (x : View) × (get_elem? (set views 0 w) i ≡ some x) × ((link x f).role ≡ HandedOut)
+first_stays views i f v first w there pinned here same = dite (ℕ_discrete i 0)
+    (λ e. (
+      w,
+      subst (λ (z : ℕ). get_elem? (set views 0 w) z ≡ some w) (sym e) (set_here views 0 first w here),
+      same ∙ ap (λ (x : View). (link x f).role) (some-injective first v (sym here ∙ ap (λ (z : ℕ). get_elem? views z) (sym e) ∙ there)) ∙ pinned,
+    ))
+    (λ o. (v, set_else views 0 i w o ∙ there, pinned))
+
+-- a backend that holds nothing has no handed-out pin
+not_joined : (views : List View) (i j f : ℕ) (v u : View) → get_elem? views i ≡ some v → (link v f).role ≡ HandedOut → get_elem? views j ≡ some u → HoldsNothing u → i ≢ j
+not_joined views i j f v u there pinned here free e = let same : v ≡ u = some-injective v u (sym there ∙ ap (λ (z : ℕ). get_elem? views z) e ∙ here) in let r : (link u f).role ≡ HandedOut = subst (λ (x : View). (link x f).role ≡ HandedOut) same pinned in let n = (free f).no_pin in cc
+
+step_stays : {e : Event} {s t : State} (i f : ℕ) → Step e s t → Lawful s → IsHandedOut s i f → e ≢ at i f unpin → Stays s t i f
+step_stays i f (touches {s = s} j g k u here live inside a around) h out other = (pin_stays s h i f out.0 out.1 out.2 out.3 j g k u here live inside a other, tag_stays s h i f out.0 out.1 out.2 out.3 j g k u here live inside a)
+step_stays i f (splits {s = s} v here room) h out other = let w : View = record v { next = v.next + 1 } in let b : View = new_view v.next (length v.links) (length v.partitions) (length v.lanes) in let x = first_stays s.views i f out.0 v w out.1 out.3 here refl in
+    ((x.0, at_longer (set s.views 0 w) (b ∷ []) i x.0 x.1, out.2, x.2), refl)
+step_stays i f (joins {s = s} j v u first nonzero here live free) h out other = let x = first_stays s.views i f out.0 v (joined_view v u) out.1 out.3 first refl in
+    ((x.0, set_else (set s.views 0 (joined_view v u)) j i spent_view (not_joined s.views i j f out.0 u out.1 out.3 here free) ∙ x.1, out.2, x.2), refl)
+
+tag_there : (s : State) (i f : ℕ) → Lawful s → IsHandedOut s i f → HasTag (s.frame f)
+tag_there s i f h out = (h.grid.cells i out.0 f out.1 out.2).handed_out out.3
+
+run_stays : {es : List Event} {s t : State} (i f : ℕ) → Run es s t → Lawful s → IsHandedOut s i f → HasNoUnpin i f es → Stays s t i f
+run_stays i f rests h out none = (out, refl)
+run_stays i f (goes x r) h out none = let a = step_stays i f x h out none.0 in let b = run_stays i f r (step_keeps x h) a.0 none.1 in (b.0, b.1 ∙ a.1)
+
+pub stay : (s : State) → Lawful s → PinnedTagsStay s
+stay s h i f es t out none r = let x = run_stays i f r h out none in (record { had = tag_there s i f h out; has = tag_there t i f (run_keeps r h) x.0; same = x.1 }, x.0)

@@ -1,0 +1,85 @@
+-- The list of views, and tags, as a step changes them.
+use Rattle.std.proofs.Common.{◌≡◌, ◌≢◌, ◌⊎◌, ℕ, zero, suc, ◌+◌, ◌<◌, false, List, [], ◌∷◌, ◌++◌, length, set, length-set, length-append, sym, refl, ap, ◌∙◌, subst, ⊎_elim, arith}
+use mathlib.Core.Option.{some, some-injective}
+use lib.ListN.{get_elem?, length-replicate}
+use Rattle.pin_core.specs.declared.view.View.{View}
+use Rattle.pin_core.specs.State.{Frame, no_tag, link, idle, new_view, spent_view, joined_view}
+use Rattle.pin_core.specs.Lawful.{ViewsLaw, TagsApart}
+use Rattle.grid.specs.Shape.{put}
+use Rattle.grid.proofs.Lists.{at_set, at_end, at_longer, set_here, puts}
+
+-- The view w is the view v at its seat, later
+pub record SameSeat (v w : View) : Type 0 where
+  pub spent : w.spent ≡ v.spent
+  pub number : w.number ≡ v.number
+  pub next : w.next ≡ v.next
+  pub wide : length w.links ≡ length v.links
+
+pub link_new : (n p m number f : ℕ) → link (new_view number n p m) f ≡ idle
+link_new zero p m number f = refl
+link_new (suc n) p m number zero = refl
+link_new (suc n) p m number (suc f) = link_new n p m number f
+
+module _ (frames backends : ℕ) (views : List View) (h : ViewsLaw frames backends views) where
+  pub views_set : (i : ℕ) (v w : View) → get_elem? views i ≡ some v → SameSeat v w → ViewsLaw frames backends (set views i w)
+  views_set i v w there same = record {
+    wide = λ j u e live. ⊎_elim
+        (λ (t : (j ≡ i) × (w ≡ u)). subst (λ (x : View). length x.links ≡ frames) t.1 (same.wide ∙ h.wide i v there (sym same.spent ∙ ap (λ (x : View). x.spent) t.1 ∙ live)))
+        (λ (t : (j ≢ i) × (get_elem? views j ≡ some u)). h.wide j u t.1 live) (at_set views i j w u e);
+    numbered = λ j u e live. ⊎_elim
+        (λ (t : (j ≡ i) × (w ≡ u)). ap (λ (x : View). x.number) (sym t.1) ∙ same.number ∙ h.numbered i v there (sym same.spent ∙ ap (λ (x : View). x.spent) t.1 ∙ live) ∙ sym t.0)
+        (λ (t : (j ≢ i) × (get_elem? views j ≡ some u)). h.numbered j u t.1 live) (at_set views i j w u e);
+    first = λ u e. ⊎_elim
+        (λ (t : (0 ≡ i) × (w ≡ u)). let f = h.first v (subst (λ (z : ℕ). get_elem? views z ≡ some v) (sym t.0) there) in
+        subst (λ (x : View). (x.spent ≡ false) × (x.next ≡ length (set views i w))) t.1 (same.spent ∙ f.0, same.next ∙ f.1 ∙ sym (length-set views i w)))
+        (λ (t : (0 ≢ i) × (get_elem? views 0 ≡ some u)). let f = h.first u t.1 in (f.0, f.1 ∙ sym (length-set views i w))) (at_set views i 0 w u e);
+    few = omega (arith, length-set views i w, h.few);
+  }
+
+  -- a seat other than the first is left spent
+  pub views_spent : (j : ℕ) → j ≢ 0 → ViewsLaw frames backends (set views j spent_view)
+  views_spent j other = record {
+    wide = λ k u e live. ⊎_elim (λ (t : (k ≡ j) × (spent_view ≡ u)). let x : u.spent ≡ spent_view.spent = ap (λ (x : View). x.spent) (sym t.1) in absurd (cc)) (λ (t : (k ≢ j) × (get_elem? views k ≡ some u)). h.wide k u t.1 live) (at_set views j k spent_view u e);
+    numbered = λ k u e live. ⊎_elim (λ (t : (k ≡ j) × (spent_view ≡ u)). let x : u.spent ≡ spent_view.spent = ap (λ (x : View). x.spent) (sym t.1) in absurd (cc)) (λ (t : (k ≢ j) × (get_elem? views k ≡ some u)). h.numbered k u t.1 live) (at_set views j k spent_view u e);
+    first = λ u e. ⊎_elim (λ (t : (0 ≡ j) × (spent_view ≡ u)). absurd (other (sym t.0))) (λ (t : (0 ≢ j) × (get_elem? views 0 ≡ some u)). let f = h.first u t.1 in (f.0, f.1 ∙ sym (length-set views j spent_view))) (at_set views j 0 spent_view u e);
+    few = omega (arith, length-set views j spent_view, h.few);
+  }
+
+  pub views_split : (v : View) → get_elem? views 0 ≡ some v → v.next < backends → ViewsLaw frames backends (set views 0 (record v { next = v.next + 1 }) ++ new_view v.next (length v.links) (length v.partitions) (length v.lanes) ∷ [])
+  views_split v there room = let w : View = record v { next = v.next + 1 } in let b : View = new_view v.next (length v.links) (length v.partitions) (length v.lanes) in let f = h.first v there in
+      let long : length (set views 0 w ++ b ∷ []) ≡ length views + 1 = omega (arith, length-append (set views 0 w) (b ∷ []), length-set views 0 w) in record {
+        wide = λ j u e live. ⊎_elim
+            (λ (o : get_elem? (set views 0 w) j ≡ some u). ⊎_elim (λ (t : (j ≡ 0) × (w ≡ u)). subst (λ (x : View). length x.links ≡ frames) t.1 (h.wide 0 v there f.0)) (λ (t : (j ≢ 0) × (get_elem? views j ≡ some u)). h.wide j u t.1 live) (at_set views 0 j w u o))
+            (λ (o : (b ≡ u) × (j ≡ length (set views 0 w))). subst (λ (x : View). length x.links ≡ frames) o.0 (length-replicate (length v.links) idle ∙ h.wide 0 v there f.0)) (at_end (set views 0 w) b u j e);
+        numbered = λ j u e live. ⊎_elim
+            (λ (o : get_elem? (set views 0 w) j ≡ some u). ⊎_elim (λ (t : (j ≡ 0) × (w ≡ u)). ap (λ (x : View). x.number) (sym t.1) ∙ h.numbered 0 v there f.0 ∙ sym t.0) (λ (t : (j ≢ 0) × (get_elem? views j ≡ some u)). h.numbered j u t.1 live) (at_set views 0 j w u o))
+            (λ (o : (b ≡ u) × (j ≡ length (set views 0 w))). ap (λ (x : View). x.number) (sym o.0) ∙ f.1 ∙ sym (length-set views 0 w) ∙ sym o.1) (at_end (set views 0 w) b u j e);
+        first = λ u e. let is : w ≡ u = some-injective w u (sym (at_longer (set views 0 w) (b ∷ []) 0 w (set_here views 0 v w there)) ∙ e) in
+            subst (λ (x : View). (x.spent ≡ false) × (x.next ≡ length (set views 0 w ++ b ∷ []))) is (f.0, omega (arith, f.1, long));
+        few = omega (arith, f.1, long, room);
+      }
+
+pub joined_same : (v u : View) → SameSeat v (joined_view v u)
+joined_same v u = record { spent = refl; number = refl; next = refl; wide = refl }
+
+-- of two tag words one is replaced by `new`: x and y are then those at a and b
+kept_apart : (f a b new old ta tb x y : ℕ) → (a ≡ f → x ≡ new) → (a ≢ f → x ≡ ta) → (b ≡ f → y ≡ new) → (b ≢ f → y ≡ tb) → (a ≡ f → ta ≡ old) → (b ≡ f → tb ≡ old) → new ≡ old → (ta ≢ no_tag → ta ≡ tb → a ≡ b) → x ≢ no_tag → x ≡ y → a ≡ b
+kept_apart f a b new old ta tb x y xf xo yf yo af bf e h named same = grind (arith, xf, xo, yf, yo, af, bf, e, h)
+
+still_apart : (f a b new ta tb x y : ℕ) → (a ≡ f → x ≡ new) → (a ≢ f → x ≡ ta) → (b ≡ f → y ≡ new) → (b ≢ f → y ≡ tb) → (new ≢ no_tag → (ta ≢ new) × (tb ≢ new)) → (ta ≢ no_tag → ta ≡ tb → a ≡ b) → x ≢ no_tag → x ≡ y → a ≡ b
+still_apart f a b new ta tb x y xf xo yf yo fresh h named same = grind (arith, xf, xo, yf, yo, fresh, h)
+
+-- the frame f gets a tag word that is the old one, or all ones, or no frame's
+pub apart_put : (n : ℕ) (frame : ℕ → Frame) (f : ℕ) (fr : Frame) → (fr.tag ≡ (frame f).tag) ⊎ (fr.tag ≢ no_tag → (g : ℕ) → g < n → (frame g).tag ≢ fr.tag) → TagsApart n frame → TagsApart n (put frame f fr)
+apart_put n frame f fr moves h a b below_a below_b named same = ⊎_elim
+    (λ (e : fr.tag ≡ (frame f).tag). kept_apart f a b fr.tag (frame f).tag (frame a).tag (frame b).tag (put frame f fr a).tag (put frame f fr b).tag (here a) (else a) (here b) (else b) (λ z. ap tag_of z) (λ z. ap tag_of z) e (h a b below_a below_b) named same)
+    (λ (fresh : fr.tag ≢ no_tag → (g : ℕ) → g < n → (frame g).tag ≢ fr.tag). still_apart f a b fr.tag (frame a).tag (frame b).tag (put frame f fr a).tag (put frame f fr b).tag (here a) (else a) (here b) (else b) (λ z. (fresh z a below_a, fresh z b below_b)) (h a b below_a below_b) named same) moves
+  where
+    tag_of : ℕ → ℕ
+    tag_of g = (frame g).tag
+
+    here : (k : ℕ) → k ≡ f → (put frame f fr k).tag ≡ fr.tag
+    here k e = ap (λ (x : Frame). x.tag) ((puts frame f fr k).same e)
+
+    else : (k : ℕ) → k ≢ f → (put frame f fr k).tag ≡ (frame k).tag
+    else k o = ap (λ (x : Frame). x.tag) ((puts frame f fr k).other o)

@@ -1,0 +1,28 @@
+use Rattle.pin_core.proofs.Opening.{opens}
+use Rattle.pin_core.proofs.Stepping.{run_keeps}
+use Rattle.pin_core.proofs.Schedules.{reached, unique, counted, held, holders, remembers, stay}
+use Rattle.pin_core.proofs.all_schedules.Goals as goal
+
+pub returns-clause-kept : goal.returns-clause-kept
+returns-clause-kept c = λ es s t h r. run_keeps r h
+
+pub returns-clause-opens : goal.returns-clause-opens
+returns-clause-opens c = opens
+
+pub returns-clause-unique : goal.returns-clause-unique
+returns-clause-unique c = λ s r. unique s (reached s r)
+
+pub returns-clause-stay : goal.returns-clause-stay
+returns-clause-stay c = λ s r. stay s (reached s r)
+
+pub returns-clause-counted : goal.returns-clause-counted
+returns-clause-counted c = λ s r. counted s (reached s r)
+
+pub returns-clause-held : goal.returns-clause-held
+returns-clause-held c = λ s r. held s (reached s r)
+
+pub returns-clause-holders : goal.returns-clause-holders
+returns-clause-holders c = λ s r. holders s (reached s r)
+
+pub returns-clause-remembers : goal.returns-clause-remembers
+returns-clause-remembers c = λ s r. remembers s (reached s r)

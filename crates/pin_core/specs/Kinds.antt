@@ -1,0 +1,205 @@
+-- The kinds of step at a frame: where each is allowed, and what it makes of the frame and of what the stepping view has there.
+use Rattle.std.specs.Prelude.{◌≡◌, ◌≢◌, ℕ, ◌+◌, ◌<◌, Bool, true, false, List, [], ◌∷◌, ◌++◌, map, Option, Some, None, nat_eq, not, ◌||◌, ◌&&◌, if◌then◌else◌}
+use Rattle.state_word.specs.declared.word.StateWord.{StateWord}
+use Rattle.state_word.specs.Fields.{pinned_fields, unpinned_fields, locked_fields, unlocked_fields, assigned_fields, cleared_fields, usage_down_fields}
+use Rattle.pin_core.specs.declared.view.Role.{Role}
+use Rattle.pin_core.specs.declared.view.Role.TheVariants.{Absent, HandedOut, Victim}
+use Rattle.pin_core.specs.declared.view.Content.TheVariants.{Unlocked}
+use Rattle.pin_core.specs.declared.view.Io.TheVariants.{Quiet}
+use Rattle.pin_core.specs.declared.view.Seen.{Seen}
+use Rattle.pin_core.specs.declared.view.Seen.TheVariants as seen
+use Rattle.pin_core.specs.declared.view.Look.{Look}
+use Rattle.pin_core.specs.declared.view.Link.{Link}
+use Rattle.pin_core.specs.declared.view.View.{View}
+use Rattle.pin_core.specs.State.{Frame, no_tag, is_pin, relink}
+
+pub data Kind : Type 0 where
+  -- a load of the state word (`pg_atomic_read_u32`); a compare-exchange that fails and a header lock that isn't got are such loads
+  load_state : Kind
+  -- a pin of a frame that has BM_TAG_VALID, for a ring or not (`PinBuffer`)
+  pin : Bool → Kind
+  -- the last pin of the backend is given up (`UnpinBuffer`)
+  unpin : Kind
+  -- the header is locked (`LockBufHdr`)
+  lock_header : Kind
+  -- and unlocked, the word as it was (`UnlockBufHdr`)
+  unlock_header : Kind
+  -- under the header a frame without a tag is given one (`BufferAlloc`)
+  store_tag : ℕ → Kind
+  -- under the header a frame's tag is taken away (`InvalidateVictimBuffer`: `ClearBufferTag`)
+  erase_tag : Kind
+  -- a load of the tag word
+  load_tag : Kind
+  -- the frame that the clock sweep chose is pinned, and its header unlocked (`GetVictimBuffer`: `PinBuffer_Locked`)
+  pin_victim : Kind
+  -- the clock sweep passes the frame: its usage count falls, and its header is unlocked (`StrategyGetBuffer`)
+  lower_usage : Kind
+  -- a frame whose tag was stored gets BM_TAG_VALID, and its header is unlocked (`BufferAlloc`)
+  assign : Kind
+  -- a frame whose tag was taken away loses its flags, and its header is unlocked (`InvalidateVictimBuffer`)
+  clear : Kind
+
+-- a pin sees BM_VALID, but not between a store of the tag word and the frame's being assigned or cleared
+abbrev pub seen_valid_after : Bool → Role → Bool → Bool → Bool
+seen_valid_after true role valid saw = saw
+seen_valid_after false Absent valid saw = saw
+seen_valid_after false HandedOut valid saw = valid || saw
+seen_valid_after false Victim valid saw = valid || saw
+
+-- a pin remembers the tag that was loaded, likewise
+abbrev pub tag_after : Bool → Role → ℕ → Option ℕ → Option ℕ
+tag_after true role tag known = known
+tag_after false Absent tag known = known
+tag_after false HandedOut tag known = if nat_eq tag no_tag then known else Some tag
+tag_after false Victim tag known = if nat_eq tag no_tag then known else Some tag
+
+-- a wait goes on while the word has BM_PIN_COUNT_WAITER and the waiter's number
+abbrev pub wait_after : StateWord → Option ℕ → Option ℕ
+wait_after w None = None
+wait_after w (Some number) = if w.awaited && nat_eq w.waiter number then Some number else None
+
+pub record CanPin (fr : Frame) (l : Link) : Type 0 where
+  pub unlocked : fr.word.locked ≡ false
+  pub absent : l.role ≡ Absent
+  pub tagged : fr.word.tag_valid ≡ true
+
+pub record CanUnpin (fr : Frame) (l : Link) : Type 0 where
+  pub unlocked : fr.word.locked ≡ false
+  pub pinned : l.role ≢ Absent
+  pub no_content : l.content ≡ Unlocked
+  pub no_io : l.io ≡ Quiet
+  pub no_wait : l.waits ≡ None
+
+-- the view holds no header at all, besides (`AllowedAround`)
+pub record CanLockHeader (fr : Frame) (l : Link) : Type 0 where
+  pub unlocked : fr.word.locked ≡ false
+
+-- no tag word was stored under it
+pub record CanUnlockHeader (fr : Frame) (l : Link) : Type 0 where
+  pub held : l.header ≡ Some fr.word
+  pub settled : l.pending ≡ false
+
+-- The view is alone at the frame with its victim pin, under the header, and does nothing else there
+pub record IsAlone (fr : Frame) (l : Link) : Type 0 where
+  pub held : l.header ≡ Some fr.word
+  pub settled : l.pending ≡ false
+  pub single : fr.word.pins ≡ 1
+  pub victim : l.role ≡ Victim
+  pub no_content : l.content ≡ Unlocked
+  pub no_io : l.io ≡ Quiet
+
+-- no frame has the tag, besides (`AllowedAround`)
+pub record CanStoreTag (tag : ℕ) (fr : Frame) (l : Link) : Type 0 where
+  pub alone : IsAlone fr l
+  pub named : tag ≢ no_tag
+  pub untagged : fr.word.tag_valid ≡ false
+
+pub record CanEraseTag (fr : Frame) (l : Link) : Type 0 where
+  pub alone : IsAlone fr l
+  pub named : fr.tag ≢ no_tag
+  pub clean : fr.word.dirty ≡ false
+
+-- a pin, or the header
+abbrev pub CanLoadTag : Role → Option StateWord → Type 0
+CanLoadTag Absent header = header ≢ None
+CanLoadTag HandedOut header = Unit {0}
+CanLoadTag Victim header = Unit {0}
+
+-- the view has no other victim pin, besides (`AllowedAround`)
+pub record CanPinVictim (fr : Frame) (l : Link) : Type 0 where
+  pub held : l.header ≡ Some fr.word
+  pub absent : l.role ≡ Absent
+  pub room : fr.word.tag_valid ≡ false → fr.word.pins ≡ 0
+
+pub record CanLowerUsage (fr : Frame) (l : Link) : Type 0 where
+  pub held : l.header ≡ Some fr.word
+  pub free : fr.word.pins ≡ 0
+  pub used : 0 < fr.word.usage
+
+pub record CanAssign (fr : Frame) (l : Link) : Type 0 where
+  pub held : l.header ≡ Some fr.word
+  pub stored : l.pending ≡ true
+  pub named : fr.tag ≢ no_tag
+
+pub record CanClear (fr : Frame) (l : Link) : Type 0 where
+  pub held : l.header ≡ Some fr.word
+  pub erased : l.pending ≡ true
+  pub unnamed : fr.tag ≡ no_tag
+
+-- Where a kind is allowed, by the frame and by what the view has there
+abbrev pub Allowed : Kind → Frame → Link → Type 0
+Allowed load_state fr l = Unit {0}
+Allowed (pin ring) fr l = CanPin fr l
+Allowed unpin fr l = CanUnpin fr l
+Allowed lock_header fr l = CanLockHeader fr l
+Allowed unlock_header fr l = CanUnlockHeader fr l
+Allowed (store_tag tag) fr l = CanStoreTag tag fr l
+Allowed erase_tag fr l = CanEraseTag fr l
+Allowed load_tag fr l = CanLoadTag l.role l.header
+Allowed pin_victim fr l = CanPinVictim fr l
+Allowed lower_usage fr l = CanLowerUsage fr l
+Allowed assign fr l = CanAssign fr l
+Allowed clear fr l = CanClear fr l
+
+-- the header is given up, with this word stored
+abbrev pub released : StateWord → Frame → Frame
+released w fr = record fr { word = unlocked_fields w }
+
+-- What a kind makes of the frame
+abbrev pub frame_after : Kind → Frame → Frame
+frame_after load_state fr = fr
+frame_after (pin ring) fr = record fr { word = pinned_fields ring fr.word }
+frame_after unpin fr = record fr { word = unpinned_fields fr.word }
+frame_after lock_header fr = record fr { word = locked_fields fr.word }
+frame_after unlock_header fr = released fr.word fr
+frame_after (store_tag tag) fr = record fr { tag = tag }
+frame_after erase_tag fr = record fr { tag = no_tag }
+frame_after load_tag fr = fr
+frame_after pin_victim fr = released (record fr.word { pins = fr.word.pins + 1 }) fr
+frame_after lower_usage fr = released (usage_down_fields fr.word) fr
+frame_after assign fr = released (assigned_fields fr.word) fr
+frame_after clear fr = released (cleared_fields fr.word) fr
+
+-- What a kind makes of what the view has there
+abbrev pub link_after : Kind → Frame → Link → Link
+link_after load_state fr l = record l {
+  seen_valid = seen_valid_after l.pending l.role fr.word.valid l.seen_valid;
+  waits = wait_after fr.word l.waits;
+  passed = l.passed || not fr.word.dirty;
+  listed = l.listed && fr.word.checkpoint_needed;
+}
+link_after (pin ring) fr l = record l { role = HandedOut; ring = ring }
+link_after unpin fr l = record l { role = Absent; tag = None; seen_valid = false; ring = false }
+link_after lock_header fr l = record l { header = Some (locked_fields fr.word) }
+link_after unlock_header fr l = record l { header = None }
+link_after (store_tag tag) fr l = record l { tag = None; seen_valid = false; pending = true }
+link_after erase_tag fr l = record l { tag = None; seen_valid = false; pending = true }
+link_after load_tag fr l = record l { tag = tag_after l.pending l.role fr.tag l.tag }
+link_after pin_victim fr l = record l { role = Victim; ring = false; header = None }
+link_after lower_usage fr l = record l { header = None }
+link_after assign fr l = record l { role = HandedOut; tag = Some fr.tag; header = None; pending = false }
+link_after clear fr l = record l { header = None; pending = false }
+
+-- what a load saw
+abbrev pub seen_by : Kind → ℕ → Frame → List Seen
+seen_by load_state f fr = seen.State f fr.word ∷ []
+seen_by load_tag f fr = seen.Tag f fr.tag ∷ []
+seen_by _ f fr = []
+
+-- how many steps other than loads a kind is
+abbrev pub steps_of : Kind → ℕ
+steps_of load_state = 0
+steps_of load_tag = 0
+steps_of _ = 1
+
+-- a look of the view at what was seen
+abbrev pub look_of : View → Seen → Look
+look_of v what = record { seen = what; pins = map (λ (l : Link). is_pin l.role) v.links; steps = v.steps }
+
+-- What a kind at the frame f makes of the view
+abbrev pub view_after : Kind → ℕ → Frame → Link → View → View
+view_after k f fr l v = record v {
+  links = (relink v f (link_after k fr l)).links;
+  looks = v.looks ++ map (look_of v) (seen_by k f fr);
+  steps = v.steps + steps_of k;
+}

@@ -1,0 +1,101 @@
+-- What holds in every state that steps lead to.
+use Rattle.std.specs.Prelude.{◌≡◌, ◌≢◌, ℕ, ◌+◌, ◌<◌, ◌≤◌, true, false, List, Some, None, length}
+use mathlib.Core.Option.{some}
+use lib.ListN.{get_elem?}
+use Rattle.state_word.specs.declared.word.StateWord.{StateWord}
+use Rattle.pin_core.specs.declared.view.Role.TheVariants.{Absent, HandedOut, Victim}
+use Rattle.pin_core.specs.declared.view.Link.{Link}
+use Rattle.pin_core.specs.declared.view.View.{View}
+use Rattle.pin_core.specs.State.{Frame, State, no_tag}
+use Rattle.pin_core.specs.Tallies.{Tally, pins, headers, pendings, settled_pins, settled_headers, flag_weight, frame_shape}
+use Rattle.grid.specs.Shape.{Part, Grid}
+
+-- the frame has a tag: BM_TAG_VALID stands, and the tag word isn't all ones
+pub record HasTag (fr : Frame) : Type 0 where
+  pub flagged : fr.word.tag_valid ≡ true
+  pub named : fr.tag ≢ no_tag
+
+-- BM_TAG_VALID stands exactly where the tag word isn't all ones
+pub record TagsAgree (fr : Frame) : Type 0 where
+  pub flagged : fr.word.tag_valid ≡ true → fr.tag ≢ no_tag
+  pub unflagged : fr.word.tag_valid ≡ false → fr.tag ≡ no_tag
+
+-- What holds of a frame while a view has stored its tag word, and neither assigned nor cleared it yet
+pub record PendingFrame (fr : Frame) : Type 0 where
+  -- the frame has one pin
+  pub single : fr.word.pins ≡ 1
+  -- where a tag was stored, BM_TAG_VALID is clear
+  pub entering : fr.tag ≢ no_tag → fr.word.tag_valid ≡ false
+  -- where all ones was stored, BM_TAG_VALID stands
+  pub leaving : fr.tag ≡ no_tag → fr.word.tag_valid ≡ true
+  -- the frame isn't dirty
+  pub clean : fr.word.dirty ≡ false
+
+-- What holds of a frame and of the sums over the views there
+pub record FrameLaw (fr : Frame) (t : Tally → ℕ) : Type 0 where
+  -- the reference count is the number of views that pin the frame
+  pub counted : fr.word.pins ≡ t pins
+  -- BM_LOCKED stands exactly where one view holds the header
+  pub locked : flag_weight fr.word.locked ≡ t headers
+  -- a frame whose tag word is all ones has at most one pin
+  pub untagged_few : fr.tag ≡ no_tag → fr.word.pins ≤ 1
+  -- the usage count is at most 5 (BM_MAX_USAGE_COUNT)
+  pub usage : fr.word.usage ≤ 5
+  -- a dirty frame is valid
+  pub dirty : fr.word.dirty ≡ true → fr.word.valid ≡ true
+  -- a valid frame has BM_TAG_VALID
+  pub valid : fr.word.valid ≡ true → fr.word.tag_valid ≡ true
+  -- BM_TAG_VALID agrees with the tag word, but between a store of the tag word and the frame's being assigned or cleared
+  pub tagged : t pendings ≡ 0 → TagsAgree fr
+  pub pending : 0 < t pendings → PendingFrame fr
+  -- a view that has stored the tag word pins the frame, and holds its header
+  pub pending_pins : t pins ≡ t pendings + t settled_pins
+  pub pending_headers : t headers ≡ t pendings + t settled_headers
+
+-- What a view that stored the tag word has and knows there, until it has assigned or cleared the frame
+pub record PendingLink (l : Link) : Type 0 where
+  -- it holds the header
+  pub held : l.header ≢ None
+  -- its pin there is its victim pin
+  pub victim : l.role ≡ Victim
+  -- it knows neither the tag nor BM_VALID
+  pub unread : l.tag ≡ None
+  pub unseen : l.seen_valid ≡ false
+
+-- What holds of a frame and of what a view has there
+pub record LinkLaw (fr : Frame) (l : Link) : Type 0 where
+  -- the state word is the word of the view that holds the header
+  pub header : (w : StateWord) → l.header ≡ Some w → fr.word ≡ w
+  -- the frame of a handed-out pin has a tag
+  pub handed_out : l.role ≡ HandedOut → HasTag fr
+  -- the frame of a pin has the tag that the pin remembers
+  pub remembers : (tag : ℕ) → l.tag ≡ Some tag → HasTag fr × (fr.tag ≡ tag)
+  -- it is valid where the pin has seen BM_VALID
+  pub seen : l.seen_valid ≡ true → fr.word.valid ≡ true
+  -- only a pin remembers
+  pub unpinned : l.role ≡ Absent → (l.tag ≡ None) × (l.seen_valid ≡ false)
+  pub pending : l.pending ≡ true → PendingLink l
+
+abbrev pub pin_part : Part frame_shape
+pin_part = record { column = λ _ fr t. FrameLaw fr t; cell = λ _ fr _ l. LinkLaw fr l }
+
+-- What holds of the list of views
+pub record ViewsLaw (frames backends : ℕ) (views : List View) : Type 0 where
+  -- a view has a link for each frame
+  pub wide : (i : ℕ) (v : View) → get_elem? views i ≡ some v → v.spent ≡ false → length v.links ≡ frames
+  -- the view at the seat i has the number i
+  pub numbered : (i : ℕ) (v : View) → get_elem? views i ≡ some v → v.spent ≡ false → v.number ≡ i
+  -- the first view is never spent, and has the next number to give
+  pub first : (v : View) → get_elem? views 0 ≡ some v → (v.spent ≡ false) × (v.next ≡ length views)
+  -- no number is given beyond the count of backends
+  pub few : length views ≤ backends
+
+-- no two frames have one tag word, with BM_TAG_VALID or without, but for all ones
+abbrev pub TagsApart : ℕ → (ℕ → Frame) → Type 0
+TagsApart frames frame = (f g : ℕ) → f < frames → g < frames → (frame f).tag ≢ no_tag → (frame f).tag ≡ (frame g).tag → f ≡ g
+
+-- The law of pins, headers and tags
+pub record Lawful (s : State) : Type 0 where
+  pub grid : Grid frame_shape pin_part s.frames s.frame (λ _. tt) s.views
+  pub apart : TagsApart s.frames s.frame
+  pub views : ViewsLaw s.frames s.backends s.views

@@ -1,0 +1,182 @@
+-- The frames of the buffer pool, and what each backend knows.
+use Rattle.std.specs.Prelude.{ℕ, ◌+◌, Bool, true, false, List, [], ◌∷◌, ◌++◌, replicate, length, map, max, slice_index_or, slice_set, ◌||◌, None}
+use Rattle.state_word.specs.declared.word.StateWord.{StateWord}
+use Rattle.pin_core.specs.declared.view.Role.{Role}
+use Rattle.pin_core.specs.declared.view.Role.TheVariants.{Absent, HandedOut, Victim}
+use Rattle.pin_core.specs.declared.view.Content.TheVariants.{Unlocked}
+use Rattle.pin_core.specs.declared.view.Io.TheVariants.{Quiet}
+use Rattle.pin_core.specs.declared.view.LastWrite.TheVariants.{Unwritten}
+use Rattle.pin_core.specs.declared.view.MapChange.TheVariants.{Settled}
+use Rattle.pin_core.specs.declared.view.LaneChange.TheVariants as lane_change
+use Rattle.pin_core.specs.declared.view.LogChange.TheVariants as log_change
+use Rattle.pin_core.specs.declared.view.Link.{Link}
+use Rattle.pin_core.specs.declared.view.PartitionHold.{PartitionHold}
+use Rattle.pin_core.specs.declared.view.LaneHold.{LaneHold}
+use Rattle.pin_core.specs.declared.view.LogHold.{LogHold}
+use Rattle.pin_core.specs.declared.view.Met.{Met}
+use Rattle.pin_core.specs.declared.view.Checkpoint.{Checkpoint}
+use Rattle.pin_core.specs.declared.view.View.{View}
+use Rattle.grid.specs.Shape.{put}
+
+-- the bytes of a page
+abbrev pub Page : Type 0
+Page = List ℕ
+
+-- A frame: its buffer descriptor (`BufferDesc`) and its page
+pub record Frame : Type 0 where
+  -- the state word, by its fields
+  pub word : StateWord
+  -- the tag word: a packed buffer tag, or `no_tag`
+  pub tag : ℕ
+  -- the content word: how many backends share the content lock, whether one has it exclusively, and whether a sharer has the page out to copy it
+  pub sharers : ℕ
+  pub exclusive : Bool
+  pub copying : Bool
+  pub page : Page
+
+-- The buffer pool, and what each backend knows
+pub record State : Type 0 where
+  -- how many frames there are, and how many backends there may be
+  pub frames : ℕ
+  pub backends : ℕ
+  pub frame : ℕ → Frame
+  pub views : List View
+
+-- the tag word of a frame without a tag: all ones
+abbrev pub no_tag : ℕ
+no_tag = 18446744073709551615
+
+-- a backend has nothing at a frame
+abbrev pub idle : Link
+idle = record {
+  role = Absent;
+  tag = None;
+  seen_valid = false;
+  ring = false;
+  header = None;
+  pending = false;
+  content = Unlocked;
+  copying = false;
+  dirtied = false;
+  ahead = false;
+  copied = None;
+  io = Quiet;
+  read = None;
+  read_is_home = false;
+  last_write = Unwritten;
+  out = None;
+  overwritten = None;
+  waits = None;
+  passed = false;
+  listed = false;
+}
+
+abbrev pub no_partition : PartitionHold
+no_partition = record { held = false; change = Settled; out = None; changed = false }
+
+abbrev pub no_lane : LaneHold
+no_lane = record { held = false; out = None; change = lane_change.Untouched; flushed = 0 }
+
+abbrev pub no_log : LogHold
+no_log = record { held = false; out = None; change = log_change.Untouched; appended = None; synced = false }
+
+-- what a view has at the frame f
+abbrev pub link : View → ℕ → Link
+link v f = slice_index_or v.links f idle
+
+-- the view with the link l at f
+abbrev pub relink : View → ℕ → Link → View
+relink v f l = record v { links = slice_set v.links f l }
+
+-- whether a pin stands
+abbrev pub is_pin : Role → Bool
+is_pin Absent = false
+is_pin HandedOut = true
+is_pin Victim = true
+
+-- whether the view pins the frame f
+abbrev pub pins_frame : ℕ → View → Bool
+pins_frame f v = is_pin (link v f).role
+
+-- the view of a new backend with this number: it holds nothing
+abbrev pub new_view : ℕ → ℕ → ℕ → ℕ → View
+new_view number frames partitions lanes = record {
+  number = number;
+  next = 0;
+  joined = 0;
+  spent = false;
+  links = replicate frames idle;
+  partitions = replicate partitions no_partition;
+  lanes = replicate lanes no_lane;
+  log = no_log;
+  flushed = 0;
+  calls = [];
+  front = 0;
+  place_loads = 0;
+  steps = 0;
+  looks = [];
+  upto = 0;
+  kept = [];
+  device_calls = [];
+  met = record { reads = 0; writes = 0; logs = 0 };
+  saw_down = false;
+  marked = false;
+  had_output = false;
+  last_ended = None;
+}
+
+-- the view of the first backend: the next number to give is 1
+abbrev pub first_view : ℕ → ℕ → ℕ → View
+first_view frames partitions lanes = record (new_view 0 frames partitions lanes) { next = 1 }
+
+-- what is left of a view that was joined into the first
+abbrev pub spent_view : View
+spent_view = record (new_view 0 0 0 0) { spent = true }
+
+abbrev pub sum_of_met : Met → Met → Met
+sum_of_met a b = record { reads = a.reads + b.reads; writes = a.writes + b.writes; logs = a.logs + b.logs }
+
+-- the checkpoint of a view, as it is kept when the view is joined into the first
+abbrev pub kept_checkpoint : View → Checkpoint
+kept_checkpoint u = record { number = u.number; upto = u.upto; passed = map (λ (l : Link). l.passed) u.links; listed = map (λ (l : Link). l.listed) u.links }
+
+-- the first view v with what it keeps of the view u
+abbrev pub joined_view : View → View → View
+joined_view v u = record v {
+  joined = v.joined + 1;
+  calls = v.calls ++ u.calls;
+  front = max v.front u.front;
+  kept = v.kept ++ kept_checkpoint u ∷ u.kept;
+  met = sum_of_met v.met u.met;
+  saw_down = v.saw_down || u.saw_down;
+  marked = v.marked || u.marked;
+  had_output = v.had_output || u.had_output;
+}
+
+-- the view of the seat i changes, and nothing else
+abbrev pub seated : State → ℕ → View → State
+seated s i w = record s { views = slice_set s.views i w }
+
+-- the frame f and the view of the seat i change, and nothing else
+abbrev pub local : State → ℕ → ℕ → Frame → View → State
+local s i f fr w = record s { frame = put s.frame f fr; views = slice_set s.views i w }
+
+-- a new backend takes the next number of the first, whose view is v
+abbrev pub split_state : State → View → State
+split_state s v = record s { views = slice_set s.views 0 (record v { next = v.next + 1 }) ++ new_view v.next (length v.links) (length v.partitions) (length v.lanes) ∷ [] }
+
+-- the backend at the seat j, whose view is u, is joined into the first, whose view is v
+abbrev pub joined_state : State → View → ℕ → View → State
+joined_state s v j u = record s { views = slice_set (slice_set s.views 0 (joined_view v u)) j spent_view }
+
+-- a state word with no flag set and every number 0
+abbrev pub zero_word : StateWord
+zero_word = record { pins = 0; usage = 0; locked = false; dirty = false; valid = false; tag_valid = false; in_progress = false; failed = false; just_dirtied = false; awaited = false; checkpoint_needed = false; permanent = false; waiter = 0 }
+
+-- a frame at the start (`InitBufferPool`): no pins, no tag, and this page
+abbrev pub empty_frame : Page → Frame
+empty_frame p = record { word = zero_word; tag = no_tag; sharers = 0; exclusive = false; copying = false; page = p }
+
+-- the buffer pool at the start, with one backend
+abbrev pub opening : ℕ → ℕ → ℕ → ℕ → Page → State
+opening frames partitions lanes backends p = record { frames = frames; backends = backends; frame = λ _. empty_frame p; views = first_view frames partitions lanes ∷ [] }

@@ -1,0 +1,38 @@
+//! Pins, buffer headers and buffer tags, as plain data: what a step may be, and what every list of steps keeps.
+//!
+//! Nothing here runs. The types are what a backend knows ([`View`]); the kinds of step, the law that they keep and the lists of steps are in `specs/`, and docs/PROTOCOL.md tells them in words.
+#![tactic(auto)]
+
+ghost use Rattle.std.specs.Prelude.{ℕ, ◌<◌, List};
+ghost use Rattle.pin_core.specs.State.{Page, State, opening};
+ghost use Rattle.pin_core.specs.Lawful.{Lawful};
+ghost use Rattle.pin_core.specs.Steps.{Event, Run};
+ghost use Rattle.pin_core.specs.Sample.{SampleRuns};
+ghost use Rattle.pin_core.specs.Schedules.{IsReached, TagsAreUnique, PinsAreCounted, HeadersAreHeld, HoldersHaveTheWord, PinsRemember, PinnedTagsStay};
+
+mod view;
+
+pub use view::{
+    BlockPage, Call, Checkpoint, Content, DeviceCall, Io, LaneChange, LaneHold, LastWrite, Link,
+    LogChange, LogHold, Look, MapChange, MapEntry, Met, PartitionHold, Role, Seen, View,
+};
+
+/// What every list of events keeps, whatever the backends do and in whatever order.
+pub fn all_schedules()
+    // From every state that has the law every list of events leads to one that has it, and the state at the start has it.
+    ensures kept { (es : List Event) (s : State) (t : State) → Lawful s → Run es s t → Lawful t }
+    ensures opens { (frames : ℕ) (partitions : ℕ) (lanes : ℕ) (backends : ℕ) (page : Page) → 0 < backends → Lawful (opening frames partitions lanes backends page) }
+
+    // So in every state that events lead to:
+    ensures unique { (s : State) → IsReached s → TagsAreUnique s }
+    ensures stay { (s : State) → IsReached s → PinnedTagsStay s }
+    ensures counted { (s : State) → IsReached s → PinsAreCounted s }
+    ensures held { (s : State) → IsReached s → HeadersAreHeld s }
+    ensures holders { (s : State) → IsReached s → HoldersHaveTheWord s }
+    ensures remembers { (s : State) → IsReached s → PinsRemember s }
+{}
+
+/// Ten events as an example: a backend misses a block and gives it a frame, another one hits it there, and the first one's pin goes.
+pub fn miss_and_hit()
+    ensures { SampleRuns }
+{}

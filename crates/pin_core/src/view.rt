@@ -1,0 +1,257 @@
+//! What a backend knows. No value of these types is made: contracts read them. An array of length 0 reads there as a list of any length, and a page as the list of its bytes.
+use state_word::StateWord;
+
+/// A backend's pin of a frame.
+pub enum Role {
+    /// It has none.
+    Absent,
+    /// One for the backend's callers: the frame has a tag and keeps it.
+    HandedOut,
+    /// One under which the backend looks for a victim (`GetVictimBuffer`): the tag may go.
+    Victim,
+}
+
+/// A backend's content lock.
+pub enum Content {
+    Unlocked,
+    Shared,
+    Exclusive,
+}
+
+/// What a backend has begun to do with a frame's page and its lane (`StartBufferIO`).
+pub enum Io {
+    Quiet,
+    Input,
+    Output,
+}
+
+/// How the last lane write under an output right went.
+pub enum LastWrite {
+    Unwritten,
+    Done,
+    Failed,
+}
+
+/// What a backend has at one frame.
+pub struct Link {
+    pub role: Role,
+    /// The tag that the pin remembers; none where it was not read.
+    pub tag: Option<u64>,
+    /// The pin saw `BM_VALID`.
+    pub seen_valid: bool,
+    /// The pin was made for a ring.
+    pub ring: bool,
+    /// The word of the buffer header that the backend has locked.
+    pub header: Option<StateWord>,
+    /// Under that header the tag word was stored, and the frame is neither assigned nor cleared yet.
+    pub pending: bool,
+    pub content: Content,
+    /// Among the sharers the backend is the one that may take the page out to copy it.
+    pub copying: bool,
+    /// Under this exclusive lock the frame was marked dirty.
+    pub dirtied: bool,
+    /// The entry of the new page is in the log, and the page is not changed yet.
+    pub ahead: bool,
+    /// The page as the backend copied it under this content lock.
+    pub copied: Option<[u8; 0]>,
+    pub io: Io,
+    /// The page that the lane gave under this input right.
+    pub read: Option<[u8; 0]>,
+    /// The page that was read is the frame's page, and that is in its place.
+    pub read_is_home: bool,
+    pub last_write: LastWrite,
+    /// The frame's page is out with the backend, and this is what it was when it went out.
+    pub out: Option<[u8; 0]>,
+    /// What the page that is out was overwritten with.
+    pub overwritten: Option<[u8; 0]>,
+    /// The number under which the backend waits here for its pin to be the only one.
+    pub waits: Option<u64>,
+    /// The backend's checkpoint has passed the frame.
+    pub passed: bool,
+    /// The frame is one that the backend's checkpoint has still to write.
+    pub listed: bool,
+}
+
+/// A tag and the frame that has it.
+pub struct MapEntry {
+    pub tag: u64,
+    pub frame: u64,
+}
+
+/// The change of a partition's map that its holder owes since it stored a tag word.
+pub enum MapChange {
+    Settled,
+    Entering { tag: u64, frame: u64 },
+    Leaving { tag: u64, frame: u64 },
+}
+
+/// What a backend has of a partition's turn.
+pub struct PartitionHold {
+    pub held: bool,
+    pub change: MapChange,
+    /// The map is out with the backend, and this is what it was when it went out.
+    pub out: Option<[MapEntry; 0]>,
+    /// The map that is out has the change.
+    pub changed: bool,
+}
+
+/// A block, by its tag, and its page.
+pub struct BlockPage {
+    pub tag: u64,
+    pub page: [u8; 0],
+}
+
+/// The one call of a lane that a backend made while the lane was out.
+pub enum LaneChange {
+    Untouched,
+    Read { tag: u64, page: [u8; 0] },
+    ReadFailed { tag: u64 },
+    Written { frame: u64, tag: u64, page: [u8; 0] },
+    WriteFailed { frame: u64, tag: u64 },
+    Synced,
+    SyncFailed,
+}
+
+/// What a backend has of a lane's turn.
+pub struct LaneHold {
+    pub held: bool,
+    /// The lane is out with the backend, and these were its pages when it went out.
+    pub out: Option<[BlockPage; 0]>,
+    pub change: LaneChange,
+    /// The flushed position as the backend had loaded it when the lane went out.
+    pub flushed: u64,
+}
+
+/// The one call of the log that a backend made while the log was out.
+pub enum LogChange {
+    Untouched,
+    Appended { frame: u64, tag: u64, page: [u8; 0] },
+    AppendFailed,
+    Synced,
+    SyncFailed,
+}
+
+/// What a backend has of the log's turn.
+pub struct LogHold {
+    pub held: bool,
+    /// The log is out with the backend, and these were its bytes when it went out.
+    pub out: Option<[u8; 0]>,
+    pub change: LogChange,
+    /// In this turn a record was appended, and the log end not stored yet.
+    pub appended: Option<[u8; 0]>,
+    /// In this turn a sync was done.
+    pub synced: bool,
+}
+
+/// A page that was read or written, and its place in the log.
+pub enum Call {
+    Read { tag: u64, page: [u8; 0], place: u64 },
+    Write { tag: u64, page: [u8; 0], place: u64 },
+}
+
+/// A word as a load saw it.
+pub enum Seen {
+    State {
+        frame: u64,
+        word: StateWord,
+    },
+    Tag {
+        frame: u64,
+        tag: u64,
+    },
+    Content {
+        frame: u64,
+        sharers: u64,
+        exclusive: bool,
+        copying: bool,
+    },
+    LogEnd {
+        end: u64,
+    },
+    Flushed {
+        flushed: u64,
+    },
+    Hand {
+        hand: u64,
+    },
+}
+
+/// One load, with what the backend had done and pinned by then.
+pub struct Look {
+    pub seen: Seen,
+    /// For each frame, whether the backend pinned it.
+    pub pins: [bool; 0],
+    /// How many steps other than loads the backend had made.
+    pub steps: u64,
+}
+
+/// One call of a device.
+pub enum DeviceCall {
+    LaneRead { lane: u64, tag: u64 },
+    LaneWrite { lane: u64, tag: u64 },
+    LaneSync { lane: u64 },
+    LogAppend,
+    LogSync,
+}
+
+/// How many device calls failed, by the part that failed.
+pub struct Met {
+    pub reads: u64,
+    pub writes: u64,
+    pub logs: u64,
+}
+
+/// A checkpoint of a backend that was joined into another.
+pub struct Checkpoint {
+    pub number: u64,
+    pub upto: u64,
+    /// For each frame, whether it was passed.
+    pub passed: [bool; 0],
+    /// For each frame, whether it is one that has still to be written.
+    pub listed: [bool; 0],
+}
+
+/// What one backend knows and has done.
+pub struct View {
+    /// The backend's number.
+    pub number: u64,
+    /// For the first backend: the next number to give.
+    pub next: u64,
+    /// For the first backend: how many backends were joined into it.
+    pub joined: u64,
+    /// What is left of a backend that was joined into the first.
+    pub spent: bool,
+    /// One for each frame.
+    pub links: [Link; 0],
+    /// One for each partition of the mapping table.
+    pub partitions: [PartitionHold; 0],
+    /// One for each lane.
+    pub lanes: [LaneHold; 0],
+    pub log: LogHold,
+    /// The flushed position as last loaded.
+    pub flushed: u64,
+    /// The pages read and written, in order.
+    pub calls: [Call; 0],
+    /// The largest place of the calls.
+    pub front: u64,
+    /// How many loads of the log end gave a read its place.
+    pub place_loads: u64,
+    /// How many steps other than loads the backend made.
+    pub steps: u64,
+    /// The loads, in order.
+    pub looks: [Look; 0],
+    /// The log end at which the backend's checkpoint began, or 0.
+    pub upto: u64,
+    /// The checkpoints of the backends that were joined into this one.
+    pub kept: [Checkpoint; 0],
+    pub device_calls: [DeviceCall; 0],
+    pub met: Met,
+    /// Under the log's turn the backend saw the log down, or saw its own call fail.
+    pub saw_down: bool,
+    /// The backend has marked a frame dirty, or called a lane's sync.
+    pub marked: bool,
+    /// The backend has had an output right.
+    pub had_output: bool,
+    /// The word that the end of its last input or output stored.
+    pub last_ended: Option<StateWord>,
+}
