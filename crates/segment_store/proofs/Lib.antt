@@ -3,3 +3,4 @@ pub mod Segments
 pub mod GivenBack
 pub mod PutBlocks
 pub mod PutSegments
+pub mod Dealing
