@@ -127,3 +127,6 @@ is_there None tag page has pages is = absurd has
 -- lanes that hold pages have their blocks
 pub held_there : (fork : Fork) (pages : List (List ℕ)) (lanes : List (Option Pages)) → HoldPages fork pages lanes → HasBlocks fork (length pages) lanes
 held_there fork pages lanes hold block within = is_there (lane_at lanes (tag_at fork block)) (tag_at fork block) (get_or pages block []) (hold block within)
+
+pub length-dealt : (fork : Fork) (pages : List (List ℕ)) (lanes : ℕ) → length (dealt fork pages lanes) ≡ lanes
+length-dealt fork pages lanes = length-map-range_with_len (λ (number : ℕ). Some (own_pages fork pages lanes number)) 0 lanes

@@ -4,3 +4,4 @@ pub mod GivenBack
 pub mod PutBlocks
 pub mod PutSegments
 pub mod Dealing
+pub mod FilesByPath
