@@ -1,5 +1,5 @@
 -- The command line as clap reads it: a simple command with one level of subcommands.
-use Rattle.std.specs.Prelude.{ℕ, true, List, [], ◌∷◌, Some, codes}
+use Rattle.std.specs.Prelude.{true, [], ◌∷◌, Some, codes}
 use Rattle.clap.specs.Words.{App, Rule, Text, new_app, new_rule, with_rule, with_subcommand}
 use Rattle.clap.specs.declared.builder.value_parser.ValueParser.TheVariants as parser
 use Rattle.command_line.specs.Numbers.{NumberRange, backends_range, bgwriter_range, blocks_range, frames_range, lanes_range, seed_range, segment_blocks_range}
@@ -26,7 +26,7 @@ abbrev pub log_rule : Rule
 log_rule = record (text_rule (codes "log")) { long = Some (codes "log") }
 
 -- the options of each command, with their defaults
-abbrev pub with_options : App → App
+unfoldable pub with_options : App → App
 with_options app =
     let a = with_rule app (option_rule backends_range (codes "1")) in
     let b = with_rule a (option_rule frames_range (codes "128")) in
@@ -54,7 +54,7 @@ bare_app =
     let app = new_app (codes "page_tool") in
     record app { top = record app.top { no_binary_name = true; subcommand_required = true } }
 
-abbrev pub tool_app : App
+unfoldable pub tool_app : App
 tool_app =
     let a = with_subcommand bare_app (path_app (codes "scan")).top in
     let b = with_subcommand a (path_app (codes "dump")).top in

@@ -1,7 +1,6 @@
 -- Which paths name a file of a relation.
-use Rattle.std.specs.Prelude.{ℕ, ◌+◌, ◌-◌, ◌*◌, ◌^◌, Bool, true, false, not, ◌&&◌, ◌||◌, ◌==◌, nat_eq, nat_le, nat_lt, List, [], ◌∷◌, ◌++◌, length, take, drop, fold, slice_index, codes}
+use Rattle.std.specs.Prelude.{ℕ, ◌+◌, ◌-◌, ◌*◌, ◌^◌, Bool, true, false, not, ◌&&◌, ◌==◌, nat_eq, nat_le, nat_lt, List, [], ◌∷◌, length, take, drop, fold, slice_index}
 use Rattle.std.specs.List.{after_last, list_all, starts_with}
-use Rattle.std.specs.Str.{bytes_eq}
 use Rattle.block_tag.specs.declared.tag.Fork.{Fork}
 use Rattle.block_tag.specs.declared.tag.Fork.TheVariants.{Main, Fsm, Vm, Init}
 use Rattle.segment_store.specs.Paths.{fork_of}
@@ -15,8 +14,7 @@ number_value digits = fold (λ value digit. 10 * value + (digit - 48)) 0 digits
 
 -- a decimal number from 1 to 4294967295 without leading zeros
 unfoldable pub is_relation_number : List ℕ → Bool
-is_relation_number digits =
-    list_all is_digit digits && (not (slice_index digits 0 == 48)
+is_relation_number digits = list_all is_digit digits && (not (slice_index digits 0 == 48)
     && (nat_lt 0 (number_value digits) && nat_lt (number_value digits) (2 ^ 32)))
 
 -- what stands behind the last slash of a path
@@ -43,12 +41,11 @@ abbrev pub is_main_fork : Fork → Bool
 is_main_fork Main = true
 is_main_fork _ = false
 
--- digits, and one at least
-abbrev pub is_segment_number : List ℕ → Bool
-is_segment_number digits = nat_lt 0 (length digits) && list_all is_digit digits
+-- what follows the path of a relation in the names of its files: nothing, or `.` and digits, one at least
+abbrev pub is_file_end : List ℕ → Bool
+is_file_end [] = true
+is_file_end (byte ∷ digits) = byte == 46 && (nat_lt 0 (length digits) && list_all is_digit digits)
 
--- the file is the relation's own: it is the path, or the path followed by `.` and digits
-unfoldable pub is_segment_of : List ℕ → List ℕ → Bool
-is_segment_of path file =
-    bytes_eq file path
-    || (starts_with nat_eq file (path ++ codes ".") && is_segment_number (drop (length path + 1) file))
+-- the file is one of the relation at the path: the path itself, or the path followed by `.` and digits
+unfoldable pub is_file_of : List ℕ → List ℕ → Bool
+is_file_of path file = starts_with nat_eq file path && is_file_end (drop (length path) file)

@@ -1,10 +1,10 @@
 -- The command that words spell.
-use Rattle.std.specs.Prelude.{ℕ, List, Bool, not, ◌&&◌, Option, Some, None, codes, option_and_then, if◌then◌else◌}
+use Rattle.std.specs.Prelude.{ℕ, List, Option, Some, None, codes, option_and_then, option_map, if◌then◌else◌}
 use Rattle.std.specs.Str.{bytes_eq}
 use Rattle.clap.specs.Words.{Row, Text, fault_of, first_of, subcommand_of}
 use Rattle.clap.specs.Walk.{is_empty}
 use Rattle.segment_store.specs.Paths.{fork_of}
-use Rattle.command_line.specs.RelationPath.{is_main_fork, is_relation_path, is_segment_of}
+use Rattle.command_line.specs.RelationPath.{is_file_of, is_main_fork, is_relation_path}
 use Rattle.command_line.specs.Numbers.{HasOptionsInRange, LiesIn, blocks_range, number_in, options_in, seed_range}
 use Rattle.command_line.specs.Grammar.{tool_app}
 use Rattle.command_line.specs.declared.numbers.Options.{Options}
@@ -32,28 +32,37 @@ HasNumbersInRange (rewrite path log options) = HasOptionsInRange options
 HasNumbersInRange (sample seed blocks options) =
     LiesIn seed_range seed × LiesIn blocks_range blocks × HasOptionsInRange options
 
--- a scan or a dump, where the path names a file of a relation
-abbrev pub of_path : (Text → Spelled) → Text → Option Spelled
-of_path command path = if is_relation_path path then Some (command path) else None
+-- the path among the matches, where it names a file of a relation
+abbrev pub relation_path_in : List Row → Option Text
+relation_path_in rows =
+    option_and_then (λ path. if is_relation_path path then Some path else None) (first_of (codes "path") rows)
 
--- a rewrite, where the path names a relation's main fork and the log is no file of it
-abbrev pub of_path_and_log : Options → Text → Text → Option Spelled
-of_path_and_log options path log =
-    if is_relation_path path && (is_main_fork (fork_of path) && not (is_segment_of path log))
-    then Some (rewrite path log options) else None
+-- the same, where it names a main fork
+abbrev pub main_path_in : List Row → Option Text
+main_path_in rows =
+    option_and_then (λ path. if is_main_fork (fork_of path) then Some path else None) (relation_path_in rows)
+
+-- the log among the matches, where it is no file of the relation at the path
+abbrev pub log_in : Text → List Row → Option Text
+log_in path rows =
+    option_and_then (λ log. if is_file_of path log then None else Some log) (first_of (codes "log") rows)
+
+abbrev pub rewrite_in : List Row → Options → Option Spelled
+rewrite_in rows options =
+    option_and_then (λ path. option_map (λ log. rewrite path log options) (log_in path rows)) (main_path_in rows)
+
+abbrev pub sample_in : List Row → Options → Option Spelled
+sample_in rows options =
+    option_and_then (λ seed. option_map (λ blocks. sample seed blocks options) (number_in blocks_range rows))
+    (number_in seed_range rows)
 
 -- the command of a subcommand's name, its matches and its options
 abbrev pub command_named : Text → List Row → Options → Option Spelled
 command_named name rows options =
-    if bytes_eq name (codes "scan")
-    then option_and_then (of_path (λ path. scan path options)) (first_of (codes "path") rows)
-    else (if bytes_eq name (codes "dump")
-    then option_and_then (of_path (λ path. dump path options)) (first_of (codes "path") rows)
-    else (if bytes_eq name (codes "rewrite")
-    then option_and_then (λ path. option_and_then (of_path_and_log options path) (first_of (codes "log") rows)) (first_of (codes "path") rows)
-    else (if bytes_eq name (codes "sample")
-    then option_and_then (λ seed. option_and_then (λ blocks. Some (sample seed blocks options)) (number_in blocks_range rows)) (number_in seed_range rows)
-    else None)))
+    if bytes_eq name (codes "scan") then option_map (λ path. scan path options) (relation_path_in rows)
+    else (if bytes_eq name (codes "dump") then option_map (λ path. dump path options) (relation_path_in rows)
+    else (if bytes_eq name (codes "rewrite") then rewrite_in rows options
+    else (if bytes_eq name (codes "sample") then sample_in rows options else None)))
 
 -- the command of a subcommand and its matches
 abbrev pub command_met : Text × List Row → Option Spelled

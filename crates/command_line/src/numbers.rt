@@ -1,7 +1,7 @@
 // The numbers that a command takes, with their ranges.
-ghost use Rattle.std.specs.Prelude.{◌≡◌, ◌≤◌, IfSome};
-ghost use Rattle.clap.specs.Words.{found_of, rows_of};
-ghost use Rattle.command_line.specs.Numbers.{HasOptionsInRange, LiesIn, number_in, options_in, range_of};
+ghost use Rattle.std.specs.Prelude.{◌≡◌, IfSome, option_map};
+ghost use Rattle.clap.specs.Words.{first_of, found_of, rows_of};
+ghost use Rattle.command_line.specs.Numbers.{HasOptionsInRange, LiesIn, number_in, number_of, options_in, range_of};
 
 use clap::ArgMatches;
 
@@ -74,17 +74,39 @@ pub struct Options {
     pub rounds: u32,
 }
 
+/// The text among the matches.
+pub(crate) fn text_in<'a>(matches: &ArgMatches<'a>, name: &str) -> Option<&'a str>
+    ensures { option_map (λ text. text.now) result ≡ first_of name.now (rows_of (found_of matches.now)) }
+{
+    matches.get_str(name)
+}
+
+/// The number that a text writes, where it lies in the range.
+fn number_of(arg: NumberArg, text: &str) -> Option<u32>
+    ensures value { result ≡ number_of (range_of arg) text.now }
+    ensures range { IfSome result (LiesIn (range_of arg)) }
+{
+    let number = match text.parse::<u32>() {
+        Ok(number) => number,
+        Err(_) => return None,
+    };
+    if number < arg.least {
+        return None;
+    }
+    if arg.greatest < number {
+        return None;
+    }
+    Some(number)
+}
+
 /// The number among the matches, given or by default.
+#[tactic(auto, unfolding(crate::specs::Numbers::number_in))]
 pub(crate) fn number_in(matches: &ArgMatches, arg: NumberArg) -> Option<u32>
     ensures value { result ≡ number_in (range_of arg) (rows_of (found_of matches.now)) }
     ensures range { IfSome result (LiesIn (range_of arg)) }
 {
-    let text = matches.get_str(arg.name)?;
-    let number = text.parse::<u32>().ok()?;
-    if number < arg.least || arg.greatest < number {
-        return None;
-    }
-    Some(number)
+    let text = text_in(matches, arg.name)?;
+    number_of(arg, text)
 }
 
 /// The options among the matches.
