@@ -74,3 +74,8 @@ path_same at lanes paths hold path = elim (cases_Bool (bytes_eq path at.path)) [
 -- lanes that hold what the path has leave all paths as they were
 pub paths_same : (at : OpenAt) (lanes : List (Option Pages)) (paths : Paths) → HoldPages (fork_of at.path) (relation_of at.seg_blocks (paths at.path)) lanes → paths_after at lanes paths ≡ paths
 paths_same at lanes paths hold = λ i path. path_same at lanes paths hold path i
+
+-- a relation that isn't there stays so
+pub given_back_none : (fork : Fork) (seg_blocks : ℕ) (lanes : List (Option Pages)) → given_back fork seg_blocks lanes [] ≡ []
+unfolding given_back
+given_back_none fork seg_blocks lanes = refl

@@ -3,3 +3,5 @@ pub mod Segments
 pub mod GivenBack
 pub mod PutBlocks
 pub mod PutSegments
+pub mod Dealing
+pub mod FilesByPath

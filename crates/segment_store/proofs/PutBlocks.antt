@@ -13,7 +13,7 @@ use Rattle.segment_store.specs.Restored.{pages_in, with_pages}
 use Rattle.segment_store.proofs.GivenBack.{length-pages_in, pages_in-append}
 use Rattle.segment_store.proofs.Segments.{block_then, first_more, length-first}
 
-pub take_front : (front back : List ℕ) (n : ℕ) → length front ≡ n → take n (front ++ back) ≡ front
+pub take_front : {X : Type 0} (front back : List X) (n : ℕ) → length front ≡ n → take n (front ++ back) ≡ front
 take_front front back n size = ap (λ (k : ℕ). take k (front ++ back)) (sym size) ∙ take-append_seam front back
 
 drop_front : (front back : List ℕ) (n : ℕ) → length front ≡ n → drop n (front ++ back) ≡ back

@@ -10,12 +10,15 @@ use Rattle.segment_store.specs.declared.memory_host.MemFile.{MemFile}
 abbrev pub bytes_of : List (Vec ℕ Global) → List (List ℕ)
 bytes_of segments = map (λ v. v.items) segments
 
--- the segments at a path, of the first file with it
+-- what is read of the first file with a path
+abbrev pub of_first : {X : Type 0} → (MemFile → X) → X → List MemFile → List ℕ → X
+of_first read none [] path = none
+of_first read none (file ∷ files) path = if bytes_eq (string_bytes file.path) path then read file else of_first read none files path
+
+-- the segments at a path
 abbrev pub segments_at : List MemFile → Paths
-segments_at [] path = []
-segments_at (file ∷ files) path = if bytes_eq (string_bytes file.path) path then bytes_of file.segments.items else segments_at files path
+segments_at files = of_first (λ file. bytes_of file.segments.items) [] files
 
 -- the blocks of a path that the lanes given back last have marked
 abbrev pub marks_at : List MemFile → PathMarks
-marks_at [] path = λ block. false
-marks_at (file ∷ files) path = if bytes_eq (string_bytes file.path) path then (λ block. mark_in (map marks_of file.returned.items) (tag_at (fork_of path) block)) else marks_at files path
+marks_at files = λ path. of_first (λ file. λ block. mark_in (map marks_of file.returned.items) (tag_at (fork_of path) block)) (λ block. false) files path

@@ -1,5 +1,5 @@
 // The host: relations by their paths.
-ghost use Rattle.std.specs.Prelude.{◌≡◌, ℕ, ◌<◌, ◌≤◌, ◌^◌, [], Option, IfOk, IfSome, IsErrOf, MatchResult, map, option_map, sum_by};
+ghost use Rattle.std.specs.Prelude.{◌≡◌, ◌≢◌, ℕ, ◌<◌, ◌≤◌, ◌^◌, [], Option, IfOk, IfSome, IsErrOf, MatchResult, map, option_map, sum_by};
 ghost use Rattle.segment_store.specs.Faults.{Added, HasOpeningCause};
 ghost use Rattle.segment_store.specs.Opening.{IsOpened};
 ghost use Rattle.segment_store.specs.Paths.{OpenAt, PathMarks, Paths, fork_of};
@@ -70,7 +70,7 @@ pub trait Host {
     /// Takes the lanes of the relation that was opened last back: their blocks go to their places in its segments.
     fn give_back(&mut self, lanes: Vec<Self::Lane>)
         ensures held { held self.new ≡ option_map (paths_after (open_at self.old) (map Self.Lane.held lanes.items)) (held self.old) }
-        ensures failed { IfSome (held self.old) (λ _. failed self.new ≡ marks_after (open_at self.old) (map Self.Lane.failed lanes.items) (failed self.old)) }
+        ensures failed { IfSome (held self.old) (λ told. told (open_at self.old).path ≢ [] → failed self.new ≡ marks_after (open_at self.old) (map Self.Lane.failed lanes.items) (failed self.old)) }
         ensures open_at { IfSome (held self.old) (λ _. open_at self.new ≡ open_at self.old) }
         ensures reads { Added (read_faults self.old) (sum_by Self.Lane.read_faults lanes.items) (read_faults self.new) }
         ensures writes { Added (write_faults self.old) (sum_by Self.Lane.write_faults lanes.items) (write_faults self.new) };

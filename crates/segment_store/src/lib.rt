@@ -15,5 +15,7 @@ pub use count::FaultCount;
 pub use device::{BlockLane, Failed, Sink};
 pub use host::{Host, HostError, Opened};
 pub use memory::MemSink;
+pub use memory_host::{MemFile, MemHost};
+pub use memory_lane::{LanePlan, MemLane};
 pub use paths::fork_of_path;
 pub use plan::FaultPlan;

@@ -45,6 +45,21 @@ pub struct LanePlan {
     pub syncs: FaultPlan,
 }
 
+impl LanePlan {
+    /// A plan of the same calls to fail, with no call made.
+    pub fn fresh(&self, alloc: Global) -> Result<LanePlan, AllocError>
+        ensures reads { IfOk result (λ plan. plan.reads ≡ record self.now.reads { calls = 0 }) }
+        ensures writes { IfOk result (λ plan. plan.writes ≡ record self.now.writes { calls = 0 }) }
+        ensures syncs { IfOk result (λ plan. plan.syncs ≡ record self.now.syncs { calls = 0 }) }
+    {
+        Ok(LanePlan {
+            reads: self.reads.fresh(alloc)?,
+            writes: self.writes.fresh(alloc)?,
+            syncs: self.syncs.fresh(alloc)?,
+        })
+    }
+}
+
 /// A lane in memory.
 #[derive(Drop)]
 pub struct MemLane {

@@ -7,24 +7,22 @@ ghost use Rattle.segment_store.specs.Relation.{first_blocks};
 ghost use Rattle.segment_store.specs.Restored.{given_back, pages_in, with_pages};
 
 use crate::memory_lane::MemLane;
-use block_tag::{Fork, RelNo, Tag, lane_of};
+use block_tag::{Fork, RelNo, Tag};
 use page_layout::{PAGE_SIZE, Page};
 
 /// The page of a tag in its lane, if it is there.
 fn page_in<'a>(lanes: &'a [MemLane], tag: &Tag) -> Option<&'a Page>
-    requires { length lanes.now < 2 ^ 32 }
     ensures { option_map (λ page. page.now) result ≡ page_in (map (λ lane. Some (pages_of lane)) lanes.now) tag.now }
 {
     if lanes.is_empty() {
         return None;
     }
-    let number = lane_of(tag, lanes.len() as u32) as usize;
-    lanes[number].page(tag)
+    let number = tag.hash() % lanes.len() as u64;
+    lanes[number as usize].page(tag)
 }
 
 /// Puts the first blocks of a segment as their lanes have them, so many, from this block on.
 fn put_blocks(bytes: &mut [u8], first: u32, count: u32, fork: Fork, lanes: &[MemLane])
-    requires few { length lanes.now < 2 ^ 32 }
     requires whole { 8192 * count ≤ length bytes.old }
     requires numbers { first + count < 2 ^ 32 }
     ensures { bytes.new ≡ with_pages (pages_in fork (map (λ lane. Some (pages_of lane)) lanes.now) first (first_blocks bytes.old count)) bytes.old }
@@ -45,7 +43,6 @@ fn put_blocks(bytes: &mut [u8], first: u32, count: u32, fork: Fork, lanes: &[Mem
 /// Puts the blocks of a relation that its lanes have back at their places in its segments.
 #[tactic(auto, unfolding(crate::specs::Relation::relation_of, crate::specs::Restored::given_back))]
 pub fn give_blocks_back(segments: &mut [Vec<u8>], seg_blocks: u32, fork: Fork, lanes: &[MemLane])
-    requires { length lanes.now < 2 ^ 32 }
     ensures { bytes_of segments.new ≡ given_back fork seg_blocks (map (λ lane. Some (pages_of lane)) lanes.now) (bytes_of segments.old) }
 {
     let mut first = 0u32;
