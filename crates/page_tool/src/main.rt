@@ -5,5 +5,7 @@ mod error;
 mod request;
 mod run;
 mod scan;
+#[cfg(test)]
+mod tests;
 
 fn main() {}
