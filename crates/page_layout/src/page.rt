@@ -6,7 +6,9 @@ ghost use Rattle.page_layout.specs.Soundness.{is_new_page, is_sound_header, is_s
 
 use byteorder::{ByteOrder, LittleEndian};
 use std::alloc::{AllocError, Global};
+use std::io;
 use std::marker::Model;
+use std::os::unix::fs::FileExt;
 
 /// How many bytes a page has.
 pub const PAGE_SIZE: usize = 8192;
@@ -131,6 +133,12 @@ impl Page {
         ensures { self.new ≡ bytes.now }
     {
         self.bytes.copy_from_slice(bytes);
+    }
+
+    /// Reads the page from a file, from this byte on. After an error its bytes are any, as where the
+    /// file ends first.
+    pub fn read_at<F: FileExt>(&mut self, file: &F, offset: u64) -> io::Result<()> {
+        file.read_exact_at(self.bytes.as_mut_slice(), offset)
     }
 
     #[tactic(auto, unfolding(crate::specs::Fields::header_of))]

@@ -5,3 +5,4 @@ pub mod PutBlocks
 pub mod PutSegments
 pub mod Dealing
 pub mod FilesByPath
+pub mod UnknownLanes

@@ -3,6 +3,7 @@
 
 mod count;
 mod device;
+mod files;
 mod host;
 mod memory;
 mod memory_host;
@@ -13,6 +14,7 @@ mod restore;
 
 pub use count::FaultCount;
 pub use device::{BlockLane, Failed, Sink};
+pub use files::{FileHost, FileLane, StdSink};
 pub use host::{Host, HostError, Opened};
 pub use memory::MemSink;
 pub use memory_host::{MemFile, MemHost};
