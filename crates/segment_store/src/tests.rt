@@ -7,6 +7,7 @@ use block_tag::{Fork, RelNo, Tag};
 use page_layout::Page;
 use std::alloc::{AllocError, Global};
 use std::io::Write;
+use std::process::Abort;
 use std::test::Fail;
 use std::{fs, io, process};
 
@@ -101,77 +102,113 @@ fn host_with(alloc: Global, segments: Vec<Vec<u8>>) -> Result<MemHost, AllocErro
 }
 
 #[test]
-fn host_in_memory(rt: HostRuntime) -> Result<(), Fail> {
+fn openings_in_memory(rt: HostRuntime) -> Result<(), Fail> {
     let alloc = rt.alloc();
     let mut host = host_with(alloc, two_segments(alloc)?)?;
-    let missing = host.relation(alloc, "base/5/16385", 2, 2);
-    assert_eq!(rt; missing.err(), Some(HostError::Missing));
-    let failed = host.relation(alloc, "base/5/16384", 2, 2);
-    assert_eq!(rt; failed.err(), Some(HostError::Failed));
-    let mut opened = host.relation(alloc, "base/5/16384", 2, 2)?;
-    assert_eq!(rt; opened.blocks, 3);
+    let missing = host.relation(alloc, "base/5/16385", 2, 2).err();
+    assert_eq!(rt; missing, Some(HostError::Missing));
+    let failed = host.relation(alloc, "base/5/16384", 2, 2).err();
+    assert_eq!(rt; failed, Some(HostError::Failed));
+    let opened = host.relation(alloc, "base/5/16384", 2, 2)?;
+    assert_eq!(rt; (opened.blocks, opened.lanes.len()), (3, 2));
+    assert_eq!(rt; host.read_faults(), 1);
+    Ok(())
+}
+
+/// The second block of the lane is read twice and written once, its first block is written before.
+fn use_lane(rt: &impl Abort, alloc: Global, lane: &mut MemLane) -> Result<(), Fail> {
     let mut page = page_of(alloc, 7)?;
-    let first = &mut opened.lanes[0];
-    assert_eq!(rt; read_own(first, tag(1), &mut page), None);
-    assert_eq!(rt; read_own(first, tag(2), &mut page), Some(Err(Failed)));
-    assert_eq!(rt; read_own(first, tag(2), &mut page), Some(Ok(())));
+    assert_eq!(rt; read_own(lane, tag(1), &mut page), None);
+    assert_eq!(rt; read_own(lane, tag(2), &mut page), Some(Err(Failed)));
+    assert_eq!(rt; read_own(lane, tag(2), &mut page), Some(Ok(())));
     assert_eq!(rt; page.bytes(), [2u8; 8192].as_slice());
-    assert_eq!(rt; write_own(first, tag(0), &page_of(alloc, 7)?), Some(Ok(())));
-    assert_eq!(rt;
-        write_own(first, tag(2), &page_of(alloc, 8)?),
-        Some(Err(Failed))
-    );
-    assert_eq!(rt; first.sync(), Err(Failed));
+    page.fill(&[7; 8192]);
+    assert_eq!(rt; write_own(lane, tag(0), &page), Some(Ok(())));
+    page.fill(&[8; 8192]);
+    assert_eq!(rt; write_own(lane, tag(2), &page), Some(Err(Failed)));
+    assert_eq!(rt; lane.sync(), Err(Failed));
+    Ok(())
+}
+
+/// The bytes at these places, 0 past the end.
+fn bytes_at(bytes: &[u8], places: [usize; 4]) -> [u8; 4] {
+    places.map(|place| bytes.get(place).copied().unwrap_or(0))
+}
+
+#[test]
+fn lanes_are_given_back(rt: HostRuntime) -> Result<(), Fail> {
+    let alloc = rt.alloc();
+    let mut host = host_with(alloc, two_segments(alloc)?)?;
+    let mut opened = host.relation(alloc, "base/5/16384", 2, 2)?;
+    if let Some(lane) = opened.lanes.first_mut() {
+        use_lane(&rt, alloc, lane)?;
+    }
     host.give_back(opened.lanes);
-    assert_eq!(rt; host.read_faults(), 2);
-    assert_eq!(rt; host.write_faults(), 2);
+    assert_eq!(rt; (host.read_faults(), host.write_faults()), (1, 2));
     let segments = host.segments("base/5/16384");
     assert_eq!(rt; segments.len(), 2);
-    let full = segments[0].as_slice();
+    let [full, short] = segments else {
+        return Ok(());
+    };
     assert_eq!(rt;
-        (full[0], full[8191], full[8192], full[16383]),
-        (7, 7, 1, 1)
+        bytes_at(full.as_slice(), [0, 8191, 8192, 16383]),
+        [7, 7, 1, 1]
     );
-    let short = segments[1].as_slice();
     assert_eq!(rt;
-        (short[0], short[8190], short[8191], short[8192]),
-        (8, 8, 3, 2)
+        bytes_at(short.as_slice(), [0, 8190, 8191, 8192]),
+        [8, 8, 3, 2]
     );
     assert_eq!(rt; (full.len(), short.len()), (16384, 8292));
     Ok(())
 }
 
+/// Makes the files of two segments, and gives their paths.
+fn two_files(rt: &HostRuntime) -> Result<(String, String), Fail> {
+    let id = process::id(rt.process());
+    let path = format!(in rt.alloc(); "/tmp/segment-store-{id}")?;
+    let second = format!(in rt.alloc(); "{path}.1")?;
+    fs::write(rt, path.as_str(), [1u8; 16384].as_slice())?;
+    fs::write(rt, second.as_str(), [2u8; 8292].as_slice())?;
+    Ok((path, second))
+}
+
 #[test]
 fn host_over_files(rt: HostRuntime) -> Result<(), Fail> {
     let alloc = rt.alloc();
-    let id = process::id(rt.process());
-    let path = format!(in alloc; "/tmp/segment-store-{id}")?;
-    let second = format!(in alloc; "{path}.1")?;
-    let segments = two_segments(alloc)?;
-    fs::write(&rt, path.as_str(), segments[0].as_slice())?;
-    fs::write(&rt, second.as_str(), segments[1].as_slice())?;
+    let (path, second) = two_files(&rt)?;
     let mut host = FileHost::new(&rt);
     let mut opened = host.relation(alloc, path.as_str(), 2, 3)?;
     assert_eq!(rt; opened.blocks, 3);
     let mut page = page_of(alloc, 7)?;
-    assert_eq!(rt; opened.lanes[1].write(tag(1), &page), Ok(()));
-    assert_eq!(rt; opened.lanes[1].sync(), Ok(()));
-    assert_eq!(rt; opened.lanes[2].read(tag(2), &mut page), Ok(()));
-    assert_eq!(rt; page.bytes(), [2u8; 8192].as_slice());
-    assert_eq!(rt; opened.lanes[0].read(tag(3), &mut page), Err(Failed));
+    for lane in opened.lanes.as_mut_slice() {
+        assert_eq!(rt; lane.write(tag(1), &page), Ok(()));
+        assert_eq!(rt; lane.sync(), Ok(()));
+        assert_eq!(rt; lane.read(tag(3), &mut page), Err(Failed));
+        assert_eq!(rt; lane.read(tag(2), &mut page), Ok(()));
+        assert_eq!(rt; page.bytes(), [2u8; 8192].as_slice());
+    }
     fs::write(&rt, second.as_str(), "cut off")?;
-    assert_eq!(rt; opened.lanes[2].read(tag(2), &mut page), Err(Failed));
+    for lane in opened.lanes.as_mut_slice() {
+        assert_eq!(rt; lane.read(tag(2), &mut page), Err(Failed));
+    }
     host.give_back(opened.lanes);
-    let folder = host.relation(alloc, "/tmp", 2, 1);
-    assert_eq!(rt; folder.err(), Some(HostError::Failed));
-    assert_eq!(rt; host.read_faults(), 3);
-    assert_eq!(rt; host.write_faults(), 0);
+    assert_eq!(rt; (host.read_faults(), host.write_faults()), (6, 0));
     let stored = fs::read(&rt, path.as_str())?;
-    assert_eq!(rt; stored.len(), 16384);
-    assert_eq!(rt; (stored[8191], stored[8192], stored[16383]), (1, 7, 7));
+    assert_eq!(rt; bytes_at(&stored, [8191, 8192, 16383, 16384]), [1, 2, 2, 0]);
     fs::remove_file(&rt, path.as_str())?;
     fs::remove_file(&rt, second.as_str())?;
-    let missing = host.relation(alloc, path.as_str(), 2, 1);
-    assert_eq!(rt; missing.err(), Some(HostError::Missing));
+    Ok(())
+}
+
+#[test]
+fn paths_that_are_no_files(rt: HostRuntime) -> Result<(), Fail> {
+    let mut host = FileHost::new(&rt);
+    let folder = host.relation(rt.alloc(), "/tmp", 2, 1).err();
+    assert_eq!(rt; folder, Some(HostError::Failed));
+    let missing = host
+        .relation(rt.alloc(), "/tmp/segment-store-missing/16384", 2, 1)
+        .err();
+    assert_eq!(rt; missing, Some(HostError::Missing));
+    assert_eq!(rt; host.read_faults(), 1);
     Ok(())
 }
