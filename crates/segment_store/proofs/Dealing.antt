@@ -1,5 +1,5 @@
 -- The blocks of a relation, dealt to lanes.
-use Rattle.std.proofs.Common.{◌≡◌, ◌≢◌, ℕ, zero, suc, ◌+◌, ◌%◌, ◌<◌, ◌≤◌, ◌==◌, ◌&&◌, Bool, true, false, cond, List, [], ◌∷◌, length, get_or, take, map, Option, Some, None, refl, sym, ◌∙◌, ap, ap₂, subst, zero-add, inl, inr, arith}
+use Rattle.std.proofs.Common.{◌≡◌, ◌≢◌, ℕ, zero, suc, ◌+◌, ◌%◌, ◌<◌, ◌≤◌, ◌==◌, ◌&&◌, Bool, true, false, cond, List, [], ◌∷◌, length, get_or, take, Option, Some, None, refl, sym, ◌∙◌, ap, ap₂, subst, zero-add, inl, inr, arith}
 use Rattle.std.proofs.lemmas.List.{length-take}
 use Rattle.std.proofs.lemmas.Option.{slice_get-get_or, slice_get_past}
 use Rattle.std.proofs.lemmas.List.FromFn.{get_or-map-range_with_len, length-map-range_with_len}
@@ -7,11 +7,11 @@ use Rattle.std.specs.Prelude.{IsSome, IsSomeAnd, is_some, slice_get}
 use Rattle.std.specs.Option.{ForSome, option_and_then}
 use Rattle.std.proofs.lemmas.Bool.{eq-eqb, cases_Bool, cases_eq, cases_lt}
 use Rattle.std.proofs.lemmas.Bool.Decides.{nat_tests}
-use Rattle.block_tag.specs.Names.{fork_number, hash_of, lane_number, tag_eq}
+use Rattle.block_tag.specs.Names.{hash_of, lane_number, tag_eq}
 use Rattle.block_tag.specs.declared.tag.Fork.{Fork}
 use Rattle.block_tag.specs.declared.tag.Tag.{Tag}
 use Rattle.segment_store.specs.Contents.{Pages, no_marks, no_pages, with_mark, with_page}
-use Rattle.segment_store.specs.Lanes.{HasBlocks, HasPage, HoldPages, dealt, lane_at, own_pages, tag_at}
+use Rattle.segment_store.specs.Lanes.{HasBlocks, HoldPages, dealt, lane_at, own_pages, tag_at}
 
 same_either : {X : Type 0} (b : Bool) (x : X) → cond b x x ≡ x
 same_either true x = refl

@@ -1,19 +1,20 @@
 -- What a lane in memory holds once one block was changed.
-use Rattle.std.proofs.Common.{rules, ◌≡◌, Bool, true, false, cond, Option, Some, option_map, ◌∙◌, ap, sym, refl, arith}
-use Rattle.std.proofs.lemmas.Bool.Decides.{nat_tests}
-use Rattle.std.specs.Option.{option_map_or}
+use Rattle.std.proofs.Common.{rules, ◌≡◌, Bool, true, false, cond, Option, Some, None, option_map, ◌∙◌, ap}
+use Rattle.std.specs.Option.{is_some, option_map_or}
 use Rattle.std.specs.BTreeMap as tree
 use Rattle.block_tag.specs.contracts.tag.TagOrd.TheImpl as tags
 use Rattle.block_tag.specs.Names.{tag_eq}
 use Rattle.block_tag.specs.declared.tag.Tag.{Tag}
 use Rattle.segment_store.specs.Contents.{with_mark, with_page}
-use Rattle.segment_store.specs.MemoryLane.{marks_of, pages_of}
 use Rattle.segment_store.specs.declared.memory_lane.MemBlock.{MemBlock}
-use Rattle.segment_store.specs.declared.memory_lane.MemLane.{MemLane}
 
 -- the order of tags finds equal exactly the tags that are one
 pub same_tag : (t q : Tag) → tree.is_at (tags.ghosts.cmp t) q ≡ tag_eq q t
 same_tag t q = search rules
+
+-- a tag that is there has a block
+pub not_missing : (block : Option MemBlock) → None ≡ block → is_some (option_map (λ b. b.page) block) ≡ true → ⊥
+not_missing block none there = let bad : false ≡ true = ap (λ (b : Option MemBlock). is_some (option_map (λ b. b.page) b)) none ∙ there in absurd (cc bad)
 
 -- the map has this block at the tag, and its others as before
 abbrev pub Puts : tree.BTreeMap Tag MemBlock → tree.BTreeMap Tag MemBlock → Tag → MemBlock → Type 0

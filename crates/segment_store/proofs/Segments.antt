@@ -1,12 +1,11 @@
 -- The blocks of a relation in its segments.
-use Rattle.std.proofs.Common.{◌≡◌, ℕ, zero, suc, ◌+◌, ◌-◌, ◌*◌, ◌/◌, ◌^◌, ◌<◌, ◌≤◌, true, false, cond, List, [], ◌∷◌, ◌++◌, length, get_or, take, drop, map, min, refl, sym, ◌∙◌, ap, ap₂, subst, inl, inr, arith, append_assoc, append-nil, add-one, zero-add}
+use Rattle.std.proofs.Common.{◌≡◌, ℕ, zero, suc, ◌+◌, ◌-◌, ◌*◌, ◌/◌, ◌<◌, ◌≤◌, List, [], ◌∷◌, ◌++◌, length, take, drop, min, refl, sym, ◌∙◌, ap, ap₂, subst, inl, inr, arith, append_assoc, append-nil, add-one, zero-add}
 use Rattle.std.proofs.Math.Seq.{take-nil, drop-nil, take-append-add, drop-append-add}
 use Rattle.std.proofs.lemmas.Bool.{cases_lt, lt-ltb, le-ltb}
-use Rattle.std.proofs.lemmas.List.{length-map, take_all, drop_all, take-append-le, length-append}
+use Rattle.std.proofs.lemmas.List.{take_all, drop_all, take-append-le}
 use Rattle.std.proofs.lemmas.List.Folds.{concat-append, drop_split}
 use Rattle.std.proofs.lemmas.List.FromFn.{map-range_with_len_more, length-map-range_with_len, take-map-range_with_len}
-use Rattle.std.specs.List.{concat, range_with_len, slice_range}
-use Rattle.std.specs.Prelude.{nat_lt}
+use Rattle.std.specs.List.{concat}
 use Rattle.segment_store.specs.Relation.{block_at, blocks_of, first_blocks}
 use Rattle.segment_store.specs.Restored.{restored, with_pages}
 

@@ -1,5 +1,5 @@
 -- Lanes and sinks in memory.
-use Rattle.std.specs.Prelude.{ℕ, ◌+◌, ◌-◌, ◌/◌, ◌%◌, ◌++◌, Bool, ◌&&◌, not, nat_le, List, length, take, min, get_or, slice_set}
+use Rattle.std.specs.Prelude.{ℕ, ◌+◌, ◌-◌, ◌/◌, ◌%◌, Bool, ◌&&◌, not, nat_le, List, length, take, min, get_or, slice_set}
 use Rattle.segment_store.specs.declared.count.FaultCount.{FaultCount}
 use Rattle.segment_store.specs.Plan.{Plan, fails_next}
 

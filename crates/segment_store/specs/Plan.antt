@@ -18,3 +18,7 @@ fails_next plan = list_any (λ number. number == next_call plan) plan.failing
 -- the plan once the next call was made
 abbrev pub after_call : Plan → Plan
 after_call plan = record plan { calls = next_call plan }
+
+-- the same calls to fail, with no call made
+abbrev pub fresh_plan : Plan → Plan
+fresh_plan plan = record plan { calls = 0 }

@@ -214,12 +214,29 @@ pub struct FileHost<'a, R: Files> {
 }
 
 impl<'a, R: Files> FileHost<'a, R> {
-    pub fn new(rt: &'a R) -> FileHost<'a, R> {
+    pub fn new(rt: &'a R) -> FileHost<'a, R>
+        ensures reads { result.read_faults.count ≡ 0 }
+        ensures writes { result.write_faults.count ≡ 0 }
+    {
         FileHost {
             rt,
             read_faults: FaultCount::new(),
             write_faults: FaultCount::new(),
         }
+    }
+
+    /// How many openings failed, and reads of lanes that were given back.
+    pub fn read_faults(&self) -> u64
+        ensures { result ≡ self.now.read_faults.count }
+    {
+        self.read_faults.get()
+    }
+
+    /// How many writes and syncs failed of lanes that were given back.
+    pub fn write_faults(&self) -> u64
+        ensures { result ≡ self.now.write_faults.count }
+    {
+        self.write_faults.get()
     }
 }
 

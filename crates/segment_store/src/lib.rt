@@ -11,6 +11,8 @@ mod memory_lane;
 mod paths;
 mod plan;
 mod restore;
+#[cfg(test)]
+mod tests;
 
 pub use count::FaultCount;
 pub use device::{BlockLane, Failed, Sink};

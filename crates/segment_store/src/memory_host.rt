@@ -1,10 +1,11 @@
 // A host in memory.
-ghost use Rattle.std.specs.Prelude.{string_bytes, ◌≡◌, ◌≢◌, ◌+◌, ◌++◌, ◌==◌, ◌<◌, ◌≤◌, ◌*◌, ◌/◌, ◌^◌, ◌-◌, [], All, Some, IfOk, IfSome, IsErrOf, OnOk, OnErr, if◌then◌else◌, length, map, sum_by, vec_len};
-ghost use Rattle.segment_store.specs.Faults.{Added};
+ghost use Rattle.std.specs.Prelude.{true, ◌↔◌, MatchResult, string_bytes, ◌≡◌, ◌≢◌, ◌+◌, ◌++◌, ◌==◌, ◌<◌, ◌≤◌, ◌*◌, ◌/◌, ◌^◌, ◌-◌, [], All, Some, IfOk, IfSome, IsErrOf, OnOk, OnErr, if◌then◌else◌, length, map, sum_by, vec_len};
+ghost use Rattle.segment_store.specs.Faults.{Added, HasOpeningCause};
 ghost use Rattle.segment_store.specs.Contents.{no_marks, with_page};
 ghost use Rattle.segment_store.specs.Lanes.{dealt, own_pages};
-ghost use Rattle.segment_store.specs.MemoryHost.{bytes_of, marks_at, segments_at};
-ghost use Rattle.segment_store.specs.MemoryLane.{marks_of, pages_of};
+ghost use Rattle.segment_store.specs.MemoryHost.{bytes_of, lanes_of, marks_at, open_now, openings_of, segments_at};
+ghost use Rattle.segment_store.specs.MemoryLane.{fresh_lane_plan, marks_of, pages_of, plan_of};
+ghost use Rattle.segment_store.specs.Plan.{after_call, fails_next};
 ghost use Rattle.segment_store.specs.Relation.{block_at, blocks_of, first_blocks, relation_of};
 ghost use Rattle.segment_store.specs.Opening.{IsOpened};
 ghost use Rattle.segment_store.specs.Paths.{fork_of};
@@ -131,6 +132,7 @@ fn hold_own(
     ensures failed { OnOk result (marks_of lane.new ≡ no_marks) }
     ensures reads { lane.new.read_faults ≡ lane.old.read_faults }
     ensures writes { lane.new.write_faults ≡ lane.old.write_faults }
+    ensures plan { plan_of lane.new ≡ plan_of lane.old }
 {
     if lane_of(&tag, lanes) != number {
         return Ok(());
@@ -156,6 +158,7 @@ fn own_lane(
     ensures failed { IfOk result (λ lane. marks_of lane ≡ no_marks) }
     ensures reads { IfOk result (λ lane. lane.read_faults.count ≡ 0) }
     ensures writes { IfOk result (λ lane. lane.write_faults.count ≡ 0) }
+    ensures plan { IfOk result (λ lane. plan_of lane ≡ plan) }
 {
     let mut lane = MemLane::new(alloc, plan);
     for block in 0..pages.len() {
@@ -183,6 +186,7 @@ fn deal_lanes(
     ensures failed { IfOk result (λ lanes. All (λ lane. marks_of lane ≡ no_marks) lanes.items) }
     ensures reads { IfOk result (λ lanes. sum_by (λ lane. lane.read_faults.count) lanes.items ≡ 0) }
     ensures writes { IfOk result (λ lanes. sum_by (λ lane. lane.write_faults.count) lanes.items ≡ 0) }
+    ensures plan { IfOk result (λ lanes. All (λ lane. plan_of lane ≡ fresh_lane_plan plan.now) lanes.items) }
 {
     let mut lanes = Vec::new(alloc);
     for number in 0..count {
@@ -208,6 +212,7 @@ fn open_segments(
     ensures failed { IfOk result (λ opened. All (λ lane. marks_of lane ≡ no_marks) opened.lanes.items) }
     ensures reads { IfOk result (λ opened. sum_by (λ lane. lane.read_faults.count) opened.lanes.items ≡ 0) }
     ensures writes { IfOk result (λ opened. sum_by (λ lane. lane.write_faults.count) opened.lanes.items ≡ 0) }
+    ensures plan { IfOk result (λ opened. All (λ lane. plan_of lane ≡ fresh_lane_plan plan.now) opened.lanes.items) }
 {
     let pages = relation_pages(alloc, segments, seg_blocks)?;
     let lanes = deal_lanes(alloc, &pages, fork, count, plan)?;
@@ -251,6 +256,9 @@ impl MemHost {
     /// A host with these files, in which these openings and these calls of each lane are to fail.
     pub fn new(alloc: Global, files: Vec<MemFile>, openings: FaultPlan, lanes: LanePlan) -> MemHost
         ensures held { ⟦<MemHost as Host>⟧.held result ≡ Some (segments_at files.items) }
+        ensures failed { ⟦<MemHost as Host>⟧.failed result ≡ marks_at files.items }
+        ensures openings { openings_of result ≡ openings }
+        ensures lanes { lanes_of result ≡ lanes }
         ensures reads { ⟦<MemHost as Host>⟧.read_faults result ≡ 0 }
         ensures writes { ⟦<MemHost as Host>⟧.write_faults result ≡ 0 }
     {
@@ -301,6 +309,7 @@ impl MemHost {
         ensures opened { IfOk result (IsOpened (λ lane. Some (pages_of lane)) marks_of (λ lane. lane.read_faults.count) (λ lane. lane.write_faults.count) (Some (segments_at self.now.files.items)) path.now (fork_of path.now) seg_blocks lanes) }
         ensures missing { IsErrOf result HostError.Missing → segments_at self.now.files.items path.now ≡ [] }
         ensures alive { IsErrOf result HostError.Failed → ⊥ }
+        ensures plan { IfOk result (λ opened. All (λ lane. plan_of lane ≡ fresh_lane_plan self.now.lanes) opened.lanes.items) }
     {
         let segments = self.segments(path);
         if segments.is_empty() {
@@ -326,8 +335,8 @@ impl MemHost {
 
     /// Puts the blocks of lanes at their places in the segments of a path, and keeps the lanes.
     fn take_lanes(&mut self, lanes: Vec<MemLane>)
-        ensures held { segments_at self.new.files.items ≡ paths_after (record { path = string_bytes self.old.open_path; seg_blocks = self.old.open_seg_blocks }) (map (λ lane. Some (pages_of lane)) lanes.items) (segments_at self.old.files.items) }
-        ensures failed { segments_at self.old.files.items (string_bytes self.old.open_path) ≢ [] → marks_at self.new.files.items ≡ marks_after (record { path = string_bytes self.old.open_path; seg_blocks = self.old.open_seg_blocks }) (map marks_of lanes.items) (marks_at self.old.files.items) }
+        ensures held { segments_at self.new.files.items ≡ paths_after (open_now self.old) (map (λ lane. Some (pages_of lane)) lanes.items) (segments_at self.old.files.items) }
+        ensures failed { segments_at self.old.files.items (string_bytes self.old.open_path) ≢ [] → marks_at self.new.files.items ≡ marks_after (open_now self.old) (map marks_of lanes.items) (marks_at self.old.files.items) }
         ensures same { self.new ≡ record self.old { files = self.new.files } }
     {
         let fork = fork_of_path(&self.open_path);
@@ -351,7 +360,7 @@ impl Host for MemHost {
 
     ghost failed = { λ h. marks_at h.files.items };
 
-    ghost open_at = { λ h. record { path = string_bytes h.open_path; seg_blocks = h.open_seg_blocks } };
+    ghost open_at = { open_now };
 
     ghost read_faults = { λ h. h.read_faults.count };
 
@@ -363,7 +372,20 @@ impl Host for MemHost {
         path: &str,
         seg_blocks: u32,
         lanes: u32,
-    ) -> Result<Opened<MemLane>, HostError> {
+    ) -> Result<Opened<MemLane>, HostError>
+        requires seg_blocks { 1 ≤ seg_blocks }
+        requires lanes { 1 ≤ lanes }
+        ensures opened { IfOk result (IsOpened (λ lane. Some (pages_of lane)) marks_of (λ lane. lane.read_faults.count) (λ lane. lane.write_faults.count) (Some (segments_at self.old.files.items)) path.now (fork_of path.now) seg_blocks lanes) }
+        ensures missing { IsErrOf result HostError.Missing → segments_at self.old.files.items path.now ≡ [] }
+        ensures held { Some (segments_at self.new.files.items) ≡ Some (segments_at self.old.files.items) }
+        ensures failed { MatchResult result (λ _. marks_at self.new.files.items ≡ cleared path.now (marks_at self.old.files.items)) (λ _. marks_at self.new.files.items ≡ marks_at self.old.files.items) }
+        ensures open_at { MatchResult result (λ _. open_now self.new ≡ record { path = path.now; seg_blocks = seg_blocks }) (λ _. open_now self.new ≡ open_now self.old) }
+        ensures reads { HasOpeningCause self.old.read_faults.count self.new.read_faults.count result }
+        ensures writes { self.new.write_faults ≡ self.old.write_faults }
+        ensures fault { IsErrOf result HostError.Failed ↔ (fails_next (openings_of self.old) ≡ true) }
+        ensures openings { openings_of self.new ≡ after_call (openings_of self.old) }
+        ensures plan { IfOk result (λ opened. All (λ lane. plan_of lane ≡ fresh_lane_plan (lanes_of self.old)) opened.lanes.items) }
+    {
         if self.openings.fails() {
             self.read_faults.raise();
             return Err(HostError::Failed);
@@ -379,10 +401,10 @@ impl Host for MemHost {
     }
 
     fn give_back(&mut self, lanes: Vec<MemLane>)
-        ensures held { Some (segments_at self.new.files.items) ≡ Some (paths_after (record { path = string_bytes self.old.open_path; seg_blocks = self.old.open_seg_blocks }) (map (λ lane. Some (pages_of lane)) lanes.items) (segments_at self.old.files.items)) }
-        ensures failed { segments_at self.old.files.items (string_bytes self.old.open_path) ≢ [] → marks_at self.new.files.items ≡ marks_after (record { path = string_bytes self.old.open_path; seg_blocks = self.old.open_seg_blocks }) (map marks_of lanes.items) (marks_at self.old.files.items) }
-        ensures open_path { self.new.open_path ≡ self.old.open_path }
-        ensures open_seg_blocks { self.new.open_seg_blocks ≡ self.old.open_seg_blocks }
+        ensures held { Some (segments_at self.new.files.items) ≡ Some (paths_after (open_now self.old) (map (λ lane. Some (pages_of lane)) lanes.items) (segments_at self.old.files.items)) }
+        ensures failed { segments_at self.old.files.items (string_bytes self.old.open_path) ≢ [] → marks_at self.new.files.items ≡ marks_after (open_now self.old) (map marks_of lanes.items) (marks_at self.old.files.items) }
+        ensures open_at { open_now self.new ≡ open_now self.old }
+        ensures openings { openings_of self.new ≡ openings_of self.old }
         ensures reads { Added self.old.read_faults.count (sum_by (λ lane. lane.read_faults.count) lanes.items) self.new.read_faults.count }
         ensures writes { Added self.old.write_faults.count (sum_by (λ lane. lane.write_faults.count) lanes.items) self.new.write_faults.count }
     {

@@ -1,9 +1,10 @@
 // A lane in memory.
-ghost use Rattle.std.specs.Prelude.{option_map, length, ◌≡◌, ◌+◌, ◌&&◌, Some, IfOk, IfSome, MatchResult, OnOk, OnErr, is_ok, is_some, not, nat_lt, true, false};
+ghost use Rattle.std.specs.Prelude.{IsSome, option_map, length, ◌≡◌, ◌+◌, ◌&&◌, Some, IfOk, IfSome, MatchResult, OnOk, OnErr, is_ok, is_some, not, nat_lt, true, false};
+ghost use Rattle.std.specs.Option.{ForSome};
 ghost use Rattle.segment_store.specs.Faults.{HasCause};
 ghost use Rattle.segment_store.specs.Contents.{Writes, no_marks, no_pages, with_mark, with_page};
 ghost use Rattle.segment_store.specs.Memory.{torn_page};
-ghost use Rattle.segment_store.specs.MemoryLane.{marks_of, pages_of};
+ghost use Rattle.segment_store.specs.MemoryLane.{fresh_lane_plan, marks_of, pages_of, plan_of};
 ghost use Rattle.segment_store.specs.Plan.{after_call, fails_next};
 
 use crate::count::FaultCount;
@@ -48,9 +49,7 @@ pub struct LanePlan {
 impl LanePlan {
     /// A plan of the same calls to fail, with no call made.
     pub fn fresh(&self, alloc: Global) -> Result<LanePlan, AllocError>
-        ensures reads { IfOk result (λ plan. plan.reads ≡ record self.now.reads { calls = 0 }) }
-        ensures writes { IfOk result (λ plan. plan.writes ≡ record self.now.writes { calls = 0 }) }
-        ensures syncs { IfOk result (λ plan. plan.syncs ≡ record self.now.syncs { calls = 0 }) }
+        ensures { IfOk result (λ plan. plan ≡ fresh_lane_plan self.now) }
     {
         Ok(LanePlan {
             reads: self.reads.fresh(alloc)?,
@@ -74,7 +73,7 @@ impl MemLane {
     pub fn new(alloc: Global, plan: LanePlan) -> MemLane
         ensures pages { pages_of result ≡ no_pages }
         ensures failed { marks_of result ≡ no_marks }
-        ensures plan { result.plan ≡ plan }
+        ensures plan { plan_of result ≡ plan }
         ensures reads { result.read_faults.count ≡ 0 }
         ensures writes { result.write_faults.count ≡ 0 }
     {
@@ -112,7 +111,7 @@ impl MemLane {
         ensures pages { OnOk result (pages_of self.new ≡ with_page tag page (pages_of self.old)) }
         ensures failed { OnOk result (marks_of self.new ≡ with_mark tag false (marks_of self.old)) }
         ensures refused { OnErr result ((pages_of self.new ≡ pages_of self.old) × (marks_of self.new ≡ marks_of self.old)) }
-        ensures plan { self.new.plan ≡ self.old.plan }
+        ensures plan { plan_of self.new ≡ plan_of self.old }
         ensures reads { self.new.read_faults ≡ self.old.read_faults }
         ensures writes { self.new.write_faults ≡ self.old.write_faults }
     {
@@ -134,7 +133,17 @@ impl BlockLane for MemLane {
 
     ghost write_faults = { λ l. l.write_faults.count };
 
-    fn read(&mut self, tag: Tag, page: &mut Page) -> Result<(), Failed> {
+    /// Fails where the plan says so.
+    fn read(&mut self, tag: Tag, page: &mut Page) -> Result<(), Failed>
+        requires { ForSome (Some (pages_of self.old)) (λ pages. IsSome (pages tag)) }
+        ensures page { OnOk result (pages_of self.old tag ≡ Some page.new) }
+        ensures held { pages_of self.new ≡ pages_of self.old }
+        ensures failed { marks_of self.new ≡ marks_of self.old }
+        ensures reads { HasCause self.old.read_faults.count self.new.read_faults.count result }
+        ensures writes { self.new.write_faults ≡ self.old.write_faults }
+        ensures answer { is_ok result ≡ not (fails_next (plan_of self.old).reads) }
+        ensures plan { plan_of self.new ≡ record (plan_of self.old) { reads = after_call (plan_of self.old).reads } }
+    {
         let fails = self.plan.reads.fails();
         let Some(block) = self.blocks.get(&tag) else {
             self.read_faults.raise();
@@ -148,7 +157,17 @@ impl BlockLane for MemLane {
         Ok(())
     }
 
-    fn write(&mut self, tag: Tag, page: &Page) -> Result<(), Failed> {
+    /// Fails where the plan says so; a failed write leaves a torn page.
+    fn write(&mut self, tag: Tag, page: &Page) -> Result<(), Failed>
+        requires { ForSome (Some (pages_of self.old)) (λ pages. IsSome (pages tag)) }
+        ensures held { Writes tag page.now (Some (pages_of self.old)) (Some (pages_of self.new)) result }
+        ensures torn { OnErr result (pages_of self.new tag ≡ option_map (λ old. torn_page old page.now) (pages_of self.old tag)) }
+        ensures failed { marks_of self.new ≡ with_mark tag (not (is_ok result)) (marks_of self.old) }
+        ensures writes { HasCause self.old.write_faults.count self.new.write_faults.count result }
+        ensures reads { self.new.read_faults ≡ self.old.read_faults }
+        ensures answer { is_ok result ≡ not (fails_next (plan_of self.old).writes) }
+        ensures plan { plan_of self.new ≡ record (plan_of self.old) { writes = after_call (plan_of self.old).writes } }
+    {
         let fails = self.plan.writes.fails();
         let Some(block) = self.blocks.get_mut(&tag) else {
             self.write_faults.raise();
@@ -164,7 +183,15 @@ impl BlockLane for MemLane {
         Ok(())
     }
 
-    fn sync(&mut self) -> Result<(), Failed> {
+    /// Fails where the plan says so.
+    fn sync(&mut self) -> Result<(), Failed>
+        ensures held { pages_of self.new ≡ pages_of self.old }
+        ensures failed { marks_of self.new ≡ marks_of self.old }
+        ensures writes { HasCause self.old.write_faults.count self.new.write_faults.count result }
+        ensures reads { self.new.read_faults ≡ self.old.read_faults }
+        ensures answer { is_ok result ≡ not (fails_next (plan_of self.old).syncs) }
+        ensures plan { plan_of self.new ≡ record (plan_of self.old) { syncs = after_call (plan_of self.old).syncs } }
+    {
         if self.plan.syncs.fails() {
             self.write_faults.raise();
             return Err(Failed);

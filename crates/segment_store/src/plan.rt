@@ -1,6 +1,6 @@
 // Calls that are to fail, for the forms in memory.
 ghost use Rattle.std.specs.Prelude.{◌≡◌, IfOk};
-ghost use Rattle.segment_store.specs.Plan.{Plan, after_call, fails_next};
+ghost use Rattle.segment_store.specs.Plan.{after_call, fails_next, fresh_plan};
 
 use std::alloc::{AllocError, Global};
 use std::marker::Model;
@@ -29,7 +29,7 @@ impl FaultPlan {
 
     /// A plan of the same calls to fail, with no call made.
     pub fn fresh(&self, alloc: Global) -> Result<FaultPlan, AllocError>
-        ensures { IfOk result (λ plan. plan ≡ record self.now { calls = 0 }) }
+        ensures { IfOk result (λ plan. plan ≡ fresh_plan self.now) }
     {
         let failing = self.failing.as_slice().to_vec(alloc)?;
         Ok(FaultPlan::new(failing))

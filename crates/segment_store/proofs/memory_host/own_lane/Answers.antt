@@ -1,4 +1,4 @@
-use Rattle.std.proofs.Common.{◌≡◌, ◌==◌, cond, take, get_or, [], sym, ap, ◌∙◌}
+use Rattle.std.proofs.Common.{◌≡◌, ◌==◌, cond, get_or, [], sym, ap, ◌∙◌}
 use Rattle.std.proofs.lemmas.List.{get_or_default}
 use Rattle.block_tag.specs.Names.{lane_number}
 use Rattle.segment_store.specs.Contents.{Pages, with_page}
@@ -12,6 +12,7 @@ loop-block-init c = record {
   failed = c.new-lane.ensures.failed;
   reads = c.new-lane.ensures.reads;
   writes = c.new-lane.ensures.writes;
+  plan = c.new-lane.ensures.plan;
 }
 
 pub loop-block-preserved : goal.loop-block-preserved
@@ -26,4 +27,5 @@ loop-block-preserved c =
       failed = c.in_ok-hold_own.ensures.failed;
       reads = ap (λ count. count.count) c.in_ok-hold_own.ensures.reads ∙ c.loop-block.invariant.reads;
       writes = ap (λ count. count.count) c.in_ok-hold_own.ensures.writes ∙ c.loop-block.invariant.writes;
+      plan = c.in_ok-hold_own.ensures.plan ∙ c.loop-block.invariant.plan;
     }

@@ -1,4 +1,4 @@
-use Rattle.std.proofs.Common.{drop, ◌≡◌, ◌<◌, ◌+◌, ◌-◌, ◌/◌, min, ℕ, List, [], Some, length, map, get_or, set, sym, ◌∙◌, ap, arith, subst}
+use Rattle.std.proofs.Common.{drop, ◌≡◌, ◌+◌, ◌-◌, ◌/◌, min, ℕ, List, [], Some, length, map, get_or, set, sym, ◌∙◌, ap, arith, subst}
 use Rattle.std.proofs.lemmas.List.{map-set, length-map, get_or-map}
 use Rattle.std.specs.Vec.{with_items}
 use Rattle.segment_store.specs.MemoryHost.{bytes_of}

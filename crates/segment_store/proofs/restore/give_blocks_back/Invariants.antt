@@ -1,8 +1,6 @@
-use Rattle.std.proofs.Common.{◌≡◌, ◌-◌, ◌^◌, ◌++◌, Some, drop, map, take}
+use Rattle.std.proofs.Common.{Some, map}
 use Rattle.segment_store.specs.MemoryHost.{bytes_of}
 use Rattle.segment_store.specs.MemoryLane.{pages_of}
-use Rattle.segment_store.specs.Relation.{blocks_of}
-use Rattle.segment_store.specs.Restored.{given_back, pages_in, restored}
 use Rattle.segment_store.proofs.PutSegments.{IsUnderway}
 use Rattle.segment_store.proofs.restore.give_blocks_back.Given as goal
 

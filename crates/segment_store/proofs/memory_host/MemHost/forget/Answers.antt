@@ -1,4 +1,4 @@
-use Rattle.std.proofs.Common.{◌≡◌, ℕ, Bool, false, List, [], Some, None, map, string_bytes, refl, sym, ap, ◌∙◌}
+use Rattle.std.proofs.Common.{◌≡◌, ℕ, false, List, [], None, map, string_bytes, refl, ap, ◌∙◌}
 use Rattle.std.specs.List.{position}
 use Rattle.segment_store.specs.Lanes.{mark_in, tag_at}
 use Rattle.segment_store.specs.MemoryHost.{bytes_of}

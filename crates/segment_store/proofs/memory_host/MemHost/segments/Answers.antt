@@ -1,4 +1,4 @@
-use Rattle.std.proofs.Common.{◌≡◌, ℕ, List, [], Vec, Global, sym, ap, ◌∙◌}
+use Rattle.std.proofs.Common.{ℕ, List, [], Vec, Global, sym, ap, ◌∙◌}
 use Rattle.std.specs.List.{position}
 use Rattle.segment_store.specs.MemoryHost.{bytes_of}
 use Rattle.segment_store.specs.declared.memory_host.MemFile.{MemFile}

@@ -1,8 +1,7 @@
-use Rattle.std.proofs.Common.{◌≡◌, ℕ, Bool, false, List, [], Option, Some, None, Vec, Global, map, length, drop, string_bytes, refl, sym, ap, ap₂, ◌∙◌}
+use Rattle.std.proofs.Common.{◌≡◌, ℕ, false, List, [], Some, None, Vec, Global, map, length, drop, string_bytes, sym, ap, ap₂, ◌∙◌}
 use Rattle.std.specs.List.{position}
 use Rattle.std.specs.Vec.{with_items}
 use Rattle.block_tag.specs.declared.tag.Fork.{Fork}
-use Rattle.segment_store.specs.Contents.{Pages}
 use Rattle.segment_store.specs.Lanes.{mark_in, tag_at}
 use Rattle.segment_store.specs.MemoryHost.{bytes_of, segments_at}
 use Rattle.segment_store.specs.MemoryLane.{marks_of, pages_of}

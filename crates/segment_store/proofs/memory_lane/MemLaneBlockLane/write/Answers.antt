@@ -1,20 +1,19 @@
-use Rattle.std.proofs.Common.{◌≡◌, ℕ, Bool, true, false, List, Option, Some, option_map, ◌∙◌, ap, refl, sym}
+use Rattle.std.proofs.Common.{ℕ, Bool, false, List, Some, ◌∙◌, ap, refl, sym}
 use Rattle.std.specs.Prelude.{is_some}
 use Rattle.segment_store.specs.Contents.{with_mark, with_page}
 use Rattle.segment_store.specs.MemoryLane.{marks_of, pages_of}
 use Rattle.segment_store.specs.declared.memory_lane.MemBlock.{MemBlock}
-use Rattle.segment_store.proofs.MemoryLanes.{marks_put, pages_put}
+use Rattle.segment_store.proofs.MemoryLanes.{marks_put, not_missing, pages_put}
 use Rattle.segment_store.proofs.memory_lane.MemLaneBlockLane.write.Goals as goal
 
 pub returns-in_default-clause-held : goal.returns-in_default-clause-held
-returns-in_default-clause-held c =
-    let none : false ≡ true = ap (λ (b : Option MemBlock). is_some (option_map (λ block. block.page) b)) c.in_default.ensures.value ∙ c.requires _ refl in
-    absurd (cc none)
+returns-in_default-clause-held c = absurd (not_missing _ c.in_default.ensures.value (c.requires _ refl))
 
 pub returns-in_default-clause-failed : goal.returns-in_default-clause-failed
-returns-in_default-clause-failed c =
-    let none : false ≡ true = ap (λ (b : Option MemBlock). is_some (option_map (λ block. block.page) b)) c.in_default.ensures.value ∙ c.requires _ refl in
-    absurd (cc none)
+returns-in_default-clause-failed c = absurd (not_missing _ c.in_default.ensures.value (c.requires _ refl))
+
+pub returns-in_default-clause-answer : goal.returns-in_default-clause-answer
+returns-in_default-clause-answer c = absurd (not_missing _ c.in_default.ensures.value (c.requires _ refl))
 
 pub returns-then-fails-clause-held : goal.returns-then-fails-clause-held
 returns-then-fails-clause-held c =
