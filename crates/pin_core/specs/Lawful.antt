@@ -8,6 +8,8 @@ use Rattle.pin_core.specs.declared.view.Link.{Link}
 use Rattle.pin_core.specs.declared.view.View.{View}
 use Rattle.pin_core.specs.State.{Frame, State, no_tag}
 use Rattle.pin_core.specs.Tallies.{Tally, pins, headers, pendings, settled_pins, settled_headers, flag_weight, frame_shape}
+use Rattle.pin_core.specs.Turns.{turn_shape, turn_part}
+use Rattle.pin_core.specs.Maps.{MapLaw}
 use Rattle.grid.specs.Shape.{Part, Grid}
 
 -- the frame has a tag: BM_TAG_VALID stands, and the tag word isn't all ones
@@ -80,9 +82,9 @@ abbrev pub pin_part : Part frame_shape
 pin_part = record { column = λ _ fr t. FrameLaw fr t; cell = λ _ fr _ l. LinkLaw fr l }
 
 -- What holds of the list of views
-pub record ViewsLaw (frames backends : ℕ) (views : List View) : Type 0 where
-  -- a view has a link for each frame
-  pub wide : (i : ℕ) (v : View) → get_elem? views i ≡ some v → v.spent ≡ false → length v.links ≡ frames
+pub record ViewsLaw (frames partitions backends : ℕ) (views : List View) : Type 0 where
+  -- a view has a link for each frame, and a hold for each partition
+  pub wide : (i : ℕ) (v : View) → get_elem? views i ≡ some v → v.spent ≡ false → (length v.links ≡ frames) × (length v.partitions ≡ partitions)
   -- the view at the seat i has the number i
   pub numbered : (i : ℕ) (v : View) → get_elem? views i ≡ some v → v.spent ≡ false → v.number ≡ i
   -- the first view is never spent, and has the next number to give
@@ -94,8 +96,12 @@ pub record ViewsLaw (frames backends : ℕ) (views : List View) : Type 0 where
 abbrev pub TagsApart : ℕ → (ℕ → Frame) → Type 0
 TagsApart frames frame = (f g : ℕ) → f < frames → g < frames → (frame f).tag ≢ no_tag → (frame f).tag ≡ (frame g).tag → f ≡ g
 
--- The law of pins, headers and tags
+-- The law of pins, headers, tags and maps
 pub record Lawful (s : State) : Type 0 where
   pub grid : Grid frame_shape pin_part s.frames s.frame (λ _. tt) s.views
+  pub turns : Grid turn_shape turn_part s.partitions s.partition (λ _. tt) s.views
   pub apart : TagsApart s.frames s.frame
-  pub views : ViewsLaw s.frames s.backends s.views
+  pub maps : MapLaw s.frames s.partition_of (λ p. (s.partition p).map) (λ p. (s.partition p).owed) (λ f. (s.frame f).tag)
+  -- each tag has a partition
+  pub placed : (tag : ℕ) → s.partition_of tag < s.partitions
+  pub views : ViewsLaw s.frames s.partitions s.backends s.views

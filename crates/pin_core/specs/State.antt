@@ -1,11 +1,12 @@
 -- The frames of the buffer pool, and what each backend knows.
-use Rattle.std.specs.Prelude.{ℕ, ◌+◌, Bool, true, false, List, [], ◌∷◌, ◌++◌, replicate, length, map, max, slice_index_or, slice_set, ◌||◌, None}
+use Rattle.std.specs.Prelude.{ℕ, ◌+◌, ◌<◌, Bool, true, false, List, [], ◌∷◌, ◌++◌, replicate, length, map, max, slice_index_or, slice_set, ◌||◌, Option, None}
 use Rattle.state_word.specs.declared.word.StateWord.{StateWord}
 use Rattle.pin_core.specs.declared.view.Role.{Role}
 use Rattle.pin_core.specs.declared.view.Role.TheVariants.{Absent, HandedOut, Victim}
 use Rattle.pin_core.specs.declared.view.Content.TheVariants.{Unlocked}
 use Rattle.pin_core.specs.declared.view.Io.TheVariants.{Quiet}
 use Rattle.pin_core.specs.declared.view.LastWrite.TheVariants.{Unwritten}
+use Rattle.pin_core.specs.declared.view.MapChange.{MapChange}
 use Rattle.pin_core.specs.declared.view.MapChange.TheVariants.{Settled}
 use Rattle.pin_core.specs.declared.view.LaneChange.TheVariants as lane_change
 use Rattle.pin_core.specs.declared.view.LogChange.TheVariants as log_change
@@ -34,12 +35,25 @@ pub record Frame : Type 0 where
   pub copying : Bool
   pub page : Page
 
+-- A partition of the mapping table, with its turn (`BufMappingPartitionLock`)
+pub record Partition : Type 0 where
+  -- whether a backend has the turn
+  pub taken : Bool
+  -- the frame that the map gives for a tag
+  pub map : ℕ → Option ℕ
+  -- the pair that the holder of the turn has named, and not yet entered or left out
+  pub owed : MapChange
+
 -- The buffer pool, and what each backend knows
 pub record State : Type 0 where
   -- how many frames there are, and how many backends there may be
   pub frames : ℕ
   pub backends : ℕ
+  -- how many partitions there are, and the partition of each tag (`BufTableHashPartition`)
+  pub partitions : ℕ
+  pub partition_of : ℕ → ℕ
   pub frame : ℕ → Frame
+  pub partition : ℕ → Partition
   pub views : List View
 
 -- the tag word of a frame without a tag: all ones
@@ -72,7 +86,7 @@ idle = record {
 }
 
 abbrev pub no_partition : PartitionHold
-no_partition = record { held = false; change = Settled; out = None; changed = false }
+no_partition = record { held = false; change = Settled; out = None; spent = false }
 
 abbrev pub no_lane : LaneHold
 no_lane = record { held = false; out = None; change = lane_change.Untouched; flushed = 0 }
@@ -80,13 +94,17 @@ no_lane = record { held = false; out = None; change = lane_change.Untouched; flu
 abbrev pub no_log : LogHold
 no_log = record { held = false; out = None; change = log_change.Untouched; appended = None; synced = false }
 
+-- what a view has of the turn of the partition p
+abbrev pub hold : View → ℕ → PartitionHold
+hold v p = slice_index_or v.partitions p no_partition
+
+-- what a view has of the turn of the lane n
+abbrev pub lane_hold : View → ℕ → LaneHold
+lane_hold v n = slice_index_or v.lanes n no_lane
+
 -- what a view has at the frame f
 abbrev pub link : View → ℕ → Link
 link v f = slice_index_or v.links f idle
-
--- the view with the link l at f
-abbrev pub relink : View → ℕ → Link → View
-relink v f l = record v { links = slice_set v.links f l }
 
 -- whether a pin stands
 abbrev pub is_pin : Role → Bool
@@ -153,10 +171,6 @@ joined_view v u = record v {
   had_output = v.had_output || u.had_output;
 }
 
--- the view of the seat i changes, and nothing else
-abbrev pub seated : State → ℕ → View → State
-seated s i w = record s { views = slice_set s.views i w }
-
 -- the frame f and the view of the seat i change, and nothing else
 abbrev pub local : State → ℕ → ℕ → Frame → View → State
 local s i f fr w = record s { frame = put s.frame f fr; views = slice_set s.views i w }
@@ -177,6 +191,31 @@ zero_word = record { pins = 0; usage = 0; locked = false; dirty = false; valid =
 abbrev pub empty_frame : Page → Frame
 empty_frame p = record { word = zero_word; tag = no_tag; sharers = 0; exclusive = false; copying = false; page = p }
 
--- the buffer pool at the start, with one backend
-abbrev pub opening : ℕ → ℕ → ℕ → ℕ → Page → State
-opening frames partitions lanes backends p = record { frames = frames; backends = backends; frame = λ _. empty_frame p; views = first_view frames partitions lanes ∷ [] }
+-- a partition at the start: its map is empty
+abbrev pub empty_partition : Partition
+empty_partition = record { taken = false; map = λ _. None; owed = Settled }
+
+-- what a buffer pool is made of
+pub record Config : Type 0 where
+  pub frames : ℕ
+  pub partitions : ℕ
+  pub partition_of : ℕ → ℕ
+  pub lanes : ℕ
+  pub backends : ℕ
+
+-- there is a backend, and each tag has a partition
+pub record CanOpen (c : Config) : Type 0 where
+  pub some_backend : 0 < c.backends
+  pub placed : (tag : ℕ) → c.partition_of tag < c.partitions
+
+-- the buffer pool at the start, each frame with this page, and with one backend
+abbrev pub opening : Config → Page → State
+opening c page = record {
+  frames = c.frames;
+  backends = c.backends;
+  partitions = c.partitions;
+  partition_of = c.partition_of;
+  frame = λ _. empty_frame page;
+  partition = λ _. empty_partition;
+  views = first_view c.frames c.partitions c.lanes ∷ [];
+}

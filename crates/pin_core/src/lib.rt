@@ -3,12 +3,12 @@
 //! Nothing here runs. The types are what a backend knows ([`View`]); the kinds of step, the law that they keep and the lists of steps are in `specs/`, and docs/PROTOCOL.md tells them in words.
 #![tactic(auto)]
 
-ghost use Rattle.std.specs.Prelude.{ℕ, ◌<◌, List};
-ghost use Rattle.pin_core.specs.State.{Page, State, opening};
+ghost use Rattle.std.specs.Prelude.{List};
+ghost use Rattle.pin_core.specs.State.{CanOpen, Config, Page, State, opening};
 ghost use Rattle.pin_core.specs.Lawful.{Lawful};
 ghost use Rattle.pin_core.specs.Steps.{Event, Run};
 ghost use Rattle.pin_core.specs.Sample.{SampleRuns};
-ghost use Rattle.pin_core.specs.Schedules.{IsReached, TagsAreUnique, PinsAreCounted, HeadersAreHeld, HoldersHaveTheWord, PinsRemember, PinnedTagsStay};
+ghost use Rattle.pin_core.specs.Schedules.{IsReached, TagsAreUnique, PinsAreCounted, HeadersAreHeld, HoldersHaveTheWord, PinsRemember, PinnedTagsStay, MapsAreExact, TurnsAreHeld};
 
 mod view;
 
@@ -21,7 +21,7 @@ pub use view::{
 pub fn all_schedules()
     // From every state that has the law every list of events leads to one that has it, and the state at the start has it.
     ensures kept { (es : List Event) (s : State) (t : State) → Lawful s → Run es s t → Lawful t }
-    ensures opens { (frames : ℕ) (partitions : ℕ) (lanes : ℕ) (backends : ℕ) (page : Page) → 0 < backends → Lawful (opening frames partitions lanes backends page) }
+    ensures opens { (config : Config) (page : Page) → CanOpen config → Lawful (opening config page) }
 
     // So in every state that events lead to:
     ensures unique { (s : State) → IsReached s → TagsAreUnique s }
@@ -30,9 +30,11 @@ pub fn all_schedules()
     ensures held { (s : State) → IsReached s → HeadersAreHeld s }
     ensures holders { (s : State) → IsReached s → HoldersHaveTheWord s }
     ensures remembers { (s : State) → IsReached s → PinsRemember s }
+    ensures exact { (s : State) → IsReached s → MapsAreExact s }
+    ensures taken { (s : State) → IsReached s → TurnsAreHeld s }
 {}
 
-/// Ten events as an example: a backend misses a block and gives it a frame, another one hits it there, and the first one's pin goes.
+/// An example: a backend misses a block and gives it a frame, another one hits it there, and the first one's pin goes.
 pub fn miss_and_hit()
     ensures { SampleRuns }
 {}

@@ -88,11 +88,12 @@ pub enum MapChange {
 /// What a backend has of a partition's turn.
 pub struct PartitionHold {
     pub held: bool,
+    /// The pair that the backend named when it stored a tag word, until the map is back with it.
     pub change: MapChange,
     /// The map is out with the backend, and this is what it was when it went out.
     pub out: Option<[MapEntry; 0]>,
-    /// The map that is out has the change.
-    pub changed: bool,
+    /// The one change of the map in this turn is made.
+    pub spent: bool,
 }
 
 /// A block, by its tag, and its page.
