@@ -30,10 +30,10 @@ tags_stay : (frame : ℕ → Frame) (f : ℕ) (fr : Frame) → fr.tag ≡ (frame
 tags_stay frame f fr e g = dite (ℕ_discrete g f) (λ same. ap (λ (x : Frame). x.tag) ((puts frame f fr g).same same) ∙ e ∙ ap (λ (z : ℕ). (frame z).tag) (sym same)) (λ o. ap (λ (x : Frame). x.tag) ((puts frame f fr g).other o))
 
 -- One frame and one view change, and no tag word: what a crate above has to show of a kind of its own
-pub local_keeps : (s : State) (i f : ℕ) (v w : View) (fr : Frame) (l : Link) → Lawful s → get_elem? s.views i ≡ some v → f < s.frames → SameSeat v w → w.partitions ≡ v.partitions → Relinks frame_shape v w f l
-    → Keeps frame_shape pin_part pin_part tt tt tt tt (s.frame f) (link v f) fr l → fr.tag ≡ (s.frame f).tag → Lawful (local s i f fr w)
-local_keeps s i f v w fr l h there inside same holds relinks keeps tag = let maps = maps_same s.frames s.partition_of (λ p. (s.partition p).map) (λ p. (s.partition p).owed) (λ g. (s.frame g).tag) h.maps (λ p. (s.partition p).map) (λ p. (s.partition p).owed) (λ g. (put s.frame f fr g).tag) (λ p. refl) (λ p. refl) (tags_stay s.frame f fr tag) in record {
-  grid = touch frame_shape pin_part pin_part s.frames s.frame (λ _. tt) (λ _. tt) s.views i f v w fr l h.grid h.grid there inside relinks (λ g below other. refl) keeps;
+pub local_keeps : (s : State) (i f : ℕ) (v w : View) (fr : Frame) → Lawful s → get_elem? s.views i ≡ some v → SameSeat v w → w.partitions ≡ v.partitions → fr.tag ≡ (s.frame f).tag
+    → Grid frame_shape pin_part s.frames (put s.frame f fr) (λ _. tt) (set s.views i w) → Lawful (local s i f fr w)
+local_keeps s i f v w fr h there same holds tag grid = let maps = maps_same s.frames s.partition_of (λ p. (s.partition p).map) (λ p. (s.partition p).owed) (λ g. (s.frame g).tag) h.maps (λ p. (s.partition p).map) (λ p. (s.partition p).owed) (λ g. (put s.frame f fr g).tag) (λ p. refl) (λ p. refl) (tags_stay s.frame f fr tag) in record {
+  grid = grid;
   turns = steady turn_shape turn_part s.partitions s.partition (λ _. tt) s.views h.turns i v w there refl (λ p. ap (λ (x : List PartitionHold). hold (record w { partitions = x }) p) holds);
   apart = maps_apart s.frames s.partition_of (λ p. (s.partition p).map) (λ p. (s.partition p).owed) (λ g. (put s.frame f fr g).tag) maps;
   maps = maps;
@@ -66,8 +66,8 @@ module _ (s : State) (h : Lawful s) (i f : ℕ) (v : View) (there : get_elem? s.
 
   -- a kind that names no pair
   plain : (k : Kind) → Allowed k (s.frame f) (link v f) → TagKnown k (s.frame f) → (after k s f v).partitions ≡ v.partitions → (frame_after k (s.frame f)).tag ≡ (s.frame f).tag → Lawful (local s i f (frame_after k (s.frame f)) (after k s f v))
-  plain k a known holds tag = local_keeps s i f v (after k s f v) (frame_after k (s.frame f)) (link_after k (s.frame f) (link v f)) h there inside
-      (record { spent = refl; number = refl; next = refl; links = length-set v.links f (link_after k (s.frame f) (link v f)); partitions = ap (λ (x : List PartitionHold). length x) holds }) holds (relinked k) (kind_keeps k (s.frame f) (link v f) a known) tag
+  plain k a known holds tag = local_keeps s i f v (after k s f v) (frame_after k (s.frame f)) h there
+      (record { spent = refl; number = refl; next = refl; links = length-set v.links f (link_after k (s.frame f) (link v f)); partitions = ap (λ (x : List PartitionHold). length x) holds }) holds tag (grid_after k a known)
 
   -- the pair that a kind names, in its partition p
   module _ (k : Kind) (p : ℕ) (c : MapChange) (below : p < s.partitions) (held : (hold v p).held ≡ true) (unspent : (hold v p).spent ≡ false) (settled : (hold v p).change ≡ Settled)
