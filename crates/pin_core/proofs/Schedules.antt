@@ -19,10 +19,10 @@ use Rattle.pin_core.specs.Turns.{view_turned}
 use Rattle.pin_core.specs.Maps.{PairLaw}
 use Rattle.pin_core.specs.declared.view.MapChange.{MapChange}
 use Rattle.pin_core.specs.declared.view.MapChange.TheVariants.{Entering, Leaving}
-use Rattle.pin_core.specs.Schedules.{IsReached, TagsAreUnique, PinsAreCounted, HeadersAreHeld, is_held, holds_header, holds_turn, HoldersHaveTheWord, PinsRemember, MapsAreExact, TurnsAreHeld, IsHandedOut, HasNoUnpin, PinnedTagsStay}
+use Rattle.pin_core.specs.Schedules.{IsReached, TagsAreUnique, PinsAreFew, PinsAreCounted, HeadersAreHeld, is_held, holds_header, holds_turn, HoldersHaveTheWord, PinsRemember, MapsAreExact, TurnsAreHeld, IsHandedOut, HasNoUnpin, PinnedTagsStay}
 use Rattle.grid.specs.Shape.{tallies}
 use Rattle.grid.proofs.Lists.{set_here, set_else, at_longer, put_at, put_else}
-use Rattle.grid.proofs.Sums.{total-count, terms_le}
+use Rattle.grid.proofs.Sums.{total-count, total-few, term_le, terms_le}
 use Rattle.grid.proofs.Grids.{Relinks}
 use Rattle.pin_core.proofs.Maps.{gives_holder}
 use Rattle.pin_core.proofs.Opening.{opens}
@@ -30,6 +30,16 @@ use Rattle.pin_core.proofs.Stepping.{relinked, step_keeps, run_keeps}
 
 pub reached : (s : State) → IsReached s → Lawful s
 reached s r = run_keeps r.run (opens r.config r.page r.opens)
+
+one_pin : (r : Role) → pin_weight r ≤ 1
+one_pin Absent = omega arith
+one_pin HandedOut = omega arith
+one_pin Victim = omega arith
+
+some_pin : (r : Role) → r ≢ Absent → 0 < pin_weight r
+some_pin Absent n = absurd (n refl)
+some_pin HandedOut n = omega arith
+some_pin Victim n = omega arith
 
 module _ (s : State) (h : Lawful s) where
   pub unique : TagsAreUnique s
@@ -42,6 +52,13 @@ module _ (s : State) (h : Lawful s) where
       one Absent = refl
       one HandedOut = refl
       one Victim = refl
+
+  pub few : PinsAreFew s
+  few f below = let c = h.grid.columns f below in omega (arith, c.counted, h.views.few, total-few (λ (v : View). weigh pins (link v f)) s.views (λ v. one_pin (link v f).role))
+
+  -- a frame that a view pins has a pin
+  pub own_pins : (i f : ℕ) (v : View) → get_elem? s.views i ≡ some v → f < s.frames → (link v f).role ≢ Absent → 0 < (s.frame f).word.pins
+  own_pins i f v there below pinned = let c = h.grid.columns f below in omega (arith, c.counted, term_le (λ (u : View). weigh pins (link u f)) s.views i v there, some_pin (link v f).role pinned)
 
   pub held : HeadersAreHeld s
   held f below = sym (total-count (λ (v : View). weigh headers (link v f)) (holds_header f) (λ v. one (link v f).header) s.views) ∙ sym (h.grid.columns f below).locked ∙ flag (s.frame f).word.locked

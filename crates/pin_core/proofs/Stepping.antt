@@ -172,12 +172,12 @@ module _ (s : State) (h : Lawful s) (i p : ℕ) (v : View) (there : get_elem? s.
     views = views_set s.frames s.partitions s.backends s.views h.views i v w there (record { spent = refl; number = refl; next = refl; links = refl; partitions = length-set v.partitions p y });
   }
 
-none : (k : Tally) → weigh k idle ≡ 0
-none pins = refl
-none headers = refl
-none pendings = refl
-none settled_pins = refl
-none settled_headers = refl
+pub idle_none : (k : Tally) → weigh k idle ≡ 0
+idle_none pins = refl
+idle_none headers = refl
+idle_none pendings = refl
+idle_none settled_pins = refl
+idle_none settled_headers = refl
 
 pub idle_link : (fr : Frame) → LinkLaw fr idle
 idle_link fr = grind arith
@@ -186,7 +186,7 @@ idle_hold : (pt : Partition) → HoldLaw pt no_partition
 idle_hold pt = grind arith
 
 pub new_none : (number n p m f : ℕ) (k : Tally) → weigh k (link (new_view number n p m) f) ≡ 0
-new_none number n p m f k = ap (weigh k) (link_new n p m number f) ∙ none k
+new_none number n p m f k = ap (weigh k) (link_new n p m number f) ∙ idle_none k
 
 pub new_link : (number n p m f : ℕ) (fr : Frame) → LinkLaw fr (link (new_view number n p m) f)
 new_link number n p m f fr = subst (LinkLaw fr) (sym (link_new n p m number f)) (idle_link fr)

@@ -1,5 +1,5 @@
 -- What every list of events keeps, in the field's words.
-use Rattle.std.specs.Prelude.{◌≡◌, ◌≢◌, ℕ, ◌<◌, Bool, true, false, List, [], ◌∷◌, Option, Some, None, ◌↔◌, count_by, if◌then◌else◌}
+use Rattle.std.specs.Prelude.{◌≡◌, ◌≢◌, ℕ, ◌<◌, ◌≤◌, Bool, true, false, List, [], ◌∷◌, Option, Some, None, ◌↔◌, count_by, if◌then◌else◌}
 use mathlib.Core.Option.{some}
 use lib.ListN.{get_elem?}
 use Rattle.state_word.specs.declared.word.StateWord.{StateWord}
@@ -22,6 +22,10 @@ pub record IsReached (s : State) : Type 0 where
 -- no two frames have the same tag
 abbrev pub TagsAreUnique : State → Type 0
 TagsAreUnique s = (f g : ℕ) → f < s.frames → g < s.frames → HasTag (s.frame f) → HasTag (s.frame g) → (s.frame f).tag ≡ (s.frame g).tag → f ≡ g
+
+-- a frame has at most one pin for each backend
+abbrev pub PinsAreFew : State → Type 0
+PinsAreFew s = (f : ℕ) → f < s.frames → (s.frame f).word.pins ≤ s.backends
 
 -- the reference count is the number of views that pin the frame
 abbrev pub PinsAreCounted : State → Type 0

@@ -1,6 +1,6 @@
 use Rattle.pin_core.proofs.Opening.{opens}
 use Rattle.pin_core.proofs.Stepping.{run_keeps}
-use Rattle.pin_core.proofs.Schedules.{reached, unique, counted, held, holders, exact, taken, remembers, stay}
+use Rattle.pin_core.proofs.Schedules.{reached, unique, few, counted, held, holders, exact, taken, remembers, stay}
 use Rattle.pin_core.proofs.all_schedules.Goals as goal
 
 pub returns-clause-kept : goal.returns-clause-kept
@@ -32,3 +32,6 @@ returns-clause-exact c = λ s r. exact s (reached s r)
 
 pub returns-clause-taken : goal.returns-clause-taken
 returns-clause-taken c = λ s r. taken s (reached s r)
+
+pub returns-clause-few : goal.returns-clause-few
+returns-clause-few c = λ s r. few s (reached s r)
