@@ -84,7 +84,7 @@ module _ (s : State) (h : Lawful s) (i f : ℕ) (v : View) (there : get_elem? s.
 
     pub kind_step_keeps : Lawful (state_after k s i f v)
     kind_step_keeps = record {
-      core = local_keeps s.core i f v w (frame_after k b fr) h.core there (record { spent = refl; number = refl; next = refl; links = length-set v.links f (link_after k b fr l); partitions = refl }) refl (tag_kept k b fr)
+      core = local_keeps s.core i f v w (frame_after k b fr) h.core there (record { spent = refl; number = refl; next = refl; links = length-set v.links f (link_after k b fr l); partitions = refl }) refl refl (tag_kept k b fr)
           (to_pins s.core.frames (put s.core.frame f (frame_after k b fr)) (block_of logged') (set s.core.views i w) (touched pin_part (to_pages s.core.frames s.core.frame (block_of s.logged) s.core.views h.core.grid) (pins_kept k b fr l a)));
       pages = touched page_part h.pages (pages_kept k b fr l a);
     }

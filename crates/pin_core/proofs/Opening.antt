@@ -1,10 +1,10 @@
 -- The law holds at the start.
-use Rattle.std.proofs.Common.{◌≡◌, ◌≢◌, ℕ, [], ◌∷◌, None, length, sym, refl, ap, ◌∙◌, subst, arith}
+use Rattle.std.proofs.Common.{◌+◌, ◌≡◌, ◌≢◌, ℕ, [], ◌∷◌, None, length, sym, refl, ap, ◌∙◌, subst, arith}
 use lib.ListN.{length-replicate}
 use Rattle.pin_core.specs.declared.view.View.{View}
 use Rattle.pin_core.specs.State.{Config, CanOpen, Page, no_tag, link, hold, idle, no_partition, first_view, empty_frame, empty_partition, opening}
 use Rattle.pin_core.specs.Tallies.{Tally, pins, headers, pendings, settled_pins, settled_headers, weigh, frame_shape}
-use Rattle.pin_core.specs.Lawful.{FrameLaw, LinkLaw, Lawful}
+use Rattle.pin_core.specs.Lawful.{FrameLaw, LinkLaw, live_weight, Lawful}
 use Rattle.pin_core.specs.declared.view.MapChange.TheVariants.{Settled}
 use Rattle.pin_core.specs.Maps.{PairLaw}
 use Rattle.pin_core.specs.Turns.{TurnTally, holders, TurnLaw, HoldLaw, turn_shape}
@@ -29,6 +29,10 @@ empty_turn_law t e = grind (arith, e holders)
 empty_pair : (tag f : ℕ) → tag ≢ no_tag → PairLaw None Settled no_tag tag f
 empty_pair tag f named = grind (arith, named)
 
+one_backend : (n p m : ℕ) (v : View) → first_view n p m ≡ v → total (λ (u : View). live_weight u.spent) (first_view n p m ∷ []) + v.joined ≡ 1
+unfolding total
+one_backend n p m v e = let j : v.joined ≡ 0 = ap (λ (x : View). x.joined) (sym e) in omega arith
+
 pub opens : (c : Config) (page : Page) → CanOpen c → Lawful (opening c page)
 opens c page can = let n = c.frames in let p = c.partitions in let m = c.lanes in let w : View = first_view n p m in record {
   grid = record {
@@ -42,6 +46,7 @@ opens c page can = let n = c.frames in let p = c.partitions in let m = c.lanes i
   apart = λ f g x y named same. absurd (named refl);
   maps = record { pairs = λ tag f named below. empty_pair tag f named; mapped = λ q tag f e. absurd (cc); changing = λ q. tt };
   placed = can.placed;
+  accounted = λ v e. one_backend n p m v (at_only w v 0 e).0;
   views = record {
     wide = λ i v there live. subst (λ (x : View). (length x.links ≡ n) × (length x.partitions ≡ p)) (at_only w v i there).0 (length-replicate n idle, length-replicate p no_partition);
     numbered = λ i v there live. let e = at_only w v i there in ap (λ (x : View). x.number) (sym e.0) ∙ sym e.1;

@@ -23,22 +23,23 @@ use Rattle.grid.proofs.Grids.{Keeps, Relinks, touch, sweep, steady, grows}
 use Rattle.pin_core.proofs.Maps.{maps_same, maps_entering, maps_leaving, maps_changed, maps_apart}
 use Rattle.pin_core.proofs.Turning.{turn_keeps, naming_keeps, turn_forgets}
 use Rattle.pin_core.proofs.Cases.{TagKnown, kind_keeps}
-use Rattle.pin_core.proofs.Views.{SameSeat, views_set, views_spent, views_split, joined_same, link_new, hold_new}
+use Rattle.pin_core.proofs.Views.{SameSeat, views_set, views_spent, views_split, joined_same, link_new, hold_new, accounted_set, accounted_split, accounted_join}
 
 -- the tag words, where that of the frame f stays
 tags_stay : (frame : ℕ → Frame) (f : ℕ) (fr : Frame) → fr.tag ≡ (frame f).tag → (g : ℕ) → (put frame f fr g).tag ≡ (frame g).tag
 tags_stay frame f fr e g = dite (ℕ_discrete g f) (λ same. ap (λ (x : Frame). x.tag) ((puts frame f fr g).same same) ∙ e ∙ ap (λ (z : ℕ). (frame z).tag) (sym same)) (λ o. ap (λ (x : Frame). x.tag) ((puts frame f fr g).other o))
 
 -- One frame and one view change, and no tag word: what a crate above has to show of a kind of its own
-pub local_keeps : (s : State) (i f : ℕ) (v w : View) (fr : Frame) → Lawful s → get_elem? s.views i ≡ some v → SameSeat v w → w.partitions ≡ v.partitions → fr.tag ≡ (s.frame f).tag
+pub local_keeps : (s : State) (i f : ℕ) (v w : View) (fr : Frame) → Lawful s → get_elem? s.views i ≡ some v → SameSeat v w → w.joined ≡ v.joined → w.partitions ≡ v.partitions → fr.tag ≡ (s.frame f).tag
     → Grid frame_shape pin_part s.frames (put s.frame f fr) (λ _. tt) (set s.views i w) → Lawful (local s i f fr w)
-local_keeps s i f v w fr h there same holds tag grid = let maps = maps_same s.frames s.partition_of (λ p. (s.partition p).map) (λ p. (s.partition p).owed) (λ g. (s.frame g).tag) h.maps (λ p. (s.partition p).map) (λ p. (s.partition p).owed) (λ g. (put s.frame f fr g).tag) (λ p. refl) (λ p. refl) (tags_stay s.frame f fr tag) in record {
+local_keeps s i f v w fr h there same joined holds tag grid = let maps = maps_same s.frames s.partition_of (λ p. (s.partition p).map) (λ p. (s.partition p).owed) (λ g. (s.frame g).tag) h.maps (λ p. (s.partition p).map) (λ p. (s.partition p).owed) (λ g. (put s.frame f fr g).tag) (λ p. refl) (λ p. refl) (tags_stay s.frame f fr tag) in record {
   grid = grid;
   turns = steady turn_shape turn_part s.partitions s.partition (λ _. tt) s.views h.turns i v w there refl (λ p. ap (λ (x : List PartitionHold). hold (record w { partitions = x }) p) holds);
   apart = maps_apart s.frames s.partition_of (λ p. (s.partition p).map) (λ p. (s.partition p).owed) (λ g. (put s.frame f fr g).tag) maps;
   maps = maps;
   placed = h.placed;
   views = views_set s.frames s.partitions s.backends s.views h.views i v w there same;
+  accounted = accounted_set s.views i v w h.accounted there same.spent joined;
 }
 
 -- a view keeps its seat at a step of the kind k
@@ -67,7 +68,7 @@ module _ (s : State) (h : Lawful s) (i f : ℕ) (v : View) (there : get_elem? s.
   -- a kind that names no pair
   plain : (k : Kind) → Allowed k (s.frame f) (link v f) → TagKnown k (s.frame f) → (after k s f v).partitions ≡ v.partitions → (frame_after k (s.frame f)).tag ≡ (s.frame f).tag → Lawful (local s i f (frame_after k (s.frame f)) (after k s f v))
   plain k a known holds tag = local_keeps s i f v (after k s f v) (frame_after k (s.frame f)) h there
-      (record { spent = refl; number = refl; next = refl; links = length-set v.links f (link_after k (s.frame f) (link v f)); partitions = ap (λ (x : List PartitionHold). length x) holds }) holds tag (grid_after k a known)
+      (record { spent = refl; number = refl; next = refl; links = length-set v.links f (link_after k (s.frame f) (link v f)); partitions = ap (λ (x : List PartitionHold). length x) holds }) refl holds tag (grid_after k a known)
 
   -- the pair that a kind names, in its partition p
   module _ (k : Kind) (p : ℕ) (c : MapChange) (below : p < s.partitions) (held : (hold v p).held ≡ true) (unspent : (hold v p).spent ≡ false) (settled : (hold v p).change ≡ Settled)
@@ -109,6 +110,7 @@ module _ (s : State) (h : Lawful s) (i f : ℕ) (v : View) (there : get_elem? s.
         maps = exact;
         placed = h.placed;
         views = views_set s.frames s.partitions s.backends s.views h.views i v (after k s f v) there (named_seat k p c below held unspent settled names);
+        accounted = accounted_set s.views i v (after k s f v) h.accounted there refl refl;
       }
 
 -- a frame that may be given a tag has none
@@ -170,6 +172,7 @@ module _ (s : State) (h : Lawful s) (i p : ℕ) (v : View) (there : get_elem? s.
     maps = maps_after k a;
     placed = h.placed;
     views = views_set s.frames s.partitions s.backends s.views h.views i v w there (record { spent = refl; number = refl; next = refl; links = refl; partitions = length-set v.partitions p y });
+    accounted = accounted_set s.views i v w h.accounted there refl refl;
   }
 
 pub idle_none : (k : Tally) → weigh k idle ≡ 0
@@ -213,10 +216,11 @@ split_keeps s v h there room = let w : View = record v { next = v.next + 1 } in 
   maps = h.maps;
   placed = h.placed;
   views = views_split s.frames s.partitions s.backends s.views h.views v there room;
+  accounted = accounted_split s.views v w (new_view v.next n p m) h.accounted there refl refl refl;
 }
 
-join_keeps : (s : State) (j : ℕ) (v u : View) → Lawful s → get_elem? s.views 0 ≡ some v → j ≢ 0 → get_elem? s.views j ≡ some u → HoldsNothing u → Lawful (joined_state s v j u)
-join_keeps s j v u h there other here free = let w : View = joined_view v u in let vs : List View = set s.views 0 w in record {
+join_keeps : (s : State) (j : ℕ) (v u : View) → Lawful s → get_elem? s.views 0 ≡ some v → j ≢ 0 → get_elem? s.views j ≡ some u → u.spent ≡ false → HoldsNothing u → Lawful (joined_state s v j u)
+join_keeps s j v u h there other here live free = let w : View = joined_view v u in let vs : List View = set s.views 0 w in record {
   grid = sweep frame_shape pin_part pin_part s.frames s.frame s.frame (λ _. tt) (λ _. tt) vs j u spent_view (steady frame_shape pin_part s.frames s.frame (λ _. tt) s.views h.grid 0 v w there refl (λ g. refl)) (set_else s.views 0 j w other ∙ here)
       (λ g below. forgets (s.frame g) (link u g) (free.frames g));
   turns = sweep turn_shape turn_part turn_part s.partitions s.partition s.partition (λ _. tt) (λ _. tt) vs j u spent_view (steady turn_shape turn_part s.partitions s.partition (λ _. tt) s.views h.turns 0 v w there refl (λ g. refl)) (set_else s.views 0 j w other ∙ here)
@@ -225,13 +229,14 @@ join_keeps s j v u h there other here free = let w : View = joined_view v u in l
   maps = h.maps;
   placed = h.placed;
   views = views_spent s.frames s.partitions s.backends vs (views_set s.frames s.partitions s.backends s.views h.views 0 v w there (joined_same v u)) j other;
+  accounted = accounted_join s.views j v u h.accounted there (h.views.first v there).0 other here live;
 }
 
 pub step_keeps : {e : Event} {s t : State} → Step e s t → Lawful s → Lawful t
 step_keeps (touches {s = s} i f k v there live inside a around) h = kind_step_keeps s i f k v h there live inside a around
 step_keeps (turns {s = s} i p k v there live below a) h = turn_step_keeps s h i p v there live below k a
 step_keeps (splits {s = s} v there room) h = split_keeps s v h there room
-step_keeps (joins {s = s} j v u there other here live free) h = join_keeps s j v u h there other here free
+step_keeps (joins {s = s} j v u there other here live free) h = join_keeps s j v u h there other here live free
 
 pub run_keeps : {es : List Event} {s t : State} → Run es s t → Lawful s → Lawful t
 run_keeps rests h = h

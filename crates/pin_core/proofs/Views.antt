@@ -4,8 +4,9 @@ use mathlib.Core.Option.{some, some-injective}
 use lib.ListN.{get_elem?, length-replicate}
 use Rattle.pin_core.specs.declared.view.View.{View}
 use Rattle.pin_core.specs.State.{link, idle, hold, no_partition, new_view, spent_view, joined_view}
-use Rattle.pin_core.specs.Lawful.{ViewsLaw}
-use Rattle.grid.proofs.Lists.{at_set, at_end, at_longer, set_here}
+use Rattle.pin_core.specs.Lawful.{ViewsLaw, live_weight, AllAccounted}
+use Rattle.grid.proofs.Sums.{total-set, total-snoc}
+use Rattle.grid.proofs.Lists.{at_set, at_end, at_longer, set_here, set_else}
 
 -- The view w is the view v at its seat, later
 pub record SameSeat (v w : View) : Type 0 where
@@ -69,3 +70,22 @@ module _ (frames partitions backends : ℕ) (views : List View) (h : ViewsLaw fr
 
 pub joined_same : (v u : View) → SameSeat v (joined_view v u)
 joined_same v u = record { spent = refl; number = refl; next = refl; links = refl; partitions = refl }
+
+abbrev live : View → ℕ
+live u = live_weight u.spent
+
+pub accounted_set : (views : List View) (i : ℕ) (v w : View) → AllAccounted views → get_elem? views i ≡ some v → w.spent ≡ v.spent → w.joined ≡ v.joined → AllAccounted (set views i w)
+accounted_set views i v w h there spent joined u e = let sums = total-set live views i v w there in let same : live w ≡ live v = ap live_weight spent in let long = length-set views i w in ⊎_elim
+    (λ (t : (0 ≡ i) × (w ≡ u)). let was = h v (subst (λ (z : ℕ). get_elem? views z ≡ some v) (sym t.0) there) in let is : u.joined ≡ v.joined = ap (λ (x : View). x.joined) (sym t.1) ∙ joined in omega arith)
+    (λ (t : (0 ≢ i) × (get_elem? views 0 ≡ some u)). let was = h u t.1 in omega arith) (at_set views i 0 w u e)
+
+pub accounted_split : (views : List View) (v w b : View) → AllAccounted views → get_elem? views 0 ≡ some v → w.spent ≡ v.spent → w.joined ≡ v.joined → b.spent ≡ false → AllAccounted (set views 0 w ++ b ∷ [])
+accounted_split views v w b h there spent joined new u e = let here = set_here views 0 v w there in let is : w ≡ u = some-injective w u (sym (at_longer (set views 0 w) (b ∷ []) 0 w here) ∙ e) in
+    let was = accounted_set views 0 v w h there spent joined w here in let one : live b ≡ 1 = ap live_weight new in let same : u.joined ≡ w.joined = ap (λ (x : View). x.joined) (sym is) in
+    omega (arith, total-snoc live (set views 0 w) b, length-append (set views 0 w) (b ∷ []))
+
+pub accounted_join : (views : List View) (j : ℕ) (v u : View) → AllAccounted views → get_elem? views 0 ≡ some v → v.spent ≡ false → j ≢ 0 → get_elem? views j ≡ some u → u.spent ≡ false → AllAccounted (set (set views 0 (joined_view v u)) j spent_view)
+accounted_join views j v u h there first other here living x e = let w : View = joined_view v u in let vs : List View = set views 0 w in
+    let is : w ≡ x = some-injective w x (sym (set_else vs j 0 spent_view (λ z. other (sym z)) ∙ set_here views 0 v w there) ∙ e) in let count : x.joined ≡ v.joined + 1 = ap (λ (y : View). y.joined) (sym is) in
+    let one : live u ≡ 1 = ap live_weight living in let a = total-set live views 0 v w there in let b = total-set live vs j u spent_view (set_else views 0 j w other ∙ here) in let was = h v there in
+    omega (arith, length-set vs j spent_view, length-set views 0 w)

@@ -1,5 +1,5 @@
 -- What holds in every state that steps lead to.
-use Rattle.std.specs.Prelude.{◌≡◌, ◌≢◌, ℕ, ◌+◌, ◌<◌, ◌≤◌, true, false, List, Some, None, length}
+use Rattle.std.specs.Prelude.{◌≡◌, ◌≢◌, ℕ, ◌+◌, ◌<◌, ◌≤◌, Bool, true, false, List, Some, None, length}
 use mathlib.Core.Option.{some}
 use lib.ListN.{get_elem?}
 use Rattle.state_word.specs.declared.word.StateWord.{StateWord}
@@ -10,7 +10,7 @@ use Rattle.pin_core.specs.State.{Frame, State, no_tag}
 use Rattle.pin_core.specs.Tallies.{Tally, pins, headers, pendings, settled_pins, settled_headers, flag_weight, frame_shape}
 use Rattle.pin_core.specs.Turns.{turn_shape, turn_part}
 use Rattle.pin_core.specs.Maps.{MapLaw}
-use Rattle.grid.specs.Shape.{Part, Grid}
+use Rattle.grid.specs.Shape.{total, Part, Grid}
 
 -- the frame has a tag: BM_TAG_VALID stands, and the tag word isn't all ones
 pub record HasTag (fr : Frame) : Type 0 where
@@ -92,6 +92,15 @@ pub record ViewsLaw (frames partitions backends : ℕ) (views : List View) : Typ
   -- no number is given beyond the count of backends
   pub few : length views ≤ backends
 
+-- 1 for a backend that is there, and 0 for what is left of one
+abbrev pub live_weight : Bool → ℕ
+live_weight true = 0
+live_weight false = 1
+
+-- the backends that are there, and those that were joined into the first, are as many as numbers were given
+abbrev pub AllAccounted : List View → Type 0
+AllAccounted views = (v : View) → get_elem? views 0 ≡ some v → total (λ (u : View). live_weight u.spent) views + v.joined ≡ length views
+
 -- no two frames have one tag word, with BM_TAG_VALID or without, but for all ones
 abbrev pub TagsApart : ℕ → (ℕ → Frame) → Type 0
 TagsApart frames frame = (f g : ℕ) → f < frames → g < frames → (frame f).tag ≢ no_tag → (frame f).tag ≡ (frame g).tag → f ≡ g
@@ -105,3 +114,4 @@ pub record Lawful (s : State) : Type 0 where
   -- each tag has a partition
   pub placed : (tag : ℕ) → s.partition_of tag < s.partitions
   pub views : ViewsLaw s.frames s.partitions s.backends s.views
+  pub accounted : AllAccounted s.views

@@ -5,7 +5,7 @@
 
 ghost use Rattle.std.specs.Prelude.{List};
 ghost use Rattle.pin_core.specs.State.{CanOpen, Config, Page, State, opening};
-ghost use Rattle.pin_core.specs.Lawful.{Lawful};
+ghost use Rattle.pin_core.specs.Lawful.{AllAccounted, Lawful};
 ghost use Rattle.pin_core.specs.Steps.{Event, Run};
 ghost use Rattle.pin_core.specs.Sample.{SampleRuns};
 ghost use Rattle.pin_core.specs.Schedules.{IsReached, TagsAreUnique, PinsAreCounted, PinsAreFew, HeadersAreHeld, HoldersHaveTheWord, PinsRemember, PinnedTagsStay, MapsAreExact, TurnsAreHeld};
@@ -27,6 +27,7 @@ pub fn all_schedules()
     ensures unique { (s : State) → IsReached s → TagsAreUnique s }
     ensures stay { (s : State) → IsReached s → PinnedTagsStay s }
     ensures counted { (s : State) → IsReached s → PinsAreCounted s }
+    ensures accounted { (s : State) → IsReached s → AllAccounted s.views }
     ensures few { (s : State) → IsReached s → PinsAreFew s }
     ensures held { (s : State) → IsReached s → HeadersAreHeld s }
     ensures holders { (s : State) → IsReached s → HoldersHaveTheWord s }

@@ -35,3 +35,6 @@ returns-clause-taken c = λ s r. taken s (reached s r)
 
 pub returns-clause-few : goal.returns-clause-few
 returns-clause-few c = λ s r. few s (reached s r)
+
+pub returns-clause-accounted : goal.returns-clause-accounted
+returns-clause-accounted c = λ s r. (reached s r).accounted
