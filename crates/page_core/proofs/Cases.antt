@@ -6,7 +6,7 @@ use Rattle.pin_core.specs.declared.view.Link.{Link}
 use Rattle.pin_core.specs.State.{Frame}
 use Rattle.pin_core.specs.Kinds as pin_kinds
 use Rattle.page_core.specs.State.{Block}
-use Rattle.page_core.specs.Lawful.{page_part, pin_part}
+use Rattle.page_core.specs.Invariant.{page_part, pin_part}
 use Rattle.page_core.specs.Kinds.{Kind, load_content, mark_dirty, share, exclude, unshare, unexclude, take_copy, leave_copy, page_out, overwrite_logged, overwrite_read, page_back, note_read, note_write, make_entry, start_input, start_output, clear_just_dirtied, end_io, Allowed, frame_after, block_after}
 use Rattle.page_core.proofs.KeepingPages as pages
 use Rattle.page_core.proofs.KeepingPages.{Keeps_by, Keeps_by_pins}

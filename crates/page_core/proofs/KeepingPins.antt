@@ -6,7 +6,7 @@ use Rattle.pin_core.specs.State.{Frame, Page}
 use Rattle.pin_core.specs.Tallies as pins
 use Rattle.page_core.specs.State.{Block}
 use Rattle.page_core.specs.Tallies.{pin}
-use Rattle.page_core.specs.Lawful.{pin_part}
+use Rattle.page_core.specs.Invariant.{pin_part}
 use Rattle.page_core.specs.Kinds as kinds
 use Rattle.page_core.specs.Kinds.{Allowed}
 use Rattle.page_core.proofs.KeepingPages.{Keeps_by}

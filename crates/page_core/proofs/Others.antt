@@ -5,10 +5,10 @@ use Rattle.pin_core.specs.declared.view.Io.TheVariants.{Input}
 use Rattle.pin_core.specs.declared.view.Link.{Link}
 use Rattle.pin_core.specs.State.{Frame, Page}
 use Rattle.pin_core.specs.Tallies as pins
-use Rattle.pin_core.specs.Lawful.{FrameLaw, LinkLaw}
+use Rattle.pin_core.specs.Invariant.{FrameLaw, LinkLaw}
 use Rattle.page_core.specs.State.{Block}
-use Rattle.page_core.specs.Tallies.{Tally, pin, sharers, calms, aheads, works, weigh, work_weight}
-use Rattle.page_core.specs.Lawful.{PageFrame, PageLink}
+use Rattle.page_core.specs.Tallies.{Tally, pin, sharers, applied_locks, unapplied_locks, works, weigh, work_weight}
+use Rattle.page_core.specs.Invariant.{PageFrame, PageLink}
 
 -- The frame is for a link what it was
 pub record SameFor (fr fr' : Frame) : Type 0 where
@@ -27,7 +27,7 @@ pub page_changes : (b : Block) (fr : Frame) (m : Link) (p : Page) → m.out ≡ 
 page_changes b fr m p home quiet h = grind (arith, home, quiet, h)
 
 -- beside the exclusive lock no other view has the page out, or an input right
-pub exclusive_alone : (b : Block) (fr : Frame) (l m : Link) (t : Tally → ℕ) → PageFrame b fr t → PageLink b fr l → PageLink b fr m → weigh calms l + weigh calms m ≤ t calms → weigh aheads l + weigh aheads m ≤ t aheads → weigh sharers l + weigh sharers m ≤ t sharers → l.content ≡ Exclusive → (m.out ≡ None) × (m.io ≢ Input)
+pub exclusive_alone : (b : Block) (fr : Frame) (l m : Link) (t : Tally → ℕ) → PageFrame b fr t → PageLink b fr l → PageLink b fr m → weigh applied_locks l + weigh applied_locks m ≤ t applied_locks → weigh unapplied_locks l + weigh unapplied_locks m ≤ t unapplied_locks → weigh sharers l + weigh sharers m ≤ t sharers → l.content ≡ Exclusive → (m.out ≡ None) × (m.io ≢ Input)
 exclusive_alone b fr l m t q c d x y z e = grind (arith, q, c, d, x, y, z, e)
 
 -- beside an input right no other view has the page out, or an input right

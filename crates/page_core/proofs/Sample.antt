@@ -7,7 +7,7 @@ use Rattle.pin_core.specs.declared.view.MapChange.TheVariants.{Settled, Entering
 use Rattle.pin_core.specs.declared.view.PartitionHold.{PartitionHold}
 use Rattle.pin_core.specs.declared.view.Link.{Link}
 use Rattle.pin_core.specs.declared.view.View.{View}
-use Rattle.pin_core.specs.State.{link, idle, hold, no_partition, no_tag, spent_view}
+use Rattle.pin_core.specs.State.{link, idle, hold, no_partition, no_tag, emptied_view}
 use Rattle.pin_core.specs.Kinds as pins
 use Rattle.pin_core.specs.Turns.{TurnKind, take_turn, leave_turn, map_out, change_map, map_back, found, map_after}
 use Rattle.pin_core.specs.Steps as pin_steps
@@ -17,7 +17,7 @@ use Rattle.page_core.specs.Steps.{state_after, HasNoWriteOut, rests, goes, cores
 use Rattle.page_core.specs.Sample.{sample_start, sample_page, sample_entry, SampleRuns}
 
 abbrev view_of : State → View
-view_of s = slice_index_or s.core.views 0 spent_view
+view_of s = slice_index_or s.core.views 0 emptied_view
 
 abbrev pooled : pins.Kind → State → State
 pooled k s = record s { core = pin_steps.state_after k s.core 0 0 (view_of s) }
@@ -188,10 +188,10 @@ sample = (
       (goes (cores (pin_steps.touches 0 0 pins.lock_header (view_of s1) refl refl (lit< tt) (record { unlocked = refl }) (at_one (λ (l : Link). l.header ≡ None) (view_of s1) _ refl refl refl)))
       (goes (cores (pin_steps.touches 0 0 pins.pin_victim (view_of s2) refl refl (lit< tt) (record { held = refl; absent = refl; room = λ e. refl }) (at_one (λ (l : Link). l.role ≢ Victim) (view_of s2) _ refl (λ e. cc) (λ e. cc))))
       (goes (cores (pin_steps.touches 0 0 pins.lock_header (view_of s3) refl refl (lit< tt) (record { unlocked = refl }) (at_one (λ (l : Link). l.header ≡ None) (view_of s3) _ refl refl refl)))
-      (goes (cores (pin_steps.touches 0 0 (pins.store_tag 7) (view_of s4) refl refl (lit< tt) (record { alone = record { held = refl; settled = refl; single = refl; victim = refl; no_content = refl; no_io = refl }; named = named; untagged = refl }) (record { naming = record { held = refl; unspent = refl; settled = (turn_one (λ (h : PartitionHold). h.change ≡ Settled) (view_of s4) _ refl refl refl) }; lacking = refl })))
+      (goes (cores (pin_steps.touches 0 0 (pins.store_tag 7) (view_of s4) refl refl (lit< tt) (record { alone = record { held = refl; settled = refl; single = refl; victim = refl; no_content = refl; no_io = refl }; named = named; untagged = refl }) (record { naming = record { held = refl; unchanged = refl; settled = (turn_one (λ (h : PartitionHold). h.change ≡ Settled) (view_of s4) _ refl refl refl) }; lacking = refl })))
       (goes (cores (pin_steps.touches 0 0 pins.assign (view_of s5) refl refl (lit< tt) (record { held = refl; stored = refl; named = named }) tt))
       (goes (cores (pin_steps.turns 0 0 (map_out []) (view_of s6) refl refl (lit< tt) (record { held = refl; home = refl; entries_are = no_entries })))
-      (goes (cores (pin_steps.turns 0 0 change_map (view_of s7) refl refl (lit< tt) (record { out = λ e. cc; unspent = refl; named = λ e. cc })))
+      (goes (cores (pin_steps.turns 0 0 change_map (view_of s7) refl refl (lit< tt) (record { out = λ e. cc; unchanged = refl; named = λ e. cc })))
       (goes (cores (pin_steps.turns 0 0 (map_back (sample_entry ∷ [])) (view_of s8) refl refl (lit< tt) (record { out = λ e. cc; entries_are = one_entry })))
       (goes (cores (pin_steps.turns 0 0 leave_turn (view_of s9) refl refl (lit< tt) (record { held = refl; home = refl; settled = refl })))
       (goes (cores (pin_steps.touches 0 0 pins.lock_header (view_of s10) refl refl (lit< tt) (record { unlocked = refl }) (at_one (λ (l : Link). l.header ≡ None) (view_of s10) _ refl refl refl)))
@@ -216,10 +216,10 @@ sample = (
       (goes (cores (pin_steps.touches 0 0 pins.pin_victim (view_of s27) refl refl (lit< tt) (record { held = refl; absent = refl; room = λ e. refl }) (at_one (λ (l : Link). l.role ≢ Victim) (view_of s27) _ refl (λ e. cc) (λ e. cc))))
       (goes (cores (pin_steps.turns 0 0 take_turn (view_of s28) refl refl (lit< tt) (record { free = refl })))
       (goes (cores (pin_steps.touches 0 0 pins.lock_header (view_of s29) refl refl (lit< tt) (record { unlocked = refl }) (at_one (λ (l : Link). l.header ≡ None) (view_of s29) _ refl refl refl)))
-      (goes (cores (pin_steps.touches 0 0 pins.erase_tag (view_of s30) refl refl (lit< tt) (record { alone = record { held = refl; settled = refl; single = refl; victim = refl; no_content = refl; no_io = refl }; named = named; clean = refl }) (record { held = refl; unspent = refl; settled = (turn_one (λ (h : PartitionHold). h.change ≡ Settled) (view_of s30) _ refl refl refl) })))
+      (goes (cores (pin_steps.touches 0 0 pins.erase_tag (view_of s30) refl refl (lit< tt) (record { alone = record { held = refl; settled = refl; single = refl; victim = refl; no_content = refl; no_io = refl }; named = named; clean = refl }) (record { held = refl; unchanged = refl; settled = (turn_one (λ (h : PartitionHold). h.change ≡ Settled) (view_of s30) _ refl refl refl) })))
       (goes (cores (pin_steps.touches 0 0 pins.clear (view_of s31) refl refl (lit< tt) (record { held = refl; erased = refl; unnamed = refl }) tt))
       (goes (cores (pin_steps.turns 0 0 (map_out (sample_entry ∷ [])) (view_of s32) refl refl (lit< tt) (record { held = refl; home = refl; entries_are = one_entry })))
-      (goes (cores (pin_steps.turns 0 0 change_map (view_of s33) refl refl (lit< tt) (record { out = λ e. cc; unspent = refl; named = λ e. cc })))
+      (goes (cores (pin_steps.turns 0 0 change_map (view_of s33) refl refl (lit< tt) (record { out = λ e. cc; unchanged = refl; named = λ e. cc })))
       (goes (cores (pin_steps.turns 0 0 (map_back []) (view_of s34) refl refl (lit< tt) (record { out = λ e. cc; entries_are = left_out })))
       (goes (cores (pin_steps.turns 0 0 leave_turn (view_of s35) refl refl (lit< tt) (record { held = refl; home = refl; settled = refl })))
       (goes (cores (pin_steps.touches 0 0 pins.unpin (view_of s36) refl refl (lit< tt) (record { unlocked = refl; pinned = λ e. cc; no_content = refl; no_io = refl; no_wait = refl }) tt))

@@ -5,10 +5,10 @@ use lib.ListN.{get_elem?}
 use Rattle.pin_core.specs.declared.view.Content.TheVariants.{Exclusive}
 use Rattle.pin_core.specs.declared.view.Link.{Link}
 use Rattle.pin_core.specs.declared.view.View.{View}
-use Rattle.pin_core.specs.State.{Frame, Page, no_tag, idle, link, hold, local, new_view, spent_view, joined_view}
+use Rattle.pin_core.specs.State.{Frame, Page, no_tag, idle, link, hold, local, new_view, emptied_view, joined_view}
 use Rattle.pin_core.specs.State as below
 use Rattle.pin_core.specs.Tallies.{frame_shape}
-use Rattle.pin_core.specs.Lawful as pins
+use Rattle.pin_core.specs.Invariant as pins
 use Rattle.pin_core.specs.Kinds as pin_kinds
 use Rattle.pin_core.specs.Turns.{view_turned}
 use Rattle.pin_core.specs.Steps as pin_steps
@@ -17,8 +17,8 @@ use Rattle.pin_core.proofs.Views.{link_new}
 use Rattle.pin_core.proofs.Stepping as pin_stepping
 use Rattle.pin_core.proofs.Stepping.{local_keeps}
 use Rattle.page_core.specs.State.{Block, State, block_of}
-use Rattle.page_core.specs.Tallies.{Tally, pin, sharers, calms, aheads, copies, works, weigh, page_shape}
-use Rattle.page_core.specs.Lawful.{PageLink, page_part, pin_part, Lawful}
+use Rattle.page_core.specs.Tallies.{Tally, pin, sharers, applied_locks, unapplied_locks, copies, works, weigh, page_shape}
+use Rattle.page_core.specs.Invariant.{PageLink, page_part, pin_part, Invariant}
 use Rattle.page_core.specs.Kinds.{Kind, Allowed, frame_after, block_after, link_after, view_after}
 use Rattle.page_core.specs.Steps.{Event, logged_after, state_after, Step, cores, touches, Run, rests, goes}
 use Rattle.page_core.proofs.KeepingPages.{known}
@@ -35,10 +35,10 @@ pub to_pins : (n : ℕ) (frame : ℕ → Frame) (block : ℕ → Block) (views :
 to_pins n frame block views g = record { columns = g.columns; cells = g.cells }
 
 -- both laws of a state
-pub knows : (s : State) → Lawful s → Grid page_shape known s.core.frames s.core.frame (block_of s.logged) s.core.views
+pub knows : (s : State) → Invariant s → Grid page_shape known s.core.frames s.core.frame (block_of s.logged) s.core.views
 knows s h = both_grids (to_pages s.core.frames s.core.frame (block_of s.logged) s.core.views h.core.grid) h.pages
 
-module _ (s : State) (h : Lawful s) (i f : ℕ) (v : View) (there : get_elem? s.core.views i ≡ some v) (live : v.spent ≡ false) (inside : f < s.core.frames) where
+module _ (s : State) (h : Invariant s) (i f : ℕ) (v : View) (there : get_elem? s.core.views i ≡ some v) (live : v.emptied ≡ false) (inside : f < s.core.frames) where
   abbrev fr : Frame
   fr = s.core.frame f
 
@@ -82,9 +82,9 @@ module _ (s : State) (h : Lawful s) (i f : ℕ) (v : View) (there : get_elem? s.
     touched p grid keeps = touch page_shape known p s.core.frames s.core.frame (block_of s.logged) (block_of logged') s.core.views i f v w (frame_after k b fr) (link_after k b fr l) (knows s h) grid there inside relinked elsewhere
         (subst (λ (x : Block). Keeps page_shape known p b x tt tt fr l (frame_after k b fr) (link_after k b fr l)) (sym block_here) keeps)
 
-    pub kind_step_keeps : Lawful (state_after k s i f v)
+    pub kind_step_keeps : Invariant (state_after k s i f v)
     kind_step_keeps = record {
-      core = local_keeps s.core i f v w (frame_after k b fr) h.core there (record { spent = refl; number = refl; next = refl; links = length-set v.links f (link_after k b fr l); partitions = refl }) refl refl (tag_kept k b fr)
+      core = local_keeps s.core i f v w (frame_after k b fr) h.core there (record { emptied = refl; number = refl; next = refl; links = length-set v.links f (link_after k b fr l); partitions = refl }) refl refl (tag_kept k b fr)
           (to_pins s.core.frames (put s.core.frame f (frame_after k b fr)) (block_of logged') (set s.core.views i w) (touched pin_part (to_pages s.core.frames s.core.frame (block_of s.logged) s.core.views h.core.grid) (pins_kept k b fr l a)));
       pages = touched page_part h.pages (pages_kept k b fr l a);
     }
@@ -98,8 +98,8 @@ module _ (s : State) (h : Lawful s) (i f : ℕ) (v : View) (there : get_elem? s.
 none : (k : Tally) → weigh k idle ≡ 0
 none (pin k) = pin_stepping.idle_none k
 none sharers = refl
-none calms = refl
-none aheads = refl
+none applied_locks = refl
+none unapplied_locks = refl
 none copies = refl
 none works = refl
 
@@ -115,13 +115,13 @@ new_link b number n p m f fr = subst (PageLink b fr) (sym (link_new n p m number
 -- a view that has nothing at a frame may be forgotten there
 forgets : (b : Block) (fr : Frame) (l : Link) → IsFree l → Keeps page_shape known page_part b b tt tt fr l fr idle
 forgets b fr l a = record {
-  column = λ t t' q c sums le _. grind (arith, q, c, a, sums sharers, sums calms, sums aheads, sums copies, sums works);
+  column = λ t t' q c sums le _. grind (arith, q, c, a, sums sharers, sums applied_locks, sums unapplied_locks, sums copies, sums works);
   cell = λ t q le c. idle_link b fr;
   others = λ t n m q c le d. d.1;
 }
 
 -- the law of pages after a step of `pin_core`
-pages_below : (s : State) → Lawful s → {e : pin_steps.Event} {core' : below.State} → pin_steps.Step e s.core core' → Grid page_shape page_part core'.frames core'.frame (block_of s.logged) core'.views
+pages_below : (s : State) → Invariant s → {e : pin_steps.Event} {core' : below.State} → pin_steps.Step e s.core core' → Grid page_shape page_part core'.frames core'.frame (block_of s.logged) core'.views
 pages_below s h (pin_steps.touches i f k v there live inside a around) = below_step s h i f v there live inside k a
 pages_below s h (pin_steps.turns i p k v there live below a) = steady page_shape page_part s.core.frames s.core.frame (block_of s.logged) s.core.views h.pages i v (view_turned k p (hold v p) v) there refl (λ g. refl)
 pages_below s h (pin_steps.splits v there room) = let w : View = record v { next = v.next + 1 } in let n = length v.links in let p = length v.partitions in let m = length v.lanes in
@@ -130,13 +130,13 @@ pages_below s h (pin_steps.splits v there room) = let w : View = record v { next
 pages_below s h (pin_steps.joins j v u there other here live free) = let w : View = joined_view v u in
     let first = steady page_shape page_part s.core.frames s.core.frame (block_of s.logged) s.core.views h.pages 0 v w there refl (λ g. refl) in
     let core_first = steady page_shape pin_part s.core.frames s.core.frame (block_of s.logged) s.core.views (to_pages s.core.frames s.core.frame (block_of s.logged) s.core.views h.core.grid) 0 v w there refl (λ g. refl) in
-    sweep page_shape known page_part s.core.frames s.core.frame s.core.frame (block_of s.logged) (block_of s.logged) (set s.core.views 0 w) j u spent_view (both_grids core_first first) (set_else s.core.views 0 j w other ∙ here)
+    sweep page_shape known page_part s.core.frames s.core.frame s.core.frame (block_of s.logged) (block_of s.logged) (set s.core.views 0 w) j u emptied_view (both_grids core_first first) (set_else s.core.views 0 j w other ∙ here)
     (λ g inside. forgets (block_of s.logged (s.core.frame g).tag) (s.core.frame g) (link u g) (free.frames g))
 
-pub step_keeps : {e : Event} {s t : State} → Step e s t → Lawful s → Lawful t
+pub step_keeps : {e : Event} {s t : State} → Step e s t → Invariant s → Invariant t
 step_keeps (cores {s = s} x) h = record { core = pin_stepping.step_keeps x h.core; pages = pages_below s h x }
 step_keeps (touches {s = s} i f k v there live inside a around) h = kind_step_keeps s h i f v there live inside k a
 
-pub run_keeps : {es : List Event} {s t : State} → Run es s t → Lawful s → Lawful t
+pub run_keeps : {es : List Event} {s t : State} → Run es s t → Invariant s → Invariant t
 run_keeps rests h = h
 run_keeps (goes x r) h = run_keeps r (step_keeps x h)

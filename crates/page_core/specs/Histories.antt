@@ -9,7 +9,7 @@ use Rattle.pin_core.specs.declared.view.Io.TheVariants.{Quiet, Input, Output}
 use Rattle.pin_core.specs.declared.view.Role.TheVariants.{Absent}
 use Rattle.pin_core.specs.declared.view.View.{View}
 use Rattle.pin_core.specs.State.{Page, Config, CanOpen, link}
-use Rattle.pin_core.specs.Lawful.{HasTag}
+use Rattle.pin_core.specs.Invariant.{HasTag}
 use Rattle.page_core.specs.State.{State, opening}
 use Rattle.page_core.specs.Steps.{Event, Run}
 
@@ -70,13 +70,13 @@ pub record RightsNeedPins (s : State) : Type 0 where
 abbrev pub OnePageOut : State → Type 0
 OnePageOut s = (i j f : ℕ) (v u : View) → get_elem? s.core.views i ≡ some v → get_elem? s.core.views j ≡ some u → f < s.core.frames → (link v f).out ≢ None → (link u f).out ≢ None → i ≡ j
 
--- no view has made an entry for the frame's page and not yet changed it
-abbrev pub NoneAhead : State → ℕ → Type 0
-NoneAhead s f = (i : ℕ) (v : View) → get_elem? s.core.views i ≡ some v → (link v f).ahead ≡ false
+-- no view has an entry to apply to the frame's page
+abbrev pub NoneUnapplied : State → ℕ → Type 0
+NoneUnapplied s f = (i : ℕ) (v : View) → get_elem? s.core.views i ≡ some v → (link v f).unapplied ≡ false
 
--- the page of a valid frame is its block's page after the log, unless a view is ahead there
+-- the page of a valid frame is its block's page after the log, unless a view has an entry to apply there
 abbrev pub FramesHoldPages : State → Type 0
-FramesHoldPages s = (f : ℕ) → f < s.core.frames → HasTag (s.core.frame f) → (s.core.frame f).word.valid ≡ true → NoneAhead s f → (s.core.frame f).page ≡ s.logged (s.core.frame f).tag
+FramesHoldPages s = (f : ℕ) → f < s.core.frames → HasTag (s.core.frame f) → (s.core.frame f).word.valid ≡ true → NoneUnapplied s f → (s.core.frame f).page ≡ s.logged (s.core.frame f).tag
 
 -- so is a page that a view has copied under its content lock, and one that the lane gave under its input right
 pub record CopiesArePages (s : State) : Type 0 where

@@ -15,7 +15,7 @@ use Rattle.pin_core.specs.declared.view.Seen.TheVariants as seen
 use Rattle.pin_core.specs.declared.view.Link.{Link}
 use Rattle.pin_core.specs.declared.view.View.{View}
 use Rattle.pin_core.specs.State.{Frame, Page}
-use Rattle.pin_core.specs.Kinds.{released, look_of}
+use Rattle.pin_core.specs.Kinds.{released, load_of}
 use Rattle.page_core.specs.State.{Block}
 
 pub data Kind : Type 0 where
@@ -34,7 +34,7 @@ pub data Kind : Type 0 where
   leave_copy : Kind
   -- the page goes out to the backend
   page_out : Kind
-  -- a page that is out is overwritten by the image of the backend's entry
+  -- the backend's entry is applied: the page that is out is overwritten by its image
   overwrite_logged : Kind
   -- or by the page that the lane gave
   overwrite_read : Page → Kind
@@ -81,7 +81,7 @@ pub record CanUnshare (fr : Frame) (l : Link) : Type 0 where
 
 pub record CanUnexclude (fr : Frame) (l : Link) : Type 0 where
   pub right : l.content ≡ Exclusive
-  pub settled : l.ahead ≡ false
+  pub settled : l.unapplied ≡ false
   pub page_home : l.out ≡ None
 
 pub record CanTakeCopy (fr : Frame) (l : Link) : Type 0 where
@@ -92,7 +92,7 @@ pub record CanLeaveCopy (fr : Frame) (l : Link) : Type 0 where
   pub right : l.copying ≡ true
   pub page_home : l.out ≡ None
 
--- the exclusive lock, the copy turn, or the input right
+-- the exclusive lock, the copy latch, or the input right
 pub record CanTakePage (fr : Frame) (l : Link) : Type 0 where
   pub page_home : l.out ≡ None
   pub shared : l.content ≡ Shared → l.copying ≡ true
@@ -102,7 +102,7 @@ pub record CanTakePage (fr : Frame) (l : Link) : Type 0 where
 pub record CanOverwriteLogged (fr : Frame) (l : Link) : Type 0 where
   pub out : l.out ≢ None
   pub once : l.overwritten ≡ None
-  pub ahead : l.ahead ≡ true
+  pub unapplied : l.unapplied ≡ true
 
 pub record CanOverwriteRead (p : Page) (fr : Frame) (l : Link) : Type 0 where
   pub out : l.out ≢ None
@@ -123,7 +123,7 @@ pub record CanNoteWrite (fr : Frame) (l : Link) : Type 0 where
 pub record CanMakeEntry (fr : Frame) (l : Link) : Type 0 where
   pub right : l.content ≡ Exclusive
   pub dirtied : l.dirtied ≡ true
-  pub settled : l.ahead ≡ false
+  pub settled : l.unapplied ≡ false
 
 -- the header, and the view has no input or output right, here or elsewhere (`AllowedAround`)
 pub record CanStartInput (fr : Frame) (l : Link) : Type 0 where
@@ -211,11 +211,11 @@ abbrev pub block_after : Kind → Block → Block
 block_after (make_entry p) b = record b { logged = p }
 block_after _ b = b
 
--- under a content lock, and not ahead, the page that comes back is noted as copied
+-- under a content lock, with no entry to apply, the page that comes back is noted as copied
 abbrev pub copied_after : Content → Bool → Page → Option Page → Option Page
-copied_after Unlocked ahead p copied = copied
-copied_after Shared ahead p copied = if ahead then copied else Some p
-copied_after Exclusive ahead p copied = if ahead then copied else Some p
+copied_after Unlocked unapplied p copied = copied
+copied_after Shared unapplied p copied = if unapplied then copied else Some p
+copied_after Exclusive unapplied p copied = if unapplied then copied else Some p
 
 -- under an input right a page that comes back overwritten is the one that was read
 abbrev pub home_after : Option Page → Bool → Bool
@@ -237,21 +237,21 @@ link_after unexclude b fr l = record l { content = Unlocked; copied = None; dirt
 link_after take_copy b fr l = record l { copying = true }
 link_after leave_copy b fr l = record l { copying = false }
 link_after page_out b fr l = record l { out = Some fr.page }
-link_after overwrite_logged b fr l = record l { overwritten = Some b.logged; ahead = false }
+link_after overwrite_logged b fr l = record l { overwritten = Some b.logged; unapplied = false }
 link_after (overwrite_read p) b fr l = record l { overwritten = Some p }
-link_after page_back b fr l = record l { out = None; overwritten = None; copied = copied_after l.content l.ahead fr.page l.copied; read_is_home = home_after l.overwritten l.read_is_home }
+link_after page_back b fr l = record l { out = None; overwritten = None; copied = copied_after l.content l.unapplied fr.page l.copied; read_is_home = home_after l.overwritten l.read_is_home }
 link_after (note_read p) b fr l = record l { read = Some p; read_is_home = false }
 link_after (note_write done) b fr l = record l { last_write = write_noted done }
-link_after (make_entry p) b fr l = record l { ahead = true; copied = None }
+link_after (make_entry p) b fr l = record l { unapplied = true; copied = None }
 link_after start_input b fr l = record l { header = None; io = Input; read = None; read_is_home = false }
 link_after start_output b fr l = record l { header = None; io = Output }
 link_after clear_just_dirtied b fr l = record l { header = None }
 link_after (end_io end) b fr l = record l { header = None; io = Quiet; read = None; read_is_home = false; last_write = Unwritten }
 
--- whether a kind marks the view: it may have changed a page that must be written
-abbrev pub marks : Kind → Bool
-marks mark_dirty = true
-marks _ = false
+-- whether a kind dirties the view: it may have changed a page that must be written
+abbrev pub dirties : Kind → Bool
+dirties mark_dirty = true
+dirties _ = false
 
 abbrev pub starts_output : Kind → Bool
 starts_output start_output = true
@@ -276,9 +276,9 @@ steps_of _ = 1
 abbrev pub view_after : Kind → ℕ → Block → Frame → Link → View → View
 view_after k f b fr l v = record v {
   links = slice_set v.links f (link_after k b fr l);
-  looks = v.looks ++ map (look_of v) (seen_by k f fr);
+  loads = v.loads ++ map (load_of v) (seen_by k f fr);
   steps = v.steps + steps_of k;
-  marked = v.marked || marks k;
+  dirtied_or_synced = v.dirtied_or_synced || dirties k;
   had_output = v.had_output || starts_output k;
   last_ended = ended_after k fr v.last_ended;
 }

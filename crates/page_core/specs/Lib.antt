@@ -1,6 +1,6 @@
 pub mod State
 pub mod Tallies
-pub mod Lawful
+pub mod Invariant
 pub mod Kinds
 pub mod Steps
 pub mod Histories

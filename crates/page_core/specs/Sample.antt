@@ -28,7 +28,7 @@ sample_start = opening sample_config (λ _. sample_page) []
 abbrev pub sample_entry : MapEntry
 sample_entry = record { tag = 7; frame = 0 }
 
--- a step of the one backend, at the one frame or the one turn
+-- a step of the one backend, at the one frame or the one latch
 abbrev pub pool : pins.Kind → Event
 pool k = pins_and_maps (pin_steps.at 0 0 k)
 
@@ -38,7 +38,7 @@ turn k = pins_and_maps (pin_steps.turn 0 0 k)
 abbrev pub page : Kind → Event
 page k = at 0 0 k
 
--- the frame is given the block 7, under the turn of its partition
+-- the frame is given the block 7, under the latch of its partition
 abbrev pub miss : List Event
 miss = turn take_turn ∷ pool pins.lock_header ∷ pool pins.pin_victim ∷ pool pins.lock_header ∷ pool (pins.store_tag 7) ∷ pool pins.assign ∷ turn (map_out []) ∷ turn change_map ∷ turn (map_back (sample_entry ∷ [])) ∷ turn leave_turn ∷ []
 

@@ -43,7 +43,7 @@ pub data Event : Type 0 where
 abbrev pub logged_after : Kind → (ℕ → pins.Page) → ℕ → ℕ → pins.Page
 logged_after k logged tag = put logged tag (block_after k (block_of logged tag)).logged
 
--- the state after a step of the kind k at the frame f by the backend at the seat i, whose view is v
+-- the state after a step of the kind k at the frame f by backend i, whose view is v
 abbrev pub state_after : Kind → State → ℕ → ℕ → View → State
 state_after k s i f v = let fr = s.core.frame f in let b = block_of s.logged fr.tag in record {
   core = local s.core i f (frame_after k b fr) (view_after k f b fr (link v f) v);
@@ -53,8 +53,8 @@ state_after k s i f v = let fr = s.core.frame f in let b = block_of s.logged fr.
 pub data Step : Event → State → State → Type 0 where
   -- a step of `pin_core`
   cores : {s : State} {e : pin_steps.Event} {core' : pins.State} → pin_steps.Step e s.core core' → Step (pins_and_maps e) s (record s { core = core' })
-  -- a step of the kind k at the frame f by the backend at the seat i, whose view is v
-  touches : {s : State} (i f : ℕ) (k : Kind) (v : View) → get_elem? s.core.views i ≡ some v → v.spent ≡ false → f < s.core.frames → Allowed k (block_of s.logged (s.core.frame f).tag) (s.core.frame f) (link v f) → AllowedAround k v f
+  -- a step of the kind k at the frame f by backend i, whose view is v
+  touches : {s : State} (i f : ℕ) (k : Kind) (v : View) → get_elem? s.core.views i ≡ some v → v.emptied ≡ false → f < s.core.frames → Allowed k (block_of s.logged (s.core.frame f).tag) (s.core.frame f) (link v f) → AllowedAround k v f
       → Step (at i f k) s (state_after k s i f v)
 
 -- the events lead from one state to the other

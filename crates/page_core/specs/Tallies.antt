@@ -17,10 +17,10 @@ pub data Tally : Type 0 where
   pin : pins.Tally → Tally
   -- the views that share the content lock
   sharers : Tally
-  -- those that have it exclusively, and whose page isn't ahead
-  calms : Tally
-  -- those whose entry is in the log, and whose page isn't changed yet
-  aheads : Tally
+  -- those that have it exclusively, with no entry to apply
+  applied_locks : Tally
+  -- those whose entry is in the log, and not yet applied to the page
+  unapplied_locks : Tally
   -- those that may take the page out to copy it
   copies : Tally
   -- those that have an input or output right
@@ -44,8 +44,8 @@ work_weight Output = 1
 abbrev pub weigh : Tally → Link → ℕ
 weigh (pin k) l = pins.weigh k l
 weigh sharers l = share_weight l.content
-weigh calms l = unless_flag l.ahead (exclusive_weight l.content)
-weigh aheads l = flag_weight l.ahead
+weigh applied_locks l = unless_flag l.unapplied (exclusive_weight l.content)
+weigh unapplied_locks l = flag_weight l.unapplied
 weigh copies l = flag_weight l.copying
 weigh works l = work_weight l.io
 

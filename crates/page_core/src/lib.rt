@@ -7,7 +7,7 @@ ghost use Rattle.std.specs.Prelude.{ℕ, ◌<◌, List};
 ghost use Rattle.pin_core.specs.State.{CanOpen, Config, Page};
 ghost use Rattle.pin_core.specs.Schedules.{TagsAreUnique, PinsAreCounted, PinsRemember, MapsAreExact};
 ghost use Rattle.page_core.specs.State.{State, opening};
-ghost use Rattle.page_core.specs.Lawful.{Lawful};
+ghost use Rattle.page_core.specs.Invariant.{Invariant};
 ghost use Rattle.page_core.specs.Steps.{Event, Run};
 ghost use Rattle.page_core.specs.Histories.{IsReached, ContentLocks, OneIo, RightsNeedPins, OnePageOut, FramesHoldPages, CopiesArePages};
 ghost use Rattle.page_core.specs.Sample.{SampleRuns};
@@ -15,8 +15,8 @@ ghost use Rattle.page_core.specs.Sample.{SampleRuns};
 /// What every list of events keeps, whatever the backends do and in whatever order.
 pub fn all_histories()
     // From every state that has the law every list of events leads to one that has it, and the state at the start has it.
-    ensures kept { (es : List Event) (s : State) (t : State) → Lawful s → Run es s t → Lawful t }
-    ensures opens { (config : Config) (origin : ℕ → Page) (page : Page) → CanOpen config → Lawful (opening config origin page) }
+    ensures kept { (es : List Event) (s : State) (t : State) → Invariant s → Run es s t → Invariant t }
+    ensures opens { (config : Config) (origin : ℕ → Page) (page : Page) → CanOpen config → Invariant (opening config origin page) }
 
     // So in every state that events lead to, of pins, tags and maps:
     ensures counted { (s : State) → IsReached s → PinsAreCounted s.core }

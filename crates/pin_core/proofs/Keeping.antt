@@ -3,7 +3,7 @@ use Rattle.std.proofs.Common.{◌≡◌, ◌≢◌, ℕ, Bool, arith}
 use Rattle.pin_core.specs.declared.view.Link.{Link}
 use Rattle.pin_core.specs.State.{Frame, no_tag}
 use Rattle.pin_core.specs.Tallies.{pins, headers, pendings, settled_pins, settled_headers, frame_shape}
-use Rattle.pin_core.specs.Lawful.{pin_part}
+use Rattle.pin_core.specs.Invariant.{pin_part}
 use Rattle.pin_core.specs.Kinds as kinds
 use Rattle.pin_core.specs.Kinds.{Kind, Allowed, frame_after, link_after}
 use Rattle.grid.proofs.Grids.{Keeps}

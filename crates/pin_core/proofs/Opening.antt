@@ -4,7 +4,7 @@ use lib.ListN.{length-replicate}
 use Rattle.pin_core.specs.declared.view.View.{View}
 use Rattle.pin_core.specs.State.{Config, CanOpen, Page, no_tag, link, hold, idle, no_partition, first_view, empty_frame, empty_partition, opening}
 use Rattle.pin_core.specs.Tallies.{Tally, pins, headers, pendings, settled_pins, settled_headers, weigh, frame_shape}
-use Rattle.pin_core.specs.Lawful.{FrameLaw, LinkLaw, live_weight, Lawful}
+use Rattle.pin_core.specs.Invariant.{FrameLaw, LinkLaw, live_weight, Invariant}
 use Rattle.pin_core.specs.declared.view.MapChange.TheVariants.{Settled}
 use Rattle.pin_core.specs.Maps.{PairLaw}
 use Rattle.pin_core.specs.Turns.{TurnTally, holders, TurnLaw, HoldLaw, turn_shape}
@@ -29,11 +29,11 @@ empty_turn_law t e = grind (arith, e holders)
 empty_pair : (tag f : ℕ) → tag ≢ no_tag → PairLaw None Settled no_tag tag f
 empty_pair tag f named = grind (arith, named)
 
-one_backend : (n p m : ℕ) (v : View) → first_view n p m ≡ v → total (λ (u : View). live_weight u.spent) (first_view n p m ∷ []) + v.joined ≡ 1
+one_backend : (n p m : ℕ) (v : View) → first_view n p m ≡ v → total (λ (u : View). live_weight u.emptied) (first_view n p m ∷ []) + v.joined ≡ 1
 unfolding total
 one_backend n p m v e = let j : v.joined ≡ 0 = ap (λ (x : View). x.joined) (sym e) in omega arith
 
-pub opens : (c : Config) (page : Page) → CanOpen c → Lawful (opening c page)
+pub opens : (c : Config) (page : Page) → CanOpen c → Invariant (opening c page)
 opens c page can = let n = c.frames in let p = c.partitions in let m = c.lanes in let w : View = first_view n p m in record {
   grid = record {
     columns = λ f below. empty_frame_law page (tallies frame_shape (w ∷ []) f) (no_sums n p m f);
@@ -50,7 +50,7 @@ opens c page can = let n = c.frames in let p = c.partitions in let m = c.lanes i
   views = record {
     wide = λ i v there live. subst (λ (x : View). (length x.links ≡ n) × (length x.partitions ≡ p)) (at_only w v i there).0 (length-replicate n idle, length-replicate p no_partition);
     numbered = λ i v there live. let e = at_only w v i there in ap (λ (x : View). x.number) (sym e.0) ∙ sym e.1;
-    first = λ v there. let e = (at_only w v 0 there).0 in (ap (λ (x : View). x.spent) (sym e), ap (λ (x : View). x.next) (sym e));
+    first = λ v there. let e = (at_only w v 0 there).0 in (ap (λ (x : View). x.emptied) (sym e), ap (λ (x : View). x.next) (sym e));
     few = let some = can.some_backend in omega arith;
   };
 }

@@ -1,4 +1,4 @@
--- Each kind of step at a turn keeps the law of turns, and so does a pair that is named.
+-- Each kind of step at a latch keeps the law of latches, and so does a pair that is named.
 use Rattle.std.proofs.Common.{◌≡◌, true, false, arith, None}
 use Rattle.pin_core.specs.declared.view.MapChange.{MapChange}
 use Rattle.pin_core.specs.declared.view.MapChange.TheVariants.{Settled}
@@ -38,17 +38,17 @@ turn_keeps (map_back entries) pt h a = record {
 }
 
 -- the holder names a pair
-pub naming_keeps : (pt : Partition) (h : PartitionHold) (c : MapChange) → h.held ≡ true → h.spent ≡ false → h.change ≡ Settled → TurnKeeps pt h (record pt { owed = c }) (record h { change = c })
+pub naming_keeps : (pt : Partition) (h : PartitionHold) (c : MapChange) → h.held ≡ true → h.changed ≡ false → h.change ≡ Settled → TurnKeeps pt h (record pt { owed = c }) (record h { change = c })
 naming_keeps pt h new a b e = record {
   column = λ t t' q c sums le _. grind (arith, q, c, a, b, e, sums holders, le holders);
   cell = λ t q le c. grind (arith, q, c, a, b, e, le holders);
   others = λ t n m q c le d. grind (arith, q, c, d, a, b, e, le holders);
 }
 
--- who doesn't hold a turn may be forgotten there
-pub turn_forgets : (pt : Partition) (h h' : PartitionHold) → h.held ≡ false → h'.held ≡ false → h'.out ≡ None → h'.change ≡ Settled → h'.spent ≡ false → TurnKeeps pt h pt h'
-turn_forgets pt h h' a b out settled unspent = record {
+-- who doesn't hold a latch may be forgotten there
+pub turn_forgets : (pt : Partition) (h h' : PartitionHold) → h.held ≡ false → h'.held ≡ false → h'.out ≡ None → h'.change ≡ Settled → h'.changed ≡ false → TurnKeeps pt h pt h'
+turn_forgets pt h h' a b out settled unchanged = record {
   column = λ t t' q c sums le _. grind (arith, q, c, a, b, sums holders, le holders);
-  cell = λ t q le c. grind (arith, b, out, settled, unspent);
+  cell = λ t q le c. grind (arith, b, out, settled, unchanged);
   others = λ t n m q c le d. d;
 }

@@ -11,7 +11,7 @@ use Rattle.pin_core.specs.declared.view.MapChange.TheVariants.{Settled, Entering
 use Rattle.pin_core.specs.declared.view.PartitionHold.{PartitionHold}
 use Rattle.pin_core.specs.declared.view.Seen.{Seen}
 use Rattle.pin_core.specs.declared.view.Seen.TheVariants as seen
-use Rattle.pin_core.specs.declared.view.Look.{Look}
+use Rattle.pin_core.specs.declared.view.Load.{Load}
 use Rattle.pin_core.specs.declared.view.Link.{Link}
 use Rattle.pin_core.specs.declared.view.View.{View}
 use Rattle.pin_core.specs.State.{Frame, Partition, no_tag, hold, is_pin}
@@ -22,7 +22,7 @@ pub data Kind : Type 0 where
   load_state : Kind
   -- a pin of a frame that has BM_TAG_VALID, for a ring or not (`PinBuffer`)
   pin : Bool → Kind
-  -- a pin of the frame that the map gives for the tag, under the turn of the tag's partition (`BufferAlloc`, where the block is found)
+  -- a pin of the frame that the map gives for the tag, under the latch of the tag's partition (`BufferAlloc`, where the block is found)
   pin_mapped : ℕ → Bool → Kind
   -- the last pin of the backend is given up (`UnpinBuffer`)
   unpin : Kind
@@ -99,13 +99,13 @@ pub record IsAlone (fr : Frame) (l : Link) : Type 0 where
   pub no_content : l.content ≡ Unlocked
   pub no_io : l.io ≡ Quiet
 
--- the view has the turn of the tag's partition, whose map lacks the tag, besides (`AllowedAround`)
+-- the view has the latch of the tag's partition, whose map lacks the tag, besides (`AllowedAround`)
 pub record CanStoreTag (tag : ℕ) (fr : Frame) (l : Link) : Type 0 where
   pub alone : IsAlone fr l
   pub named : tag ≢ no_tag
   pub untagged : fr.word.tag_valid ≡ false
 
--- the view has the turn of its partition, besides (`AllowedAround`)
+-- the view has the latch of its partition, besides (`AllowedAround`)
 pub record CanEraseTag (fr : Frame) (l : Link) : Type 0 where
   pub alone : IsAlone fr l
   pub named : fr.tag ≢ no_tag
@@ -208,8 +208,8 @@ steps_of load_tag = 0
 steps_of _ = 1
 
 -- a look of the view at what was seen
-abbrev pub look_of : View → Seen → Look
-look_of v what = record { seen = what; pins = map (λ (l : Link). is_pin l.role) v.links; steps = v.steps }
+abbrev pub load_of : View → Seen → Load
+load_of v what = record { seen = what; pins = map (λ (l : Link). is_pin l.role) v.links; steps = v.steps }
 
 -- the pair that a kind at the frame f names in change
 abbrev pub named_by : Kind → ℕ → Frame → MapChange
@@ -217,13 +217,13 @@ named_by (store_tag tag) f fr = Entering tag f
 named_by erase_tag f fr = Leaving fr.tag f
 named_by _ f fr = Settled
 
--- the partitions, where the holder of a turn has named the pair
+-- the partitions, where the holder of a latch has named the pair
 abbrev pub partitions_owing : MapChange → (ℕ → ℕ) → (ℕ → Partition) → ℕ → Partition
 partitions_owing Settled partition_of parts = parts
 partitions_owing (Entering tag f) partition_of parts = put parts (partition_of tag) (record (parts (partition_of tag)) { owed = Entering tag f })
 partitions_owing (Leaving tag f) partition_of parts = put parts (partition_of tag) (record (parts (partition_of tag)) { owed = Leaving tag f })
 
--- what a view has of the turns, where it has named the pair
+-- what a view has of the latches, where it has named the pair
 abbrev pub holds_naming : MapChange → (ℕ → ℕ) → View → List PartitionHold
 holds_naming Settled partition_of v = v.partitions
 holds_naming (Entering tag f) partition_of v = slice_set v.partitions (partition_of tag) (record (hold v (partition_of tag)) { change = Entering tag f })
@@ -234,6 +234,6 @@ abbrev pub view_after : Kind → (ℕ → ℕ) → ℕ → Frame → Link → Vi
 view_after k partition_of f fr l v = record v {
   links = slice_set v.links f (link_after k fr l);
   partitions = holds_naming (named_by k f fr) partition_of v;
-  looks = v.looks ++ map (look_of v) (seen_by k f fr);
+  loads = v.loads ++ map (load_of v) (seen_by k f fr);
   steps = v.steps + steps_of k;
 }

@@ -20,7 +20,7 @@ sample_start = opening sample_config []
 abbrev pub sample_entry : MapEntry
 sample_entry = record { tag = 7; frame = 0 }
 
--- the first backend gives the block 7 the first frame, under the turn of its partition
+-- the first backend gives the block 7 the first frame, under the latch of its partition
 abbrev pub miss_events : List Event → List Event
 miss_events then = turn 0 0 take_turn ∷ at 0 0 lock_header ∷ at 0 0 pin_victim ∷ at 0 0 lock_header ∷ at 0 0 (store_tag 7) ∷ at 0 0 assign ∷ turn 0 0 (map_out []) ∷ turn 0 0 change_map ∷ turn 0 0 (map_back (sample_entry ∷ [])) ∷ turn 0 0 leave_turn ∷ then
 
@@ -33,7 +33,7 @@ pub record SampleEnd (t : State) : Type 0 where
   -- the first frame has the tag, one pin, and a usage count of 2: 1 from the miss and 1 from the hit
   pub tag : (t.frame 0).tag ≡ 7
   pub word : (t.frame 0).word ≡ record zero_word { pins = 1; usage = 2; tag_valid = true; permanent = true }
-  -- the map gives it for the tag, and the turn is free
+  -- the map gives it for the tag, and the latch is free
   pub mapped : ((t.partition 0).map 7 ≡ Some 0) × ((t.partition 0).taken ≡ false)
   -- the pin is the second backend's, which knows the tag
   pub hit : (v : View) × (get_elem? t.views 1 ≡ some v) × ((link v 0).role ≡ HandedOut) × ((link v 0).tag ≡ Some 7)

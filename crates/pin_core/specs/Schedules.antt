@@ -7,7 +7,7 @@ use Rattle.pin_core.specs.declared.view.Role.TheVariants.{HandedOut}
 use Rattle.pin_core.specs.declared.view.MapChange.TheVariants.{Settled, Entering, Leaving}
 use Rattle.pin_core.specs.declared.view.View.{View}
 use Rattle.pin_core.specs.State.{Page, State, Config, CanOpen, no_tag, link, hold, pins_frame, opening}
-use Rattle.pin_core.specs.Lawful.{HasTag}
+use Rattle.pin_core.specs.Invariant.{HasTag}
 use Rattle.pin_core.specs.Kinds.{unpin}
 use Rattle.pin_core.specs.Steps.{Event, at, Run}
 
@@ -51,11 +51,11 @@ HoldersHaveTheWord s = (i f : ℕ) (v : View) (w : StateWord) → get_elem? s.vi
 abbrev pub PinsRemember : State → Type 0
 PinsRemember s = (i f : ℕ) (v : View) (tag : ℕ) → get_elem? s.views i ≡ some v → f < s.frames → (link v f).tag ≡ Some tag → HasTag (s.frame f) × ((s.frame f).tag ≡ tag)
 
--- the backend at the seat i has a handed-out pin of the frame f
+-- backend i has a handed-out pin of the frame f
 abbrev pub IsHandedOut : State → ℕ → ℕ → Type 0
 IsHandedOut s i f = (v : View) × (get_elem? s.views i ≡ some v) × (f < s.frames) × ((link v f).role ≡ HandedOut)
 
--- none of the events is the unpin of the frame f by the backend at the seat i
+-- none of the events is the unpin of the frame f by backend i
 abbrev pub HasNoUnpin : ℕ → ℕ → List Event → Type 0
 HasNoUnpin i f [] = Unit {0}
 HasNoUnpin i f (e ∷ es) = (e ≢ at i f unpin) × HasNoUnpin i f es
@@ -74,10 +74,10 @@ PinnedTagsStay s = (i f : ℕ) (es : List Event) (t : State) → IsHandedOut s i
 abbrev pub MapsAreExact : State → Type 0
 MapsAreExact s = (tag f : ℕ) → tag ≢ no_tag → f < s.frames → let part = s.partition (s.partition_of tag) in part.owed ≢ Entering tag f → part.owed ≢ Leaving tag f → (part.map tag ≡ Some f) ↔ ((s.frame f).tag ≡ tag)
 
--- whether the view holds the turn of the partition p
+-- whether the view holds the latch of the partition p
 abbrev pub holds_turn : ℕ → View → Bool
 holds_turn p v = (hold v p).held
 
--- one view holds a turn that is taken, and none one that is free, where no pair is in change
+-- one view holds a latch that is taken, and none one that is free, where no pair is in change
 abbrev pub TurnsAreHeld : State → Type 0
 TurnsAreHeld s = (p : ℕ) → p < s.partitions → (count_by (holds_turn p) s.views ≡ (if (s.partition p).taken then 1 else 0)) × ((s.partition p).taken ≡ false → (s.partition p).owed ≡ Settled)

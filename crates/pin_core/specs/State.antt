@@ -35,13 +35,13 @@ pub record Frame : Type 0 where
   pub copying : Bool
   pub page : Page
 
--- A partition of the mapping table, with its turn (`BufMappingPartitionLock`)
+-- A partition of the mapping table, with its latch (`BufMappingPartitionLock`)
 pub record Partition : Type 0 where
-  -- whether a backend has the turn
+  -- whether a backend has the latch
   pub taken : Bool
   -- the frame that the map gives for a tag
   pub map : ℕ → Option ℕ
-  -- the pair that the holder of the turn has named, and not yet entered or left out
+  -- the pair that the holder of the latch has named, and not yet entered or left out
   pub owed : MapChange
 
 -- The buffer pool, and what each backend knows
@@ -72,7 +72,7 @@ idle = record {
   content = Unlocked;
   copying = false;
   dirtied = false;
-  ahead = false;
+  unapplied = false;
   copied = None;
   io = Quiet;
   read = None;
@@ -86,7 +86,7 @@ idle = record {
 }
 
 abbrev pub no_partition : PartitionHold
-no_partition = record { held = false; change = Settled; out = None; spent = false }
+no_partition = record { held = false; change = Settled; out = None; changed = false }
 
 abbrev pub no_lane : LaneHold
 no_lane = record { held = false; out = None; change = lane_change.Untouched; flushed = 0 }
@@ -94,11 +94,11 @@ no_lane = record { held = false; out = None; change = lane_change.Untouched; flu
 abbrev pub no_log : LogHold
 no_log = record { held = false; out = None; change = log_change.Untouched; appended = None; synced = false }
 
--- what a view has of the turn of the partition p
+-- what a view has of the latch of the partition p
 abbrev pub hold : View → ℕ → PartitionHold
 hold v p = slice_index_or v.partitions p no_partition
 
--- what a view has of the turn of the lane n
+-- what a view has of the latch of the lane n
 abbrev pub lane_hold : View → ℕ → LaneHold
 lane_hold v n = slice_index_or v.lanes n no_lane
 
@@ -122,7 +122,7 @@ new_view number frames partitions lanes = record {
   number = number;
   next = 0;
   joined = 0;
-  spent = false;
+  emptied = false;
   links = replicate frames idle;
   partitions = replicate partitions no_partition;
   lanes = replicate lanes no_lane;
@@ -132,13 +132,13 @@ new_view number frames partitions lanes = record {
   front = 0;
   place_loads = 0;
   steps = 0;
-  looks = [];
+  loads = [];
   upto = 0;
   kept = [];
   device_calls = [];
   met = record { reads = 0; writes = 0; logs = 0 };
   saw_down = false;
-  marked = false;
+  dirtied_or_synced = false;
   had_output = false;
   last_ended = None;
 }
@@ -148,8 +148,8 @@ abbrev pub first_view : ℕ → ℕ → ℕ → View
 first_view frames partitions lanes = record (new_view 0 frames partitions lanes) { next = 1 }
 
 -- what is left of a view that was joined into the first
-abbrev pub spent_view : View
-spent_view = record (new_view 0 0 0 0) { spent = true }
+abbrev pub emptied_view : View
+emptied_view = record (new_view 0 0 0 0) { emptied = true }
 
 abbrev pub sum_of_met : Met → Met → Met
 sum_of_met a b = record { reads = a.reads + b.reads; writes = a.writes + b.writes; logs = a.logs + b.logs }
@@ -167,11 +167,11 @@ joined_view v u = record v {
   kept = v.kept ++ kept_checkpoint u ∷ u.kept;
   met = sum_of_met v.met u.met;
   saw_down = v.saw_down || u.saw_down;
-  marked = v.marked || u.marked;
+  dirtied_or_synced = v.dirtied_or_synced || u.dirtied_or_synced;
   had_output = v.had_output || u.had_output;
 }
 
--- the frame f and the view of the seat i change, and nothing else
+-- the frame f and the view of backend i change, and nothing else
 abbrev pub local : State → ℕ → ℕ → Frame → View → State
 local s i f fr w = record s { frame = put s.frame f fr; views = slice_set s.views i w }
 
@@ -179,9 +179,9 @@ local s i f fr w = record s { frame = put s.frame f fr; views = slice_set s.view
 abbrev pub split_state : State → View → State
 split_state s v = record s { views = slice_set s.views 0 (record v { next = v.next + 1 }) ++ new_view v.next (length v.links) (length v.partitions) (length v.lanes) ∷ [] }
 
--- the backend at the seat j, whose view is u, is joined into the first, whose view is v
+-- backend j, whose view is u, is joined into the first, whose view is v
 abbrev pub joined_state : State → View → ℕ → View → State
-joined_state s v j u = record s { views = slice_set (slice_set s.views 0 (joined_view v u)) j spent_view }
+joined_state s v j u = record s { views = slice_set (slice_set s.views 0 (joined_view v u)) j emptied_view }
 
 -- a state word with no flag set and every number 0
 abbrev pub zero_word : StateWord

@@ -21,10 +21,10 @@ HoldsNoHeader v = (f : ℕ) → (link v f).header ≡ None
 abbrev pub HasNoVictim : View → Type 0
 HasNoVictim v = (f : ℕ) → (link v f).role ≢ Victim
 
--- The view has the turn of the tag's partition, whose one change is not made, and names no pair in change
+-- The view has the latch of the tag's partition, whose one change is not made, and names no pair in change
 pub record MayName (s : State) (v : View) (tag : ℕ) : Type 0 where
   pub held : (hold v (s.partition_of tag)).held ≡ true
-  pub unspent : (hold v (s.partition_of tag)).spent ≡ false
+  pub unchanged : (hold v (s.partition_of tag)).changed ≡ false
   pub settled : (p : ℕ) → (hold v p).change ≡ Settled
 
 -- and the map lacks the tag
@@ -32,7 +32,7 @@ pub record MayEnter (s : State) (v : View) (tag : ℕ) : Type 0 where
   pub naming : MayName s v tag
   pub lacking : (s.partition (s.partition_of tag)).map tag ≡ None
 
--- the view has the turn of the tag's partition, whose map gives the frame, and names no pair in change there
+-- the view has the latch of the tag's partition, whose map gives the frame, and names no pair in change there
 pub record IsMapped (s : State) (v : View) (tag f : ℕ) : Type 0 where
   pub held : (hold v (s.partition_of tag)).held ≡ true
   pub settled : (hold v (s.partition_of tag)).change ≡ Settled
@@ -47,7 +47,7 @@ AllowedAround erase_tag s v f = MayName s v (s.frame f).tag
 AllowedAround (pin_mapped tag ring) s v f = IsMapped s v tag f
 AllowedAround _ s v f = Unit {0}
 
--- What happens: a backend's step at a frame, or at a partition's turn, a new backend, or the end of one
+-- What happens: a backend's step at a frame, or at a partition's latch, a new backend, or the end of one
 pub data Event : Type 0 where
   at : ℕ → ℕ → Kind → Event
   turn : ℕ → ℕ → TurnKind → Event
@@ -70,7 +70,7 @@ pub record HoldsNothing (v : View) : Type 0 where
   pub lanes : (n : ℕ) → (lane_hold v n).held ≡ false
   pub log : v.log.held ≡ false
 
--- the state after a step of the kind k at the frame f by the backend at the seat i, whose view is v
+-- the state after a step of the kind k at the frame f by backend i, whose view is v
 abbrev pub state_after : Kind → State → ℕ → ℕ → View → State
 state_after k s i f v = record s {
   frame = put s.frame f (frame_after k (s.frame f));
@@ -86,14 +86,14 @@ state_turned k s i p v = record s {
 }
 
 pub data Step : Event → State → State → Type 0 where
-  -- a step of the kind k at the frame f by the backend at the seat i, whose view is v
-  touches : {s : State} (i f : ℕ) (k : Kind) (v : View) → get_elem? s.views i ≡ some v → v.spent ≡ false → f < s.frames → Allowed k (s.frame f) (link v f) → AllowedAround k s v f → Step (at i f k) s (state_after k s i f v)
+  -- a step of the kind k at the frame f by backend i, whose view is v
+  touches : {s : State} (i f : ℕ) (k : Kind) (v : View) → get_elem? s.views i ≡ some v → v.emptied ≡ false → f < s.frames → Allowed k (s.frame f) (link v f) → AllowedAround k s v f → Step (at i f k) s (state_after k s i f v)
   -- a step of the kind k at the partition p, likewise
-  turns : {s : State} (i p : ℕ) (k : TurnKind) (v : View) → get_elem? s.views i ≡ some v → v.spent ≡ false → p < s.partitions → TurnAllowed k (s.partition p) (hold v p) → Step (turn i p k) s (state_turned k s i p v)
+  turns : {s : State} (i p : ℕ) (k : TurnKind) (v : View) → get_elem? s.views i ≡ some v → v.emptied ≡ false → p < s.partitions → TurnAllowed k (s.partition p) (hold v p) → Step (turn i p k) s (state_turned k s i p v)
   -- a new backend starts, with the first one's next number
   splits : {s : State} (v : View) → get_elem? s.views 0 ≡ some v → v.next < s.backends → Step split s (split_state s v)
-  -- the backend at the seat j, which holds nothing, is joined into the first
-  joins : {s : State} (j : ℕ) (v u : View) → get_elem? s.views 0 ≡ some v → j ≢ 0 → get_elem? s.views j ≡ some u → u.spent ≡ false → HoldsNothing u → Step (join j) s (joined_state s v j u)
+  -- backend j, which holds nothing, is joined into the first
+  joins : {s : State} (j : ℕ) (v u : View) → get_elem? s.views 0 ≡ some v → j ≢ 0 → get_elem? s.views j ≡ some u → u.emptied ≡ false → HoldsNothing u → Step (join j) s (joined_state s v j u)
 
 -- the events lead from one state to the other
 pub data Run : List Event → State → State → Type 0 where

@@ -1,4 +1,4 @@
--- The turns of the partitions: the kinds of step at one, and what holds of it.
+-- The latches of the partitions: the kinds of step at one, and what holds of it.
 use Rattle.std.specs.Prelude.{◌≡◌, ◌≢◌, ℕ, ◌+◌, Bool, true, false, List, [], ◌∷◌, Option, Some, None, nat_eq, slice_set, if◌then◌else◌}
 use Rattle.pin_core.specs.declared.view.MapEntry.{MapEntry}
 use Rattle.pin_core.specs.declared.view.MapChange.{MapChange}
@@ -10,7 +10,7 @@ use Rattle.pin_core.specs.Tallies.{flag_weight}
 use Rattle.grid.specs.Shape.{Shape, Part, put}
 
 pub data TurnKind : Type 0 where
-  -- the turn is taken (`LWLockAcquire` of the partition's lock)
+  -- the latch is taken (`LWLockAcquire` of the partition's lock)
   take_turn : TurnKind
   -- and left (`LWLockRelease`)
   leave_turn : TurnKind
@@ -32,12 +32,12 @@ map_after Settled m = m
 map_after (Entering tag f) m = put m tag (Some f)
 map_after (Leaving tag f) m = put m tag None
 
--- the pair that is still to be entered or left out: none where the turn's change is made
+-- the pair that is still to be entered or left out: none where the change under this latch is made
 abbrev pub owed_by : Bool → MapChange → MapChange
 owed_by true change = Settled
 owed_by false change = change
 
--- the pair that is named once the map is back: none where the turn's change is made
+-- the pair that is named once the map is back: none where the change under this latch is made
 abbrev pub settled_by : Bool → MapChange → MapChange
 settled_by true change = Settled
 settled_by false change = change
@@ -60,10 +60,10 @@ pub record CanTakeMap (entries : List MapEntry) (pt : Partition) (h : PartitionH
   pub home : h.out ≡ None
   pub entries_are : found entries ≡ pt.map
 
--- once in a turn, and only where the view has named a pair
+-- once each time that the latch is held, and only where the view has named a pair
 pub record CanChangeMap (pt : Partition) (h : PartitionHold) : Type 0 where
   pub out : h.out ≢ None
-  pub unspent : h.spent ≡ false
+  pub unchanged : h.changed ≡ false
   pub named : h.change ≢ Settled
 
 pub record CanReturnMap (entries : List MapEntry) (pt : Partition) (h : PartitionHold) : Type 0 where
@@ -85,43 +85,43 @@ partition_after (map_out entries) pt h = pt
 partition_after change_map pt h = record pt { map = map_after h.change pt.map; owed = Settled }
 partition_after (map_back entries) pt h = pt
 
--- What a kind makes of what the view has of the turn
+-- What a kind makes of what the view has of the latch
 abbrev pub hold_after : TurnKind → PartitionHold → PartitionHold
 hold_after take_turn h = record h { held = true }
-hold_after leave_turn h = record h { held = false; spent = false }
+hold_after leave_turn h = record h { held = false; changed = false }
 hold_after (map_out entries) h = record h { out = Some entries }
-hold_after change_map h = record h { spent = true }
-hold_after (map_back entries) h = record h { out = None; change = settled_by h.spent h.change }
+hold_after change_map h = record h { changed = true }
+hold_after (map_back entries) h = record h { out = None; change = settled_by h.changed h.change }
 
 -- What a kind at the partition p makes of the view
 abbrev pub view_turned : TurnKind → ℕ → PartitionHold → View → View
 view_turned k p h v = record v { partitions = slice_set v.partitions p (hold_after k h); steps = v.steps + 1 }
 
--- what is summed over the views of a turn: those that hold it
+-- what is summed over the views of a latch: those that hold it
 pub data TurnTally : Type 0 where
   holders : TurnTally
 
--- the grid of views and turns
+-- the grid of views and latches
 abbrev pub turn_shape : Shape
 turn_shape = record { Column = Partition; Link = PartitionHold; View = View; Tally = TurnTally; Block = Unit {0}; Own = Unit {0}; weigh = λ _ h. flag_weight h.held; link = hold; own = λ _. tt; spot = λ _. 0 }
 
--- What holds of a partition and of how many views hold its turn
+-- What holds of a partition and of how many views hold its latch
 pub record TurnLaw (pt : Partition) (t : TurnTally → ℕ) : Type 0 where
-  -- the turn is taken exactly where one view holds it
+  -- the latch is taken exactly where one view holds it
   pub taken : flag_weight pt.taken ≡ t holders
   -- no pair is in change where it is free
   pub free : pt.taken ≡ false → pt.owed ≡ Settled
 
--- What holds of a partition and of what a view has of its turn
+-- What holds of a partition and of what a view has of its latch
 pub record HoldLaw (pt : Partition) (h : PartitionHold) : Type 0 where
-  -- the pair in change is the one that the holder of the turn has named, and not yet entered or left out
-  pub owed : h.held ≡ true → owed_by h.spent h.change ≡ pt.owed
-  -- who doesn't hold the turn has neither the map nor a pair
-  pub resting : h.held ≡ false → (h.out ≡ None) × (h.change ≡ Settled) × (h.spent ≡ false)
+  -- the pair in change is the one that the holder of the latch has named, and not yet entered or left out
+  pub owed : h.held ≡ true → owed_by h.changed h.change ≡ pt.owed
+  -- who doesn't hold the latch has neither the map nor a pair
+  pub resting : h.held ≡ false → (h.out ≡ None) × (h.change ≡ Settled) × (h.changed ≡ false)
   -- the map that is out is the map as it went out, with the change that was made
-  pub out : (entries : List MapEntry) → h.out ≡ Some entries → pt.map ≡ map_now h.spent h.change (found entries)
+  pub out : (entries : List MapEntry) → h.out ≡ Some entries → pt.map ≡ map_now h.changed h.change (found entries)
   -- a pair is named with the change made only while the map is out
-  pub made : h.spent ≡ true → h.out ≡ None → h.change ≡ Settled
+  pub made : h.changed ≡ true → h.out ≡ None → h.change ≡ Settled
 
 abbrev pub turn_part : Part turn_shape
 turn_part = record { column = λ _ pt t. TurnLaw pt t; cell = λ _ pt _ h. HoldLaw pt h }

@@ -5,7 +5,7 @@
 
 ghost use Rattle.std.specs.Prelude.{List};
 ghost use Rattle.pin_core.specs.State.{CanOpen, Config, Page, State, opening};
-ghost use Rattle.pin_core.specs.Lawful.{AllAccounted, Lawful};
+ghost use Rattle.pin_core.specs.Invariant.{AllAccounted, Invariant};
 ghost use Rattle.pin_core.specs.Steps.{Event, Run};
 ghost use Rattle.pin_core.specs.Sample.{SampleRuns};
 ghost use Rattle.pin_core.specs.Schedules.{IsReached, TagsAreUnique, PinsAreCounted, PinsAreFew, HeadersAreHeld, HoldersHaveTheWord, PinsRemember, PinnedTagsStay, MapsAreExact, TurnsAreHeld};
@@ -14,14 +14,14 @@ mod view;
 
 pub use view::{
     BlockPage, Call, Checkpoint, Content, DeviceCall, Io, LaneChange, LaneHold, LastWrite, Link,
-    LogChange, LogHold, Look, MapChange, MapEntry, Met, PartitionHold, Role, Seen, View,
+    Load, LogChange, LogHold, MapChange, MapEntry, Met, PartitionHold, Role, Seen, View,
 };
 
 /// What every list of events keeps, whatever the backends do and in whatever order.
 pub fn all_schedules()
     // From every state that has the law every list of events leads to one that has it, and the state at the start has it.
-    ensures kept { (es : List Event) (s : State) (t : State) → Lawful s → Run es s t → Lawful t }
-    ensures opens { (config : Config) (page : Page) → CanOpen config → Lawful (opening config page) }
+    ensures kept { (es : List Event) (s : State) (t : State) → Invariant s → Run es s t → Invariant t }
+    ensures opens { (config : Config) (page : Page) → CanOpen config → Invariant (opening config page) }
 
     // So in every state that events lead to:
     ensures unique { (s : State) → IsReached s → TagsAreUnique s }

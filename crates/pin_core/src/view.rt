@@ -7,7 +7,7 @@ pub enum Role {
     Absent,
     /// One for the backend's callers: the frame has a tag and keeps it.
     HandedOut,
-    /// One under which the backend looks for a victim (`GetVictimBuffer`): the tag may go.
+    /// One under which the backend loads for a victim (`GetVictimBuffer`): the tag may go.
     Victim,
 }
 
@@ -48,10 +48,10 @@ pub struct Link {
     pub content: Content,
     /// Among the sharers the backend is the one that may take the page out to copy it.
     pub copying: bool,
-    /// Under this exclusive lock the frame was marked dirty.
+    /// Under this exclusive lock the frame was dirtied_or_synced dirty.
     pub dirtied: bool,
-    /// The entry of the new page is in the log, and the page is not changed yet.
-    pub ahead: bool,
+    /// The entry of the new page is in the log, and not yet applied to the page.
+    pub unapplied: bool,
     /// The page as the backend copied it under this content lock.
     pub copied: Option<[u8; 0]>,
     pub io: Io,
@@ -85,15 +85,15 @@ pub enum MapChange {
     Leaving { tag: u64, frame: u64 },
 }
 
-/// What a backend has of a partition's turn.
+/// What a backend has of a partition's latch.
 pub struct PartitionHold {
     pub held: bool,
     /// The pair that the backend named when it stored a tag word, until the map is back with it.
     pub change: MapChange,
     /// The map is out with the backend, and this is what it was when it went out.
     pub out: Option<[MapEntry; 0]>,
-    /// The one change of the map in this turn is made.
-    pub spent: bool,
+    /// The one change of the map under this latch is made.
+    pub changed: bool,
 }
 
 /// A block, by its tag, and its page.
@@ -113,7 +113,7 @@ pub enum LaneChange {
     SyncFailed,
 }
 
-/// What a backend has of a lane's turn.
+/// What a backend has of a lane's latch.
 pub struct LaneHold {
     pub held: bool,
     /// The lane is out with the backend, and these were its pages when it went out.
@@ -132,15 +132,15 @@ pub enum LogChange {
     SyncFailed,
 }
 
-/// What a backend has of the log's turn.
+/// What a backend has of the log's latch.
 pub struct LogHold {
     pub held: bool,
     /// The log is out with the backend, and these were its bytes when it went out.
     pub out: Option<[u8; 0]>,
     pub change: LogChange,
-    /// In this turn a record was appended, and the log end not stored yet.
+    /// Under this latch a record was appended, and the log end not stored yet.
     pub appended: Option<[u8; 0]>,
-    /// In this turn a sync was done.
+    /// Under this latch a sync was done.
     pub synced: bool,
 }
 
@@ -178,7 +178,7 @@ pub enum Seen {
 }
 
 /// One load, with what the backend had done and pinned by then.
-pub struct Look {
+pub struct Load {
     pub seen: Seen,
     /// For each frame, whether the backend pinned it.
     pub pins: [bool; 0],
@@ -221,7 +221,7 @@ pub struct View {
     /// For the first backend: how many backends were joined into it.
     pub joined: u64,
     /// What is left of a backend that was joined into the first.
-    pub spent: bool,
+    pub emptied: bool,
     /// One for each frame.
     pub links: [Link; 0],
     /// One for each partition of the mapping table.
@@ -240,17 +240,17 @@ pub struct View {
     /// How many steps other than loads the backend made.
     pub steps: u64,
     /// The loads, in order.
-    pub looks: [Look; 0],
+    pub loads: [Load; 0],
     /// The log end at which the backend's checkpoint began, or 0.
     pub upto: u64,
     /// The checkpoints of the backends that were joined into this one.
     pub kept: [Checkpoint; 0],
     pub device_calls: [DeviceCall; 0],
     pub met: Met,
-    /// Under the log's turn the backend saw the log down, or saw its own call fail.
+    /// Under the log's latch the backend saw the log down, or saw its own call fail.
     pub saw_down: bool,
-    /// The backend has marked a frame dirty, or called a lane's sync.
-    pub marked: bool,
+    /// The backend has dirtied_or_synced a frame dirty, or called a lane's sync.
+    pub dirtied_or_synced: bool,
     /// The backend has had an output right.
     pub had_output: bool,
     /// The word that the end of its last input or output stored.

@@ -7,28 +7,28 @@ use Rattle.pin_core.specs.declared.view.LastWrite.TheVariants.{Unwritten}
 use Rattle.pin_core.specs.declared.view.Link.{Link}
 use Rattle.pin_core.specs.State.{Frame, Page, no_tag}
 use Rattle.pin_core.specs.Tallies.{flag_weight}
-use Rattle.pin_core.specs.Lawful.{HasTag, FrameLaw, LinkLaw}
-use Rattle.pin_core.specs.Lawful as pins
+use Rattle.pin_core.specs.Invariant.{HasTag, FrameLaw, LinkLaw}
+use Rattle.pin_core.specs.Invariant as pins
 use Rattle.page_core.specs.State.{Block, State, block_of}
-use Rattle.page_core.specs.Tallies.{Tally, pin, sharers, calms, aheads, copies, works, page_shape}
+use Rattle.page_core.specs.Tallies.{Tally, pin, sharers, applied_locks, unapplied_locks, copies, works, page_shape}
 use Rattle.grid.specs.Shape.{Part, Grid}
 
 -- What holds of a frame with its page and of the sums over the views there
 pub record PageFrame (b : Block) (fr : Frame) (t : Tally → ℕ) : Type 0 where
   -- the content word counts the views that share the content lock
   pub shared : fr.sharers ≡ t sharers
-  -- its exclusive bit stands exactly where one view has the content lock exclusively, the page ahead or not
-  pub exclusive : flag_weight fr.exclusive ≡ t calms + t aheads
+  -- its exclusive bit stands exactly where one view has the content lock exclusively, its entry applied or not
+  pub exclusive : flag_weight fr.exclusive ≡ t applied_locks + t unapplied_locks
   -- exclusive excludes shared
   pub excludes : fr.exclusive ≡ true → fr.sharers ≡ 0
-  -- the copy turn is one view's
+  -- the copy latch is one view's
   pub copying : flag_weight fr.copying ≡ t copies
   -- BM_IO_IN_PROGRESS stands exactly where one view has the input or output right
   pub working : flag_weight fr.word.in_progress ≡ t works
-  -- the page of a valid frame is the block's page after the log, unless a view is ahead there
-  pub page : fr.word.valid ≡ true → fr.tag ≢ no_tag → t aheads ≡ 0 → b.logged ≡ fr.page
+  -- the page of a valid frame is the block's page after the log, unless a view has an entry to apply there
+  pub page : fr.word.valid ≡ true → fr.tag ≢ no_tag → t unapplied_locks ≡ 0 → b.logged ≡ fr.page
 
--- What a view has that marked a frame dirty under its exclusive lock
+-- What a view has that dirtied_or_synced a frame dirty under its exclusive lock
 pub record DirtiedLink (fr : Frame) (l : Link) : Type 0 where
   pub right : l.content ≡ Exclusive
   -- BM_DIRTY and BM_JUST_DIRTIED stand
@@ -36,8 +36,8 @@ pub record DirtiedLink (fr : Frame) (l : Link) : Type 0 where
   pub just : fr.word.just_dirtied ≡ true
 
 -- What a view has whose entry is in the log, and whose page isn't changed yet
-pub record AheadLink (l : Link) : Type 0 where
-  -- it has the exclusive lock, and marked the frame dirty
+pub record UnappliedLink (l : Link) : Type 0 where
+  -- it has the exclusive lock, and dirtied_or_synced the frame dirty
   pub right : l.content ≡ Exclusive
   pub dirtied : l.dirtied ≡ true
   -- it notes no copy
@@ -68,7 +68,7 @@ pub record OverwrittenLink (fr : Frame) (l : Link) (q : Page) : Type 0 where
 pub record PageLink (b : Block) (fr : Frame) (l : Link) : Type 0 where
   -- a content lock needs a pin and a valid frame that has a tag
   pub content : l.content ≢ Unlocked → (l.role ≢ Absent) × (fr.word.valid ≡ true) × HasTag fr
-  -- the copy turn is a sharer's
+  -- the copy latch is a sharer's
   pub copying : l.copying ≡ true → l.content ≡ Shared
   -- an input or output right needs a pin
   pub io : l.io ≢ Quiet → l.role ≢ Absent
@@ -81,10 +81,10 @@ pub record PageLink (b : Block) (fr : Frame) (l : Link) : Type 0 where
   -- a view that stored the tag word has neither lock nor right there
   pub pending : l.pending ≡ true → (l.content ≡ Unlocked) × (l.io ≡ Quiet)
   pub dirtied : l.dirtied ≡ true → DirtiedLink fr l
-  pub ahead : l.ahead ≡ true → AheadLink l
+  pub unapplied : l.unapplied ≡ true → UnappliedLink l
   pub copied : (p : Page) → l.copied ≡ Some p → CopiedLink b l p
   pub read : (p : Page) → l.read ≡ Some p → ReadLink b fr l p
-  -- the page is out only under the exclusive lock, the copy turn or the input right
+  -- the page is out only under the exclusive lock, the copy latch or the input right
   pub out_shared : l.out ≢ None → l.content ≡ Shared → l.copying ≡ true
   pub out_unlocked : l.out ≢ None → l.content ≡ Unlocked → l.io ≡ Input
   -- a page that is out is as it was taken, or as it was overwritten
@@ -99,6 +99,6 @@ abbrev pub pin_part : Part page_shape
 pin_part = record { column = λ _ fr t. FrameLaw fr (λ k. t (pin k)); cell = λ _ fr _ l. LinkLaw fr l }
 
 -- The law of pins, headers, tags and maps, and that of content locks, pages, input and output
-pub record Lawful (s : State) : Type 0 where
-  pub core : pins.Lawful s.core
+pub record Invariant (s : State) : Type 0 where
+  pub core : pins.Invariant s.core
   pub pages : Grid page_shape page_part s.core.frames s.core.frame (block_of s.logged) s.core.views

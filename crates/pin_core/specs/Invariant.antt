@@ -84,11 +84,11 @@ pin_part = record { column = λ _ fr t. FrameLaw fr t; cell = λ _ fr _ l. LinkL
 -- What holds of the list of views
 pub record ViewsLaw (frames partitions backends : ℕ) (views : List View) : Type 0 where
   -- a view has a link for each frame, and a hold for each partition
-  pub wide : (i : ℕ) (v : View) → get_elem? views i ≡ some v → v.spent ≡ false → (length v.links ≡ frames) × (length v.partitions ≡ partitions)
-  -- the view at the seat i has the number i
-  pub numbered : (i : ℕ) (v : View) → get_elem? views i ≡ some v → v.spent ≡ false → v.number ≡ i
-  -- the first view is never spent, and has the next number to give
-  pub first : (v : View) → get_elem? views 0 ≡ some v → (v.spent ≡ false) × (v.next ≡ length views)
+  pub wide : (i : ℕ) (v : View) → get_elem? views i ≡ some v → v.emptied ≡ false → (length v.links ≡ frames) × (length v.partitions ≡ partitions)
+  -- view i has the number i
+  pub numbered : (i : ℕ) (v : View) → get_elem? views i ≡ some v → v.emptied ≡ false → v.number ≡ i
+  -- the first view is never emptied, and has the next number to give
+  pub first : (v : View) → get_elem? views 0 ≡ some v → (v.emptied ≡ false) × (v.next ≡ length views)
   -- no number is given beyond the count of backends
   pub few : length views ≤ backends
 
@@ -99,14 +99,14 @@ live_weight false = 1
 
 -- the backends that are there, and those that were joined into the first, are as many as numbers were given
 abbrev pub AllAccounted : List View → Type 0
-AllAccounted views = (v : View) → get_elem? views 0 ≡ some v → total (λ (u : View). live_weight u.spent) views + v.joined ≡ length views
+AllAccounted views = (v : View) → get_elem? views 0 ≡ some v → total (λ (u : View). live_weight u.emptied) views + v.joined ≡ length views
 
 -- no two frames have one tag word, with BM_TAG_VALID or without, but for all ones
 abbrev pub TagsApart : ℕ → (ℕ → Frame) → Type 0
 TagsApart frames frame = (f g : ℕ) → f < frames → g < frames → (frame f).tag ≢ no_tag → (frame f).tag ≡ (frame g).tag → f ≡ g
 
 -- The law of pins, headers, tags and maps
-pub record Lawful (s : State) : Type 0 where
+pub record Invariant (s : State) : Type 0 where
   pub grid : Grid frame_shape pin_part s.frames s.frame (λ _. tt) s.views
   pub turns : Grid turn_shape turn_part s.partitions s.partition (λ _. tt) s.views
   pub apart : TagsApart s.frames s.frame
