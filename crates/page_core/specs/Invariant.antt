@@ -28,16 +28,16 @@ pub record PageFrame (b : Block) (fr : Frame) (t : Tally → ℕ) : Type 0 where
   -- the page of a valid frame is the block's page after the log, unless a view has an entry to apply there
   pub page : fr.word.valid ≡ true → fr.tag ≢ no_tag → t unapplied_locks ≡ 0 → b.logged ≡ fr.page
 
--- What a view has that dirtied_or_synced a frame dirty under its exclusive lock
+-- What a view has that marked a frame dirty under its exclusive lock
 pub record DirtiedLink (fr : Frame) (l : Link) : Type 0 where
   pub right : l.content ≡ Exclusive
   -- BM_DIRTY and BM_JUST_DIRTIED stand
   pub dirty : fr.word.dirty ≡ true
   pub just : fr.word.just_dirtied ≡ true
 
--- What a view has whose entry is in the log, and whose page isn't changed yet
+-- What a view has whose entry is in the log, and not yet applied to the page
 pub record UnappliedLink (l : Link) : Type 0 where
-  -- it has the exclusive lock, and dirtied_or_synced the frame dirty
+  -- it has the exclusive lock, and marked the frame dirty
   pub right : l.content ≡ Exclusive
   pub dirtied : l.dirtied ≡ true
   -- it notes no copy

@@ -248,7 +248,7 @@ link_after start_output b fr l = record l { header = None; io = Output }
 link_after clear_just_dirtied b fr l = record l { header = None }
 link_after (end_io end) b fr l = record l { header = None; io = Quiet; read = None; read_is_home = false; last_write = Unwritten }
 
--- whether a kind dirties the view: it may have changed a page that must be written
+-- whether a kind marks the frame dirty: a page may have to be written
 abbrev pub dirties : Kind → Bool
 dirties mark_dirty = true
 dirties _ = false

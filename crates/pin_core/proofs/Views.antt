@@ -45,7 +45,7 @@ module _ (frames partitions backends : ℕ) (views : List View) (h : ViewsLaw fr
     few = omega (arith, length-set views i w, h.few);
   }
 
-  -- a view other than the first is left emptied
+  -- a view other than the first is emptied
   pub views_emptied : (j : ℕ) → j ≢ 0 → ViewsLaw frames partitions backends (set views j emptied_view)
   views_emptied j other = record {
     wide = λ k u e live. ⊎_elim (λ (t : (k ≡ j) × (emptied_view ≡ u)). let x : u.emptied ≡ emptied_view.emptied = ap (λ (x : View). x.emptied) (sym t.1) in absurd (cc)) (λ (t : (k ≢ j) × (get_elem? views k ≡ some u)). h.wide k u t.1 live) (at_set views j k emptied_view u e);

@@ -207,7 +207,7 @@ steps_of load_state = 0
 steps_of load_tag = 0
 steps_of _ = 1
 
--- a look of the view at what was seen
+-- a load by the view, with what it saw
 abbrev pub load_of : View → Seen → Load
 load_of v what = record { seen = what; pins = map (λ (l : Link). is_pin l.role) v.links; steps = v.steps }
 

@@ -48,7 +48,7 @@ pub struct Link {
     pub content: Content,
     /// Among the sharers the backend is the one that may take the page out to copy it.
     pub copying: bool,
-    /// Under this exclusive lock the frame was dirtied_or_synced dirty.
+    /// Under this exclusive lock the frame was marked dirty.
     pub dirtied: bool,
     /// The entry of the new page is in the log, and not yet applied to the page.
     pub unapplied: bool,
@@ -249,7 +249,7 @@ pub struct View {
     pub met: Met,
     /// Under the log's latch the backend saw the log down, or saw its own call fail.
     pub saw_down: bool,
-    /// The backend has dirtied_or_synced a frame dirty, or called a lane's sync.
+    /// The backend has marked a frame dirty, or called a lane's sync.
     pub dirtied_or_synced: bool,
     /// The backend has had an output right.
     pub had_output: bool,
