@@ -7,7 +7,7 @@ pub enum Role {
     Absent,
     /// One for the backend's callers: the frame has a tag and keeps it.
     HandedOut,
-    /// One under which the backend loads for a victim (`GetVictimBuffer`): the tag may go.
+    /// One under which the backend looks for a victim (`GetVictimBuffer`): the tag may go.
     Victim,
 }
 
@@ -113,11 +113,22 @@ pub enum LaneChange {
     SyncFailed,
 }
 
+/// What a lane was when it went out.
+pub struct TakenLane {
+    /// Its pages, where the contents are known.
+    pub pages: Option<[BlockPage; 0]>,
+    /// The blocks whose last write had failed, by their tags.
+    pub failed: [u64; 0],
+    /// How many reads, and how many writes and syncs, had failed.
+    pub read_faults: u64,
+    pub write_faults: u64,
+}
+
 /// What a backend has of a lane's latch.
 pub struct LaneHold {
     pub held: bool,
-    /// The lane is out with the backend, and these were its pages when it went out.
-    pub out: Option<[BlockPage; 0]>,
+    /// The lane is out with the backend, and this is what it was when it went out.
+    pub out: Option<TakenLane>,
     pub change: LaneChange,
     /// The flushed position as the backend had loaded it when the lane went out.
     pub flushed: u64,
@@ -132,11 +143,19 @@ pub enum LogChange {
     SyncFailed,
 }
 
+/// What the log's device was when it went out.
+pub struct TakenLog {
+    /// Its bytes, where the contents are known.
+    pub bytes: Option<[u8; 0]>,
+    /// How many appends and syncs had failed.
+    pub faults: u64,
+}
+
 /// What a backend has of the log's latch.
 pub struct LogHold {
     pub held: bool,
-    /// The log is out with the backend, and these were its bytes when it went out.
-    pub out: Option<[u8; 0]>,
+    /// The device is out with the backend, and this is what it was when it went out.
+    pub out: Option<TakenLog>,
     pub change: LogChange,
     /// Under this latch a record was appended, and the log end not stored yet.
     pub appended: Option<[u8; 0]>,
