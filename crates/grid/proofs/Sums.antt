@@ -37,10 +37,21 @@ module _ {A : Type 0} (g : A → ℕ) where
   total-few [] few = omega arith
   total-few (x ∷ xs) few = omega (arith, few x, total-few xs few)
 
-  total-none : (l : List A) → ((j : ℕ) (u : A) → get_elem? l j ≡ some u → g u ≡ 0) → total g l ≡ 0
+  pub total-none : (l : List A) → ((j : ℕ) (u : A) → get_elem? l j ≡ some u → g u ≡ 0) → total g l ≡ 0
   unfolding total
   total-none [] h = refl
   total-none (x ∷ xs) h = omega (arith, h zero x refl, total-none xs (λ j u d. h (suc j) u d))
+
+  -- a sum of sums
+  pub total-add : (h k : A → ℕ) → ((a : A) → g a ≡ h a + k a) → (l : List A) → total g l ≡ total h l + total k l
+  unfolding total
+  total-add h k e [] = refl
+  total-add h k e (x ∷ xs) = omega (arith, e x, total-add h k e xs)
+
+  pub total-same : (h : A → ℕ) (l : List A) → ((j : ℕ) (u : A) → get_elem? l j ≡ some u → g u ≡ h u) → total g l ≡ total h l
+  unfolding total
+  total-same h [] e = refl
+  total-same h (x ∷ xs) e = omega (arith, e zero x refl, total-same h xs (λ j u d. e (suc j) u d))
 
   -- where the others count nothing
   pub total-alone : (l : List A) (i : ℕ) (v : A) → get_elem? l i ≡ some v → ((j : ℕ) (u : A) → j ≢ i → get_elem? l j ≡ some u → g u ≡ 0) → total g l ≡ g v

@@ -1,9 +1,9 @@
 -- Each kind keeps the law of frames and links.
-use Rattle.std.proofs.Common.{ℕ, Bool, arith}
+use Rattle.std.proofs.Common.{◌≡◌, ◌≢◌, ℕ, Bool, arith}
 use Rattle.pin_core.specs.declared.view.Link.{Link}
-use Rattle.pin_core.specs.State.{Frame}
+use Rattle.pin_core.specs.State.{Frame, no_tag}
 use Rattle.pin_core.specs.Tallies.{pins, headers, pendings, settled_pins, settled_headers, frame_shape}
-use Rattle.pin_core.specs.Lawful.{pin_part}
+use Rattle.pin_core.specs.Invariant.{pin_part}
 use Rattle.pin_core.specs.Kinds as kinds
 use Rattle.pin_core.specs.Kinds.{Kind, Allowed, frame_after, link_after}
 use Rattle.grid.proofs.Grids.{Keeps}
@@ -25,6 +25,14 @@ module _ (fr : Frame) (l : Link) where
     column = λ t t' q c sums le _. grind (arith, q, c, a, sums pins, sums headers, sums pendings, sums settled_pins, sums settled_headers);
     cell = λ t q le c. grind (arith, q, c, a);
     others = λ t n m q c le d. grind (arith, q, c, d, a);
+  }
+
+  -- where the frame has the tag
+  pub pin_mapped_keeps : (tag : ℕ) (ring : Bool) → Allowed (kinds.pin_mapped tag ring) fr l → (fr.tag ≡ tag) × (tag ≢ no_tag) → KindKeeps (kinds.pin_mapped tag ring) fr l
+  pin_mapped_keeps tag ring a e = record {
+    column = λ t t' q c sums le _. grind (arith, q, c, a, e, sums pins, sums headers, sums pendings, sums settled_pins, sums settled_headers);
+    cell = λ t q le c. grind (arith, q, c, a, e);
+    others = λ t n m q c le d. grind (arith, q, c, d, a, e);
   }
 
   pub unpin_keeps : Allowed kinds.unpin fr l → KindKeeps kinds.unpin fr l

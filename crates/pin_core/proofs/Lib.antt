@@ -1,6 +1,8 @@
+pub mod Maps
+pub mod Views
 pub mod Keeping
 pub mod Cases
-pub mod Views
+pub mod Turning
 pub mod Stepping
 pub mod Opening
 pub mod Schedules

@@ -1,6 +1,6 @@
 -- What the law says in the field's words.
 use Rattle.std.proofs.Common.{◌≡◌, ◌≢◌, ℕ, ◌+◌, ◌<◌, ◌≤◌, Bool, true, false, cond, List, [], ◌∷◌, Option, Some, None, set, length, sym, refl, ap, ◌∙◌, subst, arith}
-use Rattle.std.specs.Prelude.{if◌then◌else◌}
+use Rattle.std.specs.Prelude.{◌↔◌, if◌then◌else◌}
 use mathlib.Core.Logic.{dite}
 use mathlib.Core.Option.{some, some-injective}
 use native.Mathlib.Decide.{ℕ_discrete}
@@ -10,23 +10,38 @@ use Rattle.pin_core.specs.declared.view.Role.{Role}
 use Rattle.pin_core.specs.declared.view.Role.TheVariants.{Absent, HandedOut, Victim}
 use Rattle.pin_core.specs.declared.view.Link.{Link}
 use Rattle.pin_core.specs.declared.view.View.{View}
-use Rattle.pin_core.specs.State.{Frame, State, link, is_pin, pins_frame, local, new_view, joined_view, spent_view}
+use Rattle.pin_core.specs.State.{Frame, State, link, hold, is_pin, pins_frame, new_view, joined_view, emptied_view}
 use Rattle.pin_core.specs.Tallies.{Tally, pins, headers, weigh, pin_weight, some_weight, flag_weight, frame_shape}
-use Rattle.pin_core.specs.Lawful.{FrameLaw, HasTag, Lawful}
-use Rattle.pin_core.specs.Kinds.{Kind, load_state, pin, unpin, lock_header, unlock_header, store_tag, erase_tag, load_tag, pin_victim, lower_usage, assign, clear, Allowed, frame_after, link_after, view_after}
-use Rattle.pin_core.specs.Steps.{HoldsNothing, Event, at, Step, touches, splits, joins, Run, rests, goes}
-use Rattle.pin_core.specs.Schedules.{IsReached, TagsAreUnique, PinsAreCounted, HeadersAreHeld, is_held, holds_header, HoldersHaveTheWord, PinsRemember, IsHandedOut, HasNoUnpin, PinnedTagsStay}
+use Rattle.pin_core.specs.Invariant.{FrameLaw, HasTag, Invariant}
+use Rattle.pin_core.specs.Kinds.{Kind, load_state, pin, pin_mapped, unpin, lock_header, unlock_header, store_tag, erase_tag, load_tag, pin_victim, lower_usage, assign, clear, Allowed, frame_after, link_after, view_after}
+use Rattle.pin_core.specs.Steps.{HoldsNothing, state_after, Event, at, Step, touches, turns, splits, joins, Run, rests, goes}
+use Rattle.pin_core.specs.Turns.{view_turned}
+use Rattle.pin_core.specs.Maps.{PairLaw}
+use Rattle.pin_core.specs.declared.view.MapChange.{MapChange}
+use Rattle.pin_core.specs.declared.view.MapChange.TheVariants.{Entering, Leaving}
+use Rattle.pin_core.specs.Schedules.{IsReached, TagsAreUnique, PinsAreFew, PinsAreCounted, HeadersAreHeld, is_held, holds_header, holds_turn, HoldersHaveTheWord, PinsRemember, MapsAreExact, TurnsAreHeld, IsHandedOut, HasNoUnpin, PinnedTagsStay}
 use Rattle.grid.specs.Shape.{tallies}
 use Rattle.grid.proofs.Lists.{set_here, set_else, at_longer, put_at, put_else}
-use Rattle.grid.proofs.Sums.{total-count, terms_le}
+use Rattle.grid.proofs.Sums.{total-count, total-few, term_le, terms_le}
 use Rattle.grid.proofs.Grids.{Relinks}
+use Rattle.pin_core.proofs.Maps.{gives_holder}
 use Rattle.pin_core.proofs.Opening.{opens}
 use Rattle.pin_core.proofs.Stepping.{relinked, step_keeps, run_keeps}
 
-pub reached : (s : State) → IsReached s → Lawful s
-reached s r = run_keeps r.run (opens r.frames r.partitions r.lanes r.backends r.page r.some_backend)
+pub reached : (s : State) → IsReached s → Invariant s
+reached s r = run_keeps r.run (opens r.config r.page r.opens)
 
-module _ (s : State) (h : Lawful s) where
+one_pin : (r : Role) → pin_weight r ≤ 1
+one_pin Absent = omega arith
+one_pin HandedOut = omega arith
+one_pin Victim = omega arith
+
+some_pin : (r : Role) → r ≢ Absent → 0 < pin_weight r
+some_pin Absent n = absurd (n refl)
+some_pin HandedOut n = omega arith
+some_pin Victim n = omega arith
+
+module _ (s : State) (h : Invariant s) where
   pub unique : TagsAreUnique s
   unique f g a b x y same = h.apart f g a b x.named same
 
@@ -37,6 +52,13 @@ module _ (s : State) (h : Lawful s) where
       one Absent = refl
       one HandedOut = refl
       one Victim = refl
+
+  pub few : PinsAreFew s
+  few f below = let c = h.grid.columns f below in omega (arith, c.counted, h.views.few, total-few (λ (v : View). weigh pins (link v f)) s.views (λ v. one_pin (link v f).role))
+
+  -- a frame that a view pins has a pin
+  pub own_pins : (i f : ℕ) (v : View) → get_elem? s.views i ≡ some v → f < s.frames → (link v f).role ≢ Absent → 0 < (s.frame f).word.pins
+  own_pins i f v there below pinned = let c = h.grid.columns f below in omega (arith, c.counted, term_le (λ (u : View). weigh pins (link u f)) s.views i v there, some_pin (link v f).role pinned)
 
   pub held : HeadersAreHeld s
   held f below = sym (total-count (λ (v : View). weigh headers (link v f)) (holds_header f) (λ v. one (link v f).header) s.views) ∙ sym (h.grid.columns f below).locked ∙ flag (s.frame f).word.locked
@@ -52,6 +74,19 @@ module _ (s : State) (h : Lawful s) where
   pub holders : HoldersHaveTheWord s
   holders i f v w there below e = (h.grid.cells i v f there below).header w e
 
+  pub exact : MapsAreExact s
+  exact tag f named below not_entering not_leaving = exactly ((s.partition (s.partition_of tag)).map tag) (s.partition (s.partition_of tag)).owed (s.frame f).tag tag f (h.maps.pairs tag f named below) not_entering not_leaving
+    where
+      exactly : (o : Option ℕ) (owed : MapChange) (word tag f : ℕ) → PairLaw o owed word tag f → owed ≢ Entering tag f → owed ≢ Leaving tag f → (o ≡ Some f) ↔ (word ≡ tag)
+      exactly o owed word tag f x a b = ((λ e. dite (ℕ_discrete word tag) (λ y. y) (λ n. absurd (b (x.found e n)))), (λ e. gives_holder o owed tag f (subst (λ (z : ℕ). PairLaw o owed z tag f) e x) a))
+
+  pub taken : TurnsAreHeld s
+  taken p below = (sym (total-count (λ (v : View). flag_weight (hold v p).held) (holds_turn p) (λ v. one (hold v p).held) s.views) ∙ sym (h.turns.columns p below).taken ∙ one (s.partition p).taken, (h.turns.columns p below).free)
+    where
+      one : (b : Bool) → flag_weight b ≡ (if b then 1 else 0)
+      one true = refl
+      one false = refl
+
   pub remembers : PinsRemember s
   remembers i f v tag there below e = (h.grid.cells i v f there below).remembers tag e
 
@@ -61,6 +96,7 @@ own_tag (store_tag tag) fr l a e = grind (arith, a, e)
 own_tag erase_tag fr l a e = grind (arith, a, e)
 own_tag load_state fr l a e = refl
 own_tag (pin ring) fr l a e = refl
+own_tag (pin_mapped tag ring) fr l a e = refl
 own_tag unpin fr l a e = refl
 own_tag lock_header fr l a e = refl
 own_tag unlock_header fr l a e = refl
@@ -74,6 +110,7 @@ own_pin : (k : Kind) (fr : Frame) (l : Link) → k ≢ unpin → Allowed k fr l 
 own_pin unpin fr l other a e = absurd (other refl)
 own_pin pin_victim fr l other a e = grind (arith, a, e)
 own_pin (pin ring) fr l other a e = refl
+own_pin (pin_mapped tag ring) fr l other a e = refl
 own_pin assign fr l other a e = refl
 own_pin load_state fr l other a e = e
 own_pin lock_header fr l other a e = e
@@ -90,6 +127,7 @@ others_tag (store_tag tag) fr l m t a c le e = grind (arith, a, c, le, e)
 others_tag erase_tag fr l m t a c le e = grind (arith, a, c, le, e)
 others_tag load_state fr l m t a c le e = refl
 others_tag (pin ring) fr l m t a c le e = refl
+others_tag (pin_mapped tag ring) fr l m t a c le e = refl
 others_tag unpin fr l m t a c le e = refl
 others_tag lock_header fr l m t a c le e = refl
 others_tag unlock_header fr l m t a c le e = refl
@@ -99,17 +137,17 @@ others_tag lower_usage fr l m t a c le e = refl
 others_tag assign fr l m t a c le e = refl
 others_tag clear fr l m t a c le e = refl
 
--- The backend at the seat j makes a step of the kind k at the frame g, while the one at i has a handed-out pin of f
-module _ (s : State) (h : Lawful s) (i f : ℕ) (v : View) (there : get_elem? s.views i ≡ some v) (below : f < s.frames) (pinned : (link v f).role ≡ HandedOut)
-    (j g : ℕ) (k : Kind) (u : View) (here : get_elem? s.views j ≡ some u) (live : u.spent ≡ false) (inside : g < s.frames) (a : Allowed k (s.frame g) (link u g)) where
+-- Backend j makes a step of the kind k at the frame g, while the one at i has a handed-out pin of f
+module _ (s : State) (h : Invariant s) (i f : ℕ) (v : View) (there : get_elem? s.views i ≡ some v) (below : f < s.frames) (pinned : (link v f).role ≡ HandedOut)
+    (j g : ℕ) (k : Kind) (u : View) (here : get_elem? s.views j ≡ some u) (live : u.emptied ≡ false) (inside : g < s.frames) (a : Allowed k (s.frame g) (link u g)) where
   abbrev moved : View
-  moved = view_after k g (s.frame g) (link u g) u
+  moved = view_after k s.partition_of g (s.frame g) (link u g) u
 
   abbrev next : State
-  next = local s j g (frame_after k (s.frame g)) moved
+  next = state_after k s j g u
 
   relinked_here : Relinks frame_shape u moved g (link_after k (s.frame g) (link u g))
-  relinked_here = relinked k g (s.frame g) (link u g) u (subst (λ (n : ℕ). g < n) (sym (h.views.wide j u here live)) inside)
+  relinked_here = relinked s h j g u here live inside k
 
   same_view : i ≡ j → v ≡ u
   same_view e = some-injective v u (sym there ∙ ap (λ (z : ℕ). get_elem? s.views z) e ∙ here)
@@ -145,33 +183,34 @@ module _ (s : State) (h : Lawful s) (i f : ℕ) (v : View) (there : get_elem? s.
 abbrev Stays : State → State → ℕ → ℕ → Type 0
 Stays s t i f = IsHandedOut t i f × ((t.frame f).tag ≡ (s.frame f).tag)
 
--- the first view changes, and its links stay
-first_stays : (views : List View) (i f : ℕ) (v first w : View) → get_elem? views i ≡ some v → (link v f).role ≡ HandedOut → get_elem? views 0 ≡ some first → (link w f).role ≡ (link first f).role → (x : View) × (get_elem? (set views 0 w) i ≡ some x) × ((link x f).role ≡ HandedOut)
-first_stays views i f v first w there pinned here same = dite (ℕ_discrete i 0)
+-- the view of backend j changes, and its links stay
+view_stays : (views : List View) (i j f : ℕ) (v u w : View) → get_elem? views i ≡ some v → (link v f).role ≡ HandedOut → get_elem? views j ≡ some u → (link w f).role ≡ (link u f).role → (x : View) × (get_elem? (set views j w) i ≡ some x) × ((link x f).role ≡ HandedOut)
+view_stays views i j f v u w there pinned here same = dite (ℕ_discrete i j)
     (λ e. (
       w,
-      subst (λ (z : ℕ). get_elem? (set views 0 w) z ≡ some w) (sym e) (set_here views 0 first w here),
-      same ∙ ap (λ (x : View). (link x f).role) (some-injective first v (sym here ∙ ap (λ (z : ℕ). get_elem? views z) (sym e) ∙ there)) ∙ pinned,
+      subst (λ (z : ℕ). get_elem? (set views j w) z ≡ some w) (sym e) (set_here views j u w here),
+      same ∙ ap (λ (x : View). (link x f).role) (some-injective u v (sym here ∙ ap (λ (z : ℕ). get_elem? views z) (sym e) ∙ there)) ∙ pinned,
     ))
-    (λ o. (v, set_else views 0 i w o ∙ there, pinned))
+    (λ o. (v, set_else views j i w o ∙ there, pinned))
 
 -- a backend that holds nothing has no handed-out pin
 not_joined : (views : List View) (i j f : ℕ) (v u : View) → get_elem? views i ≡ some v → (link v f).role ≡ HandedOut → get_elem? views j ≡ some u → HoldsNothing u → i ≢ j
-not_joined views i j f v u there pinned here free e = let same : v ≡ u = some-injective v u (sym there ∙ ap (λ (z : ℕ). get_elem? views z) e ∙ here) in let r : (link u f).role ≡ HandedOut = subst (λ (x : View). (link x f).role ≡ HandedOut) same pinned in let n = (free f).no_pin in cc
+not_joined views i j f v u there pinned here free e = let same : v ≡ u = some-injective v u (sym there ∙ ap (λ (z : ℕ). get_elem? views z) e ∙ here) in let r : (link u f).role ≡ HandedOut = subst (λ (x : View). (link x f).role ≡ HandedOut) same pinned in let n = (free.frames f).no_pin in cc
 
-step_stays : {e : Event} {s t : State} (i f : ℕ) → Step e s t → Lawful s → IsHandedOut s i f → e ≢ at i f unpin → Stays s t i f
+step_stays : {e : Event} {s t : State} (i f : ℕ) → Step e s t → Invariant s → IsHandedOut s i f → e ≢ at i f unpin → Stays s t i f
 step_stays i f (touches {s = s} j g k u here live inside a around) h out other = (pin_stays s h i f out.0 out.1 out.2 out.3 j g k u here live inside a other, tag_stays s h i f out.0 out.1 out.2 out.3 j g k u here live inside a)
-step_stays i f (splits {s = s} v here room) h out other = let w : View = record v { next = v.next + 1 } in let b : View = new_view v.next (length v.links) (length v.partitions) (length v.lanes) in let x = first_stays s.views i f out.0 v w out.1 out.3 here refl in
+step_stays i f (turns {s = s} j p k u here live below a) h out other = let x = view_stays s.views i j f out.0 u (view_turned k p (hold u p) u) out.1 out.3 here refl in ((x.0, x.1, out.2, x.2), refl)
+step_stays i f (splits {s = s} v here room) h out other = let w : View = record v { next = v.next + 1 } in let b : View = new_view v.next (length v.links) (length v.partitions) (length v.lanes) in let x = view_stays s.views i 0 f out.0 v w out.1 out.3 here refl in
     ((x.0, at_longer (set s.views 0 w) (b ∷ []) i x.0 x.1, out.2, x.2), refl)
-step_stays i f (joins {s = s} j v u first nonzero here live free) h out other = let x = first_stays s.views i f out.0 v (joined_view v u) out.1 out.3 first refl in
-    ((x.0, set_else (set s.views 0 (joined_view v u)) j i spent_view (not_joined s.views i j f out.0 u out.1 out.3 here free) ∙ x.1, out.2, x.2), refl)
+step_stays i f (joins {s = s} j v u first nonzero here live free) h out other = let x = view_stays s.views i 0 f out.0 v (joined_view v u) out.1 out.3 first refl in
+    ((x.0, set_else (set s.views 0 (joined_view v u)) j i emptied_view (not_joined s.views i j f out.0 u out.1 out.3 here free) ∙ x.1, out.2, x.2), refl)
 
-tag_there : (s : State) (i f : ℕ) → Lawful s → IsHandedOut s i f → HasTag (s.frame f)
+tag_there : (s : State) (i f : ℕ) → Invariant s → IsHandedOut s i f → HasTag (s.frame f)
 tag_there s i f h out = (h.grid.cells i out.0 f out.1 out.2).handed_out out.3
 
-run_stays : {es : List Event} {s t : State} (i f : ℕ) → Run es s t → Lawful s → IsHandedOut s i f → HasNoUnpin i f es → Stays s t i f
+run_stays : {es : List Event} {s t : State} (i f : ℕ) → Run es s t → Invariant s → IsHandedOut s i f → HasNoUnpin i f es → Stays s t i f
 run_stays i f rests h out none = (out, refl)
 run_stays i f (goes x r) h out none = let a = step_stays i f x h out none.0 in let b = run_stays i f r (step_keeps x h) a.0 none.1 in (b.0, b.1 ∙ a.1)
 
-pub stay : (s : State) → Lawful s → PinnedTagsStay s
+pub stay : (s : State) → Invariant s → PinnedTagsStay s
 stay s h i f es t out none r = let x = run_stays i f r h out none in (record { had = tag_there s i f h out; has = tag_there t i f (run_keeps r h) x.0; same = x.1 }, x.0)

@@ -1,23 +1,29 @@
 -- The kinds of step at a frame: where each is allowed, and what it makes of the frame and of what the stepping view has there.
-use Rattle.std.specs.Prelude.{◌≡◌, ◌≢◌, ℕ, ◌+◌, ◌<◌, Bool, true, false, List, [], ◌∷◌, ◌++◌, map, Option, Some, None, nat_eq, not, ◌||◌, ◌&&◌, if◌then◌else◌}
+use Rattle.std.specs.Prelude.{◌≡◌, ◌≢◌, ℕ, ◌+◌, ◌<◌, Bool, true, false, List, [], ◌∷◌, ◌++◌, map, slice_set, Option, Some, None, nat_eq, not, ◌||◌, ◌&&◌, if◌then◌else◌}
 use Rattle.state_word.specs.declared.word.StateWord.{StateWord}
 use Rattle.state_word.specs.Fields.{pinned_fields, unpinned_fields, locked_fields, unlocked_fields, assigned_fields, cleared_fields, usage_down_fields}
 use Rattle.pin_core.specs.declared.view.Role.{Role}
 use Rattle.pin_core.specs.declared.view.Role.TheVariants.{Absent, HandedOut, Victim}
 use Rattle.pin_core.specs.declared.view.Content.TheVariants.{Unlocked}
 use Rattle.pin_core.specs.declared.view.Io.TheVariants.{Quiet}
+use Rattle.pin_core.specs.declared.view.MapChange.{MapChange}
+use Rattle.pin_core.specs.declared.view.MapChange.TheVariants.{Settled, Entering, Leaving}
+use Rattle.pin_core.specs.declared.view.PartitionHold.{PartitionHold}
 use Rattle.pin_core.specs.declared.view.Seen.{Seen}
 use Rattle.pin_core.specs.declared.view.Seen.TheVariants as seen
-use Rattle.pin_core.specs.declared.view.Look.{Look}
+use Rattle.pin_core.specs.declared.view.Load.{Load}
 use Rattle.pin_core.specs.declared.view.Link.{Link}
 use Rattle.pin_core.specs.declared.view.View.{View}
-use Rattle.pin_core.specs.State.{Frame, no_tag, is_pin, relink}
+use Rattle.pin_core.specs.State.{Frame, Partition, no_tag, hold, is_pin}
+use Rattle.grid.specs.Shape.{put}
 
 pub data Kind : Type 0 where
   -- a load of the state word (`pg_atomic_read_u32`); a compare-exchange that fails and a header lock that isn't got are such loads
   load_state : Kind
   -- a pin of a frame that has BM_TAG_VALID, for a ring or not (`PinBuffer`)
   pin : Bool → Kind
+  -- a pin of the frame that the map gives for the tag, under the latch of the tag's partition (`BufferAlloc`, where the block is found)
+  pin_mapped : ℕ → Bool → Kind
   -- the last pin of the backend is given up (`UnpinBuffer`)
   unpin : Kind
   -- the header is locked (`LockBufHdr`)
@@ -63,6 +69,11 @@ pub record CanPin (fr : Frame) (l : Link) : Type 0 where
   pub absent : l.role ≡ Absent
   pub tagged : fr.word.tag_valid ≡ true
 
+-- the map gives the frame for the tag, besides (`AllowedAround`)
+pub record CanPinMapped (fr : Frame) (l : Link) : Type 0 where
+  pub unlocked : fr.word.locked ≡ false
+  pub absent : l.role ≡ Absent
+
 pub record CanUnpin (fr : Frame) (l : Link) : Type 0 where
   pub unlocked : fr.word.locked ≡ false
   pub pinned : l.role ≢ Absent
@@ -88,12 +99,13 @@ pub record IsAlone (fr : Frame) (l : Link) : Type 0 where
   pub no_content : l.content ≡ Unlocked
   pub no_io : l.io ≡ Quiet
 
--- no frame has the tag, besides (`AllowedAround`)
+-- the view has the latch of the tag's partition, whose map lacks the tag, besides (`AllowedAround`)
 pub record CanStoreTag (tag : ℕ) (fr : Frame) (l : Link) : Type 0 where
   pub alone : IsAlone fr l
   pub named : tag ≢ no_tag
   pub untagged : fr.word.tag_valid ≡ false
 
+-- the view has the latch of its partition, besides (`AllowedAround`)
 pub record CanEraseTag (fr : Frame) (l : Link) : Type 0 where
   pub alone : IsAlone fr l
   pub named : fr.tag ≢ no_tag
@@ -130,6 +142,7 @@ pub record CanClear (fr : Frame) (l : Link) : Type 0 where
 abbrev pub Allowed : Kind → Frame → Link → Type 0
 Allowed load_state fr l = Unit {0}
 Allowed (pin ring) fr l = CanPin fr l
+Allowed (pin_mapped tag ring) fr l = CanPinMapped fr l
 Allowed unpin fr l = CanUnpin fr l
 Allowed lock_header fr l = CanLockHeader fr l
 Allowed unlock_header fr l = CanUnlockHeader fr l
@@ -149,6 +162,7 @@ released w fr = record fr { word = unlocked_fields w }
 abbrev pub frame_after : Kind → Frame → Frame
 frame_after load_state fr = fr
 frame_after (pin ring) fr = record fr { word = pinned_fields ring fr.word }
+frame_after (pin_mapped tag ring) fr = record fr { word = pinned_fields ring fr.word }
 frame_after unpin fr = record fr { word = unpinned_fields fr.word }
 frame_after lock_header fr = record fr { word = locked_fields fr.word }
 frame_after unlock_header fr = released fr.word fr
@@ -169,6 +183,7 @@ link_after load_state fr l = record l {
   listed = l.listed && fr.word.checkpoint_needed;
 }
 link_after (pin ring) fr l = record l { role = HandedOut; ring = ring }
+link_after (pin_mapped tag ring) fr l = record l { role = HandedOut; tag = Some tag; ring = ring }
 link_after unpin fr l = record l { role = Absent; tag = None; seen_valid = false; ring = false }
 link_after lock_header fr l = record l { header = Some (locked_fields fr.word) }
 link_after unlock_header fr l = record l { header = None }
@@ -192,14 +207,33 @@ steps_of load_state = 0
 steps_of load_tag = 0
 steps_of _ = 1
 
--- a look of the view at what was seen
-abbrev pub look_of : View → Seen → Look
-look_of v what = record { seen = what; pins = map (λ (l : Link). is_pin l.role) v.links; steps = v.steps }
+-- a load by the view, with what it saw
+abbrev pub load_of : View → Seen → Load
+load_of v what = record { seen = what; pins = map (λ (l : Link). is_pin l.role) v.links; steps = v.steps }
+
+-- the pair that a kind at the frame f names in change
+abbrev pub named_by : Kind → ℕ → Frame → MapChange
+named_by (store_tag tag) f fr = Entering tag f
+named_by erase_tag f fr = Leaving fr.tag f
+named_by _ f fr = Settled
+
+-- the partitions, where the holder of a latch has named the pair
+abbrev pub partitions_owing : MapChange → (ℕ → ℕ) → (ℕ → Partition) → ℕ → Partition
+partitions_owing Settled partition_of parts = parts
+partitions_owing (Entering tag f) partition_of parts = put parts (partition_of tag) (record (parts (partition_of tag)) { owed = Entering tag f })
+partitions_owing (Leaving tag f) partition_of parts = put parts (partition_of tag) (record (parts (partition_of tag)) { owed = Leaving tag f })
+
+-- what a view has of the latches, where it has named the pair
+abbrev pub holds_naming : MapChange → (ℕ → ℕ) → View → List PartitionHold
+holds_naming Settled partition_of v = v.partitions
+holds_naming (Entering tag f) partition_of v = slice_set v.partitions (partition_of tag) (record (hold v (partition_of tag)) { change = Entering tag f })
+holds_naming (Leaving tag f) partition_of v = slice_set v.partitions (partition_of tag) (record (hold v (partition_of tag)) { change = Leaving tag f })
 
 -- What a kind at the frame f makes of the view
-abbrev pub view_after : Kind → ℕ → Frame → Link → View → View
-view_after k f fr l v = record v {
-  links = (relink v f (link_after k fr l)).links;
-  looks = v.looks ++ map (look_of v) (seen_by k f fr);
+abbrev pub view_after : Kind → (ℕ → ℕ) → ℕ → Frame → Link → View → View
+view_after k partition_of f fr l v = record v {
+  links = slice_set v.links f (link_after k fr l);
+  partitions = holds_naming (named_by k f fr) partition_of v;
+  loads = v.loads ++ map (load_of v) (seen_by k f fr);
   steps = v.steps + steps_of k;
 }

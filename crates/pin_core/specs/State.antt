@@ -1,11 +1,12 @@
 -- The frames of the buffer pool, and what each backend knows.
-use Rattle.std.specs.Prelude.{ℕ, ◌+◌, Bool, true, false, List, [], ◌∷◌, ◌++◌, replicate, length, map, max, slice_index_or, slice_set, ◌||◌, None}
+use Rattle.std.specs.Prelude.{ℕ, ◌+◌, ◌<◌, Bool, true, false, List, [], ◌∷◌, ◌++◌, replicate, length, map, max, slice_index_or, slice_set, ◌||◌, Option, None}
 use Rattle.state_word.specs.declared.word.StateWord.{StateWord}
 use Rattle.pin_core.specs.declared.view.Role.{Role}
 use Rattle.pin_core.specs.declared.view.Role.TheVariants.{Absent, HandedOut, Victim}
 use Rattle.pin_core.specs.declared.view.Content.TheVariants.{Unlocked}
 use Rattle.pin_core.specs.declared.view.Io.TheVariants.{Quiet}
 use Rattle.pin_core.specs.declared.view.LastWrite.TheVariants.{Unwritten}
+use Rattle.pin_core.specs.declared.view.MapChange.{MapChange}
 use Rattle.pin_core.specs.declared.view.MapChange.TheVariants.{Settled}
 use Rattle.pin_core.specs.declared.view.LaneChange.TheVariants as lane_change
 use Rattle.pin_core.specs.declared.view.LogChange.TheVariants as log_change
@@ -34,12 +35,25 @@ pub record Frame : Type 0 where
   pub copying : Bool
   pub page : Page
 
+-- A partition of the mapping table, with its latch (`BufMappingPartitionLock`)
+pub record Partition : Type 0 where
+  -- whether a backend has the latch
+  pub taken : Bool
+  -- the frame that the map gives for a tag
+  pub map : ℕ → Option ℕ
+  -- the pair that the holder of the latch has named, and not yet entered or left out
+  pub owed : MapChange
+
 -- The buffer pool, and what each backend knows
 pub record State : Type 0 where
   -- how many frames there are, and how many backends there may be
   pub frames : ℕ
   pub backends : ℕ
+  -- how many partitions there are, and the partition of each tag (`BufTableHashPartition`)
+  pub partitions : ℕ
+  pub partition_of : ℕ → ℕ
   pub frame : ℕ → Frame
+  pub partition : ℕ → Partition
   pub views : List View
 
 -- the tag word of a frame without a tag: all ones
@@ -58,7 +72,7 @@ idle = record {
   content = Unlocked;
   copying = false;
   dirtied = false;
-  ahead = false;
+  unapplied = false;
   copied = None;
   io = Quiet;
   read = None;
@@ -80,13 +94,17 @@ no_lane = record { held = false; out = None; change = lane_change.Untouched; flu
 abbrev pub no_log : LogHold
 no_log = record { held = false; out = None; change = log_change.Untouched; appended = None; synced = false }
 
+-- what a view has of the latch of the partition p
+abbrev pub hold : View → ℕ → PartitionHold
+hold v p = slice_index_or v.partitions p no_partition
+
+-- what a view has of the latch of the lane n
+abbrev pub lane_hold : View → ℕ → LaneHold
+lane_hold v n = slice_index_or v.lanes n no_lane
+
 -- what a view has at the frame f
 abbrev pub link : View → ℕ → Link
 link v f = slice_index_or v.links f idle
-
--- the view with the link l at f
-abbrev pub relink : View → ℕ → Link → View
-relink v f l = record v { links = slice_set v.links f l }
 
 -- whether a pin stands
 abbrev pub is_pin : Role → Bool
@@ -104,7 +122,7 @@ new_view number frames partitions lanes = record {
   number = number;
   next = 0;
   joined = 0;
-  spent = false;
+  emptied = false;
   links = replicate frames idle;
   partitions = replicate partitions no_partition;
   lanes = replicate lanes no_lane;
@@ -114,13 +132,13 @@ new_view number frames partitions lanes = record {
   front = 0;
   place_loads = 0;
   steps = 0;
-  looks = [];
+  loads = [];
   upto = 0;
   kept = [];
   device_calls = [];
   met = record { reads = 0; writes = 0; logs = 0 };
   saw_down = false;
-  marked = false;
+  dirtied_or_synced = false;
   had_output = false;
   last_ended = None;
 }
@@ -130,8 +148,8 @@ abbrev pub first_view : ℕ → ℕ → ℕ → View
 first_view frames partitions lanes = record (new_view 0 frames partitions lanes) { next = 1 }
 
 -- what is left of a view that was joined into the first
-abbrev pub spent_view : View
-spent_view = record (new_view 0 0 0 0) { spent = true }
+abbrev pub emptied_view : View
+emptied_view = record (new_view 0 0 0 0) { emptied = true }
 
 abbrev pub sum_of_met : Met → Met → Met
 sum_of_met a b = record { reads = a.reads + b.reads; writes = a.writes + b.writes; logs = a.logs + b.logs }
@@ -149,15 +167,11 @@ joined_view v u = record v {
   kept = v.kept ++ kept_checkpoint u ∷ u.kept;
   met = sum_of_met v.met u.met;
   saw_down = v.saw_down || u.saw_down;
-  marked = v.marked || u.marked;
+  dirtied_or_synced = v.dirtied_or_synced || u.dirtied_or_synced;
   had_output = v.had_output || u.had_output;
 }
 
--- the view of the seat i changes, and nothing else
-abbrev pub seated : State → ℕ → View → State
-seated s i w = record s { views = slice_set s.views i w }
-
--- the frame f and the view of the seat i change, and nothing else
+-- the frame f and the view of backend i change, and nothing else
 abbrev pub local : State → ℕ → ℕ → Frame → View → State
 local s i f fr w = record s { frame = put s.frame f fr; views = slice_set s.views i w }
 
@@ -165,9 +179,9 @@ local s i f fr w = record s { frame = put s.frame f fr; views = slice_set s.view
 abbrev pub split_state : State → View → State
 split_state s v = record s { views = slice_set s.views 0 (record v { next = v.next + 1 }) ++ new_view v.next (length v.links) (length v.partitions) (length v.lanes) ∷ [] }
 
--- the backend at the seat j, whose view is u, is joined into the first, whose view is v
+-- backend j, whose view is u, is joined into the first, whose view is v
 abbrev pub joined_state : State → View → ℕ → View → State
-joined_state s v j u = record s { views = slice_set (slice_set s.views 0 (joined_view v u)) j spent_view }
+joined_state s v j u = record s { views = slice_set (slice_set s.views 0 (joined_view v u)) j emptied_view }
 
 -- a state word with no flag set and every number 0
 abbrev pub zero_word : StateWord
@@ -177,6 +191,31 @@ zero_word = record { pins = 0; usage = 0; locked = false; dirty = false; valid =
 abbrev pub empty_frame : Page → Frame
 empty_frame p = record { word = zero_word; tag = no_tag; sharers = 0; exclusive = false; copying = false; page = p }
 
--- the buffer pool at the start, with one backend
-abbrev pub opening : ℕ → ℕ → ℕ → ℕ → Page → State
-opening frames partitions lanes backends p = record { frames = frames; backends = backends; frame = λ _. empty_frame p; views = first_view frames partitions lanes ∷ [] }
+-- a partition at the start: its map is empty
+abbrev pub empty_partition : Partition
+empty_partition = record { taken = false; map = λ _. None; owed = Settled }
+
+-- what a buffer pool is made of
+pub record Config : Type 0 where
+  pub frames : ℕ
+  pub partitions : ℕ
+  pub partition_of : ℕ → ℕ
+  pub lanes : ℕ
+  pub backends : ℕ
+
+-- there is a backend, and each tag has a partition
+pub record CanOpen (c : Config) : Type 0 where
+  pub some_backend : 0 < c.backends
+  pub placed : (tag : ℕ) → c.partition_of tag < c.partitions
+
+-- the buffer pool at the start, each frame with this page, and with one backend
+abbrev pub opening : Config → Page → State
+opening c page = record {
+  frames = c.frames;
+  backends = c.backends;
+  partitions = c.partitions;
+  partition_of = c.partition_of;
+  frame = λ _. empty_frame page;
+  partition = λ _. empty_partition;
+  views = first_view c.frames c.partitions c.lanes ∷ [];
+}

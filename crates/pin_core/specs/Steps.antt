@@ -1,5 +1,5 @@
 -- One step, and lists of steps.
-use Rattle.std.specs.Prelude.{◌≡◌, ◌≢◌, ℕ, ◌<◌, false, List, [], ◌∷◌, None}
+use Rattle.std.specs.Prelude.{◌≡◌, ◌≢◌, ℕ, ◌<◌, true, false, List, [], ◌∷◌, Some, None, slice_set}
 use mathlib.Core.Option.{some}
 use lib.ListN.{get_elem?}
 use Rattle.pin_core.specs.declared.view.Role.TheVariants.{Absent, Victim}
@@ -7,8 +7,11 @@ use Rattle.pin_core.specs.declared.view.Content.TheVariants.{Unlocked}
 use Rattle.pin_core.specs.declared.view.Io.TheVariants.{Quiet}
 use Rattle.pin_core.specs.declared.view.Link.{Link}
 use Rattle.pin_core.specs.declared.view.View.{View}
-use Rattle.pin_core.specs.State.{State, link, local, split_state, joined_state}
-use Rattle.pin_core.specs.Kinds.{Kind, lock_header, store_tag, pin_victim, Allowed, frame_after, view_after}
+use Rattle.pin_core.specs.declared.view.MapChange.TheVariants.{Settled}
+use Rattle.pin_core.specs.State.{State, link, hold, lane_hold, split_state, joined_state}
+use Rattle.grid.specs.Shape.{put}
+use Rattle.pin_core.specs.Kinds.{Kind, lock_header, store_tag, erase_tag, pin_mapped, pin_victim, Allowed, frame_after, named_by, partitions_owing, view_after}
+use Rattle.pin_core.specs.Turns.{TurnKind, TurnAllowed, partition_after, view_turned}
 
 -- the view holds no header
 abbrev pub HoldsNoHeader : View → Type 0
@@ -18,20 +21,36 @@ HoldsNoHeader v = (f : ℕ) → (link v f).header ≡ None
 abbrev pub HasNoVictim : View → Type 0
 HasNoVictim v = (f : ℕ) → (link v f).role ≢ Victim
 
--- no frame's tag word is this tag
-abbrev pub IsFresh : State → ℕ → Type 0
-IsFresh s tag = (f : ℕ) → f < s.frames → (s.frame f).tag ≢ tag
+-- The view has the latch of the tag's partition, whose one change is not made, and names no pair in change
+pub record MayName (s : State) (v : View) (tag : ℕ) : Type 0 where
+  pub held : (hold v (s.partition_of tag)).held ≡ true
+  pub unchanged : (hold v (s.partition_of tag)).changed ≡ false
+  pub settled : (p : ℕ) → (hold v p).change ≡ Settled
 
--- What a kind asks of the whole state and view, beyond the frame
-abbrev pub AllowedAround : Kind → State → View → Type 0
-AllowedAround lock_header s v = HoldsNoHeader v
-AllowedAround pin_victim s v = HasNoVictim v
-AllowedAround (store_tag tag) s v = IsFresh s tag
-AllowedAround _ s v = Unit {0}
+-- and the map lacks the tag
+pub record MayEnter (s : State) (v : View) (tag : ℕ) : Type 0 where
+  pub naming : MayName s v tag
+  pub lacking : (s.partition (s.partition_of tag)).map tag ≡ None
 
--- What happens: a backend's step at a frame, a new backend, or the end of one
+-- the view has the latch of the tag's partition, whose map gives the frame, and names no pair in change there
+pub record IsMapped (s : State) (v : View) (tag f : ℕ) : Type 0 where
+  pub held : (hold v (s.partition_of tag)).held ≡ true
+  pub settled : (hold v (s.partition_of tag)).change ≡ Settled
+  pub given : (s.partition (s.partition_of tag)).map tag ≡ Some f
+
+-- What a kind at the frame f asks of the whole state and view, beyond the frame
+abbrev pub AllowedAround : Kind → State → View → ℕ → Type 0
+AllowedAround lock_header s v f = HoldsNoHeader v
+AllowedAround pin_victim s v f = HasNoVictim v
+AllowedAround (store_tag tag) s v f = MayEnter s v tag
+AllowedAround erase_tag s v f = MayName s v (s.frame f).tag
+AllowedAround (pin_mapped tag ring) s v f = IsMapped s v tag f
+AllowedAround _ s v f = Unit {0}
+
+-- What happens: a backend's step at a frame, or at a partition's latch, a new backend, or the end of one
 pub data Event : Type 0 where
   at : ℕ → ℕ → Kind → Event
+  turn : ℕ → ℕ → TurnKind → Event
   split : Event
   join : ℕ → Event
 
@@ -44,21 +63,37 @@ pub record IsFree (l : Link) : Type 0 where
   pub page_home : l.out ≡ None
   pub no_wait : l.waits ≡ None
 
--- the view holds nothing
-abbrev pub HoldsNothing : View → Type 0
-HoldsNothing v = (f : ℕ) → IsFree (link v f)
+-- The view holds nothing
+pub record HoldsNothing (v : View) : Type 0 where
+  pub frames : (f : ℕ) → IsFree (link v f)
+  pub partitions : (p : ℕ) → (hold v p).held ≡ false
+  pub lanes : (n : ℕ) → (lane_hold v n).held ≡ false
+  pub log : v.log.held ≡ false
 
--- the state after a step of the kind k at the frame f by the backend at the seat i, whose view is v
+-- the state after a step of the kind k at the frame f by backend i, whose view is v
 abbrev pub state_after : Kind → State → ℕ → ℕ → View → State
-state_after k s i f v = local s i f (frame_after k (s.frame f)) (view_after k f (s.frame f) (link v f) v)
+state_after k s i f v = record s {
+  frame = put s.frame f (frame_after k (s.frame f));
+  partition = partitions_owing (named_by k f (s.frame f)) s.partition_of s.partition;
+  views = slice_set s.views i (view_after k s.partition_of f (s.frame f) (link v f) v);
+}
+
+-- the state after a step of the kind k at the partition p, likewise
+abbrev pub state_turned : TurnKind → State → ℕ → ℕ → View → State
+state_turned k s i p v = record s {
+  partition = put s.partition p (partition_after k (s.partition p) (hold v p));
+  views = slice_set s.views i (view_turned k p (hold v p) v);
+}
 
 pub data Step : Event → State → State → Type 0 where
-  -- a step of the kind k at the frame f by the backend at the seat i, whose view is v
-  touches : {s : State} (i f : ℕ) (k : Kind) (v : View) → get_elem? s.views i ≡ some v → v.spent ≡ false → f < s.frames → Allowed k (s.frame f) (link v f) → AllowedAround k s v → Step (at i f k) s (state_after k s i f v)
+  -- a step of the kind k at the frame f by backend i, whose view is v
+  touches : {s : State} (i f : ℕ) (k : Kind) (v : View) → get_elem? s.views i ≡ some v → v.emptied ≡ false → f < s.frames → Allowed k (s.frame f) (link v f) → AllowedAround k s v f → Step (at i f k) s (state_after k s i f v)
+  -- a step of the kind k at the partition p, likewise
+  turns : {s : State} (i p : ℕ) (k : TurnKind) (v : View) → get_elem? s.views i ≡ some v → v.emptied ≡ false → p < s.partitions → TurnAllowed k (s.partition p) (hold v p) → Step (turn i p k) s (state_turned k s i p v)
   -- a new backend starts, with the first one's next number
   splits : {s : State} (v : View) → get_elem? s.views 0 ≡ some v → v.next < s.backends → Step split s (split_state s v)
-  -- the backend at the seat j, which holds nothing, is joined into the first
-  joins : {s : State} (j : ℕ) (v u : View) → get_elem? s.views 0 ≡ some v → j ≢ 0 → get_elem? s.views j ≡ some u → u.spent ≡ false → HoldsNothing u → Step (join j) s (joined_state s v j u)
+  -- backend j, which holds nothing, is joined into the first
+  joins : {s : State} (j : ℕ) (v u : View) → get_elem? s.views 0 ≡ some v → j ≢ 0 → get_elem? s.views j ≡ some u → u.emptied ≡ false → HoldsNothing u → Step (join j) s (joined_state s v j u)
 
 -- the events lead from one state to the other
 pub data Run : List Event → State → State → Type 0 where

@@ -3,36 +3,40 @@
 //! Nothing here runs. The types are what a backend knows ([`View`]); the kinds of step, the law that they keep and the lists of steps are in `specs/`, and docs/PROTOCOL.md tells them in words.
 #![tactic(auto)]
 
-ghost use Rattle.std.specs.Prelude.{ℕ, ◌<◌, List};
-ghost use Rattle.pin_core.specs.State.{Page, State, opening};
-ghost use Rattle.pin_core.specs.Lawful.{Lawful};
+ghost use Rattle.std.specs.Prelude.{List};
+ghost use Rattle.pin_core.specs.State.{CanOpen, Config, Page, State, opening};
+ghost use Rattle.pin_core.specs.Invariant.{AllAccounted, Invariant};
 ghost use Rattle.pin_core.specs.Steps.{Event, Run};
 ghost use Rattle.pin_core.specs.Sample.{SampleRuns};
-ghost use Rattle.pin_core.specs.Schedules.{IsReached, TagsAreUnique, PinsAreCounted, HeadersAreHeld, HoldersHaveTheWord, PinsRemember, PinnedTagsStay};
+ghost use Rattle.pin_core.specs.Schedules.{IsReached, TagsAreUnique, PinsAreCounted, PinsAreFew, HeadersAreHeld, HoldersHaveTheWord, PinsRemember, PinnedTagsStay, MapsAreExact, TurnsAreHeld};
 
 mod view;
 
 pub use view::{
     BlockPage, Call, Checkpoint, Content, DeviceCall, Io, LaneChange, LaneHold, LastWrite, Link,
-    LogChange, LogHold, Look, MapChange, MapEntry, Met, PartitionHold, Role, Seen, View,
+    Load, LogChange, LogHold, MapChange, MapEntry, Met, PartitionHold, Role, Seen, View,
 };
 
 /// What every list of events keeps, whatever the backends do and in whatever order.
 pub fn all_schedules()
     // From every state that has the law every list of events leads to one that has it, and the state at the start has it.
-    ensures kept { (es : List Event) (s : State) (t : State) → Lawful s → Run es s t → Lawful t }
-    ensures opens { (frames : ℕ) (partitions : ℕ) (lanes : ℕ) (backends : ℕ) (page : Page) → 0 < backends → Lawful (opening frames partitions lanes backends page) }
+    ensures kept { (es : List Event) (s : State) (t : State) → Invariant s → Run es s t → Invariant t }
+    ensures opens { (config : Config) (page : Page) → CanOpen config → Invariant (opening config page) }
 
     // So in every state that events lead to:
     ensures unique { (s : State) → IsReached s → TagsAreUnique s }
     ensures stay { (s : State) → IsReached s → PinnedTagsStay s }
     ensures counted { (s : State) → IsReached s → PinsAreCounted s }
+    ensures accounted { (s : State) → IsReached s → AllAccounted s.views }
+    ensures few { (s : State) → IsReached s → PinsAreFew s }
     ensures held { (s : State) → IsReached s → HeadersAreHeld s }
     ensures holders { (s : State) → IsReached s → HoldersHaveTheWord s }
     ensures remembers { (s : State) → IsReached s → PinsRemember s }
+    ensures exact { (s : State) → IsReached s → MapsAreExact s }
+    ensures taken { (s : State) → IsReached s → TurnsAreHeld s }
 {}
 
-/// Ten events as an example: a backend misses a block and gives it a frame, another one hits it there, and the first one's pin goes.
+/// An example: a backend misses a block and gives it a frame, another one hits it there, and the first one's pin goes.
 pub fn miss_and_hit()
     ensures { SampleRuns }
 {}

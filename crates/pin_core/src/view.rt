@@ -50,8 +50,8 @@ pub struct Link {
     pub copying: bool,
     /// Under this exclusive lock the frame was marked dirty.
     pub dirtied: bool,
-    /// The entry of the new page is in the log, and the page is not changed yet.
-    pub ahead: bool,
+    /// The entry of the new page is in the log, and not yet applied to the page.
+    pub unapplied: bool,
     /// The page as the backend copied it under this content lock.
     pub copied: Option<[u8; 0]>,
     pub io: Io,
@@ -85,13 +85,14 @@ pub enum MapChange {
     Leaving { tag: u64, frame: u64 },
 }
 
-/// What a backend has of a partition's turn.
+/// What a backend has of a partition's latch.
 pub struct PartitionHold {
     pub held: bool,
+    /// The pair that the backend named when it stored a tag word, until the map is back with it.
     pub change: MapChange,
     /// The map is out with the backend, and this is what it was when it went out.
     pub out: Option<[MapEntry; 0]>,
-    /// The map that is out has the change.
+    /// The one change of the map under this latch is made.
     pub changed: bool,
 }
 
@@ -112,11 +113,22 @@ pub enum LaneChange {
     SyncFailed,
 }
 
-/// What a backend has of a lane's turn.
+/// What a lane was when it went out.
+pub struct TakenLane {
+    /// Its pages, where the contents are known.
+    pub pages: Option<[BlockPage; 0]>,
+    /// The blocks whose last write had failed, by their tags.
+    pub failed: [u64; 0],
+    /// How many reads, and how many writes and syncs, had failed.
+    pub read_faults: u64,
+    pub write_faults: u64,
+}
+
+/// What a backend has of a lane's latch.
 pub struct LaneHold {
     pub held: bool,
-    /// The lane is out with the backend, and these were its pages when it went out.
-    pub out: Option<[BlockPage; 0]>,
+    /// The lane is out with the backend, and this is what it was when it went out.
+    pub out: Option<TakenLane>,
     pub change: LaneChange,
     /// The flushed position as the backend had loaded it when the lane went out.
     pub flushed: u64,
@@ -131,15 +143,23 @@ pub enum LogChange {
     SyncFailed,
 }
 
-/// What a backend has of the log's turn.
+/// What the log's device was when it went out.
+pub struct TakenLog {
+    /// Its bytes, where the contents are known.
+    pub bytes: Option<[u8; 0]>,
+    /// How many appends and syncs had failed.
+    pub faults: u64,
+}
+
+/// What a backend has of the log's latch.
 pub struct LogHold {
     pub held: bool,
-    /// The log is out with the backend, and these were its bytes when it went out.
-    pub out: Option<[u8; 0]>,
+    /// The device is out with the backend, and this is what it was when it went out.
+    pub out: Option<TakenLog>,
     pub change: LogChange,
-    /// In this turn a record was appended, and the log end not stored yet.
+    /// Under this latch a record was appended, and the log end not stored yet.
     pub appended: Option<[u8; 0]>,
-    /// In this turn a sync was done.
+    /// Under this latch a sync was done.
     pub synced: bool,
 }
 
@@ -177,7 +197,7 @@ pub enum Seen {
 }
 
 /// One load, with what the backend had done and pinned by then.
-pub struct Look {
+pub struct Load {
     pub seen: Seen,
     /// For each frame, whether the backend pinned it.
     pub pins: [bool; 0],
@@ -220,7 +240,7 @@ pub struct View {
     /// For the first backend: how many backends were joined into it.
     pub joined: u64,
     /// What is left of a backend that was joined into the first.
-    pub spent: bool,
+    pub emptied: bool,
     /// One for each frame.
     pub links: [Link; 0],
     /// One for each partition of the mapping table.
@@ -239,17 +259,17 @@ pub struct View {
     /// How many steps other than loads the backend made.
     pub steps: u64,
     /// The loads, in order.
-    pub looks: [Look; 0],
+    pub loads: [Load; 0],
     /// The log end at which the backend's checkpoint began, or 0.
     pub upto: u64,
     /// The checkpoints of the backends that were joined into this one.
     pub kept: [Checkpoint; 0],
     pub device_calls: [DeviceCall; 0],
     pub met: Met,
-    /// Under the log's turn the backend saw the log down, or saw its own call fail.
+    /// Under the log's latch the backend saw the log down, or saw its own call fail.
     pub saw_down: bool,
     /// The backend has marked a frame dirty, or called a lane's sync.
-    pub marked: bool,
+    pub dirtied_or_synced: bool,
     /// The backend has had an output right.
     pub had_output: bool,
     /// The word that the end of its last input or output stored.

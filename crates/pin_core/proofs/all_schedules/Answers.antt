@@ -1,6 +1,6 @@
 use Rattle.pin_core.proofs.Opening.{opens}
 use Rattle.pin_core.proofs.Stepping.{run_keeps}
-use Rattle.pin_core.proofs.Schedules.{reached, unique, counted, held, holders, remembers, stay}
+use Rattle.pin_core.proofs.Schedules.{reached, unique, few, counted, held, holders, exact, taken, remembers, stay}
 use Rattle.pin_core.proofs.all_schedules.Goals as goal
 
 pub returns-clause-kept : goal.returns-clause-kept
@@ -26,3 +26,15 @@ returns-clause-holders c = λ s r. holders s (reached s r)
 
 pub returns-clause-remembers : goal.returns-clause-remembers
 returns-clause-remembers c = λ s r. remembers s (reached s r)
+
+pub returns-clause-exact : goal.returns-clause-exact
+returns-clause-exact c = λ s r. exact s (reached s r)
+
+pub returns-clause-taken : goal.returns-clause-taken
+returns-clause-taken c = λ s r. taken s (reached s r)
+
+pub returns-clause-few : goal.returns-clause-few
+returns-clause-few c = λ s r. few s (reached s r)
+
+pub returns-clause-accounted : goal.returns-clause-accounted
+returns-clause-accounted c = λ s r. (reached s r).accounted

@@ -1,5 +1,5 @@
 -- What holds in every state that steps lead to.
-use Rattle.std.specs.Prelude.{◌≡◌, ◌≢◌, ℕ, ◌+◌, ◌<◌, ◌≤◌, true, false, List, Some, None, length}
+use Rattle.std.specs.Prelude.{◌≡◌, ◌≢◌, ℕ, ◌+◌, ◌<◌, ◌≤◌, Bool, true, false, List, Some, None, length}
 use mathlib.Core.Option.{some}
 use lib.ListN.{get_elem?}
 use Rattle.state_word.specs.declared.word.StateWord.{StateWord}
@@ -8,7 +8,9 @@ use Rattle.pin_core.specs.declared.view.Link.{Link}
 use Rattle.pin_core.specs.declared.view.View.{View}
 use Rattle.pin_core.specs.State.{Frame, State, no_tag}
 use Rattle.pin_core.specs.Tallies.{Tally, pins, headers, pendings, settled_pins, settled_headers, flag_weight, frame_shape}
-use Rattle.grid.specs.Shape.{Part, Grid}
+use Rattle.pin_core.specs.Turns.{turn_shape, turn_part}
+use Rattle.pin_core.specs.Maps.{MapLaw}
+use Rattle.grid.specs.Shape.{total, Part, Grid}
 
 -- the frame has a tag: BM_TAG_VALID stands, and the tag word isn't all ones
 pub record HasTag (fr : Frame) : Type 0 where
@@ -80,22 +82,36 @@ abbrev pub pin_part : Part frame_shape
 pin_part = record { column = λ _ fr t. FrameLaw fr t; cell = λ _ fr _ l. LinkLaw fr l }
 
 -- What holds of the list of views
-pub record ViewsLaw (frames backends : ℕ) (views : List View) : Type 0 where
-  -- a view has a link for each frame
-  pub wide : (i : ℕ) (v : View) → get_elem? views i ≡ some v → v.spent ≡ false → length v.links ≡ frames
-  -- the view at the seat i has the number i
-  pub numbered : (i : ℕ) (v : View) → get_elem? views i ≡ some v → v.spent ≡ false → v.number ≡ i
-  -- the first view is never spent, and has the next number to give
-  pub first : (v : View) → get_elem? views 0 ≡ some v → (v.spent ≡ false) × (v.next ≡ length views)
+pub record ViewsLaw (frames partitions backends : ℕ) (views : List View) : Type 0 where
+  -- a view has a link for each frame, and a hold for each partition
+  pub wide : (i : ℕ) (v : View) → get_elem? views i ≡ some v → v.emptied ≡ false → (length v.links ≡ frames) × (length v.partitions ≡ partitions)
+  -- view i has the number i
+  pub numbered : (i : ℕ) (v : View) → get_elem? views i ≡ some v → v.emptied ≡ false → v.number ≡ i
+  -- the first view is never emptied, and has the next number to give
+  pub first : (v : View) → get_elem? views 0 ≡ some v → (v.emptied ≡ false) × (v.next ≡ length views)
   -- no number is given beyond the count of backends
   pub few : length views ≤ backends
+
+-- 1 for a backend that is there, and 0 for what is left of one
+abbrev pub live_weight : Bool → ℕ
+live_weight true = 0
+live_weight false = 1
+
+-- the backends that are there, and those that were joined into the first, are as many as numbers were given
+abbrev pub AllAccounted : List View → Type 0
+AllAccounted views = (v : View) → get_elem? views 0 ≡ some v → total (λ (u : View). live_weight u.emptied) views + v.joined ≡ length views
 
 -- no two frames have one tag word, with BM_TAG_VALID or without, but for all ones
 abbrev pub TagsApart : ℕ → (ℕ → Frame) → Type 0
 TagsApart frames frame = (f g : ℕ) → f < frames → g < frames → (frame f).tag ≢ no_tag → (frame f).tag ≡ (frame g).tag → f ≡ g
 
--- The law of pins, headers and tags
-pub record Lawful (s : State) : Type 0 where
+-- The law of pins, headers, tags and maps
+pub record Invariant (s : State) : Type 0 where
   pub grid : Grid frame_shape pin_part s.frames s.frame (λ _. tt) s.views
+  pub turns : Grid turn_shape turn_part s.partitions s.partition (λ _. tt) s.views
   pub apart : TagsApart s.frames s.frame
-  pub views : ViewsLaw s.frames s.backends s.views
+  pub maps : MapLaw s.frames s.partition_of (λ p. (s.partition p).map) (λ p. (s.partition p).owed) (λ f. (s.frame f).tag)
+  -- each tag has a partition
+  pub placed : (tag : ℕ) → s.partition_of tag < s.partitions
+  pub views : ViewsLaw s.frames s.partitions s.backends s.views
+  pub accounted : AllAccounted s.views

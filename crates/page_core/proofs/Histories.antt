@@ -1,0 +1,88 @@
+-- What the law says in the field's words.
+use Rattle.std.proofs.Common.{◌≡◌, ◌≢◌, ℕ, ◌+◌, ◌<◌, ◌≤◌, Bool, true, false, cond, None, sym, refl, ap, ◌∙◌, arith}
+use Rattle.std.specs.Prelude.{count_by, if◌then◌else◌}
+use mathlib.Core.Logic.{dite}
+use native.Mathlib.Decide.{ℕ_discrete}
+use Rattle.pin_core.specs.declared.view.Content.{Content}
+use Rattle.pin_core.specs.declared.view.Content.TheVariants.{Unlocked, Shared, Exclusive}
+use Rattle.pin_core.specs.declared.view.Io.{Io}
+use Rattle.pin_core.specs.declared.view.Io.TheVariants.{Quiet, Input, Output}
+use Rattle.pin_core.specs.declared.view.Link.{Link}
+use Rattle.pin_core.specs.declared.view.View.{View}
+use Rattle.pin_core.specs.State.{Frame, link}
+use Rattle.pin_core.specs.Tallies.{flag_weight}
+use Rattle.page_core.specs.State.{Block, State, block_of}
+use Rattle.page_core.specs.Tallies.{Tally, sharers, applied_locks, unapplied_locks, copies, works, weigh, share_weight, exclusive_weight, work_weight, page_shape}
+use Rattle.page_core.specs.Invariant.{PageFrame, PageLink, Invariant}
+use Rattle.page_core.specs.Histories.{IsReached, is_shared, is_exclusive, is_working, shares, excludes, works_on, ContentLocks, OneIo, RightsNeedPins, OnePageOut, FramesHoldPages, CopiesArePages}
+use Rattle.grid.specs.Shape.{tallies, total}
+use Rattle.grid.proofs.Sums.{total-count, total-add, total-same, total-none, terms_le}
+use Rattle.page_core.proofs.Opening.{opens}
+use Rattle.page_core.proofs.Stepping.{run_keeps}
+
+pub reached : (s : State) → IsReached s → Invariant s
+reached s r = run_keeps r.run (opens r.config r.origin r.page r.opens)
+
+one_sharer : (c : Content) → share_weight c ≡ cond (is_shared c) 1 0
+one_sharer Unlocked = refl
+one_sharer Shared = refl
+one_sharer Exclusive = refl
+
+one_excluder : (c : Content) → exclusive_weight c ≡ cond (is_exclusive c) 1 0
+one_excluder Unlocked = refl
+one_excluder Shared = refl
+one_excluder Exclusive = refl
+
+one_worker : (o : Io) → work_weight o ≡ cond (is_working o) 1 0
+one_worker Quiet = refl
+one_worker Input = refl
+one_worker Output = refl
+
+flag_count : (b : Bool) → flag_weight b ≡ (if b then 1 else 0)
+flag_count true = refl
+flag_count false = refl
+
+-- an exclusive lock has its entry applied, or not
+applied_or_not : (b : Block) (fr : Frame) (l : Link) → PageLink b fr l → exclusive_weight l.content ≡ weigh applied_locks l + weigh unapplied_locks l
+applied_or_not b fr l h = grind (arith, h)
+
+-- two views that have the page out
+both_out : (b : Block) (fr : Frame) (l m : Link) (t : Tally → ℕ) → PageFrame b fr t → PageLink b fr l → PageLink b fr m → weigh sharers l + weigh sharers m ≤ t sharers → weigh applied_locks l + weigh applied_locks m ≤ t applied_locks → weigh unapplied_locks l + weigh unapplied_locks m ≤ t unapplied_locks → weigh copies l + weigh copies m ≤ t copies
+    → weigh works l + weigh works m ≤ t works → l.out ≢ None → m.out ≢ None → ⊥
+both_out b fr l m t q c d x y z w o a e = grind (arith, q, c, d, x, y, z, w, o, a, e)
+
+module _ (s : State) (h : Invariant s) where
+  pub locks : (f : ℕ) → f < s.core.frames → ContentLocks s f
+  locks f below = let c = h.pages.columns f below in let shared : total (λ (v : View). weigh sharers (link v f)) s.core.views ≡ count_by (shares f) s.core.views = total-count (λ (v : View). weigh sharers (link v f)) (shares f) (λ v. one_sharer (link v f).content) s.core.views in record {
+    sharers = c.shared ∙ shared;
+    exclusive = sym (total-count (λ (v : View). exclusive_weight (link v f).content) (excludes f) (λ v. one_excluder (link v f).content) s.core.views)
+        ∙ total-same (λ (v : View). exclusive_weight (link v f).content) (λ (v : View). weigh applied_locks (link v f) + weigh unapplied_locks (link v f)) s.core.views (λ j v there. applied_or_not (block_of s.logged (s.core.frame f).tag) (s.core.frame f) (link v f) (h.pages.cells j v f there below))
+        ∙ total-add (λ (v : View). weigh applied_locks (link v f) + weigh unapplied_locks (link v f)) (λ (v : View). weigh applied_locks (link v f)) (λ (v : View). weigh unapplied_locks (link v f)) (λ v. refl) s.core.views ∙ sym c.exclusive ∙ flag_count (s.core.frame f).exclusive;
+    apart = λ e. sym shared ∙ sym c.shared ∙ c.excludes e;
+  }
+
+  pub one_io : (f : ℕ) → f < s.core.frames → OneIo s f
+  one_io f below = sym (total-count (λ (v : View). weigh works (link v f)) (works_on f) (λ v. one_worker (link v f).io) s.core.views) ∙ sym (h.pages.columns f below).working ∙ flag_count (s.core.frame f).word.in_progress
+
+  pub rights : RightsNeedPins s
+  rights = record {
+    content = λ i f v there below e. let x = (h.pages.cells i v f there below).content e in (x.0, x.1);
+    input = λ i f v there below e. let x = h.pages.cells i v f there below in (x.io (λ q. absurd (cc)), (x.input e).1);
+    output = λ i f v there below e. let x = h.pages.cells i v f there below in (x.io (λ q. absurd (cc)), (x.output e).1, (x.output e).0);
+  }
+
+  pub one_out : OnePageOut s
+  one_out i j f v u there here below a e = dite (ℕ_discrete i j) (λ same. same) (λ o. absurd (both_out (block_of s.logged (s.core.frame f).tag) (s.core.frame f) (link u f) (link v f) (tallies page_shape s.core.views f) (h.pages.columns f below) (h.pages.cells j u f here below) (h.pages.cells i v f there below)
+      (sums o sharers) (sums o applied_locks) (sums o unapplied_locks) (sums o copies) (sums o works) e a))
+    where
+      sums : i ≢ j → (k : Tally) → weigh k (link u f) + weigh k (link v f) ≤ tallies page_shape s.core.views f k
+      sums o k = terms_le (λ (x : View). weigh k (link x f)) s.core.views j i u v o here there
+
+  pub frames_hold : FramesHoldPages s
+  frames_hold f below tag valid none = sym ((h.pages.columns f below).page valid tag.named (total-none (λ (v : View). weigh unapplied_locks (link v f)) s.core.views (λ i v there. ap flag_weight (none i v there))))
+
+  pub copies_are : CopiesArePages s
+  copies_are = record {
+    copied = λ i f v p there below e. ((h.pages.cells i v f there below).copied p e).is_logged;
+    read = λ i f v p there below e. ((h.pages.cells i v f there below).read p e).is_logged;
+  }

@@ -1,0 +1,9 @@
+pub mod Others
+pub mod KeepingPages
+pub mod KeepingPins
+pub mod KeepingBelow
+pub mod Cases
+pub mod Stepping
+pub mod Opening
+pub mod Histories
+pub mod Sample

@@ -1,0 +1,39 @@
+-- What a step leaves of the links of the other views at the frame.
+use Rattle.std.proofs.Common.{◌≡◌, ◌≢◌, ℕ, ◌+◌, ◌≤◌, true, None, arith}
+use Rattle.pin_core.specs.declared.view.Content.TheVariants.{Exclusive}
+use Rattle.pin_core.specs.declared.view.Io.TheVariants.{Input}
+use Rattle.pin_core.specs.declared.view.Link.{Link}
+use Rattle.pin_core.specs.State.{Frame, Page}
+use Rattle.pin_core.specs.Tallies as pins
+use Rattle.pin_core.specs.Invariant.{FrameLaw, LinkLaw}
+use Rattle.page_core.specs.State.{Block}
+use Rattle.page_core.specs.Tallies.{Tally, pin, sharers, applied_locks, unapplied_locks, works, weigh, work_weight}
+use Rattle.page_core.specs.Invariant.{PageFrame, PageLink}
+
+-- The frame is for a link what it was
+pub record SameFor (fr fr' : Frame) : Type 0 where
+  pub valid : fr'.word.valid ≡ fr.word.valid
+  pub dirty : fr'.word.dirty ≡ fr.word.dirty
+  pub just : fr'.word.just_dirtied ≡ fr.word.just_dirtied
+  pub flagged : fr'.word.tag_valid ≡ fr.word.tag_valid
+  pub tag : fr'.tag ≡ fr.tag
+  pub page : fr'.page ≡ fr.page
+
+pub link_same : (b : Block) (fr fr' : Frame) (m : Link) → SameFor fr fr' → PageLink b fr m → PageLink b fr' m
+link_same b fr fr' m e h = grind (arith, e, h)
+
+-- the page of a frame changes, which another view has neither out nor read
+pub page_changes : (b : Block) (fr : Frame) (m : Link) (p : Page) → m.out ≡ None → m.io ≢ Input → PageLink b fr m → PageLink b (record fr { page = p }) m
+page_changes b fr m p home quiet h = grind (arith, home, quiet, h)
+
+-- beside the exclusive lock no other view has the page out, or an input right
+pub exclusive_alone : (b : Block) (fr : Frame) (l m : Link) (t : Tally → ℕ) → PageFrame b fr t → PageLink b fr l → PageLink b fr m → weigh applied_locks l + weigh applied_locks m ≤ t applied_locks → weigh unapplied_locks l + weigh unapplied_locks m ≤ t unapplied_locks → weigh sharers l + weigh sharers m ≤ t sharers → l.content ≡ Exclusive → (m.out ≡ None) × (m.io ≢ Input)
+exclusive_alone b fr l m t q c d x y z e = grind (arith, q, c, d, x, y, z, e)
+
+-- beside an input right no other view has the page out, or an input right
+pub input_alone : (b : Block) (fr : Frame) (l m : Link) (t : Tally → ℕ) → PageFrame b fr t → PageLink b fr l → PageLink b fr m → weigh works l + weigh works m ≤ t works → l.io ≡ Input → (m.out ≡ None) × (m.io ≢ Input)
+input_alone b fr l m t q c d x e = grind (arith, q, c, d, x, e)
+
+-- beside the view that stored the tag word no other view has a right there
+pub pending_alone : (b : Block) (fr : Frame) (l m : Link) (t : Tally → ℕ) → FrameLaw fr (λ k. t (pin k)) → LinkLaw fr l → PageLink b fr m → weigh (pin pins.pendings) l ≤ t (pin pins.pendings) → weigh (pin pins.pins) l + weigh (pin pins.pins) m ≤ t (pin pins.pins) → l.pending ≡ true → work_weight m.io ≡ 0
+pending_alone b fr l m t q c d x y e = grind (arith, q, c, d, x, y, e)

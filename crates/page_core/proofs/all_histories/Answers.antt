@@ -1,0 +1,41 @@
+use Rattle.pin_core.proofs.Schedules as pins
+use Rattle.page_core.proofs.Opening.{opens}
+use Rattle.page_core.proofs.Stepping.{run_keeps}
+use Rattle.page_core.proofs.Histories.{reached, locks, one_io, rights, one_out, frames_hold, copies_are}
+use Rattle.page_core.proofs.all_histories.Goals as goal
+
+pub returns-clause-kept : goal.returns-clause-kept
+returns-clause-kept c = λ es s t h r. run_keeps r h
+
+pub returns-clause-opens : goal.returns-clause-opens
+returns-clause-opens c = opens
+
+pub returns-clause-counted : goal.returns-clause-counted
+returns-clause-counted c = λ s r. pins.counted s.core (reached s r).core
+
+pub returns-clause-unique : goal.returns-clause-unique
+returns-clause-unique c = λ s r. pins.unique s.core (reached s r).core
+
+pub returns-clause-exact : goal.returns-clause-exact
+returns-clause-exact c = λ s r. pins.exact s.core (reached s r).core
+
+pub returns-clause-remembers : goal.returns-clause-remembers
+returns-clause-remembers c = λ s r. pins.remembers s.core (reached s r).core
+
+pub returns-clause-locks : goal.returns-clause-locks
+returns-clause-locks c = λ s f r below. locks s (reached s r) f below
+
+pub returns-clause-one_io : goal.returns-clause-one_io
+returns-clause-one_io c = λ s f r below. one_io s (reached s r) f below
+
+pub returns-clause-rights : goal.returns-clause-rights
+returns-clause-rights c = λ s r. rights s (reached s r)
+
+pub returns-clause-one_out : goal.returns-clause-one_out
+returns-clause-one_out c = λ s r. one_out s (reached s r)
+
+pub returns-clause-frames_hold : goal.returns-clause-frames_hold
+returns-clause-frames_hold c = λ s r. frames_hold s (reached s r)
+
+pub returns-clause-copies_are : goal.returns-clause-copies_are
+returns-clause-copies_are c = λ s r. copies_are s (reached s r)

@@ -1,0 +1,84 @@
+-- What every list of events keeps of content locks, pages, input and output, in the field's words.
+use Rattle.std.specs.Prelude.{◌≡◌, ◌≢◌, ℕ, ◌<◌, Bool, true, false, List, Some, None, count_by, if◌then◌else◌}
+use mathlib.Core.Option.{some}
+use lib.ListN.{get_elem?}
+use Rattle.pin_core.specs.declared.view.Content.{Content}
+use Rattle.pin_core.specs.declared.view.Content.TheVariants.{Unlocked, Shared, Exclusive}
+use Rattle.pin_core.specs.declared.view.Io.{Io}
+use Rattle.pin_core.specs.declared.view.Io.TheVariants.{Quiet, Input, Output}
+use Rattle.pin_core.specs.declared.view.Role.TheVariants.{Absent}
+use Rattle.pin_core.specs.declared.view.View.{View}
+use Rattle.pin_core.specs.State.{Page, Config, CanOpen, link}
+use Rattle.pin_core.specs.Invariant.{HasTag}
+use Rattle.page_core.specs.State.{State, opening}
+use Rattle.page_core.specs.Steps.{Event, Run}
+
+-- a list of events leads to the state, from the start of a buffer pool whose lanes hold `origin`
+pub record IsReached (s : State) : Type 0 where
+  pub config : Config
+  pub opens : CanOpen config
+  pub origin : ℕ → Page
+  pub page : Page
+  pub events : List Event
+  pub run : Run events (opening config origin page) s
+
+abbrev pub is_shared : Content → Bool
+is_shared Unlocked = false
+is_shared Shared = true
+is_shared Exclusive = false
+
+abbrev pub is_exclusive : Content → Bool
+is_exclusive Unlocked = false
+is_exclusive Shared = false
+is_exclusive Exclusive = true
+
+abbrev pub is_working : Io → Bool
+is_working Quiet = false
+is_working Input = true
+is_working Output = true
+
+-- whether the view shares the content lock of the frame f, has it exclusively, or has an input or output right there
+abbrev pub shares : ℕ → View → Bool
+shares f v = is_shared (link v f).content
+
+abbrev pub excludes : ℕ → View → Bool
+excludes f v = is_exclusive (link v f).content
+
+abbrev pub works_on : ℕ → View → Bool
+works_on f v = is_working (link v f).io
+
+-- The content word is what the views have, and one exclusive lock excludes every other
+pub record ContentLocks (s : State) (f : ℕ) : Type 0 where
+  pub sharers : (s.core.frame f).sharers ≡ count_by (shares f) s.core.views
+  pub exclusive : count_by (excludes f) s.core.views ≡ (if (s.core.frame f).exclusive then 1 else 0)
+  pub apart : (s.core.frame f).exclusive ≡ true → count_by (shares f) s.core.views ≡ 0
+
+-- one view has the input or output right where BM_IO_IN_PROGRESS stands, and none where it doesn't
+abbrev pub OneIo : State → ℕ → Type 0
+OneIo s f = count_by (works_on f) s.core.views ≡ (if (s.core.frame f).word.in_progress then 1 else 0)
+
+-- What a lock or right of a view says of its pin and its frame
+pub record RightsNeedPins (s : State) : Type 0 where
+  -- a content lock needs a pin and a valid frame
+  pub content : (i f : ℕ) (v : View) → get_elem? s.core.views i ≡ some v → f < s.core.frames → (link v f).content ≢ Unlocked → ((link v f).role ≢ Absent) × ((s.core.frame f).word.valid ≡ true)
+  -- an input right needs a pin and a frame that isn't valid
+  pub input : (i f : ℕ) (v : View) → get_elem? s.core.views i ≡ some v → f < s.core.frames → (link v f).io ≡ Input → ((link v f).role ≢ Absent) × ((s.core.frame f).word.valid ≡ false)
+  -- an output right needs a pin, the content lock shared, and a dirty frame
+  pub output : (i f : ℕ) (v : View) → get_elem? s.core.views i ≡ some v → f < s.core.frames → (link v f).io ≡ Output → ((link v f).role ≢ Absent) × ((link v f).content ≡ Shared) × ((s.core.frame f).word.dirty ≡ true)
+
+-- the page of a frame is out with one view at most
+abbrev pub OnePageOut : State → Type 0
+OnePageOut s = (i j f : ℕ) (v u : View) → get_elem? s.core.views i ≡ some v → get_elem? s.core.views j ≡ some u → f < s.core.frames → (link v f).out ≢ None → (link u f).out ≢ None → i ≡ j
+
+-- no view has an entry to apply to the frame's page
+abbrev pub NoneUnapplied : State → ℕ → Type 0
+NoneUnapplied s f = (i : ℕ) (v : View) → get_elem? s.core.views i ≡ some v → (link v f).unapplied ≡ false
+
+-- the page of a valid frame is its block's page after the log, unless a view has an entry to apply there
+abbrev pub FramesHoldPages : State → Type 0
+FramesHoldPages s = (f : ℕ) → f < s.core.frames → HasTag (s.core.frame f) → (s.core.frame f).word.valid ≡ true → NoneUnapplied s f → (s.core.frame f).page ≡ s.logged (s.core.frame f).tag
+
+-- so is a page that a view has copied under its content lock, and one that the lane gave under its input right
+pub record CopiesArePages (s : State) : Type 0 where
+  pub copied : (i f : ℕ) (v : View) (p : Page) → get_elem? s.core.views i ≡ some v → f < s.core.frames → (link v f).copied ≡ Some p → s.logged (s.core.frame f).tag ≡ p
+  pub read : (i f : ℕ) (v : View) (p : Page) → get_elem? s.core.views i ≡ some v → f < s.core.frames → (link v f).read ≡ Some p → s.logged (s.core.frame f).tag ≡ p

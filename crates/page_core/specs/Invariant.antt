@@ -1,0 +1,104 @@
+-- What holds of content locks, pages, input and output in every state that steps lead to.
+use Rattle.std.specs.Prelude.{◌≡◌, ◌≢◌, ℕ, ◌+◌, true, false, Some, None}
+use Rattle.pin_core.specs.declared.view.Role.TheVariants.{Absent}
+use Rattle.pin_core.specs.declared.view.Content.TheVariants.{Unlocked, Shared, Exclusive}
+use Rattle.pin_core.specs.declared.view.Io.TheVariants.{Quiet, Input, Output}
+use Rattle.pin_core.specs.declared.view.LastWrite.TheVariants.{Unwritten}
+use Rattle.pin_core.specs.declared.view.Link.{Link}
+use Rattle.pin_core.specs.State.{Frame, Page, no_tag}
+use Rattle.pin_core.specs.Tallies.{flag_weight}
+use Rattle.pin_core.specs.Invariant.{HasTag, FrameLaw, LinkLaw}
+use Rattle.pin_core.specs.Invariant as pins
+use Rattle.page_core.specs.State.{Block, State, block_of}
+use Rattle.page_core.specs.Tallies.{Tally, pin, sharers, applied_locks, unapplied_locks, copies, works, page_shape}
+use Rattle.grid.specs.Shape.{Part, Grid}
+
+-- What holds of a frame with its page and of the sums over the views there
+pub record PageFrame (b : Block) (fr : Frame) (t : Tally → ℕ) : Type 0 where
+  -- the content word counts the views that share the content lock
+  pub shared : fr.sharers ≡ t sharers
+  -- its exclusive bit stands exactly where one view has the content lock exclusively, its entry applied or not
+  pub exclusive : flag_weight fr.exclusive ≡ t applied_locks + t unapplied_locks
+  -- exclusive excludes shared
+  pub excludes : fr.exclusive ≡ true → fr.sharers ≡ 0
+  -- the copy latch is one view's
+  pub copying : flag_weight fr.copying ≡ t copies
+  -- BM_IO_IN_PROGRESS stands exactly where one view has the input or output right
+  pub working : flag_weight fr.word.in_progress ≡ t works
+  -- the page of a valid frame is the block's page after the log, unless a view has an entry to apply there
+  pub page : fr.word.valid ≡ true → fr.tag ≢ no_tag → t unapplied_locks ≡ 0 → b.logged ≡ fr.page
+
+-- What a view has that marked a frame dirty under its exclusive lock
+pub record DirtiedLink (fr : Frame) (l : Link) : Type 0 where
+  pub right : l.content ≡ Exclusive
+  -- BM_DIRTY and BM_JUST_DIRTIED stand
+  pub dirty : fr.word.dirty ≡ true
+  pub just : fr.word.just_dirtied ≡ true
+
+-- What a view has whose entry is in the log, and not yet applied to the page
+pub record UnappliedLink (l : Link) : Type 0 where
+  -- it has the exclusive lock, and marked the frame dirty
+  pub right : l.content ≡ Exclusive
+  pub dirtied : l.dirtied ≡ true
+  -- it notes no copy
+  pub uncopied : l.copied ≡ None
+
+-- What holds where a view has copied the page p under its content lock
+pub record CopiedLink (b : Block) (l : Link) (p : Page) : Type 0 where
+  pub right : l.content ≢ Unlocked
+  -- the copy is the block's page after the log
+  pub is_logged : b.logged ≡ p
+
+-- What holds where the lane gave the page p to a view with the input right
+pub record ReadLink (b : Block) (fr : Frame) (l : Link) (p : Page) : Type 0 where
+  pub right : l.io ≡ Input
+  -- it is the block's page after the log
+  pub is_logged : b.logged ≡ p
+  -- and the frame's page once it is home
+  pub home : l.read_is_home ≡ true → fr.page ≡ p
+
+-- What holds where a view has taken the page out and overwritten it with q
+pub record OverwrittenLink (fr : Frame) (l : Link) (q : Page) : Type 0 where
+  pub out : l.out ≢ None
+  pub page : fr.page ≡ q
+  -- under an input right it is the page that the lane gave
+  pub read : l.io ≡ Input → l.read ≡ Some q
+
+-- What holds of a frame and of what a view has there
+pub record PageLink (b : Block) (fr : Frame) (l : Link) : Type 0 where
+  -- a content lock needs a pin and a valid frame that has a tag
+  pub content : l.content ≢ Unlocked → (l.role ≢ Absent) × (fr.word.valid ≡ true) × HasTag fr
+  -- the copy latch is a sharer's
+  pub copying : l.copying ≡ true → l.content ≡ Shared
+  -- an input or output right needs a pin
+  pub io : l.io ≢ Quiet → l.role ≢ Absent
+  -- for input the frame has a tag and isn't valid
+  pub input : l.io ≡ Input → HasTag fr × (fr.word.valid ≡ false)
+  -- for output it is dirty, and the view shares the content lock
+  pub output : l.io ≡ Output → (fr.word.dirty ≡ true) × (l.content ≡ Shared)
+  -- a write is noted only under an output right
+  pub written : l.last_write ≢ Unwritten → l.io ≡ Output
+  -- a view that stored the tag word has neither lock nor right there
+  pub pending : l.pending ≡ true → (l.content ≡ Unlocked) × (l.io ≡ Quiet)
+  pub dirtied : l.dirtied ≡ true → DirtiedLink fr l
+  pub unapplied : l.unapplied ≡ true → UnappliedLink l
+  pub copied : (p : Page) → l.copied ≡ Some p → CopiedLink b l p
+  pub read : (p : Page) → l.read ≡ Some p → ReadLink b fr l p
+  -- the page is out only under the exclusive lock, the copy latch or the input right
+  pub out_shared : l.out ≢ None → l.content ≡ Shared → l.copying ≡ true
+  pub out_unlocked : l.out ≢ None → l.content ≡ Unlocked → l.io ≡ Input
+  -- a page that is out is as it was taken, or as it was overwritten
+  pub taken : (p : Page) → l.out ≡ Some p → l.overwritten ≡ None → fr.page ≡ p
+  pub overwritten : (q : Page) → l.overwritten ≡ Some q → OverwrittenLink fr l q
+
+abbrev pub page_part : Part page_shape
+page_part = record { column = PageFrame; cell = λ b fr _ l. PageLink b fr l }
+
+-- the law of pins, headers and tags, in the grid of this crate
+abbrev pub pin_part : Part page_shape
+pin_part = record { column = λ _ fr t. FrameLaw fr (λ k. t (pin k)); cell = λ _ fr _ l. LinkLaw fr l }
+
+-- The law of pins, headers, tags and maps, and that of content locks, pages, input and output
+pub record Invariant (s : State) : Type 0 where
+  pub core : pins.Invariant s.core
+  pub pages : Grid page_shape page_part s.core.frames s.core.frame (block_of s.logged) s.core.views

@@ -1,0 +1,284 @@
+-- The kinds of step that content locks, pages, input and output add: where each is allowed, and what it makes of the frame, of its block, and of what the stepping view has there.
+use Rattle.std.specs.Prelude.{◌≡◌, ◌≢◌, ℕ, ◌+◌, ◌-◌, Bool, true, false, List, [], ◌∷◌, ◌++◌, map, slice_set, Option, Some, None, ◌||◌, if◌then◌else◌}
+use Rattle.state_word.specs.declared.word.StateWord.{StateWord}
+use Rattle.state_word.specs.declared.word.IoEnd.{IoEnd}
+use Rattle.state_word.specs.declared.word.IoEnd.TheVariants.{ReadOk, WriteOk, Bad}
+use Rattle.state_word.specs.Fields.{unlocked_fields, dirtied_fields, io_started_fields, io_ended_fields, just_dirtied_cleared_fields}
+use Rattle.pin_core.specs.declared.view.Role.TheVariants.{Absent}
+use Rattle.pin_core.specs.declared.view.Content.{Content}
+use Rattle.pin_core.specs.declared.view.Content.TheVariants.{Unlocked, Shared, Exclusive}
+use Rattle.pin_core.specs.declared.view.Io.TheVariants.{Quiet, Input, Output}
+use Rattle.pin_core.specs.declared.view.LastWrite.{LastWrite}
+use Rattle.pin_core.specs.declared.view.LastWrite.TheVariants.{Unwritten, Done, Failed}
+use Rattle.pin_core.specs.declared.view.Seen.{Seen}
+use Rattle.pin_core.specs.declared.view.Seen.TheVariants as seen
+use Rattle.pin_core.specs.declared.view.Link.{Link}
+use Rattle.pin_core.specs.declared.view.View.{View}
+use Rattle.pin_core.specs.State.{Frame, Page}
+use Rattle.pin_core.specs.Kinds.{released, load_of}
+use Rattle.page_core.specs.State.{Block}
+
+pub data Kind : Type 0 where
+  -- a load of the content word
+  load_content : Kind
+  -- the page's change is announced (`MarkBufferDirty`)
+  mark_dirty : Kind
+  -- the content lock is taken, shared or exclusively (`LockBuffer`)
+  share : Kind
+  exclude : Kind
+  -- and given up
+  unshare : Kind
+  unexclude : Kind
+  -- a sharer becomes the one that may take the page out to copy it, and ceases to be
+  take_copy : Kind
+  leave_copy : Kind
+  -- the page goes out to the backend
+  page_out : Kind
+  -- the backend's entry is applied: the page that is out is overwritten by its image
+  overwrite_logged : Kind
+  -- or by the page that the lane gave
+  overwrite_read : Page → Kind
+  -- the page comes back
+  page_back : Kind
+  -- the lane gave the block's page (`smgrread`)
+  note_read : Page → Kind
+  -- the lane took the frame's page, or failed to (`smgrwrite`)
+  note_write : Bool → Kind
+  -- the entry of a new page of the frame's block is in the log (`XLogInsert`)
+  make_entry : Page → Kind
+  -- input or output of the frame begins (`StartBufferIO`)
+  start_input : Kind
+  start_output : Kind
+  -- output has begun, and changes from here on are to be seen (`FlushBuffer`)
+  clear_just_dirtied : Kind
+  -- input or output ends (`TerminateBufferIO`)
+  end_io : IoEnd → Kind
+
+pub record CanMarkDirty (fr : Frame) (l : Link) : Type 0 where
+  pub unlocked : fr.word.locked ≡ false
+  pub right : l.content ≡ Exclusive
+
+pub record CanShare (fr : Frame) (l : Link) : Type 0 where
+  pub pinned : l.role ≢ Absent
+  pub seen : l.seen_valid ≡ true
+  pub none : l.content ≡ Unlocked
+  pub free : fr.exclusive ≡ false
+
+-- the content word is 0
+pub record CanExclude (fr : Frame) (l : Link) : Type 0 where
+  pub pinned : l.role ≢ Absent
+  pub seen : l.seen_valid ≡ true
+  pub none : l.content ≡ Unlocked
+  pub free : fr.exclusive ≡ false
+  pub alone : fr.sharers ≡ 0
+  pub no_copy : fr.copying ≡ false
+
+pub record CanUnshare (fr : Frame) (l : Link) : Type 0 where
+  pub right : l.content ≡ Shared
+  pub no_copy : l.copying ≡ false
+  pub no_output : l.io ≢ Output
+  pub page_home : l.out ≡ None
+
+pub record CanUnexclude (fr : Frame) (l : Link) : Type 0 where
+  pub right : l.content ≡ Exclusive
+  pub settled : l.unapplied ≡ false
+  pub page_home : l.out ≡ None
+
+pub record CanTakeCopy (fr : Frame) (l : Link) : Type 0 where
+  pub right : l.content ≡ Shared
+  pub free : fr.copying ≡ false
+
+pub record CanLeaveCopy (fr : Frame) (l : Link) : Type 0 where
+  pub right : l.copying ≡ true
+  pub page_home : l.out ≡ None
+
+-- the exclusive lock, the copy latch, or the input right
+pub record CanTakePage (fr : Frame) (l : Link) : Type 0 where
+  pub page_home : l.out ≡ None
+  pub shared : l.content ≡ Shared → l.copying ≡ true
+  pub unlocked : l.content ≡ Unlocked → l.io ≡ Input
+
+-- once each time that the page is out
+pub record CanOverwriteLogged (fr : Frame) (l : Link) : Type 0 where
+  pub out : l.out ≢ None
+  pub once : l.overwritten ≡ None
+  pub unapplied : l.unapplied ≡ true
+
+pub record CanOverwriteRead (p : Page) (fr : Frame) (l : Link) : Type 0 where
+  pub out : l.out ≢ None
+  pub once : l.overwritten ≡ None
+  pub right : l.io ≡ Input
+  pub read : l.read ≡ Some p
+
+pub record CanReturnPage (fr : Frame) (l : Link) : Type 0 where
+  pub out : l.out ≢ None
+
+pub record CanNoteRead (p : Page) (b : Block) (fr : Frame) (l : Link) : Type 0 where
+  pub right : l.io ≡ Input
+  pub given : p ≡ b.logged
+
+pub record CanNoteWrite (fr : Frame) (l : Link) : Type 0 where
+  pub right : l.io ≡ Output
+
+pub record CanMakeEntry (fr : Frame) (l : Link) : Type 0 where
+  pub right : l.content ≡ Exclusive
+  pub dirtied : l.dirtied ≡ true
+  pub settled : l.unapplied ≡ false
+
+-- the header, and the view has no input or output right, here or elsewhere (`AllowedAround`)
+pub record CanStartInput (fr : Frame) (l : Link) : Type 0 where
+  pub held : l.header ≡ Some fr.word
+  pub settled : l.pending ≡ false
+  pub pinned : l.role ≢ Absent
+  pub clear : fr.word.in_progress ≡ false
+  pub tagged : fr.word.tag_valid ≡ true
+  pub invalid : fr.word.valid ≡ false
+
+pub record CanStartOutput (fr : Frame) (l : Link) : Type 0 where
+  pub held : l.header ≡ Some fr.word
+  pub settled : l.pending ≡ false
+  pub pinned : l.role ≢ Absent
+  pub clear : fr.word.in_progress ≡ false
+  pub dirty : fr.word.dirty ≡ true
+  pub right : l.content ≡ Shared
+
+pub record CanClearJustDirtied (fr : Frame) (l : Link) : Type 0 where
+  pub held : l.header ≡ Some fr.word
+  pub right : l.io ≡ Output
+
+-- a read ends well where the page that the lane gave is the frame's, in its place
+pub record CanEndRead (l : Link) : Type 0 where
+  pub right : l.io ≡ Input
+  pub read : l.read ≢ None
+  pub home : l.read_is_home ≡ true
+
+-- a write ends well where its last lane write was done
+pub record CanEndWrite (l : Link) : Type 0 where
+  pub right : l.io ≡ Output
+  pub written : l.last_write ≡ Done
+
+abbrev pub EndsAs : IoEnd → Link → Type 0
+EndsAs ReadOk l = CanEndRead l
+EndsAs WriteOk l = CanEndWrite l
+EndsAs Bad l = l.io ≢ Quiet
+
+-- the header; the page isn't out with the view, and no lane is out with a write of the frame (`AllowedAround`)
+pub record CanEndIo (end : IoEnd) (fr : Frame) (l : Link) : Type 0 where
+  pub held : l.header ≡ Some fr.word
+  pub page_home : l.io ≡ Input → l.out ≡ None
+  pub ends : EndsAs end l
+
+abbrev pub Allowed : Kind → Block → Frame → Link → Type 0
+Allowed load_content b fr l = Unit {0}
+Allowed mark_dirty b fr l = CanMarkDirty fr l
+Allowed share b fr l = CanShare fr l
+Allowed exclude b fr l = CanExclude fr l
+Allowed unshare b fr l = CanUnshare fr l
+Allowed unexclude b fr l = CanUnexclude fr l
+Allowed take_copy b fr l = CanTakeCopy fr l
+Allowed leave_copy b fr l = CanLeaveCopy fr l
+Allowed page_out b fr l = CanTakePage fr l
+Allowed overwrite_logged b fr l = CanOverwriteLogged fr l
+Allowed (overwrite_read p) b fr l = CanOverwriteRead p fr l
+Allowed page_back b fr l = CanReturnPage fr l
+Allowed (note_read p) b fr l = CanNoteRead p b fr l
+Allowed (note_write done) b fr l = CanNoteWrite fr l
+Allowed (make_entry p) b fr l = CanMakeEntry fr l
+Allowed start_input b fr l = CanStartInput fr l
+Allowed start_output b fr l = CanStartOutput fr l
+Allowed clear_just_dirtied b fr l = CanClearJustDirtied fr l
+Allowed (end_io end) b fr l = CanEndIo end fr l
+
+-- What a kind makes of the frame
+abbrev pub frame_after : Kind → Block → Frame → Frame
+frame_after mark_dirty b fr = record fr { word = dirtied_fields fr.word }
+frame_after share b fr = record fr { sharers = fr.sharers + 1 }
+frame_after exclude b fr = record fr { exclusive = true }
+frame_after unshare b fr = record fr { sharers = fr.sharers - 1 }
+frame_after unexclude b fr = record fr { exclusive = false }
+frame_after take_copy b fr = record fr { copying = true }
+frame_after leave_copy b fr = record fr { copying = false }
+frame_after overwrite_logged b fr = record fr { page = b.logged }
+frame_after (overwrite_read p) b fr = record fr { page = p }
+frame_after start_input b fr = released (io_started_fields fr.word) fr
+frame_after start_output b fr = released (io_started_fields fr.word) fr
+frame_after clear_just_dirtied b fr = released (just_dirtied_cleared_fields fr.word) fr
+frame_after (end_io end) b fr = released (io_ended_fields end fr.word) fr
+frame_after _ b fr = fr
+
+-- What a kind makes of the block of the frame's tag
+abbrev pub block_after : Kind → Block → Block
+block_after (make_entry p) b = record b { logged = p }
+block_after _ b = b
+
+-- under a content lock, with no entry to apply, the page that comes back is noted as copied
+abbrev pub copied_after : Content → Bool → Page → Option Page → Option Page
+copied_after Unlocked unapplied p copied = copied
+copied_after Shared unapplied p copied = if unapplied then copied else Some p
+copied_after Exclusive unapplied p copied = if unapplied then copied else Some p
+
+-- under an input right a page that comes back overwritten is the one that was read
+abbrev pub home_after : Option Page → Bool → Bool
+home_after None home = home
+home_after (Some q) home = true
+
+abbrev pub write_noted : Bool → LastWrite
+write_noted true = Done
+write_noted false = Failed
+
+-- What a kind makes of what the view has there
+abbrev pub link_after : Kind → Block → Frame → Link → Link
+link_after load_content b fr l = l
+link_after mark_dirty b fr l = record l { dirtied = true }
+link_after share b fr l = record l { content = Shared }
+link_after exclude b fr l = record l { content = Exclusive }
+link_after unshare b fr l = record l { content = Unlocked; copied = None }
+link_after unexclude b fr l = record l { content = Unlocked; copied = None; dirtied = false }
+link_after take_copy b fr l = record l { copying = true }
+link_after leave_copy b fr l = record l { copying = false }
+link_after page_out b fr l = record l { out = Some fr.page }
+link_after overwrite_logged b fr l = record l { overwritten = Some b.logged; unapplied = false }
+link_after (overwrite_read p) b fr l = record l { overwritten = Some p }
+link_after page_back b fr l = record l { out = None; overwritten = None; copied = copied_after l.content l.unapplied fr.page l.copied; read_is_home = home_after l.overwritten l.read_is_home }
+link_after (note_read p) b fr l = record l { read = Some p; read_is_home = false }
+link_after (note_write done) b fr l = record l { last_write = write_noted done }
+link_after (make_entry p) b fr l = record l { unapplied = true; copied = None }
+link_after start_input b fr l = record l { header = None; io = Input; read = None; read_is_home = false }
+link_after start_output b fr l = record l { header = None; io = Output }
+link_after clear_just_dirtied b fr l = record l { header = None }
+link_after (end_io end) b fr l = record l { header = None; io = Quiet; read = None; read_is_home = false; last_write = Unwritten }
+
+-- whether a kind marks the frame dirty: a page may have to be written
+abbrev pub dirties : Kind → Bool
+dirties mark_dirty = true
+dirties _ = false
+
+abbrev pub starts_output : Kind → Bool
+starts_output start_output = true
+starts_output _ = false
+
+-- the word that the end of the view's last input or output stored
+abbrev pub ended_after : Kind → Frame → Option StateWord → Option StateWord
+ended_after (end_io end) fr ended = Some (unlocked_fields (io_ended_fields end fr.word))
+ended_after _ fr ended = ended
+
+-- what a load saw
+abbrev pub seen_by : Kind → ℕ → Frame → List Seen
+seen_by load_content f fr = seen.Content f fr.sharers fr.exclusive fr.copying ∷ []
+seen_by _ f fr = []
+
+-- how many steps other than loads a kind is
+abbrev pub steps_of : Kind → ℕ
+steps_of load_content = 0
+steps_of _ = 1
+
+-- What a kind at the frame f makes of the view
+abbrev pub view_after : Kind → ℕ → Block → Frame → Link → View → View
+view_after k f b fr l v = record v {
+  links = slice_set v.links f (link_after k b fr l);
+  loads = v.loads ++ map (load_of v) (seen_by k f fr);
+  steps = v.steps + steps_of k;
+  dirtied_or_synced = v.dirtied_or_synced || dirties k;
+  had_output = v.had_output || starts_output k;
+  last_ended = ended_after k fr v.last_ended;
+}

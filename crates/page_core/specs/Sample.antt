@@ -1,0 +1,77 @@
+-- A history of some events, for the definitions to be seen at work: a backend misses a block and reads it into a frame, copies its page under a shared lock, and evicts it.
+use Rattle.std.specs.Prelude.{◌≡◌, true, false, List, [], ◌∷◌, ◌++◌, Some, None}
+use mathlib.Core.Option.{some}
+use lib.ListN.{get_elem?}
+use Rattle.state_word.specs.declared.word.IoEnd.TheVariants.{ReadOk}
+use Rattle.pin_core.specs.declared.view.Role.TheVariants.{HandedOut}
+use Rattle.pin_core.specs.declared.view.MapEntry.{MapEntry}
+use Rattle.pin_core.specs.declared.view.View.{View}
+use Rattle.pin_core.specs.State.{Config, Page, link, no_tag, zero_word}
+use Rattle.pin_core.specs.Kinds as pins
+use Rattle.pin_core.specs.Turns.{TurnKind, take_turn, leave_turn, map_out, change_map, map_back}
+use Rattle.pin_core.specs.Steps as pin_steps
+use Rattle.page_core.specs.State.{State, opening}
+use Rattle.page_core.specs.Kinds.{Kind, start_input, note_read, page_out, overwrite_read, page_back, end_io, share, take_copy, leave_copy, unshare}
+use Rattle.page_core.specs.Steps.{Event, pins_and_maps, at, Run}
+
+-- one frame, one partition, one backend
+abbrev pub sample_config : Config
+sample_config = record { frames = 1; partitions = 1; partition_of = λ _. 0; lanes = 0; backends = 1 }
+
+-- the page that the lane holds for each block
+abbrev pub sample_page : Page
+sample_page = 10 ∷ 20 ∷ 30 ∷ []
+
+abbrev pub sample_start : State
+sample_start = opening sample_config (λ _. sample_page) []
+
+abbrev pub sample_entry : MapEntry
+sample_entry = record { tag = 7; frame = 0 }
+
+-- a step of the one backend, at the one frame or the one latch
+abbrev pub pool : pins.Kind → Event
+pool k = pins_and_maps (pin_steps.at 0 0 k)
+
+abbrev pub turn : TurnKind → Event
+turn k = pins_and_maps (pin_steps.turn 0 0 k)
+
+abbrev pub page : Kind → Event
+page k = at 0 0 k
+
+-- the frame is given the block 7, under the latch of its partition
+abbrev pub miss : List Event
+miss = turn take_turn ∷ pool pins.lock_header ∷ pool pins.pin_victim ∷ pool pins.lock_header ∷ pool (pins.store_tag 7) ∷ pool pins.assign ∷ turn (map_out []) ∷ turn change_map ∷ turn (map_back (sample_entry ∷ [])) ∷ turn leave_turn ∷ []
+
+-- the block's page is read into it
+abbrev pub read : List Event
+read = pool pins.lock_header ∷ page start_input ∷ page (note_read sample_page) ∷ page page_out ∷ page (overwrite_read sample_page) ∷ page page_back ∷ pool pins.lock_header ∷ page (end_io ReadOk) ∷ pool pins.load_state ∷ []
+
+-- and copied under the shared content lock
+abbrev pub copy : List Event
+copy = page share ∷ page take_copy ∷ page page_out ∷ page page_back ∷ page leave_copy ∷ []
+
+-- the lock and the pin go, and the frame is emptied
+abbrev pub evict : List Event
+evict = page unshare ∷ pool pins.unpin ∷ pool pins.lock_header ∷ pool pins.pin_victim ∷ turn take_turn ∷ pool pins.lock_header ∷ pool pins.erase_tag ∷ pool pins.clear ∷ turn (map_out (sample_entry ∷ [])) ∷ turn change_map ∷ turn (map_back []) ∷ turn leave_turn ∷ pool pins.unpin ∷ []
+
+-- After the copy
+pub record Copied (t : State) : Type 0 where
+  -- the frame has the tag, is valid, and holds the block's page
+  pub tag : (t.core.frame 0).tag ≡ 7
+  pub word : (t.core.frame 0).word ≡ record zero_word { pins = 1; usage = 1; valid = true; tag_valid = true; permanent = true }
+  pub held : (t.core.frame 0).page ≡ sample_page
+  -- one backend shares its content lock
+  pub shared : (t.core.frame 0).sharers ≡ 1
+  -- and notes the page as the copy that it made
+  pub noted : (v : View) × (get_elem? t.core.views 0 ≡ some v) × ((link v 0).role ≡ HandedOut) × ((link v 0).copied ≡ Some sample_page)
+
+-- After the eviction the frame has no tag and no pin, and the map lacks the block
+pub record Evicted (t : State) : Type 0 where
+  pub tag : (t.core.frame 0).tag ≡ no_tag
+  pub word : (t.core.frame 0).word ≡ zero_word
+  pub shared : (t.core.frame 0).sharers ≡ 0
+  pub mapped : (t.core.partition 0).map 7 ≡ None
+  pub taken : (t.core.partition 0).taken ≡ false
+
+abbrev pub SampleRuns : Type 0
+SampleRuns = (m : State) × (t : State) × Run (miss ++ read ++ copy) sample_start m × Copied m × Run evict m t × Evicted t

@@ -1,0 +1,63 @@
+-- One step, and lists of steps.
+use Rattle.std.specs.Prelude.{◌≡◌, ℕ, ◌<◌, false, List, [], ◌∷◌}
+use mathlib.Core.Option.{some}
+use lib.ListN.{get_elem?}
+use Rattle.pin_core.specs.declared.view.Io.TheVariants.{Quiet}
+use Rattle.pin_core.specs.declared.view.LaneChange.{LaneChange}
+use Rattle.pin_core.specs.declared.view.LaneChange.TheVariants.{Written, WriteFailed}
+use Rattle.pin_core.specs.declared.view.View.{View}
+use Rattle.pin_core.specs.State.{link, lane_hold, local}
+use Rattle.pin_core.specs.State as pins
+use Rattle.pin_core.specs.Steps as pin_steps
+use Rattle.page_core.specs.State.{State, block_of}
+use Rattle.page_core.specs.Kinds.{Kind, start_input, start_output, end_io, Allowed, frame_after, block_after, view_after}
+use Rattle.grid.specs.Shape.{put}
+
+-- the view has no input or output right
+abbrev pub HasNoIo : View → Type 0
+HasNoIo v = (f : ℕ) → (link v f).io ≡ Quiet
+
+-- the one change of a lane that is out was a write of the frame f
+abbrev pub IsWriteOf : ℕ → LaneChange → Type 0
+IsWriteOf f (Written g tag page) = g ≡ f
+IsWriteOf f (WriteFailed g tag) = g ≡ f
+IsWriteOf f _ = ⊥
+
+-- no lane is out with a write of the frame f
+abbrev pub HasNoWriteOut : View → ℕ → Type 0
+HasNoWriteOut v f = (n : ℕ) → ¬ IsWriteOf f (lane_hold v n).change
+
+-- What a kind at the frame f asks of the whole view, beyond the frame
+abbrev pub AllowedAround : Kind → View → ℕ → Type 0
+AllowedAround start_input v f = HasNoIo v
+AllowedAround start_output v f = HasNoIo v
+AllowedAround (end_io end) v f = HasNoWriteOut v f
+AllowedAround _ v f = Unit {0}
+
+-- What happens: what happens to pins, headers, tags and maps, or a step of this crate's kinds at a frame
+pub data Event : Type 0 where
+  pins_and_maps : pin_steps.Event → Event
+  at : ℕ → ℕ → Kind → Event
+
+-- the pages of the blocks, where the frame of the tag makes an entry
+abbrev pub logged_after : Kind → (ℕ → pins.Page) → ℕ → ℕ → pins.Page
+logged_after k logged tag = put logged tag (block_after k (block_of logged tag)).logged
+
+-- the state after a step of the kind k at the frame f by backend i, whose view is v
+abbrev pub state_after : Kind → State → ℕ → ℕ → View → State
+state_after k s i f v = let fr = s.core.frame f in let b = block_of s.logged fr.tag in record {
+  core = local s.core i f (frame_after k b fr) (view_after k f b fr (link v f) v);
+  logged = logged_after k s.logged fr.tag;
+}
+
+pub data Step : Event → State → State → Type 0 where
+  -- a step of `pin_core`
+  cores : {s : State} {e : pin_steps.Event} {core' : pins.State} → pin_steps.Step e s.core core' → Step (pins_and_maps e) s (record s { core = core' })
+  -- a step of the kind k at the frame f by backend i, whose view is v
+  touches : {s : State} (i f : ℕ) (k : Kind) (v : View) → get_elem? s.core.views i ≡ some v → v.emptied ≡ false → f < s.core.frames → Allowed k (block_of s.logged (s.core.frame f).tag) (s.core.frame f) (link v f) → AllowedAround k v f
+      → Step (at i f k) s (state_after k s i f v)
+
+-- the events lead from one state to the other
+pub data Run : List Event → State → State → Type 0 where
+  rests : {s : State} → Run [] s s
+  goes : {e : Event} {es : List Event} {s t u : State} → Step e s t → Run es t u → Run (e ∷ es) s u

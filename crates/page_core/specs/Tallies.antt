@@ -1,0 +1,54 @@
+-- What is summed over the views at a frame, beside what `pin_core` sums.
+use Rattle.std.specs.Prelude.{ℕ}
+use Rattle.pin_core.specs.declared.view.Content.{Content}
+use Rattle.pin_core.specs.declared.view.Content.TheVariants.{Unlocked, Shared, Exclusive}
+use Rattle.pin_core.specs.declared.view.Io.{Io}
+use Rattle.pin_core.specs.declared.view.Io.TheVariants.{Quiet, Input, Output}
+use Rattle.pin_core.specs.declared.view.Link.{Link}
+use Rattle.pin_core.specs.declared.view.View.{View}
+use Rattle.pin_core.specs.State.{Frame, link}
+use Rattle.pin_core.specs.Tallies.{flag_weight, some_weight, unless_flag}
+use Rattle.pin_core.specs.Tallies as pins
+use Rattle.page_core.specs.State.{Block}
+use Rattle.grid.specs.Shape.{Shape}
+
+pub data Tally : Type 0 where
+  -- what is summed for pins, headers and tags
+  pin : pins.Tally → Tally
+  -- the views that share the content lock
+  sharers : Tally
+  -- those that have it exclusively, with no entry to apply
+  applied_locks : Tally
+  -- those whose entry is in the log, and not yet applied to the page
+  unapplied_locks : Tally
+  -- those that may take the page out to copy it
+  copies : Tally
+  -- those that have an input or output right
+  works : Tally
+
+abbrev pub share_weight : Content → ℕ
+share_weight Unlocked = 0
+share_weight Shared = 1
+share_weight Exclusive = 0
+
+abbrev pub exclusive_weight : Content → ℕ
+exclusive_weight Unlocked = 0
+exclusive_weight Shared = 0
+exclusive_weight Exclusive = 1
+
+abbrev pub work_weight : Io → ℕ
+work_weight Quiet = 0
+work_weight Input = 1
+work_weight Output = 1
+
+abbrev pub weigh : Tally → Link → ℕ
+weigh (pin k) l = pins.weigh k l
+weigh sharers l = share_weight l.content
+weigh applied_locks l = unless_flag l.unapplied (exclusive_weight l.content)
+weigh unapplied_locks l = flag_weight l.unapplied
+weigh copies l = flag_weight l.copying
+weigh works l = work_weight l.io
+
+-- the grid of views and frames, where a frame names the block of its tag word
+abbrev pub page_shape : Shape
+page_shape = record { Column = Frame; Link = Link; View = View; Tally = Tally; Block = Block; Own = Unit {0}; weigh = weigh; link = link; own = λ _. tt; spot = λ fr. fr.tag }

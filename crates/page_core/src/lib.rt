@@ -1,0 +1,39 @@
+//! Content locks, pages, input and output, as plain data: what a step may be, and what every list of steps keeps.
+//!
+//! Nothing here runs. The types are those of `pin_core`; the kinds of step, the law that they keep and the lists of steps are in `specs/`, and docs/PROTOCOL.md tells them in words.
+#![tactic(auto)]
+
+ghost use Rattle.std.specs.Prelude.{ℕ, ◌<◌, List};
+ghost use Rattle.pin_core.specs.State.{CanOpen, Config, Page};
+ghost use Rattle.pin_core.specs.Schedules.{TagsAreUnique, PinsAreCounted, PinsRemember, MapsAreExact};
+ghost use Rattle.page_core.specs.State.{State, opening};
+ghost use Rattle.page_core.specs.Invariant.{Invariant};
+ghost use Rattle.page_core.specs.Steps.{Event, Run};
+ghost use Rattle.page_core.specs.Histories.{IsReached, ContentLocks, OneIo, RightsNeedPins, OnePageOut, FramesHoldPages, CopiesArePages};
+ghost use Rattle.page_core.specs.Sample.{SampleRuns};
+
+/// What every list of events keeps, whatever the backends do and in whatever order.
+pub fn all_histories()
+    // From every state that has the law every list of events leads to one that has it, and the state at the start has it.
+    ensures kept { (es : List Event) (s : State) (t : State) → Invariant s → Run es s t → Invariant t }
+    ensures opens { (config : Config) (origin : ℕ → Page) (page : Page) → CanOpen config → Invariant (opening config origin page) }
+
+    // So in every state that events lead to, of pins, tags and maps:
+    ensures counted { (s : State) → IsReached s → PinsAreCounted s.core }
+    ensures unique { (s : State) → IsReached s → TagsAreUnique s.core }
+    ensures exact { (s : State) → IsReached s → MapsAreExact s.core }
+    ensures remembers { (s : State) → IsReached s → PinsRemember s.core }
+
+    // and of content locks, pages, input and output:
+    ensures locks { (s : State) (f : ℕ) → IsReached s → f < s.core.frames → ContentLocks s f }
+    ensures one_io { (s : State) (f : ℕ) → IsReached s → f < s.core.frames → OneIo s f }
+    ensures rights { (s : State) → IsReached s → RightsNeedPins s }
+    ensures one_out { (s : State) → IsReached s → OnePageOut s }
+    ensures frames_hold { (s : State) → IsReached s → FramesHoldPages s }
+    ensures copies_are { (s : State) → IsReached s → CopiesArePages s }
+{}
+
+/// An example: a backend misses a block and reads it into a frame, copies its page under a shared lock, and evicts it.
+pub fn miss_read_copy_evict()
+    ensures { SampleRuns }
+{}
