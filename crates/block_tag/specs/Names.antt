@@ -24,6 +24,17 @@ hash_of t = 31 * t.rel.0 + 7 * fork_number t.fork + t.block
 abbrev pub lane_number : Tag → ℕ → ℕ
 lane_number t lanes = hash_of t % lanes
 
+-- the partition of the mapping in which a tag lies
+abbrev pub partition_number : Tag → ℕ
+partition_number t = hash_of t % 128
+
+-- the segment of a block, for segments of so many blocks, and the block's place there
+abbrev pub segment_of : ℕ → ℕ → ℕ
+segment_of seg_blocks block = block / seg_blocks
+
+abbrev pub place_in_segment : ℕ → ℕ → ℕ
+place_in_segment seg_blocks block = block % seg_blocks
+
 -- whether two tags are one
 abbrev pub tag_eq : Tag → Tag → Bool
 tag_eq a b = a.rel.0 == b.rel.0 && (fork_number a.fork == fork_number b.fork && a.block == b.block)

@@ -59,7 +59,7 @@ pub struct Tag {
 }
 
 impl Tag {
-    ghost use Rattle.block_tag.specs.Names.{hash_of, names_block, packed_tag, unpacked_tag};
+    ghost use Rattle.block_tag.specs.Names.{hash_of, names_block, packed_tag, partition_number, unpacked_tag};
 
     /// Whether the tag names a block: its relation has a place in a catalogue, and its block isn't
     /// the invalid one.
@@ -114,14 +114,14 @@ impl Tag {
 
     /// The partition of the mapping in which the tag lies.
     pub fn partition(&self) -> u32
-        ensures value { result ≡ hash_of self.now % PARTITIONS }
-        ensures within { result < PARTITIONS }
+        ensures value { result ≡ partition_number self.now }
+        ensures within { result < 128 }
     {
         (self.hash() % u64::from(PARTITIONS)) as u32
     }
 }
 
-ghost use Rattle.block_tag.specs.Names.{hash_of, lane_number};
+ghost use Rattle.block_tag.specs.Names.{hash_of, lane_number, place_in_segment, segment_of};
 
 /// The lane of a tag, of this many: the tag's hash modulo their number.
 pub fn lane_of(tag: &Tag, lanes: u32) -> u32
@@ -135,8 +135,8 @@ pub fn lane_of(tag: &Tag, lanes: u32) -> u32
 /// The segment file of a block, and the block's place in it, for segments of this many blocks (`md.c`).
 pub fn segment_place(block: u32, seg_blocks: u32) -> (u32, u32)
     requires { 1 ≤ seg_blocks }
-    ensures segment { result.0 ≡ block / seg_blocks }
-    ensures place { result.1 ≡ block % seg_blocks }
+    ensures segment { result.0 ≡ segment_of seg_blocks block }
+    ensures place { result.1 ≡ place_in_segment seg_blocks block }
 {
     (block / seg_blocks, block % seg_blocks)
 }

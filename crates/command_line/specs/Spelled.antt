@@ -65,10 +65,10 @@ command_named name rows options =
     else (if bytes_eq name (codes "sample") then sample_in rows options else None)))
 
 -- the command of a subcommand and its matches
-abbrev pub command_met : Text × List Row → Option Spelled
-command_met met = option_and_then (command_named met.0 met.1) (options_in met.1)
+abbrev pub command_of_subcommand : Text × List Row → Option Spelled
+command_of_subcommand found = option_and_then (command_named found.0 found.1) (options_in found.1)
 
 -- the command that the words spell: none where clap refuses them, or where a path or a log doesn't pass its test
 unfoldable pub command_of : List Text → Option Spelled
 command_of words =
-    if is_empty (fault_of tool_app words) then option_and_then command_met (subcommand_of tool_app words) else None
+    if is_empty (fault_of tool_app words) then option_and_then command_of_subcommand (subcommand_of tool_app words) else None

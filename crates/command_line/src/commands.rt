@@ -2,7 +2,7 @@
 ghost use Rattle.std.specs.Prelude.{◌≡◌, ◌≢◌, IfOk, IfSome, None, map, option_and_then, option_map, string_bytes};
 ghost use Rattle.clap.specs.Words.{found_of, kind_of, rows_of, subcommand_rows_of};
 ghost use Rattle.command_line.specs.Numbers.{HasOptionsInRange};
-ghost use Rattle.command_line.specs.Spelled.{HasNumbersInRange, command_met, command_named, command_of, log_in, main_path_in, relation_path_in, spelled};
+ghost use Rattle.command_line.specs.Spelled.{HasNumbersInRange, command_of_subcommand, command_named, command_of, log_in, main_path_in, relation_path_in, spelled};
 
 use crate::grammar::parse;
 use crate::numbers::{BLOCKS, Options, SEED, number_in, options_in, text_in};
@@ -104,9 +104,9 @@ fn command_named<'a>(name: &str, matches: &ArgMatches<'a>, options: Options) -> 
     None
 }
 
-/// The command of the subcommand that clap met.
-fn command_met<'a>(matches: &ArgMatches<'a>) -> Option<Command<'a>>
-    ensures spelled { option_map spelled result ≡ option_and_then command_met (subcommand_rows_of matches.now) }
+/// The command of the subcommand that clap found.
+fn command_of_subcommand<'a>(matches: &ArgMatches<'a>) -> Option<Command<'a>>
+    ensures spelled { option_map spelled result ≡ option_and_then command_of_subcommand (subcommand_rows_of matches.now) }
     ensures ranges { IfSome result (λ c. HasNumbersInRange (spelled c)) }
 {
     let (name, found) = matches.subcommand()?;
@@ -135,7 +135,7 @@ pub fn read_command<'a>(
     ensures ranges { IfOk result (λ c. IfSome c (λ c. HasNumbersInRange (spelled c))) }
 {
     match parse(alloc, words) {
-        Ok(matches) => Ok(command_met(&matches)),
+        Ok(matches) => Ok(command_of_subcommand(&matches)),
         Err(error) => refused(&error),
     }
 }

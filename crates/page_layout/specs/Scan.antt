@@ -1,7 +1,8 @@
 -- What a scan prints of the pages of a relation: a line for each, then the totals.
-use Rattle.std.specs.Prelude.{◌≡◌, ℕ, ◌+◌, ◌*◌, ◌≤◌, List, [], ◌∷◌, ◌++◌, fold, codes}
+use Rattle.std.specs.Prelude.{◌≡◌, ℕ, ◌+◌, ◌*◌, ◌≤◌, Bool, true, false, List, [], ◌∷◌, ◌++◌, codes, count_by, length, map, sum_by}
 use Rattle.std.specs.Fmt.{decimal}
 use Rattle.page_layout.specs.declared.scan.ScanTotals.{ScanTotals}
+use Rattle.page_layout.specs.declared.summary.PointerCounts.{PointerCounts}
 use Rattle.page_layout.specs.declared.summary.PageSummary.{PageSummary}
 use Rattle.page_layout.specs.declared.summary.PageSummary.TheVariants.{Invalid, New, Used}
 use Rattle.page_layout.specs.Summary.{summary_of}
@@ -10,7 +11,49 @@ use Rattle.page_layout.specs.Text.{joined, scan_line_of}
 abbrev pub no_totals : ScanTotals
 no_totals = record { blocks = 0; used = 0; new = 0; invalid = 0; normal = 0; redirect = 0; dead = 0; unused = 0 }
 
--- the totals with a page more
+-- whether a page is used, new or invalid
+abbrev pub is_used : PageSummary → Bool
+is_used Invalid = false
+is_used New = false
+is_used (Used u) = true
+
+abbrev pub is_new : PageSummary → Bool
+is_new Invalid = false
+is_new New = true
+is_new (Used u) = false
+
+abbrev pub is_invalid : PageSummary → Bool
+is_invalid Invalid = true
+is_invalid New = false
+is_invalid (Used u) = false
+
+abbrev pub no_pointers : PointerCounts
+no_pointers = record { normal = 0; redirect = 0; dead = 0; unused = 0 }
+
+-- the line pointers of a used page, and none of another
+abbrev pub pointers_of : PageSummary → PointerCounts
+pointers_of Invalid = no_pointers
+pointers_of New = no_pointers
+pointers_of (Used u) = u.pointers
+
+-- how many pages there are of each kind, and how many line pointers of each state the used ones have
+abbrev pub totals_of_summaries : List PageSummary → ScanTotals
+totals_of_summaries summaries = record {
+  blocks = length summaries;
+  used = count_by is_used summaries;
+  new = count_by is_new summaries;
+  invalid = count_by is_invalid summaries;
+  normal = sum_by (λ s. (pointers_of s).normal) summaries;
+  redirect = sum_by (λ s. (pointers_of s).redirect) summaries;
+  dead = sum_by (λ s. (pointers_of s).dead) summaries;
+  unused = sum_by (λ s. (pointers_of s).unused) summaries;
+}
+
+-- the totals of pages
+abbrev pub totals_of : List (List ℕ) → ScanTotals
+totals_of pages = totals_of_summaries (map summary_of pages)
+
+-- totals with a page more
 abbrev pub counted : ScanTotals → PageSummary → ScanTotals
 counted t Invalid = record t { blocks = t.blocks + 1; invalid = t.invalid + 1 }
 counted t New = record t { blocks = t.blocks + 1; new = t.new + 1 }
@@ -22,10 +65,6 @@ counted t (Used u) = record t {
   dead = t.dead + u.pointers.dead;
   unused = t.unused + u.pointers.unused;
 }
-
--- the totals of pages
-abbrev pub totals_of : List (List ℕ) → ScanTotals
-totals_of pages = fold (λ totals page. counted totals (summary_of page)) no_totals pages
 
 unfoldable pub totals_text : ScanTotals → List ℕ
 totals_text t = joined (codes "blocks " ∷ decimal t.blocks ∷ codes " used " ∷ decimal t.used ∷ codes " new " ∷ decimal t.new ∷ codes " invalid " ∷ decimal t.invalid ∷ codes " normal " ∷ decimal t.normal ∷ codes " redirect " ∷ decimal t.redirect ∷ codes " dead " ∷ decimal t.dead ∷ codes " unused " ∷ decimal t.unused ∷ [])

@@ -9,10 +9,10 @@ use Rattle.segment_store.specs.Restored.{paths_after}
 use Rattle.segment_store.proofs.GivenBack.{paths_same}
 
 abbrev HoldAt : Option Paths → OpenAt → List (Option Pages) → Type 0
-HoldAt told at lanes = IfSome told (λ paths. HoldPages (fork_of at.path) (relation_of at.seg_blocks (paths at.path)) lanes)
+HoldAt known at lanes = IfSome known (λ paths. HoldPages (fork_of at.path) (relation_of at.seg_blocks (paths at.path)) lanes)
 
-pub paths_stay : (told new : Option Paths) (opened at : OpenAt) (before after : List (Option Pages)) → new ≡ option_map (paths_after opened after) told
-    → IfSome told (λ _. opened ≡ at) → after ≡ before → HoldAt told at before → new ≡ told
+pub paths_stay : (known new : Option Paths) (opened at : OpenAt) (before after : List (Option Pages)) → new ≡ option_map (paths_after opened after) known
+    → IfSome known (λ _. opened ≡ at) → after ≡ before → HoldAt known at before → new ≡ known
 paths_stay None new opened at before after given is same holds = given
 paths_stay (Some paths) new opened at before after given is same holds =
     let lanes = subst (λ (l : List (Option Pages)). HoldAt (Some paths) at l) (sym same) holds in

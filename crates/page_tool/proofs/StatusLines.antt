@@ -11,20 +11,20 @@ use Rattle.page_tool.specs.Answers.{Ends, Said, SaysAs, status_line}
 use Rattle.page_tool.specs.Request.{ScanRequest}
 use Rattle.page_tool.specs.Status.{crowded_text, error_line, missing_text, status_of_error, tool_line}
 
-pub line_is : (request : Option ScanRequest) (told : Option Paths) (reads reads_now outs outs_now : ℕ) (error : ToolError)
-    → Ends request told reads reads_now outs outs_now (Err error) → error_line error ≡ status_line request (status_of_error error)
-line_is None told reads reads_now outs outs_now Usage ends = refl
-line_is None told reads reads_now outs outs_now (Crowded crowding) ends = absurd ends
-line_is None told reads reads_now outs outs_now (Missing path) ends = absurd ends
-line_is None told reads reads_now outs outs_now ReadFault ends = absurd ends
-line_is None told reads reads_now outs outs_now OutFault ends = absurd ends
-line_is None told reads reads_now outs outs_now Memory ends = refl
-line_is (Some r) told reads reads_now outs outs_now Usage ends = absurd ends
-line_is (Some r) told reads reads_now outs outs_now (Crowded crowding) ends = ap (λ c. tool_line (crowded_text c)) ends.0
-line_is (Some r) told reads reads_now outs outs_now (Missing path) ends = ap (λ (p : List ℕ). tool_line (missing_text p)) ends.0
-line_is (Some r) told reads reads_now outs outs_now ReadFault ends = refl
-line_is (Some r) told reads reads_now outs outs_now OutFault ends = refl
-line_is (Some r) told reads reads_now outs outs_now Memory ends = refl
+pub line_is : (request : Option ScanRequest) (known : Option Paths) (reads reads_now outs outs_now : ℕ) (error : ToolError)
+    → Ends request known reads reads_now outs outs_now (Err error) → error_line error ≡ status_line request (status_of_error error)
+line_is None known reads reads_now outs outs_now Usage ends = refl
+line_is None known reads reads_now outs outs_now (Crowded crowding) ends = absurd ends
+line_is None known reads reads_now outs outs_now (Missing path) ends = absurd ends
+line_is None known reads reads_now outs outs_now ReadFault ends = absurd ends
+line_is None known reads reads_now outs outs_now OutFault ends = absurd ends
+line_is None known reads reads_now outs outs_now Memory ends = refl
+line_is (Some r) known reads reads_now outs outs_now Usage ends = absurd ends
+line_is (Some r) known reads reads_now outs outs_now (Crowded crowding) ends = ap (λ c. tool_line (crowded_text c)) ends.0
+line_is (Some r) known reads reads_now outs outs_now (Missing path) ends = ap (λ (p : List ℕ). tool_line (missing_text p)) ends.0
+line_is (Some r) known reads reads_now outs outs_now ReadFault ends = refl
+line_is (Some r) known reads reads_now outs outs_now OutFault ends = refl
+line_is (Some r) known reads reads_now outs outs_now Memory ends = refl
 
 -- the line of want of memory is that of status 8, whatever was asked for
 pub memory_line_is : (request : Option ScanRequest) → error_line Memory ≡ status_line request 8

@@ -2,7 +2,7 @@
 use Rattle.std.proofs.Common.{◌≡◌, ℕ, List, [], ◌++◌, Option, Some, None, Result, Ok, Err, refl, sym, ◌∙◌, ap, subst, append_assoc}
 use Rattle.std.specs.Prelude.{option_map, IfSome, IsSomeAnd}
 use Rattle.std.proofs.lemmas.List.{append-nil}
-use Rattle.segment_store.specs.Contents.{GainsFront, Puts}
+use Rattle.segment_store.specs.Contents.{GainsPrefix, Puts}
 use Rattle.page_tool.specs.Progress.{Advances, HasAdvanced, HasMoved}
 
 -- two parts put one after the other
@@ -36,14 +36,14 @@ advanced_at_once : (text part pending rest old moved : List ℕ) (new : Option (
     → IsSomeAnd new (Advances text pending old)
 advanced_at_once text part pending rest old moved new split whole is =
     let advances : Advances text pending old (old ++ moved) = record {
-      front = moved;
+      prefix = moved;
       rest = rest;
       whole = whole ∙ ap (λ (l : List ℕ). l ++ rest) split ∙ append_assoc moved pending rest;
       is = refl;
     } in
     subst (λ (n : Option (List ℕ)). IsSomeAnd n (Advances text pending old)) (sym is) advances
 
--- a first part of a text that was put or is pending is a front of it
+-- a first part of a text that was put or is pending is a prefix of it
 pub advanced_so_far : (text part pending rest : List ℕ) (old new : Option (List ℕ)) → HasMoved part pending old new → text ≡ part ++ rest → HasAdvanced text pending old new
 advanced_so_far text part pending rest None new first whole = tt
 advanced_so_far text part pending rest (Some old) new first whole = advanced_at_once text part pending rest old first.moved new first.whole whole first.out
@@ -51,14 +51,14 @@ advanced_so_far text part pending rest (Some old) new first whole = advanced_at_
 advances_after : (text part pending next rest pending' old new moved : List ℕ) → part ≡ moved ++ pending → text ≡ part ++ (next ++ rest)
     → Advances (pending ++ next) pending' (old ++ moved) new → Advances text pending' old new
 advances_after text part pending next rest pending' old new moved split whole advances =
-    let front = advances.front in
+    let prefix = advances.prefix in
     let first : (moved ++ pending) ++ (next ++ rest) ≡ moved ++ ((pending ++ next) ++ rest) = simp append_assoc in
-    let second : moved ++ ((front ++ (pending' ++ advances.rest)) ++ rest) ≡ (moved ++ front) ++ (pending' ++ (advances.rest ++ rest)) = simp append_assoc in
+    let second : moved ++ ((prefix ++ (pending' ++ advances.rest)) ++ rest) ≡ (moved ++ prefix) ++ (pending' ++ (advances.rest ++ rest)) = simp append_assoc in
     record {
-      front = moved ++ front;
+      prefix = moved ++ prefix;
       rest = advances.rest ++ rest;
       whole = whole ∙ ap (λ (l : List ℕ). l ++ (next ++ rest)) split ∙ first ∙ ap (λ (l : List ℕ). moved ++ (l ++ rest)) advances.whole ∙ second;
-      is = advances.is ∙ append_assoc old moved front;
+      is = advances.is ∙ append_assoc old moved prefix;
     }
 
 advanced_at : (text part pending next rest pending' old moved : List ℕ) (new : Option (List ℕ)) → part ≡ moved ++ pending → text ≡ part ++ (next ++ rest)
@@ -67,7 +67,7 @@ advanced_at text part pending next rest pending' old moved None split whole adva
 advanced_at text part pending next rest pending' old moved (Some new) split whole advances =
     advances_after text part pending next rest pending' old new moved split whole advances
 
--- a front of what is pending and of the next part is, behind what was put, a front of the text
+-- a prefix of what is pending and of the next part is, behind what was put, a prefix of the text
 pub advanced_after : (text part pending next rest pending' : List ℕ) (old mid new : Option (List ℕ)) → HasMoved part pending old mid → text ≡ part ++ (next ++ rest)
     → HasAdvanced (pending ++ next) pending' mid new → HasAdvanced text pending' old new
 advanced_after text part pending next rest pending' None mid new first whole advanced = tt
@@ -75,30 +75,30 @@ advanced_after text part pending next rest pending' (Some old) mid new first who
     let at = subst (λ (m : Option (List ℕ)). HasAdvanced (pending ++ next) pending' m new) first.out advanced in
     advanced_at text part pending next rest pending' old first.moved new first.whole whole at
 
-front_at : (text pending old middle : List ℕ) (new : Option (List ℕ)) → Advances text pending old middle → IsSomeAnd new (Advances pending [] middle)
-    → IsSomeAnd new (GainsFront text old)
-front_at text pending old middle None first second = second
-front_at text pending old middle (Some new) first second =
-    let regroup : first.front ++ ((second.front ++ second.rest) ++ first.rest) ≡ (first.front ++ second.front) ++ (second.rest ++ first.rest) = simp append_assoc in
+prefix_at : (text pending old middle : List ℕ) (new : Option (List ℕ)) → Advances text pending old middle → IsSomeAnd new (Advances pending [] middle)
+    → IsSomeAnd new (GainsPrefix text old)
+prefix_at text pending old middle None first second = second
+prefix_at text pending old middle (Some new) first second =
+    let regroup : first.prefix ++ ((second.prefix ++ second.rest) ++ first.rest) ≡ (first.prefix ++ second.prefix) ++ (second.rest ++ first.rest) = simp append_assoc in
     record {
-      front = first.front ++ second.front;
+      prefix = first.prefix ++ second.prefix;
       rest = second.rest ++ first.rest;
-      whole = first.whole ∙ ap (λ (l : List ℕ). first.front ++ (l ++ first.rest)) second.whole ∙ regroup;
-      is = second.is ∙ ap (λ (l : List ℕ). l ++ second.front) first.is ∙ append_assoc old first.front second.front;
+      whole = first.whole ∙ ap (λ (l : List ℕ). first.prefix ++ (l ++ first.rest)) second.whole ∙ regroup;
+      is = second.is ∙ ap (λ (l : List ℕ). l ++ second.prefix) first.is ∙ append_assoc old first.prefix second.prefix;
     }
 
-fronts_at : (text pending old : List ℕ) (mid new : Option (List ℕ)) → IsSomeAnd mid (Advances text pending old) → HasAdvanced pending [] mid new
-    → IsSomeAnd new (GainsFront text old)
-fronts_at text pending old None new first second = absurd first
-fronts_at text pending old (Some middle) new first second = front_at text pending old middle new first second
+prefixes_at : (text pending old : List ℕ) (mid new : Option (List ℕ)) → IsSomeAnd mid (Advances text pending old) → HasAdvanced pending [] mid new
+    → IsSomeAnd new (GainsPrefix text old)
+prefixes_at text pending old None new first second = absurd first
+prefixes_at text pending old (Some middle) new first second = prefix_at text pending old middle new first second
 
--- after a fault what was pending is put as far as it goes: the bytes have gained a front of the text
-pub puts_front : {E : Type 0} (text pending : List ℕ) (old mid new : Option (List ℕ)) (e : E) → HasAdvanced text pending old mid → HasAdvanced pending [] mid new
+-- after a fault what was pending is put as far as it goes: the bytes have gained a prefix of the text
+pub puts_prefix : {E : Type 0} (text pending : List ℕ) (old mid new : Option (List ℕ)) (e : E) → HasAdvanced text pending old mid → HasAdvanced pending [] mid new
     → Puts {E = E} text old new (Err e)
-puts_front text pending None mid new e first second = record { ok = tt; failed = tt }
-puts_front text pending (Some old) mid new e first second = record { ok = tt; failed = fronts_at text pending old mid new first second }
+puts_prefix text pending None mid new e first second = record { ok = tt; failed = tt }
+puts_prefix text pending (Some old) mid new e first second = record { ok = tt; failed = prefixes_at text pending old mid new first second }
 
--- a put of nothing leaves an empty front
+-- a put of nothing leaves an empty prefix
 pub puts_nothing : {E : Type 0} (text : List ℕ) (old : Option (List ℕ)) (e : E) → Puts {E = E} text old old (Err e)
 puts_nothing text None e = record { ok = tt; failed = tt }
-puts_nothing text (Some old) e = record { ok = tt; failed = record { front = []; rest = text; whole = refl; is = sym (append-nil old) } }
+puts_nothing text (Some old) e = record { ok = tt; failed = record { prefix = []; rest = text; whole = refl; is = sym (append-nil old) } }

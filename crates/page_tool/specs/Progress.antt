@@ -9,18 +9,18 @@ pub record HasMoved (text pending : List ℕ) (old new : Option (List ℕ)) : Ty
   pub whole : text ≡ moved ++ pending
   pub out : new ≡ option_map (λ bytes. bytes ++ moved) old
 
--- the bytes have become longer by a front of the text, and what is pending comes next in it
+-- the bytes have become longer by a prefix of the text, and what is pending comes next in it
 pub record Advances (text pending old new : List ℕ) : Type 0 where
-  pub front : List ℕ
+  pub prefix : List ℕ
   pub rest : List ℕ
-  pub whole : text ≡ front ++ (pending ++ rest)
-  pub is : new ≡ old ++ front
+  pub whole : text ≡ prefix ++ (pending ++ rest)
+  pub is : new ≡ old ++ prefix
 
 -- the same where the bytes are known
 abbrev pub HasAdvanced : List ℕ → List ℕ → Option (List ℕ) → Option (List ℕ) → Type 0
 HasAdvanced text pending old new = IfSome old (λ bytes. IsSomeAnd new (Advances text pending bytes))
 
--- all of the text is out or pending, or after a fault a front of it
+-- all of the text is out or pending, or after a fault a prefix of it
 abbrev pub Moves : {E : Type 0} → List ℕ → List ℕ → Option (List ℕ) → Option (List ℕ) → Result Unit E → Type 0
 Moves text pending old new result = MatchResult result (λ _. HasMoved text pending old new) (λ _. HasAdvanced text pending old new)
 
@@ -29,7 +29,7 @@ pub record HasScanned (pages : List (List ℕ)) (count : ℕ) (pending : List �
   pub lines : HasMoved (scan_lines_from 0 (take count pages)) pending old new
   pub totals_are : totals ≡ totals_of (take count pages)
 
--- the lines of all pages are, or after a fault a front of the text
+-- the lines of all pages are, or after a fault a prefix of the text
 abbrev pub Scans : {E : Type 0} → List (List ℕ) → ℕ → List ℕ → ScanTotals → Option (List ℕ) → Option (List ℕ) → Result Unit E → Type 0
 Scans pages count pending totals old new result =
     MatchResult result (λ _. HasScanned pages count pending totals old new) (λ _. HasAdvanced (scan_text pages) pending old new)

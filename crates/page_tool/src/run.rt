@@ -1,5 +1,5 @@
 //! Runs a command line.
-ghost use Rattle.std.specs.Prelude.{◌≡◌, ◌≤◌, ◌<◌, ◌⊎◌, [], ◌↔◌, Ok, Err, IsTrue, IfErr, IfSome, IsErrOf, map, string_bytes, sum_by};
+ghost use Rattle.std.specs.Prelude.{◌≡◌, ◌≤◌, ◌<◌, ◌⊎◌, [], ◌↔◌, None, IsTrue, IfErr, IfSome, IsErrOf, map, string_bytes, sum_by};
 ghost use Rattle.command_line.specs.Numbers.{HasOptionsInRange};
 ghost use Rattle.segment_store.specs.Contents.{Puts};
 ghost use Rattle.segment_store.specs.Faults.{Rose};
@@ -18,7 +18,7 @@ use segment_store::{Host, Opened, Sink, fork_of_path};
 use std::alloc::Global;
 
 /// What is said where there is no memory for a line.
-const OUT_OF_MEMORY: &[u8] = b"page_tool: out of memory\n";
+pub const MEMORY_LINE: &[u8] = b"page_tool: out of memory\n";
 
 /// Whether the backends need more frames: each pins one, and two are kept besides.
 fn is_crowded(options: &Options) -> bool
@@ -39,13 +39,13 @@ fn scan_opened<H: Host, O: Sink, G: Gate>(
     out: &mut O,
     gate: &G,
 ) -> Result<(), ScanError>
-    requires open_at { IfSome (H.held host.old) (λ _. H.open_at host.old ≡ record { path = path.now; seg_blocks = options.now.seg_blocks }) }
+    requires open_at { IfSome (H.contents host.old) (λ _. H.open_at host.old ≡ record { path = path.now; seg_blocks = options.now.seg_blocks }) }
     requires range { HasOptionsInRange options.now }
-    requires opened { IsOpened H.Lane.held H.Lane.failed H.Lane.read_faults H.Lane.write_faults (H.held host.old) path.now (fork_of path.now) options.now.seg_blocks options.now.lanes opened }
-    ensures held { H.held host.new ≡ H.held host.old }
+    requires opened { IsOpened H.Lane.contents H.Lane.failed_writes H.Lane.read_faults H.Lane.write_faults (H.contents host.old) path.now (fork_of path.now) options.now.seg_blocks options.now.lanes opened }
+    ensures contents { H.contents host.new ≡ H.contents host.old }
     ensures writes { H.write_faults host.new ≡ H.write_faults host.old }
     ensures cause { HasScanCause (H.read_faults host.old) (H.read_faults host.new) (O.faults out.old) (O.faults out.new) result }
-    ensures text { IfSome (H.held host.old) (λ told. Puts (text_at options.now.seg_blocks told path.now) (O.bytes out.old) (O.bytes out.new) result) }
+    ensures text { IfSome (H.contents host.old) (λ paths. Puts (text_at options.now.seg_blocks paths path.now) (O.bytes out.old) (O.bytes out.new) result) }
 {
     let scanned = scan_fork(
         alloc,
@@ -69,11 +69,11 @@ fn scan<'a, H: Host, O: Sink, G: Gate>(
     gate: &G,
 ) -> Result<(), ToolError<'a>>
     requires { HasOptionsInRange options.now }
-    ensures held { H.held host.new ≡ H.held host.old }
+    ensures contents { H.contents host.new ≡ H.contents host.old }
     ensures writes { H.write_faults host.new ≡ H.write_faults host.old }
     ensures later { (H.read_faults host.old ≤ H.read_faults host.new) × (O.faults out.old ≤ O.faults out.new) }
-    ensures ends { EndsScan (record { path = path.entry.now; options = options.now }) (H.held host.old) (H.read_faults host.old) (H.read_faults host.new) (O.faults out.old) (O.faults out.new) result }
-    ensures text { IfSome (H.held host.old) (λ told. Puts (text_at options.now.seg_blocks told path.entry.now) (O.bytes out.old) (O.bytes out.new) result) }
+    ensures ends { EndsScan (record { path = path.entry.now; options = options.now }) (H.contents host.old) (H.read_faults host.old) (H.read_faults host.new) (O.faults out.old) (O.faults out.new) result }
+    ensures text { IfSome (H.contents host.old) (λ paths. Puts (text_at options.now.seg_blocks paths path.entry.now) (O.bytes out.old) (O.bytes out.new) result) }
     ensures silent { IfErr result (λ e. status_of_error e ≤ 3 → O.bytes out.new ≡ O.bytes out.old) }
 {
     if is_crowded(options) {
@@ -99,7 +99,7 @@ fn say<E: Sink>(alloc: Global, error: &ToolError<'_>, err: &mut E) -> u8
         ⊎ SaysAs ToolError.Memory (E.bytes err.old) (E.bytes err.new) (E.faults err.old) (E.faults err.new) result }
 {
     let Ok(line) = error.line(alloc) else {
-        let _ = err.put(OUT_OF_MEMORY);
+        let _ = err.put(MEMORY_LINE);
         return ToolError::Memory.status();
     };
     let _ = err.put(line.as_bytes());
@@ -114,13 +114,14 @@ fn perform<'a, H: Host, O: Sink, G: Gate>(
     out: &mut O,
     gate: &G,
 ) -> Result<(), ToolError<'a>>
-    ensures held { H.held host.new ≡ H.held host.old }
+    ensures contents { H.contents host.new ≡ H.contents host.old }
     ensures writes { H.write_faults host.new ≡ H.write_faults host.old }
     ensures later { (H.read_faults host.old ≤ H.read_faults host.new) × (O.faults out.old ≤ O.faults out.new) }
-    ensures ends { Ends (request_of (map string_bytes words.now)) (H.held host.old) (H.read_faults host.old) (H.read_faults host.new) (O.faults out.old) (O.faults out.new) result }
-    ensures text { IfSome (request_of (map string_bytes words.now)) (λ r. IfSome (H.held host.old) (λ told.
-        Puts (text_at r.options.seg_blocks told r.path) (O.bytes out.old) (O.bytes out.new) result)) }
+    ensures ends { Ends (request_of (map string_bytes words.now)) (H.contents host.old) (H.read_faults host.old) (H.read_faults host.new) (O.faults out.old) (O.faults out.new) result }
+    ensures text { IfSome (request_of (map string_bytes words.now)) (λ r. IfSome (H.contents host.old) (λ paths.
+        Puts (text_at r.options.seg_blocks paths r.path) (O.bytes out.old) (O.bytes out.new) result)) }
     ensures silent { IfErr result (λ e. status_of_error e ≤ 3 → O.bytes out.new ≡ O.bytes out.old) }
+    ensures no_command { request_of (map string_bytes words.now) ≡ None → O.bytes out.new ≡ O.bytes out.old }
 {
     match read_request(alloc, words) {
         Ok(Some(request)) => scan(alloc, request.path, &request.options, host, out, gate),
@@ -147,23 +148,25 @@ pub fn run<H: Host, O: Sink, E: Sink, G: Gate>(
     ensures usage { UsageIf (request_of (map string_bytes words.now)) result }
     ensures crowded { IfSome (request_of (map string_bytes words.now)) (λ r. CrowdedIf r.options result) }
     ensures missing { IfSome (request_of (map string_bytes words.now)) (λ r.
-        MissingIf r (H.held host.old) (H.read_faults host.old) (H.read_faults host.new) result) }
+        MissingIf r (H.contents host.old) (H.read_faults host.old) (H.read_faults host.new) result) }
     ensures read_fault { result ≡ 4 → Rose (H.read_faults host.old) (H.read_faults host.new) }
     ensures out_fault { result ≡ 7 → Rose (O.faults out.old) (O.faults out.new) }
 
-    // What is out: the text of the relation, or a front of it.
-    ensures text { IfSome (request_of (map string_bytes words.now)) (λ r. IfSome (H.held host.old) (λ told.
-        Wrote (text_at r.options.seg_blocks told r.path) (O.bytes out.old) (O.bytes out.new) result)) }
+    // What is out: the text of the relation, or a prefix of it.
+    ensures text { IfSome (request_of (map string_bytes words.now)) (λ r. IfSome (H.contents host.old) (λ paths.
+        Wrote (text_at r.options.seg_blocks paths r.path) (O.bytes out.old) (O.bytes out.new) result)) }
     ensures silent { 1 ≤ result → result ≤ 3 → O.bytes out.new ≡ O.bytes out.old }
+    ensures no_command { request_of (map string_bytes words.now) ≡ None → O.bytes out.new ≡ O.bytes out.old }
+    ensures quiet { result ≡ 0 → (E.bytes err.new ≡ E.bytes err.old) × (E.faults err.new ≡ E.faults err.old) }
     ensures says { Said (status_line (request_of (map string_bytes words.now)) result) (E.bytes err.old) (E.bytes err.new) (E.faults err.old) (E.faults err.new) }
 
     // No path changes, and no count rises where all went well.
-    ensures held { H.held host.new ≡ H.held host.old }
+    ensures contents { H.contents host.new ≡ H.contents host.old }
     ensures writes { H.write_faults host.new ≡ H.write_faults host.old }
     ensures later { (H.read_faults host.old ≤ H.read_faults host.new) × (O.faults out.old ≤ O.faults out.new) }
     ensures done { result ≡ 0 → (H.read_faults host.new ≡ H.read_faults host.old) × (O.faults out.new ≡ O.faults out.old) }
     ensures complete { IfSome (request_of (map string_bytes words.now)) (λ r.
-        IsComplete r (H.held host.old) (H.read_faults host.old) (H.read_faults host.new) (O.faults out.old) (O.faults out.new) result) }
+        IsComplete r (H.contents host.old) (H.read_faults host.old) (H.read_faults host.new) (O.faults out.old) (O.faults out.new) result) }
 {
     match perform(alloc, words, host, out, gate) {
         Ok(()) => 0,

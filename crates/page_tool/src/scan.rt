@@ -18,7 +18,7 @@ use std::alloc::Global;
 /// Text goes out in pieces of about this many bytes.
 const PIECE_SIZE: usize = 65536;
 
-/// Is told of each block before it is read.
+/// Hears of each block before it is read.
 pub trait Gate {
     /// `worker` is about to read `block`.
     fn before(&self, worker: u32, block: u32);
@@ -36,10 +36,10 @@ pub enum ScanError {
 fn read_block<L: BlockLane>(lanes: &mut [L], tag: Tag, page: &mut Page) -> Result<(), Failed>
     requires some { 0 < length lanes.old }
     requires few { length lanes.old < 2 ^ 32 }
-    requires has { ForSome (lane_at (map L.held lanes.old) tag) (λ pages. IsSome (pages tag)) }
-    ensures held { map L.held lanes.new ≡ map L.held lanes.old }
-    ensures failed { map L.failed lanes.new ≡ map L.failed lanes.old }
-    ensures page { OnOk result (IfSome (lane_at (map L.held lanes.old) tag) (λ pages. pages tag ≡ Some page.new)) }
+    requires has { ForSome (lane_at (map L.contents lanes.old) tag) (λ pages. IsSome (pages tag)) }
+    ensures contents { map L.contents lanes.new ≡ map L.contents lanes.old }
+    ensures failed { map L.failed_writes lanes.new ≡ map L.failed_writes lanes.old }
+    ensures page { OnOk result (IfSome (lane_at (map L.contents lanes.old) tag) (λ pages. pages tag ≡ Some page.new)) }
     ensures reads { HasCause (sum_by L.read_faults lanes.old) (sum_by L.read_faults lanes.new) result }
     ensures writes { sum_by L.write_faults lanes.new ≡ sum_by L.write_faults lanes.old }
 {
@@ -160,16 +160,16 @@ fn scan_block<L: BlockLane, O: Sink>(
 ) -> Result<(), ScanError>
     requires some { 0 < length lanes.old }
     requires few { length lanes.old < 2 ^ 32 }
-    requires has { ForSome (lane_at (map L.held lanes.old) tag) (λ pages. IsSome (pages tag)) }
+    requires has { ForSome (lane_at (map L.contents lanes.old) tag) (λ pages. IsSome (pages tag)) }
     requires within { IsWithin work.old.totals work.old.totals.blocks }
     requires room { work.old.totals.blocks < 2 ^ 32 }
-    ensures held { map L.held lanes.new ≡ map L.held lanes.old }
-    ensures failed { map L.failed lanes.new ≡ map L.failed lanes.old }
+    ensures contents { map L.contents lanes.new ≡ map L.contents lanes.old }
+    ensures failed { map L.failed_writes lanes.new ≡ map L.failed_writes lanes.old }
     ensures writes { sum_by L.write_faults lanes.new ≡ sum_by L.write_faults lanes.old }
     ensures cause { HasScanCause (sum_by L.read_faults lanes.old) (sum_by L.read_faults lanes.new) (O.faults out.old) (O.faults out.new) result }
-    ensures text { (p : List ℕ) → HasPage tag p (map L.held lanes.old) →
+    ensures text { (p : List ℕ) → HasPage tag p (map L.contents lanes.old) →
         Moves (work.old.text.items ++ scan_line_of tag.block p) work.new.text.items (O.bytes out.old) (O.bytes out.new) result }
-    ensures totals { (p : List ℕ) → HasPage tag p (map L.held lanes.old) → OnOk result (work.new.totals ≡ counted work.old.totals (summary_of p)) }
+    ensures totals { (p : List ℕ) → HasPage tag p (map L.contents lanes.old) → OnOk result (work.new.totals ≡ counted work.old.totals (summary_of p)) }
     ensures within { OnOk result (IsWithin work.new.totals (work.old.totals.blocks + 1)) }
 {
     read_block(lanes, tag, &mut work.page).map_err(|_| ScanError::ReadFault)?;
@@ -190,14 +190,14 @@ fn scan_blocks<L: BlockLane, O: Sink, G: Gate>(
 ) -> Result<(), ScanError>
     requires some { 0 < length lanes.old }
     requires few { length lanes.old < 2 ^ 32 }
-    requires has { HasBlocks fork blocks (map L.held lanes.old) }
+    requires has { HasBlocks fork blocks (map L.contents lanes.old) }
     requires text { work.old.text.items ≡ [] }
     requires totals { work.old.totals ≡ no_totals }
-    ensures held { map L.held lanes.new ≡ map L.held lanes.old }
-    ensures failed { map L.failed lanes.new ≡ map L.failed lanes.old }
+    ensures contents { map L.contents lanes.new ≡ map L.contents lanes.old }
+    ensures failed { map L.failed_writes lanes.new ≡ map L.failed_writes lanes.old }
     ensures writes { sum_by L.write_faults lanes.new ≡ sum_by L.write_faults lanes.old }
     ensures cause { HasScanCause (sum_by L.read_faults lanes.old) (sum_by L.read_faults lanes.new) (O.faults out.old) (O.faults out.new) result }
-    ensures text { (pages : List (List ℕ)) → HoldPages fork pages (map L.held lanes.old) → blocks ≡ length pages →
+    ensures text { (pages : List (List ℕ)) → HoldPages fork pages (map L.contents lanes.old) → blocks ≡ length pages →
         Scans pages blocks work.new.text.items work.new.totals (O.bytes out.old) (O.bytes out.new) result }
 {
     for block in 0..blocks {
@@ -224,14 +224,14 @@ fn scan_all<L: BlockLane, O: Sink, G: Gate>(
 ) -> Result<(), ScanError>
     requires some { 0 < length lanes.old }
     requires few { length lanes.old < 2 ^ 32 }
-    requires has { HasBlocks fork blocks (map L.held lanes.old) }
+    requires has { HasBlocks fork blocks (map L.contents lanes.old) }
     requires text { work.old.text.items ≡ [] }
     requires totals { work.old.totals ≡ no_totals }
-    ensures held { map L.held lanes.new ≡ map L.held lanes.old }
-    ensures failed { map L.failed lanes.new ≡ map L.failed lanes.old }
+    ensures contents { map L.contents lanes.new ≡ map L.contents lanes.old }
+    ensures failed { map L.failed_writes lanes.new ≡ map L.failed_writes lanes.old }
     ensures writes { sum_by L.write_faults lanes.new ≡ sum_by L.write_faults lanes.old }
     ensures cause { HasScanCause (sum_by L.read_faults lanes.old) (sum_by L.read_faults lanes.new) (O.faults out.old) (O.faults out.new) result }
-    ensures text { (pages : List (List ℕ)) → HoldPages fork pages (map L.held lanes.old) → blocks ≡ length pages →
+    ensures text { (pages : List (List ℕ)) → HoldPages fork pages (map L.contents lanes.old) → blocks ≡ length pages →
         Moves (scan_text pages) work.new.text.items (O.bytes out.old) (O.bytes out.new) result }
 {
     scan_blocks(alloc, fork, blocks, lanes, work, out, gate)?;
@@ -252,12 +252,12 @@ pub fn scan_fork<L: BlockLane, O: Sink, G: Gate>(
 ) -> Result<(), ScanError>
     requires some { 0 < length lanes.old.items }
     requires few { length lanes.old.items < 2 ^ 32 }
-    requires has { HasBlocks fork blocks (map L.held lanes.old.items) }
-    ensures held { map L.held lanes.new.items ≡ map L.held lanes.old.items }
-    ensures failed { map L.failed lanes.new.items ≡ map L.failed lanes.old.items }
+    requires has { HasBlocks fork blocks (map L.contents lanes.old.items) }
+    ensures contents { map L.contents lanes.new.items ≡ map L.contents lanes.old.items }
+    ensures failed { map L.failed_writes lanes.new.items ≡ map L.failed_writes lanes.old.items }
     ensures writes { sum_by L.write_faults lanes.new.items ≡ sum_by L.write_faults lanes.old.items }
     ensures cause { HasScanCause (sum_by L.read_faults lanes.old.items) (sum_by L.read_faults lanes.new.items) (O.faults out.old) (O.faults out.new) result }
-    ensures text { (pages : List (List ℕ)) → HoldPages fork pages (map L.held lanes.old.items) → blocks ≡ length pages →
+    ensures text { (pages : List (List ℕ)) → HoldPages fork pages (map L.contents lanes.old.items) → blocks ≡ length pages →
         Puts (scan_text pages) (O.bytes out.old) (O.bytes out.new) result }
 {
     let mut work = Work::new(alloc).map_err(|_| ScanError::Memory)?;

@@ -83,7 +83,7 @@ fn sink(alloc: Global, failing: &[u64]) -> Result<MemSink, Fail> {
     Ok(MemSink::new(alloc, 1 << 20, plan(alloc, failing)?)?)
 }
 
-/// A host with one relation, base/5/16384, of these segments.
+/// A host with one relation, base/5/16384, of these segments, and a visibility map of a zero page.
 fn host_of(alloc: Global, segments: &[&[u8]], failing: Failing) -> Result<MemHost, Fail> {
     let mut files = Vec::new(alloc);
     let mut bytes = Vec::new(alloc);
@@ -91,6 +91,9 @@ fn host_of(alloc: Global, segments: &[&[u8]], failing: Failing) -> Result<MemHos
         bytes.push(segment.to_vec(alloc)?)?;
     }
     files.push(MemFile::new(alloc, String::from_str(alloc, "base/5/16384")?, bytes))?;
+    let mut map = Vec::new(alloc);
+    map.push([0; 8192].to_vec(alloc)?)?;
+    files.push(MemFile::new(alloc, String::from_str(alloc, "base/5/16384_vm")?, map))?;
     let lanes = LanePlan {
         reads: plan(alloc, failing.reads)?,
         writes: plan(alloc, &[])?,
@@ -189,6 +192,17 @@ fn segments_end_the_relation(rt: HostRuntime) -> Result<(), Fail> {
 }
 
 #[test]
+fn scans_another_fork(rt: HostRuntime) -> Result<(), Fail> {
+    let answer = answer_of(rt.alloc(), "scan base/5/16384_vm", &[&[]], NONE_FAIL)?;
+    assert_eq!(rt; answer.status, 0);
+    assert_eq!(rt;
+        answer.out.bytes(),
+        b"0 new\nblocks 1 used 0 new 1 invalid 0 normal 0 redirect 0 dead 0 unused 0\n".as_slice()
+    );
+    Ok(())
+}
+
+#[test]
 fn refuses_words(rt: HostRuntime) -> Result<(), Fail> {
     let usage =
         "page_tool: usage: scan PATH, dump PATH, rewrite PATH --log FILE, sample SEED BLOCKS\n";
@@ -224,78 +238,124 @@ fn refuses_words(rt: HostRuntime) -> Result<(), Fail> {
     Ok(())
 }
 
-/// 64 pages, each with its number in its item.
-fn numbered_pages(alloc: Global) -> Result<Vec<u8>, Fail> {
+/// 64 pages, each with its number in its item and the log position 0/0, and the text of their scan.
+fn numbered_pages(alloc: Global) -> Result<(Vec<u8>, String), Fail> {
     let mut bytes = Vec::new(alloc);
+    let mut text = String::new(alloc);
     for number in 0u8..64 {
         let mut page = one_item();
-        page[8184] = number;
-        page[4] = number;
+        page[..8].copy_from_slice(&[0; 8]);
+        page[8184..8188].copy_from_slice(&[number, 0, 0, 0]);
         bytes.extend_from_slice(&page)?;
+        text.push_str(&format!(in alloc;
+            "{number} lsn 0/0 flags 0 lower 28 upper 8184 special 8192 items 1 normal 1 redirect 0 dead 0 unused 0\n"
+        )?)?;
     }
-    Ok(bytes)
+    text.push_str("blocks 64 used 64 new 0 invalid 0 normal 64 redirect 0 dead 0 unused 0\n")?;
+    Ok((bytes, text))
 }
 
 #[test]
 fn options_leave_the_text(rt: HostRuntime) -> Result<(), Fail> {
     let alloc = rt.alloc();
-    let bytes = numbered_pages(alloc)?;
-    let plain = answer_of(alloc, "scan base/5/16384", &[&bytes], NONE_FAIL)?;
-    assert_eq!(rt; plain.status, 0);
+    let (bytes, text) = numbered_pages(alloc)?;
     let lines = [
+        "scan base/5/16384 --frames 16",
+        "scan base/5/16384 --frames 128",
         "scan base/5/16384 --backends 2 --frames 16",
-        "scan base/5/16384 --backends 7 --frames 128 --lanes 1",
-        "scan base/5/16384 --backends 13 --frames 16 --lanes 16",
-        "scan --backends 32 --bgwriter 1000 base/5/16384",
+        "scan base/5/16384 --backends 2 --frames 128 --lanes 1",
+        "scan base/5/16384 --backends 7 --frames 16 --lanes 16",
+        "scan base/5/16384 --backends 7 --frames 128",
+        "scan base/5/16384 --backends 13 --frames 16",
+        "scan --backends 32 --frames 128 --bgwriter 1000 base/5/16384",
     ];
     for line in lines {
         let answer = answer_of(alloc, line, &[&bytes], NONE_FAIL)?;
         assert_eq!(rt; answer.status, 0, "{line}");
-        assert_eq!(rt; answer.out.bytes(), plain.out.bytes(), "{line}");
+        assert_eq!(rt; answer.blocks, 64, "{line}");
+        assert_eq!(rt; answer.out.bytes(), text.as_bytes(), "{line}");
     }
+    Ok(())
+}
+
+/// Text goes out in pieces: what was put before a piece that fails stays.
+#[test]
+fn later_pieces_may_fail(rt: HostRuntime) -> Result<(), Fail> {
+    let alloc = rt.alloc();
+    let mut bytes = Vec::new(alloc);
+    for _number in 0..800 {
+        bytes.extend_from_slice(&one_item())?;
+    }
+    let second = Failing {
+        puts: &[2],
+        ..NONE_FAIL
+    };
+    let whole = answer_of(alloc, "scan base/5/16384", &[&bytes], NONE_FAIL)?;
+    let cut = answer_of(alloc, "scan base/5/16384", &[&bytes], second)?;
+    assert_eq!(rt; whole.status, 0);
+    assert_eq!(rt; cut.status, 7);
+    let long = cut.out.bytes().len() > 65536 && cut.out.bytes().len() < whole.out.bytes().len();
+    assert!(rt; long);
+    let begins = whole.out.bytes().starts_with(cut.out.bytes());
+    assert!(rt; begins);
     Ok(())
 }
 
 #[test]
 fn stops_at_a_fault(rt: HostRuntime) -> Result<(), Fail> {
     let bytes = [0u8; 3 * 8192];
-    let rows: [(Failing, u8, &str, &str); 3] = [
+    let read_fault = "page_tool: read fault\n";
+    let rows: [(&str, Failing, u8, u32, &str, &str); 4] = [
         (
+            "scan base/5/16384 --lanes 1",
             Failing {
                 reads: &[3],
                 ..NONE_FAIL
             },
             4,
+            3,
             "0 new\n1 new\n",
-            "page_tool: read fault\n",
+            read_fault,
         ),
         (
+            // The second read of the lane of blocks 0 and 2 is that of block 2.
+            "scan base/5/16384 --lanes 2",
+            Failing {
+                reads: &[2],
+                ..NONE_FAIL
+            },
+            4,
+            3,
+            "0 new\n1 new\n",
+            read_fault,
+        ),
+        (
+            "scan base/5/16384",
             Failing {
                 openings: &[1],
                 ..NONE_FAIL
             },
             4,
+            0,
             "",
-            "page_tool: read fault\n",
+            read_fault,
         ),
         (
+            "scan base/5/16384",
             Failing {
                 puts: &[1],
                 ..NONE_FAIL
             },
             7,
+            3,
             "0 new\n1 new\n2 new\nblocks 3 used 0 new 3 inv",
             "page_tool: output fault\n",
         ),
     ];
-    for (failing, status, out, err) in rows {
-        let answer = answer_of(
-            rt.alloc(),
-            "scan base/5/16384 --lanes 1",
-            &[&bytes],
-            failing,
-        )?;
+    for (line, failing, status, blocks, out, err) in rows {
+        let answer = answer_of(rt.alloc(), line, &[&bytes], failing)?;
         assert_eq!(rt; answer.status, status, "{err}");
+        assert_eq!(rt; answer.blocks, blocks, "{err}");
         assert_eq!(rt; answer.out.bytes(), out.as_bytes(), "{err}");
         assert_eq!(rt; answer.err.bytes(), err.as_bytes(), "{err}");
     }

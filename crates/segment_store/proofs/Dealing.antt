@@ -111,8 +111,8 @@ own_here fork pages lanes block within =
     let mine : (lane_number (tag_at fork block) lanes == lane_number (tag_at fork block) lanes) ≡ true = eq-eqb (lane_number (tag_at fork block) lanes) (lane_number (tag_at fork block) lanes) refl in
     ap₂ (λ (a b : Bool). cond (a && b) (slice_get pages block) None) named mine ∙ slice_get-get_or pages block [] within
 
-has_page : (lane : Option Pages) (held : Pages) (tag : Tag) (page : List ℕ) → lane ≡ Some held → held tag ≡ Some page → IsSomeAnd lane (λ pages. pages tag ≡ Some page)
-has_page lane held tag page is has = subst (λ (l : Option Pages). IsSomeAnd l (λ pages. pages tag ≡ Some page)) (sym is) has
+has_page : (lane : Option Pages) (contents : Pages) (tag : Tag) (page : List ℕ) → lane ≡ Some contents → contents tag ≡ Some page → IsSomeAnd lane (λ pages. pages tag ≡ Some page)
+has_page lane contents tag page is has = subst (λ (l : Option Pages). IsSomeAnd l (λ pages. pages tag ≡ Some page)) (sym is) has
 
 -- lanes that were dealt a relation hold it
 pub dealt_hold : (fork : Fork) (pages : List (List ℕ)) (lanes : ℕ) → 1 ≤ lanes → HoldPages fork pages (dealt fork pages lanes)
@@ -121,7 +121,7 @@ dealt_hold fork pages lanes some block within =
     (dealt_at fork pages lanes (tag_at fork block) some) (own_here fork pages lanes block within)
 
 is_there : (lane : Option Pages) (tag : Tag) (page : List ℕ) → IsSomeAnd lane (λ pages. pages tag ≡ Some page) → ForSome lane (λ pages. IsSome (pages tag))
-is_there (Some held) tag page has pages is = ap (λ (l : Option Pages). is_some (option_and_then (λ pages. pages tag) l)) (sym is) ∙ ap is_some has
+is_there (Some contents) tag page has pages is = ap (λ (l : Option Pages). is_some (option_and_then (λ pages. pages tag) l)) (sym is) ∙ ap is_some has
 is_there None tag page has pages is = absurd has
 
 -- lanes that hold pages have their blocks

@@ -13,14 +13,14 @@ use Rattle.segment_store.specs.Restored.{pages_in, with_pages}
 use Rattle.segment_store.proofs.GivenBack.{length-pages_in, pages_in-append}
 use Rattle.segment_store.proofs.Segments.{block_then, first_more, length-first}
 
-pub take_front : {X : Type 0} (front back : List X) (n : ℕ) → length front ≡ n → take n (front ++ back) ≡ front
-take_front front back n size = ap (λ (k : ℕ). take k (front ++ back)) (sym size) ∙ take-append_seam front back
+pub take_prefix : {X : Type 0} (prefix back : List X) (n : ℕ) → length prefix ≡ n → take n (prefix ++ back) ≡ prefix
+take_prefix prefix back n size = ap (λ (k : ℕ). take k (prefix ++ back)) (sym size) ∙ take-append_seam prefix back
 
-drop_front : (front back : List ℕ) (n : ℕ) → length front ≡ n → drop n (front ++ back) ≡ back
-drop_front front back n size = ap (λ (k : ℕ). drop k (front ++ back)) (sym size) ∙ drop-append_seam front back
+drop_prefix : (prefix back : List ℕ) (n : ℕ) → length prefix ≡ n → drop n (prefix ++ back) ≡ back
+drop_prefix prefix back n size = ap (λ (k : ℕ). drop k (prefix ++ back)) (sym size) ∙ drop-append_seam prefix back
 
-put_is : (a k : ℕ) (all front back page : List ℕ) → take a all ≡ front → drop k (drop a all) ≡ back → front ++ (page ++ back) ≡ put_mid a k all page
-put_is a k all front back page before behind = ap₂ (λ (x y : List ℕ). x ++ (page ++ y)) (sym before) (sym behind)
+put_is : (a k : ℕ) (all prefix back page : List ℕ) → take a all ≡ prefix → drop k (drop a all) ≡ back → prefix ++ (page ++ back) ≡ put_mid a k all page
+put_is a k all prefix back page before behind = ap₂ (λ (x y : List ℕ). x ++ (page ++ y)) (sym before) (sym behind)
 
 module _ (fork : Fork) (lanes : List (Option Pages)) (first : ℕ) (bytes : List ℕ) where
   -- the bytes once so many blocks were put
@@ -28,60 +28,60 @@ module _ (fork : Fork) (lanes : List (Option Pages)) (first : ℕ) (bytes : List
   bytes_at count = with_pages (pages_in fork lanes first (first_blocks bytes count)) bytes
 
   -- the blocks that were put, joined
-  abbrev pub front_at : ℕ → List ℕ
-  front_at count = concat (pages_in fork lanes first (first_blocks bytes count))
+  abbrev pub prefix_at : ℕ → List ℕ
+  prefix_at count = concat (pages_in fork lanes first (first_blocks bytes count))
 
   length-pages_at : (count : ℕ) → length (pages_in fork lanes first (first_blocks bytes count)) ≡ count
   length-pages_at count = length-pages_in fork lanes first (first_blocks bytes count) ∙ length-first bytes count
 
   -- the bytes are what was put and what was there behind it
-  pub bytes_are : (count : ℕ) → bytes_at count ≡ front_at count ++ drop (8192 * count) bytes
-  bytes_are count = ap (λ (n : ℕ). front_at count ++ drop (8192 * n) bytes) (length-pages_at count)
+  pub bytes_are : (count : ℕ) → bytes_at count ≡ prefix_at count ++ drop (8192 * count) bytes
+  bytes_are count = ap (λ (n : ℕ). prefix_at count ++ drop (8192 * n) bytes) (length-pages_at count)
 
   -- the next block, as its lane has it or as it was
   abbrev pub next_page : ℕ → List ℕ
   next_page count = unwrap_or (page_in lanes (tag_at fork (first + count))) (block_at bytes count)
 
-  front_more : (count : ℕ) → front_at (count + 1) ≡ front_at count ++ next_page count
-  front_more count =
+  prefix_more : (count : ℕ) → prefix_at (count + 1) ≡ prefix_at count ++ next_page count
+  prefix_more count =
       ap (λ (blocks : List (List ℕ)). concat (pages_in fork lanes first blocks)) (first_more bytes count)
       ∙ ap (λ (pages : List (List ℕ)). concat pages) (pages_in-append fork lanes first (first_blocks bytes count) (block_at bytes count ∷ []))
       ∙ concat-append (pages_in fork lanes first (first_blocks bytes count)) (pages_in fork lanes (first + length (first_blocks bytes count)) (block_at bytes count ∷ []))
-      ∙ ap (λ (n : ℕ). front_at count ++ (unwrap_or (page_in lanes (tag_at fork (first + n))) (block_at bytes count) ++ [])) (length-first bytes count)
-      ∙ ap (λ (l : List ℕ). front_at count ++ l) (append-nil (next_page count))
+      ∙ ap (λ (n : ℕ). prefix_at count ++ (unwrap_or (page_in lanes (tag_at fork (first + n))) (block_at bytes count) ++ [])) (length-first bytes count)
+      ∙ ap (λ (l : List ℕ). prefix_at count ++ l) (append-nil (next_page count))
 
-  bytes_more : (count : ℕ) → bytes_at (count + 1) ≡ front_at count ++ (next_page count ++ drop (8192 * (count + 1)) bytes)
+  bytes_more : (count : ℕ) → bytes_at (count + 1) ≡ prefix_at count ++ (next_page count ++ drop (8192 * (count + 1)) bytes)
   bytes_more count =
       bytes_are (count + 1)
-      ∙ ap (λ (l : List ℕ). l ++ drop (8192 * (count + 1)) bytes) (front_more count)
-      ∙ append_assoc (front_at count) (next_page count) (drop (8192 * (count + 1)) bytes)
+      ∙ ap (λ (l : List ℕ). l ++ drop (8192 * (count + 1)) bytes) (prefix_more count)
+      ∙ append_assoc (prefix_at count) (next_page count) (drop (8192 * (count + 1)) bytes)
 
   -- a block that no lane has stays
   pub block_stays : (count : ℕ) → None ≡ page_in lanes (tag_at fork (first + count)) → bytes_at (count + 1) ≡ bytes_at count
   block_stays count none =
       bytes_more count
-      ∙ ap (λ (o : Option (List ℕ)). front_at count ++ (unwrap_or o (block_at bytes count) ++ drop (8192 * (count + 1)) bytes)) (sym none)
-      ∙ ap (λ (l : List ℕ). front_at count ++ l) (block_then bytes count)
+      ∙ ap (λ (o : Option (List ℕ)). prefix_at count ++ (unwrap_or o (block_at bytes count) ++ drop (8192 * (count + 1)) bytes)) (sym none)
+      ∙ ap (λ (l : List ℕ). prefix_at count ++ l) (block_then bytes count)
       ∙ sym (bytes_are count)
 
-  length-front : (count : ℕ) → length (bytes_at count) ≡ length bytes → 8192 * count ≤ length bytes → length (front_at count) ≡ 8192 * count
-  length-front count same within =
-      let whole : length (front_at count) + (length bytes - 8192 * count) ≡ length bytes =
-      ap (λ (n : ℕ). length (front_at count) + n) (sym (length-drop (8192 * count) bytes))
-      ∙ sym (length-append (front_at count) (drop (8192 * count) bytes)) ∙ ap (λ (l : List ℕ). length l) (sym (bytes_are count)) ∙ same in
+  length-prefix : (count : ℕ) → length (bytes_at count) ≡ length bytes → 8192 * count ≤ length bytes → length (prefix_at count) ≡ 8192 * count
+  length-prefix count same within =
+      let whole : length (prefix_at count) + (length bytes - 8192 * count) ≡ length bytes =
+      ap (λ (n : ℕ). length (prefix_at count) + n) (sym (length-drop (8192 * count) bytes))
+      ∙ sym (length-append (prefix_at count) (drop (8192 * count) bytes)) ∙ ap (λ (l : List ℕ). length l) (sym (bytes_are count)) ∙ same in
       omega arith
 
   -- a block that its lane has is written at its place
   pub block_put : (count : ℕ) (page : List ℕ) → Some page ≡ page_in lanes (tag_at fork (first + count)) → length (bytes_at count) ≡ length bytes → 8192 * count + 8192 ≤ length bytes
       → bytes_at (count + 1) ≡ put_mid (8192 * count) 8192 (bytes_at count) page
   block_put count page some same within =
-      let size : length (front_at count) ≡ 8192 * count = length-front count same (omega arith) in
+      let size : length (prefix_at count) ≡ 8192 * count = length-prefix count same (omega arith) in
       let written : next_page count ≡ page = ap (λ (o : Option (List ℕ)). unwrap_or o (block_at bytes count)) (sym some) in
       bytes_more count
-      ∙ ap (λ (p : List ℕ). front_at count ++ (p ++ drop (8192 * (count + 1)) bytes)) written
-      ∙ put_is (8192 * count) 8192 (bytes_at count) (front_at count) (drop (8192 * (count + 1)) bytes) page
-      (ap (λ (l : List ℕ). take (8192 * count) l) (bytes_are count) ∙ take_front (front_at count) (drop (8192 * count) bytes) (8192 * count) size)
+      ∙ ap (λ (p : List ℕ). prefix_at count ++ (p ++ drop (8192 * (count + 1)) bytes)) written
+      ∙ put_is (8192 * count) 8192 (bytes_at count) (prefix_at count) (drop (8192 * (count + 1)) bytes) page
+      (ap (λ (l : List ℕ). take (8192 * count) l) (bytes_are count) ∙ take_prefix (prefix_at count) (drop (8192 * count) bytes) (8192 * count) size)
       (ap (λ (l : List ℕ). drop 8192 (drop (8192 * count) l)) (bytes_are count)
-      ∙ ap (λ (l : List ℕ). drop 8192 l) (drop_front (front_at count) (drop (8192 * count) bytes) (8192 * count) size)
+      ∙ ap (λ (l : List ℕ). drop 8192 l) (drop_prefix (prefix_at count) (drop (8192 * count) bytes) (8192 * count) size)
       ∙ drop-drop 8192 (8192 * count) bytes
       ∙ (let next : 8192 * count + 8192 ≡ 8192 * (count + 1) = omega arith in ap (λ (n : ℕ). drop n bytes) next))

@@ -4,40 +4,40 @@ use Rattle.std.proofs.Math.Seq.{drop-cons}
 use Rattle.std.proofs.lemmas.List.{drop-drop, drop-set-lt, take-append-drop, take_more_set}
 use Rattle.block_tag.specs.declared.tag.Fork.{Fork}
 use Rattle.segment_store.specs.Contents.{Pages}
-use Rattle.segment_store.specs.Relation.{blocks_of, first_blocks}
+use Rattle.segment_store.specs.Relation.{segment_pages, first_blocks}
 use Rattle.segment_store.specs.Restored.{given_back, pages_in, restored, with_pages}
 use Rattle.segment_store.proofs.GivenBack.{drop-pages_in, take-pages_in}
 use Rattle.segment_store.proofs.Segments.{counted, restored_none, splits}
 
 -- the first segment and the others, where pages are put from a block on
 pub record PutsFirst (fork : Fork) (lanes : List (Option Pages)) (seg_blocks : ℕ) (bytes : List ℕ) (segments : List (List ℕ)) (first left count : ℕ) : Type 0 where
-  pub full : count ≡ seg_blocks → restored seg_blocks (bytes ∷ segments) (pages_in fork lanes first (take left (blocks_of seg_blocks (bytes ∷ segments))))
-      ≡ with_pages (pages_in fork lanes first (first_blocks bytes count)) bytes ∷ restored seg_blocks segments (pages_in fork lanes (first + count) (take (left - count) (blocks_of seg_blocks segments)))
-  pub short : count < seg_blocks → restored seg_blocks (bytes ∷ segments) (pages_in fork lanes first (take left (blocks_of seg_blocks (bytes ∷ segments))))
+  pub full : count ≡ seg_blocks → restored seg_blocks (bytes ∷ segments) (pages_in fork lanes first (take left (segment_pages seg_blocks (bytes ∷ segments))))
+      ≡ with_pages (pages_in fork lanes first (first_blocks bytes count)) bytes ∷ restored seg_blocks segments (pages_in fork lanes (first + count) (take (left - count) (segment_pages seg_blocks segments)))
+  pub short : count < seg_blocks → restored seg_blocks (bytes ∷ segments) (pages_in fork lanes first (take left (segment_pages seg_blocks (bytes ∷ segments))))
       ≡ with_pages (pages_in fork lanes first (first_blocks bytes count)) bytes ∷ segments
 
 pub puts_first : (fork : Fork) (lanes : List (Option Pages)) (seg_blocks : ℕ) (bytes : List ℕ) (segments : List (List ℕ)) (first left count : ℕ) → count ≡ counted seg_blocks bytes left
     → PutsFirst fork lanes seg_blocks bytes segments first left count
 puts_first fork lanes seg_blocks bytes segments first left count is =
-    let all = take left (blocks_of seg_blocks (bytes ∷ segments)) in
+    let all = take left (segment_pages seg_blocks (bytes ∷ segments)) in
     let split = splits seg_blocks bytes segments left in
-    let front : with_pages (take seg_blocks (pages_in fork lanes first all)) bytes ≡ with_pages (pages_in fork lanes first (first_blocks bytes count)) bytes =
+    let prefix : with_pages (take seg_blocks (pages_in fork lanes first all)) bytes ≡ with_pages (pages_in fork lanes first (first_blocks bytes count)) bytes =
     ap (λ (pages : List (List ℕ)). with_pages pages bytes) (take-pages_in fork lanes first seg_blocks all)
-    ∙ ap (λ (pages : List (List ℕ)). with_pages (pages_in fork lanes first pages) bytes) split.front
+    ∙ ap (λ (pages : List (List ℕ)). with_pages (pages_in fork lanes first pages) bytes) split.prefix
     ∙ ap (λ (n : ℕ). with_pages (pages_in fork lanes first (first_blocks bytes n)) bytes) (sym is) in
     let behind = ap (λ (pages : List (List ℕ)). restored seg_blocks segments pages) (drop-pages_in fork lanes first seg_blocks all) in
     record {
-      full = λ e. ap₂ (λ (l : List ℕ) (ls : List (List ℕ)). l ∷ ls) front
+      full = λ e. ap₂ (λ (l : List ℕ) (ls : List (List ℕ)). l ∷ ls) prefix
           (behind ∙ ap (λ (pages : List (List ℕ)). restored seg_blocks segments (pages_in fork lanes (first + seg_blocks) pages)) (split.full (sym is ∙ e))
-          ∙ ap (λ (n : ℕ). restored seg_blocks segments (pages_in fork lanes (first + n) (take (left - n) (blocks_of seg_blocks segments)))) (sym e));
-      short = λ below. ap₂ (λ (l : List ℕ) (ls : List (List ℕ)). l ∷ ls) front
+          ∙ ap (λ (n : ℕ). restored seg_blocks segments (pages_in fork lanes (first + n) (take (left - n) (segment_pages seg_blocks segments)))) (sym e));
+      short = λ below. ap₂ (λ (l : List ℕ) (ls : List (List ℕ)). l ∷ ls) prefix
           (behind ∙ ap (λ (pages : List (List ℕ)). restored seg_blocks segments (pages_in fork lanes (first + seg_blocks) pages)) (split.short (omega arith)) ∙ restored_none seg_blocks segments);
     }
 
 -- the first segments are done; the others are as they were, and their first block has this number
 pub record IsUnderway (fork : Fork) (lanes : List (Option Pages)) (seg_blocks : ℕ) (old now : List (List ℕ)) (index first : ℕ) : Type 0 where
   pub done : given_back fork seg_blocks lanes old
-      ≡ take index now ++ restored seg_blocks (drop index old) (pages_in fork lanes first (take (2 ^ 32 - 1 - first) (blocks_of seg_blocks (drop index old))))
+      ≡ take index now ++ restored seg_blocks (drop index old) (pages_in fork lanes first (take (2 ^ 32 - 1 - first) (segment_pages seg_blocks (drop index old))))
   pub others : drop index now ≡ drop index old
 
 module _ (fork : Fork) (lanes : List (Option Pages)) (seg_blocks : ℕ) (old now : List (List ℕ)) (index first count : ℕ) (bytes written : List ℕ) where
@@ -64,9 +64,9 @@ module _ (fork : Fork) (lanes : List (Option Pages)) (seg_blocks : ℕ) (old now
   untouched = drop-set-lt (index + 1) now index written (omega arith)
 
   done_is : WritesNext → IsUnderway fork lanes seg_blocks old now index first
-      → given_back fork seg_blocks lanes old ≡ take index now ++ restored seg_blocks (bytes ∷ drop (index + 1) old) (pages_in fork lanes first (take (2 ^ 32 - 1 - first) (blocks_of seg_blocks (bytes ∷ drop (index + 1) old))))
+      → given_back fork seg_blocks lanes old ≡ take index now ++ restored seg_blocks (bytes ∷ drop (index + 1) old) (pages_in fork lanes first (take (2 ^ 32 - 1 - first) (segment_pages seg_blocks (bytes ∷ drop (index + 1) old))))
   done_is writes way = way.done
-      ∙ ap (λ (l : List (List ℕ)). take index now ++ restored seg_blocks l (pages_in fork lanes first (take (2 ^ 32 - 1 - first) (blocks_of seg_blocks l)))) (next_is writes way)
+      ∙ ap (λ (l : List (List ℕ)). take index now ++ restored seg_blocks l (pages_in fork lanes first (take (2 ^ 32 - 1 - first) (segment_pages seg_blocks l)))) (next_is writes way)
 
   -- where the segment wasn't full, all is done
   pub last_put : WritesNext → IsUnderway fork lanes seg_blocks old now index first → count < seg_blocks → set now index written ≡ given_back fork seg_blocks lanes old
@@ -84,12 +84,12 @@ module _ (fork : Fork) (lanes : List (Option Pages)) (seg_blocks : ℕ) (old now
   next_put writes way full =
       let puts = puts_first fork lanes seg_blocks bytes (drop (index + 1) old) first (2 ^ 32 - 1 - first) count writes.count_is in
       let left : 2 ^ 32 - 1 - first - count ≡ 2 ^ 32 - 1 - (first + count) = omega arith in
-      let rest = restored seg_blocks (drop (index + 1) old) (pages_in fork lanes (first + count) (take (2 ^ 32 - 1 - first - count) (blocks_of seg_blocks (drop (index + 1) old)))) in
+      let rest = restored seg_blocks (drop (index + 1) old) (pages_in fork lanes (first + count) (take (2 ^ 32 - 1 - first - count) (segment_pages seg_blocks (drop (index + 1) old)))) in
       record {
         done = done_is writes way
             ∙ ap (λ (l : List (List ℕ)). take index now ++ l) (puts.full full)
             ∙ ap (λ (l : List ℕ). take index now ++ (l ∷ rest)) (sym writes.written_is)
             ∙ more_done rest writes.within
-            ∙ ap (λ (n : ℕ). take (index + 1) (set now index written) ++ restored seg_blocks (drop (index + 1) old) (pages_in fork lanes (first + count) (take n (blocks_of seg_blocks (drop (index + 1) old))))) left;
+            ∙ ap (λ (n : ℕ). take (index + 1) (set now index written) ++ restored seg_blocks (drop (index + 1) old) (pages_in fork lanes (first + count) (take n (segment_pages seg_blocks (drop (index + 1) old))))) left;
         others = untouched ∙ behind writes way;
       }

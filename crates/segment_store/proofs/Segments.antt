@@ -6,7 +6,7 @@ use Rattle.std.proofs.lemmas.List.{take_all, drop_all, take-append-le}
 use Rattle.std.proofs.lemmas.List.Folds.{concat-append, drop_split}
 use Rattle.std.proofs.lemmas.List.FromFn.{map-range_with_len_more, length-map-range_with_len, take-map-range_with_len}
 use Rattle.std.specs.List.{concat}
-use Rattle.segment_store.specs.Relation.{block_at, blocks_of, first_blocks}
+use Rattle.segment_store.specs.Relation.{block_at, segment_pages, first_blocks}
 use Rattle.segment_store.specs.Restored.{restored, with_pages}
 
 pub length-first : (bytes : List ℕ) (count : ℕ) → length (first_blocks bytes count) ≡ count
@@ -52,15 +52,15 @@ counted seg_blocks bytes left = min (min (length bytes / 8192) seg_blocks) left
 
 -- the first segment's counted blocks, and the others'
 pub record Splits (seg_blocks : ℕ) (bytes : List ℕ) (segments : List (List ℕ)) (left : ℕ) : Type 0 where
-  pub front : take seg_blocks (take left (blocks_of seg_blocks (bytes ∷ segments))) ≡ first_blocks bytes (counted seg_blocks bytes left)
-  pub full : counted seg_blocks bytes left ≡ seg_blocks → drop seg_blocks (take left (blocks_of seg_blocks (bytes ∷ segments))) ≡ take (left - seg_blocks) (blocks_of seg_blocks segments)
-  pub short : counted seg_blocks bytes left < seg_blocks → drop seg_blocks (take left (blocks_of seg_blocks (bytes ∷ segments))) ≡ []
+  pub prefix : take seg_blocks (take left (segment_pages seg_blocks (bytes ∷ segments))) ≡ first_blocks bytes (counted seg_blocks bytes left)
+  pub full : counted seg_blocks bytes left ≡ seg_blocks → drop seg_blocks (take left (segment_pages seg_blocks (bytes ∷ segments))) ≡ take (left - seg_blocks) (segment_pages seg_blocks segments)
+  pub short : counted seg_blocks bytes left < seg_blocks → drop seg_blocks (take left (segment_pages seg_blocks (bytes ∷ segments))) ≡ []
 
 -- all blocks are the first ones of one segment
-splits_one : (seg_blocks : ℕ) (bytes : List ℕ) (segments : List (List ℕ)) (left count : ℕ) → take left (blocks_of seg_blocks (bytes ∷ segments)) ≡ first_blocks bytes count
+splits_one : (seg_blocks : ℕ) (bytes : List ℕ) (segments : List (List ℕ)) (left count : ℕ) → take left (segment_pages seg_blocks (bytes ∷ segments)) ≡ first_blocks bytes count
     → count ≡ counted seg_blocks bytes left → count < seg_blocks → Splits seg_blocks bytes segments left
 splits_one seg_blocks bytes segments left count all is below = record {
-  front = ap (λ (l : List (List ℕ)). take seg_blocks l) all ∙ take-first bytes seg_blocks count
+  prefix = ap (λ (l : List (List ℕ)). take seg_blocks l) all ∙ take-first bytes seg_blocks count
       ∙ (let least : min seg_blocks count ≡ counted seg_blocks bytes left = omega arith in ap (λ (n : ℕ). first_blocks bytes n) least);
   full = λ e. absurd (omega arith);
   short = λ h. ap (λ (l : List (List ℕ)). drop seg_blocks l) all ∙ drop_all seg_blocks (first_blocks bytes count) (rw length-first (omega arith));
@@ -68,15 +68,15 @@ splits_one seg_blocks bytes segments left count all is below = record {
 
 -- the first segment is full, and some blocks of others may follow
 splits_more : (seg_blocks : ℕ) (bytes : List ℕ) (segments : List (List ℕ)) (left : ℕ)
-    → take left (blocks_of seg_blocks (bytes ∷ segments)) ≡ first_blocks bytes seg_blocks ++ take (left - seg_blocks) (blocks_of seg_blocks segments)
+    → take left (segment_pages seg_blocks (bytes ∷ segments)) ≡ first_blocks bytes seg_blocks ++ take (left - seg_blocks) (segment_pages seg_blocks segments)
     → counted seg_blocks bytes left ≡ seg_blocks → Splits seg_blocks bytes segments left
 splits_more seg_blocks bytes segments left all is =
     let firsts = first_blocks bytes seg_blocks in
-    let others = take (left - seg_blocks) (blocks_of seg_blocks segments) in
+    let others = take (left - seg_blocks) (segment_pages seg_blocks segments) in
     let size : length firsts ≡ seg_blocks = length-first bytes seg_blocks in
     let fits : seg_blocks ≤ length firsts = omega arith in
     record {
-      front = ap (λ (l : List (List ℕ)). take seg_blocks l) all ∙ take-append-le seg_blocks firsts others fits ∙ take-first bytes seg_blocks seg_blocks
+      prefix = ap (λ (l : List (List ℕ)). take seg_blocks l) all ∙ take-append-le seg_blocks firsts others fits ∙ take-first bytes seg_blocks seg_blocks
           ∙ (let least : min seg_blocks seg_blocks ≡ counted seg_blocks bytes left = omega arith in ap (λ (n : ℕ). first_blocks bytes n) least);
       full = λ e. ap (λ (l : List (List ℕ)). drop seg_blocks l) all
           ∙ (let at : seg_blocks ≡ length firsts + 0 = omega arith in ap (λ (n : ℕ). drop n (firsts ++ others)) at) ∙ drop-append-add firsts others 0;
@@ -87,14 +87,14 @@ pub splits : (seg_blocks : ℕ) (bytes : List ℕ) (segments : List (List ℕ)) 
 splits seg_blocks bytes segments left =
     let whole : ℕ = length bytes / 8192 in
     let firsts = first_blocks bytes seg_blocks in
-    let others = blocks_of seg_blocks segments in
+    let others = segment_pages seg_blocks segments in
     let size : length firsts ≡ seg_blocks = length-first bytes seg_blocks in
     elim (cases_lt whole seg_blocks) [
       | inl below ↦
-          let is : blocks_of seg_blocks (bytes ∷ segments) ≡ first_blocks bytes whole = rw (lt-ltb whole seg_blocks below) in
+          let is : segment_pages seg_blocks (bytes ∷ segments) ≡ first_blocks bytes whole = rw (lt-ltb whole seg_blocks below) in
           splits_one seg_blocks bytes segments left (min left whole) (ap (λ (l : List (List ℕ)). take left l) is ∙ take-first bytes left whole) (omega arith) (omega arith)
       | inr full ↦
-          let is : blocks_of seg_blocks (bytes ∷ segments) ≡ firsts ++ others = rw (le-ltb whole seg_blocks full) in
+          let is : segment_pages seg_blocks (bytes ∷ segments) ≡ firsts ++ others = rw (le-ltb whole seg_blocks full) in
           elim (cases_lt left seg_blocks) [
             | inl few ↦
                 splits_one seg_blocks bytes segments left (min left seg_blocks)
@@ -114,13 +114,13 @@ restored_none seg_blocks (bytes ∷ segments) =
     (ap (λ (pages : List (List ℕ)). restored seg_blocks segments pages) (drop-nil seg_blocks) ∙ restored_none seg_blocks segments)
 
 -- the segments' own blocks put back change nothing
-pub restored_same : (seg_blocks : ℕ) (segments : List (List ℕ)) (left : ℕ) → restored seg_blocks segments (take left (blocks_of seg_blocks segments)) ≡ segments
+pub restored_same : (seg_blocks : ℕ) (segments : List (List ℕ)) (left : ℕ) → restored seg_blocks segments (take left (segment_pages seg_blocks segments)) ≡ segments
 restored_same seg_blocks [] left = refl
 restored_same seg_blocks (bytes ∷ segments) left =
     let split = splits seg_blocks bytes segments left in
-    let all = take left (blocks_of seg_blocks (bytes ∷ segments)) in
+    let all = take left (segment_pages seg_blocks (bytes ∷ segments)) in
     ap₂ (λ (l : List ℕ) (ls : List (List ℕ)). l ∷ ls)
-    (ap (λ (pages : List (List ℕ)). with_pages pages bytes) split.front ∙ with_first bytes (counted seg_blocks bytes left))
+    (ap (λ (pages : List (List ℕ)). with_pages pages bytes) split.prefix ∙ with_first bytes (counted seg_blocks bytes left))
     (elim (cases_lt (counted seg_blocks bytes left) seg_blocks) [
       | inl below ↦ ap (λ (pages : List (List ℕ)). restored seg_blocks segments pages) (split.short below) ∙ restored_none seg_blocks segments
       | inr above ↦ ap (λ (pages : List (List ℕ)). restored seg_blocks segments pages) (split.full (omega arith)) ∙ restored_same seg_blocks segments (left - seg_blocks)

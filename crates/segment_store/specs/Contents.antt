@@ -38,14 +38,14 @@ abbrev pub Writes : {E : Type 0} → Tag → List ℕ → Option Pages → Optio
 Writes tag page None new result = new ≡ None
 Writes tag page (Some pages) new result = MatchResult result (λ _. new ≡ Some (with_page tag page pages)) (λ _. IsSomeAnd new (IsTorn tag pages))
 
--- the bytes have become longer by a front of the piece
-pub record GainsFront (piece old new : List ℕ) : Type 0 where
-  pub front : List ℕ
+-- the bytes have become longer by a prefix of the piece
+pub record GainsPrefix (piece old new : List ℕ) : Type 0 where
+  pub prefix : List ℕ
   pub rest : List ℕ
-  pub whole : piece ≡ front ++ rest
-  pub is : new ≡ old ++ front
+  pub whole : piece ≡ prefix ++ rest
+  pub is : new ≡ old ++ prefix
 
--- after a put: the whole piece was added, or after a failed one a front of it
+-- after a put: the whole piece was added, or after a failed one a prefix of it
 pub record Puts {E : Type 0} (piece : List ℕ) (old new : Option (List ℕ)) (result : Result Unit E) : Type 0 where
   pub ok : OnOk result (new ≡ option_map (λ bytes. bytes ++ piece) old)
-  pub failed : OnErr result (IfSome old (λ bytes. IsSomeAnd new (GainsFront piece bytes)))
+  pub failed : OnErr result (IfSome old (λ bytes. IsSomeAnd new (GainsPrefix piece bytes)))

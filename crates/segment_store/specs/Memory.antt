@@ -15,8 +15,8 @@ abbrev pub takes_piece : SinkState → List ℕ → Bool
 takes_piece sink piece = not (fails_next sink.puts) && nat_le (length sink.bytes + length piece) sink.room
 
 -- what a failed put adds of its piece: the first half, rounded up, as far as there is room
-abbrev pub front_of : SinkState → List ℕ → List ℕ
-front_of sink piece = take (min (sink.room - length sink.bytes) ((length piece + 1) / 2)) piece
+abbrev pub prefix_of : SinkState → List ℕ → List ℕ
+prefix_of sink piece = take (min (sink.room - length sink.bytes) ((length piece + 1) / 2)) piece
 
 -- what a failed write leaves: the page as it was to be, but for its last byte, which is one more than it was
 abbrev pub torn_page : List ℕ → List ℕ → List ℕ

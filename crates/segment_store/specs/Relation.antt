@@ -11,12 +11,12 @@ abbrev pub first_blocks : List ℕ → ℕ → List (List ℕ)
 first_blocks bytes count = map (block_at bytes) (range_with_len 0 count)
 
 -- up to this many blocks of each segment, and none after a segment that has fewer
-abbrev pub blocks_of : ℕ → List (List ℕ) → List (List ℕ)
-blocks_of seg_blocks [] = []
-blocks_of seg_blocks (bytes ∷ segments) =
+abbrev pub segment_pages : ℕ → List (List ℕ) → List (List ℕ)
+segment_pages seg_blocks [] = []
+segment_pages seg_blocks (bytes ∷ segments) =
     if nat_lt (length bytes / 8192) seg_blocks then first_blocks bytes (length bytes / 8192)
-    else first_blocks bytes seg_blocks ++ blocks_of seg_blocks segments
+    else first_blocks bytes seg_blocks ++ segment_pages seg_blocks segments
 
 -- those whose number is a block's number, 0 to 0xFFFFFFFE
 unfoldable pub relation_of : ℕ → List (List ℕ) → List (List ℕ)
-relation_of seg_blocks segments = take (2 ^ 32 - 1) (blocks_of seg_blocks segments)
+relation_of seg_blocks segments = take (2 ^ 32 - 1) (segment_pages seg_blocks segments)

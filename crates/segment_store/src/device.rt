@@ -18,10 +18,10 @@ pub struct Failed;
 /// A call leaves what its clauses don't name as it was. A count never falls, and rises only in a call that fails.
 pub trait BlockLane {
     /// The pages by their tags, where the contents are known.
-    ghost held: { Self → Option Pages };
+    ghost contents: { Self → Option Pages };
 
     /// The tags whose last write failed; it says something only where the contents are known.
-    ghost failed: { Self → Marks };
+    ghost failed_writes: { Self → Marks };
 
     /// How many reads failed.
     ghost read_faults: { Self → ℕ };
@@ -31,25 +31,25 @@ pub trait BlockLane {
 
     /// Reads a block of the lane into the page. After a failed read the page is any.
     fn read(&mut self, tag: Tag, page: &mut Page) -> Result<(), Failed>
-        requires { ForSome (held self.old) (λ pages. IsSome (pages tag)) }
-        ensures page { OnOk result (IfSome (held self.old) (λ pages. pages tag ≡ Some page.new)) }
-        ensures held { held self.new ≡ held self.old }
-        ensures failed { failed self.new ≡ failed self.old }
+        requires { ForSome (contents self.old) (λ pages. IsSome (pages tag)) }
+        ensures page { OnOk result (IfSome (contents self.old) (λ pages. pages tag ≡ Some page.new)) }
+        ensures contents { contents self.new ≡ contents self.old }
+        ensures failed { failed_writes self.new ≡ failed_writes self.old }
         ensures reads { HasCause (read_faults self.old) (read_faults self.new) result }
         ensures writes { write_faults self.new ≡ write_faults self.old };
 
     /// Writes the page to a block of the lane. A failed write leaves that one block any.
     fn write(&mut self, tag: Tag, page: &Page) -> Result<(), Failed>
-        requires { ForSome (held self.old) (λ pages. IsSome (pages tag)) }
-        ensures held { Writes tag page.now (held self.old) (held self.new) result }
-        ensures failed { IfSome (held self.old) (λ _. MatchResult result (λ _. failed self.new ≡ with_mark tag false (failed self.old)) (λ _. failed self.new ≡ with_mark tag true (failed self.old))) }
+        requires { ForSome (contents self.old) (λ pages. IsSome (pages tag)) }
+        ensures contents { Writes tag page.now (contents self.old) (contents self.new) result }
+        ensures failed { IfSome (contents self.old) (λ _. MatchResult result (λ _. failed_writes self.new ≡ with_mark tag false (failed_writes self.old)) (λ _. failed_writes self.new ≡ with_mark tag true (failed_writes self.old))) }
         ensures writes { HasCause (write_faults self.old) (write_faults self.new) result }
         ensures reads { read_faults self.new ≡ read_faults self.old };
 
     /// Makes the writes so far last.
     fn sync(&mut self) -> Result<(), Failed>
-        ensures held { held self.new ≡ held self.old }
-        ensures failed { failed self.new ≡ failed self.old }
+        ensures contents { contents self.new ≡ contents self.old }
+        ensures failed { failed_writes self.new ≡ failed_writes self.old }
         ensures writes { HasCause (write_faults self.old) (write_faults self.new) result }
         ensures reads { read_faults self.new ≡ read_faults self.old };
 
@@ -66,7 +66,7 @@ pub trait Sink {
     /// How many calls failed.
     ghost faults: { Self → ℕ };
 
-    /// Adds the piece; a failed call adds a front of it.
+    /// Adds the piece; a failed call adds a prefix of it.
     fn put(&mut self, piece: &[u8]) -> Result<(), Failed>
         ensures bytes { Puts piece.now (bytes self.old) (bytes self.new) result }
         ensures faults { HasCause (faults self.old) (faults self.new) result };

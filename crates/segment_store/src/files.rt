@@ -1,4 +1,4 @@
-// Lanes, a host and a sink over real files and streams: the trusted edge. What they hold isn't known.
+// Adapters over real files and streams: lanes, a host and a sink, whose contents aren't known.
 ghost use Rattle.std.specs.Prelude.{[], ◌≡◌, ◌≤◌, All, false, None, IfOk, length, sum_by};
 ghost use Rattle.segment_store.specs.Contents.{no_marks};
 ghost use Rattle.segment_store.specs.Faults.{Added};
@@ -61,9 +61,9 @@ impl<F: FileExt + OpenFile + Drop> FileLane<F> {
 }
 
 impl<F: FileExt + OpenFile + Drop> BlockLane for FileLane<F> {
-    ghost held = { λ l. None };
+    ghost contents = { λ l. None };
 
-    ghost failed = { λ l. no_marks };
+    ghost failed_writes = { λ l. no_marks };
 
     ghost read_faults = { λ l. l.read_faults.count };
 
@@ -154,7 +154,7 @@ fn segment_path(alloc: Global, path: &str, segment: u32) -> Result<String, Alloc
     format!(in alloc; "{path}.{segment}")
 }
 
-/// Opens a file for reading and writing or, where that isn't permitted, for reading alone.
+/// Opens a file for reading and writing or, where that fails though it is there, for reading alone.
 fn open_file<R: Files>(rt: &R, path: &str) -> io::Result<R::File> {
     match OpenOptions::new().read(true).write(true).open(rt, path) {
         Ok(file) => Ok(file),
@@ -283,9 +283,9 @@ where
 {
     type Lane = FileLane<R::File>;
 
-    ghost held = { λ h. None };
+    ghost contents = { λ h. None };
 
-    ghost failed = { λ h path block. false };
+    ghost failed_writes = { λ h path block. false };
 
     ghost open_at = { λ h. record { path = []; seg_blocks = 0 } };
 

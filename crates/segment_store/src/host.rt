@@ -34,10 +34,10 @@ pub trait Host {
     type Lane: BlockLane + Send;
 
     /// The bytes of the segments at each path, where the contents are known; none where the relation isn't there.
-    ghost held: { Self → Option Paths };
+    ghost contents: { Self → Option Paths };
 
     /// The blocks of each path whose last write since the opening failed; it says something only where the contents are known.
-    ghost failed: { Self → PathMarks };
+    ghost failed_writes: { Self → PathMarks };
 
     /// The relation that was opened last; it says something only where the contents are known.
     ghost open_at: { Self → OpenAt };
@@ -59,19 +59,19 @@ pub trait Host {
     ) -> Result<Opened<Self::Lane>, HostError>
         requires seg_blocks { 1 ≤ seg_blocks }
         requires lanes { 1 ≤ lanes }
-        ensures opened { IfOk result (IsOpened Self.Lane.held Self.Lane.failed Self.Lane.read_faults Self.Lane.write_faults (held self.old) path.now (fork_of path.now) seg_blocks lanes) }
-        ensures missing { IsErrOf result HostError.Missing → IfSome (held self.old) (λ told. told path.now ≡ []) }
-        ensures held { held self.new ≡ held self.old }
-        ensures failed { IfSome (held self.old) (λ _. MatchResult result (λ _. failed self.new ≡ cleared path.now (failed self.old)) (λ _. failed self.new ≡ failed self.old)) }
-        ensures open_at { IfSome (held self.old) (λ _. MatchResult result (λ _. open_at self.new ≡ record { path = path.now; seg_blocks = seg_blocks }) (λ _. open_at self.new ≡ open_at self.old)) }
+        ensures opened { IfOk result (IsOpened Self.Lane.contents Self.Lane.failed_writes Self.Lane.read_faults Self.Lane.write_faults (contents self.old) path.now (fork_of path.now) seg_blocks lanes) }
+        ensures missing { IsErrOf result HostError.Missing → IfSome (contents self.old) (λ paths. paths path.now ≡ []) }
+        ensures contents { contents self.new ≡ contents self.old }
+        ensures failed { IfSome (contents self.old) (λ _. MatchResult result (λ _. failed_writes self.new ≡ cleared path.now (failed_writes self.old)) (λ _. failed_writes self.new ≡ failed_writes self.old)) }
+        ensures open_at { IfSome (contents self.old) (λ _. MatchResult result (λ _. open_at self.new ≡ record { path = path.now; seg_blocks = seg_blocks }) (λ _. open_at self.new ≡ open_at self.old)) }
         ensures reads { HasOpeningCause (read_faults self.old) (read_faults self.new) result }
         ensures writes { write_faults self.new ≡ write_faults self.old };
 
     /// Takes the lanes of the relation that was opened last back: their blocks go to their places in its segments.
     fn give_back(&mut self, lanes: Vec<Self::Lane>)
-        ensures held { held self.new ≡ option_map (paths_after (open_at self.old) (map Self.Lane.held lanes.items)) (held self.old) }
-        ensures failed { IfSome (held self.old) (λ told. told (open_at self.old).path ≢ [] → failed self.new ≡ marks_after (open_at self.old) (map Self.Lane.failed lanes.items) (failed self.old)) }
-        ensures open_at { IfSome (held self.old) (λ _. open_at self.new ≡ open_at self.old) }
+        ensures contents { contents self.new ≡ option_map (paths_after (open_at self.old) (map Self.Lane.contents lanes.items)) (contents self.old) }
+        ensures failed { IfSome (contents self.old) (λ paths. paths (open_at self.old).path ≢ [] → failed_writes self.new ≡ marks_after (open_at self.old) (map Self.Lane.failed_writes lanes.items) (failed_writes self.old)) }
+        ensures open_at { IfSome (contents self.old) (λ _. open_at self.new ≡ open_at self.old) }
         ensures reads { Added (read_faults self.old) (sum_by Self.Lane.read_faults lanes.items) (read_faults self.new) }
         ensures writes { Added (write_faults self.old) (sum_by Self.Lane.write_faults lanes.items) (write_faults self.new) };
 

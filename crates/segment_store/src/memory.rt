@@ -2,7 +2,7 @@
 ghost use Rattle.std.specs.Prelude.{◌≡◌, ◌++◌, [], Some, IfOk, if◌then◌else◌, OnErr, is_ok};
 ghost use Rattle.segment_store.specs.Faults.{HasCause};
 ghost use Rattle.segment_store.specs.Contents.{Puts};
-ghost use Rattle.segment_store.specs.Memory.{SinkState, front_of, takes_piece};
+ghost use Rattle.segment_store.specs.Memory.{SinkState, prefix_of, takes_piece};
 ghost use Rattle.segment_store.specs.Plan.{after_call};
 
 use crate::count::FaultCount;
@@ -73,7 +73,7 @@ impl Sink for MemSink {
         ensures bytes { Puts piece.now (Some self.old.bytes) (Some self.new.bytes) result }
         ensures faults { HasCause self.old.faults.count self.new.faults.count result }
         ensures answer { is_ok result ≡ takes_piece self.old piece.now }
-        ensures left { OnErr result (self.new.bytes ≡ self.old.bytes ++ front_of self.old piece.now) }
+        ensures left { OnErr result (self.new.bytes ≡ self.old.bytes ++ prefix_of self.old piece.now) }
         ensures puts { self.new.puts ≡ after_call self.old.puts }
         ensures room { self.new.room ≡ self.old.room }
     {
@@ -82,8 +82,8 @@ impl Sink for MemSink {
         if !fails && piece.len() <= room && self.bytes.extend_from_slice(piece).is_ok() {
             return Ok(());
         }
-        let front = room.min(piece.len().div_ceil(2));
-        let _ = self.bytes.extend_from_slice(&piece[..front]);
+        let prefix = room.min(piece.len().div_ceil(2));
+        let _ = self.bytes.extend_from_slice(&piece[..prefix]);
         self.faults.raise();
         Err(Failed)
     }

@@ -6,7 +6,7 @@ ghost use Rattle.segment_store.specs.Lanes.{dealt, own_pages};
 ghost use Rattle.segment_store.specs.MemoryHost.{bytes_of, lanes_of, marks_at, open_now, openings_of, segments_at};
 ghost use Rattle.segment_store.specs.MemoryLane.{fresh_lane_plan, marks_of, pages_of, plan_of};
 ghost use Rattle.segment_store.specs.Plan.{after_call, fails_next};
-ghost use Rattle.segment_store.specs.Relation.{block_at, blocks_of, first_blocks, relation_of};
+ghost use Rattle.segment_store.specs.Relation.{block_at, segment_pages, first_blocks, relation_of};
 ghost use Rattle.segment_store.specs.Opening.{IsOpened};
 ghost use Rattle.segment_store.specs.Paths.{fork_of};
 ghost use Rattle.segment_store.specs.Restored.{cleared, marks_after, paths_after};
@@ -86,7 +86,7 @@ fn add_blocks(
 
 /// The pages of all blocks that the segments have, up to the first that has fewer than it may have.
 fn all_pages(alloc: Global, segments: &[Vec<u8>], seg_blocks: u32) -> Result<Vec<Page>, AllocError>
-    ensures { IfOk result (λ pages. pages.items ≡ blocks_of seg_blocks (bytes_of segments.now)) }
+    ensures { IfOk result (λ pages. pages.items ≡ segment_pages seg_blocks (bytes_of segments.now)) }
 {
     let mut pages = Vec::new(alloc);
     let mut rest = segments;
@@ -137,9 +137,9 @@ fn hold_own(
     if lane_of(&tag, lanes) != number {
         return Ok(());
     }
-    let mut held = Page::zeroed(alloc)?;
-    held.copy_from(page);
-    lane.hold(tag, held)?;
+    let mut copy = Page::zeroed(alloc)?;
+    copy.copy_from(page);
+    lane.hold(tag, copy)?;
     Ok(())
 }
 
@@ -182,7 +182,7 @@ fn deal_lanes(
 ) -> Result<Vec<MemLane>, AllocError>
     requires lanes { 1 ≤ count }
     requires blocks { length pages.now < 2 ^ 32 }
-    ensures held { IfOk result (λ lanes. map (λ lane. Some (pages_of lane)) lanes.items ≡ dealt fork pages.now count) }
+    ensures contents { IfOk result (λ lanes. map (λ lane. Some (pages_of lane)) lanes.items ≡ dealt fork pages.now count) }
     ensures failed { IfOk result (λ lanes. All (λ lane. marks_of lane ≡ no_marks) lanes.items) }
     ensures reads { IfOk result (λ lanes. sum_by (λ lane. lane.read_faults.count) lanes.items ≡ 0) }
     ensures writes { IfOk result (λ lanes. sum_by (λ lane. lane.write_faults.count) lanes.items ≡ 0) }
@@ -208,7 +208,7 @@ fn open_segments(
 ) -> Result<Opened<MemLane>, AllocError>
     requires { 1 ≤ count }
     ensures blocks { IfOk result (λ opened. opened.blocks ≡ length (relation_of seg_blocks (bytes_of segments.now))) }
-    ensures held { IfOk result (λ opened. map (λ lane. Some (pages_of lane)) opened.lanes.items ≡ dealt fork (relation_of seg_blocks (bytes_of segments.now)) count) }
+    ensures contents { IfOk result (λ opened. map (λ lane. Some (pages_of lane)) opened.lanes.items ≡ dealt fork (relation_of seg_blocks (bytes_of segments.now)) count) }
     ensures failed { IfOk result (λ opened. All (λ lane. marks_of lane ≡ no_marks) opened.lanes.items) }
     ensures reads { IfOk result (λ opened. sum_by (λ lane. lane.read_faults.count) opened.lanes.items ≡ 0) }
     ensures writes { IfOk result (λ opened. sum_by (λ lane. lane.write_faults.count) opened.lanes.items ≡ 0) }
@@ -255,8 +255,8 @@ pub struct MemHost {
 impl MemHost {
     /// A host with these files, in which these openings and these calls of each lane are to fail.
     pub fn new(alloc: Global, files: Vec<MemFile>, openings: FaultPlan, lanes: LanePlan) -> MemHost
-        ensures held { ⟦<MemHost as Host>⟧.held result ≡ Some (segments_at files.items) }
-        ensures failed { ⟦<MemHost as Host>⟧.failed result ≡ marks_at files.items }
+        ensures contents { ⟦<MemHost as Host>⟧.contents result ≡ Some (segments_at files.items) }
+        ensures failed { ⟦<MemHost as Host>⟧.failed_writes result ≡ marks_at files.items }
         ensures openings { openings_of result ≡ openings }
         ensures lanes { lanes_of result ≡ lanes }
         ensures reads { ⟦<MemHost as Host>⟧.read_faults result ≡ 0 }
@@ -275,7 +275,7 @@ impl MemHost {
 
     /// The segments at a path, none where there is no file.
     pub fn segments(&self, path: &str) -> &[Vec<u8>]
-        ensures { IfSome (⟦<MemHost as Host>⟧.held self.now) (λ told. bytes_of result.now ≡ told path.now) }
+        ensures { IfSome (⟦<MemHost as Host>⟧.contents self.now) (λ paths. bytes_of result.now ≡ paths path.now) }
     {
         match file_at(&self.files, path) {
             Some(index) => self.files[index].segments.as_slice(),
@@ -324,7 +324,7 @@ impl MemHost {
 
     /// Forgets what the lanes of a path that were given back had marked.
     fn forget(&mut self, path: &str)
-        ensures held { segments_at self.new.files.items ≡ segments_at self.old.files.items }
+        ensures contents { segments_at self.new.files.items ≡ segments_at self.old.files.items }
         ensures failed { marks_at self.new.files.items ≡ cleared path.now (marks_at self.old.files.items) }
         ensures same { self.new ≡ record self.old { files = self.new.files } }
     {
@@ -335,7 +335,7 @@ impl MemHost {
 
     /// Puts the blocks of lanes at their places in the segments of a path, and keeps the lanes.
     fn take_lanes(&mut self, lanes: Vec<MemLane>)
-        ensures held { segments_at self.new.files.items ≡ paths_after (open_now self.old) (map (λ lane. Some (pages_of lane)) lanes.items) (segments_at self.old.files.items) }
+        ensures contents { segments_at self.new.files.items ≡ paths_after (open_now self.old) (map (λ lane. Some (pages_of lane)) lanes.items) (segments_at self.old.files.items) }
         ensures failed { segments_at self.old.files.items (string_bytes self.old.open_path) ≢ [] → marks_at self.new.files.items ≡ marks_after (open_now self.old) (map marks_of lanes.items) (marks_at self.old.files.items) }
         ensures same { self.new ≡ record self.old { files = self.new.files } }
     {
@@ -356,9 +356,9 @@ impl MemHost {
 impl Host for MemHost {
     type Lane = MemLane;
 
-    ghost held = { λ h. Some (segments_at h.files.items) };
+    ghost contents = { λ h. Some (segments_at h.files.items) };
 
-    ghost failed = { λ h. marks_at h.files.items };
+    ghost failed_writes = { λ h. marks_at h.files.items };
 
     ghost open_at = { open_now };
 
@@ -377,7 +377,7 @@ impl Host for MemHost {
         requires lanes { 1 ≤ lanes }
         ensures opened { IfOk result (IsOpened (λ lane. Some (pages_of lane)) marks_of (λ lane. lane.read_faults.count) (λ lane. lane.write_faults.count) (Some (segments_at self.old.files.items)) path.now (fork_of path.now) seg_blocks lanes) }
         ensures missing { IsErrOf result HostError.Missing → segments_at self.old.files.items path.now ≡ [] }
-        ensures held { Some (segments_at self.new.files.items) ≡ Some (segments_at self.old.files.items) }
+        ensures contents { Some (segments_at self.new.files.items) ≡ Some (segments_at self.old.files.items) }
         ensures failed { MatchResult result (λ _. marks_at self.new.files.items ≡ cleared path.now (marks_at self.old.files.items)) (λ _. marks_at self.new.files.items ≡ marks_at self.old.files.items) }
         ensures open_at { MatchResult result (λ _. open_now self.new ≡ record { path = path.now; seg_blocks = seg_blocks }) (λ _. open_now self.new ≡ open_now self.old) }
         ensures reads { HasOpeningCause self.old.read_faults.count self.new.read_faults.count result }
@@ -401,7 +401,7 @@ impl Host for MemHost {
     }
 
     fn give_back(&mut self, lanes: Vec<MemLane>)
-        ensures held { Some (segments_at self.new.files.items) ≡ Some (paths_after (open_now self.old) (map (λ lane. Some (pages_of lane)) lanes.items) (segments_at self.old.files.items)) }
+        ensures contents { Some (segments_at self.new.files.items) ≡ Some (paths_after (open_now self.old) (map (λ lane. Some (pages_of lane)) lanes.items) (segments_at self.old.files.items)) }
         ensures failed { segments_at self.old.files.items (string_bytes self.old.open_path) ≢ [] → marks_at self.new.files.items ≡ marks_after (open_now self.old) (map marks_of lanes.items) (marks_at self.old.files.items) }
         ensures open_at { open_now self.new ≡ open_now self.old }
         ensures openings { openings_of self.new ≡ openings_of self.old }

@@ -125,9 +125,9 @@ impl MemLane {
 }
 
 impl BlockLane for MemLane {
-    ghost held = { λ l. Some (pages_of l) };
+    ghost contents = { λ l. Some (pages_of l) };
 
-    ghost failed = { λ l. marks_of l };
+    ghost failed_writes = { λ l. marks_of l };
 
     ghost read_faults = { λ l. l.read_faults.count };
 
@@ -137,7 +137,7 @@ impl BlockLane for MemLane {
     fn read(&mut self, tag: Tag, page: &mut Page) -> Result<(), Failed>
         requires { ForSome (Some (pages_of self.old)) (λ pages. IsSome (pages tag)) }
         ensures page { OnOk result (pages_of self.old tag ≡ Some page.new) }
-        ensures held { pages_of self.new ≡ pages_of self.old }
+        ensures contents { pages_of self.new ≡ pages_of self.old }
         ensures failed { marks_of self.new ≡ marks_of self.old }
         ensures reads { HasCause self.old.read_faults.count self.new.read_faults.count result }
         ensures writes { self.new.write_faults ≡ self.old.write_faults }
@@ -160,7 +160,7 @@ impl BlockLane for MemLane {
     /// Fails where the plan says so; a failed write leaves a torn page.
     fn write(&mut self, tag: Tag, page: &Page) -> Result<(), Failed>
         requires { ForSome (Some (pages_of self.old)) (λ pages. IsSome (pages tag)) }
-        ensures held { Writes tag page.now (Some (pages_of self.old)) (Some (pages_of self.new)) result }
+        ensures contents { Writes tag page.now (Some (pages_of self.old)) (Some (pages_of self.new)) result }
         ensures torn { OnErr result (pages_of self.new tag ≡ option_map (λ old. torn_page old page.now) (pages_of self.old tag)) }
         ensures failed { marks_of self.new ≡ with_mark tag (not (is_ok result)) (marks_of self.old) }
         ensures writes { HasCause self.old.write_faults.count self.new.write_faults.count result }
@@ -185,7 +185,7 @@ impl BlockLane for MemLane {
 
     /// Fails where the plan says so.
     fn sync(&mut self) -> Result<(), Failed>
-        ensures held { pages_of self.new ≡ pages_of self.old }
+        ensures contents { pages_of self.new ≡ pages_of self.old }
         ensures failed { marks_of self.new ≡ marks_of self.old }
         ensures writes { HasCause self.old.write_faults.count self.new.write_faults.count result }
         ensures reads { self.new.read_faults ≡ self.old.read_faults }

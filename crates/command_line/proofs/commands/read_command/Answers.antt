@@ -7,7 +7,7 @@ use Rattle.command_line.proofs.commands.read_command.Goals as goal
 
 pub returns-in-Ok-clause-spelled : goal.returns-in-Ok-clause-spelled
 returns-in-Ok-clause-spelled c =
-    c.command_met.ensures.spelled ∙ command_of-taken _ _ c.in-Ok.ensures.fails c.in-Ok.ensures.matches
+    c.command_of_subcommand.ensures.spelled ∙ command_of-taken _ _ c.in-Ok.ensures.fails c.in-Ok.ensures.matches
 
 pub returns-in-Err-clause-spelled : goal.returns-in-Err-clause-spelled
 returns-in-Err-clause-spelled c =

@@ -17,8 +17,8 @@ returns-in_err-scan_block-clause-text g c pages holds is =
     let page = get_or pages block [] in
     let so_far = c.loop-block.invariant.scanned pages holds is in
     let below : block < length pages = omega (arith, is) in
-    let here : HasPage (tag_at c.args.fork block) page (map g.L.BlockLane.held c.loop-block.lanes) =
-    subst (λ (ls : List (Option Pages)). HasPage (tag_at c.args.fork block) page ls) (sym c.loop-block.invariant.held) (holds block below) in
+    let here : HasPage (tag_at c.args.fork block) page (map g.L.BlockLane.contents c.loop-block.lanes) =
+    subst (λ (ls : List (Option Pages)). HasPage (tag_at c.args.fork block) page ls) (sym c.loop-block.invariant.contents) (holds block below) in
     let text = text_after_line pages block below in
     let advanced = c.in_err-scan_block.ensures.text page here in
     let p = err_from_is_err_and c.from_residual.result c.from_residual.ensures.1 in
@@ -28,7 +28,7 @@ returns-in_err-scan_block-clause-text g c pages holds is =
 
 pub loop-block-preserved : goal.loop-block-preserved
 loop-block-preserved g c = record {
-  held = c.scan_block.ensures.held ∙ c.loop-block.invariant.held;
+  contents = c.scan_block.ensures.contents ∙ c.loop-block.invariant.contents;
   failed = c.scan_block.ensures.failed ∙ c.loop-block.invariant.failed;
   reads = c.in_ok-scan_block.ensures.cause.cause.0 ∙ c.loop-block.invariant.reads;
   writes = c.scan_block.ensures.writes ∙ c.loop-block.invariant.writes;
@@ -39,8 +39,8 @@ loop-block-preserved g c = record {
       let page = get_or pages block [] in
       let so_far = c.loop-block.invariant.scanned pages holds is in
       let below : block < length pages = omega (arith, is) in
-      let here : HasPage (tag_at c.args.fork block) page (map g.L.BlockLane.held c.loop-block.lanes) =
-      subst (λ (ls : List (Option Pages)). HasPage (tag_at c.args.fork block) page ls) (sym c.loop-block.invariant.held) (holds block below) in
+      let here : HasPage (tag_at c.args.fork block) page (map g.L.BlockLane.contents c.loop-block.lanes) =
+      subst (λ (ls : List (Option Pages)). HasPage (tag_at c.args.fork block) page ls) (sym c.loop-block.invariant.contents) (holds block below) in
       let moved = c.in_ok-scan_block.ensures.text page here in
       let totals = c.in_ok-scan_block.ensures.totals page here in
       let lines =

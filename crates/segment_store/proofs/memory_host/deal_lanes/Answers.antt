@@ -15,9 +15,9 @@ loop-number-preserved c =
     let own : ℕ → Option Pages = λ number. Some (own_pages c.args.fork c.args.pages.now c.args.count number) in
     let number = c.loop-number.number in
     record {
-      held = ap (λ (lanes : List MemLane). map (λ lane. Some (pages_of lane)) lanes) c.in_ok-push.ensures.items
+      contents = ap (λ (lanes : List MemLane). map (λ lane. Some (pages_of lane)) lanes) c.in_ok-push.ensures.items
           ∙ map-append _ c.loop-number.lanes.items _
-          ∙ ap₂ (λ (held : List (Option Pages)) (last : Option Pages). held ++ last ∷ []) c.loop-number.invariant.held (ap Some c.in_ok-lane.ensures.pages)
+          ∙ ap₂ (λ (contents : List (Option Pages)) (last : Option Pages). contents ++ last ∷ []) c.loop-number.invariant.contents (ap Some c.in_ok-lane.ensures.pages)
           ∙ sym (map-range_with_len_more own 0 number number (zero-add number));
       failed = subst (λ (lanes : List MemLane). All (λ lane. marks_of lane ≡ no_marks) lanes) (sym c.in_ok-push.ensures.items)
           (All-push (λ lane. marks_of lane ≡ no_marks) c.loop-number.lanes.items c.in_ok-lane.lane c.loop-number.invariant.failed c.in_ok-lane.ensures.failed);

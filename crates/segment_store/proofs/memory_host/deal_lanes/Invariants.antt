@@ -8,7 +8,7 @@ use Rattle.segment_store.proofs.memory_host.deal_lanes.Given as goal
 
 abbrev pub invariant-loop-number : goal.invariant-loop-number
 invariant-loop-number l = record {
-  held : map (λ lane. Some (pages_of lane)) l.lanes.items ≡ map (λ number. Some (own_pages l.fork l.pages l.count number)) (range_with_len 0 l.number);
+  contents : map (λ lane. Some (pages_of lane)) l.lanes.items ≡ map (λ number. Some (own_pages l.fork l.pages l.count number)) (range_with_len 0 l.number);
   failed : All (λ lane. marks_of lane ≡ no_marks) l.lanes.items;
   reads : sum_by (λ lane. lane.read_faults.count) l.lanes.items ≡ 0;
   writes : sum_by (λ lane. lane.write_faults.count) l.lanes.items ≡ 0;

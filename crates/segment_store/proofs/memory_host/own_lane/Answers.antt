@@ -22,7 +22,7 @@ loop-block-preserved c =
     let page_is : page ≡ get_or c.args.pages.now block [] = c.index-pages-block.is ∙ get_or_default c.args.pages.now block page [] c.loop-block-test.true in
     record {
       pages = c.in_ok-hold_own.ensures.pages
-          ∙ ap (λ (held : Pages). cond (lane_number (tag_at c.args.fork block) c.args.lanes == c.args.number) (with_page (tag_at c.args.fork block) page held) held) c.loop-block.invariant.pages
+          ∙ ap (λ (contents : Pages). cond (lane_number (tag_at c.args.fork block) c.args.lanes == c.args.number) (with_page (tag_at c.args.fork block) page contents) contents) c.loop-block.invariant.pages
           ∙ sym (own_more c.args.fork c.args.pages.now c.args.lanes c.args.number block page c.loop-block-test.true page_is);
       failed = c.in_ok-hold_own.ensures.failed;
       reads = ap (λ count. count.count) c.in_ok-hold_own.ensures.reads ∙ c.loop-block.invariant.reads;

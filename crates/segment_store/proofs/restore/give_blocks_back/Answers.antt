@@ -3,7 +3,7 @@ use Rattle.std.proofs.lemmas.List.{map-set, length-map, get_or-map}
 use Rattle.std.specs.Vec.{with_items}
 use Rattle.segment_store.specs.MemoryHost.{bytes_of}
 use Rattle.segment_store.specs.MemoryLane.{pages_of}
-use Rattle.segment_store.proofs.PutBlocks.{take_front}
+use Rattle.segment_store.proofs.PutBlocks.{take_prefix}
 use Rattle.segment_store.proofs.PutSegments.{IsUnderway, WritesNext, last_put, next_put}
 use Rattle.segment_store.proofs.restore.give_blocks_back.Goals as goal
 
@@ -22,7 +22,7 @@ returns-then-count-seg_blocks c =
     record { within = omega arith; bytes_are = bytes_are; count_is = count_is; written_is = c.put_blocks.ensures } in
     let segment = get_or segments index c.index-segments-index.result in
     let items_are : (with_items segment c.put_blocks.new.bytes).items ≡ c.put_blocks.new.bytes =
-    take_front c.put_blocks.new.bytes (drop (length c.put_blocks.new.bytes) segment.items) segment.len (c.put_blocks.auto.bytes ∙ c.as_mut_slice.ensures.len) in
+    take_prefix c.put_blocks.new.bytes (drop (length c.put_blocks.new.bytes) segment.items) segment.len (c.put_blocks.auto.bytes ∙ c.as_mut_slice.ensures.len) in
     let put = map-set _ segments index (with_items segment c.put_blocks.new.bytes) ∙ ap (λ (l : List ℕ). set (bytes_of segments) index l) items_are in
     put ∙ last_put c.args.fork lanes c.args.seg_blocks (bytes_of c.args.segments.now) (bytes_of segments) index c.loop-index.first c.min-count.result c.as_mut_slice.result.now c.put_blocks.new.bytes writes c.loop-index.invariant (omega arith)
 
@@ -41,7 +41,7 @@ loop-index-preserved c =
     record { within = omega arith; bytes_are = bytes_are; count_is = count_is; written_is = c.put_blocks.ensures } in
     let segment = get_or segments index c.index-segments-index.result in
     let items_are : (with_items segment c.put_blocks.new.bytes).items ≡ c.put_blocks.new.bytes =
-    take_front c.put_blocks.new.bytes (drop (length c.put_blocks.new.bytes) segment.items) segment.len (c.put_blocks.auto.bytes ∙ c.as_mut_slice.ensures.len) in
+    take_prefix c.put_blocks.new.bytes (drop (length c.put_blocks.new.bytes) segment.items) segment.len (c.put_blocks.auto.bytes ∙ c.as_mut_slice.ensures.len) in
     let put = map-set _ segments index (with_items segment c.put_blocks.new.bytes) ∙ ap (λ (l : List ℕ). set (bytes_of segments) index l) items_are in
     subst (λ (now : List (List ℕ)). IsUnderway c.args.fork lanes c.args.seg_blocks (bytes_of c.args.segments.now) now (index + 1) (c.loop-index.first + c.min-count.result))
     (sym put)

@@ -9,8 +9,8 @@ use Rattle.segment_store.specs.declared.memory_lane.MemLane.{MemLane}
 use Rattle.segment_store.proofs.FilesByPath.{first_named, has_path, is_first, read_absent, read_becomes, read_stays}
 use Rattle.segment_store.proofs.memory_host.MemHost.forget.Goals as goal
 
-pub returns-in-Some-clause-held : goal.returns-in-Some-clause-held
-returns-in-Some-clause-held c =
+pub returns-in-Some-clause-contents : goal.returns-in-Some-clause-contents
+returns-in-Some-clause-contents c =
     let files = c.args.self.now.files.items in
     let path = c.args.path.now in
     let was = c.index_mut.result.now in

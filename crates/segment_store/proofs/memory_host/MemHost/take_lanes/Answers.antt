@@ -11,11 +11,11 @@ use Rattle.segment_store.specs.declared.memory_host.MemFile.{MemFile}
 use Rattle.segment_store.specs.declared.memory_lane.MemLane.{MemLane}
 use Rattle.segment_store.proofs.FilesByPath.{first_named, has_path, is_first, read_absent, read_becomes, read_first, read_none}
 use Rattle.segment_store.proofs.GivenBack.{given_back_none}
-use Rattle.segment_store.proofs.PutBlocks.{take_front}
+use Rattle.segment_store.proofs.PutBlocks.{take_prefix}
 use Rattle.segment_store.proofs.memory_host.MemHost.take_lanes.Goals as goal
 
-pub returns-in-Some-clause-held : goal.returns-in-Some-clause-held
-returns-in-Some-clause-held c =
+pub returns-in-Some-clause-contents : goal.returns-in-Some-clause-contents
+returns-in-Some-clause-contents c =
     let files = c.args.self.now.files.items in
     let path = string_bytes c.args.self.now.open_path in
     let seg_blocks = c.args.self.now.open_seg_blocks in
@@ -28,7 +28,7 @@ returns-in-Some-clause-held c =
     let first = is_first path files c.in-Some.index found in
     let named : string_bytes other.path ≡ path = ap (λ (f : MemFile). string_bytes f.path) c.index_mut-file.ensures.value ∙ first_named path files c.in-Some.index was first in
     let put : bytes_of other.segments.items ≡ given_back (fork_of path) seg_blocks lanes (segments_at files path) =
-    ap (λ (l : List (Vec ℕ Global)). bytes_of l) (take_front new (drop (length new) was.segments.items) was.segments.len (c.give_blocks_back.auto.segments ∙ c.as_mut_slice.ensures.len))
+    ap (λ (l : List (Vec ℕ Global)). bytes_of l) (take_prefix new (drop (length new) was.segments.items) was.segments.len (c.give_blocks_back.auto.segments ∙ c.as_mut_slice.ensures.len))
     ∙ c.give_blocks_back.ensures
     ∙ ap₂ (λ (f : Fork) (l : List MemLane). given_back f seg_blocks (map (λ lane. Some (pages_of lane)) l) (bytes_of c.as_mut_slice.result.now))
     (c.fork_of_path-fork.ensures ∙ ap (λ (p : List ℕ). fork_of p) c.deref.ensures) c.deref-in-Some.ensures.value
@@ -52,8 +52,8 @@ returns-in-Some-clause-failed c there =
     (λ block. mark_in (map marks_of c.args.lanes.items) (tag_at (fork_of path) block)) first named
     (λ same. ap (λ (q : List ℕ). λ (block : ℕ). mark_in (map marks_of c.args.lanes.items) (tag_at (fork_of q) block)) same) i
 
-pub returns-in_default-clause-held : goal.returns-in_default-clause-held
-returns-in_default-clause-held c =
+pub returns-in_default-clause-contents : goal.returns-in_default-clause-contents
+returns-in_default-clause-contents c =
     let files = c.args.self.now.files.items in
     let path = string_bytes c.args.self.now.open_path in
     let seg_blocks = c.args.self.now.open_seg_blocks in

@@ -6,8 +6,8 @@ use Rattle.segment_store.specs.declared.memory_lane.MemBlock.{MemBlock}
 use Rattle.segment_store.proofs.MemoryLanes.{marks_put, not_missing, pages_put}
 use Rattle.segment_store.proofs.memory_lane.MemLaneBlockLane.write.Goals as goal
 
-pub returns-in_default-clause-held : goal.returns-in_default-clause-held
-returns-in_default-clause-held c = absurd (not_missing _ c.in_default.ensures.value (c.requires _ refl))
+pub returns-in_default-clause-contents : goal.returns-in_default-clause-contents
+returns-in_default-clause-contents c = absurd (not_missing _ c.in_default.ensures.value (c.requires _ refl))
 
 pub returns-in_default-clause-failed : goal.returns-in_default-clause-failed
 returns-in_default-clause-failed c = absurd (not_missing _ c.in_default.ensures.value (c.requires _ refl))
@@ -15,8 +15,8 @@ returns-in_default-clause-failed c = absurd (not_missing _ c.in_default.ensures.
 pub returns-in_default-clause-answer : goal.returns-in_default-clause-answer
 returns-in_default-clause-answer c = absurd (not_missing _ c.in_default.ensures.value (c.requires _ refl))
 
-pub returns-then-fails-clause-held : goal.returns-then-fails-clause-held
-returns-then-fails-clause-held c =
+pub returns-then-fails-clause-contents : goal.returns-then-fails-clause-contents
+returns-then-fails-clause-contents c =
     let put = ((c.get_mut.follows.holds c.tear.new.self).3 (sym (ap is_some c.in-Some.ensures.value))).0 in
     record {
       left = c.tear.new.self.page;
@@ -30,8 +30,8 @@ returns-then-fails-clause-failed c =
     marks_put c.args.self.now.blocks (c.get_mut.follows.lender c.tear.new.self) c.args.tag c.tear.new.self put
     ∙ ap (λ (mark : Bool). with_mark c.args.tag mark (marks_of c.args.self.now)) c.tear.ensures.failed
 
-pub returns-clause-held : goal.returns-clause-held
-returns-clause-held c =
+pub returns-clause-contents : goal.returns-clause-contents
+returns-clause-contents c =
     let block : MemBlock = record { page = c.copy_from.new.self; failed = false } in
     let put = ((c.get_mut.follows.holds block).3 (sym (ap is_some c.in-Some.ensures.value))).0 in
     ap Some (pages_put c.args.self.now.blocks (c.get_mut.follows.lender block) c.args.tag block put
