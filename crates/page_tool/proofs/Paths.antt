@@ -1,5 +1,5 @@
 -- Lanes that hold what their relation has leave all paths as they were.
-use Rattle.std.proofs.Common.{◌≡◌, ℕ, List, Option, Some, None, sym, ◌∙◌, ap, subst}
+use Rattle.std.proofs.Common.{◌≡◌, List, Option, Some, None, sym, ◌∙◌, ap, subst}
 use Rattle.std.specs.Prelude.{option_map, IfSome}
 use Rattle.segment_store.specs.Contents.{Pages}
 use Rattle.segment_store.specs.Lanes.{HoldPages}

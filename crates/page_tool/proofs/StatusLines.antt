@@ -3,7 +3,6 @@ use Rattle.std.proofs.Common.{◌≡◌, ℕ, List, [], ◌++◌, Result, Ok, Er
 use Rattle.std.specs.Prelude.{option_map}
 use Rattle.std.proofs.lemmas.List.{append-nil}
 use Rattle.segment_store.specs.declared.device.Failed.{Failed}
-use Rattle.segment_store.specs.Contents.{Puts}
 use Rattle.segment_store.specs.Paths.{Paths}
 use Rattle.page_tool.specs.declared.error.ToolError.{ToolError}
 use Rattle.page_tool.specs.declared.error.ToolError.TheVariants.{Usage, Crowded, Missing, ReadFault, OutFault, Memory}

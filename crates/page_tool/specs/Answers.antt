@@ -1,5 +1,5 @@
 -- What a run answers, and why.
-use Rattle.std.specs.Prelude.{◌≡◌, ◌≢◌, ◌<◌, ◌⊎◌, ℕ, ◌+◌, ◌-◌, ◌^◌, ◌≤◌, ◌==◌, List, [], ◌++◌, Option, Some, None, Result, Ok, Err, IfSome, IsSomeAnd, option_map, if◌then◌else◌, codes}
+use Rattle.std.specs.Prelude.{◌≡◌, ◌≢◌, ◌<◌, ◌⊎◌, ℕ, ◌-◌, ◌^◌, ◌==◌, List, [], ◌++◌, Option, Some, None, Result, Ok, Err, IfSome, IsSomeAnd, option_map, if◌then◌else◌, codes}
 use Rattle.command_line.specs.declared.numbers.Options.{Options}
 use Rattle.page_layout.specs.Scan.{scan_text}
 use Rattle.segment_store.specs.declared.device.Failed.{Failed}

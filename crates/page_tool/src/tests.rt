@@ -238,15 +238,20 @@ fn refuses_words(rt: HostRuntime) -> Result<(), Fail> {
     Ok(())
 }
 
+/// A page with a number in its item, and the log position 0/0.
+fn numbered_page(number: u8) -> [u8; 8192] {
+    let mut page = one_item();
+    page[..8].copy_from_slice(&[0; 8]);
+    page[8184..8188].copy_from_slice(&[number, 0, 0, 0]);
+    page
+}
+
 /// 64 pages, each with its number in its item and the log position 0/0, and the text of their scan.
 fn numbered_pages(alloc: Global) -> Result<(Vec<u8>, String), Fail> {
     let mut bytes = Vec::new(alloc);
     let mut text = String::new(alloc);
     for number in 0u8..64 {
-        let mut page = one_item();
-        page[..8].copy_from_slice(&[0; 8]);
-        page[8184..8188].copy_from_slice(&[number, 0, 0, 0]);
-        bytes.extend_from_slice(&page)?;
+        bytes.extend_from_slice(&numbered_page(number))?;
         text.push_str(&format!(in alloc;
             "{number} lsn 0/0 flags 0 lower 28 upper 8184 special 8192 items 1 normal 1 redirect 0 dead 0 unused 0\n"
         )?)?;

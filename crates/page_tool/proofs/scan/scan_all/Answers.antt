@@ -2,7 +2,7 @@ use Rattle.std.proofs.Common.{◌≡◌, List, ℕ, ◌++◌, Option, length, ta
 use Rattle.page_layout.specs.declared.scan.ScanTotals.{ScanTotals}
 use Rattle.page_layout.specs.Scan.{scan_lines_from, scan_text, totals_text}
 use Rattle.page_layout.proofs.Lines.{text_end}
-use Rattle.page_tool.specs.Progress.{HasAdvanced, HasMoved, HasScanned}
+use Rattle.page_tool.specs.Progress.{HasScanned}
 use Rattle.page_tool.proofs.Texts.{advanced_so_far, moved_more}
 use Rattle.page_tool.proofs.scan.scan_all.Goals as goal
 

@@ -1,4 +1,4 @@
-use Rattle.std.proofs.Common.{◌≡◌, ◌≤◌, List, ℕ, length, map}
+use Rattle.std.proofs.Common.{◌≡◌, List, ℕ, length, map}
 use Rattle.std.specs.Prelude.{sum_by}
 use Rattle.page_layout.specs.Scan.{IsWithin}
 use Rattle.segment_store.specs.Lanes.{HoldPages}
