@@ -1,4 +1,4 @@
-// The commands, and the words that spell them.
+//! The commands, and the words that spell them.
 ghost use Rattle.std.specs.Prelude.{◌≡◌, ◌≢◌, IfOk, IfSome, None, map, option_and_then, option_map, string_bytes};
 ghost use Rattle.clap.specs.Words.{found_of, kind_of, rows_of, subcommand_rows_of};
 ghost use Rattle.command_line.specs.Numbers.{HasOptionsInRange};

@@ -1,4 +1,4 @@
-// The numbers that a command takes, with their ranges.
+//! The numbers that a command takes, with their ranges.
 ghost use Rattle.std.specs.Prelude.{◌≡◌, IfSome, option_map};
 ghost use Rattle.clap.specs.Words.{first_of, found_of, rows_of};
 ghost use Rattle.command_line.specs.Numbers.{HasOptionsInRange, LiesIn, number_in, number_of, options_in, range_of};

@@ -1,4 +1,4 @@
-// Which paths name a file of a relation.
+//! Which paths name a file of a relation.
 ghost use Rattle.std.specs.Prelude.{◌≡◌, ◌^◌, ◌-◌, min};
 ghost use Rattle.std.specs.List.{list_all};
 ghost use Rattle.command_line.specs.RelationPath.{file_name, fork_length, is_digit, is_file_end, is_file_of, is_main_fork, is_relation_number, is_relation_path, number_value};

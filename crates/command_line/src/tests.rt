@@ -1,4 +1,4 @@
-// Words, and the commands that they spell.
+//! Words, and the commands that they spell.
 use crate::{Command, Options, read_command};
 use std::alloc::{AllocError, Global};
 use std::test::Fail;

@@ -1,4 +1,4 @@
-// Counts of faults.
+//! Counts of faults.
 ghost use Rattle.std.specs.Prelude.{◌≡◌, ◌+◌, ◌-◌, ◌^◌, ◌<◌, min};
 
 /// How many calls failed, as far as a `u64` goes: a count stands still at `u64::MAX`.

@@ -1,4 +1,4 @@
-// Lanes of blocks, and sinks of bytes.
+//! Lanes of blocks, and sinks of bytes.
 ghost use Rattle.std.specs.Prelude.{◌≡◌, ◌<◌, ◌^◌, ℕ, List, Option, Some, OnOk, IfSome, IsSome, MatchResult, true, false};
 ghost use Rattle.std.specs.Option.{ForSome};
 ghost use Rattle.segment_store.specs.Faults.{HasCause};

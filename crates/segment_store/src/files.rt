@@ -1,7 +1,8 @@
-// Adapters over real files and streams: lanes, a host and a sink, whose contents aren't known.
-ghost use Rattle.std.specs.Prelude.{[], ◌≡◌, ◌≤◌, All, false, None, IfOk, length, sum_by};
-ghost use Rattle.segment_store.specs.Contents.{no_marks};
-ghost use Rattle.segment_store.specs.Faults.{Added};
+//! Adapters over real files and streams: lanes, a host and a sink, whose contents aren't known.
+ghost use Rattle.std.specs.Prelude.{[], ◌≡◌, ◌≤◌, All, false, None, IfOk, OnOk, length, sum_by};
+ghost use Rattle.std.specs.Io.KnownBytes.{Appends};
+ghost use Rattle.segment_store.specs.Contents.{Puts, no_marks};
+ghost use Rattle.segment_store.specs.Faults.{Added, HasCause};
 
 use crate::count::FaultCount;
 use crate::device::{BlockLane, Failed, Sink};
@@ -128,7 +129,11 @@ impl<W: Write + Drop> Sink for StdSink<W> {
 
     ghost faults = { λ s. s.faults.count };
 
-    fn put(&mut self, piece: &[u8]) -> Result<(), Failed> {
+    fn put(&mut self, piece: &[u8]) -> Result<(), Failed>
+        ensures bytes { Puts piece.now None None result }
+        ensures faults { HasCause self.old.faults.count self.new.faults.count result }
+        ensures written { OnOk result (Appends (W.contents self.old.writer) (W.contents self.new.writer) piece.now) }
+    {
         if self.writer.write_all(piece).is_ok() {
             return Ok(());
         }

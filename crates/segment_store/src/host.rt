@@ -1,4 +1,4 @@
-// The host: relations by their paths.
+//! The host: relations by their paths.
 ghost use Rattle.std.specs.Prelude.{◌≡◌, ◌≢◌, ℕ, ◌<◌, ◌≤◌, ◌^◌, [], Option, IfOk, IfSome, IsErrOf, MatchResult, map, option_map, sum_by};
 ghost use Rattle.segment_store.specs.Faults.{Added, HasOpeningCause};
 ghost use Rattle.segment_store.specs.Opening.{IsOpened};

@@ -1,4 +1,4 @@
-// What the buffer manager asks of the outside, as traits, with forms in memory and over files.
+//! What the buffer manager asks of the outside, as traits, with forms in memory and over files.
 #![tactic(auto)]
 
 mod count;

@@ -1,4 +1,4 @@
-// A sink in memory.
+//! A sink in memory.
 ghost use Rattle.std.specs.Prelude.{◌≡◌, ◌++◌, [], Some, IfOk, if◌then◌else◌, OnErr, is_ok};
 ghost use Rattle.segment_store.specs.Faults.{HasCause};
 ghost use Rattle.segment_store.specs.Contents.{Puts};

@@ -1,4 +1,4 @@
-// A host in memory.
+//! A host in memory.
 ghost use Rattle.std.specs.Prelude.{true, ◌↔◌, MatchResult, string_bytes, ◌≡◌, ◌≢◌, ◌+◌, ◌++◌, ◌==◌, ◌<◌, ◌≤◌, ◌*◌, ◌/◌, ◌^◌, ◌-◌, [], All, Some, IfOk, IfSome, IsErrOf, OnOk, OnErr, if◌then◌else◌, length, map, sum_by, vec_len};
 ghost use Rattle.segment_store.specs.Faults.{Added, HasOpeningCause};
 ghost use Rattle.segment_store.specs.Contents.{no_marks, with_page};

@@ -1,4 +1,4 @@
-// A lane in memory.
+//! A lane in memory.
 ghost use Rattle.std.specs.Prelude.{IsSome, option_map, length, ◌≡◌, ◌+◌, ◌&&◌, Some, IfOk, IfSome, MatchResult, OnOk, OnErr, is_ok, is_some, not, nat_lt, true, false};
 ghost use Rattle.std.specs.Option.{ForSome};
 ghost use Rattle.segment_store.specs.Faults.{HasCause};

@@ -1,4 +1,4 @@
-// Calls that are to fail, for the forms in memory.
+//! Calls that are to fail, for the forms in memory.
 ghost use Rattle.std.specs.Prelude.{◌≡◌, IfOk};
 ghost use Rattle.segment_store.specs.Plan.{after_call, fails_next, fresh_plan};
 

@@ -1,4 +1,4 @@
-// The blocks of lanes in memory, put back into the segments that they came from.
+//! The blocks of lanes in memory, put back into the segments that they came from.
 ghost use Rattle.std.specs.Prelude.{◌≡◌, ◌+◌, ◌*◌, ◌<◌, ◌≤◌, ◌^◌, Some, length, map, option_map};
 ghost use Rattle.segment_store.specs.Lanes.{page_in};
 ghost use Rattle.segment_store.specs.MemoryHost.{bytes_of};
