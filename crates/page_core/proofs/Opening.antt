@@ -10,18 +10,18 @@ use Rattle.grid.specs.Shape.{tallies, total}
 use Rattle.grid.proofs.Lists.{at_only}
 use Rattle.page_core.proofs.Stepping.{new_none, new_link}
 
-no_sums : (n p m f : ℕ) (k : Tally) → tallies page_shape (first_view n p m ∷ []) f k ≡ 0
+no_sums : (base n p m f : ℕ) (k : Tally) → tallies page_shape (first_view base n p m ∷ []) f k ≡ 0
 unfolding total
-no_sums n p m f k = let e : weigh k (link (first_view n p m) f) ≡ 0 = new_none 0 n p m f k in omega arith
+no_sums base n p m f k = let e : weigh k (link (first_view base n p m) f) ≡ 0 = new_none 0 base n p m f k in omega arith
 
 empty_frame_law : (b : Block) (p : Page) (t : Tally → ℕ) → ((k : Tally) → t k ≡ 0) → PageFrame b (empty_frame p) t
 empty_frame_law b p t e = grind (arith, e sharers, e applied_locks, e unapplied_locks, e copies, e works)
 
 pub opens : (c : Config) (origin : ℕ → Page) (page : Page) → CanOpen c → Invariant (opening c origin page)
-opens c origin page can = let n = c.frames in let p = c.partitions in let m = c.lanes in let w : View = first_view n p m in let b : Block = block_of origin no_tag in record {
+opens c origin page can = let base = c.base in let n = c.frames in let p = c.partitions in let m = c.lanes in let w : View = first_view base n p m in let b : Block = block_of origin no_tag in record {
   core = pins.opens c page can;
   pages = record {
-    columns = λ f below. empty_frame_law b page (tallies page_shape (w ∷ []) f) (no_sums n p m f);
-    cells = λ i v f there below. subst (λ (x : View). PageLink b (empty_frame page) (link x f)) (at_only w v i there).0 (new_link b 0 n p m f (empty_frame page));
+    columns = λ f below. empty_frame_law b page (tallies page_shape (w ∷ []) f) (no_sums base n p m f);
+    cells = λ i v f there below. subst (λ (x : View). PageLink b (empty_frame page) (link x f)) (at_only w v i there).0 (new_link b 0 base n p m f (empty_frame page));
   };
 }

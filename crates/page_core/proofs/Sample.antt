@@ -178,51 +178,54 @@ abbrev s37 : State
 s37 = pooled pins.unpin s36
 
 no_lanes : HasNoWriteOut (view_of s17) 0
-no_lanes n e = e
+no_lanes n out e = e
 
 pub sample : SampleRuns
 sample = (
-  s24,
-  s37,
-  (goes (cores (pin_steps.turns 0 0 take_turn (view_of sample_start) refl refl (lit< tt) (record { free = refl })))
-      (goes (cores (pin_steps.touches 0 0 pins.lock_header (view_of s1) refl refl (lit< tt) (record { unlocked = refl }) (at_one (λ (l : Link). l.header ≡ None) (view_of s1) _ refl refl refl)))
-      (goes (cores (pin_steps.touches 0 0 pins.pin_victim (view_of s2) refl refl (lit< tt) (record { held = refl; absent = refl; room = λ e. refl }) (at_one (λ (l : Link). l.role ≢ Victim) (view_of s2) _ refl (λ e. cc) (λ e. cc))))
-      (goes (cores (pin_steps.touches 0 0 pins.lock_header (view_of s3) refl refl (lit< tt) (record { unlocked = refl }) (at_one (λ (l : Link). l.header ≡ None) (view_of s3) _ refl refl refl)))
-      (goes (cores (pin_steps.touches 0 0 (pins.store_tag 7) (view_of s4) refl refl (lit< tt) (record { alone = record { held = refl; settled = refl; single = refl; victim = refl; no_content = refl; no_io = refl }; named = named; untagged = refl }) (record { naming = record { held = refl; unchanged = refl; settled = (turn_one (λ (h : PartitionHold). h.change ≡ Settled) (view_of s4) _ refl refl refl) }; lacking = refl })))
-      (goes (cores (pin_steps.touches 0 0 pins.assign (view_of s5) refl refl (lit< tt) (record { held = refl; stored = refl; named = named }) tt))
-      (goes (cores (pin_steps.turns 0 0 (map_out []) (view_of s6) refl refl (lit< tt) (record { held = refl; home = refl; entries_are = no_entries })))
-      (goes (cores (pin_steps.turns 0 0 change_map (view_of s7) refl refl (lit< tt) (record { out = λ e. cc; unchanged = refl; named = λ e. cc })))
-      (goes (cores (pin_steps.turns 0 0 (map_back (sample_entry ∷ [])) (view_of s8) refl refl (lit< tt) (record { out = λ e. cc; entries_are = one_entry })))
-      (goes (cores (pin_steps.turns 0 0 leave_turn (view_of s9) refl refl (lit< tt) (record { held = refl; home = refl; settled = refl })))
-      (goes (cores (pin_steps.touches 0 0 pins.lock_header (view_of s10) refl refl (lit< tt) (record { unlocked = refl }) (at_one (λ (l : Link). l.header ≡ None) (view_of s10) _ refl refl refl)))
-      (goes (touches 0 0 start_input (view_of s11) refl refl (lit< tt) (record { held = refl; settled = refl; pinned = λ e. cc; clear = refl; tagged = refl; invalid = refl }) (at_one (λ (l : Link). l.io ≡ Quiet) (view_of s11) _ refl refl refl))
-      (goes (touches 0 0 (note_read sample_page) (view_of s12) refl refl (lit< tt) (record { right = refl; given = refl }) tt)
-      (goes (touches 0 0 page_out (view_of s13) refl refl (lit< tt) (record { page_home = refl; shared = λ e. absurd (cc); unlocked = λ e. refl }) tt)
-      (goes (touches 0 0 (overwrite_read sample_page) (view_of s14) refl refl (lit< tt) (record { out = λ e. cc; once = refl; right = refl; read = refl }) tt)
-      (goes (touches 0 0 page_back (view_of s15) refl refl (lit< tt) (record { out = λ e. cc }) tt)
-      (goes (cores (pin_steps.touches 0 0 pins.lock_header (view_of s16) refl refl (lit< tt) (record { unlocked = refl }) (at_one (λ (l : Link). l.header ≡ None) (view_of s16) _ refl refl refl)))
-      (goes (touches 0 0 (end_io ReadOk) (view_of s17) refl refl (lit< tt) (record { held = refl; page_home = λ e. refl; ends = record { right = refl; read = λ e. cc; home = refl } }) no_lanes)
-      (goes (cores (pin_steps.touches 0 0 pins.load_state (view_of s18) refl refl (lit< tt) tt tt))
-      (goes (touches 0 0 share (view_of s19) refl refl (lit< tt) (record { pinned = λ e. cc; seen = refl; none = refl; free = refl }) tt)
-      (goes (touches 0 0 take_copy (view_of s20) refl refl (lit< tt) (record { right = refl; free = refl }) tt)
-      (goes (touches 0 0 page_out (view_of s21) refl refl (lit< tt) (record { page_home = refl; shared = λ e. refl; unlocked = λ e. absurd (cc) }) tt)
-      (goes (touches 0 0 page_back (view_of s22) refl refl (lit< tt) (record { out = λ e. cc }) tt)
-      (goes (touches 0 0 leave_copy (view_of s23) refl refl (lit< tt) (record { right = refl; page_home = refl }) tt)
-      rests)))))))))))))))))))))))),
-  record { tag = refl; word = refl; held = refl; shared = refl; noted = (view_of s24, refl, refl, refl) },
-  (goes (touches 0 0 unshare (view_of s24) refl refl (lit< tt) (record { right = refl; no_copy = refl; no_output = λ e. cc; page_home = refl }) tt)
-      (goes (cores (pin_steps.touches 0 0 pins.unpin (view_of s25) refl refl (lit< tt) (record { unlocked = refl; pinned = λ e. cc; no_content = refl; no_io = refl; no_wait = refl }) tt))
-      (goes (cores (pin_steps.touches 0 0 pins.lock_header (view_of s26) refl refl (lit< tt) (record { unlocked = refl }) (at_one (λ (l : Link). l.header ≡ None) (view_of s26) _ refl refl refl)))
-      (goes (cores (pin_steps.touches 0 0 pins.pin_victim (view_of s27) refl refl (lit< tt) (record { held = refl; absent = refl; room = λ e. refl }) (at_one (λ (l : Link). l.role ≢ Victim) (view_of s27) _ refl (λ e. cc) (λ e. cc))))
-      (goes (cores (pin_steps.turns 0 0 take_turn (view_of s28) refl refl (lit< tt) (record { free = refl })))
-      (goes (cores (pin_steps.touches 0 0 pins.lock_header (view_of s29) refl refl (lit< tt) (record { unlocked = refl }) (at_one (λ (l : Link). l.header ≡ None) (view_of s29) _ refl refl refl)))
-      (goes (cores (pin_steps.touches 0 0 pins.erase_tag (view_of s30) refl refl (lit< tt) (record { alone = record { held = refl; settled = refl; single = refl; victim = refl; no_content = refl; no_io = refl }; named = named; clean = refl }) (record { held = refl; unchanged = refl; settled = (turn_one (λ (h : PartitionHold). h.change ≡ Settled) (view_of s30) _ refl refl refl) })))
-      (goes (cores (pin_steps.touches 0 0 pins.clear (view_of s31) refl refl (lit< tt) (record { held = refl; erased = refl; unnamed = refl }) tt))
-      (goes (cores (pin_steps.turns 0 0 (map_out (sample_entry ∷ [])) (view_of s32) refl refl (lit< tt) (record { held = refl; home = refl; entries_are = one_entry })))
-      (goes (cores (pin_steps.turns 0 0 change_map (view_of s33) refl refl (lit< tt) (record { out = λ e. cc; unchanged = refl; named = λ e. cc })))
-      (goes (cores (pin_steps.turns 0 0 (map_back []) (view_of s34) refl refl (lit< tt) (record { out = λ e. cc; entries_are = left_out })))
-      (goes (cores (pin_steps.turns 0 0 leave_turn (view_of s35) refl refl (lit< tt) (record { held = refl; home = refl; settled = refl })))
-      (goes (cores (pin_steps.touches 0 0 pins.unpin (view_of s36) refl refl (lit< tt) (record { unlocked = refl; pinned = λ e. cc; no_content = refl; no_io = refl; no_wait = refl }) tt))
-      rests))))))))))))),
-  record { tag = refl; word = refl; shared = refl; mapped = refl; taken = refl },
+  record { some_backend = lit< tt; placed = λ tag. lit< tt },
+  (
+    s24,
+    s37,
+    (goes (cores (pin_steps.turns 0 0 take_turn (view_of sample_start) refl refl (lit< tt) (record { free = refl })))
+        (goes (cores (pin_steps.touches 0 0 pins.lock_header (view_of s1) refl refl (lit< tt) (record { unlocked = refl }) (at_one (λ (l : Link). l.header ≡ None) (view_of s1) _ refl refl refl)))
+        (goes (cores (pin_steps.touches 0 0 pins.pin_victim (view_of s2) refl refl (lit< tt) (record { held = refl; absent = refl; room = λ e. refl }) (at_one (λ (l : Link). l.role ≢ Victim) (view_of s2) _ refl (λ e. cc) (λ e. cc))))
+        (goes (cores (pin_steps.touches 0 0 pins.lock_header (view_of s3) refl refl (lit< tt) (record { unlocked = refl }) (at_one (λ (l : Link). l.header ≡ None) (view_of s3) _ refl refl refl)))
+        (goes (cores (pin_steps.touches 0 0 (pins.store_tag 7) (view_of s4) refl refl (lit< tt) (record { alone = record { held = refl; settled = refl; single = refl; victim = refl; no_content = refl; no_io = refl }; named = named; untagged = refl }) (record { naming = record { held = refl; unchanged = refl; settled = (turn_one (λ (h : PartitionHold). h.change ≡ Settled) (view_of s4) _ refl refl refl) }; lacking = refl })))
+        (goes (cores (pin_steps.touches 0 0 pins.assign (view_of s5) refl refl (lit< tt) (record { held = refl; stored = refl; named = named }) tt))
+        (goes (cores (pin_steps.turns 0 0 (map_out []) (view_of s6) refl refl (lit< tt) (record { held = refl; home = refl; entries_are = no_entries })))
+        (goes (cores (pin_steps.turns 0 0 change_map (view_of s7) refl refl (lit< tt) (record { out = λ e. cc; unchanged = refl; named = λ e. cc })))
+        (goes (cores (pin_steps.turns 0 0 (map_back (sample_entry ∷ [])) (view_of s8) refl refl (lit< tt) (record { out = λ e. cc; entries_are = one_entry })))
+        (goes (cores (pin_steps.turns 0 0 leave_turn (view_of s9) refl refl (lit< tt) (record { held = refl; home = refl; settled = refl })))
+        (goes (cores (pin_steps.touches 0 0 pins.lock_header (view_of s10) refl refl (lit< tt) (record { unlocked = refl }) (at_one (λ (l : Link). l.header ≡ None) (view_of s10) _ refl refl refl)))
+        (goes (touches 0 0 start_input (view_of s11) refl refl (lit< tt) (record { held = refl; settled = refl; pinned = λ e. cc; clear = refl; tagged = refl; invalid = refl }) (at_one (λ (l : Link). l.io ≡ Quiet) (view_of s11) _ refl refl refl))
+        (goes (touches 0 0 (note_read sample_page) (view_of s12) refl refl (lit< tt) (record { right = refl; given = refl }) tt)
+        (goes (touches 0 0 page_out (view_of s13) refl refl (lit< tt) (record { page_home = refl; shared = λ e. absurd (cc); unlocked = λ e. refl }) tt)
+        (goes (touches 0 0 (overwrite_read sample_page) (view_of s14) refl refl (lit< tt) (record { out = λ e. cc; once = refl; right = refl; read = refl }) tt)
+        (goes (touches 0 0 page_back (view_of s15) refl refl (lit< tt) (record { out = λ e. cc }) tt)
+        (goes (cores (pin_steps.touches 0 0 pins.lock_header (view_of s16) refl refl (lit< tt) (record { unlocked = refl }) (at_one (λ (l : Link). l.header ≡ None) (view_of s16) _ refl refl refl)))
+        (goes (touches 0 0 (end_io ReadOk) (view_of s17) refl refl (lit< tt) (record { held = refl; page_home = λ e. refl; ends = record { right = refl; read = λ e. cc; home = refl } }) no_lanes)
+        (goes (cores (pin_steps.touches 0 0 pins.load_state (view_of s18) refl refl (lit< tt) tt tt))
+        (goes (touches 0 0 share (view_of s19) refl refl (lit< tt) (record { pinned = λ e. cc; seen = refl; none = refl; free = refl }) tt)
+        (goes (touches 0 0 take_copy (view_of s20) refl refl (lit< tt) (record { right = refl; free = refl }) tt)
+        (goes (touches 0 0 page_out (view_of s21) refl refl (lit< tt) (record { page_home = refl; shared = λ e. refl; unlocked = λ e. absurd (cc) }) tt)
+        (goes (touches 0 0 page_back (view_of s22) refl refl (lit< tt) (record { out = λ e. cc }) tt)
+        (goes (touches 0 0 leave_copy (view_of s23) refl refl (lit< tt) (record { right = refl; page_home = refl }) tt)
+        rests)))))))))))))))))))))))),
+    record { tag = refl; word = refl; held = refl; shared = refl; noted = (view_of s24, refl, refl, refl) },
+    (goes (touches 0 0 unshare (view_of s24) refl refl (lit< tt) (record { right = refl; no_copy = refl; no_output = λ e. cc; page_home = refl }) tt)
+        (goes (cores (pin_steps.touches 0 0 pins.unpin (view_of s25) refl refl (lit< tt) (record { unlocked = refl; pinned = λ e. cc; no_content = refl; no_io = refl; no_wait = refl }) tt))
+        (goes (cores (pin_steps.touches 0 0 pins.lock_header (view_of s26) refl refl (lit< tt) (record { unlocked = refl }) (at_one (λ (l : Link). l.header ≡ None) (view_of s26) _ refl refl refl)))
+        (goes (cores (pin_steps.touches 0 0 pins.pin_victim (view_of s27) refl refl (lit< tt) (record { held = refl; absent = refl; room = λ e. refl }) (at_one (λ (l : Link). l.role ≢ Victim) (view_of s27) _ refl (λ e. cc) (λ e. cc))))
+        (goes (cores (pin_steps.turns 0 0 take_turn (view_of s28) refl refl (lit< tt) (record { free = refl })))
+        (goes (cores (pin_steps.touches 0 0 pins.lock_header (view_of s29) refl refl (lit< tt) (record { unlocked = refl }) (at_one (λ (l : Link). l.header ≡ None) (view_of s29) _ refl refl refl)))
+        (goes (cores (pin_steps.touches 0 0 pins.erase_tag (view_of s30) refl refl (lit< tt) (record { alone = record { held = refl; settled = refl; single = refl; victim = refl; no_content = refl; no_io = refl }; named = named; clean = refl }) (record { held = refl; unchanged = refl; settled = (turn_one (λ (h : PartitionHold). h.change ≡ Settled) (view_of s30) _ refl refl refl) })))
+        (goes (cores (pin_steps.touches 0 0 pins.clear (view_of s31) refl refl (lit< tt) (record { held = refl; erased = refl; unnamed = refl }) tt))
+        (goes (cores (pin_steps.turns 0 0 (map_out (sample_entry ∷ [])) (view_of s32) refl refl (lit< tt) (record { held = refl; home = refl; entries_are = one_entry })))
+        (goes (cores (pin_steps.turns 0 0 change_map (view_of s33) refl refl (lit< tt) (record { out = λ e. cc; unchanged = refl; named = λ e. cc })))
+        (goes (cores (pin_steps.turns 0 0 (map_back []) (view_of s34) refl refl (lit< tt) (record { out = λ e. cc; entries_are = left_out })))
+        (goes (cores (pin_steps.turns 0 0 leave_turn (view_of s35) refl refl (lit< tt) (record { held = refl; home = refl; settled = refl })))
+        (goes (cores (pin_steps.touches 0 0 pins.unpin (view_of s36) refl refl (lit< tt) (record { unlocked = refl; pinned = λ e. cc; no_content = refl; no_io = refl; no_wait = refl }) tt))
+        rests))))))))))))),
+    record { tag = refl; word = refl; shared = refl; mapped = refl; taken = refl },
+  ),
 )

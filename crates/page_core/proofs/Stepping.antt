@@ -106,11 +106,11 @@ none works = refl
 pub idle_link : (b : Block) (fr : Frame) → PageLink b fr idle
 idle_link b fr = grind arith
 
-pub new_none : (number n p m f : ℕ) (k : Tally) → weigh k (link (new_view number n p m) f) ≡ 0
-new_none number n p m f k = ap (weigh k) (link_new n p m number f) ∙ none k
+pub new_none : (number base n p m f : ℕ) (k : Tally) → weigh k (link (new_view number base n p m) f) ≡ 0
+new_none number base n p m f k = ap (weigh k) (link_new n p m number base f) ∙ none k
 
-pub new_link : (b : Block) (number n p m f : ℕ) (fr : Frame) → PageLink b fr (link (new_view number n p m) f)
-new_link b number n p m f fr = subst (PageLink b fr) (sym (link_new n p m number f)) (idle_link b fr)
+pub new_link : (b : Block) (number base n p m f : ℕ) (fr : Frame) → PageLink b fr (link (new_view number base n p m) f)
+new_link b number base n p m f fr = subst (PageLink b fr) (sym (link_new n p m number base f)) (idle_link b fr)
 
 -- a view that has nothing at a frame may be forgotten there
 forgets : (b : Block) (fr : Frame) (l : Link) → IsFree l → Keeps page_shape known page_part b b tt tt fr l fr idle
@@ -126,7 +126,7 @@ pages_below s h (pin_steps.touches i f k v there live inside a around) = below_s
 pages_below s h (pin_steps.turns i p k v there live below a) = steady page_shape page_part s.core.frames s.core.frame (block_of s.logged) s.core.views h.pages i v (view_turned k p (hold v p) v) there refl (λ g. refl)
 pages_below s h (pin_steps.splits v there room) = let w : View = record v { next = v.next + 1 } in let n = length v.links in let p = length v.partitions in let m = length v.lanes in
     grows page_shape page_part s.core.frames s.core.frame (block_of s.logged) (set s.core.views 0 w) (steady page_shape page_part s.core.frames s.core.frame (block_of s.logged) s.core.views h.pages 0 v w there refl (λ g. refl))
-    (new_view v.next n p m) (new_none v.next n p m) (λ g inside. new_link (block_of s.logged (s.core.frame g).tag) v.next n p m g (s.core.frame g))
+    (new_view v.next s.core.base n p m) (new_none v.next s.core.base n p m) (λ g inside. new_link (block_of s.logged (s.core.frame g).tag) v.next s.core.base n p m g (s.core.frame g))
 pages_below s h (pin_steps.joins j v u there other here live free) = let w : View = joined_view v u in
     let first = steady page_shape page_part s.core.frames s.core.frame (block_of s.logged) s.core.views h.pages 0 v w there refl (λ g. refl) in
     let core_first = steady page_shape pin_part s.core.frames s.core.frame (block_of s.logged) s.core.views (to_pages s.core.frames s.core.frame (block_of s.logged) s.core.views h.core.grid) 0 v w there refl (λ g. refl) in

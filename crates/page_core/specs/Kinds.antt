@@ -7,6 +7,7 @@ use Rattle.state_word.specs.Fields.{unlocked_fields, dirtied_fields, io_started_
 use Rattle.pin_core.specs.declared.view.Role.TheVariants.{Absent}
 use Rattle.pin_core.specs.declared.view.Content.{Content}
 use Rattle.pin_core.specs.declared.view.Content.TheVariants.{Unlocked, Shared, Exclusive}
+use Rattle.pin_core.specs.declared.view.Io.{Io}
 use Rattle.pin_core.specs.declared.view.Io.TheVariants.{Quiet, Input, Output}
 use Rattle.pin_core.specs.declared.view.LastWrite.{LastWrite}
 use Rattle.pin_core.specs.declared.view.LastWrite.TheVariants.{Unwritten, Done, Failed}
@@ -120,6 +121,7 @@ pub record CanNoteRead (p : Page) (b : Block) (fr : Frame) (l : Link) : Type 0 w
 pub record CanNoteWrite (fr : Frame) (l : Link) : Type 0 where
   pub right : l.io ≡ Output
 
+-- and no entry of the view is unapplied at another frame (`AllowedAround`)
 pub record CanMakeEntry (fr : Frame) (l : Link) : Type 0 where
   pub right : l.content ≡ Exclusive
   pub dirtied : l.dirtied ≡ true
@@ -218,9 +220,11 @@ copied_after Shared unapplied p copied = if unapplied then copied else Some p
 copied_after Exclusive unapplied p copied = if unapplied then copied else Some p
 
 -- under an input right a page that comes back overwritten is the one that was read
-abbrev pub home_after : Option Page → Bool → Bool
-home_after None home = home
-home_after (Some q) home = true
+abbrev pub home_after : Io → Option Page → Bool → Bool
+home_after Quiet overwritten home = home
+home_after Output overwritten home = home
+home_after Input None home = home
+home_after Input (Some q) home = true
 
 abbrev pub write_noted : Bool → LastWrite
 write_noted true = Done
@@ -239,7 +243,7 @@ link_after leave_copy b fr l = record l { copying = false }
 link_after page_out b fr l = record l { out = Some fr.page }
 link_after overwrite_logged b fr l = record l { overwritten = Some b.logged; unapplied = false }
 link_after (overwrite_read p) b fr l = record l { overwritten = Some p }
-link_after page_back b fr l = record l { out = None; overwritten = None; copied = copied_after l.content l.unapplied fr.page l.copied; read_is_home = home_after l.overwritten l.read_is_home }
+link_after page_back b fr l = record l { out = None; overwritten = None; copied = copied_after l.content l.unapplied fr.page l.copied; read_is_home = home_after l.io l.overwritten l.read_is_home }
 link_after (note_read p) b fr l = record l { read = Some p; read_is_home = false }
 link_after (note_write done) b fr l = record l { last_write = write_noted done }
 link_after (make_entry p) b fr l = record l { unapplied = true; copied = None }

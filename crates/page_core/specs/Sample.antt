@@ -6,7 +6,7 @@ use Rattle.state_word.specs.declared.word.IoEnd.TheVariants.{ReadOk}
 use Rattle.pin_core.specs.declared.view.Role.TheVariants.{HandedOut}
 use Rattle.pin_core.specs.declared.view.MapEntry.{MapEntry}
 use Rattle.pin_core.specs.declared.view.View.{View}
-use Rattle.pin_core.specs.State.{Config, Page, link, no_tag, zero_word}
+use Rattle.pin_core.specs.State.{CanOpen, Config, Page, link, no_tag, zero_word}
 use Rattle.pin_core.specs.Kinds as pins
 use Rattle.pin_core.specs.Turns.{TurnKind, take_turn, leave_turn, map_out, change_map, map_back}
 use Rattle.pin_core.specs.Steps as pin_steps
@@ -16,7 +16,7 @@ use Rattle.page_core.specs.Steps.{Event, pins_and_maps, at, Run}
 
 -- one frame, one partition, one backend
 abbrev pub sample_config : Config
-sample_config = record { frames = 1; partitions = 1; partition_of = λ _. 0; lanes = 0; backends = 1 }
+sample_config = record { frames = 1; partitions = 1; partition_of = λ _. 0; lanes = 0; backends = 1; base = 0 }
 
 -- the page that the lane holds for each block
 abbrev pub sample_page : Page
@@ -74,4 +74,4 @@ pub record Evicted (t : State) : Type 0 where
   pub taken : (t.core.partition 0).taken ≡ false
 
 abbrev pub SampleRuns : Type 0
-SampleRuns = (m : State) × (t : State) × Run (miss ++ read ++ copy) sample_start m × Copied m × Run evict m t × Evicted t
+SampleRuns = CanOpen sample_config × ((m : State) × (t : State) × Run (miss ++ read ++ copy) sample_start m × Copied m × Run evict m t × Evicted t)

@@ -1,5 +1,5 @@
 -- One step, and lists of steps.
-use Rattle.std.specs.Prelude.{◌≡◌, ℕ, ◌<◌, false, List, [], ◌∷◌}
+use Rattle.std.specs.Prelude.{◌≡◌, ◌≢◌, ℕ, ◌<◌, false, List, [], ◌∷◌, None}
 use mathlib.Core.Option.{some}
 use lib.ListN.{get_elem?}
 use Rattle.pin_core.specs.declared.view.Io.TheVariants.{Quiet}
@@ -10,14 +10,18 @@ use Rattle.pin_core.specs.State.{link, lane_hold, local}
 use Rattle.pin_core.specs.State as pins
 use Rattle.pin_core.specs.Steps as pin_steps
 use Rattle.page_core.specs.State.{State, block_of}
-use Rattle.page_core.specs.Kinds.{Kind, start_input, start_output, end_io, Allowed, frame_after, block_after, view_after}
+use Rattle.page_core.specs.Kinds.{Kind, make_entry, start_input, start_output, end_io, Allowed, frame_after, block_after, view_after}
 use Rattle.grid.specs.Shape.{put}
 
 -- the view has no input or output right
 abbrev pub HasNoIo : View → Type 0
 HasNoIo v = (f : ℕ) → (link v f).io ≡ Quiet
 
--- the one change of a lane that is out was a write of the frame f
+-- no entry of the view is unapplied, at any frame
+abbrev pub HasNoneUnapplied : View → Type 0
+HasNoneUnapplied v = (f : ℕ) → (link v f).unapplied ≡ false
+
+-- the one change of a lane was a write of the frame f
 abbrev pub IsWriteOf : ℕ → LaneChange → Type 0
 IsWriteOf f (Written g tag page) = g ≡ f
 IsWriteOf f (WriteFailed g tag) = g ≡ f
@@ -25,10 +29,11 @@ IsWriteOf f _ = ⊥
 
 -- no lane is out with a write of the frame f
 abbrev pub HasNoWriteOut : View → ℕ → Type 0
-HasNoWriteOut v f = (n : ℕ) → ¬ IsWriteOf f (lane_hold v n).change
+HasNoWriteOut v f = (n : ℕ) → (lane_hold v n).out ≢ None → ¬ IsWriteOf f (lane_hold v n).change
 
 -- What a kind at the frame f asks of the whole view, beyond the frame
 abbrev pub AllowedAround : Kind → View → ℕ → Type 0
+AllowedAround (make_entry p) v f = HasNoneUnapplied v
 AllowedAround start_input v f = HasNoIo v
 AllowedAround start_output v f = HasNoIo v
 AllowedAround (end_io end) v f = HasNoWriteOut v f

@@ -95,22 +95,25 @@ named e = absurd (omega arith)
 
 pub sample : SampleRuns
 sample = (
-  s15,
-  (goes (turns 0 0 take_turn (view_at sample_start 0) refl refl (lit< tt) (record { free = refl }))
-      (goes (touches 0 0 lock_header (view_at s1 0) refl refl (lit< tt) (record { unlocked = refl }) (at_two (λ (l : Link). l.header ≡ None) (view_at s1 0) _ _ refl refl refl refl))
-      (goes (touches 0 0 pin_victim (view_at s2 0) refl refl (lit< tt) (record { held = refl; absent = refl; room = λ _. refl }) (at_two (λ (l : Link). l.role ≢ Victim) (view_at s2 0) _ _ refl (λ e. cc) (λ e. cc) (λ e. cc)))
-      (goes (touches 0 0 lock_header (view_at s3 0) refl refl (lit< tt) (record { unlocked = refl }) (at_two (λ (l : Link). l.header ≡ None) (view_at s3 0) _ _ refl refl refl refl))
-      (goes (touches 0 0 (store_tag 7) (view_at s4 0) refl refl (lit< tt) (record { alone = record { held = refl; settled = refl; single = refl; victim = refl; no_content = refl; no_io = refl }; named = named; untagged = refl }) (record { naming = record { held = refl; unchanged = refl; settled = at_one (λ (h : PartitionHold). h.change ≡ Settled) (view_at s4 0) _ refl refl refl }; lacking = refl }))
-      (goes (touches 0 0 assign (view_at s5 0) refl refl (lit< tt) (record { held = refl; stored = refl; named = named }) tt)
-      (goes (turns 0 0 (map_out []) (view_at s6 0) refl refl (lit< tt) (record { held = refl; home = refl; entries_are = no_entries }))
-      (goes (turns 0 0 change_map (view_at s7 0) refl refl (lit< tt) (record { out = λ e. cc; unchanged = refl; named = λ e. cc }))
-      (goes (turns 0 0 (map_back (sample_entry ∷ [])) (view_at s8 0) refl refl (lit< tt) (record { out = λ e. cc; entries_are = one_entry }))
-      (goes (turns 0 0 leave_turn (view_at s9 0) refl refl (lit< tt) (record { held = refl; home = refl; settled = refl }))
-      (goes (splits (view_at s10 0) refl (lit< tt))
-      (goes (turns 1 0 take_turn (view_at s11 1) refl refl (lit< tt) (record { free = refl }))
-      (goes (touches 1 0 (pin_mapped 7 false) (view_at s12 1) refl refl (lit< tt) (record { unlocked = refl; absent = refl }) (record { held = refl; settled = refl; given = refl }))
-      (goes (turns 1 0 leave_turn (view_at s13 1) refl refl (lit< tt) (record { held = refl; home = refl; settled = refl }))
-      (goes (touches 0 0 unpin (view_at s14 0) refl refl (lit< tt) (record { unlocked = refl; pinned = λ e. cc; no_content = refl; no_io = refl; no_wait = refl }) tt)
-      rests))))))))))))))),
-  record { tag = refl; word = refl; mapped = (refl, refl); hit = (view_at s15 1, refl, refl, refl); other = (refl, refl) },
+  record { some_backend = lit< tt; placed = λ tag. lit< tt },
+  (
+    s15,
+    (goes (turns 0 0 take_turn (view_at sample_start 0) refl refl (lit< tt) (record { free = refl }))
+        (goes (touches 0 0 lock_header (view_at s1 0) refl refl (lit< tt) (record { unlocked = refl }) (at_two (λ (l : Link). l.header ≡ None) (view_at s1 0) _ _ refl refl refl refl))
+        (goes (touches 0 0 pin_victim (view_at s2 0) refl refl (lit< tt) (record { held = refl; absent = refl; room = λ _. refl }) (at_two (λ (l : Link). l.role ≢ Victim) (view_at s2 0) _ _ refl (λ e. cc) (λ e. cc) (λ e. cc)))
+        (goes (touches 0 0 lock_header (view_at s3 0) refl refl (lit< tt) (record { unlocked = refl }) (at_two (λ (l : Link). l.header ≡ None) (view_at s3 0) _ _ refl refl refl refl))
+        (goes (touches 0 0 (store_tag 7) (view_at s4 0) refl refl (lit< tt) (record { alone = record { held = refl; settled = refl; single = refl; victim = refl; no_content = refl; no_io = refl }; named = named; untagged = refl }) (record { naming = record { held = refl; unchanged = refl; settled = at_one (λ (h : PartitionHold). h.change ≡ Settled) (view_at s4 0) _ refl refl refl }; lacking = refl }))
+        (goes (touches 0 0 assign (view_at s5 0) refl refl (lit< tt) (record { held = refl; stored = refl; named = named }) tt)
+        (goes (turns 0 0 (map_out []) (view_at s6 0) refl refl (lit< tt) (record { held = refl; home = refl; entries_are = no_entries }))
+        (goes (turns 0 0 change_map (view_at s7 0) refl refl (lit< tt) (record { out = λ e. cc; unchanged = refl; named = λ e. cc }))
+        (goes (turns 0 0 (map_back (sample_entry ∷ [])) (view_at s8 0) refl refl (lit< tt) (record { out = λ e. cc; entries_are = one_entry }))
+        (goes (turns 0 0 leave_turn (view_at s9 0) refl refl (lit< tt) (record { held = refl; home = refl; settled = refl }))
+        (goes (splits (view_at s10 0) refl (lit< tt))
+        (goes (turns 1 0 take_turn (view_at s11 1) refl refl (lit< tt) (record { free = refl }))
+        (goes (touches 1 0 (pin_mapped 7 false) (view_at s12 1) refl refl (lit< tt) (record { unlocked = refl; absent = refl }) (record { held = refl; settled = refl; given = refl }))
+        (goes (turns 1 0 leave_turn (view_at s13 1) refl refl (lit< tt) (record { held = refl; home = refl; settled = refl }))
+        (goes (touches 0 0 unpin (view_at s14 0) refl refl (lit< tt) (record { unlocked = refl; pinned = λ e. cc; no_content = refl; no_io = refl; no_wait = refl }) tt)
+        rests))))))))))))))),
+    record { tag = refl; word = refl; mapped = (refl, refl); hit = (view_at s15 1, refl, refl, refl); other = (refl, refl) },
+  ),
 )

@@ -200,7 +200,7 @@ not_joined views i j f v u there pinned here free e = let same : v ≡ u = some-
 step_stays : {e : Event} {s t : State} (i f : ℕ) → Step e s t → Invariant s → IsHandedOut s i f → e ≢ at i f unpin → Stays s t i f
 step_stays i f (touches {s = s} j g k u here live inside a around) h out other = (pin_stays s h i f out.0 out.1 out.2 out.3 j g k u here live inside a other, tag_stays s h i f out.0 out.1 out.2 out.3 j g k u here live inside a)
 step_stays i f (turns {s = s} j p k u here live below a) h out other = let x = view_stays s.views i j f out.0 u (view_turned k p (hold u p) u) out.1 out.3 here refl in ((x.0, x.1, out.2, x.2), refl)
-step_stays i f (splits {s = s} v here room) h out other = let w : View = record v { next = v.next + 1 } in let b : View = new_view v.next (length v.links) (length v.partitions) (length v.lanes) in let x = view_stays s.views i 0 f out.0 v w out.1 out.3 here refl in
+step_stays i f (splits {s = s} v here room) h out other = let w : View = record v { next = v.next + 1 } in let b : View = new_view v.next s.base (length v.links) (length v.partitions) (length v.lanes) in let x = view_stays s.views i 0 f out.0 v w out.1 out.3 here refl in
     ((x.0, at_longer (set s.views 0 w) (b ∷ []) i x.0 x.1, out.2, x.2), refl)
 step_stays i f (joins {s = s} j v u first nonzero here live free) h out other = let x = view_stays s.views i 0 f out.0 v (joined_view v u) out.1 out.3 first refl in
     ((x.0, set_else (set s.views 0 (joined_view v u)) j i emptied_view (not_joined s.views i j f out.0 u out.1 out.3 here free) ∙ x.1, out.2, x.2), refl)

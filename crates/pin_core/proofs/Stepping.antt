@@ -188,17 +188,17 @@ idle_link fr = grind arith
 idle_hold : (pt : Partition) → HoldLaw pt no_partition
 idle_hold pt = grind arith
 
-pub new_none : (number n p m f : ℕ) (k : Tally) → weigh k (link (new_view number n p m) f) ≡ 0
-new_none number n p m f k = ap (weigh k) (link_new n p m number f) ∙ idle_none k
+pub new_none : (number base n p m f : ℕ) (k : Tally) → weigh k (link (new_view number base n p m) f) ≡ 0
+new_none number base n p m f k = ap (weigh k) (link_new n p m number base f) ∙ idle_none k
 
-pub new_link : (number n p m f : ℕ) (fr : Frame) → LinkLaw fr (link (new_view number n p m) f)
-new_link number n p m f fr = subst (LinkLaw fr) (sym (link_new n p m number f)) (idle_link fr)
+pub new_link : (number base n p m f : ℕ) (fr : Frame) → LinkLaw fr (link (new_view number base n p m) f)
+new_link number base n p m f fr = subst (LinkLaw fr) (sym (link_new n p m number base f)) (idle_link fr)
 
-pub new_unheld : (number n p m q : ℕ) → flag_weight (hold (new_view number n p m) q).held ≡ 0
-new_unheld number n p m q = ap (λ (x : PartitionHold). flag_weight x.held) (hold_new n p m number q)
+pub new_unheld : (number base n p m q : ℕ) → flag_weight (hold (new_view number base n p m) q).held ≡ 0
+new_unheld number base n p m q = ap (λ (x : PartitionHold). flag_weight x.held) (hold_new n p m number base q)
 
-pub new_hold : (number n p m q : ℕ) (pt : Partition) → HoldLaw pt (hold (new_view number n p m) q)
-new_hold number n p m q pt = subst (HoldLaw pt) (sym (hold_new n p m number q)) (idle_hold pt)
+pub new_hold : (number base n p m q : ℕ) (pt : Partition) → HoldLaw pt (hold (new_view number base n p m) q)
+new_hold number base n p m q pt = subst (HoldLaw pt) (sym (hold_new n p m number base q)) (idle_hold pt)
 
 -- a view that has nothing at a frame may be forgotten there
 forgets : (fr : Frame) (l : Link) → IsFree l → Keeps frame_shape pin_part pin_part tt tt tt tt fr l fr idle
@@ -210,13 +210,13 @@ forgets fr l a = record {
 
 split_keeps : (s : State) (v : View) → Invariant s → get_elem? s.views 0 ≡ some v → v.next < s.backends → Invariant (split_state s v)
 split_keeps s v h there room = let w : View = record v { next = v.next + 1 } in let n = length v.links in let p = length v.partitions in let m = length v.lanes in record {
-  grid = grows frame_shape pin_part s.frames s.frame (λ _. tt) (set s.views 0 w) (steady frame_shape pin_part s.frames s.frame (λ _. tt) s.views h.grid 0 v w there refl (λ g. refl)) (new_view v.next n p m) (new_none v.next n p m) (λ g below. new_link v.next n p m g (s.frame g));
-  turns = grows turn_shape turn_part s.partitions s.partition (λ _. tt) (set s.views 0 w) (steady turn_shape turn_part s.partitions s.partition (λ _. tt) s.views h.turns 0 v w there refl (λ g. refl)) (new_view v.next n p m) (λ q _. new_unheld v.next n p m q) (λ q below. new_hold v.next n p m q (s.partition q));
+  grid = grows frame_shape pin_part s.frames s.frame (λ _. tt) (set s.views 0 w) (steady frame_shape pin_part s.frames s.frame (λ _. tt) s.views h.grid 0 v w there refl (λ g. refl)) (new_view v.next s.base n p m) (new_none v.next s.base n p m) (λ g below. new_link v.next s.base n p m g (s.frame g));
+  turns = grows turn_shape turn_part s.partitions s.partition (λ _. tt) (set s.views 0 w) (steady turn_shape turn_part s.partitions s.partition (λ _. tt) s.views h.turns 0 v w there refl (λ g. refl)) (new_view v.next s.base n p m) (λ q _. new_unheld v.next s.base n p m q) (λ q below. new_hold v.next s.base n p m q (s.partition q));
   apart = h.apart;
   maps = h.maps;
   placed = h.placed;
-  views = views_split s.frames s.partitions s.backends s.views h.views v there room;
-  accounted = accounted_split s.views v w (new_view v.next n p m) h.accounted there refl refl refl;
+  views = views_split s.frames s.partitions s.backends s.views h.views s.base v there room;
+  accounted = accounted_split s.views v w (new_view v.next s.base n p m) h.accounted there refl refl refl;
 }
 
 join_keeps : (s : State) (j : ℕ) (v u : View) → Invariant s → get_elem? s.views 0 ≡ some v → j ≢ 0 → get_elem? s.views j ≡ some u → u.emptied ≡ false → HoldsNothing u → Invariant (joined_state s v j u)

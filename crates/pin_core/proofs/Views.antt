@@ -19,15 +19,15 @@ pub record SameBackend (v w : View) : Type 0 where
 abbrev Wide : ℕ → ℕ → View → Type 0
 Wide frames partitions v = (length v.links ≡ frames) × (length v.partitions ≡ partitions)
 
-pub link_new : (n p m number f : ℕ) → link (new_view number n p m) f ≡ idle
-link_new zero p m number f = refl
-link_new (suc n) p m number zero = refl
-link_new (suc n) p m number (suc f) = link_new n p m number f
+pub link_new : (n p m number base f : ℕ) → link (new_view number base n p m) f ≡ idle
+link_new zero p m number base f = refl
+link_new (suc n) p m number base zero = refl
+link_new (suc n) p m number base (suc f) = link_new n p m number base f
 
-pub hold_new : (n p m number q : ℕ) → hold (new_view number n p m) q ≡ no_partition
-hold_new n zero m number q = refl
-hold_new n (suc p) m number zero = refl
-hold_new n (suc p) m number (suc q) = hold_new n p m number q
+pub hold_new : (n p m number base q : ℕ) → hold (new_view number base n p m) q ≡ no_partition
+hold_new n zero m number base q = refl
+hold_new n (suc p) m number base zero = refl
+hold_new n (suc p) m number base (suc q) = hold_new n p m number base q
 
 module _ (frames partitions backends : ℕ) (views : List View) (h : ViewsLaw frames partitions backends views) where
   pub views_set : (i : ℕ) (v w : View) → get_elem? views i ≡ some v → SameBackend v w → ViewsLaw frames partitions backends (set views i w)
@@ -54,8 +54,8 @@ module _ (frames partitions backends : ℕ) (views : List View) (h : ViewsLaw fr
     few = omega (arith, length-set views j emptied_view, h.few);
   }
 
-  pub views_split : (v : View) → get_elem? views 0 ≡ some v → v.next < backends → ViewsLaw frames partitions backends (set views 0 (record v { next = v.next + 1 }) ++ new_view v.next (length v.links) (length v.partitions) (length v.lanes) ∷ [])
-  views_split v there room = let w : View = record v { next = v.next + 1 } in let b : View = new_view v.next (length v.links) (length v.partitions) (length v.lanes) in let f = h.first v there in
+  pub views_split : (base : ℕ) (v : View) → get_elem? views 0 ≡ some v → v.next < backends → ViewsLaw frames partitions backends (set views 0 (record v { next = v.next + 1 }) ++ new_view v.next base (length v.links) (length v.partitions) (length v.lanes) ∷ [])
+  views_split base v there room = let w : View = record v { next = v.next + 1 } in let b : View = new_view v.next base (length v.links) (length v.partitions) (length v.lanes) in let f = h.first v there in
       let long : length (set views 0 w ++ b ∷ []) ≡ length views + 1 = omega (arith, length-append (set views 0 w) (b ∷ []), length-set views 0 w) in record {
         wide = λ j u e live. ⊎_elim
             (λ (o : get_elem? (set views 0 w) j ≡ some u). ⊎_elim (λ (t : (j ≡ 0) × (w ≡ u)). subst (λ (x : View). Wide frames partitions x) t.1 (h.wide 0 v there f.0)) (λ (t : (j ≢ 0) × (get_elem? views j ≡ some u)). h.wide j u t.1 live) (at_set views 0 j w u o))

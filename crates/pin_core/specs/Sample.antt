@@ -5,14 +5,14 @@ use lib.ListN.{get_elem?}
 use Rattle.pin_core.specs.declared.view.Role.TheVariants.{HandedOut}
 use Rattle.pin_core.specs.declared.view.MapEntry.{MapEntry}
 use Rattle.pin_core.specs.declared.view.View.{View}
-use Rattle.pin_core.specs.State.{Config, State, link, no_tag, zero_word, opening}
+use Rattle.pin_core.specs.State.{CanOpen, Config, State, link, no_tag, zero_word, opening}
 use Rattle.pin_core.specs.Kinds.{pin_mapped, unpin, lock_header, pin_victim, store_tag, assign}
 use Rattle.pin_core.specs.Turns.{take_turn, leave_turn, map_out, change_map, map_back}
 use Rattle.pin_core.specs.Steps.{Event, at, turn, split, Run}
 
 -- two frames, one partition, and room for two backends
 abbrev pub sample_config : Config
-sample_config = record { frames = 2; partitions = 1; partition_of = λ _. 0; lanes = 0; backends = 2 }
+sample_config = record { frames = 2; partitions = 1; partition_of = λ _. 0; lanes = 0; backends = 2; base = 0 }
 
 abbrev pub sample_start : State
 sample_start = opening sample_config []
@@ -41,4 +41,4 @@ pub record SampleEnd (t : State) : Type 0 where
   pub other : ((t.frame 1).tag ≡ no_tag) × ((t.frame 1).word ≡ zero_word)
 
 abbrev pub SampleRuns : Type 0
-SampleRuns = (t : State) × Run sample_events sample_start t × SampleEnd t
+SampleRuns = CanOpen sample_config × ((t : State) × Run sample_events sample_start t × SampleEnd t)

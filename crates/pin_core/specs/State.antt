@@ -49,6 +49,8 @@ pub record State : Type 0 where
   -- how many frames there are, and how many backends there may be
   pub frames : ℕ
   pub backends : ℕ
+  -- where the log begins
+  pub base : ℕ
   -- how many partitions there are, and the partition of each tag (`BufTableHashPartition`)
   pub partitions : ℕ
   pub partition_of : ℕ → ℕ
@@ -89,10 +91,10 @@ abbrev pub no_partition : PartitionHold
 no_partition = record { held = false; change = Settled; out = None; changed = false }
 
 abbrev pub no_lane : LaneHold
-no_lane = record { held = false; out = None; change = lane_change.Untouched; flushed = 0 }
+no_lane = record { held = false; out = None; change = lane_change.Untouched; changed = false; flushed = 0 }
 
 abbrev pub no_log : LogHold
-no_log = record { held = false; out = None; change = log_change.Untouched; appended = None; synced = false }
+no_log = record { held = false; out = None; change = log_change.Untouched; changed = false; appended = None; synced = false }
 
 -- what a view has of the latch of the partition p
 abbrev pub hold : View → ℕ → PartitionHold
@@ -116,9 +118,9 @@ is_pin Victim = true
 abbrev pub pins_frame : ℕ → View → Bool
 pins_frame f v = is_pin (link v f).role
 
--- the view of a new backend with this number: it holds nothing
-abbrev pub new_view : ℕ → ℕ → ℕ → ℕ → View
-new_view number frames partitions lanes = record {
+-- the view of a new backend with this number, over a log that begins at `base`: it holds nothing
+abbrev pub new_view : ℕ → ℕ → ℕ → ℕ → ℕ → View
+new_view number base frames partitions lanes = record {
   number = number;
   next = 0;
   joined = 0;
@@ -127,9 +129,9 @@ new_view number frames partitions lanes = record {
   partitions = replicate partitions no_partition;
   lanes = replicate lanes no_lane;
   log = no_log;
-  flushed = 0;
+  flushed = base;
   calls = [];
-  front = 0;
+  front = base;
   place_loads = 0;
   steps = 0;
   loads = [];
@@ -144,12 +146,12 @@ new_view number frames partitions lanes = record {
 }
 
 -- the view of the first backend: the next number to give is 1
-abbrev pub first_view : ℕ → ℕ → ℕ → View
-first_view frames partitions lanes = record (new_view 0 frames partitions lanes) { next = 1 }
+abbrev pub first_view : ℕ → ℕ → ℕ → ℕ → View
+first_view base frames partitions lanes = record (new_view 0 base frames partitions lanes) { next = 1 }
 
 -- what is left of a view that was joined into the first
 abbrev pub emptied_view : View
-emptied_view = record (new_view 0 0 0 0) { emptied = true }
+emptied_view = record (new_view 0 0 0 0 0) { emptied = true }
 
 abbrev pub sum_of_met : Met → Met → Met
 sum_of_met a b = record { reads = a.reads + b.reads; writes = a.writes + b.writes; logs = a.logs + b.logs }
@@ -177,7 +179,7 @@ local s i f fr w = record s { frame = put s.frame f fr; views = slice_set s.view
 
 -- a new backend takes the next number of the first, whose view is v
 abbrev pub split_state : State → View → State
-split_state s v = record s { views = slice_set s.views 0 (record v { next = v.next + 1 }) ++ new_view v.next (length v.links) (length v.partitions) (length v.lanes) ∷ [] }
+split_state s v = record s { views = slice_set s.views 0 (record v { next = v.next + 1 }) ++ new_view v.next s.base (length v.links) (length v.partitions) (length v.lanes) ∷ [] }
 
 -- backend j, whose view is u, is joined into the first, whose view is v
 abbrev pub joined_state : State → View → ℕ → View → State
@@ -202,6 +204,8 @@ pub record Config : Type 0 where
   pub partition_of : ℕ → ℕ
   pub lanes : ℕ
   pub backends : ℕ
+  -- where the log begins
+  pub base : ℕ
 
 -- there is a backend, and each tag has a partition
 pub record CanOpen (c : Config) : Type 0 where
@@ -213,9 +217,10 @@ abbrev pub opening : Config → Page → State
 opening c page = record {
   frames = c.frames;
   backends = c.backends;
+  base = c.base;
   partitions = c.partitions;
   partition_of = c.partition_of;
   frame = λ _. empty_frame page;
   partition = λ _. empty_partition;
-  views = first_view c.frames c.partitions c.lanes ∷ [];
+  views = first_view c.base c.frames c.partitions c.lanes ∷ [];
 }

@@ -32,15 +32,10 @@ map_after Settled m = m
 map_after (Entering tag f) m = put m tag (Some f)
 map_after (Leaving tag f) m = put m tag None
 
--- the pair that is still to be entered or left out: none where the change under this latch is made
+-- the pair that is still to be entered or left out, and that stays named once the map is back: none where the change under this latch is made
 abbrev pub owed_by : Bool → MapChange → MapChange
 owed_by true change = Settled
 owed_by false change = change
-
--- the pair that is named once the map is back: none where the change under this latch is made
-abbrev pub settled_by : Bool → MapChange → MapChange
-settled_by true change = Settled
-settled_by false change = change
 
 -- the map that is out, which went out as m
 abbrev pub map_now : Bool → MapChange → (ℕ → Option ℕ) → ℕ → Option ℕ
@@ -91,7 +86,7 @@ hold_after take_turn h = record h { held = true }
 hold_after leave_turn h = record h { held = false; changed = false }
 hold_after (map_out entries) h = record h { out = Some entries }
 hold_after change_map h = record h { changed = true }
-hold_after (map_back entries) h = record h { out = None; change = settled_by h.changed h.change }
+hold_after (map_back entries) h = record h { out = None; change = owed_by h.changed h.change }
 
 -- What a kind at the partition p makes of the view
 abbrev pub view_turned : TurnKind → ℕ → PartitionHold → View → View

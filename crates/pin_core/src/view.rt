@@ -130,6 +130,8 @@ pub struct LaneHold {
     /// The lane is out with the backend, and this is what it was when it went out.
     pub out: Option<TakenLane>,
     pub change: LaneChange,
+    /// The one change of the lane under this latch is made.
+    pub changed: bool,
     /// The flushed position as the backend had loaded it when the lane went out.
     pub flushed: u64,
 }
@@ -157,6 +159,8 @@ pub struct LogHold {
     /// The device is out with the backend, and this is what it was when it went out.
     pub out: Option<TakenLog>,
     pub change: LogChange,
+    /// The one change of the log under this latch is made.
+    pub changed: bool,
     /// Under this latch a record was appended, and the log end not stored yet.
     pub appended: Option<[u8; 0]>,
     /// Under this latch a sync was done.
