@@ -7,7 +7,7 @@ use Rattle.pin_core.specs.State.{Frame}
 use Rattle.pin_core.specs.Kinds as pin_kinds
 use Rattle.page_core.specs.State.{Block}
 use Rattle.page_core.specs.Invariant.{page_part, pin_part}
-use Rattle.page_core.specs.Kinds.{Kind, load_content, mark_dirty, share, exclude, unshare, unexclude, take_copy, leave_copy, page_out, overwrite_logged, overwrite_read, page_back, note_read, note_write, make_entry, start_input, start_output, clear_just_dirtied, end_io, Allowed, frame_after, block_after}
+use Rattle.page_core.specs.Kinds.{Kind, load_content, mark_dirty, share, exclude, unshare, unexclude, take_copy, leave_copy, page_out, overwrite_logged, overwrite_read, page_back, note_read, note_write, make_entry, start_input, start_output, clear_just_dirtied, end_io, Allowed, frame_after, block_after, link_after}
 use Rattle.page_core.proofs.KeepingPages as pages
 use Rattle.page_core.proofs.KeepingPages.{Keeps_by, Keeps_by_pins}
 use Rattle.page_core.proofs.KeepingPins as pins
@@ -80,6 +80,28 @@ tag_kept start_input b fr = refl
 tag_kept start_output b fr = refl
 tag_kept clear_just_dirtied b fr = refl
 tag_kept (end_io end) b fr = refl
+
+-- nor a pin
+pub role_kept : (k : Kind) (b : Block) (fr : Frame) (l : Link) → (link_after k b fr l).role ≡ l.role
+role_kept load_content b fr l = refl
+role_kept mark_dirty b fr l = refl
+role_kept share b fr l = refl
+role_kept exclude b fr l = refl
+role_kept unshare b fr l = refl
+role_kept unexclude b fr l = refl
+role_kept take_copy b fr l = refl
+role_kept leave_copy b fr l = refl
+role_kept page_out b fr l = refl
+role_kept overwrite_logged b fr l = refl
+role_kept (overwrite_read p) b fr l = refl
+role_kept page_back b fr l = refl
+role_kept (note_read p) b fr l = refl
+role_kept (note_write done) b fr l = refl
+role_kept (make_entry p) b fr l = refl
+role_kept start_input b fr l = refl
+role_kept start_output b fr l = refl
+role_kept clear_just_dirtied b fr l = refl
+role_kept (end_io end) b fr l = refl
 
 -- a kind leaves the block as it is, but for one under the exclusive lock
 pub block_kept : (k : Kind) (b : Block) (fr : Frame) (l : Link) → Allowed k b fr l → (block_after k b ≡ b) ⊎ (l.content ≡ Exclusive)

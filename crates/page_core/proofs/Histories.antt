@@ -1,5 +1,5 @@
 -- What the law says in the field's words.
-use Rattle.std.proofs.Common.{◌≡◌, ◌≢◌, ℕ, ◌+◌, ◌<◌, ◌≤◌, Bool, true, false, cond, None, sym, refl, ap, ◌∙◌, arith}
+use Rattle.std.proofs.Common.{◌≡◌, ◌≢◌, ℕ, ◌+◌, ◌<◌, ◌≤◌, Bool, true, false, cond, List, None, sym, refl, ap, subst, ◌∙◌, arith}
 use Rattle.std.specs.Prelude.{count_by, if◌then◌else◌}
 use mathlib.Core.Logic.{dite}
 use native.Mathlib.Decide.{ℕ_discrete}
@@ -14,14 +14,42 @@ use Rattle.pin_core.specs.Tallies.{flag_weight}
 use Rattle.page_core.specs.State.{Block, State, block_of}
 use Rattle.page_core.specs.Tallies.{Tally, sharers, applied_locks, unapplied_locks, copies, works, weigh, share_weight, exclusive_weight, work_weight, page_shape}
 use Rattle.page_core.specs.Invariant.{PageFrame, PageLink, Invariant}
-use Rattle.page_core.specs.Histories.{IsReached, is_shared, is_exclusive, is_working, shares, excludes, works_on, ContentLocks, OneIo, RightsNeedPins, OnePageOut, FramesHoldPages, CopiesArePages}
+use Rattle.page_core.specs.Histories.{IsReached, HasNoUnpin, PinnedTagsStay, is_shared, is_exclusive, is_working, shares, excludes, works_on, ContentLocks, OneIo, RightsNeedPins, OnePageOut, FramesHoldPages, CopiesArePages}
 use Rattle.grid.specs.Shape.{tallies, total}
 use Rattle.grid.proofs.Sums.{total-count, total-add, total-same, total-none, terms_le}
+use Rattle.grid.proofs.Grids.{Relinks}
+use Rattle.pin_core.specs.Kinds.{unpin}
+use Rattle.pin_core.specs.Steps as pin_steps
+use Rattle.pin_core.specs.Schedules.{IsHandedOut}
+use Rattle.pin_core.proofs.Stepping.{tags_stay}
+use Rattle.pin_core.proofs.Schedules as pin_schedules
+use Rattle.pin_core.proofs.Schedules.{Stays, view_stays, tag_there}
+use Rattle.page_core.specs.Kinds.{Kind, frame_after, link_after, view_after}
+use Rattle.page_core.specs.Steps.{Event, pins_and_maps, Step, cores, touches, Run, rests, goes}
+use Rattle.page_core.proofs.Cases.{tag_kept, role_kept}
 use Rattle.page_core.proofs.Opening.{opens}
-use Rattle.page_core.proofs.Stepping.{run_keeps}
+use Rattle.page_core.proofs.Stepping.{relinked, step_keeps, run_keeps}
 
 pub reached : (s : State) → IsReached s → Invariant s
 reached s r = run_keeps r.run (opens r.config r.origin r.page r.opens)
+
+same_role : (s : State) (f g : ℕ) (k : Kind) (b : Block) (u : View) → Relinks page_shape u (view_after k g b (s.core.frame g) (link u g) u) g (link_after k b (s.core.frame g) (link u g)) → (link (view_after k g b (s.core.frame g) (link u g) u) f).role ≡ (link u f).role
+same_role s f g k b u r = dite (ℕ_discrete f g)
+    (λ e. subst (λ (z : ℕ). (link (view_after k g b (s.core.frame g) (link u g) u) z).role ≡ (link u z).role) (sym e) (ap (λ (x : Link). x.role) r.here ∙ role_kept k b (s.core.frame g) (link u g)))
+    (λ o. ap (λ (x : Link). x.role) (r.else f o))
+
+step_stays : {e : Event} {s t : State} (i f : ℕ) → Step e s t → Invariant s → IsHandedOut s.core i f → e ≢ pins_and_maps (pin_steps.at i f unpin) → Stays s.core t.core i f
+step_stays i f (cores {s = s} x) h out other = pin_schedules.step_stays i f x h.core out (λ q. other (ap pins_and_maps q))
+step_stays i f (touches {s = s} j g k u here live inside a around) h out other = let b = block_of s.logged (s.core.frame g).tag in
+    let x = view_stays s.core.views i j f out.0 u (view_after k g b (s.core.frame g) (link u g) u) out.1 out.3 here (same_role s f g k b u (relinked s h j g u here live inside k a)) in
+    ((x.0, x.1, out.2, x.2), tags_stay s.core.frame g (frame_after k b (s.core.frame g)) (tag_kept k b (s.core.frame g)) f)
+
+run_stays : {es : List Event} {s t : State} (i f : ℕ) → Run es s t → Invariant s → IsHandedOut s.core i f → HasNoUnpin i f es → Stays s.core t.core i f
+run_stays i f rests h out none = (out, refl)
+run_stays i f (goes x r) h out none = let a = step_stays i f x h out none.0 in let b = run_stays i f r (step_keeps x h) a.0 none.1 in (b.0, b.1 ∙ a.1)
+
+pub stay : (s : State) → Invariant s → PinnedTagsStay s
+stay s h i f es t out none r = let x = run_stays i f r h out none in (record { had = tag_there s.core i f h.core out; has = tag_there t.core i f (run_keeps r h).core x.0; same = x.1 }, x.0)
 
 one_sharer : (c : Content) → share_weight c ≡ cond (is_shared c) 1 0
 one_sharer Unlocked = refl

@@ -56,13 +56,13 @@ module _ (s : State) (h : Invariant s) (i f : ℕ) (v : View) (there : get_elem?
 
   -- a step of one of this crate's kinds
   module _ (k : Kind) (a : Allowed k b fr l) where
-    abbrev w : View
+    abbrev pub w : View
     w = view_after k f b fr l v
 
     abbrev logged' : ℕ → Page
     logged' = logged_after k s.logged fr.tag
 
-    relinked : Relinks page_shape v w f (link_after k b fr l)
+    pub relinked : Relinks page_shape v w f (link_after k b fr l)
     relinked = record { own = refl; here = get_or-set_same v.links f (link_after k b fr l) idle wide; else = λ g other. get_or-set_other v.links f g (link_after k b fr l) idle other }
 
     named : l.content ≡ Exclusive → fr.tag ≢ no_tag

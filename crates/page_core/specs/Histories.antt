@@ -1,5 +1,5 @@
 -- What every list of events keeps of content locks, pages, input and output, in the field's words.
-use Rattle.std.specs.Prelude.{◌≡◌, ◌≢◌, ℕ, ◌<◌, Bool, true, false, List, Some, None, count_by, if◌then◌else◌}
+use Rattle.std.specs.Prelude.{◌≡◌, ◌≢◌, ℕ, ◌<◌, Bool, true, false, List, [], ◌∷◌, Some, None, count_by, if◌then◌else◌}
 use mathlib.Core.Option.{some}
 use lib.ListN.{get_elem?}
 use Rattle.pin_core.specs.declared.view.Content.{Content}
@@ -10,8 +10,20 @@ use Rattle.pin_core.specs.declared.view.Role.TheVariants.{Absent}
 use Rattle.pin_core.specs.declared.view.View.{View}
 use Rattle.pin_core.specs.State.{Page, Config, CanOpen, link}
 use Rattle.pin_core.specs.Invariant.{HasTag}
+use Rattle.pin_core.specs.Kinds.{unpin}
+use Rattle.pin_core.specs.Steps as pin_steps
+use Rattle.pin_core.specs.Schedules.{IsHandedOut, KeepsTag}
 use Rattle.page_core.specs.State.{State, opening}
-use Rattle.page_core.specs.Steps.{Event, Run}
+use Rattle.page_core.specs.Steps.{Event, pins_and_maps, Run}
+
+-- none of the events is the unpin of the frame f by backend i
+abbrev pub HasNoUnpin : ℕ → ℕ → List Event → Type 0
+HasNoUnpin i f [] = Unit {0}
+HasNoUnpin i f (e ∷ es) = (e ≢ pins_and_maps (pin_steps.at i f unpin)) × HasNoUnpin i f es
+
+-- while a handed-out pin of it is held a frame keeps its tag, whatever the backends do
+abbrev pub PinnedTagsStay : State → Type 0
+PinnedTagsStay s = (i f : ℕ) (es : List Event) (t : State) → IsHandedOut s.core i f → HasNoUnpin i f es → Run es s t → KeepsTag s.core t.core f × IsHandedOut t.core i f
 
 -- a list of events leads to the state, from the start of a buffer pool whose lanes hold `origin`
 pub record IsReached (s : State) : Type 0 where

@@ -5,11 +5,12 @@
 
 ghost use Rattle.std.specs.Prelude.{ℕ, ◌<◌, List};
 ghost use Rattle.pin_core.specs.State.{CanOpen, Config, Page};
-ghost use Rattle.pin_core.specs.Schedules.{TagsAreUnique, PinsAreCounted, PinsRemember, MapsAreExact};
+ghost use Rattle.pin_core.specs.Schedules.{TagsAreUnique, PinsAreCounted, PinsAreFew, HeadersAreHeld, HoldersHaveTheWord, PinsRemember, MapsAreExact, TurnsAreHeld};
+ghost use Rattle.pin_core.specs.Invariant.{AllAccounted};
 ghost use Rattle.page_core.specs.State.{State, opening};
 ghost use Rattle.page_core.specs.Invariant.{Invariant};
 ghost use Rattle.page_core.specs.Steps.{Event, Run};
-ghost use Rattle.page_core.specs.Histories.{IsReached, ContentLocks, OneIo, RightsNeedPins, OnePageOut, FramesHoldPages, CopiesArePages};
+ghost use Rattle.page_core.specs.Histories.{IsReached, PinnedTagsStay, ContentLocks, OneIo, RightsNeedPins, OnePageOut, FramesHoldPages, CopiesArePages};
 ghost use Rattle.page_core.specs.Sample.{SampleRuns};
 
 /// What every list of events keeps, whatever the backends do and in whatever order.
@@ -20,9 +21,15 @@ pub fn all_histories()
 
     // So in every state that events lead to, of pins, tags and maps:
     ensures counted { (s : State) → IsReached s → PinsAreCounted s.core }
+    ensures few { (s : State) → IsReached s → PinsAreFew s.core }
+    ensures accounted { (s : State) → IsReached s → AllAccounted s.core.views }
+    ensures held { (s : State) → IsReached s → HeadersAreHeld s.core }
+    ensures holders { (s : State) → IsReached s → HoldersHaveTheWord s.core }
     ensures unique { (s : State) → IsReached s → TagsAreUnique s.core }
+    ensures stay { (s : State) → IsReached s → PinnedTagsStay s }
     ensures exact { (s : State) → IsReached s → MapsAreExact s.core }
     ensures remembers { (s : State) → IsReached s → PinsRemember s.core }
+    ensures taken { (s : State) → IsReached s → TurnsAreHeld s.core }
 
     // and of content locks, pages, input and output:
     ensures locks { (s : State) (f : ℕ) → IsReached s → f < s.core.frames → ContentLocks s f }

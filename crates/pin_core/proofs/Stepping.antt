@@ -26,7 +26,7 @@ use Rattle.pin_core.proofs.Cases.{TagKnown, kind_keeps}
 use Rattle.pin_core.proofs.Views.{SameBackend, views_set, views_emptied, views_split, joined_same, link_new, hold_new, accounted_set, accounted_split, accounted_join}
 
 -- the tag words, where that of the frame f stays
-tags_stay : (frame : ℕ → Frame) (f : ℕ) (fr : Frame) → fr.tag ≡ (frame f).tag → (g : ℕ) → (put frame f fr g).tag ≡ (frame g).tag
+pub tags_stay : (frame : ℕ → Frame) (f : ℕ) (fr : Frame) → fr.tag ≡ (frame f).tag → (g : ℕ) → (put frame f fr g).tag ≡ (frame g).tag
 tags_stay frame f fr e g = dite (ℕ_discrete g f) (λ same. ap (λ (x : Frame). x.tag) ((puts frame f fr g).same same) ∙ e ∙ ap (λ (z : ℕ). (frame z).tag) (sym same)) (λ o. ap (λ (x : Frame). x.tag) ((puts frame f fr g).other o))
 
 -- One frame and one view change, and no tag word: what a crate above has to show of a kind of its own

@@ -1,7 +1,7 @@
 use Rattle.pin_core.proofs.Schedules as pins
 use Rattle.page_core.proofs.Opening.{opens}
 use Rattle.page_core.proofs.Stepping.{run_keeps}
-use Rattle.page_core.proofs.Histories.{reached, locks, one_io, rights, one_out, frames_hold, copies_are}
+use Rattle.page_core.proofs.Histories.{reached, stay, locks, one_io, rights, one_out, frames_hold, copies_are}
 use Rattle.page_core.proofs.all_histories.Goals as goal
 
 pub returns-clause-kept : goal.returns-clause-kept
@@ -15,6 +15,24 @@ returns-clause-counted c = λ s r. pins.counted s.core (reached s r).core
 
 pub returns-clause-unique : goal.returns-clause-unique
 returns-clause-unique c = λ s r. pins.unique s.core (reached s r).core
+
+pub returns-clause-few : goal.returns-clause-few
+returns-clause-few c = λ s r. pins.few s.core (reached s r).core
+
+pub returns-clause-accounted : goal.returns-clause-accounted
+returns-clause-accounted c = λ s r. (reached s r).core.accounted
+
+pub returns-clause-held : goal.returns-clause-held
+returns-clause-held c = λ s r. pins.held s.core (reached s r).core
+
+pub returns-clause-holders : goal.returns-clause-holders
+returns-clause-holders c = λ s r. pins.holders s.core (reached s r).core
+
+pub returns-clause-taken : goal.returns-clause-taken
+returns-clause-taken c = λ s r. pins.taken s.core (reached s r).core
+
+pub returns-clause-stay : goal.returns-clause-stay
+returns-clause-stay c = λ s r. stay s (reached s r)
 
 pub returns-clause-exact : goal.returns-clause-exact
 returns-clause-exact c = λ s r. pins.exact s.core (reached s r).core
