@@ -14,7 +14,7 @@ use Rattle.pin_core.specs.Tallies.{flag_weight}
 use Rattle.page_core.specs.State.{Block, State, block_of}
 use Rattle.page_core.specs.Tallies.{Tally, sharers, applied_locks, unapplied_locks, copies, works, weigh, share_weight, exclusive_weight, work_weight, page_shape}
 use Rattle.page_core.specs.Invariant.{PageFrame, PageLink, Invariant}
-use Rattle.page_core.specs.Histories.{IsReached, HasNoUnpin, PinnedTagsStay, is_shared, is_exclusive, is_working, shares, excludes, works_on, ContentLocks, OneIo, RightsNeedPins, OnePageOut, FramesHoldPages, CopiesArePages}
+use Rattle.page_core.specs.Histories.{IsReached, HasNoUnpin, PinnedTagsStay, is_shared, is_exclusive, is_working, shares, excludes, works_on, ContentLocks, OneIo, copies_at, CopyLatches, DirtiedFramesAreDirty, RightsNeedPins, OnePageOut, FramesHoldPages, CopiesArePages}
 use Rattle.grid.specs.Shape.{tallies, total}
 use Rattle.grid.proofs.Sums.{total-count, total-add, total-same, total-none, terms_le}
 use Rattle.grid.proofs.Grids.{Relinks}
@@ -91,6 +91,15 @@ module _ (s : State) (h : Invariant s) where
 
   pub one_io : (f : ℕ) → f < s.core.frames → OneIo s f
   one_io f below = sym (total-count (λ (v : View). weigh works (link v f)) (works_on f) (λ v. one_worker (link v f).io) s.core.views) ∙ sym (h.pages.columns f below).working ∙ flag_count (s.core.frame f).word.in_progress
+
+  pub copy_latches : (f : ℕ) → f < s.core.frames → CopyLatches s f
+  copy_latches f below = record {
+    one = sym (total-count (λ (v : View). weigh copies (link v f)) (copies_at f) (λ v. flag_count (link v f).copying) s.core.views) ∙ sym (h.pages.columns f below).copying ∙ flag_count (s.core.frame f).copying;
+    sharer = λ i v there e. (h.pages.cells i v f there below).copying e;
+  }
+
+  pub dirtied : DirtiedFramesAreDirty s
+  dirtied i f v there below e = let x = (h.pages.cells i v f there below).dirtied e in (x.dirty, x.just, x.right)
 
   pub rights : RightsNeedPins s
   rights = record {

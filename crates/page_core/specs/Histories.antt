@@ -69,6 +69,19 @@ pub record ContentLocks (s : State) (f : ℕ) : Type 0 where
 abbrev pub OneIo : State → ℕ → Type 0
 OneIo s f = count_by (works_on f) s.core.views ≡ (if (s.core.frame f).word.in_progress then 1 else 0)
 
+-- whether the view has the copy latch of the frame f
+abbrev pub copies_at : ℕ → View → Bool
+copies_at f v = (link v f).copying
+
+-- The copy latch is one sharer's where the content word's copy bit stands, and no one's where it doesn't
+pub record CopyLatches (s : State) (f : ℕ) : Type 0 where
+  pub one : count_by (copies_at f) s.core.views ≡ (if (s.core.frame f).copying then 1 else 0)
+  pub sharer : (i : ℕ) (v : View) → get_elem? s.core.views i ≡ some v → (link v f).copying ≡ true → (link v f).content ≡ Shared
+
+-- a frame that a view has marked dirty under its exclusive lock has BM_DIRTY and BM_JUST_DIRTIED, and the lock is held still
+abbrev pub DirtiedFramesAreDirty : State → Type 0
+DirtiedFramesAreDirty s = (i f : ℕ) (v : View) → get_elem? s.core.views i ≡ some v → f < s.core.frames → (link v f).dirtied ≡ true → ((s.core.frame f).word.dirty ≡ true) × ((s.core.frame f).word.just_dirtied ≡ true) × ((link v f).content ≡ Exclusive)
+
 -- What a lock or right of a view says of its pin and its frame
 pub record RightsNeedPins (s : State) : Type 0 where
   -- a content lock needs a pin and a valid frame

@@ -5,12 +5,12 @@
 
 ghost use Rattle.std.specs.Prelude.{ℕ, ◌<◌, List};
 ghost use Rattle.pin_core.specs.State.{CanOpen, Config, Page};
-ghost use Rattle.pin_core.specs.Schedules.{TagsAreUnique, PinsAreCounted, PinsAreFew, HeadersAreHeld, HoldersHaveTheWord, PinsRemember, MapsAreExact, TurnsAreHeld};
+ghost use Rattle.pin_core.specs.Schedules.{UsagesAreLow, UntaggedFramesHaveOnePin, FlagsMatchTags, SeenFramesAreValid, TagsAreUnique, PinsAreCounted, PinsAreFew, HeadersAreHeld, HoldersHaveTheWord, PinsRemember, MapsAreExact, TurnsAreHeld};
 ghost use Rattle.pin_core.specs.Invariant.{AllAccounted};
 ghost use Rattle.page_core.specs.State.{State, opening};
 ghost use Rattle.page_core.specs.Invariant.{Invariant};
 ghost use Rattle.page_core.specs.Steps.{Event, Run};
-ghost use Rattle.page_core.specs.Histories.{IsReached, PinnedTagsStay, ContentLocks, OneIo, RightsNeedPins, OnePageOut, FramesHoldPages, CopiesArePages};
+ghost use Rattle.page_core.specs.Histories.{IsReached, PinnedTagsStay, ContentLocks, OneIo, RightsNeedPins, CopyLatches, DirtiedFramesAreDirty, OnePageOut, FramesHoldPages, CopiesArePages};
 ghost use Rattle.page_core.specs.Sample.{SampleRuns};
 
 /// What every list of events keeps, whatever the backends do and in whatever order.
@@ -28,6 +28,10 @@ pub fn all_histories()
     ensures unique { (s : State) → IsReached s → TagsAreUnique s.core }
     ensures stay { (s : State) → IsReached s → PinnedTagsStay s }
     ensures exact { (s : State) → IsReached s → MapsAreExact s.core }
+    ensures usages { (s : State) → IsReached s → UsagesAreLow s.core }
+    ensures untagged { (s : State) → IsReached s → UntaggedFramesHaveOnePin s.core }
+    ensures flags { (s : State) → IsReached s → FlagsMatchTags s.core }
+    ensures seen { (s : State) → IsReached s → SeenFramesAreValid s.core }
     ensures remembers { (s : State) → IsReached s → PinsRemember s.core }
     ensures taken { (s : State) → IsReached s → TurnsAreHeld s.core }
 
@@ -35,6 +39,8 @@ pub fn all_histories()
     ensures locks { (s : State) (f : ℕ) → IsReached s → f < s.core.frames → ContentLocks s f }
     ensures one_io { (s : State) (f : ℕ) → IsReached s → f < s.core.frames → OneIo s f }
     ensures rights { (s : State) → IsReached s → RightsNeedPins s }
+    ensures copy_latches { (s : State) (f : ℕ) → IsReached s → f < s.core.frames → CopyLatches s f }
+    ensures dirtied { (s : State) → IsReached s → DirtiedFramesAreDirty s }
     ensures one_out { (s : State) → IsReached s → OnePageOut s }
     ensures frames_hold { (s : State) → IsReached s → FramesHoldPages s }
     ensures copies_are { (s : State) → IsReached s → CopiesArePages s }

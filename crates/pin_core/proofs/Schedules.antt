@@ -10,16 +10,16 @@ use Rattle.pin_core.specs.declared.view.Role.{Role}
 use Rattle.pin_core.specs.declared.view.Role.TheVariants.{Absent, HandedOut, Victim}
 use Rattle.pin_core.specs.declared.view.Link.{Link}
 use Rattle.pin_core.specs.declared.view.View.{View}
-use Rattle.pin_core.specs.State.{Frame, State, link, hold, is_pin, pins_frame, new_view, joined_view, emptied_view}
+use Rattle.pin_core.specs.State.{Frame, State, no_tag, link, hold, is_pin, pins_frame, new_view, joined_view, emptied_view}
 use Rattle.pin_core.specs.Tallies.{Tally, pins, headers, weigh, pin_weight, some_weight, flag_weight, frame_shape}
-use Rattle.pin_core.specs.Invariant.{FrameLaw, HasTag, Invariant}
+use Rattle.pin_core.specs.Invariant.{FrameLaw, HasTag, TagsAgree, Invariant}
 use Rattle.pin_core.specs.Kinds.{Kind, load_state, pin, pin_mapped, unpin, lock_header, unlock_header, store_tag, erase_tag, load_tag, pin_victim, lower_usage, assign, clear, Allowed, frame_after, link_after, view_after}
 use Rattle.pin_core.specs.Steps.{HoldsNothing, state_after, Event, at, Step, touches, turns, splits, joins, Run, rests, goes}
 use Rattle.pin_core.specs.Turns.{view_turned}
 use Rattle.pin_core.specs.Maps.{PairLaw}
 use Rattle.pin_core.specs.declared.view.MapChange.{MapChange}
 use Rattle.pin_core.specs.declared.view.MapChange.TheVariants.{Entering, Leaving}
-use Rattle.pin_core.specs.Schedules.{IsReached, TagsAreUnique, PinsAreFew, PinsAreCounted, HeadersAreHeld, is_held, holds_header, holds_turn, HoldersHaveTheWord, PinsRemember, MapsAreExact, TurnsAreHeld, IsHandedOut, HasNoUnpin, PinnedTagsStay}
+use Rattle.pin_core.specs.Schedules.{IsReached, UsagesAreLow, UntaggedFramesHaveOnePin, FlagsMatchTags, SeenFramesAreValid, TagsAreUnique, PinsAreFew, PinsAreCounted, HeadersAreHeld, is_held, holds_header, holds_turn, HoldersHaveTheWord, PinsRemember, MapsAreExact, TurnsAreHeld, IsHandedOut, HasNoUnpin, PinnedTagsStay}
 use Rattle.grid.specs.Shape.{tallies}
 use Rattle.grid.proofs.Lists.{set_here, set_else, at_longer, put_at, put_else}
 use Rattle.grid.proofs.Sums.{total-count, total-few, term_le, terms_le}
@@ -74,11 +74,43 @@ module _ (s : State) (h : Invariant s) where
   pub holders : HoldersHaveTheWord s
   holders i f v w there below e = (h.grid.cells i v f there below).header w e
 
-  pub exact : MapsAreExact s
-  exact tag f named below not_entering not_leaving = exactly ((s.partition (s.partition_of tag)).map tag) (s.partition (s.partition_of tag)).owed (s.frame f).tag tag f (h.maps.pairs tag f named below) not_entering not_leaving
+  -- where no header is locked no tag word was stored that isn't settled
+  flags_match : (fr : Frame) (t : Tally → ℕ) → FrameLaw fr t → fr.word.locked ≡ false → TagsAgree fr
+  flags_match fr t c free = grind (arith, c, free)
+
+  flagged : (fr : Frame) → TagsAgree fr → fr.tag ≢ no_tag → fr.word.tag_valid ≡ true
+  flagged fr a named = grind (arith, a, named)
+
+  pub usages : UsagesAreLow s
+  usages f below = (h.grid.columns f below).usage
+
+  pub untagged : UntaggedFramesHaveOnePin s
+  untagged f below = (h.grid.columns f below).untagged_few
+
+  pub flags : FlagsMatchTags s
+  flags f below free = let a = flags_match (s.frame f) (tallies frame_shape s.views f) (h.grid.columns f below) free in (a.flagged, flagged (s.frame f) a)
+
+  pub seen : SeenFramesAreValid s
+  seen i f v there below e = (h.grid.cells i v f there below).seen e
+
+  -- the frame that a map gives for a tag has it as its tag word, unless the pair is being left out
+  given : (p tag f : ℕ) → (s.partition p).map tag ≡ Some f → (s.partition p).owed ≢ Leaving tag f → (s.frame f).tag ≡ tag
+  given p tag f e not_leaving = let pair = h.maps.mapped p tag f e in let x = h.maps.pairs tag f pair.named pair.inside in dite (ℕ_discrete (s.frame f).tag tag) (λ y. y)
+      (λ n. absurd (not_leaving (subst (λ (z : ℕ). (s.partition z).owed ≡ Leaving tag f) pair.placed (x.found (subst (λ (z : ℕ). (s.partition z).map tag ≡ Some f) (sym pair.placed) e) n))))
+
+  exact_pairs : (tag f : ℕ) → tag ≢ no_tag → f < s.frames → let part = s.partition (s.partition_of tag) in part.owed ≢ Entering tag f → part.owed ≢ Leaving tag f → (part.map tag ≡ Some f) ↔ ((s.frame f).tag ≡ tag)
+  exact_pairs tag f named below not_entering not_leaving = exactly ((s.partition (s.partition_of tag)).map tag) (s.partition (s.partition_of tag)).owed (s.frame f).tag tag f (h.maps.pairs tag f named below) not_entering not_leaving
     where
       exactly : (o : Option ℕ) (owed : MapChange) (word tag f : ℕ) → PairLaw o owed word tag f → owed ≢ Entering tag f → owed ≢ Leaving tag f → (o ≡ Some f) ↔ (word ≡ tag)
       exactly o owed word tag f x a b = ((λ e. dite (ℕ_discrete word tag) (λ y. y) (λ n. absurd (b (x.found e n)))), (λ e. gives_holder o owed tag f (subst (λ (z : ℕ). PairLaw o owed z tag f) e x) a))
+
+  pub exact : MapsAreExact s
+  exact = record {
+    exact = exact_pairs;
+    tagged = λ p tag f e not_leaving free. let pair = h.maps.mapped p tag f e in let is = given p tag f e not_leaving in let named : (s.frame f).tag ≢ no_tag = (λ n. pair.named (sym is ∙ n)) in
+        (record { flagged = (flags f pair.inside free).1 named; named = named }, is);
+    own = h.maps.mapped;
+  }
 
   pub taken : TurnsAreHeld s
   taken p below = (sym (total-count (λ (v : View). flag_weight (hold v p).held) (holds_turn p) (λ v. one (hold v p).held) s.views) ∙ sym (h.turns.columns p below).taken ∙ one (s.partition p).taken, (h.turns.columns p below).free)

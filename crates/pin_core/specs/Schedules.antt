@@ -8,6 +8,7 @@ use Rattle.pin_core.specs.declared.view.MapChange.TheVariants.{Settled, Entering
 use Rattle.pin_core.specs.declared.view.View.{View}
 use Rattle.pin_core.specs.State.{Page, State, Config, CanOpen, no_tag, link, hold, pins_frame, opening}
 use Rattle.pin_core.specs.Invariant.{HasTag}
+use Rattle.pin_core.specs.Maps.{IsPair}
 use Rattle.pin_core.specs.Kinds.{unpin}
 use Rattle.pin_core.specs.Steps.{Event, at, Run}
 
@@ -70,9 +71,30 @@ pub record KeepsTag (s t : State) (f : ℕ) : Type 0 where
 abbrev pub PinnedTagsStay : State → Type 0
 PinnedTagsStay s = (i f : ℕ) (es : List Event) (t : State) → IsHandedOut s i f → HasNoUnpin i f es → Run es s t → KeepsTag s t f × IsHandedOut t i f
 
--- a partition's map gives a frame for a tag exactly where the frame's tag word is that tag, but for the pair in change
-abbrev pub MapsAreExact : State → Type 0
-MapsAreExact s = (tag f : ℕ) → tag ≢ no_tag → f < s.frames → let part = s.partition (s.partition_of tag) in part.owed ≢ Entering tag f → part.owed ≢ Leaving tag f → (part.map tag ≡ Some f) ↔ ((s.frame f).tag ≡ tag)
+-- the usage count is at most 5 (`BM_MAX_USAGE_COUNT`)
+abbrev pub UsagesAreLow : State → Type 0
+UsagesAreLow s = (f : ℕ) → f < s.frames → (s.frame f).word.usage ≤ 5
+
+-- a frame whose tag word is all ones has at most one pin
+abbrev pub UntaggedFramesHaveOnePin : State → Type 0
+UntaggedFramesHaveOnePin s = (f : ℕ) → f < s.frames → (s.frame f).tag ≡ no_tag → (s.frame f).word.pins ≤ 1
+
+-- where the header isn't locked BM_TAG_VALID stands exactly where the tag word isn't all ones
+abbrev pub FlagsMatchTags : State → Type 0
+FlagsMatchTags s = (f : ℕ) → f < s.frames → (s.frame f).word.locked ≡ false → ((s.frame f).word.tag_valid ≡ true) ↔ ((s.frame f).tag ≢ no_tag)
+
+-- a frame is valid where a pin of it has seen BM_VALID
+abbrev pub SeenFramesAreValid : State → Type 0
+SeenFramesAreValid s = (i f : ℕ) (v : View) → get_elem? s.views i ≡ some v → f < s.frames → (link v f).seen_valid ≡ true → (s.frame f).word.valid ≡ true
+
+-- The maps of the partitions give the frames of their tags, but for the pair in change
+pub record MapsAreExact (s : State) : Type 0 where
+  -- a map gives a frame for a tag exactly where the frame's tag word is that tag
+  pub exact : (tag f : ℕ) → tag ≢ no_tag → f < s.frames → let part = s.partition (s.partition_of tag) in part.owed ≢ Entering tag f → part.owed ≢ Leaving tag f → (part.map tag ≡ Some f) ↔ ((s.frame f).tag ≡ tag)
+  -- where the header of that frame isn't locked the frame has the tag
+  pub tagged : (p tag f : ℕ) → (s.partition p).map tag ≡ Some f → (s.partition p).owed ≢ Leaving tag f → (s.frame f).word.locked ≡ false → HasTag (s.frame f) × ((s.frame f).tag ≡ tag)
+  -- a map has only tags of its own partition, and only frames that are there
+  pub own : (p tag f : ℕ) → (s.partition p).map tag ≡ Some f → IsPair s.frames s.partition_of p tag f
 
 -- whether the view holds the latch of the partition p
 abbrev pub holds_turn : ℕ → View → Bool

@@ -8,7 +8,7 @@ ghost use Rattle.pin_core.specs.State.{CanOpen, Config, Page, State, opening};
 ghost use Rattle.pin_core.specs.Invariant.{AllAccounted, Invariant};
 ghost use Rattle.pin_core.specs.Steps.{Event, Run};
 ghost use Rattle.pin_core.specs.Sample.{SampleRuns};
-ghost use Rattle.pin_core.specs.Schedules.{IsReached, TagsAreUnique, PinsAreCounted, PinsAreFew, HeadersAreHeld, HoldersHaveTheWord, PinsRemember, PinnedTagsStay, MapsAreExact, TurnsAreHeld};
+ghost use Rattle.pin_core.specs.Schedules.{IsReached, UsagesAreLow, UntaggedFramesHaveOnePin, FlagsMatchTags, SeenFramesAreValid, TagsAreUnique, PinsAreCounted, PinsAreFew, HeadersAreHeld, HoldersHaveTheWord, PinsRemember, PinnedTagsStay, MapsAreExact, TurnsAreHeld};
 
 mod view;
 
@@ -31,6 +31,10 @@ pub fn all_schedules()
     ensures few { (s : State) → IsReached s → PinsAreFew s }
     ensures held { (s : State) → IsReached s → HeadersAreHeld s }
     ensures holders { (s : State) → IsReached s → HoldersHaveTheWord s }
+    ensures usages { (s : State) → IsReached s → UsagesAreLow s }
+    ensures untagged { (s : State) → IsReached s → UntaggedFramesHaveOnePin s }
+    ensures flags { (s : State) → IsReached s → FlagsMatchTags s }
+    ensures seen { (s : State) → IsReached s → SeenFramesAreValid s }
     ensures remembers { (s : State) → IsReached s → PinsRemember s }
     ensures exact { (s : State) → IsReached s → MapsAreExact s }
     ensures taken { (s : State) → IsReached s → TurnsAreHeld s }

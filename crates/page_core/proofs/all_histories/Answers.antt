@@ -1,7 +1,7 @@
 use Rattle.pin_core.proofs.Schedules as pins
 use Rattle.page_core.proofs.Opening.{opens}
 use Rattle.page_core.proofs.Stepping.{run_keeps}
-use Rattle.page_core.proofs.Histories.{reached, stay, locks, one_io, rights, one_out, frames_hold, copies_are}
+use Rattle.page_core.proofs.Histories.{reached, stay, copy_latches, dirtied, locks, one_io, rights, one_out, frames_hold, copies_are}
 use Rattle.page_core.proofs.all_histories.Goals as goal
 
 pub returns-clause-kept : goal.returns-clause-kept
@@ -33,6 +33,24 @@ returns-clause-taken c = λ s r. pins.taken s.core (reached s r).core
 
 pub returns-clause-stay : goal.returns-clause-stay
 returns-clause-stay c = λ s r. stay s (reached s r)
+
+pub returns-clause-usages : goal.returns-clause-usages
+returns-clause-usages c = λ s r. pins.usages s.core (reached s r).core
+
+pub returns-clause-untagged : goal.returns-clause-untagged
+returns-clause-untagged c = λ s r. pins.untagged s.core (reached s r).core
+
+pub returns-clause-flags : goal.returns-clause-flags
+returns-clause-flags c = λ s r. pins.flags s.core (reached s r).core
+
+pub returns-clause-seen : goal.returns-clause-seen
+returns-clause-seen c = λ s r. pins.seen s.core (reached s r).core
+
+pub returns-clause-copy_latches : goal.returns-clause-copy_latches
+returns-clause-copy_latches c = λ s f r below. copy_latches s (reached s r) f below
+
+pub returns-clause-dirtied : goal.returns-clause-dirtied
+returns-clause-dirtied c = λ s r. dirtied s (reached s r)
 
 pub returns-clause-exact : goal.returns-clause-exact
 returns-clause-exact c = λ s r. pins.exact s.core (reached s r).core

@@ -1,6 +1,6 @@
 use Rattle.pin_core.proofs.Opening.{opens}
 use Rattle.pin_core.proofs.Stepping.{run_keeps}
-use Rattle.pin_core.proofs.Schedules.{reached, unique, few, counted, held, holders, exact, taken, remembers, stay}
+use Rattle.pin_core.proofs.Schedules.{reached, usages, untagged, flags, seen, unique, few, counted, held, holders, exact, taken, remembers, stay}
 use Rattle.pin_core.proofs.all_schedules.Goals as goal
 
 pub returns-clause-kept : goal.returns-clause-kept
@@ -26,6 +26,18 @@ returns-clause-holders c = λ s r. holders s (reached s r)
 
 pub returns-clause-remembers : goal.returns-clause-remembers
 returns-clause-remembers c = λ s r. remembers s (reached s r)
+
+pub returns-clause-usages : goal.returns-clause-usages
+returns-clause-usages c = λ s r. usages s (reached s r)
+
+pub returns-clause-untagged : goal.returns-clause-untagged
+returns-clause-untagged c = λ s r. untagged s (reached s r)
+
+pub returns-clause-flags : goal.returns-clause-flags
+returns-clause-flags c = λ s r. flags s (reached s r)
+
+pub returns-clause-seen : goal.returns-clause-seen
+returns-clause-seen c = λ s r. seen s (reached s r)
 
 pub returns-clause-exact : goal.returns-clause-exact
 returns-clause-exact c = λ s r. exact s (reached s r)
