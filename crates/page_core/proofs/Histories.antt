@@ -116,10 +116,10 @@ module _ (s : State) (h : Invariant s) where
       sums o k = terms_le (λ (x : View). weigh k (link x f)) s.core.views j i u v o here there
 
   pub frames_hold : FramesHoldPages s
-  frames_hold f below tag valid none = sym ((h.pages.columns f below).page valid tag.named (total-none (λ (v : View). weigh unapplied_locks (link v f)) s.core.views (λ i v there. ap flag_weight (none i v there))))
+  frames_hold f p below tag valid none is = sym ((h.pages.columns f below).page p valid tag.named (total-none (λ (v : View). weigh unapplied_locks (link v f)) s.core.views (λ i v there. ap flag_weight (none i v there))) is)
 
   pub copies_are : CopiesArePages s
   copies_are = record {
-    copied = λ i f v p there below e. ((h.pages.cells i v f there below).copied p e).is_logged;
-    read = λ i f v p there below e. ((h.pages.cells i v f there below).read p e).is_logged;
+    copied = λ i f v p q there below e is. ((h.pages.cells i v f there below).copied p e).is_logged q is;
+    read = λ i f v p q there below e is. ((h.pages.cells i v f there below).read p e).is_logged q is;
   }

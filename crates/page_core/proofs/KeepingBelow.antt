@@ -7,14 +7,14 @@ use Rattle.pin_core.specs.Kinds as kinds
 use Rattle.pin_core.specs.Kinds.{Allowed}
 use Rattle.page_core.specs.State.{Block}
 use Rattle.page_core.specs.Tallies.{pin, sharers, applied_locks, unapplied_locks, copies, works}
-use Rattle.page_core.proofs.Others.{link_same, pending_alone}
+use Rattle.page_core.proofs.Others.{load_state_link, lock_header_link, unlock_header_link, load_tag_link, link_same, pending_alone}
 use Rattle.page_core.proofs.KeepingPages.{Keeps_by_pins}
 
 module _ (b : Block) (fr : Frame) (l : Link) where
   pub load_state_keeps : Allowed kinds.load_state fr l → Keeps_by_pins kinds.load_state b b fr l
   load_state_keeps a = record {
     column = λ t t' q c sums le _. grind (arith, q, c, a, sums sharers, sums applied_locks, sums unapplied_locks, sums copies, sums works);
-    cell = λ t q le c. grind (arith, q, c, a);
+    cell = λ t q le c. load_state_link b fr l c.1;
     others = λ t n m q c le d. grind (arith, q, c, d, a);
   }
 
@@ -42,14 +42,14 @@ module _ (b : Block) (fr : Frame) (l : Link) where
   pub lock_header_keeps : Allowed kinds.lock_header fr l → Keeps_by_pins kinds.lock_header b b fr l
   lock_header_keeps a = record {
     column = λ t t' q c sums le _. grind (arith, q, c, a, sums sharers, sums applied_locks, sums unapplied_locks, sums copies, sums works);
-    cell = λ t q le c. grind (arith, q, c, a);
+    cell = λ t q le c. lock_header_link b fr l c.1;
     others = λ t n m q c le d. link_same b fr (kinds.frame_after kinds.lock_header fr) m (record { valid = refl; dirty = refl; just = refl; flagged = refl; tag = refl; page = refl }) d.1;
   }
 
   pub unlock_header_keeps : Allowed kinds.unlock_header fr l → Keeps_by_pins kinds.unlock_header b b fr l
   unlock_header_keeps a = record {
     column = λ t t' q c sums le _. grind (arith, q, c, a, sums sharers, sums applied_locks, sums unapplied_locks, sums copies, sums works);
-    cell = λ t q le c. grind (arith, q, c, a);
+    cell = λ t q le c. unlock_header_link b fr l c.1;
     others = λ t n m q c le d. link_same b fr (kinds.frame_after kinds.unlock_header fr) m (record { valid = refl; dirty = refl; just = refl; flagged = refl; tag = refl; page = refl }) d.1;
   }
 
@@ -70,7 +70,7 @@ module _ (b : Block) (fr : Frame) (l : Link) where
   pub load_tag_keeps : Allowed kinds.load_tag fr l → Keeps_by_pins kinds.load_tag b b fr l
   load_tag_keeps a = record {
     column = λ t t' q c sums le _. grind (arith, q, c, a, sums sharers, sums applied_locks, sums unapplied_locks, sums copies, sums works);
-    cell = λ t q le c. grind (arith, q, c, a);
+    cell = λ t q le c. load_tag_link b fr l c.1;
     others = λ t n m q c le d. grind (arith, q, c, d, a);
   }
 

@@ -9,7 +9,7 @@ use Rattle.page_core.specs.Tallies.{sharers, applied_locks, unapplied_locks, cop
 use Rattle.page_core.specs.Invariant.{page_part, pin_part}
 use Rattle.page_core.proofs.Others.{link_same, page_changes, exclusive_alone, input_alone}
 use Rattle.page_core.specs.Kinds as kinds
-use Rattle.page_core.specs.Kinds.{Kind, Allowed, frame_after, block_after, link_after}
+use Rattle.page_core.specs.Kinds.{Kind, image_over, Allowed, frame_after, block_after, link_after}
 use Rattle.grid.specs.Shape.{Part}
 use Rattle.grid.proofs.Grids.{Keeps, both}
 
@@ -93,7 +93,7 @@ module _ (b : Block) (fr : Frame) (l : Link) where
   overwrite_logged_keeps a = record {
     column = λ t t' q c sums le _. grind (arith, q, c, a, sums sharers, sums applied_locks, sums unapplied_locks, sums copies, sums works);
     cell = λ t q le c. grind (arith, q, c, a);
-    others = λ t n m q c le d. let x = exclusive_alone b fr l m t q.1 c.1 d.1 (le applied_locks) (le unapplied_locks) (le sharers) (c.1.unapplied a.unapplied).right in page_changes b fr m b.logged x.0 x.1 d.1;
+    others = λ t n m q c le d. let x = exclusive_alone b fr l m t q.1 c.1 d.1 (le applied_locks) (le unapplied_locks) (le sharers) (c.1.unapplied a.unapplied).right in page_changes b fr m (image_over b.logged fr.page) x.0 x.1 d.1;
   }
 
   pub overwrite_read_keeps : (p : Page) → Allowed (kinds.overwrite_read p) b fr l → Keeps_by page_part (kinds.overwrite_read p) b fr l

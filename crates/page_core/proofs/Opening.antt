@@ -1,5 +1,5 @@
 -- The law holds at the start.
-use Rattle.std.proofs.Common.{◌≡◌, ℕ, [], ◌∷◌, subst, arith}
+use Rattle.std.proofs.Common.{◌≡◌, ℕ, [], ◌∷◌, Option, subst, arith}
 use Rattle.pin_core.specs.declared.view.View.{View}
 use Rattle.pin_core.specs.State.{Config, CanOpen, Page, link, first_view, empty_frame, no_tag}
 use Rattle.pin_core.proofs.Opening as pins
@@ -17,7 +17,7 @@ no_sums base n p m f k = let e : weigh k (link (first_view base n p m) f) ≡ 0 
 empty_frame_law : (b : Block) (p : Page) (t : Tally → ℕ) → ((k : Tally) → t k ≡ 0) → PageFrame b (empty_frame p) t
 empty_frame_law b p t e = grind (arith, e sharers, e applied_locks, e unapplied_locks, e copies, e works)
 
-pub opens : (c : Config) (origin : ℕ → Page) (page : Page) → CanOpen c → Invariant (opening c origin page)
+pub opens : (c : Config) (origin : ℕ → Option Page) (page : Page) → CanOpen c → Invariant (opening c origin page)
 opens c origin page can = let base = c.base in let n = c.frames in let p = c.partitions in let m = c.lanes in let w : View = first_view base n p m in let b : Block = block_of origin no_tag in record {
   core = pins.opens c page can;
   pages = record {

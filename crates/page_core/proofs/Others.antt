@@ -6,6 +6,7 @@ use Rattle.pin_core.specs.declared.view.Link.{Link}
 use Rattle.pin_core.specs.State.{Frame, Page}
 use Rattle.pin_core.specs.Tallies as pins
 use Rattle.pin_core.specs.Invariant.{FrameLaw, LinkLaw}
+use Rattle.pin_core.specs.Kinds as kinds
 use Rattle.page_core.specs.State.{Block}
 use Rattle.page_core.specs.Tallies.{Tally, pin, sharers, applied_locks, unapplied_locks, works, weigh, work_weight}
 use Rattle.page_core.specs.Invariant.{PageFrame, PageLink}
@@ -37,3 +38,16 @@ input_alone b fr l m t q c d x e = grind (arith, q, c, d, x, e)
 -- beside the view that stored the tag word no other view has a right there
 pub pending_alone : (b : Block) (fr : Frame) (l m : Link) (t : Tally → ℕ) → FrameLaw fr (λ k. t (pin k)) → LinkLaw fr l → PageLink b fr m → weigh (pin pins.pendings) l ≤ t (pin pins.pendings) → weigh (pin pins.pins) l + weigh (pin pins.pins) m ≤ t (pin pins.pins) → l.pending ≡ true → work_weight m.io ≡ 0
 pending_alone b fr l m t q c d x y e = grind (arith, q, c, d, x, y, e)
+
+-- a load and a header lock leave what the law says of a link
+pub load_state_link : (b : Block) (fr : Frame) (l : Link) → PageLink b fr l → PageLink b (kinds.frame_after kinds.load_state fr) (kinds.link_after kinds.load_state fr l)
+load_state_link b fr l h = grind (arith, h)
+
+pub lock_header_link : (b : Block) (fr : Frame) (l : Link) → PageLink b fr l → PageLink b (kinds.frame_after kinds.lock_header fr) (kinds.link_after kinds.lock_header fr l)
+lock_header_link b fr l h = grind (arith, h)
+
+pub unlock_header_link : (b : Block) (fr : Frame) (l : Link) → PageLink b fr l → PageLink b (kinds.frame_after kinds.unlock_header fr) (kinds.link_after kinds.unlock_header fr l)
+unlock_header_link b fr l h = grind (arith, h)
+
+pub load_tag_link : (b : Block) (fr : Frame) (l : Link) → PageLink b fr l → PageLink b (kinds.frame_after kinds.load_tag fr) (kinds.link_after kinds.load_tag fr l)
+load_tag_link b fr l h = grind (arith, h)

@@ -7,7 +7,7 @@ use Rattle.pin_core.specs.declared.view.MapChange.TheVariants.{Settled, Entering
 use Rattle.pin_core.specs.declared.view.PartitionHold.{PartitionHold}
 use Rattle.pin_core.specs.declared.view.Link.{Link}
 use Rattle.pin_core.specs.declared.view.View.{View}
-use Rattle.pin_core.specs.State.{link, idle, hold, no_partition, no_tag, emptied_view}
+use Rattle.pin_core.specs.State.{Page, link, idle, hold, no_partition, no_tag, emptied_view}
 use Rattle.pin_core.specs.Kinds as pins
 use Rattle.pin_core.specs.Turns.{TurnKind, take_turn, leave_turn, map_out, change_map, map_back, found, map_after}
 use Rattle.pin_core.specs.Steps as pin_steps
@@ -65,6 +65,9 @@ left_out = λ k tag. gone (nat_eq tag 7) k
 
 named : 7 ≢ no_tag
 named e = absurd (omega arith)
+
+same_page : (p q : Page) → Some p ≡ Some q → q ≡ p
+same_page p q e = cc
 
 abbrev s1 : State
 s1 = turned take_turn sample_start
@@ -198,7 +201,7 @@ sample = (
         (goes (cores (pin_steps.turns 0 0 leave_turn (view_of s9) refl refl (lit< tt) (record { held = refl; home = refl; settled = refl })))
         (goes (cores (pin_steps.touches 0 0 pins.lock_header (view_of s10) refl refl (lit< tt) (record { unlocked = refl }) (at_one (λ (l : Link). l.header ≡ None) (view_of s10) _ refl refl refl)))
         (goes (touches 0 0 start_input (view_of s11) refl refl (lit< tt) (record { held = refl; settled = refl; pinned = λ e. cc; clear = refl; tagged = refl; invalid = refl }) (at_one (λ (l : Link). l.io ≡ Quiet) (view_of s11) _ refl refl refl))
-        (goes (touches 0 0 (note_read sample_page) (view_of s12) refl refl (lit< tt) (record { right = refl; given = refl }) tt)
+        (goes (touches 0 0 (note_read sample_page) (view_of s12) refl refl (lit< tt) (record { right = refl; fresh = refl; given = same_page sample_page }) tt)
         (goes (touches 0 0 page_out (view_of s13) refl refl (lit< tt) (record { page_home = refl; shared = λ e. absurd (cc); unlocked = λ e. refl }) tt)
         (goes (touches 0 0 (overwrite_read sample_page) (view_of s14) refl refl (lit< tt) (record { out = λ e. cc; once = refl; right = refl; read = refl }) tt)
         (goes (touches 0 0 page_back (view_of s15) refl refl (lit< tt) (record { out = λ e. cc }) tt)

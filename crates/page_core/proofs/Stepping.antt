@@ -1,5 +1,5 @@
 -- Each step keeps the law, and so does each list of steps.
-use Rattle.std.proofs.Common.{◌≡◌, ◌≢◌, ℕ, ◌+◌, ◌<◌, false, List, length, set, length-set, get_or-set_same, get_or-set_other, sym, refl, ap, ◌∙◌, subst, ⊎_elim, arith}
+use Rattle.std.proofs.Common.{◌≡◌, ◌≢◌, ℕ, ◌+◌, ◌<◌, false, List, Option, length, set, length-set, get_or-set_same, get_or-set_other, sym, refl, ap, ◌∙◌, subst, ⊎_elim, arith}
 use mathlib.Core.Option.{some}
 use lib.ListN.{get_elem?}
 use Rattle.pin_core.specs.declared.view.Content.TheVariants.{Exclusive}
@@ -59,7 +59,7 @@ module _ (s : State) (h : Invariant s) (i f : ℕ) (v : View) (there : get_elem?
     abbrev pub w : View
     w = view_after k f b fr l v
 
-    abbrev logged' : ℕ → Page
+    abbrev logged' : ℕ → Option Page
     logged' = logged_after k s.logged fr.tag
 
     pub relinked : Relinks page_shape v w f (link_after k b fr l)
@@ -69,13 +69,13 @@ module _ (s : State) (h : Invariant s) (i f : ℕ) (v : View) (there : get_elem?
     named e = (link_here.content (λ u. absurd (cc))).2.named
 
     elsewhere : (g : ℕ) → g < s.core.frames → g ≢ f → block_of logged' (s.core.frame g).tag ≡ block_of s.logged (s.core.frame g).tag
-    elsewhere g below other = ap (λ (x : Page). block_of (λ _. x) 0) (⊎_elim
+    elsewhere g below other = ap (λ (x : Option Page). block_of (λ _. x) 0) (⊎_elim
         (λ (e : block_after k b ≡ b). put_same s.logged fr.tag (block_after k b).logged (s.core.frame g).tag (ap (λ (x : Block). x.logged) e))
         (λ (e : l.content ≡ Exclusive). put_else s.logged fr.tag (block_after k b).logged (s.core.frame g).tag (λ same. other (sym (h.core.apart f g inside below (named e) (sym same)))))
         (block_kept k b fr l a))
 
     block_here : block_of logged' (frame_after k b fr).tag ≡ block_after k b
-    block_here = ap (λ (x : Page). block_of (λ _. x) 0) (put_at s.logged fr.tag (block_after k b).logged (frame_after k b fr).tag (tag_kept k b fr))
+    block_here = ap (λ (x : Option Page). block_of (λ _. x) 0) (put_at s.logged fr.tag (block_after k b).logged (frame_after k b fr).tag (tag_kept k b fr))
 
     touched : (p : Part page_shape) → Grid page_shape p s.core.frames s.core.frame (block_of s.logged) s.core.views → Keeps page_shape known p b (block_after k b) tt tt fr l (frame_after k b fr) (link_after k b fr l)
         → Grid page_shape p s.core.frames (put s.core.frame f (frame_after k b fr)) (block_of logged') (set s.core.views i w)

@@ -1,5 +1,5 @@
 -- What every list of events keeps of content locks, pages, input and output, in the field's words.
-use Rattle.std.specs.Prelude.{◌≡◌, ◌≢◌, ℕ, ◌<◌, Bool, true, false, List, [], ◌∷◌, Some, None, count_by, if◌then◌else◌}
+use Rattle.std.specs.Prelude.{◌≡◌, ◌≢◌, ℕ, ◌<◌, Bool, true, false, List, [], ◌∷◌, Option, Some, None, count_by, if◌then◌else◌}
 use mathlib.Core.Option.{some}
 use lib.ListN.{get_elem?}
 use Rattle.pin_core.specs.declared.view.Content.{Content}
@@ -25,11 +25,11 @@ HasNoUnpin i f (e ∷ es) = (e ≢ pins_and_maps (pin_steps.at i f unpin)) × Ha
 abbrev pub PinnedTagsStay : State → Type 0
 PinnedTagsStay s = (i f : ℕ) (es : List Event) (t : State) → IsHandedOut s.core i f → HasNoUnpin i f es → Run es s t → KeepsTag s.core t.core f × IsHandedOut t.core i f
 
--- a list of events leads to the state, from the start of a buffer pool whose lanes hold `origin`
+-- a list of events leads to the state, from the start of a buffer pool whose lanes hold `origin`, as far as their contents are known
 pub record IsReached (s : State) : Type 0 where
   pub config : Config
   pub opens : CanOpen config
-  pub origin : ℕ → Page
+  pub origin : ℕ → Option Page
   pub page : Page
   pub events : List Event
   pub run : Run events (opening config origin page) s
@@ -99,11 +99,11 @@ OnePageOut s = (i j f : ℕ) (v u : View) → get_elem? s.core.views i ≡ some 
 abbrev pub NoneUnapplied : State → ℕ → Type 0
 NoneUnapplied s f = (i : ℕ) (v : View) → get_elem? s.core.views i ≡ some v → (link v f).unapplied ≡ false
 
--- the page of a valid frame is its block's page after the log, unless a view has an entry to apply there
+-- the page of a valid frame is its block's page after the log, where that is known, unless a view has an entry to apply there
 abbrev pub FramesHoldPages : State → Type 0
-FramesHoldPages s = (f : ℕ) → f < s.core.frames → HasTag (s.core.frame f) → (s.core.frame f).word.valid ≡ true → NoneUnapplied s f → (s.core.frame f).page ≡ s.logged (s.core.frame f).tag
+FramesHoldPages s = (f : ℕ) (p : Page) → f < s.core.frames → HasTag (s.core.frame f) → (s.core.frame f).word.valid ≡ true → NoneUnapplied s f → s.logged (s.core.frame f).tag ≡ Some p → (s.core.frame f).page ≡ p
 
 -- so is a page that a view has copied under its content lock, and one that the lane gave under its input right
 pub record CopiesArePages (s : State) : Type 0 where
-  pub copied : (i f : ℕ) (v : View) (p : Page) → get_elem? s.core.views i ≡ some v → f < s.core.frames → (link v f).copied ≡ Some p → s.logged (s.core.frame f).tag ≡ p
-  pub read : (i f : ℕ) (v : View) (p : Page) → get_elem? s.core.views i ≡ some v → f < s.core.frames → (link v f).read ≡ Some p → s.logged (s.core.frame f).tag ≡ p
+  pub copied : (i f : ℕ) (v : View) (p q : Page) → get_elem? s.core.views i ≡ some v → f < s.core.frames → (link v f).copied ≡ Some p → s.logged (s.core.frame f).tag ≡ Some q → q ≡ p
+  pub read : (i f : ℕ) (v : View) (p q : Page) → get_elem? s.core.views i ≡ some v → f < s.core.frames → (link v f).read ≡ Some p → s.logged (s.core.frame f).tag ≡ Some q → q ≡ p

@@ -25,8 +25,8 @@ pub record PageFrame (b : Block) (fr : Frame) (t : Tally → ℕ) : Type 0 where
   pub copying : flag_weight fr.copying ≡ t copies
   -- BM_IO_IN_PROGRESS stands exactly where one view has the input or output right
   pub working : flag_weight fr.word.in_progress ≡ t works
-  -- the page of a valid frame is the block's page after the log, unless a view has an entry to apply there
-  pub page : fr.word.valid ≡ true → fr.tag ≢ no_tag → t unapplied_locks ≡ 0 → b.logged ≡ fr.page
+  -- the page of a valid frame is the block's page after the log, where that is known, unless a view has an entry to apply there
+  pub page : (p : Page) → fr.word.valid ≡ true → fr.tag ≢ no_tag → t unapplied_locks ≡ 0 → b.logged ≡ Some p → p ≡ fr.page
 
 -- What a view has that marked a frame dirty under its exclusive lock
 pub record DirtiedLink (fr : Frame) (l : Link) : Type 0 where
@@ -36,24 +36,26 @@ pub record DirtiedLink (fr : Frame) (l : Link) : Type 0 where
   pub just : fr.word.just_dirtied ≡ true
 
 -- What a view has whose entry is in the log, and not yet applied to the page
-pub record UnappliedLink (l : Link) : Type 0 where
+pub record UnappliedLink (b : Block) (l : Link) : Type 0 where
   -- it has the exclusive lock, and marked the frame dirty
   pub right : l.content ≡ Exclusive
   pub dirtied : l.dirtied ≡ true
+  -- the block's page after the log is known: it is the entry's image
+  pub is_known : b.logged ≢ None
   -- it notes no copy
   pub uncopied : l.copied ≡ None
 
 -- What holds where a view has copied the page p under its content lock
 pub record CopiedLink (b : Block) (l : Link) (p : Page) : Type 0 where
   pub right : l.content ≢ Unlocked
-  -- the copy is the block's page after the log
-  pub is_logged : b.logged ≡ p
+  -- the copy is the block's page after the log, where that is known
+  pub is_logged : (q : Page) → b.logged ≡ Some q → q ≡ p
 
 -- What holds where the lane gave the page p to a view with the input right
 pub record ReadLink (b : Block) (fr : Frame) (l : Link) (p : Page) : Type 0 where
   pub right : l.io ≡ Input
-  -- it is the block's page after the log
-  pub is_logged : b.logged ≡ p
+  -- it is the block's page after the log, where that is known
+  pub is_logged : (q : Page) → b.logged ≡ Some q → q ≡ p
   -- and the frame's page once it is home
   pub home : l.read_is_home ≡ true → fr.page ≡ p
 
@@ -81,7 +83,7 @@ pub record PageLink (b : Block) (fr : Frame) (l : Link) : Type 0 where
   -- a view that stored the tag word has neither lock nor right there
   pub pending : l.pending ≡ true → (l.content ≡ Unlocked) × (l.io ≡ Quiet)
   pub dirtied : l.dirtied ≡ true → DirtiedLink fr l
-  pub unapplied : l.unapplied ≡ true → UnappliedLink l
+  pub unapplied : l.unapplied ≡ true → UnappliedLink b l
   pub copied : (p : Page) → l.copied ≡ Some p → CopiedLink b l p
   pub read : (p : Page) → l.read ≡ Some p → ReadLink b fr l p
   -- the page is out only under the exclusive lock, the copy latch or the input right

@@ -41,7 +41,7 @@ pub data Kind : Type 0 where
   overwrite_read : Page → Kind
   -- the page comes back
   page_back : Kind
-  -- the lane gave the block's page (`smgrread`)
+  -- the lane gave this page of the block (`smgrread`)
   note_read : Page → Kind
   -- the lane took the frame's page, or failed to (`smgrwrite`)
   note_write : Bool → Kind
@@ -114,9 +114,11 @@ pub record CanOverwriteRead (p : Page) (fr : Frame) (l : Link) : Type 0 where
 pub record CanReturnPage (fr : Frame) (l : Link) : Type 0 where
   pub out : l.out ≢ None
 
+-- the page is the block's page after the log, where that is known, and no earlier read is just being put into the frame
 pub record CanNoteRead (p : Page) (b : Block) (fr : Frame) (l : Link) : Type 0 where
   pub right : l.io ≡ Input
-  pub given : p ≡ b.logged
+  pub fresh : l.overwritten ≡ None
+  pub given : (q : Page) → b.logged ≡ Some q → q ≡ p
 
 pub record CanNoteWrite (fr : Frame) (l : Link) : Type 0 where
   pub right : l.io ≡ Output
@@ -191,6 +193,11 @@ Allowed start_output b fr l = CanStartOutput fr l
 Allowed clear_just_dirtied b fr l = CanClearJustDirtied fr l
 Allowed (end_io end) b fr l = CanEndIo end fr l
 
+-- the image of the block's last entry, in place of the page p
+abbrev pub image_over : Option Page → Page → Page
+image_over None p = p
+image_over (Some q) p = q
+
 -- What a kind makes of the frame
 abbrev pub frame_after : Kind → Block → Frame → Frame
 frame_after mark_dirty b fr = record fr { word = dirtied_fields fr.word }
@@ -200,7 +207,7 @@ frame_after unshare b fr = record fr { sharers = fr.sharers - 1 }
 frame_after unexclude b fr = record fr { exclusive = false }
 frame_after take_copy b fr = record fr { copying = true }
 frame_after leave_copy b fr = record fr { copying = false }
-frame_after overwrite_logged b fr = record fr { page = b.logged }
+frame_after overwrite_logged b fr = record fr { page = image_over b.logged fr.page }
 frame_after (overwrite_read p) b fr = record fr { page = p }
 frame_after start_input b fr = released (io_started_fields fr.word) fr
 frame_after start_output b fr = released (io_started_fields fr.word) fr
@@ -210,7 +217,7 @@ frame_after _ b fr = fr
 
 -- What a kind makes of the block of the frame's tag
 abbrev pub block_after : Kind → Block → Block
-block_after (make_entry p) b = record b { logged = p }
+block_after (make_entry p) b = record b { logged = Some p }
 block_after _ b = b
 
 -- under a content lock, with no entry to apply, the page that comes back is noted as copied
@@ -241,7 +248,7 @@ link_after unexclude b fr l = record l { content = Unlocked; copied = None; dirt
 link_after take_copy b fr l = record l { copying = true }
 link_after leave_copy b fr l = record l { copying = false }
 link_after page_out b fr l = record l { out = Some fr.page }
-link_after overwrite_logged b fr l = record l { overwritten = Some b.logged; unapplied = false }
+link_after overwrite_logged b fr l = record l { overwritten = Some (image_over b.logged fr.page); unapplied = false }
 link_after (overwrite_read p) b fr l = record l { overwritten = Some p }
 link_after page_back b fr l = record l { out = None; overwritten = None; copied = copied_after l.content l.unapplied fr.page l.copied; read_is_home = home_after l.io l.overwritten l.read_is_home }
 link_after (note_read p) b fr l = record l { read = Some p; read_is_home = false }

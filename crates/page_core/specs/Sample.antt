@@ -23,7 +23,7 @@ abbrev pub sample_page : Page
 sample_page = 10 ∷ 20 ∷ 30 ∷ []
 
 abbrev pub sample_start : State
-sample_start = opening sample_config (λ _. sample_page) []
+sample_start = opening sample_config (λ _. Some sample_page) []
 
 abbrev pub sample_entry : MapEntry
 sample_entry = record { tag = 7; frame = 0 }

@@ -1,5 +1,5 @@
 -- One step, and lists of steps.
-use Rattle.std.specs.Prelude.{◌≡◌, ◌≢◌, ℕ, ◌<◌, false, List, [], ◌∷◌, None}
+use Rattle.std.specs.Prelude.{◌≡◌, ◌≢◌, ℕ, ◌<◌, false, List, [], ◌∷◌, Option, None}
 use mathlib.Core.Option.{some}
 use lib.ListN.{get_elem?}
 use Rattle.pin_core.specs.declared.view.Io.TheVariants.{Quiet}
@@ -45,7 +45,7 @@ pub data Event : Type 0 where
   at : ℕ → ℕ → Kind → Event
 
 -- the pages of the blocks, where the frame of the tag makes an entry
-abbrev pub logged_after : Kind → (ℕ → pins.Page) → ℕ → ℕ → pins.Page
+abbrev pub logged_after : Kind → (ℕ → Option pins.Page) → ℕ → ℕ → Option pins.Page
 logged_after k logged tag = put logged tag (block_after k (block_of logged tag)).logged
 
 -- the state after a step of the kind k at the frame f by backend i, whose view is v

@@ -3,7 +3,7 @@
 //! Nothing here runs. The types are those of `pin_core`; the kinds of step, the law that they keep and the lists of steps are in `specs/`, and docs/PROTOCOL.md tells them in words.
 #![tactic(auto)]
 
-ghost use Rattle.std.specs.Prelude.{ℕ, ◌<◌, List};
+ghost use Rattle.std.specs.Prelude.{ℕ, ◌<◌, List, Option};
 ghost use Rattle.pin_core.specs.State.{CanOpen, Config, Page};
 ghost use Rattle.pin_core.specs.Schedules.{UsagesAreLow, UntaggedFramesHaveOnePin, FlagsMatchTags, SeenFramesAreValid, TagsAreUnique, PinsAreCounted, PinsAreFew, HeadersAreHeld, HoldersHaveTheWord, PinsRemember, MapsAreExact, TurnsAreHeld};
 ghost use Rattle.pin_core.specs.Invariant.{AllAccounted};
@@ -17,7 +17,7 @@ ghost use Rattle.page_core.specs.Sample.{SampleRuns};
 pub fn all_histories()
     // From every state that has the law every list of events leads to one that has it, and the state at the start has it.
     ensures kept { (es : List Event) (s : State) (t : State) → Invariant s → Run es s t → Invariant t }
-    ensures opens { (config : Config) (origin : ℕ → Page) (page : Page) → CanOpen config → Invariant (opening config origin page) }
+    ensures opens { (config : Config) (origin : ℕ → Option Page) (page : Page) → CanOpen config → Invariant (opening config origin page) }
 
     // So in every state that events lead to, of pins, tags and maps:
     ensures counted { (s : State) → IsReached s → PinsAreCounted s.core }
