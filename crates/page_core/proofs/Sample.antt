@@ -11,6 +11,7 @@ use Rattle.pin_core.specs.State.{Page, link, idle, hold, no_partition, no_tag, e
 use Rattle.pin_core.specs.Kinds as pins
 use Rattle.pin_core.specs.Turns.{TurnKind, take_turn, leave_turn, map_out, change_map, map_back, found, map_after}
 use Rattle.pin_core.specs.Steps as pin_steps
+use Rattle.pin_core.proofs.Sample.{packed}
 use Rattle.page_core.specs.State.{State}
 use Rattle.page_core.specs.Kinds.{Kind, start_input, note_read, page_out, overwrite_read, page_back, end_io, share, take_copy, leave_copy, unshare}
 use Rattle.page_core.specs.Steps.{state_after, HasNoWriteOut, rests, goes, cores, touches}
@@ -193,7 +194,7 @@ sample = (
         (goes (cores (pin_steps.touches 0 0 pins.lock_header (view_of s1) refl refl (lit< tt) (record { unlocked = refl }) (at_one (λ (l : Link). l.header ≡ None) (view_of s1) _ refl refl refl)))
         (goes (cores (pin_steps.touches 0 0 pins.pin_victim (view_of s2) refl refl (lit< tt) (record { held = refl; absent = refl; room = λ e. refl }) (at_one (λ (l : Link). l.role ≢ Victim) (view_of s2) _ refl (λ e. cc) (λ e. cc))))
         (goes (cores (pin_steps.touches 0 0 pins.lock_header (view_of s3) refl refl (lit< tt) (record { unlocked = refl }) (at_one (λ (l : Link). l.header ≡ None) (view_of s3) _ refl refl refl)))
-        (goes (cores (pin_steps.touches 0 0 (pins.store_tag 7) (view_of s4) refl refl (lit< tt) (record { alone = record { held = refl; settled = refl; single = refl; victim = refl; no_content = refl; no_io = refl }; named = named; untagged = refl }) (record { naming = record { held = refl; unchanged = refl; settled = (turn_one (λ (h : PartitionHold). h.change ≡ Settled) (view_of s4) _ refl refl refl) }; lacking = refl })))
+        (goes (cores (pin_steps.touches 0 0 (pins.store_tag 7) (view_of s4) refl refl (lit< tt) (record { alone = record { held = refl; settled = refl; single = refl; victim = refl; no_content = refl; no_io = refl }; named = named; packed = packed; untagged = refl }) (record { naming = record { held = refl; unchanged = refl; settled = (turn_one (λ (h : PartitionHold). h.change ≡ Settled) (view_of s4) _ refl refl refl) }; lacking = refl })))
         (goes (cores (pin_steps.touches 0 0 pins.assign (view_of s5) refl refl (lit< tt) (record { held = refl; stored = refl; named = named }) tt))
         (goes (cores (pin_steps.turns 0 0 (map_out []) (view_of s6) refl refl (lit< tt) (record { held = refl; home = refl; entries_are = no_entries })))
         (goes (cores (pin_steps.turns 0 0 change_map (view_of s7) refl refl (lit< tt) (record { out = λ e. cc; unchanged = refl; named = λ e. cc })))

@@ -5,7 +5,7 @@
 
 ghost use Rattle.std.specs.Prelude.{ℕ, ◌<◌, List, Option};
 ghost use Rattle.pin_core.specs.State.{CanOpen, Config, Page};
-ghost use Rattle.pin_core.specs.Schedules.{UsagesAreLow, UntaggedFramesHaveOnePin, FlagsMatchTags, SeenFramesAreValid, TagsAreUnique, PinsAreCounted, PinsAreFew, HeadersAreHeld, HoldersHaveTheWord, PinsRemember, MapsAreExact, TurnsAreHeld};
+ghost use Rattle.pin_core.specs.Schedules.{UsagesAreLow, TagWordsAreTags, UntaggedFramesHaveOnePin, FlagsMatchTags, SeenFramesAreValid, TagsAreUnique, PinsAreCounted, PinsAreFew, HeadersAreHeld, HoldersHaveTheWord, PinsRemember, MapsAreExact, TurnsAreHeld};
 ghost use Rattle.pin_core.specs.Invariant.{AllAccounted};
 ghost use Rattle.page_core.specs.State.{State, opening};
 ghost use Rattle.page_core.specs.Invariant.{Invariant};
@@ -29,6 +29,7 @@ pub fn all_histories()
     ensures stay { (s : State) → IsReached s → PinnedTagsStay s }
     ensures exact { (s : State) → IsReached s → MapsAreExact s.core }
     ensures usages { (s : State) → IsReached s → UsagesAreLow s.core }
+    ensures packed { (s : State) → IsReached s → TagWordsAreTags s.core }
     ensures untagged { (s : State) → IsReached s → UntaggedFramesHaveOnePin s.core }
     ensures flags { (s : State) → IsReached s → FlagsMatchTags s.core }
     ensures seen { (s : State) → IsReached s → SeenFramesAreValid s.core }

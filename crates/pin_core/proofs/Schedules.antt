@@ -19,7 +19,7 @@ use Rattle.pin_core.specs.Turns.{view_turned}
 use Rattle.pin_core.specs.Maps.{PairLaw}
 use Rattle.pin_core.specs.declared.view.MapChange.{MapChange}
 use Rattle.pin_core.specs.declared.view.MapChange.TheVariants.{Entering, Leaving}
-use Rattle.pin_core.specs.Schedules.{IsReached, UsagesAreLow, UntaggedFramesHaveOnePin, FlagsMatchTags, SeenFramesAreValid, TagsAreUnique, PinsAreFew, PinsAreCounted, HeadersAreHeld, is_held, holds_header, holds_turn, HoldersHaveTheWord, PinsRemember, MapsAreExact, TurnsAreHeld, IsHandedOut, HasNoUnpin, PinnedTagsStay}
+use Rattle.pin_core.specs.Schedules.{IsReached, UsagesAreLow, TagWordsAreTags, UntaggedFramesHaveOnePin, FlagsMatchTags, SeenFramesAreValid, TagsAreUnique, PinsAreFew, PinsAreCounted, HeadersAreHeld, is_held, holds_header, holds_turn, HoldersHaveTheWord, PinsRemember, MapsAreExact, TurnsAreHeld, IsHandedOut, HasNoUnpin, PinnedTagsStay}
 use Rattle.grid.specs.Shape.{tallies}
 use Rattle.grid.proofs.Lists.{set_here, set_else, at_longer, put_at, put_else}
 use Rattle.grid.proofs.Sums.{total-count, total-few, term_le, terms_le}
@@ -83,6 +83,9 @@ module _ (s : State) (h : Invariant s) where
 
   pub usages : UsagesAreLow s
   usages f below = (h.grid.columns f below).usage
+
+  pub packed : TagWordsAreTags s
+  packed f below = (h.grid.columns f below).packed
 
   pub untagged : UntaggedFramesHaveOnePin s
   untagged f below = (h.grid.columns f below).untagged_few

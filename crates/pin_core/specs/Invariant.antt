@@ -6,7 +6,7 @@ use Rattle.state_word.specs.declared.word.StateWord.{StateWord}
 use Rattle.pin_core.specs.declared.view.Role.TheVariants.{Absent, HandedOut, Victim}
 use Rattle.pin_core.specs.declared.view.Link.{Link}
 use Rattle.pin_core.specs.declared.view.View.{View}
-use Rattle.pin_core.specs.State.{Frame, State, no_tag}
+use Rattle.pin_core.specs.State.{Frame, State, no_tag, is_tag}
 use Rattle.pin_core.specs.Tallies.{Tally, pins, headers, pendings, settled_pins, settled_headers, flag_weight, frame_shape}
 use Rattle.pin_core.specs.Turns.{turn_shape, turn_part}
 use Rattle.pin_core.specs.Maps.{MapLaw}
@@ -41,6 +41,8 @@ pub record FrameLaw (fr : Frame) (t : Tally → ℕ) : Type 0 where
   pub locked : flag_weight fr.word.locked ≡ t headers
   -- a frame whose tag word is all ones has at most one pin
   pub untagged_few : fr.tag ≡ no_tag → fr.word.pins ≤ 1
+  -- a tag word that isn't all ones is a packed buffer tag
+  pub packed : fr.tag ≢ no_tag → is_tag fr.tag ≡ true
   -- the usage count is at most 5 (BM_MAX_USAGE_COUNT)
   pub usage : fr.word.usage ≤ 5
   -- a dirty frame is valid

@@ -14,7 +14,7 @@ use Rattle.pin_core.specs.declared.view.Seen.TheVariants as seen
 use Rattle.pin_core.specs.declared.view.Load.{Load}
 use Rattle.pin_core.specs.declared.view.Link.{Link}
 use Rattle.pin_core.specs.declared.view.View.{View}
-use Rattle.pin_core.specs.State.{Frame, Partition, no_tag, hold, is_pin}
+use Rattle.pin_core.specs.State.{Frame, Partition, no_tag, is_tag, hold, is_pin}
 use Rattle.grid.specs.Shape.{put}
 
 pub data Kind : Type 0 where
@@ -99,10 +99,11 @@ pub record IsAlone (fr : Frame) (l : Link) : Type 0 where
   pub no_content : l.content ≡ Unlocked
   pub no_io : l.io ≡ Quiet
 
--- the view has the latch of the tag's partition, whose map lacks the tag, besides (`AllowedAround`)
+-- the number is a packed buffer tag; the view has the latch of its partition, whose map lacks it, besides (`AllowedAround`)
 pub record CanStoreTag (tag : ℕ) (fr : Frame) (l : Link) : Type 0 where
   pub alone : IsAlone fr l
   pub named : tag ≢ no_tag
+  pub packed : is_tag tag ≡ true
   pub untagged : fr.word.tag_valid ≡ false
 
 -- the view has the latch of its partition, besides (`AllowedAround`)

@@ -6,7 +6,7 @@ use Rattle.state_word.specs.declared.word.StateWord.{StateWord}
 use Rattle.pin_core.specs.declared.view.Role.TheVariants.{HandedOut}
 use Rattle.pin_core.specs.declared.view.MapChange.TheVariants.{Settled, Entering, Leaving}
 use Rattle.pin_core.specs.declared.view.View.{View}
-use Rattle.pin_core.specs.State.{Page, State, Config, CanOpen, no_tag, link, hold, pins_frame, opening}
+use Rattle.pin_core.specs.State.{Page, State, Config, CanOpen, no_tag, is_tag, link, hold, pins_frame, opening}
 use Rattle.pin_core.specs.Invariant.{HasTag}
 use Rattle.pin_core.specs.Maps.{IsPair}
 use Rattle.pin_core.specs.Kinds.{unpin}
@@ -78,6 +78,10 @@ UsagesAreLow s = (f : ℕ) → f < s.frames → (s.frame f).word.usage ≤ 5
 -- a frame whose tag word is all ones has at most one pin
 abbrev pub UntaggedFramesHaveOnePin : State → Type 0
 UntaggedFramesHaveOnePin s = (f : ℕ) → f < s.frames → (s.frame f).tag ≡ no_tag → (s.frame f).word.pins ≤ 1
+
+-- a tag word that isn't all ones is a packed buffer tag
+abbrev pub TagWordsAreTags : State → Type 0
+TagWordsAreTags s = (f : ℕ) → f < s.frames → (s.frame f).tag ≢ no_tag → is_tag (s.frame f).tag ≡ true
 
 -- where the header isn't locked BM_TAG_VALID stands exactly where the tag word isn't all ones
 abbrev pub FlagsMatchTags : State → Type 0

@@ -17,6 +17,8 @@ use Rattle.pin_core.specs.declared.view.LogHold.{LogHold}
 use Rattle.pin_core.specs.declared.view.Met.{Met}
 use Rattle.pin_core.specs.declared.view.Checkpoint.{Checkpoint}
 use Rattle.pin_core.specs.declared.view.View.{View}
+use Rattle.std.specs.Option.{is_some}
+use Rattle.block_tag.specs.Names.{unpacked_tag}
 use Rattle.grid.specs.Shape.{put}
 
 -- the bytes of a page
@@ -61,6 +63,10 @@ pub record State : Type 0 where
 -- the tag word of a frame without a tag: all ones
 abbrev pub no_tag : ℕ
 no_tag = 18446744073709551615
+
+-- whether a tag word is a packed buffer tag
+unfoldable pub is_tag : ℕ → Bool
+is_tag word = is_some (unpacked_tag word)
 
 -- a backend has nothing at a frame
 abbrev pub idle : Link

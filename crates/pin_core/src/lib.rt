@@ -8,7 +8,7 @@ ghost use Rattle.pin_core.specs.State.{CanOpen, Config, Page, State, opening};
 ghost use Rattle.pin_core.specs.Invariant.{AllAccounted, Invariant};
 ghost use Rattle.pin_core.specs.Steps.{Event, Run};
 ghost use Rattle.pin_core.specs.Sample.{SampleRuns};
-ghost use Rattle.pin_core.specs.Schedules.{IsReached, UsagesAreLow, UntaggedFramesHaveOnePin, FlagsMatchTags, SeenFramesAreValid, TagsAreUnique, PinsAreCounted, PinsAreFew, HeadersAreHeld, HoldersHaveTheWord, PinsRemember, PinnedTagsStay, MapsAreExact, TurnsAreHeld};
+ghost use Rattle.pin_core.specs.Schedules.{IsReached, UsagesAreLow, TagWordsAreTags, UntaggedFramesHaveOnePin, FlagsMatchTags, SeenFramesAreValid, TagsAreUnique, PinsAreCounted, PinsAreFew, HeadersAreHeld, HoldersHaveTheWord, PinsRemember, PinnedTagsStay, MapsAreExact, TurnsAreHeld};
 
 mod view;
 
@@ -32,6 +32,7 @@ pub fn all_schedules()
     ensures held { (s : State) → IsReached s → HeadersAreHeld s }
     ensures holders { (s : State) → IsReached s → HoldersHaveTheWord s }
     ensures usages { (s : State) → IsReached s → UsagesAreLow s }
+    ensures packed { (s : State) → IsReached s → TagWordsAreTags s }
     ensures untagged { (s : State) → IsReached s → UntaggedFramesHaveOnePin s }
     ensures flags { (s : State) → IsReached s → FlagsMatchTags s }
     ensures seen { (s : State) → IsReached s → SeenFramesAreValid s }

@@ -37,6 +37,9 @@ returns-clause-stay c = λ s r. stay s (reached s r)
 pub returns-clause-usages : goal.returns-clause-usages
 returns-clause-usages c = λ s r. pins.usages s.core (reached s r).core
 
+pub returns-clause-packed : goal.returns-clause-packed
+returns-clause-packed c = λ s r. pins.packed s.core (reached s r).core
+
 pub returns-clause-untagged : goal.returns-clause-untagged
 returns-clause-untagged c = λ s r. pins.untagged s.core (reached s r).core
 

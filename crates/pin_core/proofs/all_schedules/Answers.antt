@@ -1,6 +1,6 @@
 use Rattle.pin_core.proofs.Opening.{opens}
 use Rattle.pin_core.proofs.Stepping.{run_keeps}
-use Rattle.pin_core.proofs.Schedules.{reached, usages, untagged, flags, seen, unique, few, counted, held, holders, exact, taken, remembers, stay}
+use Rattle.pin_core.proofs.Schedules.{reached, usages, packed, untagged, flags, seen, unique, few, counted, held, holders, exact, taken, remembers, stay}
 use Rattle.pin_core.proofs.all_schedules.Goals as goal
 
 pub returns-clause-kept : goal.returns-clause-kept
@@ -29,6 +29,9 @@ returns-clause-remembers c = λ s r. remembers s (reached s r)
 
 pub returns-clause-usages : goal.returns-clause-usages
 returns-clause-usages c = λ s r. usages s (reached s r)
+
+pub returns-clause-packed : goal.returns-clause-packed
+returns-clause-packed c = λ s r. packed s (reached s r)
 
 pub returns-clause-untagged : goal.returns-clause-untagged
 returns-clause-untagged c = λ s r. untagged s (reached s r)
