@@ -14,7 +14,7 @@ use Rattle.pin_core.specs.Tallies.{flag_weight}
 use Rattle.page_core.specs.State.{Block, State, block_of}
 use Rattle.page_core.specs.Tallies.{Tally, sharers, applied_locks, unapplied_locks, copies, works, weigh, share_weight, exclusive_weight, work_weight, page_shape}
 use Rattle.page_core.specs.Invariant.{PageFrame, PageLink, Invariant}
-use Rattle.page_core.specs.Histories.{IsReached, HasNoUnpin, PinnedTagsStay, is_shared, is_exclusive, is_working, shares, excludes, works_on, ContentLocks, OneIo, copies_at, CopyLatches, DirtiedFramesAreDirty, RightsNeedPins, OnePageOut, FramesHoldPages, CopiesArePages}
+use Rattle.page_core.specs.Histories.{IsReached, HasNoUnpin, PinnedTagsStay, is_shared, is_exclusive, is_working, shares, excludes, works_on, ContentLocks, OneIo, copies_at, CopyLatches, DirtiedFramesAreDirty, RightsNeedPins, OnePageOut, FramesHoldPages, ValidPagesAreSound, CopiesArePages}
 use Rattle.grid.specs.Shape.{tallies, total}
 use Rattle.grid.proofs.Sums.{total-count, total-add, total-same, total-none, terms_le}
 use Rattle.grid.proofs.Grids.{Relinks}
@@ -117,6 +117,9 @@ module _ (s : State) (h : Invariant s) where
 
   pub frames_hold : FramesHoldPages s
   frames_hold f p below tag valid none is = sym ((h.pages.columns f below).page p valid tag.named (total-none (λ (v : View). weigh unapplied_locks (link v f)) s.core.views (λ i v there. ap flag_weight (none i v there))) is)
+
+  pub sound : ValidPagesAreSound s
+  sound f below = (h.pages.columns f below).sound
 
   pub copies_are : CopiesArePages s
   copies_are = record {

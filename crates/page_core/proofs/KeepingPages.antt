@@ -7,7 +7,7 @@ use Rattle.pin_core.specs.Kinds as pin_kinds
 use Rattle.page_core.specs.State.{Block}
 use Rattle.page_core.specs.Tallies.{sharers, applied_locks, unapplied_locks, copies, works, page_shape}
 use Rattle.page_core.specs.Invariant.{page_part, pin_part}
-use Rattle.page_core.proofs.Others.{link_same, page_changes, exclusive_alone, input_alone}
+use Rattle.page_core.proofs.Others.{link_same, page_changes, image_sound, exclusive_alone, input_alone}
 use Rattle.page_core.specs.Kinds as kinds
 use Rattle.page_core.specs.Kinds.{Kind, image_over, Allowed, frame_after, block_after, link_after}
 use Rattle.grid.specs.Shape.{Part}
@@ -91,7 +91,7 @@ module _ (b : Block) (fr : Frame) (l : Link) where
 
   pub overwrite_logged_keeps : Allowed kinds.overwrite_logged b fr l → Keeps_by page_part kinds.overwrite_logged b fr l
   overwrite_logged_keeps a = record {
-    column = λ t t' q c sums le _. grind (arith, q, c, a, sums sharers, sums applied_locks, sums unapplied_locks, sums copies, sums works);
+    column = λ t t' q c sums le _. let own = c.1.unapplied a.unapplied in let image = image_sound b.logged fr.page own.is_sound (q.1.sound (c.1.content (λ e. absurd (cc))).1) in grind (arith, q, c, a, image, sums sharers, sums applied_locks, sums unapplied_locks, sums copies, sums works);
     cell = λ t q le c. grind (arith, q, c, a);
     others = λ t n m q c le d. let x = exclusive_alone b fr l m t q.1 c.1 d.1 (le applied_locks) (le unapplied_locks) (le sharers) (c.1.unapplied a.unapplied).right in page_changes b fr m (image_over b.logged fr.page) x.0 x.1 d.1;
   }

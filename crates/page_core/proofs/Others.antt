@@ -1,5 +1,5 @@
 -- What a step leaves of the links of the other views at the frame.
-use Rattle.std.proofs.Common.{◌≡◌, ◌≢◌, ℕ, ◌+◌, ◌≤◌, true, None, arith}
+use Rattle.std.proofs.Common.{◌≡◌, ◌≢◌, ℕ, ◌+◌, ◌≤◌, true, Option, Some, None, refl, arith}
 use Rattle.pin_core.specs.declared.view.Content.TheVariants.{Exclusive}
 use Rattle.pin_core.specs.declared.view.Io.TheVariants.{Input}
 use Rattle.pin_core.specs.declared.view.Link.{Link}
@@ -7,6 +7,8 @@ use Rattle.pin_core.specs.State.{Frame, Page}
 use Rattle.pin_core.specs.Tallies as pins
 use Rattle.pin_core.specs.Invariant.{FrameLaw, LinkLaw}
 use Rattle.pin_core.specs.Kinds as kinds
+use Rattle.page_layout.specs.Soundness.{is_sound_page}
+use Rattle.page_core.specs.Kinds.{image_over}
 use Rattle.page_core.specs.State.{Block}
 use Rattle.page_core.specs.Tallies.{Tally, pin, sharers, applied_locks, unapplied_locks, works, weigh, work_weight}
 use Rattle.page_core.specs.Invariant.{PageFrame, PageLink}
@@ -26,6 +28,11 @@ link_same b fr fr' m e h = grind (arith, e, h)
 -- the page of a frame changes, which another view has neither out nor read
 pub page_changes : (b : Block) (fr : Frame) (m : Link) (p : Page) → m.out ≡ None → m.io ≢ Input → PageLink b fr m → PageLink b (record fr { page = p }) m
 page_changes b fr m p home quiet h = grind (arith, home, quiet, h)
+
+-- the image of an entry is sound
+pub image_sound : (o : Option Page) (p : Page) → ((q : Page) → o ≡ Some q → is_sound_page q ≡ true) → is_sound_page p ≡ true → is_sound_page (image_over o p) ≡ true
+image_sound None p h e = e
+image_sound (Some q) p h e = h q refl
 
 -- beside the exclusive lock no other view has the page out, or an input right
 pub exclusive_alone : (b : Block) (fr : Frame) (l m : Link) (t : Tally → ℕ) → PageFrame b fr t → PageLink b fr l → PageLink b fr m → weigh applied_locks l + weigh applied_locks m ≤ t applied_locks → weigh unapplied_locks l + weigh unapplied_locks m ≤ t unapplied_locks → weigh sharers l + weigh sharers m ≤ t sharers → l.content ≡ Exclusive → (m.out ≡ None) × (m.io ≢ Input)

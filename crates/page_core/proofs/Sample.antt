@@ -12,6 +12,8 @@ use Rattle.pin_core.specs.Kinds as pins
 use Rattle.pin_core.specs.Turns.{TurnKind, take_turn, leave_turn, map_out, change_map, map_back, found, map_after}
 use Rattle.pin_core.specs.Steps as pin_steps
 use Rattle.pin_core.proofs.Sample.{packed}
+use Rattle.page_layout.specs.Fields.{header_of, lsn_of}
+use Rattle.page_layout.specs.Soundness.{is_new_page, is_sound_page}
 use Rattle.page_core.specs.State.{State}
 use Rattle.page_core.specs.Kinds.{Kind, start_input, note_read, page_out, overwrite_read, page_back, end_io, share, take_copy, leave_copy, unshare}
 use Rattle.page_core.specs.Steps.{state_after, HasNoWriteOut, rests, goes, cores, touches}
@@ -69,6 +71,13 @@ named e = absurd (omega arith)
 
 same_page : (p q : Page) → Some p ≡ Some q → q ≡ p
 same_page p q e = cc
+
+sound_sample : is_sound_page sample_page ≡ true
+unfolding is_sound_page is_new_page header_of lsn_of
+sound_sample = refl
+
+sound_read : (p : Page) → Some sample_page ≡ Some p → is_sound_page p ≡ true
+sound_read p e = subst (λ (x : Page). is_sound_page x ≡ true) (sym (same_page sample_page p e)) sound_sample
 
 abbrev s1 : State
 s1 = turned take_turn sample_start
@@ -207,7 +216,7 @@ sample = (
         (goes (touches 0 0 (overwrite_read sample_page) (view_of s14) refl refl (lit< tt) (record { out = λ e. cc; once = refl; right = refl; read = refl }) tt)
         (goes (touches 0 0 page_back (view_of s15) refl refl (lit< tt) (record { out = λ e. cc }) tt)
         (goes (cores (pin_steps.touches 0 0 pins.lock_header (view_of s16) refl refl (lit< tt) (record { unlocked = refl }) (at_one (λ (l : Link). l.header ≡ None) (view_of s16) _ refl refl refl)))
-        (goes (touches 0 0 (end_io ReadOk) (view_of s17) refl refl (lit< tt) (record { held = refl; page_home = λ e. refl; ends = record { right = refl; read = λ e. cc; home = refl } }) no_lanes)
+        (goes (touches 0 0 (end_io ReadOk) (view_of s17) refl refl (lit< tt) (record { held = refl; page_home = λ e. refl; ends = record { right = refl; read = λ e. cc; sound = sound_read; home = refl } }) no_lanes)
         (goes (cores (pin_steps.touches 0 0 pins.load_state (view_of s18) refl refl (lit< tt) tt tt))
         (goes (touches 0 0 share (view_of s19) refl refl (lit< tt) (record { pinned = λ e. cc; seen = refl; none = refl; free = refl }) tt)
         (goes (touches 0 0 take_copy (view_of s20) refl refl (lit< tt) (record { right = refl; free = refl }) tt)

@@ -13,6 +13,7 @@ use Rattle.pin_core.specs.Invariant.{HasTag}
 use Rattle.pin_core.specs.Kinds.{unpin}
 use Rattle.pin_core.specs.Steps as pin_steps
 use Rattle.pin_core.specs.Schedules.{IsHandedOut, KeepsTag}
+use Rattle.page_layout.specs.Soundness.{is_sound_page}
 use Rattle.page_core.specs.State.{State, opening}
 use Rattle.page_core.specs.Steps.{Event, pins_and_maps, Run}
 
@@ -103,7 +104,11 @@ NoneUnapplied s f = (i : ℕ) (v : View) → get_elem? s.core.views i ≡ some v
 abbrev pub FramesHoldPages : State → Type 0
 FramesHoldPages s = (f : ℕ) (p : Page) → f < s.core.frames → HasTag (s.core.frame f) → (s.core.frame f).word.valid ≡ true → NoneUnapplied s f → s.logged (s.core.frame f).tag ≡ Some p → (s.core.frame f).page ≡ p
 
--- so is a page that a view has copied under its content lock, and one that the lane gave under its input right
+-- the page of a valid frame is sound
+abbrev pub ValidPagesAreSound : State → Type 0
+ValidPagesAreSound s = (f : ℕ) → f < s.core.frames → (s.core.frame f).word.valid ≡ true → is_sound_page (s.core.frame f).page ≡ true
+
+-- the block's page after the log is also a page that a view has copied under its content lock, and one that the lane gave under its input right
 pub record CopiesArePages (s : State) : Type 0 where
   pub copied : (i f : ℕ) (v : View) (p q : Page) → get_elem? s.core.views i ≡ some v → f < s.core.frames → (link v f).copied ≡ Some p → s.logged (s.core.frame f).tag ≡ Some q → q ≡ p
   pub read : (i f : ℕ) (v : View) (p q : Page) → get_elem? s.core.views i ≡ some v → f < s.core.frames → (link v f).read ≡ Some p → s.logged (s.core.frame f).tag ≡ Some q → q ≡ p

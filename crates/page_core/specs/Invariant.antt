@@ -9,6 +9,7 @@ use Rattle.pin_core.specs.State.{Frame, Page, no_tag}
 use Rattle.pin_core.specs.Tallies.{flag_weight}
 use Rattle.pin_core.specs.Invariant.{HasTag, FrameLaw, LinkLaw}
 use Rattle.pin_core.specs.Invariant as pins
+use Rattle.page_layout.specs.Soundness.{is_sound_page}
 use Rattle.page_core.specs.State.{Block, State, block_of}
 use Rattle.page_core.specs.Tallies.{Tally, pin, sharers, applied_locks, unapplied_locks, copies, works, page_shape}
 use Rattle.grid.specs.Shape.{Part, Grid}
@@ -25,6 +26,8 @@ pub record PageFrame (b : Block) (fr : Frame) (t : Tally → ℕ) : Type 0 where
   pub copying : flag_weight fr.copying ≡ t copies
   -- BM_IO_IN_PROGRESS stands exactly where one view has the input or output right
   pub working : flag_weight fr.word.in_progress ≡ t works
+  -- the page of a valid frame is sound
+  pub sound : fr.word.valid ≡ true → is_sound_page fr.page ≡ true
   -- the page of a valid frame is the block's page after the log, where that is known, unless a view has an entry to apply there
   pub page : (p : Page) → fr.word.valid ≡ true → fr.tag ≢ no_tag → t unapplied_locks ≡ 0 → b.logged ≡ Some p → p ≡ fr.page
 
@@ -40,8 +43,9 @@ pub record UnappliedLink (b : Block) (l : Link) : Type 0 where
   -- it has the exclusive lock, and marked the frame dirty
   pub right : l.content ≡ Exclusive
   pub dirtied : l.dirtied ≡ true
-  -- the block's page after the log is known: it is the entry's image
+  -- the block's page after the log is known: it is the entry's image, and sound
   pub is_known : b.logged ≢ None
+  pub is_sound : (p : Page) → b.logged ≡ Some p → is_sound_page p ≡ true
   -- it notes no copy
   pub uncopied : l.copied ≡ None
 

@@ -17,6 +17,7 @@ use Rattle.pin_core.specs.declared.view.Link.{Link}
 use Rattle.pin_core.specs.declared.view.View.{View}
 use Rattle.pin_core.specs.State.{Frame, Page}
 use Rattle.pin_core.specs.Kinds.{released, load_of}
+use Rattle.page_layout.specs.Soundness.{is_new_page, is_sound_page}
 use Rattle.page_core.specs.State.{Block}
 
 pub data Kind : Type 0 where
@@ -123,11 +124,13 @@ pub record CanNoteRead (p : Page) (b : Block) (fr : Frame) (l : Link) : Type 0 w
 pub record CanNoteWrite (fr : Frame) (l : Link) : Type 0 where
   pub right : l.io ≡ Output
 
--- and no entry of the view is unapplied at another frame (`AllowedAround`)
-pub record CanMakeEntry (fr : Frame) (l : Link) : Type 0 where
+-- the entry's page is sound and not new (`PageIsVerifiedExtended`, `PageIsNew`), and no entry of the view is unapplied at another frame (`AllowedAround`)
+pub record CanMakeEntry (p : Page) (fr : Frame) (l : Link) : Type 0 where
   pub right : l.content ≡ Exclusive
   pub dirtied : l.dirtied ≡ true
   pub settled : l.unapplied ≡ false
+  pub sound : is_sound_page p ≡ true
+  pub used : is_new_page p ≡ false
 
 -- the header, and the view has no input or output right, here or elsewhere (`AllowedAround`)
 pub record CanStartInput (fr : Frame) (l : Link) : Type 0 where
@@ -150,10 +153,11 @@ pub record CanClearJustDirtied (fr : Frame) (l : Link) : Type 0 where
   pub held : l.header ≡ Some fr.word
   pub right : l.io ≡ Output
 
--- a read ends well where the page that the lane gave is the frame's, in its place
+-- a read ends well where the page that the lane gave is sound, and is the frame's, in its place
 pub record CanEndRead (l : Link) : Type 0 where
   pub right : l.io ≡ Input
   pub read : l.read ≢ None
+  pub sound : (p : Page) → l.read ≡ Some p → is_sound_page p ≡ true
   pub home : l.read_is_home ≡ true
 
 -- a write ends well where its last lane write was done
@@ -187,7 +191,7 @@ Allowed (overwrite_read p) b fr l = CanOverwriteRead p fr l
 Allowed page_back b fr l = CanReturnPage fr l
 Allowed (note_read p) b fr l = CanNoteRead p b fr l
 Allowed (note_write done) b fr l = CanNoteWrite fr l
-Allowed (make_entry p) b fr l = CanMakeEntry fr l
+Allowed (make_entry p) b fr l = CanMakeEntry p fr l
 Allowed start_input b fr l = CanStartInput fr l
 Allowed start_output b fr l = CanStartOutput fr l
 Allowed clear_just_dirtied b fr l = CanClearJustDirtied fr l

@@ -18,9 +18,9 @@ use Rattle.page_core.specs.Steps.{Event, pins_and_maps, at, Run}
 abbrev pub sample_config : Config
 sample_config = record { frames = 1; partitions = 1; partition_of = λ _. 0; lanes = 0; backends = 1; base = 0 }
 
--- the page that the lane holds for each block
+-- the page that the lane holds for each block, as far as its header goes: no flags, the line pointers end at 24, and items and special space begin at 8192
 abbrev pub sample_page : Page
-sample_page = 10 ∷ 20 ∷ 30 ∷ []
+sample_page = 0 ∷ 0 ∷ 0 ∷ 0 ∷ 0 ∷ 0 ∷ 0 ∷ 0 ∷ 0 ∷ 0 ∷ 0 ∷ 0 ∷ 24 ∷ 0 ∷ 0 ∷ 32 ∷ 0 ∷ 32 ∷ 4 ∷ 32 ∷ 0 ∷ 0 ∷ 0 ∷ 0 ∷ []
 
 abbrev pub sample_start : State
 sample_start = opening sample_config (λ _. Some sample_page) []

@@ -10,7 +10,7 @@ ghost use Rattle.pin_core.specs.Invariant.{AllAccounted};
 ghost use Rattle.page_core.specs.State.{State, opening};
 ghost use Rattle.page_core.specs.Invariant.{Invariant};
 ghost use Rattle.page_core.specs.Steps.{Event, Run};
-ghost use Rattle.page_core.specs.Histories.{IsReached, PinnedTagsStay, ContentLocks, OneIo, RightsNeedPins, CopyLatches, DirtiedFramesAreDirty, OnePageOut, FramesHoldPages, CopiesArePages};
+ghost use Rattle.page_core.specs.Histories.{IsReached, PinnedTagsStay, ContentLocks, OneIo, RightsNeedPins, CopyLatches, DirtiedFramesAreDirty, OnePageOut, FramesHoldPages, ValidPagesAreSound, CopiesArePages};
 ghost use Rattle.page_core.specs.Sample.{SampleRuns};
 
 /// What every list of events keeps, whatever the backends do and in whatever order.
@@ -44,6 +44,7 @@ pub fn all_histories()
     ensures dirtied { (s : State) → IsReached s → DirtiedFramesAreDirty s }
     ensures one_out { (s : State) → IsReached s → OnePageOut s }
     ensures frames_hold { (s : State) → IsReached s → FramesHoldPages s }
+    ensures sound { (s : State) → IsReached s → ValidPagesAreSound s }
     ensures copies_are { (s : State) → IsReached s → CopiesArePages s }
 {}
 

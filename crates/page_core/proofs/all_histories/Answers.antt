@@ -1,7 +1,7 @@
 use Rattle.pin_core.proofs.Schedules as pins
 use Rattle.page_core.proofs.Opening.{opens}
 use Rattle.page_core.proofs.Stepping.{run_keeps}
-use Rattle.page_core.proofs.Histories.{reached, stay, copy_latches, dirtied, locks, one_io, rights, one_out, frames_hold, copies_are}
+use Rattle.page_core.proofs.Histories.{reached, stay, copy_latches, dirtied, locks, one_io, rights, one_out, frames_hold, sound, copies_are}
 use Rattle.page_core.proofs.all_histories.Goals as goal
 
 pub returns-clause-kept : goal.returns-clause-kept
@@ -75,6 +75,9 @@ returns-clause-one_out c = λ s r. one_out s (reached s r)
 
 pub returns-clause-frames_hold : goal.returns-clause-frames_hold
 returns-clause-frames_hold c = λ s r. frames_hold s (reached s r)
+
+pub returns-clause-sound : goal.returns-clause-sound
+returns-clause-sound c = λ s r. sound s (reached s r)
 
 pub returns-clause-copies_are : goal.returns-clause-copies_are
 returns-clause-copies_are c = λ s r. copies_are s (reached s r)
