@@ -86,15 +86,20 @@ pub record PageLink (b : Block) (fr : Frame) (l : Link) : Type 0 where
   pub written : l.last_write ≢ Unwritten → l.io ≡ Output
   -- a view that stored the tag word has neither lock nor right there
   pub pending : l.pending ≡ true → (l.content ≡ Unlocked) × (l.io ≡ Quiet)
+  -- a view that marked the frame dirty under its exclusive lock has that lock still, and BM_DIRTY and BM_JUST_DIRTIED stand
   pub dirtied : l.dirtied ≡ true → DirtiedLink fr l
+  -- a view with an entry to apply to the page has the exclusive lock, marked the frame dirty, and notes no copy; the entry's image is known and sound
   pub unapplied : l.unapplied ≡ true → UnappliedLink b l
+  -- a page noted as copied is the block's page after the log, where that is known, and the content lock is held still
   pub copied : (p : Page) → l.copied ≡ Some p → CopiedLink b l p
+  -- a page noted as read is the block's page after the log, where that is known, and the frame's once it is home; the input right is held still
   pub read : (p : Page) → l.read ≡ Some p → ReadLink b fr l p
   -- the page is out only under the exclusive lock, the copy latch or the input right
   pub out_shared : l.out ≢ None → l.content ≡ Shared → l.copying ≡ true
   pub out_unlocked : l.out ≢ None → l.content ≡ Unlocked → l.io ≡ Input
   -- a page that is out is as it was taken, or as it was overwritten
   pub taken : (p : Page) → l.out ≡ Some p → l.overwritten ≡ None → fr.page ≡ p
+  -- a page that was overwritten is out, and is what it was overwritten with; under an input right that is the page noted as read
   pub overwritten : (q : Page) → l.overwritten ≡ Some q → OverwrittenLink fr l q
 
 abbrev pub page_part : Part page_shape
@@ -104,7 +109,7 @@ page_part = record { column = PageFrame; cell = λ b fr _ l. PageLink b fr l }
 abbrev pub pin_part : Part page_shape
 pin_part = record { column = λ _ fr t. FrameLaw fr (λ k. t (pin k)); cell = λ _ fr _ l. LinkLaw fr l }
 
--- The law of pins, headers, tags and maps, and that of content locks, pages, input and output
+-- What holds of pins, headers, tags and maps, and of content locks, pages, input and output
 pub record Invariant (s : State) : Type 0 where
   pub core : pins.Invariant s.core
   pub pages : Grid page_shape page_part s.core.frames s.core.frame (block_of s.logged) s.core.views

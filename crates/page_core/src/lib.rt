@@ -1,6 +1,6 @@
 //! Content locks, pages, input and output, as plain data: what a step may be, and what every list of steps keeps.
 //!
-//! Nothing here runs. The types are those of `pin_core`; the kinds of step, the law that they keep and the lists of steps are in `specs/`, and docs/PROTOCOL.md tells them in words.
+//! Nothing here runs. The types are those of `pin_core`; the kinds of step, the invariant that they keep and the lists of steps are in `specs/`, and docs/PROTOCOL.md tells them in words.
 #![tactic(auto)]
 
 ghost use Rattle.std.specs.Prelude.{ℕ, ◌<◌, List, Option};
@@ -15,7 +15,7 @@ ghost use Rattle.page_core.specs.Sample.{SampleRuns};
 
 /// What every list of events keeps, whatever the backends do and in whatever order.
 pub fn all_histories()
-    // From every state that has the law every list of events leads to one that has it, and the state at the start has it.
+    // Where the invariant holds it holds after every list of events, and it holds at the start.
     ensures kept { (es : List Event) (s : State) (t : State) → Invariant s → Run es s t → Invariant t }
     ensures opens { (config : Config) (origin : ℕ → Option Page) (page : Page) → CanOpen config → Invariant (opening config origin page) }
 
@@ -43,8 +43,10 @@ pub fn all_histories()
     ensures copy_latches { (s : State) (f : ℕ) → IsReached s → f < s.core.frames → CopyLatches s f }
     ensures dirtied { (s : State) → IsReached s → DirtiedFramesAreDirty s }
     ensures one_out { (s : State) → IsReached s → OnePageOut s }
-    ensures frames_hold { (s : State) → IsReached s → FramesHoldPages s }
     ensures sound { (s : State) → IsReached s → ValidPagesAreSound s }
+
+    // over lists in which each read that is noted gives the block's page after the log, where that is known (the kind asks for it until the steps of lanes come):
+    ensures frames_hold { (s : State) → IsReached s → FramesHoldPages s }
     ensures copies_are { (s : State) → IsReached s → CopiesArePages s }
 {}
 

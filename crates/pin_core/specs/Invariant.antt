@@ -51,8 +51,9 @@ pub record FrameLaw (fr : Frame) (t : Tally → ℕ) : Type 0 where
   pub valid : fr.word.valid ≡ true → fr.word.tag_valid ≡ true
   -- BM_TAG_VALID agrees with the tag word, but between a store of the tag word and the frame's being assigned or cleared
   pub tagged : t pendings ≡ 0 → TagsAgree fr
+  -- between the two it has one pin and isn't dirty, and BM_TAG_VALID is as it was before the store
   pub pending : 0 < t pendings → PendingFrame fr
-  -- a view that has stored the tag word pins the frame, and holds its header
+  -- each view that has stored the tag word pins the frame, and holds its header
   pub pending_pins : t pins ≡ t pendings + t settled_pins
   pub pending_headers : t headers ≡ t pendings + t settled_headers
 
@@ -78,6 +79,7 @@ pub record LinkLaw (fr : Frame) (l : Link) : Type 0 where
   pub seen : l.seen_valid ≡ true → fr.word.valid ≡ true
   -- only a pin remembers
   pub unpinned : l.role ≡ Absent → (l.tag ≡ None) × (l.seen_valid ≡ false)
+  -- a view that has stored the tag word holds the header, and its victim pin knows neither the tag nor BM_VALID
   pub pending : l.pending ≡ true → PendingLink l
 
 abbrev pub pin_part : Part frame_shape
@@ -107,7 +109,7 @@ AllAccounted views = (v : View) → get_elem? views 0 ≡ some v → total (λ (
 abbrev pub TagsApart : ℕ → (ℕ → Frame) → Type 0
 TagsApart frames frame = (f g : ℕ) → f < frames → g < frames → (frame f).tag ≢ no_tag → (frame f).tag ≡ (frame g).tag → f ≡ g
 
--- The law of pins, headers, tags and maps
+-- What holds of pins, headers, tags and maps
 pub record Invariant (s : State) : Type 0 where
   pub grid : Grid frame_shape pin_part s.frames s.frame (λ _. tt) s.views
   pub turns : Grid turn_shape turn_part s.partitions s.partition (λ _. tt) s.views

@@ -31,7 +31,7 @@ pub record Frame : Type 0 where
   pub word : StateWord
   -- the tag word: a packed buffer tag, or `no_tag`
   pub tag : ℕ
-  -- the content word: how many backends share the content lock, whether one has it exclusively, and whether a sharer has the page out to copy it
+  -- the content word: how many backends share the content lock, whether one has it exclusively, and whether a sharer may take the page out to copy it
   pub sharers : ℕ
   pub exclusive : Bool
   pub copying : Bool

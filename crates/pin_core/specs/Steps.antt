@@ -54,7 +54,7 @@ pub data Event : Type 0 where
   split : Event
   join : ℕ → Event
 
--- a view has neither pin nor right at a frame
+-- a view has nothing at a frame that it must give back
 pub record IsFree (l : Link) : Type 0 where
   pub no_pin : l.role ≡ Absent
   pub no_header : l.header ≡ None

@@ -1,6 +1,6 @@
-//! Pins, buffer headers and buffer tags, as plain data: what a step may be, and what every list of steps keeps.
+//! Pins, buffer headers, buffer tags, and the partitions of the mapping table with their maps, as plain data: what a step may be, and what every list of steps keeps.
 //!
-//! Nothing here runs. The types are what a backend knows ([`View`]); the kinds of step, the law that they keep and the lists of steps are in `specs/`, and docs/PROTOCOL.md tells them in words.
+//! Nothing here runs. The types are what a backend knows ([`View`]); the kinds of step, the invariant that they keep and the lists of steps are in `specs/`, and docs/PROTOCOL.md tells them in words.
 #![tactic(auto)]
 
 ghost use Rattle.std.specs.Prelude.{List};
@@ -19,7 +19,7 @@ pub use view::{
 
 /// What every list of events keeps, whatever the backends do and in whatever order.
 pub fn all_schedules()
-    // From every state that has the law every list of events leads to one that has it, and the state at the start has it.
+    // Where the invariant holds it holds after every list of events, and it holds at the start.
     ensures kept { (es : List Event) (s : State) (t : State) → Invariant s → Run es s t → Invariant t }
     ensures opens { (config : Config) (page : Page) → CanOpen config → Invariant (opening config page) }
 
