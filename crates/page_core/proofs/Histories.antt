@@ -12,8 +12,8 @@ use Rattle.pin_core.specs.declared.view.View.{View}
 use Rattle.pin_core.specs.State.{Frame, link}
 use Rattle.pin_core.specs.Tallies.{flag_weight}
 use Rattle.page_core.specs.State.{Block, State, block_of}
-use Rattle.page_core.specs.Tallies.{Tally, sharers, applied_locks, unapplied_locks, copies, works, weigh, share_weight, exclusive_weight, work_weight, page_shape}
-use Rattle.page_core.specs.Invariant.{PageFrame, PageLink, Invariant}
+use Rattle.page_core.specs.Tallies.{sharers, applied_locks, unapplied_locks, copies, works, outs, weigh, share_weight, exclusive_weight, work_weight, page_shape}
+use Rattle.page_core.specs.Invariant.{PageLink, Invariant}
 use Rattle.page_core.specs.Histories.{IsReached, HasNoUnpin, PinnedTagsStay, is_shared, is_exclusive, is_working, shares, excludes, works_on, ContentLocks, OneIo, copies_at, CopyLatches, DirtiedFramesAreDirty, RightsNeedPins, OnePageOut, FramesHoldPages, ValidPagesAreSound, CopiesArePages}
 use Rattle.grid.specs.Shape.{tallies, total}
 use Rattle.grid.proofs.Sums.{total-count, total-add, total-same, total-none, terms_le}
@@ -75,9 +75,8 @@ applied_or_not : (b : Block) (fr : Frame) (l : Link) → PageLink b fr l → exc
 applied_or_not b fr l h = grind (arith, h)
 
 -- two views that have the page out
-both_out : (b : Block) (fr : Frame) (l m : Link) (t : Tally → ℕ) → PageFrame b fr t → PageLink b fr l → PageLink b fr m → weigh sharers l + weigh sharers m ≤ t sharers → weigh applied_locks l + weigh applied_locks m ≤ t applied_locks → weigh unapplied_locks l + weigh unapplied_locks m ≤ t unapplied_locks → weigh copies l + weigh copies m ≤ t copies
-    → weigh works l + weigh works m ≤ t works → l.out ≢ None → m.out ≢ None → ⊥
-both_out b fr l m t q c d x y z w o a e = grind (arith, q, c, d, x, y, z, w, o, a, e)
+both_out : (l m : Link) (n : ℕ) → n ≤ 1 → weigh outs l + weigh outs m ≤ n → l.out ≢ None → m.out ≢ None → ⊥
+both_out l m n few le o a = grind (arith, few, le, o, a)
 
 module _ (s : State) (h : Invariant s) where
   pub locks : (f : ℕ) → f < s.core.frames → ContentLocks s f
@@ -109,11 +108,8 @@ module _ (s : State) (h : Invariant s) where
   }
 
   pub one_out : OnePageOut s
-  one_out i j f v u there here below a e = dite (ℕ_discrete i j) (λ same. same) (λ o. absurd (both_out (block_of s.logged (s.core.frame f).tag) (s.core.frame f) (link u f) (link v f) (tallies page_shape s.core.views f) (h.pages.columns f below) (h.pages.cells j u f here below) (h.pages.cells i v f there below)
-      (sums o sharers) (sums o applied_locks) (sums o unapplied_locks) (sums o copies) (sums o works) e a))
-    where
-      sums : i ≢ j → (k : Tally) → weigh k (link u f) + weigh k (link v f) ≤ tallies page_shape s.core.views f k
-      sums o k = terms_le (λ (x : View). weigh k (link x f)) s.core.views j i u v o here there
+  one_out i j f v u there here below a e = dite (ℕ_discrete i j) (λ same. same)
+      (λ o. absurd (both_out (link u f) (link v f) (tallies page_shape s.core.views f outs) (h.pages.columns f below).one_out (terms_le (λ (x : View). weigh outs (link x f)) s.core.views j i u v o here there) e a))
 
   pub frames_hold : FramesHoldPages s
   frames_hold f p below tag valid none is = sym ((h.pages.columns f below).page p valid tag.named (total-none (λ (v : View). weigh unapplied_locks (link v f)) s.core.views (λ i v there. ap flag_weight (none i v there))) is)

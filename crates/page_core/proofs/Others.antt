@@ -1,5 +1,6 @@
 -- What a step leaves of the links of the other views at the frame.
 use Rattle.std.proofs.Common.{◌≡◌, ◌≢◌, ℕ, ◌+◌, ◌≤◌, true, Option, Some, None, refl, arith}
+use Rattle.state_word.specs.declared.word.IoEnd.TheVariants.{Bad}
 use Rattle.pin_core.specs.declared.view.Content.TheVariants.{Exclusive}
 use Rattle.pin_core.specs.declared.view.Io.TheVariants.{Input}
 use Rattle.pin_core.specs.declared.view.Link.{Link}
@@ -8,9 +9,10 @@ use Rattle.pin_core.specs.Tallies as pins
 use Rattle.pin_core.specs.Invariant.{FrameLaw, LinkLaw}
 use Rattle.pin_core.specs.Kinds as kinds
 use Rattle.page_layout.specs.Soundness.{is_sound_page}
-use Rattle.page_core.specs.Kinds.{image_over}
+use Rattle.page_core.specs.Kinds.{image_over, CanTakePage, CanEndIo}
+use Rattle.page_core.specs.Kinds as page_kinds
 use Rattle.page_core.specs.State.{Block}
-use Rattle.page_core.specs.Tallies.{Tally, pin, sharers, applied_locks, unapplied_locks, works, weigh, work_weight}
+use Rattle.page_core.specs.Tallies.{Tally, pin, sharers, applied_locks, unapplied_locks, copies, works, outs, weigh, work_weight}
 use Rattle.page_core.specs.Invariant.{PageFrame, PageLink}
 
 -- The frame is for a link what it was
@@ -42,6 +44,10 @@ exclusive_alone b fr l m t q c d x y z e = grind (arith, q, c, d, x, y, z, e)
 pub input_alone : (b : Block) (fr : Frame) (l m : Link) (t : Tally → ℕ) → PageFrame b fr t → PageLink b fr l → PageLink b fr m → weigh works l + weigh works m ≤ t works → l.io ≡ Input → (m.out ≡ None) × (m.io ≢ Input)
 input_alone b fr l m t q c d x e = grind (arith, q, c, d, x, e)
 
+-- where a view may take the page out no other view has it out
+pub takes_alone : (b : Block) (fr : Frame) (l m : Link) (t : Tally → ℕ) → PageFrame b fr t → PageLink b fr l → PageLink b fr m → ((k : Tally) → weigh k l + weigh k m ≤ t k) → CanTakePage fr l → weigh outs m ≡ 0
+takes_alone b fr l m t q c d both a = grind (arith, q, c, d, a, both sharers, both applied_locks, both unapplied_locks, both copies, both works)
+
 -- beside the view that stored the tag word no other view has a right there
 pub pending_alone : (b : Block) (fr : Frame) (l m : Link) (t : Tally → ℕ) → FrameLaw fr (λ k. t (pin k)) → LinkLaw fr l → PageLink b fr m → weigh (pin pins.pendings) l ≤ t (pin pins.pendings) → weigh (pin pins.pins) l + weigh (pin pins.pins) m ≤ t (pin pins.pins) → l.pending ≡ true → work_weight m.io ≡ 0
 pending_alone b fr l m t q c d x y e = grind (arith, q, c, d, x, y, e)
@@ -58,3 +64,7 @@ unlock_header_link b fr l h = grind (arith, h)
 
 pub load_tag_link : (b : Block) (fr : Frame) (l : Link) → PageLink b fr l → PageLink b (kinds.frame_after kinds.load_tag fr) (kinds.link_after kinds.load_tag fr l)
 load_tag_link b fr l h = grind (arith, h)
+
+-- the failed end of input or output leaves what holds of a link
+pub end_badly_link : (b : Block) (fr : Frame) (l : Link) → PageLink b fr l → CanEndIo Bad fr l → PageLink b (page_kinds.frame_after (page_kinds.end_io Bad) b fr) (page_kinds.link_after (page_kinds.end_io Bad) b fr l)
+end_badly_link b fr l h a = grind (arith, h, a)

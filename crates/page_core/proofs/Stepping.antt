@@ -17,7 +17,7 @@ use Rattle.pin_core.proofs.Views.{link_new}
 use Rattle.pin_core.proofs.Stepping as pin_stepping
 use Rattle.pin_core.proofs.Stepping.{local_keeps}
 use Rattle.page_core.specs.State.{Block, State, block_of}
-use Rattle.page_core.specs.Tallies.{Tally, pin, sharers, applied_locks, unapplied_locks, copies, works, weigh, page_shape}
+use Rattle.page_core.specs.Tallies.{Tally, pin, sharers, applied_locks, unapplied_locks, copies, works, outs, weigh, page_shape}
 use Rattle.page_core.specs.Invariant.{PageLink, page_part, pin_part, Invariant}
 use Rattle.page_core.specs.Kinds.{Kind, Allowed, frame_after, block_after, link_after, view_after}
 use Rattle.page_core.specs.Steps.{Event, logged_after, state_after, Step, cores, touches, Run, rests, goes}
@@ -102,6 +102,7 @@ none applied_locks = refl
 none unapplied_locks = refl
 none copies = refl
 none works = refl
+none outs = refl
 
 pub idle_link : (b : Block) (fr : Frame) → PageLink b fr idle
 idle_link b fr = grind arith
@@ -115,7 +116,7 @@ new_link b number base n p m f fr = subst (PageLink b fr) (sym (link_new n p m n
 -- a view that has nothing at a frame may be forgotten there
 forgets : (b : Block) (fr : Frame) (l : Link) → IsFree l → Keeps page_shape known page_part b b tt tt fr l fr idle
 forgets b fr l a = record {
-  column = λ t t' q c sums le _. grind (arith, q, c, a, sums sharers, sums applied_locks, sums unapplied_locks, sums copies, sums works);
+  column = λ t t' q c sums le _. grind (arith, q, c, a, sums sharers, sums applied_locks, sums unapplied_locks, sums copies, sums works, sums outs);
   cell = λ t q le c. idle_link b fr;
   others = λ t n m q c le d. d.1;
 }

@@ -1,5 +1,5 @@
 -- What holds of content locks, pages, input and output in every state that steps lead to.
-use Rattle.std.specs.Prelude.{◌≡◌, ◌≢◌, ℕ, ◌+◌, true, false, Some, None}
+use Rattle.std.specs.Prelude.{◌≡◌, ◌≢◌, ℕ, ◌+◌, ◌≤◌, true, false, Some, None}
 use Rattle.pin_core.specs.declared.view.Role.TheVariants.{Absent}
 use Rattle.pin_core.specs.declared.view.Content.TheVariants.{Unlocked, Shared, Exclusive}
 use Rattle.pin_core.specs.declared.view.Io.TheVariants.{Quiet, Input, Output}
@@ -11,7 +11,7 @@ use Rattle.pin_core.specs.Invariant.{HasTag, FrameLaw, LinkLaw}
 use Rattle.pin_core.specs.Invariant as pins
 use Rattle.page_layout.specs.Soundness.{is_sound_page}
 use Rattle.page_core.specs.State.{Block, State, block_of}
-use Rattle.page_core.specs.Tallies.{Tally, pin, sharers, applied_locks, unapplied_locks, copies, works, page_shape}
+use Rattle.page_core.specs.Tallies.{Tally, pin, sharers, applied_locks, unapplied_locks, copies, works, outs, page_shape}
 use Rattle.grid.specs.Shape.{Part, Grid}
 
 -- What holds of a frame with its page and of the sums over the views there
@@ -26,6 +26,8 @@ pub record PageFrame (b : Block) (fr : Frame) (t : Tally → ℕ) : Type 0 where
   pub copying : flag_weight fr.copying ≡ t copies
   -- BM_IO_IN_PROGRESS stands exactly where one view has the input or output right
   pub working : flag_weight fr.word.in_progress ≡ t works
+  -- the page is out with one view at most
+  pub one_out : t outs ≤ 1
   -- the page of a valid frame is sound
   pub sound : fr.word.valid ≡ true → is_sound_page fr.page ≡ true
   -- the page of a valid frame is the block's page after the log, where that is known, unless a view has an entry to apply there

@@ -25,6 +25,8 @@ pub data Tally : Type 0 where
   copies : Tally
   -- those that have an input or output right
   works : Tally
+  -- those that have the page out
+  outs : Tally
 
 abbrev pub share_weight : Content → ℕ
 share_weight Unlocked = 0
@@ -48,6 +50,7 @@ weigh applied_locks l = unless_flag l.unapplied (exclusive_weight l.content)
 weigh unapplied_locks l = flag_weight l.unapplied
 weigh copies l = flag_weight l.copying
 weigh works l = work_weight l.io
+weigh outs l = some_weight l.out
 
 -- the grid of views and frames, where a frame names the block of its tag word
 abbrev pub page_shape : Shape
