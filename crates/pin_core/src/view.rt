@@ -252,11 +252,11 @@ pub struct View {
     /// One for each lane.
     pub lanes: [LaneHold; 0],
     pub log: LogHold,
-    /// The flushed position as last loaded.
+    /// The flushed position as last loaded; where the log begins, before the first load.
     pub flushed: u64,
     /// The pages read and written, in order.
     pub calls: [Call; 0],
-    /// The largest place of the calls.
+    /// The largest place of the calls; where the log begins, where there are none.
     pub front: u64,
     /// How many loads of the log end gave a read its place.
     pub place_loads: u64,
