@@ -70,16 +70,15 @@ unlocked_fields s = record s { locked = false }
 abbrev pub io_started_fields : StateWord → StateWord
 io_started_fields s = record s { in_progress = true }
 
--- the read or write of the page ends (`TerminateBufferIO`). After a write the page stays dirty, and the
--- checkpoint still needs it, only where it was dirtied again since the write began.
+-- after a good write the page is dirty, and the checkpoint has still to write it, only where it was dirtied
+-- again since the write began
+abbrev pub written_fields : StateWord → StateWord
+written_fields s = record s { dirty = s.just_dirtied && s.dirty; checkpoint_needed = s.just_dirtied && s.checkpoint_needed }
+
+-- the read or write of the page ends (`TerminateBufferIO`)
 abbrev pub io_ended_fields : IoEnd → StateWord → StateWord
 io_ended_fields ReadOk s = record s { in_progress = false; failed = false; valid = true }
-io_ended_fields WriteOk s = record s {
-  in_progress = false;
-  failed = false;
-  dirty = s.just_dirtied && s.dirty;
-  checkpoint_needed = s.just_dirtied && s.checkpoint_needed;
-}
+io_ended_fields WriteOk s = record (written_fields s) { in_progress = false; failed = false }
 io_ended_fields Bad s = record s { in_progress = false; failed = true }
 
 -- the page is changed (`MarkBufferDirty`)

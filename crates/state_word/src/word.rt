@@ -1,6 +1,7 @@
 //! What a state word has in it, field by field, and the names of its flags.
 
-/// The fields of a state word, as the contracts read them (`specs/Fields.antt`). The program keeps the packed number, and makes no value of this type.
+/// The fields of a state word, as the contracts read them (`specs/Fields.antt`). The program keeps the
+/// packed number, and makes no value of this type.
 pub struct StateWord {
     /// The reference count: how many pins stand on the frame.
     pub pins: u32,
@@ -30,7 +31,7 @@ pub struct StateWord {
     pub waiter: u32,
 }
 
-/// One flag of a state word, by the name that `buf_internals.h` gives it after `BM_`.
+/// One flag of a state word, by the name that `buf_internals.h` gives it after `BM_`, lowest bit first.
 #[derive(Clone, Copy, PartialEq, Eq, Debug)]
 pub enum Flag {
     Locked,

@@ -1,0 +1,4 @@
+pub mod RelationPath
+pub mod Numbers
+pub mod Grammar
+pub mod Spelled

@@ -1,0 +1,12 @@
+//! The words of a command line, and the command that they spell.
+#![tactic(auto)]
+
+mod commands;
+mod grammar;
+mod numbers;
+mod relation_path;
+#[cfg(test)]
+mod tests;
+
+pub use commands::{Command, read_command};
+pub use numbers::Options;

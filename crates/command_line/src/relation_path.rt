@@ -1,0 +1,110 @@
+// Which paths name a file of a relation.
+ghost use Rattle.std.specs.Prelude.{◌≡◌, ◌^◌, ◌-◌, min};
+ghost use Rattle.std.specs.List.{list_all};
+ghost use Rattle.command_line.specs.RelationPath.{file_name, fork_length, is_digit, is_file_end, is_file_of, is_main_fork, is_relation_number, is_relation_path, number_value};
+ghost use Rattle.segment_store.specs.Paths.{fork_of};
+
+use block_tag::Fork;
+use segment_store::fork_of_path;
+
+/// How many bytes of a file's name stand for its fork.
+fn fork_length(fork: Fork) -> usize
+    ensures { result ≡ fork_length fork }
+{
+    match fork {
+        Fork::Main => 0,
+        Fork::Fsm => "_fsm".len(),
+        Fork::Vm => "_vm".len(),
+        Fork::Init => "_init".len(),
+    }
+}
+
+/// What stands behind the last slash.
+fn file_name(path: &[u8]) -> &[u8]
+    ensures { result.now ≡ file_name path.now }
+{
+    let mut start = path.len();
+    while start > 0 && path[start - 1] != b'/' {
+        start -= 1;
+    }
+    &path[start..]
+}
+
+/// The number that digits are in decimal, at most `u64::MAX`.
+fn number_value(digits: &[u8]) -> u64
+    ensures { result ≡ min (number_value digits.now) (2 ^ 64 - 1) }
+{
+    let mut value = 0u64;
+    for digit in digits {
+        value = value
+            .saturating_mul(10)
+            .saturating_add(u64::from(digit.saturating_sub(b'0')));
+    }
+    value
+}
+
+/// Whether each byte is a decimal digit.
+fn has_only_digits(bytes: &[u8]) -> bool
+    ensures { result ≡ list_all is_digit bytes.now }
+{
+    bytes.iter().all(|byte| b'0' <= *byte && *byte <= b'9')
+}
+
+/// Whether these are the digits of a relation's number.
+#[tactic(auto, unfolding(crate::specs::RelationPath::is_relation_number))]
+fn is_relation_number(digits: &[u8]) -> bool
+    ensures { result ≡ is_relation_number digits.now }
+{
+    if digits.first() == Some(&b'0') || !has_only_digits(digits) {
+        return false;
+    }
+    let value = number_value(digits);
+    if value == 0 {
+        return false;
+    }
+    value <= u64::from(u32::MAX)
+}
+
+/// Whether the last part of a path is a relation's number, with or without a fork.
+#[tactic(auto, unfolding(crate::specs::RelationPath::is_relation_path))]
+pub(crate) fn is_relation_path(path: &str) -> bool
+    ensures { result ≡ is_relation_path path.now }
+{
+    let name = file_name(path.as_bytes());
+    let end = name.len().saturating_sub(fork_length(fork_of_path(path)));
+    is_relation_number(&name[..end])
+}
+
+/// Whether a path names a main fork.
+pub(crate) fn is_main_path(path: &str) -> bool
+    ensures { result ≡ is_main_fork (fork_of path.now) }
+{
+    match fork_of_path(path) {
+        Fork::Main => true,
+        Fork::Fsm | Fork::Vm | Fork::Init => false,
+    }
+}
+
+/// Whether this may follow a relation's path in the name of its file: nothing, or `.` and digits.
+fn is_file_end(end: &[u8]) -> bool
+    ensures { result ≡ is_file_end end.now }
+{
+    match end {
+        [] => true,
+        [b'.', digits @ ..] => !digits.is_empty() && has_only_digits(digits),
+        _ => false,
+    }
+}
+
+/// Whether a file is one of the relation at this path.
+#[tactic(auto, unfolding(crate::specs::RelationPath::is_file_of))]
+pub(crate) fn is_file_of(path: &str, file: &str) -> bool
+    ensures { result ≡ is_file_of path.now file.now }
+{
+    let path = path.as_bytes();
+    let file = file.as_bytes();
+    if !file.starts_with(path) {
+        return false;
+    }
+    is_file_end(&file[path.len()..])
+}

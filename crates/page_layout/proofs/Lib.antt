@@ -1,0 +1,4 @@
+mod Sound
+mod Positions
+mod Counts
+pub mod Lines

@@ -1,0 +1,99 @@
+//! Why a command isn't done: the status and the line of each refusal.
+ghost use Rattle.std.specs.Prelude.{◌≡◌, ◌++◌, [], IfOk, Some, string_bytes};
+ghost use Rattle.page_tool.specs.Status.{crowding_text, error_line, error_text, host_error, scan_error, status_of_error};
+
+use crate::scan::ScanError;
+use segment_store::HostError;
+use std::alloc::{AllocError, Global};
+use std::fmt;
+
+/// So many backends, which need more frames than these.
+#[derive(Clone, Copy, PartialEq, Eq, Debug)]
+pub struct Crowding {
+    pub backends: u32,
+    pub frames: u32,
+}
+
+impl fmt::Display for Crowding {
+    ghost output = { λ c. Some (crowding_text c) };
+
+    fn fmt<W: fmt::Write>(&self, f: &mut fmt::Formatter<W>) -> fmt::Result {
+        let Crowding { backends, frames } = *self;
+        write!(f, "{backends} backends, {frames} frames")
+    }
+}
+
+/// Why a command isn't done.
+#[derive(Clone, Copy, PartialEq, Eq, Debug)]
+pub enum ToolError<'a> {
+    /// The words are no command.
+    Usage,
+    Crowded(Crowding),
+    /// The first segment of the relation isn't there.
+    Missing { path: &'a str },
+    ReadFault,
+    OutFault,
+    Memory,
+}
+
+impl fmt::Display for ToolError<'_> {
+    ghost output = { λ e. Some (error_text e) };
+
+    fn fmt<W: fmt::Write>(&self, f: &mut fmt::Formatter<W>) -> fmt::Result {
+        match self {
+            ToolError::Usage => f.write_str(
+                "usage: scan PATH, dump PATH, rewrite PATH --log FILE, sample SEED BLOCKS",
+            ),
+            ToolError::Crowded(crowding) => write!(f, "crowded: {crowding}"),
+            ToolError::Missing { path } => write!(f, "missing: {path}"),
+            ToolError::ReadFault => f.write_str("read fault"),
+            ToolError::OutFault => f.write_str("output fault"),
+            ToolError::Memory => f.write_str("out of memory"),
+        }
+    }
+}
+
+impl<'a> ToolError<'a> {
+    /// The status that the program ends with.
+    pub fn status(&self) -> u8
+        ensures { result ≡ status_of_error self.now }
+    {
+        match self {
+            ToolError::Usage => 1,
+            ToolError::Crowded(_) => 2,
+            ToolError::Missing { .. } => 3,
+            ToolError::ReadFault => 4,
+            ToolError::OutFault => 7,
+            ToolError::Memory => 8,
+        }
+    }
+
+    /// The line for the error stream.
+    pub fn line(&self, alloc: Global) -> Result<String, AllocError>
+        ensures { IfOk result (λ line. string_bytes line ≡ error_line self.now) }
+    {
+        format!(in alloc; "page_tool: {self}\n")
+    }
+
+    /// What a host's refusal of a path means to the tool.
+    pub fn from_host(error: HostError, path: &'a str) -> ToolError<'a>
+        ensures { result ≡ host_error error path.entry }
+    {
+        match error {
+            HostError::Missing => ToolError::Missing { path },
+            HostError::Failed => ToolError::ReadFault,
+            HostError::Memory => ToolError::Memory,
+        }
+    }
+
+    /// What the end of a scan means to the tool.
+    pub fn from_scan(error: ScanError) -> ToolError<'a>
+        ensures { result ≡ scan_error error }
+    {
+        match error {
+            ScanError::ReadFault => ToolError::ReadFault,
+            ScanError::OutFault => ToolError::OutFault,
+            ScanError::Memory => ToolError::Memory,
+        }
+    }
+}

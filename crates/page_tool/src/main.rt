@@ -1,0 +1,48 @@
+//! `page_tool`: scans the pages of a PostgreSQL relation. `docs/page_tool.1.md` is its manual page.
+#![tactic(auto)]
+
+mod error;
+mod request;
+mod run;
+mod scan;
+#[cfg(test)]
+mod tests;
+
+use crate::run::{MEMORY_LINE, run};
+use crate::scan::Gate;
+use segment_store::{FileHost, Sink, StdSink};
+use std::alloc::AllocError;
+use std::env;
+use std::io::ErrorKind;
+use std::process::ExitCode;
+
+/// The status where there is no memory for the words.
+const MEMORY_STATUS: u8 = 8;
+
+/// Lets every block through at once.
+struct OpenGate;
+
+impl Gate for OpenGate {
+    fn before(&self, _worker: u32, _block: u32) {}
+}
+
+/// The words behind the program's name; none where they are no UTF-8 text.
+fn words(rt: &HostRuntime) -> Result<Vec<String>, AllocError> {
+    match env::args(rt) {
+        Ok(args) => args.skip(1).collect(rt.alloc()),
+        Err(error) if error.kind() == ErrorKind::OutOfMemory => Err(AllocError),
+        Err(_) => Ok(Vec::new(rt.alloc())),
+    }
+}
+
+fn main(rt: HostRuntime) -> ExitCode {
+    let mut host = FileHost::new(&rt);
+    let mut out = StdSink::new(rt.stdout());
+    let mut err = StdSink::new(rt.stderr());
+    let Ok(words) = words(&rt) else {
+        let _ = err.put(MEMORY_LINE);
+        return ExitCode::from(MEMORY_STATUS);
+    };
+    let status = run(rt.alloc(), &words, &mut host, &mut out, &mut err, &OpenGate);
+    ExitCode::from(status)
+}

@@ -1,0 +1,368 @@
+//! The tool on hosts in memory.
+use crate::run::run;
+use crate::scan::Gate;
+use segment_store::{FaultPlan, LanePlan, MemFile, MemHost, MemSink};
+use std::alloc::Global;
+use std::cell::Cell;
+use std::test::Fail;
+
+/// Lets every block through, and counts them; notes where one came out of order.
+#[derive(Drop)]
+struct CountingGate {
+    next: Cell<u32>,
+    in_order: Cell<bool>,
+}
+
+impl CountingGate {
+    fn new() -> CountingGate {
+        CountingGate {
+            next: Cell::new(0),
+            in_order: Cell::new(true),
+        }
+    }
+}
+
+impl Gate for CountingGate {
+    fn before(&self, worker: u32, block: u32) {
+        let next = self.next.get();
+        if worker != 0 || block != next {
+            self.in_order.set(false);
+        }
+        self.next.set(next.wrapping_add(1));
+    }
+}
+
+/// The header and the line pointer of a page with one item of four bytes: log position 0/16B3740,
+/// lower 28, upper 8184, special 8192.
+const FRONT: [u8; 28] = [
+    0x00, 0x00, 0x00, 0x00, 0x40, 0x37, 0x6b, 0x01, 0x00, 0x00, 0x00, 0x00, 0x1c, 0x00, 0xf8, 0x1f,
+    0x00, 0x20, 0x04, 0x20, 0x00, 0x00, 0x00, 0x00, 0xf8, 0x9f, 0x08, 0x00,
+];
+
+const ONE_ITEM: &str =
+    "0 lsn 0/16B3740 flags 0 lower 28 upper 8184 special 8192 items 1 normal 1 redirect 0 dead 0 unused 0\nblocks 1 used 1 new 0 invalid 0 normal 1 redirect 0 dead 0 unused 0\n";
+
+const INVALID: &str =
+    "0 invalid\nblocks 1 used 0 new 0 invalid 1 normal 0 redirect 0 dead 0 unused 0\n";
+
+fn one_item() -> [u8; 8192] {
+    let mut page = [0; 8192];
+    page[..28].copy_from_slice(&FRONT);
+    page[8184..8188].copy_from_slice(&[1, 2, 3, 4]);
+    page
+}
+
+/// The calls of a run that are to fail, by their numbers from 1.
+#[derive(Clone, Copy)]
+struct Failing<'a> {
+    openings: &'a [u64],
+    reads: &'a [u64],
+    puts: &'a [u64],
+}
+
+const NONE_FAIL: Failing<'static> = Failing {
+    openings: &[],
+    reads: &[],
+    puts: &[],
+};
+
+/// What a run answered, and what it wrote.
+#[derive(Drop)]
+struct Answer {
+    status: u8,
+    blocks: u32,
+    out: MemSink,
+    err: MemSink,
+}
+
+fn plan(alloc: Global, failing: &[u64]) -> Result<FaultPlan, Fail> {
+    Ok(FaultPlan::new(failing.to_vec(alloc)?))
+}
+
+fn sink(alloc: Global, failing: &[u64]) -> Result<MemSink, Fail> {
+    Ok(MemSink::new(alloc, 1 << 20, plan(alloc, failing)?)?)
+}
+
+/// A host with one relation, base/5/16384, of these segments, and a visibility map of a zero page.
+fn host_of(alloc: Global, segments: &[&[u8]], failing: Failing) -> Result<MemHost, Fail> {
+    let mut files = Vec::new(alloc);
+    let mut bytes = Vec::new(alloc);
+    for segment in segments {
+        bytes.push(segment.to_vec(alloc)?)?;
+    }
+    files.push(MemFile::new(alloc, String::from_str(alloc, "base/5/16384")?, bytes))?;
+    let mut map = Vec::new(alloc);
+    map.push([0; 8192].to_vec(alloc)?)?;
+    files.push(MemFile::new(alloc, String::from_str(alloc, "base/5/16384_vm")?, map))?;
+    let lanes = LanePlan {
+        reads: plan(alloc, failing.reads)?,
+        writes: plan(alloc, &[])?,
+        syncs: plan(alloc, &[])?,
+    };
+    Ok(MemHost::new(alloc, files, plan(alloc, failing.openings)?, lanes))
+}
+
+/// Runs a command line, whose words stand apart by blanks, on that host.
+fn answer_of(
+    alloc: Global,
+    line: &str,
+    segments: &[&[u8]],
+    failing: Failing,
+) -> Result<Answer, Fail> {
+    let mut host = host_of(alloc, segments, failing)?;
+    let mut out = sink(alloc, failing.puts)?;
+    let mut err = sink(alloc, &[])?;
+    let mut words = Vec::new(alloc);
+    for word in line.split_whitespace() {
+        words.push(String::from_str(alloc, word)?)?;
+    }
+    let gate = CountingGate::new();
+    let status = run(alloc, &words, &mut host, &mut out, &mut err, &gate);
+    let blocks = if gate.in_order.get() {
+        gate.next.get()
+    } else {
+        u32::MAX
+    };
+    Ok(Answer {
+        status,
+        blocks,
+        out,
+        err,
+    })
+}
+
+#[test]
+fn scans_relations(rt: HostRuntime) -> Result<(), Fail> {
+    let alloc = rt.alloc();
+    let page = one_item();
+    let mut flagged = page;
+    flagged[10] = 8;
+    let mut uneven = page;
+    uneven[16] = 0xfe;
+    uneven[17] = 0x1f;
+    let new = [0u8; 8192];
+    let mut spotted = new;
+    spotted[100] = 1;
+    let mut longer = page.to_vec(alloc)?;
+    longer.extend_from_slice(&[7; 100])?;
+    let rows: [(&[u8], u32, &str); 7] = [
+        (&page, 1, ONE_ITEM),
+        (
+            &[],
+            0,
+            "blocks 0 used 0 new 0 invalid 0 normal 0 redirect 0 dead 0 unused 0\n",
+        ),
+        (&longer, 1, ONE_ITEM),
+        (
+            &new,
+            1,
+            "0 new\nblocks 1 used 0 new 1 invalid 0 normal 0 redirect 0 dead 0 unused 0\n",
+        ),
+        (&spotted, 1, INVALID),
+        (&flagged, 1, INVALID),
+        (&uneven, 1, INVALID),
+    ];
+    for (bytes, blocks, want) in rows {
+        let answer = answer_of(alloc, "scan base/5/16384", &[bytes], NONE_FAIL)?;
+        assert_eq!(rt; answer.status, 0, "{want}");
+        assert_eq!(rt; answer.blocks, blocks, "{want}");
+        assert_eq!(rt; answer.out.bytes(), want.as_bytes(), "{want}");
+        assert_eq!(rt; answer.err.bytes().len(), 0);
+    }
+    Ok(())
+}
+
+#[test]
+fn segments_end_the_relation(rt: HostRuntime) -> Result<(), Fail> {
+    let two = [0u8; 16384];
+    let one = [0u8; 8192];
+    let answer = answer_of(
+        rt.alloc(),
+        "scan base/5/16384 --segment-blocks 2",
+        &[&two, &one, &two],
+        NONE_FAIL,
+    )?;
+    assert_eq!(rt; answer.status, 0);
+    assert_eq!(rt; answer.blocks, 3);
+    assert_eq!(rt;
+        answer.out.bytes(),
+        b"0 new\n1 new\n2 new\nblocks 3 used 0 new 3 invalid 0 normal 0 redirect 0 dead 0 unused 0\n".as_slice()
+    );
+    Ok(())
+}
+
+#[test]
+fn scans_another_fork(rt: HostRuntime) -> Result<(), Fail> {
+    let answer = answer_of(rt.alloc(), "scan base/5/16384_vm", &[&[]], NONE_FAIL)?;
+    assert_eq!(rt; answer.status, 0);
+    assert_eq!(rt;
+        answer.out.bytes(),
+        b"0 new\nblocks 1 used 0 new 1 invalid 0 normal 0 redirect 0 dead 0 unused 0\n".as_slice()
+    );
+    Ok(())
+}
+
+#[test]
+fn refuses_words(rt: HostRuntime) -> Result<(), Fail> {
+    let usage =
+        "page_tool: usage: scan PATH, dump PATH, rewrite PATH --log FILE, sample SEED BLOCKS\n";
+    let rows: [(&str, u8, &str); 12] = [
+        ("scan base/5/16385", 3, "page_tool: missing: base/5/16385\n"),
+        ("scan 16384_vm", 3, "page_tool: missing: 16384_vm\n"),
+        ("scan base/5/abc", 1, usage),
+        ("scan base/5/016384", 1, usage),
+        ("scan base/5/4294967296", 1, usage),
+        ("scan", 1, usage),
+        ("", 1, usage),
+        ("scan --help", 1, usage),
+        ("dump base/5/16384", 1, usage),
+        ("sample 7 4", 1, usage),
+        (
+            "scan base/5/16384 --backends 32 --frames 16",
+            2,
+            "page_tool: crowded: 32 backends, 16 frames\n",
+        ),
+        (
+            "scan base/5/16385 --backends 14 --frames 16",
+            2,
+            "page_tool: crowded: 14 backends, 16 frames\n",
+        ),
+    ];
+    for (line, status, want) in rows {
+        let answer = answer_of(rt.alloc(), line, &[&[]], NONE_FAIL)?;
+        assert_eq!(rt; answer.status, status, "{line}");
+        assert_eq!(rt; answer.blocks, 0, "{line}");
+        assert_eq!(rt; answer.out.bytes().len(), 0, "{line}");
+        assert_eq!(rt; answer.err.bytes(), want.as_bytes(), "{line}");
+    }
+    Ok(())
+}
+
+/// A page with a number in its item, and the log position 0/0.
+fn numbered_page(number: u8) -> [u8; 8192] {
+    let mut page = one_item();
+    page[..8].copy_from_slice(&[0; 8]);
+    page[8184..8188].copy_from_slice(&[number, 0, 0, 0]);
+    page
+}
+
+/// 64 pages, each with its number in its item and the log position 0/0, and the text of their scan.
+fn numbered_pages(alloc: Global) -> Result<(Vec<u8>, String), Fail> {
+    let mut bytes = Vec::new(alloc);
+    let mut text = String::new(alloc);
+    for number in 0u8..64 {
+        bytes.extend_from_slice(&numbered_page(number))?;
+        text.push_str(&format!(in alloc;
+            "{number} lsn 0/0 flags 0 lower 28 upper 8184 special 8192 items 1 normal 1 redirect 0 dead 0 unused 0\n"
+        )?)?;
+    }
+    text.push_str("blocks 64 used 64 new 0 invalid 0 normal 64 redirect 0 dead 0 unused 0\n")?;
+    Ok((bytes, text))
+}
+
+#[test]
+fn options_leave_the_text(rt: HostRuntime) -> Result<(), Fail> {
+    let alloc = rt.alloc();
+    let (bytes, text) = numbered_pages(alloc)?;
+    let lines = [
+        "scan base/5/16384 --frames 16",
+        "scan base/5/16384 --frames 128",
+        "scan base/5/16384 --backends 2 --frames 16",
+        "scan base/5/16384 --backends 2 --frames 128 --lanes 1",
+        "scan base/5/16384 --backends 7 --frames 16 --lanes 16",
+        "scan base/5/16384 --backends 7 --frames 128",
+        "scan base/5/16384 --backends 13 --frames 16",
+        "scan --backends 32 --frames 128 --bgwriter 1000 base/5/16384",
+    ];
+    for line in lines {
+        let answer = answer_of(alloc, line, &[&bytes], NONE_FAIL)?;
+        assert_eq!(rt; answer.status, 0, "{line}");
+        assert_eq!(rt; answer.blocks, 64, "{line}");
+        assert_eq!(rt; answer.out.bytes(), text.as_bytes(), "{line}");
+    }
+    Ok(())
+}
+
+/// Text goes out in pieces: what was put before a piece that fails stays.
+#[test]
+fn later_pieces_may_fail(rt: HostRuntime) -> Result<(), Fail> {
+    let alloc = rt.alloc();
+    let mut bytes = Vec::new(alloc);
+    for _number in 0..800 {
+        bytes.extend_from_slice(&one_item())?;
+    }
+    let second = Failing {
+        puts: &[2],
+        ..NONE_FAIL
+    };
+    let whole = answer_of(alloc, "scan base/5/16384", &[&bytes], NONE_FAIL)?;
+    let cut = answer_of(alloc, "scan base/5/16384", &[&bytes], second)?;
+    assert_eq!(rt; whole.status, 0);
+    assert_eq!(rt; cut.status, 7);
+    let long = cut.out.bytes().len() > 65536 && cut.out.bytes().len() < whole.out.bytes().len();
+    assert!(rt; long);
+    let begins = whole.out.bytes().starts_with(cut.out.bytes());
+    assert!(rt; begins);
+    Ok(())
+}
+
+#[test]
+fn stops_at_a_fault(rt: HostRuntime) -> Result<(), Fail> {
+    let bytes = [0u8; 3 * 8192];
+    let read_fault = "page_tool: read fault\n";
+    let rows: [(&str, Failing, u8, u32, &str, &str); 4] = [
+        (
+            "scan base/5/16384 --lanes 1",
+            Failing {
+                reads: &[3],
+                ..NONE_FAIL
+            },
+            4,
+            3,
+            "0 new\n1 new\n",
+            read_fault,
+        ),
+        (
+            // The second read of the lane of blocks 0 and 2 is that of block 2.
+            "scan base/5/16384 --lanes 2",
+            Failing {
+                reads: &[2],
+                ..NONE_FAIL
+            },
+            4,
+            3,
+            "0 new\n1 new\n",
+            read_fault,
+        ),
+        (
+            "scan base/5/16384",
+            Failing {
+                openings: &[1],
+                ..NONE_FAIL
+            },
+            4,
+            0,
+            "",
+            read_fault,
+        ),
+        (
+            "scan base/5/16384",
+            Failing {
+                puts: &[1],
+                ..NONE_FAIL
+            },
+            7,
+            3,
+            "0 new\n1 new\n2 new\nblocks 3 used 0 new 3 inv",
+            "page_tool: output fault\n",
+        ),
+    ];
+    for (line, failing, status, blocks, out, err) in rows {
+        let answer = answer_of(rt.alloc(), line, &[&bytes], failing)?;
+        assert_eq!(rt; answer.status, status, "{err}");
+        assert_eq!(rt; answer.blocks, blocks, "{err}");
+        assert_eq!(rt; answer.out.bytes(), out.as_bytes(), "{err}");
+        assert_eq!(rt; answer.err.bytes(), err.as_bytes(), "{err}");
+    }
+    Ok(())
+}

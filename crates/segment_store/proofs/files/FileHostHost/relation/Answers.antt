@@ -1,0 +1,16 @@
+use Rattle.std.proofs.Common.{refl}
+use Rattle.segment_store.proofs.UnknownLanes.{unknown}
+use Rattle.segment_store.proofs.files.FileHostHost.relation.Goals as goal
+
+pub returns-in-Ok-clause-opened : goal.returns-in-Ok-clause-opened
+returns-in-Ok-clause-opened g c = record {
+  count = c.in-Ok.ensures.count;
+  reads = c.in-Ok.ensures.reads;
+  writes = c.in-Ok.ensures.writes;
+  unmarked = λ k d within. refl;
+  has = unknown c.in-Ok.opened.lanes.items _ _;
+  there = tt;
+  blocks = tt;
+  holds = tt;
+  only = tt;
+}

@@ -1,0 +1,7 @@
+use Rattle.std.proofs.Common.{take}
+use Rattle.std.specs.Prelude.{sum_by}
+use Rattle.segment_store.specs.Faults.{Added}
+use Rattle.segment_store.proofs.memory_host.count_reads.Given as goal
+
+abbrev pub invariant-loop-lane : goal.invariant-loop-lane
+invariant-loop-lane l = Added l.initial.faults.count (sum_by (λ lane. lane.read_faults.count) (take l.lane-index l.lanes)) l.faults.count

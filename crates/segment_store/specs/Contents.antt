@@ -1,0 +1,51 @@
+-- What lanes and sinks hold, where it is known: None where it isn't.
+use Rattle.std.specs.Prelude.{◌≡◌, ℕ, List, ◌++◌, length, Option, Some, None, Bool, false, Result, OnOk, OnErr, IfSome, IsSomeAnd, MatchResult, option_map, if◌then◌else◌}
+use Rattle.block_tag.specs.Names.{tag_eq}
+use Rattle.block_tag.specs.declared.tag.Tag.{Tag}
+
+-- pages by their tags
+abbrev pub Pages : Type 0
+Pages = Tag → Option (List ℕ)
+
+-- tags, each either marked or not
+abbrev pub Marks : Type 0
+Marks = Tag → Bool
+
+-- the same pages but for this one
+abbrev pub with_page : Tag → List ℕ → Pages → Pages
+with_page tag page pages = λ t. if tag_eq t tag then Some page else pages t
+
+-- the same marks but for this one
+abbrev pub with_mark : Tag → Bool → Marks → Marks
+with_mark tag mark marks = λ t. if tag_eq t tag then mark else marks t
+
+-- no tag has a page
+abbrev pub no_pages : Pages
+no_pages = λ t. None
+
+-- no tag is marked
+abbrev pub no_marks : Marks
+no_marks = λ t. false
+
+-- some page of 8192 bytes stands at the tag, and all others are as they were
+pub record IsTorn (tag : Tag) (pages after : Pages) : Type 0 where
+  pub left : List ℕ
+  pub size : length left ≡ 8192
+  pub is : after ≡ with_page tag left pages
+
+-- after a write: this page stands at the tag, or after a failed one some page; all others are as they were
+abbrev pub Writes : {E : Type 0} → Tag → List ℕ → Option Pages → Option Pages → Result Unit E → Type 0
+Writes tag page None new result = new ≡ None
+Writes tag page (Some pages) new result = MatchResult result (λ _. new ≡ Some (with_page tag page pages)) (λ _. IsSomeAnd new (IsTorn tag pages))
+
+-- the bytes have become longer by a prefix of the piece
+pub record GainsPrefix (piece old new : List ℕ) : Type 0 where
+  pub prefix : List ℕ
+  pub rest : List ℕ
+  pub whole : piece ≡ prefix ++ rest
+  pub is : new ≡ old ++ prefix
+
+-- after a put: the whole piece was added, or after a failed one a prefix of it
+pub record Puts {E : Type 0} (piece : List ℕ) (old new : Option (List ℕ)) (result : Result Unit E) : Type 0 where
+  pub ok : OnOk result (new ≡ option_map (λ bytes. bytes ++ piece) old)
+  pub failed : OnErr result (IfSome old (λ bytes. IsSomeAnd new (GainsPrefix piece bytes)))

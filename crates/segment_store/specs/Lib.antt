@@ -1,0 +1,11 @@
+pub mod Faults
+pub mod Contents
+pub mod Relation
+pub mod Lanes
+pub mod Paths
+pub mod Restored
+pub mod Opening
+pub mod Plan
+pub mod Memory
+pub mod MemoryLane
+pub mod MemoryHost

@@ -1,0 +1,25 @@
+-- Lanes in memory.
+use Rattle.std.specs.Prelude.{false, option_map}
+use Rattle.std.specs.Option.{option_map_or}
+use Rattle.std.specs.BTreeMap as tree
+use Rattle.block_tag.specs.contracts.tag.TagOrd.TheImpl as tags
+use Rattle.segment_store.specs.Contents.{Marks, Pages}
+use Rattle.segment_store.specs.Plan.{fresh_plan}
+use Rattle.segment_store.specs.declared.memory_lane.LanePlan.{LanePlan}
+use Rattle.segment_store.specs.declared.memory_lane.MemLane.{MemLane}
+
+-- the pages of a lane by their tags
+abbrev pub pages_of : MemLane → Pages
+pages_of lane = λ tag. option_map (λ block. block.page) (tree.get tags.ghosts.cmp lane.blocks tag)
+
+-- the tags of a lane whose last write failed
+abbrev pub marks_of : MemLane → Marks
+marks_of lane = λ tag. option_map_or (λ block. block.failed) (tree.get tags.ghosts.cmp lane.blocks tag) false
+
+-- which of its calls are to fail
+abbrev pub plan_of : MemLane → LanePlan
+plan_of lane = lane.plan
+
+-- the same calls to fail, with no call made
+abbrev pub fresh_lane_plan : LanePlan → LanePlan
+fresh_lane_plan plan = record { reads = fresh_plan plan.reads; writes = fresh_plan plan.writes; syncs = fresh_plan plan.syncs }

@@ -1,0 +1,22 @@
+-- The paths of a host, and the fork that a path names by its end.
+use Rattle.std.specs.Prelude.{ℕ, List, Bool, codes, nat_eq, if◌then◌else◌}
+use Rattle.std.specs.List.{ends_with}
+use Rattle.block_tag.specs.declared.tag.Fork.{Fork}
+use Rattle.block_tag.specs.declared.tag.Fork.TheVariants.{Main, Fsm, Vm, Init}
+
+-- paths to the bytes of their segments, of which there is none where the relation isn't there
+abbrev pub Paths : Type 0
+Paths = List ℕ → List (List ℕ)
+
+-- paths to their blocks' marks
+abbrev pub PathMarks : Type 0
+PathMarks = List ℕ → ℕ → Bool
+
+-- the relation that was opened last: its path, and how many blocks its segments have
+pub record OpenAt : Type 0 where
+  pub path : List ℕ
+  pub seg_blocks : ℕ
+
+-- `_fsm` is the free space map, `_vm` the visibility map, `_init` the initialization fork; anything else is main
+unfoldable pub fork_of : List ℕ → Fork
+fork_of path = if ends_with nat_eq path (codes "_fsm") then Fsm else (if ends_with nat_eq path (codes "_vm") then Vm else (if ends_with nat_eq path (codes "_init") then Init else Main))

@@ -1,0 +1,327 @@
+// Adapters over real files and streams: lanes, a host and a sink, whose contents aren't known.
+ghost use Rattle.std.specs.Prelude.{[], ◌≡◌, ◌≤◌, All, false, None, IfOk, length, sum_by};
+ghost use Rattle.segment_store.specs.Contents.{no_marks};
+ghost use Rattle.segment_store.specs.Faults.{Added};
+
+use crate::count::FaultCount;
+use crate::device::{BlockLane, Failed, Sink};
+use crate::host::{Host, HostError, Opened};
+use crate::paths::fork_of_path;
+use block_tag::{Fork, RelNo, Tag, segment_place};
+use page_layout::{PAGE_SIZE, Page};
+use std::alloc::{AllocError, Global};
+use std::fs::{OpenFile, OpenOptions};
+use std::io;
+use std::io::{ErrorKind, Write};
+use std::os::unix::fs::FileExt;
+use std::rt::Files;
+use std::sync::Arc;
+
+/// A lane over the files of a relation's segments, which all lanes of the relation share.
+#[derive(Drop)]
+pub struct FileLane<F: Drop> {
+    segments: Arc<Vec<F>, Global>,
+    fork: Fork,
+    seg_blocks: u32,
+    blocks: u32,
+    read_faults: FaultCount,
+    write_faults: FaultCount,
+}
+
+impl<F: FileExt + OpenFile + Drop> FileLane<F> {
+    /// The file of a block's segment, and the byte at which the block begins, if the relation has it.
+    fn place_of(&self, tag: Tag) -> Option<(&F, u64)> {
+        if tag.rel != RelNo(0) || tag.fork != self.fork || tag.block >= self.blocks {
+            return None;
+        }
+        if self.seg_blocks == 0 {
+            return None;
+        }
+        let (segment, place) = segment_place(tag.block, self.seg_blocks);
+        let file = self.segments.get(segment as usize)?;
+        Some((file, u64::from(place) * PAGE_SIZE as u64))
+    }
+
+    fn read_block(&self, tag: Tag, page: &mut Page) -> Result<(), Failed> {
+        let (file, start) = self.place_of(tag).ok_or(Failed)?;
+        page.read_at(file, start).map_err(|_| Failed)
+    }
+
+    fn write_block(&self, tag: Tag, page: &Page) -> Result<(), Failed> {
+        let (file, start) = self.place_of(tag).ok_or(Failed)?;
+        file.write_all_at(page.bytes(), start).map_err(|_| Failed)
+    }
+
+    fn sync_all(&self) -> Result<(), Failed> {
+        for file in self.segments.as_slice() {
+            file.sync_all().map_err(|_| Failed)?;
+        }
+        Ok(())
+    }
+}
+
+impl<F: FileExt + OpenFile + Drop> BlockLane for FileLane<F> {
+    ghost contents = { λ l. None };
+
+    ghost failed_writes = { λ l. no_marks };
+
+    ghost read_faults = { λ l. l.read_faults.count };
+
+    ghost write_faults = { λ l. l.write_faults.count };
+
+    fn read(&mut self, tag: Tag, page: &mut Page) -> Result<(), Failed> {
+        if self.read_block(tag, page).is_ok() {
+            return Ok(());
+        }
+        self.read_faults.raise();
+        Err(Failed)
+    }
+
+    fn write(&mut self, tag: Tag, page: &Page) -> Result<(), Failed> {
+        if self.write_block(tag, page).is_ok() {
+            return Ok(());
+        }
+        self.write_faults.raise();
+        Err(Failed)
+    }
+
+    fn sync(&mut self) -> Result<(), Failed> {
+        if self.sync_all().is_ok() {
+            return Ok(());
+        }
+        self.write_faults.raise();
+        Err(Failed)
+    }
+
+    ghost read_faults_fit = { λ l. l.read_faults.fits };
+
+    ghost write_faults_fit = { λ l. l.write_faults.fits };
+}
+
+/// A sink over a writer.
+#[derive(Drop)]
+pub struct StdSink<W: Write + Drop> {
+    writer: W,
+    faults: FaultCount,
+}
+
+impl<W: Write + Drop> StdSink<W> {
+    pub fn new(writer: W) -> StdSink<W>
+        ensures { ⟦<StdSink<W> as Sink>⟧.faults result ≡ 0 }
+    {
+        StdSink {
+            writer,
+            faults: FaultCount::new(),
+        }
+    }
+
+    /// How many puts failed.
+    pub fn faults(&self) -> u64
+        ensures { result ≡ ⟦<StdSink<W> as Sink>⟧.faults self.now }
+    {
+        self.faults.get()
+    }
+}
+
+impl<W: Write + Drop> Sink for StdSink<W> {
+    ghost bytes = { λ s. None };
+
+    ghost faults = { λ s. s.faults.count };
+
+    fn put(&mut self, piece: &[u8]) -> Result<(), Failed> {
+        if self.writer.write_all(piece).is_ok() {
+            return Ok(());
+        }
+        self.faults.raise();
+        Err(Failed)
+    }
+
+    ghost faults_fit = { λ s. s.faults.fits };
+}
+
+/// The files of a relation's segments, and how many blocks they have.
+#[derive(Drop)]
+struct Segments<F: Drop> {
+    files: Vec<F>,
+    blocks: u32,
+}
+
+/// The path of a segment: the plain one, or with the segment's number behind a point.
+fn segment_path(alloc: Global, path: &str, segment: u32) -> Result<String, AllocError> {
+    if segment == 0 {
+        return String::from_str(alloc, path);
+    }
+    format!(in alloc; "{path}.{segment}")
+}
+
+/// Opens a file for reading and writing or, where that fails though it is there, for reading alone.
+fn open_file<R: Files>(rt: &R, path: &str) -> io::Result<R::File> {
+    match OpenOptions::new().read(true).write(true).open(rt, path) {
+        Ok(file) => Ok(file),
+        Err(error) if error.kind() == ErrorKind::NotFound => Err(error),
+        Err(_) => OpenOptions::new().read(true).open(rt, path),
+    }
+}
+
+/// How many whole blocks a file has. A directory, or what else is no file, is an error.
+fn whole_blocks<F: OpenFile>(file: &F) -> io::Result<u64> {
+    let found = file.metadata()?;
+    if !found.is_file() {
+        return Err(ErrorKind::InvalidInput.into());
+    }
+    Ok(found.len() / PAGE_SIZE as u64)
+}
+
+/// Opens the segments of a relation from the first on, to the first that is short or missing.
+fn open_files<R: Files>(
+    rt: &R,
+    alloc: Global,
+    path: &str,
+    seg_blocks: u32,
+) -> Result<Segments<R::File>, HostError> {
+    let mut files = Vec::new(alloc);
+    let mut blocks = 0u32;
+    for segment in 0..u32::MAX {
+        let name = segment_path(alloc, path, segment).map_err(|_| HostError::Memory)?;
+        let file = match open_file(rt, name.as_str()) {
+            Ok(file) => file,
+            Err(error) if error.kind() == ErrorKind::NotFound => break,
+            Err(_) => return Err(HostError::Failed),
+        };
+        let count = whole_blocks(&file).map_err(|_| HostError::Failed)?;
+        files.push(file).map_err(|_| HostError::Memory)?;
+        if count < u64::from(seg_blocks) {
+            blocks = blocks.saturating_add(count as u32);
+            break;
+        }
+        blocks = blocks.saturating_add(seg_blocks);
+        if blocks == u32::MAX {
+            break;
+        }
+    }
+    if files.is_empty() {
+        return Err(HostError::Missing);
+    }
+    Ok(Segments { files, blocks })
+}
+
+/// A host over the file system.
+#[derive(Drop)]
+pub struct FileHost<'a, R: Files> {
+    rt: &'a R,
+    read_faults: FaultCount,
+    write_faults: FaultCount,
+}
+
+impl<'a, R: Files> FileHost<'a, R> {
+    pub fn new(rt: &'a R) -> FileHost<'a, R>
+        ensures reads { result.read_faults.count ≡ 0 }
+        ensures writes { result.write_faults.count ≡ 0 }
+    {
+        FileHost {
+            rt,
+            read_faults: FaultCount::new(),
+            write_faults: FaultCount::new(),
+        }
+    }
+
+    /// How many openings failed, and reads of lanes that were given back.
+    pub fn read_faults(&self) -> u64
+        ensures { result ≡ self.now.read_faults.count }
+    {
+        self.read_faults.get()
+    }
+
+    /// How many writes and syncs failed of lanes that were given back.
+    pub fn write_faults(&self) -> u64
+        ensures { result ≡ self.now.write_faults.count }
+    {
+        self.write_faults.get()
+    }
+}
+
+impl<R: Files> FileHost<'_, R>
+where
+    R::File: FileExt,
+{
+    /// Opens a relation as lanes that share its files.
+    fn open(
+        &self,
+        alloc: Global,
+        path: &str,
+        seg_blocks: u32,
+        count: u32,
+    ) -> Result<Opened<FileLane<R::File>>, HostError>
+        requires { 1 ≤ count }
+        ensures count { IfOk result (λ opened. length opened.lanes.items ≡ count) }
+        ensures reads { IfOk result (λ opened. sum_by (λ lane. lane.read_faults.count) opened.lanes.items ≡ 0) }
+        ensures writes { IfOk result (λ opened. sum_by (λ lane. lane.write_faults.count) opened.lanes.items ≡ 0) }
+    {
+        let segments = open_files(self.rt, alloc, path, seg_blocks)?;
+        let blocks = segments.blocks;
+        let files = Arc::new(alloc, segments.files).map_err(|_| HostError::Memory)?;
+        let mut lanes = Vec::new(alloc);
+        for _i in 0..count {
+            let segments = Arc::try_clone(&files).map_err(|_| HostError::Memory)?;
+            let lane = FileLane {
+                segments,
+                fork: fork_of_path(path),
+                seg_blocks,
+                blocks,
+                read_faults: FaultCount::new(),
+                write_faults: FaultCount::new(),
+            };
+            lanes.push(lane).map_err(|_| HostError::Memory)?;
+        }
+        Ok(Opened { blocks, lanes })
+    }
+}
+
+impl<R: Files> Host for FileHost<'_, R>
+where
+    R::File: FileExt + Send + Sync,
+{
+    type Lane = FileLane<R::File>;
+
+    ghost contents = { λ h. None };
+
+    ghost failed_writes = { λ h path block. false };
+
+    ghost open_at = { λ h. record { path = []; seg_blocks = 0 } };
+
+    ghost read_faults = { λ h. h.read_faults.count };
+
+    ghost write_faults = { λ h. h.write_faults.count };
+
+    fn relation(
+        &mut self,
+        alloc: Global,
+        path: &str,
+        seg_blocks: u32,
+        lanes: u32,
+    ) -> Result<Opened<FileLane<R::File>>, HostError> {
+        match self.open(alloc, path, seg_blocks, lanes) {
+            Ok(opened) => Ok(opened),
+            Err(HostError::Missing) => Err(HostError::Missing),
+            Err(HostError::Memory) => Err(HostError::Memory),
+            Err(HostError::Failed) => {
+                self.read_faults.raise();
+                Err(HostError::Failed)
+            }
+        }
+    }
+
+    fn give_back(&mut self, lanes: Vec<FileLane<R::File>>)
+        ensures reads { Added self.old.read_faults.count (sum_by (λ lane. lane.read_faults.count) lanes.items) self.new.read_faults.count }
+        ensures writes { Added self.old.write_faults.count (sum_by (λ lane. lane.write_faults.count) lanes.items) self.new.write_faults.count }
+    {
+        for lane in &lanes {
+            self.read_faults.add(lane.read_faults.get());
+            self.write_faults.add(lane.write_faults.get());
+        }
+    }
+
+    ghost read_faults_fit = { λ h. h.read_faults.fits };
+
+    ghost write_faults_fit = { λ h. h.write_faults.fits };
+}

@@ -1,0 +1,419 @@
+// A host in memory.
+ghost use Rattle.std.specs.Prelude.{true, ◌↔◌, MatchResult, string_bytes, ◌≡◌, ◌≢◌, ◌+◌, ◌++◌, ◌==◌, ◌<◌, ◌≤◌, ◌*◌, ◌/◌, ◌^◌, ◌-◌, [], All, Some, IfOk, IfSome, IsErrOf, OnOk, OnErr, if◌then◌else◌, length, map, sum_by, vec_len};
+ghost use Rattle.segment_store.specs.Faults.{Added, HasOpeningCause};
+ghost use Rattle.segment_store.specs.Contents.{no_marks, with_page};
+ghost use Rattle.segment_store.specs.Lanes.{dealt, own_pages};
+ghost use Rattle.segment_store.specs.MemoryHost.{bytes_of, lanes_of, marks_at, open_now, openings_of, segments_at};
+ghost use Rattle.segment_store.specs.MemoryLane.{fresh_lane_plan, marks_of, pages_of, plan_of};
+ghost use Rattle.segment_store.specs.Plan.{after_call, fails_next};
+ghost use Rattle.segment_store.specs.Relation.{block_at, segment_pages, first_blocks, relation_of};
+ghost use Rattle.segment_store.specs.Opening.{IsOpened};
+ghost use Rattle.segment_store.specs.Paths.{fork_of};
+ghost use Rattle.segment_store.specs.Restored.{cleared, marks_after, paths_after};
+ghost use Rattle.block_tag.specs.Names.{lane_number};
+ghost use Rattle.std.specs.List.{position};
+ghost use Rattle.std.specs.Str.{bytes_eq};
+
+use crate::count::FaultCount;
+use crate::device::BlockLane;
+use crate::host::{Host, HostError, Opened};
+use crate::memory_lane::{LanePlan, MemLane};
+use crate::paths::fork_of_path;
+use crate::plan::FaultPlan;
+use crate::restore::give_blocks_back;
+use block_tag::{Fork, RelNo, Tag, lane_of};
+use page_layout::{PAGE_SIZE, Page};
+use std::alloc::{AllocError, Global};
+
+/// A relation's path and the bytes of its segments.
+#[derive(Drop)]
+pub struct MemFile {
+    path: String,
+    segments: Vec<Vec<u8>>,
+    /// The lanes that were given back last, which know the blocks whose last write failed.
+    returned: Vec<MemLane>,
+}
+
+impl MemFile {
+    pub fn new(alloc: Global, path: String, segments: Vec<Vec<u8>>) -> MemFile
+        ensures path { string_bytes result.path ≡ string_bytes path }
+        ensures segments { result.segments.items ≡ segments.items }
+        ensures returned { result.returned.items ≡ [] }
+    {
+        MemFile {
+            path,
+            segments,
+            returned: Vec::new(alloc),
+        }
+    }
+}
+
+/// The place of the first file with a path.
+fn file_at(files: &[MemFile], path: &str) -> Option<usize>
+    ensures { result ≡ position (λ file. bytes_eq (string_bytes file.path) path.now) files.now }
+{
+    files.iter().position(|file| file.path.as_str() == path)
+}
+
+/// The page at a place of a file's bytes.
+#[tactic(auto, unfolding(crate::specs::Relation::block_at))]
+fn page_at(alloc: Global, bytes: &[u8], place: usize) -> Result<Page, AllocError>
+    requires { 8192 * place + 8192 ≤ length bytes.now }
+    ensures { IfOk result (λ page. page ≡ block_at bytes.now place) }
+{
+    let mut page = Page::zeroed(alloc)?;
+    let start = PAGE_SIZE * place;
+    page.fill(&bytes[start..start + PAGE_SIZE]);
+    Ok(page)
+}
+
+/// Adds the first blocks of a file.
+fn add_blocks(
+    alloc: Global,
+    bytes: &[u8],
+    count: usize,
+    pages: &mut Vec<Page>,
+) -> Result<(), AllocError>
+    requires { 8192 * count ≤ length bytes.now }
+    ensures { OnOk result (pages.new.items ≡ pages.old.items ++ first_blocks bytes.now count) }
+{
+    for place in 0..count {
+        let page = page_at(alloc, bytes, place)?;
+        pages.push(page)?;
+    }
+    Ok(())
+}
+
+/// The pages of all blocks that the segments have, up to the first that has fewer than it may have.
+fn all_pages(alloc: Global, segments: &[Vec<u8>], seg_blocks: u32) -> Result<Vec<Page>, AllocError>
+    ensures { IfOk result (λ pages. pages.items ≡ segment_pages seg_blocks (bytes_of segments.now)) }
+{
+    let mut pages = Vec::new(alloc);
+    let mut rest = segments;
+    while let [segment, others @ ..] = rest {
+        let count = segment.len() / PAGE_SIZE;
+        if count < seg_blocks as usize {
+            add_blocks(alloc, segment, count, &mut pages)?;
+            return Ok(pages);
+        }
+        add_blocks(alloc, segment, seg_blocks as usize, &mut pages)?;
+        rest = others;
+    }
+    Ok(pages)
+}
+
+/// The pages of a relation.
+#[tactic(auto, unfolding(crate::specs::Relation::relation_of))]
+fn relation_pages(
+    alloc: Global,
+    segments: &[Vec<u8>],
+    seg_blocks: u32,
+) -> Result<Vec<Page>, AllocError>
+    ensures pages { IfOk result (λ pages. pages.items ≡ relation_of seg_blocks (bytes_of segments.now)) }
+    ensures few { IfOk result (λ pages. vec_len pages < 2 ^ 32) }
+{
+    let mut pages = all_pages(alloc, segments, seg_blocks)?;
+    pages.truncate(0xFFFF_FFFF);
+    Ok(pages)
+}
+
+/// Takes a block into the lane of this number, of so many, if it is that lane's own.
+fn hold_own(
+    alloc: Global,
+    lane: &mut MemLane,
+    tag: Tag,
+    page: &Page,
+    lanes: u32,
+    number: u32,
+) -> Result<(), AllocError>
+    requires some { 1 ≤ lanes }
+    requires unmarked { marks_of lane.old ≡ no_marks }
+    ensures pages { OnOk result (pages_of lane.new ≡ (if lane_number tag lanes == number then with_page tag page.now (pages_of lane.old) else pages_of lane.old)) }
+    ensures failed { OnOk result (marks_of lane.new ≡ no_marks) }
+    ensures reads { lane.new.read_faults ≡ lane.old.read_faults }
+    ensures writes { lane.new.write_faults ≡ lane.old.write_faults }
+    ensures plan { plan_of lane.new ≡ plan_of lane.old }
+{
+    if lane_of(&tag, lanes) != number {
+        return Ok(());
+    }
+    let mut copy = Page::zeroed(alloc)?;
+    copy.copy_from(page);
+    lane.hold(tag, copy)?;
+    Ok(())
+}
+
+/// The lane of this number, of so many, with its own blocks of a relation.
+fn own_lane(
+    alloc: Global,
+    pages: &[Page],
+    fork: Fork,
+    lanes: u32,
+    number: u32,
+    plan: LanePlan,
+) -> Result<MemLane, AllocError>
+    requires lanes { 1 ≤ lanes }
+    requires blocks { length pages.now < 2 ^ 32 }
+    ensures pages { IfOk result (λ lane. pages_of lane ≡ own_pages fork pages.now lanes number) }
+    ensures failed { IfOk result (λ lane. marks_of lane ≡ no_marks) }
+    ensures reads { IfOk result (λ lane. lane.read_faults.count ≡ 0) }
+    ensures writes { IfOk result (λ lane. lane.write_faults.count ≡ 0) }
+    ensures plan { IfOk result (λ lane. plan_of lane ≡ plan) }
+{
+    let mut lane = MemLane::new(alloc, plan);
+    for block in 0..pages.len() {
+        let tag = Tag {
+            rel: RelNo(0),
+            fork,
+            block: block as u32,
+        };
+        hold_own(alloc, &mut lane, tag, &pages[block], lanes, number)?;
+    }
+    Ok(lane)
+}
+
+/// So many lanes, each with its own blocks of a relation.
+fn deal_lanes(
+    alloc: Global,
+    pages: &[Page],
+    fork: Fork,
+    count: u32,
+    plan: &LanePlan,
+) -> Result<Vec<MemLane>, AllocError>
+    requires lanes { 1 ≤ count }
+    requires blocks { length pages.now < 2 ^ 32 }
+    ensures contents { IfOk result (λ lanes. map (λ lane. Some (pages_of lane)) lanes.items ≡ dealt fork pages.now count) }
+    ensures failed { IfOk result (λ lanes. All (λ lane. marks_of lane ≡ no_marks) lanes.items) }
+    ensures reads { IfOk result (λ lanes. sum_by (λ lane. lane.read_faults.count) lanes.items ≡ 0) }
+    ensures writes { IfOk result (λ lanes. sum_by (λ lane. lane.write_faults.count) lanes.items ≡ 0) }
+    ensures plan { IfOk result (λ lanes. All (λ lane. plan_of lane ≡ fresh_lane_plan plan.now) lanes.items) }
+{
+    let mut lanes = Vec::new(alloc);
+    for number in 0..count {
+        let own = plan.fresh(alloc)?;
+        let lane = own_lane(alloc, pages, fork, count, number, own)?;
+        lanes.push(lane)?;
+    }
+    Ok(lanes)
+}
+
+/// Opens segments as lanes.
+fn open_segments(
+    alloc: Global,
+    segments: &[Vec<u8>],
+    fork: Fork,
+    seg_blocks: u32,
+    count: u32,
+    plan: &LanePlan,
+) -> Result<Opened<MemLane>, AllocError>
+    requires { 1 ≤ count }
+    ensures blocks { IfOk result (λ opened. opened.blocks ≡ length (relation_of seg_blocks (bytes_of segments.now))) }
+    ensures contents { IfOk result (λ opened. map (λ lane. Some (pages_of lane)) opened.lanes.items ≡ dealt fork (relation_of seg_blocks (bytes_of segments.now)) count) }
+    ensures failed { IfOk result (λ opened. All (λ lane. marks_of lane ≡ no_marks) opened.lanes.items) }
+    ensures reads { IfOk result (λ opened. sum_by (λ lane. lane.read_faults.count) opened.lanes.items ≡ 0) }
+    ensures writes { IfOk result (λ opened. sum_by (λ lane. lane.write_faults.count) opened.lanes.items ≡ 0) }
+    ensures plan { IfOk result (λ opened. All (λ lane. plan_of lane ≡ fresh_lane_plan plan.now) opened.lanes.items) }
+{
+    let pages = relation_pages(alloc, segments, seg_blocks)?;
+    let lanes = deal_lanes(alloc, &pages, fork, count, plan)?;
+    Ok(Opened {
+        blocks: pages.len() as u32,
+        lanes,
+    })
+}
+
+/// Counts the failed reads of lanes too.
+fn count_reads(faults: &mut FaultCount, lanes: &[MemLane])
+    ensures { Added faults.old.count (sum_by (λ lane. lane.read_faults.count) lanes.now) faults.new.count }
+{
+    for lane in lanes {
+        faults.add(lane.read_faults());
+    }
+}
+
+/// Counts the failed writes and syncs of lanes too.
+fn count_writes(faults: &mut FaultCount, lanes: &[MemLane])
+    ensures { Added faults.old.count (sum_by (λ lane. lane.write_faults.count) lanes.now) faults.new.count }
+{
+    for lane in lanes {
+        faults.add(lane.write_faults());
+    }
+}
+
+/// A host in memory.
+#[derive(Drop)]
+pub struct MemHost {
+    files: Vec<MemFile>,
+    openings: FaultPlan,
+    lanes: LanePlan,
+    open_path: String,
+    open_seg_blocks: u32,
+    read_faults: FaultCount,
+    write_faults: FaultCount,
+}
+
+impl MemHost {
+    /// A host with these files, in which these openings and these calls of each lane are to fail.
+    pub fn new(alloc: Global, files: Vec<MemFile>, openings: FaultPlan, lanes: LanePlan) -> MemHost
+        ensures contents { ⟦<MemHost as Host>⟧.contents result ≡ Some (segments_at files.items) }
+        ensures failed { ⟦<MemHost as Host>⟧.failed_writes result ≡ marks_at files.items }
+        ensures openings { openings_of result ≡ openings }
+        ensures lanes { lanes_of result ≡ lanes }
+        ensures reads { ⟦<MemHost as Host>⟧.read_faults result ≡ 0 }
+        ensures writes { ⟦<MemHost as Host>⟧.write_faults result ≡ 0 }
+    {
+        MemHost {
+            files,
+            openings,
+            lanes,
+            open_path: String::new(alloc),
+            open_seg_blocks: 0,
+            read_faults: FaultCount::new(),
+            write_faults: FaultCount::new(),
+        }
+    }
+
+    /// The segments at a path, none where there is no file.
+    pub fn segments(&self, path: &str) -> &[Vec<u8>]
+        ensures { IfSome (⟦<MemHost as Host>⟧.contents self.now) (λ paths. bytes_of result.now ≡ paths path.now) }
+    {
+        match file_at(&self.files, path) {
+            Some(index) => self.files[index].segments.as_slice(),
+            None => &[],
+        }
+    }
+
+    /// How many openings failed, and reads of lanes that were given back.
+    pub fn read_faults(&self) -> u64
+        ensures { result ≡ ⟦<MemHost as Host>⟧.read_faults self.now }
+    {
+        self.read_faults.get()
+    }
+
+    /// How many writes and syncs failed of lanes that were given back.
+    pub fn write_faults(&self) -> u64
+        ensures { result ≡ ⟦<MemHost as Host>⟧.write_faults self.now }
+    {
+        self.write_faults.get()
+    }
+
+    /// Opens the relation at a path as lanes.
+    fn open(
+        &self,
+        alloc: Global,
+        path: &str,
+        seg_blocks: u32,
+        lanes: u32,
+    ) -> Result<Opened<MemLane>, HostError>
+        requires { 1 ≤ lanes }
+        ensures opened { IfOk result (IsOpened (λ lane. Some (pages_of lane)) marks_of (λ lane. lane.read_faults.count) (λ lane. lane.write_faults.count) (Some (segments_at self.now.files.items)) path.now (fork_of path.now) seg_blocks lanes) }
+        ensures missing { IsErrOf result HostError.Missing → segments_at self.now.files.items path.now ≡ [] }
+        ensures alive { IsErrOf result HostError.Failed → ⊥ }
+        ensures plan { IfOk result (λ opened. All (λ lane. plan_of lane ≡ fresh_lane_plan self.now.lanes) opened.lanes.items) }
+    {
+        let segments = self.segments(path);
+        if segments.is_empty() {
+            return Err(HostError::Missing);
+        }
+        let fork = fork_of_path(path);
+        match open_segments(alloc, segments, fork, seg_blocks, lanes, &self.lanes) {
+            Ok(opened) => Ok(opened),
+            Err(_) => Err(HostError::Memory),
+        }
+    }
+
+    /// Forgets what the lanes of a path that were given back had marked.
+    fn forget(&mut self, path: &str)
+        ensures contents { segments_at self.new.files.items ≡ segments_at self.old.files.items }
+        ensures failed { marks_at self.new.files.items ≡ cleared path.now (marks_at self.old.files.items) }
+        ensures same { self.new ≡ record self.old { files = self.new.files } }
+    {
+        if let Some(index) = file_at(&self.files, path) {
+            self.files[index].returned.clear();
+        }
+    }
+
+    /// Puts the blocks of lanes at their places in the segments of a path, and keeps the lanes.
+    fn take_lanes(&mut self, lanes: Vec<MemLane>)
+        ensures contents { segments_at self.new.files.items ≡ paths_after (open_now self.old) (map (λ lane. Some (pages_of lane)) lanes.items) (segments_at self.old.files.items) }
+        ensures failed { segments_at self.old.files.items (string_bytes self.old.open_path) ≢ [] → marks_at self.new.files.items ≡ marks_after (open_now self.old) (map marks_of lanes.items) (marks_at self.old.files.items) }
+        ensures same { self.new ≡ record self.old { files = self.new.files } }
+    {
+        let fork = fork_of_path(&self.open_path);
+        if let Some(index) = file_at(&self.files, &self.open_path) {
+            let file = &mut self.files[index];
+            give_blocks_back(
+                file.segments.as_mut_slice(),
+                self.open_seg_blocks,
+                fork,
+                &lanes,
+            );
+            file.returned = lanes;
+        }
+    }
+}
+
+impl Host for MemHost {
+    type Lane = MemLane;
+
+    ghost contents = { λ h. Some (segments_at h.files.items) };
+
+    ghost failed_writes = { λ h. marks_at h.files.items };
+
+    ghost open_at = { open_now };
+
+    ghost read_faults = { λ h. h.read_faults.count };
+
+    ghost write_faults = { λ h. h.write_faults.count };
+
+    fn relation(
+        &mut self,
+        alloc: Global,
+        path: &str,
+        seg_blocks: u32,
+        lanes: u32,
+    ) -> Result<Opened<MemLane>, HostError>
+        requires seg_blocks { 1 ≤ seg_blocks }
+        requires lanes { 1 ≤ lanes }
+        ensures opened { IfOk result (IsOpened (λ lane. Some (pages_of lane)) marks_of (λ lane. lane.read_faults.count) (λ lane. lane.write_faults.count) (Some (segments_at self.old.files.items)) path.now (fork_of path.now) seg_blocks lanes) }
+        ensures missing { IsErrOf result HostError.Missing → segments_at self.old.files.items path.now ≡ [] }
+        ensures contents { Some (segments_at self.new.files.items) ≡ Some (segments_at self.old.files.items) }
+        ensures failed { MatchResult result (λ _. marks_at self.new.files.items ≡ cleared path.now (marks_at self.old.files.items)) (λ _. marks_at self.new.files.items ≡ marks_at self.old.files.items) }
+        ensures open_at { MatchResult result (λ _. open_now self.new ≡ record { path = path.now; seg_blocks = seg_blocks }) (λ _. open_now self.new ≡ open_now self.old) }
+        ensures reads { HasOpeningCause self.old.read_faults.count self.new.read_faults.count result }
+        ensures writes { self.new.write_faults ≡ self.old.write_faults }
+        ensures fault { IsErrOf result HostError.Failed ↔ (fails_next (openings_of self.old) ≡ true) }
+        ensures openings { openings_of self.new ≡ after_call (openings_of self.old) }
+        ensures plan { IfOk result (λ opened. All (λ lane. plan_of lane ≡ fresh_lane_plan (lanes_of self.old)) opened.lanes.items) }
+    {
+        if self.openings.fails() {
+            self.read_faults.raise();
+            return Err(HostError::Failed);
+        }
+        let Ok(open_path) = String::from_str(alloc, path) else {
+            return Err(HostError::Memory);
+        };
+        let opened = self.open(alloc, path, seg_blocks, lanes)?;
+        self.open_path = open_path;
+        self.open_seg_blocks = seg_blocks;
+        self.forget(path);
+        Ok(opened)
+    }
+
+    fn give_back(&mut self, lanes: Vec<MemLane>)
+        ensures contents { Some (segments_at self.new.files.items) ≡ Some (paths_after (open_now self.old) (map (λ lane. Some (pages_of lane)) lanes.items) (segments_at self.old.files.items)) }
+        ensures failed { segments_at self.old.files.items (string_bytes self.old.open_path) ≢ [] → marks_at self.new.files.items ≡ marks_after (open_now self.old) (map marks_of lanes.items) (marks_at self.old.files.items) }
+        ensures open_at { open_now self.new ≡ open_now self.old }
+        ensures openings { openings_of self.new ≡ openings_of self.old }
+        ensures reads { Added self.old.read_faults.count (sum_by (λ lane. lane.read_faults.count) lanes.items) self.new.read_faults.count }
+        ensures writes { Added self.old.write_faults.count (sum_by (λ lane. lane.write_faults.count) lanes.items) self.new.write_faults.count }
+    {
+        count_reads(&mut self.read_faults, &lanes);
+        count_writes(&mut self.write_faults, &lanes);
+        self.take_lanes(lanes);
+    }
+
+    ghost read_faults_fit = { λ h. h.read_faults.fits };
+
+    ghost write_faults_fit = { λ h. h.write_faults.fits };
+}

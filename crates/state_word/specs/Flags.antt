@@ -1,0 +1,31 @@
+-- The flags of a state word one at a time.
+use Rattle.std.specs.Prelude.{ℕ, Bool}
+use Rattle.state_word.specs.declared.word.StateWord.{StateWord}
+use Rattle.state_word.specs.declared.word.Flag.{Flag}
+use Rattle.state_word.specs.declared.word.Flag.TheVariants.{Locked, Dirty, Valid, TagValid, IoInProgress, IoError, JustDirtied, PinCountWaiter, CheckpointNeeded, Permanent}
+
+-- the place of a flag's bit in the word
+abbrev pub place_of : Flag → ℕ
+place_of Locked = 22
+place_of Dirty = 23
+place_of Valid = 24
+place_of TagValid = 25
+place_of IoInProgress = 26
+place_of IoError = 27
+place_of JustDirtied = 28
+place_of PinCountWaiter = 29
+place_of CheckpointNeeded = 30
+place_of Permanent = 31
+
+-- the word with this flag set or cleared
+abbrev pub with_flag : Flag → Bool → StateWord → StateWord
+with_flag Locked b s = record s { locked = b }
+with_flag Dirty b s = record s { dirty = b }
+with_flag Valid b s = record s { valid = b }
+with_flag TagValid b s = record s { tag_valid = b }
+with_flag IoInProgress b s = record s { in_progress = b }
+with_flag IoError b s = record s { failed = b }
+with_flag JustDirtied b s = record s { just_dirtied = b }
+with_flag PinCountWaiter b s = record s { awaited = b }
+with_flag CheckpointNeeded b s = record s { checkpoint_needed = b }
+with_flag Permanent b s = record s { permanent = b }
