@@ -1,0 +1,4 @@
+pub mod Lanes
+pub mod Logs
+pub mod Calls
+pub mod Homes

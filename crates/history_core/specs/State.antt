@@ -1,0 +1,65 @@
+-- The buffer pool with the lanes that hold its blocks, and the log.
+use Rattle.std.specs.Prelude.{◌≡◌, ℕ, ◌<◌, Bool, true, false, [], Option, None}
+use Rattle.pin_core.specs.State.{Page, Config}
+use Rattle.pin_core.specs.State as pins
+use Rattle.page_core.specs.State as page
+use Rattle.history_core.specs.Log.{Log}
+
+-- A lane: the device that holds some of the blocks, with its latch
+pub record Lane : Type 0 where
+  -- whether a backend has the latch
+  pub taken : Bool
+  -- the page that it holds for each block, by its tag
+  pub stored : ℕ → Page
+  -- the blocks whose last write failed
+  pub failed : ℕ → Bool
+  -- how many reads, and how many writes and syncs, have failed
+  pub read_faults : ℕ
+  pub write_faults : ℕ
+
+-- The buffer pool with the pages of its blocks, the lanes, and the log
+pub record State : Type 0 where
+  -- frames, maps, views, and each block's page after the log
+  pub pool : page.State
+  -- how many lanes there are, and the lane of each tag
+  pub lanes : ℕ
+  pub lane_of : ℕ → ℕ
+  pub lane : ℕ → Lane
+  -- the pages that the lanes held at the start
+  pub origin : ℕ → Page
+  pub log : Log
+  -- the word of the log's end, and the word up to which the log is flushed
+  pub end : ℕ
+  pub flushed : ℕ
+
+-- the page that the block's lane holds, and whether the block's last write failed
+abbrev pub stored : State → ℕ → Page
+stored s tag = (s.lane (s.lane_of tag)).stored tag
+
+abbrev pub failed : State → ℕ → Bool
+failed s tag = (s.lane (s.lane_of tag)).failed tag
+
+-- What the lanes and the log are at the start
+pub record Store : Type 0 where
+  pub lane_of : ℕ → ℕ
+  -- the pages that the lanes hold
+  pub origin : ℕ → Page
+  -- the position where the log begins
+  pub base : ℕ
+
+-- a lane at the start: no write has failed
+abbrev pub fresh_lane : (ℕ → Page) → Lane
+fresh_lane origin = record { taken = false; stored = origin; failed = λ _. false; read_faults = 0; write_faults = 0 }
+
+-- the start: an empty log, all of it flushed
+abbrev pub opening : Config → Store → Page → State
+opening c store p = record {
+  pool = page.opening c store.origin p;
+  lanes = c.lanes;
+  lane_of = store.lane_of;
+  lane = λ _. fresh_lane store.origin;
+  origin = store.origin;
+  log = record { base = store.base; entries = [] };
+  end = store.base;
+  flushed = store.base;
+}
