@@ -30,7 +30,7 @@ unfolding total
 total-both g [] m = omega arith
 total-both g (x ∷ l) m = omega (arith, total-both g l m)
 
-no_total : {A : Type 0} (g : A → ℕ) → total g [] ≡ 0
+pub no_total : {A : Type 0} (g : A → ℕ) → total g [] ≡ 0
 unfolding total
 no_total g = refl
 
@@ -71,7 +71,7 @@ calls_same origin log flushed v w same c = record {
   loaded = subst (λ (n : ℕ). n ≤ flushed) (sym same.flushed) c.loaded;
 }
 
-no_calls : (origin : ℕ → Page) (log : Log) (flushed : ℕ) (v : View) → v.calls ≡ [] → v.front ≡ 0 → v.flushed ≡ 0 → CallsLaw origin log flushed v
+pub no_calls : (origin : ℕ → Page) (log : Log) (flushed : ℕ) (v : View) → v.calls ≡ [] → v.front ≡ 0 → v.flushed ≡ 0 → CallsLaw origin log flushed v
 no_calls origin log flushed v none front loaded = record {
   legal = λ k x e. absurd (some-ne-none x (sym (subst (λ (l : List Call). get_elem? l k ≡ some x) none e)));
   fronted = λ k x e. absurd (some-ne-none x (sym (subst (λ (l : List Call). get_elem? l k ≡ some x) none e)));

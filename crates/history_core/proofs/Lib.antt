@@ -6,3 +6,5 @@ pub mod Pools
 pub mod Outer
 pub mod Blocks
 pub mod Stepping
+pub mod Opening
+pub mod Histories

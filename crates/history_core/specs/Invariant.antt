@@ -7,10 +7,9 @@ use Rattle.pin_core.specs.declared.view.View.{View}
 use Rattle.pin_core.specs.State.{Page, no_tag}
 use Rattle.page_core.specs.Invariant as pages
 use Rattle.history_core.specs.Log.{Entry, Log, LogLaw, log_end, end_of, cell, IsLegal, place_of, writes_in, writes_at, AreInOrder}
-use Rattle.history_core.specs.State.{State, stored, failed}
+use Rattle.history_core.specs.State.{State, stored, failed, last_position}
 use Rattle.history_core.specs.Lanes.{lane_shape, lane_part}
 use Rattle.history_core.specs.Homes.{home_of, home_shape, home_part, IsClean, IsUnframed, IsFlushedCell}
-use Rattle.history_core.specs.Steps.{last_position}
 use Rattle.grid.specs.Shape.{Grid, total}
 
 -- What holds of the calls of a view

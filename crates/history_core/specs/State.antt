@@ -1,5 +1,5 @@
 -- The buffer pool with the lanes that hold its blocks, and the log.
-use Rattle.std.specs.Prelude.{◌≡◌, ℕ, ◌<◌, Bool, true, false, [], Option, None}
+use Rattle.std.specs.Prelude.{◌≡◌, ℕ, ◌<◌, ◌≤◌, Bool, true, false, [], Option, None}
 use Rattle.pin_core.specs.State.{Page, Config}
 use Rattle.pin_core.specs.State as pins
 use Rattle.page_core.specs.State as page
@@ -16,6 +16,10 @@ pub record Lane : Type 0 where
   -- how many reads, and how many writes and syncs, have failed
   pub read_faults : ℕ
   pub write_faults : ℕ
+
+-- the last position in the log: 2 to the power 62
+abbrev pub last_position : ℕ
+last_position = 4611686018427387904
 
 -- The buffer pool with the pages of its blocks, the lanes, and the log
 pub record State : Type 0 where
@@ -46,6 +50,11 @@ pub record Store : Type 0 where
   pub origin : ℕ → Page
   -- the position where the log begins
   pub base : ℕ
+
+-- each tag has a lane, and the log begins at a position
+pub record CanStore (c : Config) (store : Store) : Type 0 where
+  pub placed : (tag : ℕ) → store.lane_of tag < c.lanes
+  pub based : store.base ≤ last_position
 
 -- a lane at the start: no write has failed
 abbrev pub fresh_lane : (ℕ → Page) → Lane

@@ -24,7 +24,7 @@ use Rattle.page_core.specs.Kinds.{Kind, note_read, begin_write, note_write, make
 use Rattle.page_core.specs.Steps as page_steps
 use Rattle.page_core.specs.Steps.{logged_after}
 use Rattle.history_core.specs.Log.{Entry, Log, record_size}
-use Rattle.history_core.specs.State.{Lane, State}
+use Rattle.history_core.specs.State.{Lane, State, last_position}
 use Rattle.history_core.specs.Lanes.{LaneKind, take_lane, leave_lane, lane_out, read_block, fail_read, write_block, fail_write, sync_lane, fail_sync, lane_back, LaneAllowed, lane_after, lane_changed}
 use Rattle.grid.specs.Shape.{put}
 
@@ -44,10 +44,6 @@ pub data Event : Type 0 where
   load_flushed : ℕ → Event
   -- the flushed position is raised to the log's end
   raise_flushed : ℕ → Event
-
--- the last position in the log: 2 to the power 62
-abbrev pub last_position : ℕ
-last_position = 4611686018427387904
 
 -- the kinds of `page_core` that stand there for what a lane gives and takes, and for a new entry, are part of a step of this crate's own
 abbrev pub IsPlain : Kind → Link → Type 0
