@@ -1,40 +1,32 @@
 -- The blocks, their frames and their lanes, as a step changes them.
-use Rattle.std.proofs.Common.{◌≡◌, ◌≢◌, ℕ, ◌+◌, ◌<◌, ◌≤◌, Bool, true, false, List, [], ◌∷◌, ◌++◌, length, set, Some, None, get_or-set_same, get_or-set_other, sym, refl, ap, ◌∙◌, subst, arith}
+use Rattle.std.proofs.Common.{◌≡◌, ◌≢◌, ℕ, ◌<◌, ◌≤◌, true, false, List, None, sym, refl, ap, ◌∙◌, subst, arith}
 use mathlib.Core.Logic.{dite}
-use mathlib.Core.Option.{some}
 use native.Mathlib.Decide.{ℕ_discrete}
-use lib.ListN.{get_elem?}
-use Rattle.page_layout.specs.Fields.{lsn_of}
 use Rattle.state_word.specs.declared.word.IoEnd.TheVariants.{ReadOk, WriteOk, Bad}
-use Rattle.pin_core.specs.declared.view.Io.TheVariants.{Output, Input}
-use Rattle.pin_core.specs.declared.view.Content.TheVariants.{Unlocked, Exclusive}
+use Rattle.pin_core.specs.declared.view.Io.TheVariants.{Output}
 use Rattle.pin_core.specs.declared.view.MapChange.TheVariants.{Settled}
 use Rattle.pin_core.specs.declared.view.PartitionHold.{PartitionHold}
 use Rattle.pin_core.specs.declared.view.Link.{Link}
 use Rattle.pin_core.specs.declared.view.View.{View}
-use Rattle.pin_core.specs.State.{Frame, Partition, Page, no_tag, idle, link, new_view, emptied_view, joined_view}
+use Rattle.pin_core.specs.State.{Frame, Partition, Page, no_tag, idle}
 use Rattle.pin_core.specs.Tallies as pin_tallies
-use Rattle.pin_core.specs.Invariant.{FrameLaw, LinkLaw, HasTag}
+use Rattle.pin_core.specs.Invariant.{FrameLaw, HasTag}
 use Rattle.pin_core.specs.Maps.{PairLaw}
 use Rattle.pin_core.specs.Turns.{HoldLaw}
 use Rattle.pin_core.specs.Kinds as pin_kinds
-use Rattle.pin_core.specs.Steps.{IsFree}
-use Rattle.pin_core.proofs.Views.{link_new}
-use Rattle.page_core.specs.State.{Block, block_of}
-use Rattle.page_core.specs.Tallies.{Tally, pin, sharers, applied_locks, unapplied_locks, works, weigh, page_shape}
+use Rattle.page_core.specs.State.{Block}
+use Rattle.page_core.specs.Tallies.{Tally, sharers, weigh}
 use Rattle.page_core.specs.Invariant.{PageFrame, PageLink}
 use Rattle.page_core.specs.Kinds as kinds
 use Rattle.page_core.specs.Kinds.{Kind, Allowed, frame_after, block_after, link_after}
-use Rattle.page_core.proofs.KeepingPages as pages
-use Rattle.page_core.proofs.Stepping.{new_none}
-use Rattle.history_core.specs.Log.{Entry, IsImage, cell, cut}
-use Rattle.history_core.specs.Homes.{Home, IsClean, HomeFrame, HomeLink, home_shape, home_part, of_pages, IsUnframed, IsFlushedCell}
+use Rattle.history_core.specs.Log.{Entry}
+use Rattle.history_core.specs.Homes.{Home, IsClean, HomeLink, home_shape, home_part, IsUnframed, IsFlushedCell}
 use Rattle.history_core.specs.Steps.{IsPlain}
 use Rattle.history_core.proofs.Homes as homes
 use Rattle.history_core.proofs.Homes.{known, home_after, Keeps_by, Keeps_by_pins}
-use Rattle.grid.specs.Shape.{Grid, put, tallies}
-use Rattle.grid.proofs.Lists.{put_here, put_else, set_else}
-use Rattle.grid.proofs.Grids.{Relinks, both_grids, touch, sweep, steady, grows, Keeps}
+use Rattle.grid.specs.Shape.{Grid, put}
+use Rattle.grid.proofs.Lists.{put_here, put_else}
+use Rattle.grid.proofs.Grids.{Keeps}
 
 -- A kind that is plain keeps the law of the homes
 pub plain_keeps : (k : Kind) (h : Home) (fr : Frame) (l : Link) → IsPlain k l → Allowed k h.block fr l → Keeps_by k h (home_after k h) fr l

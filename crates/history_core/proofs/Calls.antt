@@ -1,18 +1,17 @@
 -- A step keeps the law of the calls.
-use Rattle.std.proofs.Common.{◌≡◌, ◌≢◌, ◌⊎◌, ℕ, zero, suc, ◌+◌, ◌<◌, ◌≤◌, Bool, true, false, nat_eq, cond, eq-eqb, ne_eqb, List, [], ◌∷◌, ◌++◌, length, length-append, set, sym, refl, ap, ◌∙◌, subst, inl, inr, ⊎_elim, arith}
-use Rattle.std.specs.Prelude.{max}
+use Rattle.std.proofs.Common.{◌≡◌, ◌≢◌, ◌⊎◌, ℕ, zero, suc, ◌+◌, ◌<◌, ◌≤◌, Bool, cond, eq-eqb, ne_eqb, List, [], ◌∷◌, ◌++◌, length, length-append, set, sym, refl, ap, ◌∙◌, subst, inl, inr, ⊎_elim, arith}
 use mathlib.Core.Option.{some, some-ne-none}
 use lib.ListN.{get_elem?}
 use Rattle.pin_core.specs.declared.view.Call.{Call}
 use Rattle.pin_core.specs.declared.view.Call.TheVariants.{Read, Write}
 use Rattle.pin_core.specs.declared.view.View.{View}
-use Rattle.pin_core.specs.State.{Page, new_view, emptied_view, joined_view}
-use Rattle.history_core.specs.Log.{Entry, Log, LogLaw, IsImage, record_size, end_of, log_end, cut, cell, IsLegal, IsLegalRead, IsLegalWrite, place_of, write_weight, weight_at, writes_in, writes_at, AreInOrder}
+use Rattle.pin_core.specs.State.{Page, emptied_view, joined_view}
+use Rattle.history_core.specs.Log.{Entry, Log, LogLaw, end_of, log_end, cell, IsLegal, IsLegalRead, place_of, write_weight, weight_at, writes_in, writes_at, AreInOrder}
 use Rattle.history_core.specs.Invariant.{CallsLaw, HistoryLaw}
 use Rattle.grid.specs.Shape.{total}
 use Rattle.grid.proofs.Lists.{at_set, at_end, at_longer, set_else}
-use Rattle.grid.proofs.Sums.{total-set, total-snoc, total-none, term_le}
-use Rattle.history_core.proofs.Logs.{cell_longer, cut_longer, cut_all, ends_below, end_longer}
+use Rattle.grid.proofs.Sums.{total-set, total-snoc, total-none}
+use Rattle.history_core.proofs.Logs.{cut_longer, cut_all, ends_below, end_longer}
 
 -- what is at a place of two lists, one behind the other
 at_both : {A : Type 0} (l m : List A) (k : ℕ) (a : A) → get_elem? (l ++ m) k ≡ some a → (get_elem? l k ≡ some a) ⊎ ((j : ℕ) × (get_elem? m j ≡ some a))

@@ -1,6 +1,6 @@
 -- What the law says in the field's words.
-use Rattle.std.proofs.Common.{◌≡◌, ◌≢◌, ◌⊎◌, ℕ, zero, suc, ◌+◌, ◌<◌, ◌≤◌, Bool, true, false, cond, List, [], ◌∷◌, ◌++◌, length, None, inl, inr, sym, refl, ap, ◌∙◌, subst, ⊎_elim, arith}
-use Rattle.std.specs.Prelude.{count_by, if◌then◌else◌}
+use Rattle.std.proofs.Common.{◌≡◌, ◌≢◌, ◌⊎◌, ℕ, zero, suc, ◌+◌, ◌<◌, ◌≤◌, Bool, true, false, cond, List, [], ◌∷◌, ◌++◌, length, None, inl, inr, sym, refl, ◌∙◌, subst, ⊎_elim, arith}
+use Rattle.std.specs.Prelude.{if◌then◌else◌}
 use mathlib.Core.Logic.{dite}
 use mathlib.Core.Option.{some}
 use native.Mathlib.Decide.{ℕ_discrete}
@@ -9,24 +9,23 @@ use Rattle.page_layout.specs.Fields.{lsn_of}
 use Rattle.pin_core.specs.declared.view.LaneHold.{LaneHold}
 use Rattle.pin_core.specs.declared.view.Link.{Link}
 use Rattle.pin_core.specs.declared.view.View.{View}
-use Rattle.pin_core.specs.declared.view.Call.TheVariants.{Read, Write}
-use Rattle.pin_core.specs.State.{Frame, Page, no_tag, link, lane_hold}
+use Rattle.pin_core.specs.declared.view.Call.TheVariants.{Read}
+use Rattle.pin_core.specs.State.{Frame, Page, link, lane_hold}
 use Rattle.pin_core.specs.Tallies.{flag_weight}
 use Rattle.pin_core.specs.declared.view.Seen.TheVariants as seen
 use Rattle.page_core.specs.Kinds.{make_entry}
 use Rattle.page_core.proofs.Histories as pages
-use Rattle.history_core.specs.Log.{cell, cut, log_end, record_size}
+use Rattle.history_core.specs.Log.{record_size}
 use Rattle.history_core.specs.State.{State}
 use Rattle.history_core.specs.Lanes as lane_kinds
 use Rattle.history_core.specs.Lanes.{LaneKind, LaneAllowed}
 use Rattle.history_core.specs.Homes.{IsUnframed}
 use Rattle.history_core.specs.Invariant.{Invariant}
-use Rattle.history_core.specs.Steps.{looked, paged, has_read, has_written, new_entry, Writes, Step, writes, enters, reads}
-use Rattle.history_core.specs.Histories.{IsReached, CallsAreLegal, WritesAreEntries, ReadStands, ReadsStand, WritesStand, LogBeforeData, LanesHoldFlushedPages, HasNoDirtyFrame, IsStored, CleanBlocksAreStored, FramesAreSound, FramesHoldCells, LogWords, holds_lane, LanesAreHeld}
-use Rattle.history_core.proofs.Logs.{cut_all, ends_below, end_longer}
+use Rattle.history_core.specs.Steps.{looked, paged, has_read, has_written, new_entry, Writes, writes, enters, reads}
+use Rattle.history_core.specs.Histories.{IsReached, CallsAreLegal, WritesAreEntries, ReadsStand, WritesStand, LogBeforeData, LanesHoldFlushedPages, IsStored, CleanBlocksAreStored, FramesAreSound, FramesHoldCells, LogWords, holds_lane, LanesAreHeld}
+use Rattle.history_core.proofs.Logs.{end_longer}
 use Rattle.history_core.proofs.Opening.{opens}
 use Rattle.history_core.proofs.Stepping.{step_keeps, run_keeps}
-use Rattle.grid.specs.Shape.{total}
 use Rattle.grid.proofs.Lists.{set_here}
 use Rattle.grid.proofs.Sums.{total-count}
 
@@ -83,29 +82,41 @@ module _ (s : State) (h : Invariant s) where
 
   pub reads_stand : ReadsStand s
   reads_stand _ _ t (reads i f tag p v there live inside a) = let w : View = looked (seen.LogEnd s.end) (has_read s.end tag p v) in let here = set_here s.pool.core.views i v w there in let k = step_keeps (reads i f tag p v there live inside a) h in
-      let c = h.history.calls i v there in let e = h.ends in (v, w, there, here, record {
-        tag = tag;
-        page = p;
-        place = s.end;
-        added = refl;
-        front = refl;
-        is_cell = ((k.history.calls i w here).legal (length v.calls) (Read tag p s.end) (at_last v.calls (Read tag p s.end))).reads;
-        later = λ j x at. let y = c.fronted j x at in let z = c.within in omega arith;
-        above = let z = c.within in omega arith;
-      })
+      let c = h.history.calls i v there in let e = h.ends in (
+        v,
+        w,
+        there,
+        here,
+        record {
+          tag = tag;
+          page = p;
+          place = s.end;
+          added = refl;
+          front = refl;
+          is_cell = ((k.history.calls i w here).legal (length v.calls) (Read tag p s.end) (at_last v.calls (Read tag p s.end))).reads;
+          later = λ j x at. let y = c.fronted j x at in let z = c.within in omega arith;
+          above = let z = c.within in omega arith;
+        },
+      )
 
   pub writes_stand : WritesStand s
   writes_stand _ _ _ t (enters i f p v there live inside a) = let tag = (s.pool.core.frame f).tag in let w : View = has_written (s.end + record_size) tag p (paged (make_entry p) s.pool f v) in let here = set_here s.pool.core.views i v w there in
-      let c = h.history.calls i v there in let e = h.ends in (v, w, there, here, record {
-        tag = tag;
-        page = p;
-        place = s.end + record_size;
-        added = refl;
-        front = refl;
-        position = a.ends;
-        end = omega (arith, end_longer s.log (new_entry s v.number tag p) h.log);
-        above = let z = c.within in omega arith;
-      })
+      let c = h.history.calls i v there in let e = h.ends in (
+        v,
+        w,
+        there,
+        here,
+        record {
+          tag = tag;
+          page = p;
+          place = s.end + record_size;
+          added = refl;
+          front = refl;
+          position = a.ends;
+          end = omega (arith, end_longer s.log (new_entry s v.number tag p) h.log);
+          above = let z = c.within in omega arith;
+        },
+      )
 
   pub log_first : LogBeforeData s
   log_first _ _ _ _ t (writes i n f k v there live low inside back x) = (v, there, record { loaded = loaded k s n f (lane_hold v n) (link v f) x; flushed = (h.lanes.cells i v n there low).hold.flushed_by (is_out k s n f (lane_hold v n) (link v f) x back) })

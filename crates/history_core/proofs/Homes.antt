@@ -1,18 +1,15 @@
 -- Each kind of `pin_core` and of `page_core` keeps the law of the blocks' homes.
-use Rattle.std.proofs.Common.{◌≡◌, ◌≢◌, ℕ, ◌+◌, ◌≤◌, Bool, true, false, refl, arith, Some}
+use Rattle.std.proofs.Common.{◌≡◌, ℕ, Bool, true, false, arith, Some}
 use Rattle.page_layout.specs.Soundness.{is_sound_page}
-use Rattle.state_word.specs.declared.word.IoEnd.{IoEnd}
 use Rattle.state_word.specs.declared.word.IoEnd.TheVariants.{ReadOk, WriteOk, Bad}
 use Rattle.pin_core.specs.declared.view.Link.{Link}
-use Rattle.pin_core.specs.State.{Frame, Page, no_tag}
-use Rattle.pin_core.specs.Tallies as pins
+use Rattle.pin_core.specs.State.{Frame, Page}
 use Rattle.pin_core.specs.Kinds as pin_kinds
-use Rattle.page_core.specs.State.{Block}
-use Rattle.page_core.specs.Tallies.{pin, sharers, applied_locks, unapplied_locks, copies, works}
+use Rattle.page_core.specs.Tallies.{works}
 use Rattle.page_core.specs.Kinds as kinds
 use Rattle.page_core.specs.Kinds.{Kind, Allowed, frame_after, block_after, link_after}
 use Rattle.page_core.proofs.KeepingPages as pages
-use Rattle.history_core.specs.Homes.{Home, IsClean, HomeFrame, HomeLink, home_shape, home_part, of_pages}
+use Rattle.history_core.specs.Homes.{Home, IsClean, home_shape, home_part, of_pages}
 use Rattle.grid.specs.Shape.{Part}
 use Rattle.grid.proofs.Grids.{Keeps, both}
 

@@ -1,5 +1,5 @@
 -- A longer log, and what its entries make of the blocks' pages.
-use Rattle.std.proofs.Common.{◌≡◌, ◌≢◌, ℕ, zero, suc, ◌+◌, ◌*◌, ◌<◌, ◌≤◌, ◌⊎◌, inl, inr, Bool, true, false, nat_le, cond, List, [], ◌∷◌, ◌++◌, length, length-append, sym, refl, ap, ◌∙◌, subst, ⊎_elim, arith}
+use Rattle.std.proofs.Common.{◌≡◌, ◌≢◌, ℕ, zero, suc, ◌+◌, ◌*◌, ◌<◌, ◌≤◌, Bool, cond, List, [], ◌∷◌, ◌++◌, length, length-append, sym, refl, ap, ◌∙◌, subst, ⊎_elim, arith}
 use Rattle.std.proofs.lemmas.Bool.{le-leb, lt-leb, cases_lt}
 use mathlib.Core.Logic.{dite}
 use mathlib.Core.Option.{some, some-ne-none}
@@ -64,9 +64,12 @@ last_of (e ∷ es) tag p h = behind (last_of es tag p (λ k x t. h (suc k) x t))
         (λ (same : tag ≡ e.tag). changed (λ before origin low. let is : cell (put before e.tag e.image) es tag ≡ e.image = (c (put before e.tag e.image)).0 ∙ put_at before e.tag e.image tag same in
         let fits : end_of e ≤ p = subst (λ (n : ℕ). n ≤ p) ((h zero e refl).ends) (subst (λ (x : Page). lsn_of x ≤ p) is low) in
         subst (λ (l : List Entry). cell origin l tag ≡ cell (put before e.tag e.image) es tag) (sym (cut_in p e es fits)) ((c (put origin e.tag e.image)).1 ∙ put_at origin e.tag e.image tag same ∙ sym is)))
-        (λ (other : tag ≢ e.tag). untouched (λ origin. ((c (put origin e.tag e.image)).0 ∙ put_else origin e.tag e.image tag other, in_or_out p e
-        (λ (t : end_of e ≤ p). subst (λ (l : List Entry). cell origin l tag ≡ origin tag) (sym (cut_in p e es t)) ((c (put origin e.tag e.image)).1 ∙ put_else origin e.tag e.image tag other))
-        (λ (t : p < end_of e). subst (λ (l : List Entry). cell origin l tag ≡ origin tag) (sym (cut_out p e es t)) (c origin).1))))
+        (λ (other : tag ≢ e.tag). untouched (λ origin. (
+          (c (put origin e.tag e.image)).0 ∙ put_else origin e.tag e.image tag other,
+          in_or_out p e
+              (λ (t : end_of e ≤ p). subst (λ (l : List Entry). cell origin l tag ≡ origin tag) (sym (cut_in p e es t)) ((c (put origin e.tag e.image)).1 ∙ put_else origin e.tag e.image tag other))
+              (λ (t : p < end_of e). subst (λ (l : List Entry). cell origin l tag ≡ origin tag) (sym (cut_out p e es t)) (c origin).1),
+        )))
 
 -- a block's page whose position in the log is at most p is its page after the entries up to p
 pub cell_at_position : (origin : ℕ → Page) (es : List Entry) (tag p : ℕ) → ((k : ℕ) (e : Entry) → get_elem? es k ≡ some e → IsImage e) → lsn_of (cell origin es tag) ≤ p → cell origin (cut p es) tag ≡ cell origin es tag

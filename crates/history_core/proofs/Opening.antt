@@ -1,21 +1,21 @@
 -- The law holds at the start.
-use Rattle.std.proofs.Common.{◌≡◌, ◌≢◌, ℕ, ◌+◌, ◌*◌, [], ◌∷◌, length, sym, refl, ap, ◌∙◌, subst, arith}
-use mathlib.Core.Option.{some, some-ne-none}
-use lib.ListN.{get_elem?, length-replicate}
+use Rattle.std.proofs.Common.{◌≡◌, ℕ, [], ◌∷◌, length, sym, refl, ap, ◌∙◌, subst, arith}
+use mathlib.Core.Option.{some-ne-none}
+use lib.ListN.{length-replicate}
 use Rattle.pin_core.specs.declared.view.View.{View}
-use Rattle.pin_core.specs.State.{Config, CanOpen, Page, Frame, link, no_lane, lane_hold, first_view, empty_frame, no_tag}
+use Rattle.pin_core.specs.State.{Config, CanOpen, Page, link, no_lane, lane_hold, first_view, empty_frame, no_tag}
 use Rattle.pin_core.proofs.Views.{link_new}
 use Rattle.page_core.proofs.Opening as pages
-use Rattle.history_core.specs.Log.{Entry, Log, log_end, cell, cut, write_weight, writes_in}
+use Rattle.history_core.specs.Log.{Log, cell, cut, write_weight, writes_in}
 use Rattle.history_core.specs.State.{Store, CanStore, Lane, fresh_lane, opening}
-use Rattle.history_core.specs.Lanes.{LaneTally, holders, LaneColumn, LaneLink, lane_shape}
-use Rattle.history_core.specs.Homes.{Home, HomeFrame, HomeLink, IsFlushedCell, home_of}
+use Rattle.history_core.specs.Lanes.{holders, LaneLink, lane_shape}
+use Rattle.history_core.specs.Homes.{Home, HomeFrame, HomeLink, home_of}
 use Rattle.history_core.specs.Invariant.{CallsLaw, Invariant}
 use Rattle.history_core.proofs.Calls.{no_calls, no_total}
 use Rattle.history_core.proofs.Lanes.{no_lane_law}
 use Rattle.history_core.proofs.Blocks.{no_link}
 use Rattle.history_core.proofs.Outer.{lane_new}
-use Rattle.grid.specs.Shape.{total, tallies}
+use Rattle.grid.specs.Shape.{total}
 use Rattle.grid.proofs.Lists.{at_only}
 
 one_total : (g : View → ℕ) (v : View) → g v ≡ 0 → total g (v ∷ []) ≡ 0

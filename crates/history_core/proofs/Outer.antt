@@ -1,5 +1,5 @@
 -- What the lanes and the calls know of the views, as a view changes.
-use Rattle.std.proofs.Common.{◌≡◌, ◌≢◌, ◌⊎◌, ℕ, zero, suc, ◌+◌, ◌<◌, false, List, [], ◌∷◌, ◌++◌, length, set, get_or-set_same, get_or-set_other, sym, refl, ap, ◌∙◌, subst, ⊎_elim, arith}
+use Rattle.std.proofs.Common.{◌≡◌, ◌≢◌, ℕ, zero, suc, ◌<◌, false, List, [], ◌∷◌, ◌++◌, length, set, get_or-set_same, get_or-set_other, sym, refl, ap, ◌∙◌, subst, ⊎_elim}
 use mathlib.Core.Option.{some}
 use lib.ListN.{get_elem?, length-replicate}
 use Rattle.pin_core.specs.declared.view.LaneHold.{LaneHold}
@@ -7,13 +7,13 @@ use Rattle.pin_core.specs.declared.view.View.{View}
 use Rattle.pin_core.specs.State.{Page, no_lane, lane_hold, new_view, emptied_view, joined_view}
 use Rattle.history_core.specs.Log.{Log}
 use Rattle.history_core.specs.State.{Lane}
-use Rattle.history_core.specs.Lanes.{LaneKind, LaneAllowed, lane_after, lane_hold_after, LaneTally, holders, LaneLink, lane_shape, lane_part}
+use Rattle.history_core.specs.Lanes.{LaneKind, LaneAllowed, lane_after, lane_hold_after, LaneLink, lane_shape, lane_part}
 use Rattle.history_core.specs.Invariant.{HistoryLaw}
 use Rattle.history_core.proofs.Calls.{SameCalls, history_same, history_grows, history_joined}
 use Rattle.history_core.proofs.Lanes.{lane_keeps, lane_forgets, no_lane_law}
 use Rattle.grid.specs.Shape.{Grid, put}
 use Rattle.grid.proofs.Lists.{at_set, at_end, set_else}
-use Rattle.grid.proofs.Grids.{touch, sweep, steady, grows, both_grids}
+use Rattle.grid.proofs.Grids.{touch, sweep, steady, grows}
 
 abbrev pub IsWide : ℕ → List View → Type 0
 IsWide n views = (i : ℕ) (v : View) → get_elem? views i ≡ some v → v.emptied ≡ false → length v.lanes ≡ n

@@ -1,5 +1,5 @@
 -- A view changes beside what the frames and maps know of it.
-use Rattle.std.proofs.Common.{◌≡◌, ℕ, ◌<◌, false, List, length, set, set-set, refl, ap, subst}
+use Rattle.std.proofs.Common.{◌≡◌, ℕ, ◌<◌, false, List, set, set-set, refl, ap, subst}
 use mathlib.Core.Option.{some}
 use lib.ListN.{get_elem?}
 use Rattle.pin_core.specs.declared.view.Link.{Link}
@@ -15,7 +15,7 @@ use Rattle.page_core.specs.State as page
 use Rattle.page_core.specs.State.{block_of}
 use Rattle.page_core.specs.Tallies.{page_shape}
 use Rattle.page_core.specs.Invariant as page_law
-use Rattle.page_core.specs.Kinds.{Kind, Allowed, frame_after, block_after}
+use Rattle.page_core.specs.Kinds.{Kind, Allowed, frame_after}
 use Rattle.page_core.specs.Steps.{state_after, logged_after}
 use Rattle.page_core.proofs.Stepping.{kind_step_keeps}
 use Rattle.history_core.specs.Steps.{aside, pool_after, paged}

@@ -1,5 +1,5 @@
 -- Each step keeps the law, and so does each list of steps.
-use Rattle.std.proofs.Common.{◌≡◌, ◌≢◌, ◌⊎◌, ℕ, ◌+◌, ◌*◌, ◌<◌, ◌≤◌, Bool, true, false, List, [], ◌∷◌, ◌++◌, length, set, Option, Some, None, length-set, get_or-set_same, get_or-set_other, sym, refl, ap, ◌∙◌, subst, ⊎_elim, arith}
+use Rattle.std.proofs.Common.{◌≡◌, ◌≢◌, ℕ, ◌+◌, ◌<◌, ◌≤◌, Bool, true, false, List, [], ◌∷◌, ◌++◌, length, set, None, length-set, get_or-set_same, get_or-set_other, sym, refl, ap, ◌∙◌, subst, arith}
 use Rattle.std.specs.Prelude.{max}
 use mathlib.Core.Logic.{dite}
 use mathlib.Core.Option.{some}
@@ -7,12 +7,11 @@ use native.Mathlib.Decide.{ℕ_discrete}
 use lib.ListN.{get_elem?}
 use Rattle.page_layout.specs.Fields.{lsn_of}
 use Rattle.pin_core.specs.declared.view.Content.TheVariants.{Unlocked, Exclusive}
-use Rattle.pin_core.specs.declared.view.Io.TheVariants.{Input, Output}
+use Rattle.pin_core.specs.declared.view.Io.TheVariants.{Input}
 use Rattle.pin_core.specs.declared.view.LaneHold.{LaneHold}
-use Rattle.pin_core.specs.declared.view.LaneChange.TheVariants as lane_change
 use Rattle.pin_core.specs.declared.view.Link.{Link}
 use Rattle.pin_core.specs.declared.view.View.{View}
-use Rattle.pin_core.specs.declared.view.Call.TheVariants.{Read, Write}
+use Rattle.pin_core.specs.declared.view.Call.TheVariants.{Read}
 use Rattle.pin_core.specs.declared.view.Seen.TheVariants as seen
 use Rattle.pin_core.specs.State.{Frame, Page, no_tag, idle, link, hold, lane_hold, no_lane, new_view, emptied_view, joined_view}
 use Rattle.pin_core.specs.State as pins
@@ -26,26 +25,25 @@ use Rattle.pin_core.proofs.Views.{link_new}
 use Rattle.pin_core.proofs.Stepping as pin_stepping
 use Rattle.page_core.specs.State as page
 use Rattle.page_core.specs.State.{Block, block_of}
-use Rattle.page_core.specs.Tallies.{Tally, sharers, works, weigh, page_shape}
+use Rattle.page_core.specs.Tallies.{sharers, weigh, page_shape}
 use Rattle.page_core.specs.Invariant as page_law
 use Rattle.page_core.specs.Invariant.{PageFrame, PageLink}
 use Rattle.page_core.specs.Kinds as kinds
 use Rattle.page_core.specs.Kinds.{Kind, note_read, begin_write, note_write, make_entry, Allowed, frame_after, block_after, link_after, view_after}
 use Rattle.page_core.specs.Steps as page_steps
 use Rattle.page_core.specs.Steps.{logged_after}
-use Rattle.page_core.proofs.KeepingPages as pages
 use Rattle.page_core.proofs.Cases.{tag_kept}
 use Rattle.page_core.proofs.Stepping as page_stepping
 use Rattle.page_core.proofs.Stepping.{new_none}
-use Rattle.history_core.specs.Log.{Entry, Log, IsImage, record_size, log_end, end_of, cell, cut}
+use Rattle.history_core.specs.Log.{Entry, IsImage, record_size, cell}
 use Rattle.history_core.specs.State.{Lane, State, stored, failed}
 use Rattle.history_core.specs.Lanes as lane_kinds
 use Rattle.history_core.specs.Lanes.{LaneKind, LaneAllowed, lane_after, lane_hold_after, LaneLink, lane_shape, lane_part}
-use Rattle.history_core.specs.Homes.{Home, home_of, IsClean, HomeLink, home_shape, home_part, of_pages, IsUnframed, IsFlushedCell}
+use Rattle.history_core.specs.Homes.{Home, home_of, IsClean, HomeLink, home_shape, home_part, IsFlushedCell}
 use Rattle.history_core.specs.Invariant.{HistoryLaw, Invariant}
 use Rattle.history_core.specs.Steps.{Event, IsPlain, PoolAllowed, stepped, looked, aside, pool_after, paged, laned, LaneAlone, CanWrite, Writes, Notes, new_entry, CanEnter, CanRead, has_read, has_written, Step, pools, lanes, writes, notes, enters, reads, loads_end, loads_flushed, raises, Run, rests, goes}
 use Rattle.history_core.proofs.Calls.{SameCalls, history_same, history_read, history_written, history_loaded, history_raised}
-use Rattle.history_core.proofs.Logs.{cell_longer, cut_longer, cell_at_position, ends_below, end_longer, log_longer}
+use Rattle.history_core.proofs.Logs.{cell_longer, cut_longer, cell_at_position, end_longer, log_longer}
 use Rattle.history_core.proofs.Lanes.{lane_later}
 use Rattle.history_core.proofs.Homes as homes
 use Rattle.history_core.proofs.Homes.{known, home_after, Keeps_by}

@@ -10,7 +10,7 @@ use Rattle.pin_core.specs.declared.view.View.{View}
 use Rattle.pin_core.specs.State.{Page, Config, CanOpen, no_tag, lane_hold}
 use Rattle.pin_core.specs.Invariant.{HasTag}
 use Rattle.page_core.specs.Histories.{NoneUnapplied}
-use Rattle.history_core.specs.Log.{Entry, Log, log_end, end_of, cell, cut, IsLegal, place_of, writes_in, writes_at}
+use Rattle.history_core.specs.Log.{Entry, log_end, end_of, cell, cut, IsLegal, place_of, writes_in, writes_at}
 use Rattle.history_core.specs.State.{State, Store, CanStore, stored, failed, last_position, opening}
 use Rattle.history_core.specs.Homes.{IsFlushedCell}
 use Rattle.history_core.specs.Lanes.{LaneKind}

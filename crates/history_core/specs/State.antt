@@ -1,7 +1,6 @@
 -- The buffer pool with the lanes that hold its blocks, and the log.
-use Rattle.std.specs.Prelude.{◌≡◌, ℕ, ◌<◌, ◌≤◌, Bool, true, false, [], Option, None}
+use Rattle.std.specs.Prelude.{ℕ, ◌<◌, ◌≤◌, Bool, false, []}
 use Rattle.pin_core.specs.State.{Page, Config}
-use Rattle.pin_core.specs.State as pins
 use Rattle.page_core.specs.State as page
 use Rattle.history_core.specs.Log.{Log}
 

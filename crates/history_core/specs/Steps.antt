@@ -1,5 +1,5 @@
 -- One step, and lists of steps.
-use Rattle.std.specs.Prelude.{◌≡◌, ◌≢◌, ℕ, ◌+◌, ◌<◌, ◌≤◌, true, false, List, [], ◌∷◌, ◌++◌, max, Bool, Option, Some, None, slice_set}
+use Rattle.std.specs.Prelude.{◌≡◌, ◌≢◌, ℕ, ◌+◌, ◌<◌, ◌≤◌, true, false, List, [], ◌∷◌, ◌++◌, max, Bool, Some, slice_set}
 use mathlib.Core.Option.{some}
 use lib.ListN.{get_elem?}
 use Rattle.page_layout.specs.Fields.{lsn_of}
@@ -15,7 +15,7 @@ use Rattle.pin_core.specs.declared.view.Seen.TheVariants as seen
 use Rattle.pin_core.specs.declared.view.Link.{Link}
 use Rattle.pin_core.specs.declared.view.View.{View}
 use Rattle.pin_core.specs.declared.view.Call.TheVariants.{Read, Write}
-use Rattle.pin_core.specs.State.{Frame, Page, link, lane_hold, local}
+use Rattle.pin_core.specs.State.{Page, link, lane_hold, local}
 use Rattle.pin_core.specs.Kinds.{load_of}
 use Rattle.page_core.specs.State as page
 use Rattle.page_core.specs.State.{Block, block_of}
@@ -23,9 +23,9 @@ use Rattle.page_core.specs.Kinds as pages
 use Rattle.page_core.specs.Kinds.{Kind, note_read, begin_write, note_write, make_entry, end_io}
 use Rattle.page_core.specs.Steps as page_steps
 use Rattle.page_core.specs.Steps.{logged_after}
-use Rattle.history_core.specs.Log.{Entry, Log, record_size}
-use Rattle.history_core.specs.State.{Lane, State, last_position}
-use Rattle.history_core.specs.Lanes.{LaneKind, take_lane, leave_lane, lane_out, read_block, fail_read, write_block, fail_write, sync_lane, fail_sync, lane_back, LaneAllowed, lane_after, lane_changed}
+use Rattle.history_core.specs.Log.{Entry, record_size}
+use Rattle.history_core.specs.State.{State, last_position}
+use Rattle.history_core.specs.Lanes.{LaneKind, read_block, fail_read, write_block, fail_write, lane_back, LaneAllowed, lane_after, lane_changed}
 use Rattle.grid.specs.Shape.{put}
 
 -- What happens: what happens to pins, maps, content locks and pages, or a backend's step at a lane or at the log
