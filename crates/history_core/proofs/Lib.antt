@@ -1,4 +1,5 @@
 pub mod Lanes
+pub mod Device
 pub mod Logs
 pub mod Calls
 pub mod Homes

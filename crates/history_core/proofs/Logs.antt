@@ -1,13 +1,15 @@
 -- A longer log, and what its entries make of the blocks' pages.
-use Rattle.std.proofs.Common.{◌≡◌, ◌≢◌, ℕ, zero, suc, ◌+◌, ◌*◌, ◌<◌, ◌≤◌, Bool, cond, List, [], ◌∷◌, ◌++◌, length, length-append, sym, refl, ap, ◌∙◌, subst, ⊎_elim, arith}
+use Rattle.std.proofs.Common.{◌≡◌, ◌≢◌, ℕ, zero, suc, ◌+◌, ◌*◌, ◌<◌, ◌≤◌, Bool, cond, List, [], ◌∷◌, ◌++◌, length, length-append, append-nil, sym, refl, ap, ◌∙◌, subst, ⊎_elim, arith}
 use Rattle.std.proofs.lemmas.Bool.{le-leb, lt-leb, cases_lt}
+use Rattle.std.proofs.lemmas.List.{append_assoc}
 use mathlib.Core.Logic.{dite}
 use mathlib.Core.Option.{some, some-ne-none}
 use native.Mathlib.Decide.{ℕ_discrete}
 use lib.ListN.{get_elem?}
+use Rattle.byteorder.specs.Endian.{little_bytes}
 use Rattle.page_layout.specs.Fields.{lsn_of}
 use Rattle.pin_core.specs.State.{Page}
-use Rattle.history_core.specs.Log.{Entry, Log, record_size, end_of, log_end, IsImage, LogLaw, cut, cell}
+use Rattle.history_core.specs.Log.{record_bytes, records, head_bytes, head_size, log_bytes, Entry, Log, record_size, end_of, log_end, IsImage, LogLaw, cut, cell}
 use Rattle.grid.specs.Shape.{put}
 use Rattle.grid.proofs.Lists.{put_at, put_else, at_end}
 
@@ -100,3 +102,25 @@ module _ (log : Log) (e : Entry) (h : LogLaw log) where
     chained = λ k x there. ⊎_elim (λ (t : get_elem? log.entries k ≡ some x). h.chained k x t) (λ (t : (e ≡ x) × (k ≡ length log.entries)). ap (λ (y : Entry). y.start) (sym t.0) ∙ starts ∙ ap (λ (n : ℕ). log.base + record_size * n) (sym t.1)) (at_end log.entries e x k there);
     images = λ k x there. ⊎_elim (λ (t : get_elem? log.entries k ≡ some x). h.images k x t) (λ (t : (e ≡ x) × (k ≡ length log.entries)). subst IsImage t.0 image) (at_end log.entries e x k there);
   }
+
+records_longer : (names : ℕ → List ℕ) (es : List Entry) (e : Entry) → records names (es ++ e ∷ []) ≡ records names es ++ record_bytes names e
+unfolding records
+records_longer names [] e = append-nil (record_bytes names e)
+records_longer names (x ∷ es) e = ap (λ (l : List ℕ). record_bytes names x ++ l) (records_longer names es e) ∙ sym (append_assoc (record_bytes names x) (records names es) (record_bytes names e))
+
+-- the bytes of the log with one entry more
+pub bytes_longer : (names : ℕ → List ℕ) (log : Log) (e : Entry) → log_bytes names (record log { entries = log.entries ++ e ∷ [] }) ≡ log_bytes names log ++ record_bytes names e
+bytes_longer names log e = ap (λ (l : List ℕ). head_bytes log.base ++ l) (records_longer names log.entries e) ∙ sym (append_assoc (head_bytes log.base) (records names log.entries) (record_bytes names e))
+
+record_length : (names : ℕ → List ℕ) (e : Entry) → length (names e.tag) ≡ 20 → length e.image ≡ 8192 → length (record_bytes names e) ≡ record_size
+record_length names e a b = let kind : length (little_bytes 4 1) ≡ 4 = refl in let start : length (little_bytes 8 e.start) ≡ 8 = refl in
+    omega (arith, length-append (little_bytes 4 1) (names e.tag ++ (little_bytes 8 e.start ++ e.image)), length-append (names e.tag) (little_bytes 8 e.start ++ e.image), length-append (little_bytes 8 e.start) e.image, a, b)
+
+records_length : (names : ℕ → List ℕ) (es : List Entry) → ((tag : ℕ) → length (names tag) ≡ 20) → ((k : ℕ) (e : Entry) → get_elem? es k ≡ some e → IsImage e) → length (records names es) ≡ record_size * length es
+unfolding records
+records_length names [] a b = refl
+records_length names (e ∷ es) a b = omega (arith, length-append (record_bytes names e) (records names es), record_length names e (a e.tag) ((b zero e refl).full), records_length names es a (λ k x t. b (suc k) x t))
+
+-- how many bytes the log has
+pub bytes_length : (names : ℕ → List ℕ) (log : Log) → ((tag : ℕ) → length (names tag) ≡ 20) → LogLaw log → length (log_bytes names log) + log.base ≡ head_size + log_end log
+bytes_length names log a h = let head : length (head_bytes log.base) ≡ 16 = refl in omega (arith, length-append (head_bytes log.base) (records names log.entries), records_length names log.entries a h.images)

@@ -1,5 +1,5 @@
 -- Each step keeps the law, and so does each list of steps.
-use Rattle.std.proofs.Common.{◌≡◌, ◌≢◌, ℕ, ◌+◌, ◌<◌, ◌≤◌, Bool, true, false, List, [], ◌∷◌, ◌++◌, length, set, None, length-set, get_or-set_same, get_or-set_other, sym, refl, ap, ◌∙◌, subst, arith}
+use Rattle.std.proofs.Common.{◌≡◌, ◌≢◌, ℕ, ◌+◌, ◌<◌, ◌≤◌, Bool, true, false, List, [], ◌∷◌, ◌++◌, length, set, None, length-set, get_or-set_same, get_or-set_other, sym, refl, ap, ◌∙◌, subst, arith, lit<}
 use Rattle.std.specs.Prelude.{max}
 use mathlib.Core.Logic.{dite}
 use mathlib.Core.Option.{some}
@@ -35,15 +35,17 @@ use Rattle.page_core.specs.Steps.{logged_after}
 use Rattle.page_core.proofs.Cases.{tag_kept}
 use Rattle.page_core.proofs.Stepping as page_stepping
 use Rattle.page_core.proofs.Stepping.{new_none}
-use Rattle.history_core.specs.Log.{Entry, IsImage, record_size, cell}
-use Rattle.history_core.specs.State.{Lane, State, stored, failed}
+use Rattle.history_core.specs.Log.{Entry, IsImage, record_size, cell, log_bytes, record_bytes}
+use Rattle.history_core.specs.State.{Lane, Device, State, stored, failed}
 use Rattle.history_core.specs.Lanes as lane_kinds
 use Rattle.history_core.specs.Lanes.{LaneKind, LaneAllowed, lane_after, lane_hold_after, LaneLink, lane_shape, lane_part}
 use Rattle.history_core.specs.Homes.{Home, home_of, IsClean, HomeLink, home_shape, home_part, IsFlushedCell}
-use Rattle.history_core.specs.Invariant.{HistoryLaw, Invariant}
-use Rattle.history_core.specs.Steps.{Event, IsPlain, PoolAllowed, stepped, looked, aside, pool_after, paged, laned, LaneAlone, CanWrite, Writes, Notes, new_entry, CanEnter, CanRead, has_read, has_written, Step, pools, lanes, writes, notes, enters, reads, loads_end, loads_flushed, raises, Run, rests, goes}
+use Rattle.history_core.specs.Invariant.{HistoryLaw, written_of, Invariant}
+use Rattle.history_core.specs.Steps.{Event, IsPlain, PoolAllowed, stepped, looked, aside, pool_after, paged, laned, LaneAlone, CanWrite, Writes, Notes, new_entry, CanEnter, CanRead, has_read, has_written, Step, pools, lanes, writes, notes, enters, reads, loads_end, loads_flushed, raises, logs, Run, rests, goes}
+use Rattle.history_core.specs.Device.{LogKind, take_log, leave_log, log_out, append, fail_append, sync_log, fail_sync, log_back, see_down, LogAllowed, device_after, view_logged, log_weigh, log_shape, log_part}
+use Rattle.history_core.proofs.Device.{log_keeps, enter_keeps, synced_all}
 use Rattle.history_core.proofs.Calls.{SameCalls, history_same, history_read, history_written, history_loaded, history_raised}
-use Rattle.history_core.proofs.Logs.{cell_longer, cut_longer, cell_at_position, end_longer, log_longer}
+use Rattle.history_core.proofs.Logs.{bytes_longer, bytes_length, cell_longer, cut_longer, cell_at_position, end_longer, log_longer}
 use Rattle.history_core.proofs.Lanes.{lane_later}
 use Rattle.history_core.proofs.Homes as homes
 use Rattle.history_core.proofs.Homes.{known, home_after, Keeps_by}
@@ -56,8 +58,8 @@ use Rattle.grid.proofs.Sums.{term_le}
 use Rattle.grid.proofs.Grids.{Keeps, Relinks, both_grids, touch, sweep, steady, reblock, grows}
 
 -- the laws of a state, by what they speak of
-pub outer_of : (s : State) → Invariant s → Outer s.origin s.log s.lanes s.lane s.flushed s.pool.core.views
-outer_of s h = record { history = h.history; lanes = h.lanes; wide = h.wide }
+pub outer_of : (s : State) → Invariant s → Outer s.origin s.log s.lanes s.lane s.flushed (written_of s) s.device s.pool.core.views
+outer_of s h = record { device = h.device; history = h.history; lanes = h.lanes; wide = h.wide }
 
 pub blocks_of : (s : State) → Invariant s → Blocks s.pool.core.frames s.pool.core.frame s.pool.core.views s.origin s.log.entries s.flushed (home_of s)
 blocks_of s h = record { homes = h.homes; unframed = h.unframed; flushed_cells = h.flushed_cells }
@@ -70,7 +72,7 @@ abbrev homes_with : State → (ℕ → Lane) → ℕ → Home
 homes_with s lane tag = record { block = block_of s.pool.logged tag; stored = (lane (s.lane_of tag)).stored tag; failed = (lane (s.lane_of tag)).failed tag }
 
 -- a state with another buffer pool and other lanes, where the log stays
-assemble : (s : State) → Invariant s → (pool' : page.State) (lane' : ℕ → Lane) → page_law.Invariant pool' → pool'.logged ≡ s.pool.logged → Outer s.origin s.log s.lanes lane' s.flushed pool'.core.views
+assemble : (s : State) → Invariant s → (pool' : page.State) (lane' : ℕ → Lane) → page_law.Invariant pool' → pool'.logged ≡ s.pool.logged → Outer s.origin s.log s.lanes lane' s.flushed (written_of s) s.device pool'.core.views
     → Blocks pool'.core.frames pool'.core.frame pool'.core.views s.origin s.log.entries s.flushed (homes_with s lane') → Invariant (record s { pool = pool'; lane = lane' })
 assemble s h pool' lane' law same outer blocks = let is : homes_with s lane' ≡ home_of (record s { pool = pool'; lane = lane' }) = λ j tag. record { block = block_of (sym same j) tag; stored = (lane' (s.lane_of tag)).stored tag; failed = (lane' (s.lane_of tag)).failed tag } in
     let moved = subst (λ (x : ℕ → Home). Blocks pool'.core.frames pool'.core.frame pool'.core.views s.origin s.log.entries s.flushed x) is blocks in record {
@@ -81,6 +83,9 @@ assemble s h pool' lane' law same outer blocks = let is : homes_with s lane' ≡
       limit = h.limit;
       flushed_from = h.flushed_from;
       flushed_to = h.flushed_to;
+      named = h.named;
+      durable = h.durable;
+      device = outer.device;
       history = outer.history;
       lanes = outer.lanes;
       wide = outer.wide;
@@ -143,7 +148,7 @@ module _ (s : State) (h : Invariant s) where
   pins_step : (i f : ℕ) (k : pin_kinds.Kind) (v : View) → get_elem? views i ≡ some v → v.emptied ≡ false → f < n → pin_kinds.Allowed k (frame f) (link v f) → pin_steps.AllowedAround k s.pool.core v f → Invariant (record s { pool = record s.pool { core = pin_steps.state_after k s.pool.core i f v } })
   pins_step i f k v there live inside a around = let w : View = pin_stepping.after k s.pool.core f v in let fr : Frame = pin_kinds.frame_after k (frame f) in let l : Link = pin_kinds.link_after k (frame f) (link v f) in
       let law = page_stepping.step_keeps (page_steps.cores (pin_steps.touches i f k v there live inside a around)) h.pool in
-      assemble s h (record s.pool { core = pin_steps.state_after k s.pool.core i f v }) s.lane law refl (outer_same s.origin s.log s.lanes s.lane s.flushed views (outer_of s h) i v w there (record { calls = refl; front = refl; joined = refl; flushed = refl }) refl refl)
+      assemble s h (record s.pool { core = pin_steps.state_after k s.pool.core i f v }) s.lane law refl (outer_same s.origin s.log s.lanes s.lane s.flushed (written_of s) s.device views (outer_of s h) i v w there (record { calls = refl; front = refl; joined = refl; flushed = refl }) refl refl refl refl)
       (record {
         homes = touched i f v w fr l there live inside refl (home_of s) (λ g below other. refl) (pins_keep k (home_of s (frame f).tag) (home_of s fr.tag) (frame f) (link v f) a (λ e. ap (home_of s) e) (fresh i f k v there a around));
         unframed = unframed_put n frame (home_of s) f fr inside h.unframed (clean_at f inside) (tag_goes k (frame f) (link v f) (tallies frame_shape views f) (h.pool.core.grid.columns f inside) a);
@@ -175,7 +180,7 @@ module _ (s : State) (h : Invariant s) where
   page_step : (i f : ℕ) (k : Kind) (v : View) → get_elem? views i ≡ some v → v.emptied ≡ false → f < n → Allowed k (block_of s.pool.logged (frame f).tag) (frame f) (link v f) → page_steps.AllowedAround k v f → IsPlain k (link v f) → Invariant (record s { pool = page_steps.state_after k s.pool i f v })
   page_step i f k v there live inside a around plain = let stays = plain_block k (block_of s.pool.logged (frame f).tag) (link v f) plain in let w : View = paged k s.pool f v in
       assemble s h (page_steps.state_after k s.pool i f v) s.lane (page_stepping.step_keeps (page_steps.touches i f k v there live inside a around) h.pool) (logged_same i f k v there live inside stays)
-      (outer_same s.origin s.log s.lanes s.lane s.flushed views (outer_of s h) i v w there (record { calls = refl; front = refl; joined = refl; flushed = refl }) refl refl)
+      (outer_same s.origin s.log s.lanes s.lane s.flushed (written_of s) s.device views (outer_of s h) i v w there (record { calls = refl; front = refl; joined = refl; flushed = refl }) refl refl refl refl)
       (blocks_touched i f k v there live inside stays w refl (plain_keeps k (home_of s (frame f).tag) (frame f) (link v f) plain a))
 
   -- the blocks where a view changes beside its links
@@ -187,13 +192,13 @@ module _ (s : State) (h : Invariant s) where
   others_step (pin_steps.touches i f k v there live inside a around) = pins_step i f k v there live inside a around
   others_step (pin_steps.turns i p k v there live below a) = let x : pin_steps.Step (pin_steps.turn i p k) s.pool.core (pin_steps.state_turned k s.pool.core i p v) = pin_steps.turns i p k v there live below a in let w : View = view_turned k p (hold v p) v in
       assemble s h (record s.pool { core = pin_steps.state_turned k s.pool.core i p v }) s.lane (page_stepping.step_keeps (page_steps.cores x) h.pool) refl
-      (outer_same s.origin s.log s.lanes s.lane s.flushed views (outer_of s h) i v w there (record { calls = refl; front = refl; joined = refl; flushed = refl }) refl refl) (blocks_aside i v w there refl)
+      (outer_same s.origin s.log s.lanes s.lane s.flushed (written_of s) s.device views (outer_of s h) i v w there (record { calls = refl; front = refl; joined = refl; flushed = refl }) refl refl refl refl) (blocks_aside i v w there refl)
   others_step (pin_steps.splits v there room) = let x : pin_steps.Step pin_steps.split s.pool.core (pins.split_state s.pool.core v) = pin_steps.splits v there room in let w : View = record v { next = v.next + 1 } in
       let a = length v.links in let p = length v.partitions in let m = length v.lanes in let first = h.pool.core.views.first v there in
-      let outer = outer_grows s.origin s.log s.lanes s.lane s.flushed (set views 0 w) (outer_same s.origin s.log s.lanes s.lane s.flushed views (outer_of s h) 0 v w there (record { calls = refl; front = refl; joined = refl; flushed = refl }) refl refl) v.next a p in
+      let outer = outer_grows s.origin s.log s.lanes s.lane s.flushed (written_of s) s.device (set views 0 w) (outer_same s.origin s.log s.lanes s.lane s.flushed (written_of s) s.device views (outer_of s h) 0 v w there (record { calls = refl; front = refl; joined = refl; flushed = refl }) refl refl refl refl) v.next a p in
       let blocks = blocks_aside 0 v w there refl in
       assemble s h (record s.pool { core = pins.split_state s.pool.core v }) s.lane (page_stepping.step_keeps (page_steps.cores x) h.pool) refl
-      (subst (λ (z : ℕ). Outer s.origin s.log s.lanes s.lane s.flushed (set views 0 w ++ new_view v.next a p z ∷ [])) (sym (h.wide 0 v there first.0)) outer)
+      (subst (λ (z : ℕ). Outer s.origin s.log s.lanes s.lane s.flushed (written_of s) s.device (set views 0 w ++ new_view v.next a p z ∷ [])) (sym (h.wide 0 v there first.0)) outer)
       (record {
         homes = grows home_shape home_part n frame (home_of s) (set views 0 w) blocks.homes (new_view v.next a p m) (new_none v.next a p m) (λ g inside. subst (HomeLink (home_of s (frame g).tag) (frame g)) (sym (link_new a p m v.next g)) (no_link (home_of s (frame g).tag) (frame g)));
         unframed = h.unframed;
@@ -202,7 +207,7 @@ module _ (s : State) (h : Invariant s) where
   others_step (pin_steps.joins j v u there other here live free) = let x : pin_steps.Step (pin_steps.join j) s.pool.core (pins.joined_state s.pool.core v j u) = pin_steps.joins j v u there other here live free in let w : View = joined_view v u in
       let first = steady home_shape known n frame (home_of s) views (knows s h) 0 v w there refl (λ g. refl) in
       assemble s h (record s.pool { core = pins.joined_state s.pool.core v j u }) s.lane (page_stepping.step_keeps (page_steps.cores x) h.pool) refl
-      (outer_joins s.origin s.log s.lanes s.lane s.flushed views (outer_of s h) j v u there other here free.lanes)
+      (outer_joins s.origin s.log s.lanes s.lane s.flushed (written_of s) s.device views (outer_of s h) j v u there other here free.lanes free.log)
       (record {
         homes = sweep home_shape known home_part n frame frame (home_of s) (home_of s) (set views 0 w) j u emptied_view first (set_else views 0 j w other ∙ here) (λ g inside. home_forgets (home_of s (frame g).tag) (frame g) (link u g));
         unframed = h.unframed;
@@ -214,11 +219,12 @@ pools_step s h (page_steps.cores x) a = others_step s h x
 pools_step s h (page_steps.touches i f k v there live inside a around) plain = page_step s h i f k v there live inside a around (plain v there)
 
 -- the laws of the calls and the lanes after a step at a lane
-laned_outer : (s : State) (h : Invariant s) (i q : ℕ) (k : LaneKind) (v w : View) → get_elem? s.pool.core.views i ≡ some v → v.emptied ≡ false → q < s.lanes → LaneAllowed k (s.lane q) (lane_hold v q) → SameCalls v w → w.emptied ≡ v.emptied → w.lanes ≡ set v.lanes q (lane_hold_after k v.flushed (s.lane q) (lane_hold v q))
-    → Outer s.origin s.log s.lanes (put s.lane q (lane_after k (s.lane q))) s.flushed (set s.pool.core.views i w)
-laned_outer s h i q k v w there live low a same emptied holds = record {
+laned_outer : (s : State) (h : Invariant s) (i q : ℕ) (k : LaneKind) (v w : View) → get_elem? s.pool.core.views i ≡ some v → v.emptied ≡ false → q < s.lanes → LaneAllowed k (s.lane q) (lane_hold v q) → SameCalls v w → w.emptied ≡ v.emptied → w.lanes ≡ set v.lanes q (lane_hold_after k v.flushed (s.lane q) (lane_hold v q)) → w.log ≡ v.log → w.saw_down ≡ v.saw_down
+    → Outer s.origin s.log s.lanes (put s.lane q (lane_after k (s.lane q))) s.flushed (written_of s) s.device (set s.pool.core.views i w)
+laned_outer s h i q k v w there live low a same emptied holds unlogged saw = record {
+  device = steady log_shape log_part 1 (λ _. s.device) (λ _. written_of s) s.pool.core.views h.device i v w there saw (λ g. unlogged);
   history = history_same s.origin s.log s.flushed s.pool.core.views h.history i v w there same;
-  lanes = lanes_touched s.origin s.log s.lanes s.lane s.flushed s.pool.core.views (outer_of s h) i q k v w there live low a holds;
+  lanes = lanes_touched s.origin s.log s.lanes s.lane s.flushed (written_of s) s.device s.pool.core.views (outer_of s h) i q k v w there live low a holds;
   wide = wide_set s.lanes s.pool.core.views h.wide i v w there emptied (ap (λ (x : List LaneHold). length x) holds ∙ length-set v.lanes q (lane_hold_after k v.flushed (s.lane q) (lane_hold v q)));
 }
 
@@ -272,7 +278,7 @@ lanes_step : (s : State) → Invariant s → (i q : ℕ) (k : LaneKind) (v : Vie
 lanes_step s h i q k v there live inside a alone = let w : View = stepped (laned k s q v v) in let views = s.pool.core.views in let holds = no_write_holds k s q (lane_hold v q) (s.lane q) alone in
     let same : SameHere v w = record { backend = record { emptied = refl; number = refl; next = refl; links = refl; partitions = refl }; joined = refl; links = refl; partitions = refl } in
     assemble s h (aside s.pool i w) (put s.lane q (lane_after k (s.lane q))) (pool_aside s.pool i v w h.pool there same) refl
-    (laned_outer s h i q k v w there live inside a (record { calls = refl; front = refl; joined = refl; flushed = refl }) refl refl)
+    (laned_outer s h i q k v w there live inside a (record { calls = refl; front = refl; joined = refl; flushed = refl }) refl refl refl refl)
     (subst (λ (x : ℕ → Home). Blocks s.pool.core.frames s.pool.core.frame (set views i w) s.origin s.log.entries s.flushed x) (homes_same s q (lane_after k (s.lane q)) holds.0 holds.1) (blocks_aside s h i v w there refl))
 
 -- what comes back is noted at a frame
@@ -282,7 +288,7 @@ notes_step s h i q f noted k v there live low inside back what = let fr = s.pool
     let x = noted_keeps s h i q f k v there live low inside what in
     let same : SameHere (paged k s.pool f v) w = record { backend = record { emptied = refl; number = refl; next = refl; links = refl; partitions = refl }; joined = refl; links = refl; partitions = refl } in
     assemble s h (pool_after k s.pool i f w) (put s.lane q (s.lane q)) (pool_touched s.pool h.pool i f k v w there live inside x.allowed same) (logged_same s h i f k v there live inside x.stays)
-    (laned_outer s h i q (lane_kinds.lane_back noted) v w there live low back (record { calls = refl; front = refl; joined = refl; flushed = refl }) refl refl)
+    (laned_outer s h i q (lane_kinds.lane_back noted) v w there live low back (record { calls = refl; front = refl; joined = refl; flushed = refl }) refl refl refl refl)
     (subst (λ (y : ℕ → Home). Blocks s.pool.core.frames (put s.pool.core.frame f (frame_after k b fr)) (set views i w) s.origin s.log.entries s.flushed y) (homes_same s q (s.lane q) refl refl) (blocks_touched s h i f k v there live inside x.stays w refl x.keeps))
 
 -- The page p of the frame f goes to its lane q, or fails to
@@ -330,7 +336,7 @@ module _ (s : State) (h : Invariant s) (i q f : ℕ) (v : View) (there : get_ele
     write_keeps = let b : Block = block_of s.pool.logged written_frame.tag in let w : View = laned k s q v (paged begin_write s.pool f v) in let views = s.pool.core.views in let a : Allowed begin_write b written_frame (link v f) = record { right = x.right.right } in
         let same : SameHere (paged begin_write s.pool f v) w = record { backend = record { emptied = refl; number = refl; next = refl; links = refl; partitions = refl }; joined = refl; links = refl; partitions = refl } in
         assemble s h (pool_after begin_write s.pool i f w) lane' (pool_touched s.pool h.pool i f begin_write v w there live inside a same) (logged_same s h i f begin_write v there live inside refl)
-        (laned_outer s h i q k v w there live low back (record { calls = refl; front = refl; joined = refl; flushed = refl }) refl refl)
+        (laned_outer s h i q k v w there live low back (record { calls = refl; front = refl; joined = refl; flushed = refl }) refl refl refl refl)
         (record {
           homes = touched s h i f v w written_frame (link_after begin_write b written_frame (link v f)) there live inside refl home' (λ g below other. else (s.pool.core.frame g).tag (other_tag g below other))
               (homes.begin_write_keeps (home_of s written_frame.tag) written_frame (link v f) (home' written_frame.tag) refl a);
@@ -361,9 +367,10 @@ copied_is_logged : (b : Block) (fr : Frame) (l : Link) (tag : ℕ) (p : Page) �
 copied_is_logged b fr l tag p c d a = ((c.copied p a.copied).is_logged, (d.remembers tag a.remembered).1)
 
 -- a state where a view changes beside all that the pool and the lanes know of it
-with_view : (s : State) (h : Invariant s) (i : ℕ) (v w : View) → get_elem? s.pool.core.views i ≡ some v → SameHere v w → w.lanes ≡ v.lanes → HistoryLaw s.origin s.log s.flushed (set s.pool.core.views i w) → Invariant (record s { pool = aside s.pool i w })
-with_view s h i v w there same holds history = assemble s h (aside s.pool i w) s.lane (pool_aside s.pool i v w h.pool there same) refl
+with_view : (s : State) (h : Invariant s) (i : ℕ) (v w : View) → get_elem? s.pool.core.views i ≡ some v → SameHere v w → w.lanes ≡ v.lanes → w.log ≡ v.log → w.saw_down ≡ v.saw_down → HistoryLaw s.origin s.log s.flushed (set s.pool.core.views i w) → Invariant (record s { pool = aside s.pool i w })
+with_view s h i v w there same holds unlogged saw history = assemble s h (aside s.pool i w) s.lane (pool_aside s.pool i v w h.pool there same) refl
     (record {
+      device = steady log_shape log_part 1 (λ _. s.device) (λ _. written_of s) s.pool.core.views h.device i v w there saw (λ g. unlogged);
       history = history;
       lanes = steady lane_shape lane_part s.lanes s.lane (λ _. s.flushed) s.pool.core.views h.lanes i v w there refl (λ q. ap (λ (x : List LaneHold). lane_hold (record w { lanes = x }) q) holds);
       wide = wide_set s.lanes s.pool.core.views h.wide i v w there same.backend.emptied (ap (λ (x : List LaneHold). length x) holds);
@@ -374,33 +381,72 @@ reads_step : (s : State) → Invariant s → (i f tag : ℕ) (p : Page) (v : Vie
 reads_step s h i f tag p v there inside a = let w : View = looked (seen.LogEnd s.end) (has_read s.end tag p v) in
     let x = copied_is_logged (block_of s.pool.logged (s.pool.core.frame f).tag) (s.pool.core.frame f) (link v f) tag p (h.pool.pages.cells i v f there inside) (h.pool.core.grid.cells i v f there inside) a in
     let is : p ≡ cell s.origin s.log.entries tag = sym x.0 ∙ ap s.pool.logged x.1 ∙ (λ j. h.logged j tag) in
-    with_view s h i v w there (record { backend = record { emptied = refl; number = refl; next = refl; links = refl; partitions = refl }; joined = refl; links = refl; partitions = refl }) refl
+    with_view s h i v w there (record { backend = record { emptied = refl; number = refl; next = refl; links = refl; partitions = refl }; joined = refl; links = refl; partitions = refl }) refl refl refl
     (history_read s.origin s.log s.flushed s.pool.core.views h.history h.log i v w there tag p is (new_entry s 0 tag p) (ap (λ (z : ℕ). v.calls ++ Read tag p z ∷ []) h.ends) h.ends refl refl)
 
--- the flushed position rises to the log's end
-raises_step : (s : State) → Invariant s → (i : ℕ) (v : View) → get_elem? s.pool.core.views i ≡ some v → Invariant (record s { pool = aside s.pool i (stepped v); flushed = max s.flushed s.end })
-raises_step s h i v there = raised_state (record s { pool = aside s.pool i (stepped v) }) (with_view s h i v (stepped v) there (record { backend = record { emptied = refl; number = refl; next = refl; links = refl; partitions = refl }; joined = refl; links = refl; partitions = refl }) refl (history_same s.origin s.log s.flushed s.pool.core.views h.history i v (stepped v) there (record { calls = refl; front = refl; joined = refl; flushed = refl })))
-  where
-    raised_state : (t : State) → Invariant t → Invariant (record t { flushed = max t.flushed t.end })
-    raised_state t k = let more : t.flushed ≤ max t.flushed t.end = omega arith in record {
-      pool = k.pool;
-      logged = k.logged;
-      log = k.log;
-      ends = k.ends;
-      limit = k.limit;
-      flushed_from = let x = k.flushed_from in omega arith;
-      flushed_to = let x = k.flushed_to in omega arith;
-      history = history_raised t.origin t.log t.flushed t.pool.core.views k.history (max t.flushed t.end) more;
-      lanes = reblock lane_shape lane_part t.lanes t.lane (λ _. t.flushed) t.pool.core.views k.lanes (λ _. max t.flushed t.end) (λ g below sums c. c) (λ g o l below c. lane_later t.flushed (max t.flushed t.end) (t.lane g) l more c);
-      wide = k.wide;
-      placed = k.placed;
-      homes = k.homes;
-      unframed = k.unframed;
-      flushed_cells = λ tag ok. let x = k.flushed_cells tag ok in record { place = x.place; within = (let y = x.within in omega arith); is_cell = x.is_cell };
+-- the flushed position rises to the log's end, whose bytes are durable
+raised_state : (t : State) → Invariant t → length (log_bytes t.names t.log) ≤ t.device.synced → Invariant (record t { flushed = max t.flushed t.end })
+raised_state t k durable = let more : t.flushed ≤ max t.flushed t.end = omega arith in record {
+  pool = k.pool;
+  logged = k.logged;
+  log = k.log;
+  ends = k.ends;
+  limit = k.limit;
+  flushed_from = let x = k.flushed_from in omega arith;
+  flushed_to = let x = k.flushed_to in omega arith;
+  named = k.named;
+  durable = λ lt. let x = bytes_length t.names t.log k.named k.log in let y = k.ends in let z = k.flushed_to in omega arith;
+  device = k.device;
+  history = history_raised t.origin t.log t.flushed t.pool.core.views k.history (max t.flushed t.end) more;
+  lanes = reblock lane_shape lane_part t.lanes t.lane (λ _. t.flushed) t.pool.core.views k.lanes (λ _. max t.flushed t.end) (λ g below sums c. c) (λ g o l below c. lane_later t.flushed (max t.flushed t.end) (t.lane g) l more c);
+  wide = k.wide;
+  placed = k.placed;
+  homes = k.homes;
+  unframed = k.unframed;
+  flushed_cells = λ tag ok. let x = k.flushed_cells tag ok in record { place = x.place; within = (let y = x.within in omega arith); is_cell = x.is_cell };
+}
+
+raises_step : (s : State) → Invariant s → (i : ℕ) (v : View) → get_elem? s.pool.core.views i ≡ some v → v.log.synced ≡ true → Invariant (record s { pool = aside s.pool i (stepped v); flushed = max s.flushed s.end })
+raises_step s h i v there synced = raised_state (record s { pool = aside s.pool i (stepped v) }) (with_view s h i v (stepped v) there (record { backend = record { emptied = refl; number = refl; next = refl; links = refl; partitions = refl }; joined = refl; links = refl; partitions = refl }) refl refl refl (history_same s.origin s.log s.flushed s.pool.core.views h.history i v (stepped v) there (record { calls = refl; front = refl; joined = refl; flushed = refl })))
+    (synced_all (written_of s) s.device v.saw_down v.log (tallies log_shape s.pool.core.views 0) (h.device.columns 0 (lit< tt)) (h.device.cells i v 0 there (lit< tt)) (λ k. term_le (λ (u : View). log_weigh k u.log) s.pool.core.views i v there) synced)
+
+-- what is durable stays so
+durable_later : (k : LogKind) (end : ℕ) (d : Device) → d.synced ≤ length d.bytes → d.synced ≤ (device_after k end d).synced
+durable_later sync_log end d h = h
+durable_later take_log end d h = omega arith
+durable_later leave_log end d h = omega arith
+durable_later (log_out taken) end d h = omega arith
+durable_later (append f tag p bytes) end d h = omega arith
+durable_later (fail_append bytes) end d h = omega arith
+durable_later fail_sync end d h = omega arith
+durable_later (log_back noted) end d h = omega arith
+durable_later see_down end d h = omega arith
+
+-- a step at the log
+logs_step : (s : State) → Invariant s → (i : ℕ) (k : LogKind) (v : View) → get_elem? s.pool.core.views i ≡ some v → LogAllowed k s.device v.log → Invariant (record s { pool = aside s.pool i (view_logged k v); device = device_after k s.end s.device })
+logs_step s h i k v there a = let w : View = view_logged k v in let views = s.pool.core.views in let later = durable_later k s.end s.device (h.device.columns 0 (lit< tt)).synced in
+    let same : SameHere v w = record { backend = record { emptied = refl; number = refl; next = refl; links = refl; partitions = refl }; joined = refl; links = refl; partitions = refl } in let blocks = blocks_aside s h i v w there refl in record {
+      pool = pool_aside s.pool i v w h.pool there same;
+      logged = h.logged;
+      log = h.log;
+      ends = h.ends;
+      limit = h.limit;
+      flushed_from = h.flushed_from;
+      flushed_to = h.flushed_to;
+      named = h.named;
+      durable = λ lt. let x = h.durable lt in omega arith;
+      device = sweep log_shape log_part log_part 1 (λ _. s.device) (λ _. device_after k s.end s.device) (λ _. written_of s) (λ _. written_of s) views i v w h.device there (λ g below. log_keeps (written_of s) s.device v.saw_down v.log k a);
+      history = history_same s.origin s.log s.flushed views h.history i v w there (record { calls = refl; front = refl; joined = refl; flushed = refl });
+      lanes = steady lane_shape lane_part s.lanes s.lane (λ _. s.flushed) views h.lanes i v w there refl (λ q. refl);
+      wide = wide_set s.lanes views h.wide i v w there refl refl;
+      placed = h.placed;
+      homes = blocks.homes;
+      unframed = blocks.unframed;
+      flushed_cells = blocks.flushed_cells;
     }
 
 -- An entry of the page p of the frame f is made
-module _ (s : State) (h : Invariant s) (i f : ℕ) (p : Page) (v : View) (there : get_elem? s.pool.core.views i ≡ some v) (live : v.emptied ≡ false) (inside : f < s.pool.core.frames) (x : CanEnter s f p (link v f)) where
+module _ (s : State) (h : Invariant s) (i f : ℕ) (p : Page) (v : View) (there : get_elem? s.pool.core.views i ≡ some v) (live : v.emptied ≡ false) (inside : f < s.pool.core.frames) (x : CanEnter s f p v) where
   abbrev old : Frame
   old = s.pool.core.frame f
 
@@ -420,7 +466,7 @@ module _ (s : State) (h : Invariant s) (i f : ℕ) (p : Page) (v : View) (there 
   entered = record s { pool = pool_after (make_entry p) s.pool i f after; log = record s.log { entries = s.log.entries ++ entry ∷ [] }; end = s.end + record_size }
 
   image : IsImage entry
-  image = record { sound = x.sound; used = x.used; ends = x.ends }
+  image = record { sound = x.sound; used = x.used; full = x.full; ends = x.ends }
 
   named : tag_of ≢ no_tag
   named = (((h.pool.pages.cells i v f there inside).content (λ e. exclusive_not_unlocked x.right.right e)).2).named
@@ -445,6 +491,10 @@ module _ (s : State) (h : Invariant s) (i f : ℕ) (p : Page) (v : View) (there 
         limit = x.room;
         flushed_from = h.flushed_from;
         flushed_to = let y = h.flushed_to in omega arith;
+        named = h.named;
+        durable = h.durable;
+        device = sweep log_shape log_part log_part 1 (λ _. s.device) (λ _. s.device) (λ _. written_of s) (λ _. written_of entered) views i v after h.device there
+            (λ g below. enter_keeps (written_of s) s.device v.saw_down v.log (record_bytes s.names entry) (s.end + record_size) (log_bytes s.names entered.log) x.appended (bytes_longer s.names s.log entry));
         history = history_written s.origin s.log s.flushed views h.history h.log i v after there entry h.ends refl refl refl refl;
         lanes = steady lane_shape lane_part s.lanes s.lane (λ _. s.flushed) views h.lanes i v after there refl (λ q. refl);
         wide = wide_set s.lanes views h.wide i v after there refl refl;
@@ -466,11 +516,12 @@ step_keeps (writes {s = s} i q f k v there live low inside a x) h = writes_step 
 step_keeps (notes {s = s} i q f noted k v there live low inside a x) h = notes_step s h i q f noted k v there live low inside a x
 step_keeps (enters {s = s} i f p v there live inside x) h = enters_step s h i f p v there live inside x
 step_keeps (reads {s = s} i f tag p v there live inside a) h = reads_step s h i f tag p v there inside a
-step_keeps (loads_end {s = s} i v there live) h = let w : View = looked (seen.LogEnd s.end) v in with_view s h i v w there (record { backend = record { emptied = refl; number = refl; next = refl; links = refl; partitions = refl }; joined = refl; links = refl; partitions = refl }) refl
+step_keeps (loads_end {s = s} i v there live) h = let w : View = looked (seen.LogEnd s.end) v in with_view s h i v w there (record { backend = record { emptied = refl; number = refl; next = refl; links = refl; partitions = refl }; joined = refl; links = refl; partitions = refl }) refl refl refl
     (history_same s.origin s.log s.flushed s.pool.core.views h.history i v w there (record { calls = refl; front = refl; joined = refl; flushed = refl }))
-step_keeps (loads_flushed {s = s} i v there live) h = let w : View = looked (seen.Flushed s.flushed) (record v { flushed = s.flushed }) in with_view s h i v w there (record { backend = record { emptied = refl; number = refl; next = refl; links = refl; partitions = refl }; joined = refl; links = refl; partitions = refl }) refl
+step_keeps (loads_flushed {s = s} i v there live) h = let w : View = looked (seen.Flushed s.flushed) (record v { flushed = s.flushed }) in with_view s h i v w there (record { backend = record { emptied = refl; number = refl; next = refl; links = refl; partitions = refl }; joined = refl; links = refl; partitions = refl }) refl refl refl
     (history_loaded s.origin s.log s.flushed s.pool.core.views h.history i v w there refl refl refl refl)
-step_keeps (raises {s = s} i v there live) h = raises_step s h i v there
+step_keeps (raises {s = s} i v there live synced) h = raises_step s h i v there synced
+step_keeps (logs {s = s} i k v there live a) h = logs_step s h i k v there a
 
 pub run_keeps : {es : List Event} {s t : State} → Run es s t → Invariant s → Invariant t
 run_keeps rests h = h

@@ -1,14 +1,15 @@
 -- What holds of the lanes, the log and the calls in every state that steps lead to.
-use Rattle.std.specs.Prelude.{◌≡◌, ◌≢◌, ℕ, ◌<◌, ◌≤◌, false, List, length}
+use Rattle.std.specs.Prelude.{◌≡◌, ◌≢◌, ℕ, ◌+◌, ◌<◌, ◌≤◌, false, List, length}
 use mathlib.Core.Option.{some}
 use lib.ListN.{get_elem?}
 use Rattle.pin_core.specs.declared.view.Call.{Call}
 use Rattle.pin_core.specs.declared.view.View.{View}
 use Rattle.pin_core.specs.State.{Page, no_tag}
 use Rattle.page_core.specs.Invariant as pages
-use Rattle.history_core.specs.Log.{Entry, Log, LogLaw, log_end, end_of, cell, IsLegal, place_of, writes_in, writes_at, AreInOrder}
+use Rattle.history_core.specs.Log.{Entry, Log, LogLaw, log_end, head_size, log_bytes, end_of, cell, IsLegal, place_of, writes_in, writes_at, AreInOrder}
 use Rattle.history_core.specs.State.{State, stored, failed, last_position}
 use Rattle.history_core.specs.Lanes.{lane_shape, lane_part}
+use Rattle.history_core.specs.Device.{Written, log_shape, log_part}
 use Rattle.history_core.specs.Homes.{home_of, home_shape, home_part, IsClean, IsUnframed, IsFlushedCell}
 use Rattle.grid.specs.Shape.{Grid, total}
 
@@ -33,6 +34,10 @@ pub record HistoryLaw (origin : ℕ → Page) (log : Log) (flushed : ℕ) (views
   -- each entry is a write in exactly one view
   pub once : (k : ℕ) (e : Entry) → get_elem? log.entries k ≡ some e → total (λ (v : View). writes_at (end_of e) v.calls) views ≡ 1
 
+-- what is known of the log: its bytes, and its end
+abbrev pub written_of : State → Written
+written_of s = record { bytes = log_bytes s.names s.log; end = s.end }
+
 -- The law of the buffer pool, and that of the lanes, the log and the calls
 pub record Invariant (s : State) : Type 0 where
   pub pool : pages.Invariant s.pool
@@ -45,6 +50,11 @@ pub record Invariant (s : State) : Type 0 where
   -- the flushed position is between the base and the log's end
   pub flushed_from : s.log.base ≤ s.flushed
   pub flushed_to : s.flushed ≤ s.end
+  -- the log names a block in 20 bytes
+  pub named : (tag : ℕ) → length (s.names tag) ≡ 20
+  -- each entry that ends at the flushed position or before it is durable: the position p is at the byte `head_size + (p - base)`
+  pub durable : s.log.base < s.flushed → head_size + s.flushed ≤ s.log.base + s.device.synced
+  pub device : Grid log_shape log_part 1 (λ _. s.device) (λ _. written_of s) s.pool.core.views
   pub history : HistoryLaw s.origin s.log s.flushed s.pool.core.views
   pub lanes : Grid lane_shape lane_part s.lanes s.lane (λ _. s.flushed) s.pool.core.views
   -- a view has a hold for each lane

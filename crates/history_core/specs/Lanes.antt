@@ -10,7 +10,7 @@ use Rattle.pin_core.specs.declared.view.Met.{Met}
 use Rattle.pin_core.specs.declared.view.View.{View}
 use Rattle.pin_core.specs.State.{Page, lane_hold, sum_of_met}
 use Rattle.pin_core.specs.Tallies.{flag_weight}
-use Rattle.history_core.specs.State.{Lane}
+use Rattle.history_core.specs.State.{Lane, raised}
 use Rattle.grid.specs.Shape.{Shape, Part, put}
 
 pub data LaneKind : Type 0 where
@@ -31,14 +31,6 @@ pub data LaneKind : Type 0 where
   fail_sync : LaneKind
   -- the lane comes back; the backend counts a fault, or none
   lane_back : Bool → LaneKind
-
--- the last value of a counter
-abbrev pub last_count : ℕ
-last_count = 18446744073709551615
-
--- a counter that rises, and stands still at its last value
-abbrev pub raised : ℕ → ℕ
-raised n = if nat_eq n last_count then n else n + 1
 
 abbrev pub is_failed_read : LaneChange → Bool
 is_failed_read (ReadFailed tag) = true

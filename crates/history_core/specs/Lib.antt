@@ -1,6 +1,7 @@
 pub mod Log
 pub mod State
 pub mod Lanes
+pub mod Device
 pub mod Steps
 pub mod Homes
 pub mod Invariant

@@ -1,7 +1,8 @@
 -- The write-ahead log, the pages of blocks that follow from it, and what backends read and wrote.
-use Rattle.std.specs.Prelude.{◌≡◌, ℕ, ◌+◌, ◌*◌, ◌<◌, ◌≤◌, true, false, List, [], ◌∷◌, length, nat_eq, nat_le, if◌then◌else◌}
+use Rattle.std.specs.Prelude.{◌≡◌, ℕ, ◌+◌, ◌*◌, ◌<◌, ◌≤◌, true, false, List, [], ◌∷◌, ◌++◌, length, nat_eq, nat_le, if◌then◌else◌}
 use mathlib.Core.Option.{some}
 use lib.ListN.{get_elem?}
+use Rattle.byteorder.specs.Endian.{little_bytes}
 use Rattle.page_layout.specs.Fields.{lsn_of}
 use Rattle.page_layout.specs.Soundness.{is_new_page, is_sound_page}
 use Rattle.pin_core.specs.declared.view.Call.{Call}
@@ -36,16 +37,36 @@ pub record Log : Type 0 where
 abbrev pub log_end : Log → ℕ
 log_end log = log.base + record_size * length log.entries
 
--- The image of an entry is a page with content, whose position in the log (`pd_lsn`) is the entry's end
+-- The image of an entry is a page of 8192 bytes with content, whose position in the log (`pd_lsn`) is the entry's end
 pub record IsImage (e : Entry) : Type 0 where
   pub sound : is_sound_page e.image ≡ true
   pub used : is_new_page e.image ≡ false
+  pub full : length e.image ≡ 8192
   pub ends : lsn_of e.image ≡ end_of e
 
 -- The entries lie one behind the other, from the base on
 pub record LogLaw (log : Log) : Type 0 where
   pub chained : (k : ℕ) (e : Entry) → get_elem? log.entries k ≡ some e → e.start ≡ log.base + record_size * k
   pub images : (k : ℕ) (e : Entry) → get_elem? log.entries k ≡ some e → IsImage e
+
+-- the bytes of an entry: its kind, its block, its position and the page; `names` is how the log names a block, in 20 bytes
+abbrev pub record_bytes : (ℕ → List ℕ) → Entry → List ℕ
+record_bytes names e = little_bytes 4 1 ++ (names e.tag ++ (little_bytes 8 e.start ++ e.image))
+
+abbrev pub head_size : ℕ
+head_size = 16
+
+-- what a log's device begins with: 'PGBUFLOG' and the base
+abbrev pub head_bytes : ℕ → List ℕ
+head_bytes base = (80 ∷ 71 ∷ 66 ∷ 85 ∷ 70 ∷ 76 ∷ 79 ∷ 71 ∷ []) ++ little_bytes 8 base
+
+unfoldable pub records : (ℕ → List ℕ) → List Entry → List ℕ
+records names [] = []
+records names (e ∷ es) = record_bytes names e ++ records names es
+
+-- the bytes of the log
+abbrev pub log_bytes : (ℕ → List ℕ) → Log → List ℕ
+log_bytes names log = head_bytes log.base ++ records names log.entries
 
 -- the entries that end at the position p or before it
 unfoldable pub cut : ℕ → List Entry → List Entry

@@ -1,5 +1,5 @@
 -- One step, and lists of steps.
-use Rattle.std.specs.Prelude.{◌≡◌, ◌≢◌, ℕ, ◌+◌, ◌<◌, ◌≤◌, true, false, List, [], ◌∷◌, ◌++◌, max, Bool, Some, slice_set}
+use Rattle.std.specs.Prelude.{◌≡◌, ◌≢◌, ℕ, ◌+◌, ◌<◌, ◌≤◌, true, false, List, [], ◌∷◌, ◌++◌, length, max, Bool, Some, slice_set, None}
 use mathlib.Core.Option.{some}
 use lib.ListN.{get_elem?}
 use Rattle.page_layout.specs.Fields.{lsn_of}
@@ -23,9 +23,10 @@ use Rattle.page_core.specs.Kinds as pages
 use Rattle.page_core.specs.Kinds.{Kind, note_read, begin_write, note_write, make_entry, end_io}
 use Rattle.page_core.specs.Steps as page_steps
 use Rattle.page_core.specs.Steps.{logged_after}
-use Rattle.history_core.specs.Log.{Entry, record_size}
+use Rattle.history_core.specs.Log.{Entry, record_size, record_bytes}
 use Rattle.history_core.specs.State.{State, last_position}
 use Rattle.history_core.specs.Lanes.{LaneKind, read_block, fail_read, write_block, fail_write, lane_back, LaneAllowed, lane_after, lane_changed}
+use Rattle.history_core.specs.Device.{LogKind, LogAllowed, device_after, view_logged}
 use Rattle.grid.specs.Shape.{put}
 
 -- What happens: what happens to pins, maps, content locks and pages, or a backend's step at a lane or at the log
@@ -35,6 +36,8 @@ pub data Event : Type 0 where
   lane : ℕ → ℕ → LaneKind → Event
   write : ℕ → ℕ → ℕ → LaneKind → Event
   note : ℕ → ℕ → ℕ → LaneKind → Kind → Event
+  -- a step at the latch of the log
+  log : ℕ → LogKind → Event
   -- a backend's entry of a new page of a frame becomes part of the log: the log's end is stored
   enter : ℕ → ℕ → Page → Event
   -- the log's end is loaded as the place of a read of the page that was copied from a frame
@@ -143,13 +146,15 @@ Notes _ s n f h l = ⊥
 abbrev pub new_entry : State → ℕ → ℕ → Page → Entry
 new_entry s number tag p = record { start = s.end; backend = number; tag = tag; image = p }
 
--- The page is sound, not new, and has the position of the entry's end, which is at most the last one
-pub record CanEnter (s : State) (f : ℕ) (p : Page) (l : Link) : Type 0 where
-  pub right : pages.Allowed (make_entry p) (block_of s.pool.logged (s.pool.core.frame f).tag) (s.pool.core.frame f) l
+-- The page is a whole page, sound, not new, and has the position of the entry's end, which is at most the last one; under the log's latch the entry's bytes are appended
+pub record CanEnter (s : State) (f : ℕ) (p : Page) (v : View) : Type 0 where
+  pub right : pages.Allowed (make_entry p) (block_of s.pool.logged (s.pool.core.frame f).tag) (s.pool.core.frame f) (link v f)
   pub sound : is_sound_page p ≡ true
   pub used : is_new_page p ≡ false
+  pub full : length p ≡ 8192
   pub ends : lsn_of p ≡ s.end + record_size
   pub room : s.end + record_size ≤ last_position
+  pub appended : v.log.appended ≡ Some (record_bytes s.names (new_entry s v.number (s.pool.core.frame f).tag p))
 
 -- The page was copied under a content lock that the backend has still, no entry of its own is unapplied, and its pin remembers the tag
 pub record CanRead (tag : ℕ) (p : Page) (l : Link) : Type 0 where
@@ -158,9 +163,9 @@ pub record CanRead (tag : ℕ) (p : Page) (l : Link) : Type 0 where
   pub settled : l.unapplied ≡ false
   pub remembered : l.tag ≡ Some tag
 
--- a view that has written the page p of the block of a tag
+-- a view that has written the page p of the block of a tag; its record is part of the log now
 abbrev pub has_written : ℕ → ℕ → Page → View → View
-has_written end tag p v = record v { calls = v.calls ++ Write tag p end ∷ []; front = end }
+has_written end tag p v = record v { calls = v.calls ++ Write tag p end ∷ []; front = end; log = record v.log { appended = None } }
 
 -- a view that has read it
 abbrev pub has_read : ℕ → ℕ → Page → View → View
@@ -178,8 +183,10 @@ pub data Step : Event → State → State → Type 0 where
   -- the lane n comes back, and what was read or written is noted at the frame f
   notes : {s : State} (i n f : ℕ) (noted : Bool) (k : Kind) (v : View) → get_elem? s.pool.core.views i ≡ some v → v.emptied ≡ false → n < s.lanes → f < s.pool.core.frames → LaneAllowed (lane_back noted) (s.lane n) (lane_hold v n) → Notes k s n f (lane_hold v n) (link v f)
       → Step (note i n f (lane_back noted) k) s (record s { pool = pool_after k s.pool i f (laned (lane_back noted) s n v (paged k s.pool f v)); lane = put s.lane n (lane_after (lane_back noted) (s.lane n)) })
+  -- a step at the log by backend i, whose view is v
+  logs : {s : State} (i : ℕ) (k : LogKind) (v : View) → get_elem? s.pool.core.views i ≡ some v → v.emptied ≡ false → LogAllowed k s.device v.log → Step (log i k) s (record s { pool = aside s.pool i (view_logged k v); device = device_after k s.end s.device })
   -- backend i makes an entry of the page p of the frame f
-  enters : {s : State} (i f : ℕ) (p : Page) (v : View) → get_elem? s.pool.core.views i ≡ some v → v.emptied ≡ false → f < s.pool.core.frames → CanEnter s f p (link v f)
+  enters : {s : State} (i f : ℕ) (p : Page) (v : View) → get_elem? s.pool.core.views i ≡ some v → v.emptied ≡ false → f < s.pool.core.frames → CanEnter s f p v
       → Step (enter i f p) s (let tag = (s.pool.core.frame f).tag in let end = s.end + record_size in record s {
         pool = pool_after (make_entry p) s.pool i f (has_written end tag p (paged (make_entry p) s.pool f v));
         log = record s.log { entries = s.log.entries ++ new_entry s v.number tag p ∷ [] };
@@ -190,7 +197,8 @@ pub data Step : Event → State → State → Type 0 where
       → Step (read i f) s (record s { pool = aside s.pool i (looked (seen.LogEnd s.end) (has_read s.end tag p v)) })
   loads_end : {s : State} (i : ℕ) (v : View) → get_elem? s.pool.core.views i ≡ some v → v.emptied ≡ false → Step (load_end i) s (record s { pool = aside s.pool i (looked (seen.LogEnd s.end) v) })
   loads_flushed : {s : State} (i : ℕ) (v : View) → get_elem? s.pool.core.views i ≡ some v → v.emptied ≡ false → Step (load_flushed i) s (record s { pool = aside s.pool i (looked (seen.Flushed s.flushed) (record v { flushed = s.flushed })) })
-  raises : {s : State} (i : ℕ) (v : View) → get_elem? s.pool.core.views i ≡ some v → v.emptied ≡ false → Step (raise_flushed i) s (record s { pool = aside s.pool i (stepped v); flushed = max s.flushed s.end })
+  -- under the log's latch, after a sync
+  raises : {s : State} (i : ℕ) (v : View) → get_elem? s.pool.core.views i ≡ some v → v.emptied ≡ false → v.log.synced ≡ true → Step (raise_flushed i) s (record s { pool = aside s.pool i (stepped v); flushed = max s.flushed s.end })
 
 -- the events lead from one state to the other
 pub data Run : List Event → State → State → Type 0 where
