@@ -1,5 +1,5 @@
 -- The blocks, their frames and their lanes, as a step changes them.
-use Rattle.std.proofs.Common.{◌≡◌, ◌≢◌, ℕ, ◌<◌, ◌≤◌, true, false, List, None, sym, refl, ap, ◌∙◌, subst, arith}
+use Rattle.std.proofs.Common.{◌≡◌, ◌≢◌, ℕ, ◌<◌, ◌≤◌, true, false, List, Some, None, sym, refl, ap, ◌∙◌, subst, arith}
 use mathlib.Core.Logic.{dite}
 use native.Mathlib.Decide.{ℕ_discrete}
 use Rattle.state_word.specs.declared.word.IoEnd.TheVariants.{ReadOk, WriteOk, Bad}
@@ -28,35 +28,39 @@ use Rattle.grid.specs.Shape.{Grid, put}
 use Rattle.grid.proofs.Lists.{put_here, put_else}
 use Rattle.grid.proofs.Grids.{Keeps}
 
--- A kind that is plain keeps the law of the homes
-pub plain_keeps : (k : Kind) (h : Home) (fr : Frame) (l : Link) → IsPlain k l → Allowed k h.block fr l → Keeps_by k h (home_after k h) fr l
-plain_keeps kinds.load_content h fr l x a = homes.load_content_keeps h fr l a
-plain_keeps kinds.mark_dirty h fr l x a = homes.mark_dirty_keeps h fr l a
-plain_keeps kinds.share h fr l x a = homes.share_keeps h fr l a
-plain_keeps kinds.exclude h fr l x a = homes.exclude_keeps h fr l a
-plain_keeps kinds.unshare h fr l x a = homes.unshare_keeps h fr l a
-plain_keeps kinds.unexclude h fr l x a = homes.unexclude_keeps h fr l a
-plain_keeps kinds.take_copy h fr l x a = homes.take_copy_keeps h fr l a
-plain_keeps kinds.leave_copy h fr l x a = homes.leave_copy_keeps h fr l a
-plain_keeps kinds.page_out h fr l x a = homes.page_out_keeps h fr l a
-plain_keeps kinds.overwrite_logged h fr l x a = homes.overwrite_logged_keeps h fr l a
-plain_keeps (kinds.overwrite_read p) h fr l x a = homes.overwrite_read_keeps h fr l p a
-plain_keeps kinds.page_back h fr l x a = homes.page_back_keeps h fr l a
-plain_keeps (kinds.note_read p) h fr l x a = absurd x
-plain_keeps kinds.begin_write h fr l x a = absurd x
-plain_keeps (kinds.note_write done) h fr l x a = absurd x
-plain_keeps (kinds.make_entry p) h fr l x a = absurd x
-plain_keeps kinds.start_input h fr l x a = homes.start_input_keeps h fr l a
-plain_keeps kinds.start_output h fr l x a = homes.start_output_keeps h fr l a
-plain_keeps kinds.clear_just_dirtied h fr l x a = homes.clear_just_dirtied_keeps h fr l a
-plain_keeps (kinds.end_io ReadOk) h fr l x a = homes.end_read_keeps h fr l x a
-plain_keeps (kinds.end_io WriteOk) h fr l x a = homes.end_write_keeps h fr l a
-plain_keeps (kinds.end_io Bad) h fr l x a = homes.end_badly_keeps h fr l a
+-- a page that is known is one only
+pub known_is : {a b : Page} → Some a ≡ Some b → a ≡ b
+known_is e = cc
+
+-- A kind that is plain keeps the law of the homes; the block's page after the log is known
+pub plain_keeps : (k : Kind) (h : Home) (fr : Frame) (l : Link) (p : Page) → h.block.logged ≡ Some p → IsPlain k → Allowed k h.block fr l → Keeps_by k h (home_after k h) fr l
+plain_keeps kinds.load_content h fr l q is x a = homes.load_content_keeps h fr l a
+plain_keeps kinds.mark_dirty h fr l q is x a = homes.mark_dirty_keeps h fr l a
+plain_keeps kinds.share h fr l q is x a = homes.share_keeps h fr l a
+plain_keeps kinds.exclude h fr l q is x a = homes.exclude_keeps h fr l a
+plain_keeps kinds.unshare h fr l q is x a = homes.unshare_keeps h fr l a
+plain_keeps kinds.unexclude h fr l q is x a = homes.unexclude_keeps h fr l a
+plain_keeps kinds.take_copy h fr l q is x a = homes.take_copy_keeps h fr l a
+plain_keeps kinds.leave_copy h fr l q is x a = homes.leave_copy_keeps h fr l a
+plain_keeps kinds.page_out h fr l q is x a = homes.page_out_keeps h fr l a
+plain_keeps kinds.overwrite_logged h fr l q is x a = homes.overwrite_logged_keeps h fr l a
+plain_keeps (kinds.overwrite_read p) h fr l q is x a = homes.overwrite_read_keeps h fr l p a
+plain_keeps kinds.page_back h fr l q is x a = homes.page_back_keeps h fr l a
+plain_keeps (kinds.note_read p) h fr l q is x a = absurd x
+plain_keeps kinds.begin_write h fr l q is x a = absurd x
+plain_keeps (kinds.note_write done) h fr l q is x a = absurd x
+plain_keeps (kinds.make_entry p) h fr l q is x a = absurd x
+plain_keeps kinds.start_input h fr l q is x a = homes.start_input_keeps h fr l a
+plain_keeps kinds.start_output h fr l q is x a = homes.start_output_keeps h fr l a
+plain_keeps kinds.clear_just_dirtied h fr l q is x a = homes.clear_just_dirtied_keeps h fr l a
+plain_keeps (kinds.end_io ReadOk) h fr l q is x a = homes.end_read_keeps h fr l a
+plain_keeps (kinds.end_io WriteOk) h fr l q is x a = homes.end_write_keeps h fr l q is a
+plain_keeps (kinds.end_io Bad) h fr l q is x a = homes.end_badly_keeps h fr l a
 
 -- and leaves the block's page after the log
-pub plain_block : (k : Kind) (b : Block) (l : Link) → IsPlain k l → block_after k b ≡ b
-plain_block (kinds.make_entry p) b l x = absurd x
-plain_block _ b l x = refl
+pub plain_block : (k : Kind) (b : Block) → IsPlain k → block_after k b ≡ b
+plain_block (kinds.make_entry p) b x = absurd x
+plain_block _ b x = refl
 
 -- where a kind of `pin_core` stores a tag, the tag's block is clean
 abbrev pub IsFresh : pin_kinds.Kind → Home → Type 0
@@ -99,9 +103,9 @@ tag_goes pin_kinds.clear fr l t c a e = absurd (e refl)
 pub lacked : (pt : Partition) (x : PartitionHold) (word tag f : ℕ) → HoldLaw pt x → PairLaw (pt.map tag) pt.owed word tag f → x.held ≡ true → x.changed ≡ false → x.change ≡ Settled → pt.map tag ≡ None → word ≢ tag
 lacked pt x word tag f h p held unchanged settled lacks e = grind (arith, h, p, held, unchanged, settled, lacks, e)
 
--- under an output right the frame's page is the block's page after the log
-pub written_is_logged : (b : Block) (fr : Frame) (l : Link) (t : Tally → ℕ) → PageFrame b fr t → PageLink b fr l → weigh sharers l ≤ t sharers → l.io ≡ Output → HasTag fr × (b.logged ≡ fr.page)
-written_is_logged b fr l t q c le e = grind (arith, q, c, le, e)
+-- under an output right the frame's page is the block's page after the log, where that is known
+pub written_is_logged : (b : Block) (fr : Frame) (l : Link) (t : Tally → ℕ) → PageFrame b fr t → PageLink b fr l → weigh sharers l ≤ t sharers → l.io ≡ Output → HasTag fr × ((p : Page) → b.logged ≡ Some p → p ≡ fr.page)
+written_is_logged b fr l t q c le e = (grind (arith, q, c, le, e), λ p is. grind (arith, q, c, le, e, is))
 
 -- The laws of the blocks, where `home` is what is known of each
 pub record Blocks (n : ℕ) (frame : ℕ → Frame) (views : List View) (origin : ℕ → Page) (entries : List Entry) (flushed : ℕ) (home : ℕ → Home) : Type 0 where

@@ -70,13 +70,13 @@ calls_same origin log flushed v w same c = record {
   loaded = subst (λ (n : ℕ). n ≤ flushed) (sym same.flushed) c.loaded;
 }
 
-pub no_calls : (origin : ℕ → Page) (log : Log) (flushed : ℕ) (v : View) → v.calls ≡ [] → v.front ≡ 0 → v.flushed ≡ 0 → CallsLaw origin log flushed v
+pub no_calls : (origin : ℕ → Page) (log : Log) (flushed : ℕ) (v : View) → v.calls ≡ [] → v.front ≤ log_end log → v.flushed ≤ flushed → CallsLaw origin log flushed v
 no_calls origin log flushed v none front loaded = record {
   legal = λ k x e. absurd (some-ne-none x (sym (subst (λ (l : List Call). get_elem? l k ≡ some x) none e)));
   fronted = λ k x e. absurd (some-ne-none x (sym (subst (λ (l : List Call). get_elem? l k ≡ some x) none e)));
-  within = omega arith;
+  within = front;
   in_order = λ _ j k x y lt ex ey. absurd (some-ne-none x (sym (subst (λ (l : List Call). get_elem? l j ≡ some x) none ex)));
-  loaded = omega arith;
+  loaded = loaded;
 }
 
 module _ (origin : ℕ → Page) (log : Log) (flushed : ℕ) (views : List View) (h : HistoryLaw origin log flushed views) where
@@ -119,7 +119,7 @@ module _ (origin : ℕ → Page) (log : Log) (flushed : ℕ) (views : List View)
   }
 
   -- a view without calls joins the list
-  pub history_grows : (w : View) → w.calls ≡ [] → w.front ≡ 0 → w.flushed ≡ 0 → HistoryLaw origin log flushed (views ++ w ∷ [])
+  pub history_grows : (w : View) → w.calls ≡ [] → w.front ≤ log_end log → w.flushed ≤ flushed → HistoryLaw origin log flushed (views ++ w ∷ [])
   history_grows w none front loaded = record {
     calls = λ j u e. ⊎_elim (λ (t : get_elem? views j ≡ some u). h.calls j u t) (λ (t : (w ≡ u) × (j ≡ length views)). subst (CallsLaw origin log flushed) t.0 (no_calls origin log flushed w none front loaded)) (at_end views w u j e);
     counted = let e : written w ≡ 0 = ap writes_in none ∙ no_total write_weight in omega (arith, total-snoc written views w, h.counted);
@@ -129,7 +129,7 @@ module _ (origin : ℕ → Page) (log : Log) (flushed : ℕ) (views : List View)
   -- the calls of one view go to another, which is another view's later
   pub history_joined : (j : ℕ) (v u : View) → get_elem? views 0 ≡ some v → j ≢ 0 → get_elem? views j ≡ some u → HistoryLaw origin log flushed (set (set views 0 (joined_view v u)) j emptied_view)
   history_joined j v u there other here = let w : View = joined_view v u in let vs : List View = set views 0 w in let also = set_else views 0 j w other ∙ here in record {
-    calls = λ k x e. ⊎_elim (λ (t : (k ≡ j) × (emptied_view ≡ x)). subst (CallsLaw origin log flushed) t.1 (no_calls origin log flushed emptied_view refl refl refl))
+    calls = λ k x e. ⊎_elim (λ (t : (k ≡ j) × (emptied_view ≡ x)). subst (CallsLaw origin log flushed) t.1 (no_calls origin log flushed emptied_view refl (omega arith) (omega arith)))
         (λ (t : (k ≢ j) × (get_elem? vs k ≡ some x)). ⊎_elim (λ (y : (k ≡ 0) × (w ≡ x)). subst (CallsLaw origin log flushed) y.1 both) (λ (y : (k ≢ 0) × (get_elem? views k ≡ some x)). h.calls k x y.1) (at_set views 0 k w x t.1)) (at_set vs j k emptied_view x e);
     counted = omega (arith, total-set written views 0 v w there, total-set written vs j u emptied_view also, total-both write_weight v.calls u.calls, no_total write_weight, h.counted);
     once = λ k e at. let p : ℕ = end_of e in omega (arith, total-set (written_at p) views 0 v w there, total-set (written_at p) vs j u emptied_view also, total-both (weight_at p) v.calls u.calls, no_total (weight_at p), h.once k e at);

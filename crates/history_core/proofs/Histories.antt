@@ -1,5 +1,5 @@
 -- What the law says in the field's words.
-use Rattle.std.proofs.Common.{◌≡◌, ◌≢◌, ◌⊎◌, ℕ, zero, suc, ◌+◌, ◌<◌, ◌≤◌, Bool, true, false, cond, List, [], ◌∷◌, ◌++◌, length, None, inl, inr, sym, refl, ◌∙◌, subst, ⊎_elim, arith}
+use Rattle.std.proofs.Common.{◌≡◌, ◌≢◌, ◌⊎◌, ℕ, zero, suc, ◌+◌, ◌<◌, ◌≤◌, Bool, true, false, cond, List, [], ◌∷◌, ◌++◌, length, Some, None, inl, inr, sym, refl, ◌∙◌, subst, ⊎_elim, arith}
 use Rattle.std.specs.Prelude.{if◌then◌else◌}
 use mathlib.Core.Logic.{dite}
 use mathlib.Core.Option.{some}
@@ -15,8 +15,8 @@ use Rattle.pin_core.specs.Tallies.{flag_weight}
 use Rattle.pin_core.specs.declared.view.Seen.TheVariants as seen
 use Rattle.page_core.specs.Kinds.{make_entry}
 use Rattle.page_core.proofs.Histories as pages
-use Rattle.history_core.specs.Log.{record_size}
-use Rattle.history_core.specs.State.{State}
+use Rattle.history_core.specs.Log.{record_size, cell}
+use Rattle.history_core.specs.State.{State, stored}
 use Rattle.history_core.specs.Lanes as lane_kinds
 use Rattle.history_core.specs.Lanes.{LaneKind, LaneAllowed}
 use Rattle.history_core.specs.Homes.{IsUnframed}
@@ -24,6 +24,7 @@ use Rattle.history_core.specs.Invariant.{Invariant}
 use Rattle.history_core.specs.Steps.{looked, paged, has_read, has_written, new_entry, Writes, writes, enters, reads}
 use Rattle.history_core.specs.Histories.{IsReached, CallsAreLegal, WritesAreEntries, ReadsStand, WritesStand, LogBeforeData, LanesHoldFlushedPages, IsStored, CleanBlocksAreStored, FramesAreSound, FramesHoldCells, LogWords, holds_lane, LanesAreHeld}
 use Rattle.history_core.proofs.Logs.{end_longer}
+use Rattle.history_core.proofs.Blocks.{known_is}
 use Rattle.history_core.proofs.Opening.{opens}
 use Rattle.history_core.proofs.Stepping.{step_keeps, run_keeps}
 use Rattle.grid.proofs.Lists.{set_here}
@@ -124,17 +125,20 @@ module _ (s : State) (h : Invariant s) where
   pub lanes_hold : LanesHoldFlushedPages s
   lanes_hold = h.flushed_cells
 
+  stored_is : (tag : ℕ) → s.pool.logged tag ≡ Some (stored s tag) → stored s tag ≡ cell s.origin s.log.entries tag
+  stored_is tag e = known_is (sym e ∙ (λ j. h.logged j tag))
+
   pub clean_stored : CleanBlocksAreStored s
   clean_stored tag named none = ⊎_elim
-      (λ (x : (f : ℕ) × (f < s.pool.core.frames) × ((s.pool.core.frame f).tag ≡ tag)). let c = (h.homes.columns x.0 x.1).clean (λ e. named (sym x.2 ∙ e)) (none x.0 x.1 x.2) in subst (IsStored s) x.2 (record { done = c.done; stored_is = c.stored ∙ (λ j. h.logged j (s.pool.core.frame x.0).tag) }))
-      (λ (free : IsUnframed s.pool.core.frames s.pool.core.frame tag). let c = h.unframed tag named free in record { done = c.done; stored_is = c.stored ∙ (λ j. h.logged j tag) })
+      (λ (x : (f : ℕ) × (f < s.pool.core.frames) × ((s.pool.core.frame f).tag ≡ tag)). let c = (h.homes.columns x.0 x.1).clean (λ e. named (sym x.2 ∙ e)) (none x.0 x.1 x.2) in subst (IsStored s) x.2 (record { done = c.done; stored_is = stored_is (s.pool.core.frame x.0).tag c.stored }))
+      (λ (free : IsUnframed s.pool.core.frames s.pool.core.frame tag). let c = h.unframed tag named free in record { done = c.done; stored_is = stored_is tag c.stored })
       (framed s.pool.core.frames s.pool.core.frame tag)
 
   pub sound : FramesAreSound s
-  sound f below = (h.homes.columns f below).sound
+  sound = pages.sound s.pool h.pool
 
   pub hold_cells : FramesHoldCells s
-  hold_cells f below tag valid none = pages.frames_hold s.pool h.pool f below tag valid none ∙ (λ j. h.logged j (s.pool.core.frame f).tag)
+  hold_cells f below tag valid none = pages.frames_hold s.pool h.pool f (cell s.origin s.log.entries (s.pool.core.frame f).tag) below tag valid none (λ j. h.logged j (s.pool.core.frame f).tag)
 
   pub words : LogWords s
   words = record { ends = h.ends; limit = h.limit; flushed_from = h.flushed_from; flushed_to = h.flushed_to }

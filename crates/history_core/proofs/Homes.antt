@@ -1,6 +1,5 @@
 -- Each kind of `pin_core` and of `page_core` keeps the law of the blocks' homes.
-use Rattle.std.proofs.Common.{◌≡◌, ℕ, Bool, true, false, arith, Some}
-use Rattle.page_layout.specs.Soundness.{is_sound_page}
+use Rattle.std.proofs.Common.{◌≡◌, ℕ, Bool, true, false, Some, arith}
 use Rattle.state_word.specs.declared.word.IoEnd.TheVariants.{ReadOk, WriteOk, Bad}
 use Rattle.pin_core.specs.declared.view.Link.{Link}
 use Rattle.pin_core.specs.State.{Frame, Page}
@@ -217,11 +216,11 @@ module _ (h : Home) (fr : Frame) (l : Link) where
     others = λ t n m q c le d. grind (arith, q, c, d, a, same);
   }
 
-  pub make_entry_keeps : (p : Page) → is_sound_page p ≡ true → Allowed (kinds.make_entry p) h.block fr l → Keeps_by (kinds.make_entry p) h (home_after (kinds.make_entry p) h) fr l
-  make_entry_keeps p sound a = record {
-    column = λ t t' q c sums le _. grind (arith, q, c, a, sound);
-    cell = λ t q le c. grind (arith, q, c, a, sound);
-    others = λ t n m q c le d. grind (arith, q, c, d, a, sound);
+  pub make_entry_keeps : (p : Page) → Allowed (kinds.make_entry p) h.block fr l → Keeps_by (kinds.make_entry p) h (home_after (kinds.make_entry p) h) fr l
+  make_entry_keeps p a = record {
+    column = λ t t' q c sums le _. grind (arith, q, c, a);
+    cell = λ t q le c. grind (arith, q, c, a);
+    others = λ t n m q c le d. grind (arith, q, c, d, a);
   }
 
   pub start_input_keeps : Allowed kinds.start_input h.block fr l → Keeps_by kinds.start_input h (home_after kinds.start_input h) fr l
@@ -245,16 +244,16 @@ module _ (h : Home) (fr : Frame) (l : Link) where
     others = λ t n m q c le d. grind (arith, q, c, d, a);
   }
 
-  pub end_read_keeps : ((p : Page) → l.read ≡ Some p → is_sound_page p ≡ true) → Allowed (kinds.end_io ReadOk) h.block fr l → Keeps_by (kinds.end_io ReadOk) h (home_after (kinds.end_io ReadOk) h) fr l
-  end_read_keeps sound a = record {
-    column = λ t t' q c sums le _. grind (arith, q, c, a, sound);
+  pub end_read_keeps : Allowed (kinds.end_io ReadOk) h.block fr l → Keeps_by (kinds.end_io ReadOk) h (home_after (kinds.end_io ReadOk) h) fr l
+  end_read_keeps a = record {
+    column = λ t t' q c sums le _. grind (arith, q, c, a);
     cell = λ t q le c. grind (arith, q, c, a);
     others = λ t n m q c le d. grind (arith, q, c, d, a, le works);
   }
 
-  pub end_write_keeps : Allowed (kinds.end_io WriteOk) h.block fr l → Keeps_by (kinds.end_io WriteOk) h (home_after (kinds.end_io WriteOk) h) fr l
-  end_write_keeps a = record {
-    column = λ t t' q c sums le _. grind (arith, q, c, a);
+  pub end_write_keeps : (p : Page) → h.block.logged ≡ Some p → Allowed (kinds.end_io WriteOk) h.block fr l → Keeps_by (kinds.end_io WriteOk) h (home_after (kinds.end_io WriteOk) h) fr l
+  end_write_keeps p is a = record {
+    column = λ t t' q c sums le _. let same = q.0.1.page p in grind (arith, q, c, a, is, same);
     cell = λ t q le c. grind (arith, q, c, a);
     others = λ t n m q c le d. grind (arith, q, c, d, a, le works);
   }

@@ -1,5 +1,5 @@
 -- What the lanes and the calls know of the views, as a view changes.
-use Rattle.std.proofs.Common.{◌≡◌, ◌≢◌, ℕ, zero, suc, ◌<◌, Bool, true, false, ◌||◌, List, [], ◌∷◌, ◌++◌, length, set, get_or-set_same, get_or-set_other, sym, refl, ap, ◌∙◌, subst, ⊎_elim}
+use Rattle.std.proofs.Common.{◌≡◌, ◌≢◌, ℕ, zero, suc, ◌<◌, ◌≤◌, Bool, true, false, ◌||◌, List, [], ◌∷◌, ◌++◌, length, set, get_or-set_same, get_or-set_other, sym, refl, ap, ◌∙◌, subst, ⊎_elim, arith}
 use mathlib.Core.Option.{some}
 use lib.ListN.{get_elem?, length-replicate}
 use Rattle.pin_core.specs.declared.view.LaneHold.{LaneHold}
@@ -36,10 +36,10 @@ wide_set n views h i v w there emptied long j u e live = ⊎_elim
 pub wide_emptied : (n : ℕ) (views : List View) → IsWide n views → (i : ℕ) → IsWide n (set views i emptied_view)
 wide_emptied n views h i j u e live = ⊎_elim (λ (t : (j ≡ i) × (emptied_view ≡ u)). let x : u.emptied ≡ emptied_view.emptied = ap (λ (x : View). x.emptied) (sym t.1) in absurd (cc)) (λ (t : (j ≢ i) × (get_elem? views j ≡ some u)). h j u t.1 live) (at_set views i j emptied_view u e)
 
-pub lane_new : (n p m number q : ℕ) → lane_hold (new_view number n p m) q ≡ no_lane
-lane_new n p zero number q = refl
-lane_new n p (suc m) number zero = refl
-lane_new n p (suc m) number (suc q) = lane_new n p m number q
+pub lane_new : (n p m number base q : ℕ) → lane_hold (new_view number base n p m) q ≡ no_lane
+lane_new n p zero number base q = refl
+lane_new n p (suc m) number base zero = refl
+lane_new n p (suc m) number base (suc q) = lane_new n p m number base q
 
 pub no_weight : (k : LogTally) → log_weigh k no_log ≡ 0
 no_weight holders = refl
@@ -59,11 +59,11 @@ module _ (origin : ℕ → Page) (log : Log) (n : ℕ) (lane : ℕ → Lane) (fl
     wide = wide_set n views h.wide i v w there emptied (ap (λ (x : List LaneHold). length x) lanes);
   }
 
-  pub outer_grows : (number f p : ℕ) → Outer origin log n lane flushed bytes d (views ++ new_view number f p n ∷ [])
-  outer_grows number f p = let w : View = new_view number f p n in record {
+  pub outer_grows : (number base f p : ℕ) → base ≡ log.base → log.base ≤ flushed → Outer origin log n lane flushed bytes d (views ++ new_view number base f p n ∷ [])
+  outer_grows number base f p same low = let w : View = new_view number base f p n in record {
     device = grows log_shape log_part 1 (λ _. d) (λ _. bytes) views h.device w (λ q k. no_weight k) (λ q below. no_log_law bytes d);
-    history = history_grows origin log flushed views h.history w refl refl refl;
-    lanes = grows lane_shape lane_part n lane (λ _. flushed) views h.lanes w (λ q k. ap (lane_shape.weigh k) (lane_new f p n number q)) (λ q below. subst (LaneLink flushed (lane q)) (sym (lane_new f p n number q)) (no_lane_law flushed (lane q)));
+    history = history_grows origin log flushed views h.history w refl (omega (arith, same)) (omega (arith, same, low));
+    lanes = grows lane_shape lane_part n lane (λ _. flushed) views h.lanes w (λ q k. ap (lane_shape.weigh k) (lane_new f p n number base q)) (λ q below. subst (LaneLink flushed (lane q)) (sym (lane_new f p n number base q)) (no_lane_law flushed (lane q)));
     wide = λ j u e live. ⊎_elim (λ (t : get_elem? views j ≡ some u). h.wide j u t live) (λ (t : (w ≡ u) × (j ≡ length views)). ap (λ (x : View). length x.lanes) (sym t.0) ∙ length-replicate n no_lane) (at_end views w u j e);
   }
 

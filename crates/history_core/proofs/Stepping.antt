@@ -1,5 +1,5 @@
 -- Each step keeps the law, and so does each list of steps.
-use Rattle.std.proofs.Common.{◌≡◌, ◌≢◌, ℕ, ◌+◌, ◌<◌, ◌≤◌, Bool, true, false, List, [], ◌∷◌, ◌++◌, length, set, None, length-set, get_or-set_same, get_or-set_other, sym, refl, ap, ◌∙◌, subst, arith, lit<}
+use Rattle.std.proofs.Common.{◌≡◌, ◌≢◌, ℕ, ◌+◌, ◌<◌, ◌≤◌, Bool, true, false, List, [], ◌∷◌, ◌++◌, length, set, Option, Some, None, length-set, get_or-set_same, get_or-set_other, sym, refl, ap, ◌∙◌, subst, arith, lit<}
 use Rattle.std.specs.Prelude.{max}
 use mathlib.Core.Logic.{dite}
 use mathlib.Core.Option.{some}
@@ -51,7 +51,7 @@ use Rattle.history_core.proofs.Homes as homes
 use Rattle.history_core.proofs.Homes.{known, home_after, Keeps_by}
 use Rattle.history_core.proofs.Pools.{SameHere, pool_aside, pool_touched}
 use Rattle.history_core.proofs.Outer.{Outer, outer_same, outer_grows, outer_joins, lanes_touched, wide_set}
-use Rattle.history_core.proofs.Blocks.{plain_keeps, plain_block, IsFresh, pins_keep, tag_goes, lacked, written_is_logged, Blocks, no_link, home_forgets, unframed_put, still_unframed}
+use Rattle.history_core.proofs.Blocks.{known_is, plain_keeps, plain_block, IsFresh, pins_keep, tag_goes, lacked, written_is_logged, Blocks, no_link, home_forgets, unframed_put, still_unframed}
 use Rattle.grid.specs.Shape.{Grid, put, tallies}
 use Rattle.grid.proofs.Lists.{put_here, put_at, put_else, put_same, set_else}
 use Rattle.grid.proofs.Sums.{term_le}
@@ -72,13 +72,14 @@ abbrev homes_with : State → (ℕ → Lane) → ℕ → Home
 homes_with s lane tag = record { block = block_of s.pool.logged tag; stored = (lane (s.lane_of tag)).stored tag; failed = (lane (s.lane_of tag)).failed tag }
 
 -- a state with another buffer pool and other lanes, where the log stays
-assemble : (s : State) → Invariant s → (pool' : page.State) (lane' : ℕ → Lane) → page_law.Invariant pool' → pool'.logged ≡ s.pool.logged → Outer s.origin s.log s.lanes lane' s.flushed (written_of s) s.device pool'.core.views
+assemble : (s : State) → Invariant s → (pool' : page.State) (lane' : ℕ → Lane) → page_law.Invariant pool' → pool'.logged ≡ s.pool.logged → pool'.core.base ≡ s.pool.core.base → Outer s.origin s.log s.lanes lane' s.flushed (written_of s) s.device pool'.core.views
     → Blocks pool'.core.frames pool'.core.frame pool'.core.views s.origin s.log.entries s.flushed (homes_with s lane') → Invariant (record s { pool = pool'; lane = lane' })
-assemble s h pool' lane' law same outer blocks = let is : homes_with s lane' ≡ home_of (record s { pool = pool'; lane = lane' }) = λ j tag. record { block = block_of (sym same j) tag; stored = (lane' (s.lane_of tag)).stored tag; failed = (lane' (s.lane_of tag)).failed tag } in
+assemble s h pool' lane' law same kept outer blocks = let is : homes_with s lane' ≡ home_of (record s { pool = pool'; lane = lane' }) = λ j tag. record { block = block_of (sym same j) tag; stored = (lane' (s.lane_of tag)).stored tag; failed = (lane' (s.lane_of tag)).failed tag } in
     let moved = subst (λ (x : ℕ → Home). Blocks pool'.core.frames pool'.core.frame pool'.core.views s.origin s.log.entries s.flushed x) is blocks in record {
       pool = law;
       logged = same ∙ h.logged;
       log = h.log;
+      based = kept ∙ h.based;
       ends = h.ends;
       limit = h.limit;
       flushed_from = h.flushed_from;
@@ -148,7 +149,7 @@ module _ (s : State) (h : Invariant s) where
   pins_step : (i f : ℕ) (k : pin_kinds.Kind) (v : View) → get_elem? views i ≡ some v → v.emptied ≡ false → f < n → pin_kinds.Allowed k (frame f) (link v f) → pin_steps.AllowedAround k s.pool.core v f → Invariant (record s { pool = record s.pool { core = pin_steps.state_after k s.pool.core i f v } })
   pins_step i f k v there live inside a around = let w : View = pin_stepping.after k s.pool.core f v in let fr : Frame = pin_kinds.frame_after k (frame f) in let l : Link = pin_kinds.link_after k (frame f) (link v f) in
       let law = page_stepping.step_keeps (page_steps.cores (pin_steps.touches i f k v there live inside a around)) h.pool in
-      assemble s h (record s.pool { core = pin_steps.state_after k s.pool.core i f v }) s.lane law refl (outer_same s.origin s.log s.lanes s.lane s.flushed (written_of s) s.device views (outer_of s h) i v w there (record { calls = refl; front = refl; joined = refl; flushed = refl }) refl refl refl refl)
+      assemble s h (record s.pool { core = pin_steps.state_after k s.pool.core i f v }) s.lane law refl refl (outer_same s.origin s.log s.lanes s.lane s.flushed (written_of s) s.device views (outer_of s h) i v w there (record { calls = refl; front = refl; joined = refl; flushed = refl }) refl refl refl refl)
       (record {
         homes = touched i f v w fr l there live inside refl (home_of s) (λ g below other. refl) (pins_keep k (home_of s (frame f).tag) (home_of s fr.tag) (frame f) (link v f) a (λ e. ap (home_of s) e) (fresh i f k v there a around));
         unframed = unframed_put n frame (home_of s) f fr inside h.unframed (clean_at f inside) (tag_goes k (frame f) (link v f) (tallies frame_shape views f) (h.pool.core.grid.columns f inside) a);
@@ -177,11 +178,11 @@ module _ (s : State) (h : Invariant s) where
     }
 
   -- a step of a plain kind of `page_core`
-  page_step : (i f : ℕ) (k : Kind) (v : View) → get_elem? views i ≡ some v → v.emptied ≡ false → f < n → Allowed k (block_of s.pool.logged (frame f).tag) (frame f) (link v f) → page_steps.AllowedAround k v f → IsPlain k (link v f) → Invariant (record s { pool = page_steps.state_after k s.pool i f v })
-  page_step i f k v there live inside a around plain = let stays = plain_block k (block_of s.pool.logged (frame f).tag) (link v f) plain in let w : View = paged k s.pool f v in
-      assemble s h (page_steps.state_after k s.pool i f v) s.lane (page_stepping.step_keeps (page_steps.touches i f k v there live inside a around) h.pool) (logged_same i f k v there live inside stays)
+  page_step : (i f : ℕ) (k : Kind) (v : View) → get_elem? views i ≡ some v → v.emptied ≡ false → f < n → Allowed k (block_of s.pool.logged (frame f).tag) (frame f) (link v f) → page_steps.AllowedAround k v f → IsPlain k → Invariant (record s { pool = page_steps.state_after k s.pool i f v })
+  page_step i f k v there live inside a around plain = let stays = plain_block k (block_of s.pool.logged (frame f).tag) plain in let w : View = paged k s.pool f v in
+      assemble s h (page_steps.state_after k s.pool i f v) s.lane (page_stepping.step_keeps (page_steps.touches i f k v there live inside a around) h.pool) (logged_same i f k v there live inside stays) refl
       (outer_same s.origin s.log s.lanes s.lane s.flushed (written_of s) s.device views (outer_of s h) i v w there (record { calls = refl; front = refl; joined = refl; flushed = refl }) refl refl refl refl)
-      (blocks_touched i f k v there live inside stays w refl (plain_keeps k (home_of s (frame f).tag) (frame f) (link v f) plain a))
+      (blocks_touched i f k v there live inside stays w refl (plain_keeps k (home_of s (frame f).tag) (frame f) (link v f) (cell s.origin s.log.entries (frame f).tag) (λ j. h.logged j (frame f).tag) plain a))
 
   -- the blocks where a view changes beside its links
   blocks_aside : (i : ℕ) (v w : View) → get_elem? views i ≡ some v → w.links ≡ v.links → Blocks n frame (set views i w) s.origin s.log.entries s.flushed (home_of s)
@@ -191,22 +192,22 @@ module _ (s : State) (h : Invariant s) where
   others_step : {e : pin_steps.Event} {core' : pins.State} → pin_steps.Step e s.pool.core core' → Invariant (record s { pool = record s.pool { core = core' } })
   others_step (pin_steps.touches i f k v there live inside a around) = pins_step i f k v there live inside a around
   others_step (pin_steps.turns i p k v there live below a) = let x : pin_steps.Step (pin_steps.turn i p k) s.pool.core (pin_steps.state_turned k s.pool.core i p v) = pin_steps.turns i p k v there live below a in let w : View = view_turned k p (hold v p) v in
-      assemble s h (record s.pool { core = pin_steps.state_turned k s.pool.core i p v }) s.lane (page_stepping.step_keeps (page_steps.cores x) h.pool) refl
+      assemble s h (record s.pool { core = pin_steps.state_turned k s.pool.core i p v }) s.lane (page_stepping.step_keeps (page_steps.cores x) h.pool) refl refl
       (outer_same s.origin s.log s.lanes s.lane s.flushed (written_of s) s.device views (outer_of s h) i v w there (record { calls = refl; front = refl; joined = refl; flushed = refl }) refl refl refl refl) (blocks_aside i v w there refl)
   others_step (pin_steps.splits v there room) = let x : pin_steps.Step pin_steps.split s.pool.core (pins.split_state s.pool.core v) = pin_steps.splits v there room in let w : View = record v { next = v.next + 1 } in
       let a = length v.links in let p = length v.partitions in let m = length v.lanes in let first = h.pool.core.views.first v there in
-      let outer = outer_grows s.origin s.log s.lanes s.lane s.flushed (written_of s) s.device (set views 0 w) (outer_same s.origin s.log s.lanes s.lane s.flushed (written_of s) s.device views (outer_of s h) 0 v w there (record { calls = refl; front = refl; joined = refl; flushed = refl }) refl refl refl refl) v.next a p in
+      let outer = outer_grows s.origin s.log s.lanes s.lane s.flushed (written_of s) s.device (set views 0 w) (outer_same s.origin s.log s.lanes s.lane s.flushed (written_of s) s.device views (outer_of s h) 0 v w there (record { calls = refl; front = refl; joined = refl; flushed = refl }) refl refl refl refl) v.next s.pool.core.base a p h.based h.flushed_from in
       let blocks = blocks_aside 0 v w there refl in
-      assemble s h (record s.pool { core = pins.split_state s.pool.core v }) s.lane (page_stepping.step_keeps (page_steps.cores x) h.pool) refl
-      (subst (λ (z : ℕ). Outer s.origin s.log s.lanes s.lane s.flushed (written_of s) s.device (set views 0 w ++ new_view v.next a p z ∷ [])) (sym (h.wide 0 v there first.0)) outer)
+      assemble s h (record s.pool { core = pins.split_state s.pool.core v }) s.lane (page_stepping.step_keeps (page_steps.cores x) h.pool) refl refl
+      (subst (λ (z : ℕ). Outer s.origin s.log s.lanes s.lane s.flushed (written_of s) s.device (set views 0 w ++ new_view v.next s.pool.core.base a p z ∷ [])) (sym (h.wide 0 v there first.0)) outer)
       (record {
-        homes = grows home_shape home_part n frame (home_of s) (set views 0 w) blocks.homes (new_view v.next a p m) (new_none v.next a p m) (λ g inside. subst (HomeLink (home_of s (frame g).tag) (frame g)) (sym (link_new a p m v.next g)) (no_link (home_of s (frame g).tag) (frame g)));
+        homes = grows home_shape home_part n frame (home_of s) (set views 0 w) blocks.homes (new_view v.next s.pool.core.base a p m) (new_none v.next s.pool.core.base a p m) (λ g inside. subst (HomeLink (home_of s (frame g).tag) (frame g)) (sym (link_new a p m v.next s.pool.core.base g)) (no_link (home_of s (frame g).tag) (frame g)));
         unframed = h.unframed;
         flushed_cells = h.flushed_cells;
       })
   others_step (pin_steps.joins j v u there other here live free) = let x : pin_steps.Step (pin_steps.join j) s.pool.core (pins.joined_state s.pool.core v j u) = pin_steps.joins j v u there other here live free in let w : View = joined_view v u in
       let first = steady home_shape known n frame (home_of s) views (knows s h) 0 v w there refl (λ g. refl) in
-      assemble s h (record s.pool { core = pins.joined_state s.pool.core v j u }) s.lane (page_stepping.step_keeps (page_steps.cores x) h.pool) refl
+      assemble s h (record s.pool { core = pins.joined_state s.pool.core v j u }) s.lane (page_stepping.step_keeps (page_steps.cores x) h.pool) refl refl
       (outer_joins s.origin s.log s.lanes s.lane s.flushed (written_of s) s.device views (outer_of s h) j v u there other here free.lanes free.log)
       (record {
         homes = sweep home_shape known home_part n frame frame (home_of s) (home_of s) (set views 0 w) j u emptied_view first (set_else views 0 j w other ∙ here) (λ g inside. home_forgets (home_of s (frame g).tag) (frame g) (link u g));
@@ -214,9 +215,9 @@ module _ (s : State) (h : Invariant s) where
         flushed_cells = h.flushed_cells;
       })
 
-pools_step : (s : State) → Invariant s → {e : page_steps.Event} {pool' : page.State} → page_steps.Step e s.pool pool' → PoolAllowed e s.pool → Invariant (record s { pool = pool' })
+pools_step : (s : State) → Invariant s → {e : page_steps.Event} {pool' : page.State} → page_steps.Step e s.pool pool' → PoolAllowed e → Invariant (record s { pool = pool' })
 pools_step s h (page_steps.cores x) a = others_step s h x
-pools_step s h (page_steps.touches i f k v there live inside a around) plain = page_step s h i f k v there live inside a around (plain v there)
+pools_step s h (page_steps.touches i f k v there live inside a around) plain = page_step s h i f k v there live inside a around plain
 
 -- the laws of the calls and the lanes after a step at a lane
 laned_outer : (s : State) (h : Invariant s) (i q : ℕ) (k : LaneKind) (v w : View) → get_elem? s.pool.core.views i ≡ some v → v.emptied ≡ false → q < s.lanes → LaneAllowed k (s.lane q) (lane_hold v q) → SameCalls v w → w.emptied ≡ v.emptied → w.lanes ≡ set v.lanes q (lane_hold_after k v.flushed (s.lane q) (lane_hold v q)) → w.log ≡ v.log → w.saw_down ≡ v.saw_down
@@ -242,7 +243,7 @@ noted_keeps : (s : State) (h : Invariant s) (i q f : ℕ) (k : Kind) (v : View) 
 noted_keeps s h i q f (note_read p) v there live low inside x = let fr = s.pool.core.frame f in let hm = home_of s fr.tag in
     let input = for_input (block_of s.pool.logged fr.tag) fr (link v f) (tallies frame_shape s.pool.core.views f) (h.pool.core.grid.columns f inside) (h.pool.pages.cells i v f there inside) x.right in
     let clean = (h.homes.columns f inside).clean input.0 input.1 in let held = (h.lanes.cells i v q there low).hold.read fr.tag p x.was_read in
-    let given : p ≡ s.pool.logged fr.tag = sym held ∙ ap (λ (z : ℕ). (s.lane z).stored fr.tag) (sym x.lane) ∙ clean.stored in let a : Allowed (note_read p) hm.block fr (link v f) = record { right = x.right; given = given } in record {
+    let is : hm.stored ≡ p = ap (λ (z : ℕ). (s.lane z).stored fr.tag) x.lane ∙ held in let a : Allowed (note_read p) hm.block fr (link v f) = record { right = x.right; fresh = x.fresh; given = λ r e. known_is (sym e ∙ clean.stored) ∙ is } in record {
       allowed = a;
       stays = refl;
       keeps = homes.note_read_keeps hm fr (link v f) p a;
@@ -277,7 +278,7 @@ lanes_step : (s : State) → Invariant s → (i q : ℕ) (k : LaneKind) (v : Vie
     → Invariant (record s { pool = aside s.pool i (stepped (laned k s q v v)); lane = put s.lane q (lane_after k (s.lane q)) })
 lanes_step s h i q k v there live inside a alone = let w : View = stepped (laned k s q v v) in let views = s.pool.core.views in let holds = no_write_holds k s q (lane_hold v q) (s.lane q) alone in
     let same : SameHere v w = record { backend = record { emptied = refl; number = refl; next = refl; links = refl; partitions = refl }; joined = refl; links = refl; partitions = refl } in
-    assemble s h (aside s.pool i w) (put s.lane q (lane_after k (s.lane q))) (pool_aside s.pool i v w h.pool there same) refl
+    assemble s h (aside s.pool i w) (put s.lane q (lane_after k (s.lane q))) (pool_aside s.pool i v w h.pool there same) refl refl
     (laned_outer s h i q k v w there live inside a (record { calls = refl; front = refl; joined = refl; flushed = refl }) refl refl refl refl)
     (subst (λ (x : ℕ → Home). Blocks s.pool.core.frames s.pool.core.frame (set views i w) s.origin s.log.entries s.flushed x) (homes_same s q (lane_after k (s.lane q)) holds.0 holds.1) (blocks_aside s h i v w there refl))
 
@@ -287,7 +288,7 @@ notes_step : (s : State) → Invariant s → (i q f : ℕ) (noted : Bool) (k : K
 notes_step s h i q f noted k v there live low inside back what = let fr = s.pool.core.frame f in let b : Block = block_of s.pool.logged fr.tag in let w : View = laned (lane_kinds.lane_back noted) s q v (paged k s.pool f v) in let views = s.pool.core.views in
     let x = noted_keeps s h i q f k v there live low inside what in
     let same : SameHere (paged k s.pool f v) w = record { backend = record { emptied = refl; number = refl; next = refl; links = refl; partitions = refl }; joined = refl; links = refl; partitions = refl } in
-    assemble s h (pool_after k s.pool i f w) (put s.lane q (s.lane q)) (pool_touched s.pool h.pool i f k v w there live inside x.allowed same) (logged_same s h i f k v there live inside x.stays)
+    assemble s h (pool_after k s.pool i f w) (put s.lane q (s.lane q)) (pool_touched s.pool h.pool i f k v w there live inside x.allowed same) (logged_same s h i f k v there live inside x.stays) refl
     (laned_outer s h i q (lane_kinds.lane_back noted) v w there live low back (record { calls = refl; front = refl; joined = refl; flushed = refl }) refl refl refl refl)
     (subst (λ (y : ℕ → Home). Blocks s.pool.core.frames (put s.pool.core.frame f (frame_after k b fr)) (set views i w) s.origin s.log.entries s.flushed y) (homes_same s q (s.lane q) refl refl) (blocks_touched s h i f k v there live inside x.stays w refl x.keeps))
 
@@ -296,7 +297,7 @@ module _ (s : State) (h : Invariant s) (i q f : ℕ) (v : View) (there : get_ele
   abbrev written_frame : Frame
   written_frame = s.pool.core.frame f
 
-  named_logged : HasTag written_frame × (s.pool.logged written_frame.tag ≡ written_frame.page)
+  named_logged : HasTag written_frame × ((p : Page) → s.pool.logged written_frame.tag ≡ Some p → p ≡ written_frame.page)
   named_logged = written_is_logged (block_of s.pool.logged written_frame.tag) written_frame (link v f) (tallies page_shape s.pool.core.views f) (h.pool.pages.columns f inside) (h.pool.pages.cells i v f there inside) (term_le (λ (u : View). weigh sharers (link u f)) s.pool.core.views i v there) x.right.right
 
   -- the block is another one than that of each other frame
@@ -306,7 +307,7 @@ module _ (s : State) (h : Invariant s) (i q f : ℕ) (v : View) (there : get_ele
   -- the page is the block's after the entries up to the flushed position
   is_flushed : (lane_hold v q).out ≢ None → IsFlushedCell s.origin s.log.entries s.flushed tag written_frame.page
   is_flushed out = let early : lsn_of written_frame.page ≤ s.flushed = (let a = x.log_first in let b = (h.lanes.cells i v q there low).hold.flushed_by out in omega arith) in
-      let is : written_frame.page ≡ cell s.origin s.log.entries tag = sym named_logged.1 ∙ ap s.pool.logged x.tagged ∙ (λ j. h.logged j tag) in record {
+      let is : written_frame.page ≡ cell s.origin s.log.entries tag = sym (named_logged.1 (cell s.origin s.log.entries tag) (ap s.pool.logged x.tagged ∙ (λ j. h.logged j tag))) in record {
         place = s.flushed;
         within = omega arith;
         is_cell = is ∙ sym (cell_at_position s.origin s.log.entries tag s.flushed h.log.images (subst (λ (y : Page). lsn_of y ≤ s.flushed) is early));
@@ -335,7 +336,7 @@ module _ (s : State) (h : Invariant s) (i q f : ℕ) (v : View) (there : get_ele
     pub write_keeps : Invariant (record s { pool = pool_after begin_write s.pool i f (laned k s q v (paged begin_write s.pool f v)); lane = lane' })
     write_keeps = let b : Block = block_of s.pool.logged written_frame.tag in let w : View = laned k s q v (paged begin_write s.pool f v) in let views = s.pool.core.views in let a : Allowed begin_write b written_frame (link v f) = record { right = x.right.right } in
         let same : SameHere (paged begin_write s.pool f v) w = record { backend = record { emptied = refl; number = refl; next = refl; links = refl; partitions = refl }; joined = refl; links = refl; partitions = refl } in
-        assemble s h (pool_after begin_write s.pool i f w) lane' (pool_touched s.pool h.pool i f begin_write v w there live inside a same) (logged_same s h i f begin_write v there live inside refl)
+        assemble s h (pool_after begin_write s.pool i f w) lane' (pool_touched s.pool h.pool i f begin_write v w there live inside a same) (logged_same s h i f begin_write v there live inside refl) refl
         (laned_outer s h i q k v w there live low back (record { calls = refl; front = refl; joined = refl; flushed = refl }) refl refl refl refl)
         (record {
           homes = touched s h i f v w written_frame (link_after begin_write b written_frame (link v f)) there live inside refl home' (λ g below other. else (s.pool.core.frame g).tag (other_tag g below other))
@@ -363,12 +364,12 @@ writes_step s h i q f lane_kinds.fail_sync v there live low inside back x = absu
 writes_step s h i q f (lane_kinds.lane_back noted) v there live low inside back x = absurd x
 
 -- the note that a view makes of a page copied is that of the block
-copied_is_logged : (b : Block) (fr : Frame) (l : Link) (tag : ℕ) (p : Page) → PageLink b fr l → LinkLaw fr l → CanRead tag p l → (b.logged ≡ p) × (fr.tag ≡ tag)
+copied_is_logged : (b : Block) (fr : Frame) (l : Link) (tag : ℕ) (p : Page) → PageLink b fr l → LinkLaw fr l → CanRead tag p l → ((q : Page) → b.logged ≡ Some q → q ≡ p) × (fr.tag ≡ tag)
 copied_is_logged b fr l tag p c d a = ((c.copied p a.copied).is_logged, (d.remembers tag a.remembered).1)
 
 -- a state where a view changes beside all that the pool and the lanes know of it
 with_view : (s : State) (h : Invariant s) (i : ℕ) (v w : View) → get_elem? s.pool.core.views i ≡ some v → SameHere v w → w.lanes ≡ v.lanes → w.log ≡ v.log → w.saw_down ≡ v.saw_down → HistoryLaw s.origin s.log s.flushed (set s.pool.core.views i w) → Invariant (record s { pool = aside s.pool i w })
-with_view s h i v w there same holds unlogged saw history = assemble s h (aside s.pool i w) s.lane (pool_aside s.pool i v w h.pool there same) refl
+with_view s h i v w there same holds unlogged saw history = assemble s h (aside s.pool i w) s.lane (pool_aside s.pool i v w h.pool there same) refl refl
     (record {
       device = steady log_shape log_part 1 (λ _. s.device) (λ _. written_of s) s.pool.core.views h.device i v w there saw (λ g. unlogged);
       history = history;
@@ -380,7 +381,7 @@ with_view s h i v w there same holds unlogged saw history = assemble s h (aside 
 reads_step : (s : State) → Invariant s → (i f tag : ℕ) (p : Page) (v : View) → get_elem? s.pool.core.views i ≡ some v → f < s.pool.core.frames → CanRead tag p (link v f) → Invariant (record s { pool = aside s.pool i (looked (seen.LogEnd s.end) (has_read s.end tag p v)) })
 reads_step s h i f tag p v there inside a = let w : View = looked (seen.LogEnd s.end) (has_read s.end tag p v) in
     let x = copied_is_logged (block_of s.pool.logged (s.pool.core.frame f).tag) (s.pool.core.frame f) (link v f) tag p (h.pool.pages.cells i v f there inside) (h.pool.core.grid.cells i v f there inside) a in
-    let is : p ≡ cell s.origin s.log.entries tag = sym x.0 ∙ ap s.pool.logged x.1 ∙ (λ j. h.logged j tag) in
+    let is : p ≡ cell s.origin s.log.entries tag = sym (x.0 (cell s.origin s.log.entries tag) (ap s.pool.logged x.1 ∙ (λ j. h.logged j tag))) in
     with_view s h i v w there (record { backend = record { emptied = refl; number = refl; next = refl; links = refl; partitions = refl }; joined = refl; links = refl; partitions = refl }) refl refl refl
     (history_read s.origin s.log s.flushed s.pool.core.views h.history h.log i v w there tag p is (new_entry s 0 tag p) (ap (λ (z : ℕ). v.calls ++ Read tag p z ∷ []) h.ends) h.ends refl refl)
 
@@ -390,6 +391,7 @@ raised_state t k durable = let more : t.flushed ≤ max t.flushed t.end = omega 
   pool = k.pool;
   logged = k.logged;
   log = k.log;
+  based = k.based;
   ends = k.ends;
   limit = k.limit;
   flushed_from = let x = k.flushed_from in omega arith;
@@ -429,6 +431,7 @@ logs_step s h i k v there a = let w : View = view_logged k v in let views = s.po
       pool = pool_aside s.pool i v w h.pool there same;
       logged = h.logged;
       log = h.log;
+      based = h.based;
       ends = h.ends;
       limit = h.limit;
       flushed_from = h.flushed_from;
@@ -444,6 +447,17 @@ logs_step s h i k v there a = let w : View = view_logged k v in let views = s.po
       unframed = blocks.unframed;
       flushed_cells = blocks.flushed_cells;
     }
+
+-- pages that are all known
+abbrev known_pages : (ℕ → Page) → ℕ → Option Page
+known_pages g = λ t. Some (g t)
+
+-- where all pages are known one that is replaced is known too
+put_known : (g : ℕ → Page) (a : ℕ) (p : Page) → put (λ (t : ℕ). Some (g t)) a (Some p) ≡ (λ t. Some (put g a p t))
+put_known g a p = λ j t. at t j
+  where
+    at : (t : ℕ) → put (λ (x : ℕ). Some (g x)) a (Some p) t ≡ Some (put g a p t)
+    at t = dite (ℕ_discrete t a) (λ e. put_at (λ (x : ℕ). Some (g x)) a (Some p) t e ∙ ap Some (sym (put_at g a p t e))) (λ o. put_else (λ (x : ℕ). Some (g x)) a (Some p) t o ∙ ap Some (sym (put_else g a p t o)))
 
 -- An entry of the page p of the frame f is made
 module _ (s : State) (h : Invariant s) (i f : ℕ) (p : Page) (v : View) (there : get_elem? s.pool.core.views i ≡ some v) (live : v.emptied ≡ false) (inside : f < s.pool.core.frames) (x : CanEnter s f p v) where
@@ -466,7 +480,7 @@ module _ (s : State) (h : Invariant s) (i f : ℕ) (p : Page) (v : View) (there 
   entered = record s { pool = pool_after (make_entry p) s.pool i f after; log = record s.log { entries = s.log.entries ++ entry ∷ [] }; end = s.end + record_size }
 
   image : IsImage entry
-  image = record { sound = x.sound; used = x.used; full = x.full; ends = x.ends }
+  image = record { sound = x.right.sound; used = x.right.used; full = x.full; ends = x.ends }
 
   named : tag_of ≢ no_tag
   named = (((h.pool.pages.cells i v f there inside).content (λ e. exclusive_not_unlocked x.right.right e)).2).named
@@ -475,18 +489,19 @@ module _ (s : State) (h : Invariant s) (i f : ℕ) (p : Page) (v : View) (there 
       exclusive_not_unlocked a e = cc
 
   block_else : (t : ℕ) → t ≢ tag_of → home_of entered t ≡ home_of s t
-  block_else t other = let e : logged_after (make_entry p) s.pool.logged tag_of t ≡ s.pool.logged t = put_else s.pool.logged tag_of p t other in λ j. record { block = record { logged = e j }; stored = stored s t; failed = failed s t }
+  block_else t other = let e : logged_after (make_entry p) s.pool.logged tag_of t ≡ s.pool.logged t = put_else s.pool.logged tag_of (Some p) t other in λ j. record { block = record { logged = e j }; stored = stored s t; failed = failed s t }
 
   block_here : home_of entered tag_of ≡ home_after (make_entry p) (home_of s tag_of)
-  block_here = let e : logged_after (make_entry p) s.pool.logged tag_of tag_of ≡ p = put_here s.pool.logged tag_of p in λ j. record { block = record { logged = e j }; stored = stored s tag_of; failed = failed s tag_of }
+  block_here = let e : logged_after (make_entry p) s.pool.logged tag_of tag_of ≡ Some p = put_here s.pool.logged tag_of (Some p) in λ j. record { block = record { logged = e j }; stored = stored s tag_of; failed = failed s tag_of }
 
   pub enters_step : Invariant entered
   enters_step = let views = s.pool.core.views in let n = s.pool.core.frames in let frame = s.pool.core.frame in let l : Link = link_after (make_entry p) at_block old (link v f) in
       let same : SameHere (paged (make_entry p) s.pool f v) after = record { backend = record { emptied = refl; number = refl; next = refl; links = refl; partitions = refl }; joined = refl; links = refl; partitions = refl } in
       let longer = end_longer s.log entry h.log in record {
         pool = pool_touched s.pool h.pool i f (make_entry p) v after there live inside x.right same;
-        logged = ap (λ (g : ℕ → Page). put g tag_of p) h.logged ∙ sym (cell_longer s.origin s.log.entries entry);
+        logged = ap (λ (g : ℕ → Option Page). put g tag_of (Some p)) h.logged ∙ put_known (cell s.origin s.log.entries) tag_of p ∙ ap known_pages (sym (cell_longer s.origin s.log.entries entry));
         log = log_longer s.log entry h.log h.ends image;
+        based = h.based;
         ends = let e = h.ends in omega arith;
         limit = x.room;
         flushed_from = h.flushed_from;
@@ -500,7 +515,7 @@ module _ (s : State) (h : Invariant s) (i f : ℕ) (p : Page) (v : View) (there 
         wide = wide_set s.lanes views h.wide i v after there refl refl;
         placed = h.placed;
         homes = touched s h i f v after old l there live inside refl (home_of entered) (λ g below other. block_else (frame g).tag (λ e. other (sym (h.pool.core.apart f g inside below named (sym e)))))
-            (subst (λ (y : Home). Keeps home_shape known home_part (home_of s tag_of) y tt tt old (link v f) old l) (sym block_here) (homes.make_entry_keeps (home_of s tag_of) old (link v f) p x.sound x.right));
+            (subst (λ (y : Home). Keeps home_shape known home_part (home_of s tag_of) y tt tt old (link v f) old l) (sym block_here) (homes.make_entry_keeps (home_of s tag_of) old (link v f) p x.right));
         unframed = λ t given none. let free = still_unframed n frame f old t refl inside none in subst IsClean (sym (block_else t (λ e. free f inside (sym e)))) (h.unframed t given free);
         flushed_cells = λ t ok. let y = h.flushed_cells t ok in record {
           place = y.place;

@@ -1,6 +1,5 @@
--- The blocks of the frames: what their lanes hold, and that pages are sound.
-use Rattle.std.specs.Prelude.{◌≡◌, ◌≢◌, ℕ, ◌<◌, ◌≤◌, Bool, true, false, List}
-use Rattle.page_layout.specs.Soundness.{is_sound_page}
+-- The blocks of the frames: what their lanes hold.
+use Rattle.std.specs.Prelude.{◌≡◌, ◌≢◌, ℕ, ◌<◌, ◌≤◌, Bool, false, List, Some}
 use Rattle.pin_core.specs.declared.view.LastWrite.TheVariants.{Done}
 use Rattle.pin_core.specs.declared.view.Link.{Link}
 use Rattle.pin_core.specs.declared.view.View.{View}
@@ -26,7 +25,7 @@ home_of s tag = record { block = block_of s.pool.logged tag; stored = stored s t
 -- the lane holds the block's page after the log, and its last write didn't fail
 pub record IsClean (h : Home) : Type 0 where
   pub done : h.failed ≡ false
-  pub stored : h.stored ≡ h.block.logged
+  pub stored : h.block.logged ≡ Some h.stored
 
 -- the grid of views and frames, with what is known of the block that a frame's tag names
 abbrev pub home_shape : Shape
@@ -40,8 +39,6 @@ of_pages p = record { column = λ h fr t. p.column h.block fr t; cell = λ h fr 
 pub record HomeFrame (h : Home) (fr : Frame) : Type 0 where
   -- the block of a frame that isn't dirty is clean
   pub clean : fr.tag ≢ no_tag → fr.word.dirty ≡ false → IsClean h
-  -- the page of a valid frame is sound
-  pub sound : fr.word.valid ≡ true → is_sound_page fr.page ≡ true
 
 -- What holds where a view's last write under its output right is noted as done
 pub record DoneLink (h : Home) (fr : Frame) : Type 0 where
@@ -52,8 +49,6 @@ pub record DoneLink (h : Home) (fr : Frame) : Type 0 where
 -- What holds of a frame, of its block and of what a view has there
 pub record HomeLink (h : Home) (fr : Frame) (l : Link) : Type 0 where
   pub written : l.last_write ≡ Done → DoneLink h fr
-  -- the page of an entry that isn't applied yet is sound
-  pub unapplied : l.unapplied ≡ true → is_sound_page h.block.logged ≡ true
 
 abbrev pub home_part : Part home_shape
 home_part = record { column = λ h fr t. HomeFrame h fr; cell = λ h fr _ l. HomeLink h fr l }

@@ -1,5 +1,5 @@
 -- What holds of the lanes, the log and the calls in every state that steps lead to.
-use Rattle.std.specs.Prelude.{◌≡◌, ◌≢◌, ℕ, ◌+◌, ◌<◌, ◌≤◌, false, List, length}
+use Rattle.std.specs.Prelude.{◌≡◌, ◌≢◌, ℕ, ◌+◌, ◌<◌, ◌≤◌, false, List, Some, length}
 use mathlib.Core.Option.{some}
 use lib.ListN.{get_elem?}
 use Rattle.pin_core.specs.declared.view.Call.{Call}
@@ -42,8 +42,10 @@ written_of s = record { bytes = log_bytes s.names s.log; end = s.end }
 pub record Invariant (s : State) : Type 0 where
   pub pool : pages.Invariant s.pool
   -- the page of a block after the log is the image of its last entry, or what its lane held at the start
-  pub logged : s.pool.logged ≡ cell s.origin s.log.entries
+  pub logged : s.pool.logged ≡ (λ tag. Some (cell s.origin s.log.entries tag))
   pub log : LogLaw s.log
+  -- new views begin where the log does
+  pub based : s.pool.core.base ≡ s.log.base
   -- the log's end is behind its last entry, and at most the last position
   pub ends : s.end ≡ log_end s.log
   pub limit : s.end ≤ last_position

@@ -1,5 +1,5 @@
 -- The buffer pool with the lanes that hold its blocks, and the log.
-use Rattle.std.specs.Prelude.{◌≡◌, ℕ, ◌+◌, ◌<◌, ◌≤◌, Bool, true, false, List, [], ◌∷◌, length, nat_eq, Option, None, if◌then◌else◌}
+use Rattle.std.specs.Prelude.{◌≡◌, ℕ, ◌+◌, ◌<◌, ◌≤◌, Bool, true, false, List, [], ◌∷◌, length, nat_eq, Option, Some, None, if◌then◌else◌}
 use Rattle.pin_core.specs.State.{Page, Config}
 use Rattle.page_core.specs.State as page
 use Rattle.history_core.specs.Log.{Log, head_bytes}
@@ -69,10 +69,9 @@ failed s tag = (s.lane (s.lane_of tag)).failed tag
 -- What the lanes and the log are at the start
 pub record Store : Type 0 where
   pub lane_of : ℕ → ℕ
-  -- the pages that the lanes hold
+  -- the pages that the lanes hold, whose contents are known
   pub origin : ℕ → Page
-  -- the position where the log begins, and how the log names a block
-  pub base : ℕ
+  -- how the log names a block
   pub names : ℕ → List ℕ
   -- how many bytes of the log's head are durable, and how many calls of its device have failed
   pub head_synced : ℕ
@@ -81,29 +80,29 @@ pub record Store : Type 0 where
 -- each tag has a lane, the log begins at a position, and it names a block in 20 bytes
 pub record CanStore (c : Config) (store : Store) : Type 0 where
   pub placed : (tag : ℕ) → store.lane_of tag < c.lanes
-  pub based : store.base ≤ last_position
+  pub based : c.base ≤ last_position
   pub named : (tag : ℕ) → length (store.names tag) ≡ 20
-  pub synced : store.head_synced ≤ length (head_bytes store.base)
+  pub synced : store.head_synced ≤ length (head_bytes c.base)
 
 -- a lane at the start: no write has failed
 abbrev pub fresh_lane : (ℕ → Page) → Lane
 fresh_lane origin = record { taken = false; stored = origin; failed = λ _. false; read_faults = 0; write_faults = 0 }
 
--- the log's device at the start: it has the head
-abbrev pub fresh_device : Store → Device
-fresh_device store = record { taken = false; bytes = head_bytes store.base; synced = store.head_synced; faults = store.log_faults; down = None }
+-- the log's device at the start: it has the head of a log that begins at `base`
+abbrev pub fresh_device : ℕ → Store → Device
+fresh_device base store = record { taken = false; bytes = head_bytes base; synced = store.head_synced; faults = store.log_faults; down = None }
 
 -- the start: an empty log
 abbrev pub opening : Config → Store → Page → State
 opening c store p = record {
-  pool = page.opening c store.origin p;
+  pool = page.opening c (λ tag. Some (store.origin tag)) p;
   lanes = c.lanes;
   lane_of = store.lane_of;
   lane = λ _. fresh_lane store.origin;
   origin = store.origin;
-  log = record { base = store.base; entries = [] };
+  log = record { base = c.base; entries = [] };
   names = store.names;
-  device = fresh_device store;
-  end = store.base;
-  flushed = store.base;
+  device = fresh_device c.base store;
+  end = c.base;
+  flushed = c.base;
 }

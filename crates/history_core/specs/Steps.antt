@@ -49,19 +49,17 @@ pub data Event : Type 0 where
   raise_flushed : ℕ → Event
 
 -- the kinds of `page_core` that stand there for what a lane gives and takes, and for a new entry, are part of a step of this crate's own
-abbrev pub IsPlain : Kind → Link → Type 0
-IsPlain (note_read p) l = ⊥
-IsPlain begin_write l = ⊥
-IsPlain (note_write done) l = ⊥
-IsPlain (make_entry p) l = ⊥
--- a read ends well only with a sound page
-IsPlain (end_io ReadOk) l = (p : Page) → l.read ≡ Some p → is_sound_page p ≡ true
-IsPlain _ l = Unit {0}
+abbrev pub IsPlain : Kind → Type 0
+IsPlain (note_read p) = ⊥
+IsPlain begin_write = ⊥
+IsPlain (note_write done) = ⊥
+IsPlain (make_entry p) = ⊥
+IsPlain _ = Unit {0}
 
 -- What an event of the buffer pool asks besides
-abbrev pub PoolAllowed : page_steps.Event → page.State → Type 0
-PoolAllowed (page_steps.pins_and_maps e) s = Unit {0}
-PoolAllowed (page_steps.at i f k) s = (v : View) → get_elem? s.core.views i ≡ some v → IsPlain k (link v f)
+abbrev pub PoolAllowed : page_steps.Event → Type 0
+PoolAllowed (page_steps.pins_and_maps e) = Unit {0}
+PoolAllowed (page_steps.at i f k) = IsPlain k
 
 -- a view after one more step that isn't a load
 abbrev pub stepped : View → View
@@ -118,11 +116,12 @@ Writes (write_block g tag p) s n f h l = (g ≡ f) × CanWrite s n f tag p h l
 Writes (fail_write g tag p) s n f h l = (g ≡ f) × CanWrite s n f tag (s.pool.core.frame f).page h l
 Writes _ s n f h l = ⊥
 
--- the page that was read is of the frame's block, and the backend has the input right there
+-- the page that was read is of the frame's block; the backend has the input right there, and isn't just putting an earlier read into the frame
 pub record CanNoteLaneRead (s : State) (n f : ℕ) (p : Page) (h : LaneHold) (l : Link) : Type 0 where
   pub was_read : h.change ≡ lane_change.Read (s.pool.core.frame f).tag p
   pub lane : s.lane_of (s.pool.core.frame f).tag ≡ n
   pub right : l.io ≡ Input
+  pub fresh : l.overwritten ≡ None
 
 -- the page that was written is the frame's, and the backend has the output right still
 pub record CanNoteLaneWrite (s : State) (n f : ℕ) (p : Page) (h : LaneHold) (l : Link) : Type 0 where
@@ -146,11 +145,10 @@ Notes _ s n f h l = ⊥
 abbrev pub new_entry : State → ℕ → ℕ → Page → Entry
 new_entry s number tag p = record { start = s.end; backend = number; tag = tag; image = p }
 
--- The page is a whole page, sound, not new, and has the position of the entry's end, which is at most the last one; under the log's latch the entry's bytes are appended
+-- The page is a whole page that the content lock lets the backend enter, and has the position of the entry's end, which is at most the last one; under the log's latch the entry's bytes are appended
 pub record CanEnter (s : State) (f : ℕ) (p : Page) (v : View) : Type 0 where
   pub right : pages.Allowed (make_entry p) (block_of s.pool.logged (s.pool.core.frame f).tag) (s.pool.core.frame f) (link v f)
-  pub sound : is_sound_page p ≡ true
-  pub used : is_new_page p ≡ false
+  pub around : page_steps.AllowedAround (make_entry p) v f
   pub full : length p ≡ 8192
   pub ends : lsn_of p ≡ s.end + record_size
   pub room : s.end + record_size ≤ last_position
@@ -173,7 +171,7 @@ has_read end tag p v = record v { calls = v.calls ++ Read tag p end ∷ []; fron
 
 pub data Step : Event → State → State → Type 0 where
   -- a step of `page_core`
-  pools : {s : State} {e : page_steps.Event} {pool' : page.State} → page_steps.Step e s.pool pool' → PoolAllowed e s.pool → Step (pool e) s (record s { pool = pool' })
+  pools : {s : State} {e : page_steps.Event} {pool' : page.State} → page_steps.Step e s.pool pool' → PoolAllowed e → Step (pool e) s (record s { pool = pool' })
   -- a step at the lane n by backend i, whose view is v
   lanes : {s : State} (i n : ℕ) (k : LaneKind) (v : View) → get_elem? s.pool.core.views i ≡ some v → v.emptied ≡ false → n < s.lanes → LaneAllowed k (s.lane n) (lane_hold v n) → LaneAlone k s n (lane_hold v n)
       → Step (lane i n k) s (record s { pool = aside s.pool i (stepped (laned k s n v v)); lane = put s.lane n (lane_after k (s.lane n)) })

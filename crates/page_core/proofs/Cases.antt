@@ -99,6 +99,7 @@ role_kept overwrite_logged b fr l = refl
 role_kept (overwrite_read p) b fr l = refl
 role_kept page_back b fr l = refl
 role_kept (note_read p) b fr l = refl
+role_kept begin_write b fr l = refl
 role_kept (note_write done) b fr l = refl
 role_kept (make_entry p) b fr l = refl
 role_kept start_input b fr l = refl
