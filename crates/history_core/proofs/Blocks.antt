@@ -28,10 +28,6 @@ use Rattle.grid.specs.Shape.{Grid, put}
 use Rattle.grid.proofs.Lists.{put_here, put_else}
 use Rattle.grid.proofs.Grids.{Keeps}
 
--- a page that is known is one only
-pub known_is : {a b : Page} → Some a ≡ Some b → a ≡ b
-known_is e = cc
-
 -- A kind that is plain keeps the law of the homes; the block's page after the log is known
 pub plain_keeps : (k : Kind) (h : Home) (fr : Frame) (l : Link) (p : Page) → h.block.logged ≡ Some p → IsPlain k → Allowed k h.block fr l → Keeps_by k h (home_after k h) fr l
 plain_keeps kinds.load_content h fr l q is x a = homes.load_content_keeps h fr l a

@@ -1,11 +1,10 @@
 -- Each kind of step at the log keeps the law of its device.
-use Rattle.std.proofs.Common.{◌≡◌, ◌≢◌, ℕ, ◌+◌, ◌≤◌, Bool, true, false, List, [], ◌∷◌, ◌++◌, length, length-append, append-nil, ◌||◌, Option, Some, None, refl, sym, ap, ◌∙◌, arith}
+use Rattle.std.proofs.Common.{◌≡◌, ◌≢◌, ℕ, ◌+◌, ◌≤◌, Bool, true, false, List, [], ◌++◌, length, length-append, append-nil, ◌||◌, Option, Some, None, refl, sym, ap, ◌∙◌, arith}
 use Rattle.pin_core.specs.declared.view.TakenLog.{TakenLog}
 use Rattle.pin_core.specs.declared.view.LogHold.{LogHold}
 use Rattle.pin_core.specs.State.{Page, no_log}
-use Rattle.history_core.specs.Log.{record_size}
 use Rattle.history_core.specs.State.{Device}
-use Rattle.history_core.specs.Device.{LogKind, take_log, leave_log, log_out, append, fail_append, sync_log, fail_sync, log_back, see_down, LogAllowed, device_after, log_hold_after, sees_down, Written, LogTally, holders, appenders, log_weigh, IsLeft, DeviceLaw, AppendedLog, LogLink, log_shape, log_part}
+use Rattle.history_core.specs.Device.{LogKind, take_log, leave_log, log_out, append, fail_append, sync_log, fail_sync, log_back, see_down, LogAllowed, device_after, log_hold_after, sees_down, Written, LogTally, holders, appenders, log_weigh, IsLeft, DeviceLaw, LogLink, log_shape, log_part}
 use Rattle.grid.proofs.Grids.{Keeps}
 
 abbrev pub Keeps_by : LogKind → Written → Device → Bool → LogHold → Type 0

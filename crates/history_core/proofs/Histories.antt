@@ -1,6 +1,7 @@
 -- What the law says in the field's words.
 use Rattle.std.proofs.Common.{◌≡◌, ◌≢◌, ◌⊎◌, ℕ, zero, suc, ◌+◌, ◌<◌, ◌≤◌, Bool, true, false, cond, List, [], ◌∷◌, ◌++◌, length, Some, None, inl, inr, sym, refl, ◌∙◌, subst, ⊎_elim, arith}
 use Rattle.std.specs.Prelude.{if◌then◌else◌}
+use Rattle.std.proofs.lemmas.Option.{same_Some}
 use mathlib.Core.Logic.{dite}
 use mathlib.Core.Option.{some}
 use native.Mathlib.Decide.{ℕ_discrete}
@@ -24,7 +25,6 @@ use Rattle.history_core.specs.Invariant.{Invariant}
 use Rattle.history_core.specs.Steps.{looked, paged, has_read, has_written, new_entry, Writes, writes, enters, reads}
 use Rattle.history_core.specs.Histories.{IsReached, CallsAreLegal, WritesAreEntries, ReadsStand, WritesStand, LogBeforeData, LanesHoldFlushedPages, IsStored, CleanBlocksAreStored, FramesAreSound, FramesHoldCells, LogWords, holds_lane, LanesAreHeld}
 use Rattle.history_core.proofs.Logs.{end_longer}
-use Rattle.history_core.proofs.Blocks.{known_is}
 use Rattle.history_core.proofs.Opening.{opens}
 use Rattle.history_core.proofs.Stepping.{step_keeps, run_keeps}
 use Rattle.grid.proofs.Lists.{set_here}
@@ -126,7 +126,7 @@ module _ (s : State) (h : Invariant s) where
   lanes_hold = h.flushed_cells
 
   stored_is : (tag : ℕ) → s.pool.logged tag ≡ Some (stored s tag) → stored s tag ≡ cell s.origin s.log.entries tag
-  stored_is tag e = known_is (sym e ∙ (λ j. h.logged j tag))
+  stored_is tag e = same_Some (stored s tag) (cell s.origin s.log.entries tag) (sym e ∙ (λ j. h.logged j tag))
 
   pub clean_stored : CleanBlocksAreStored s
   clean_stored tag named none = ⊎_elim

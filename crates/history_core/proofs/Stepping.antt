@@ -1,5 +1,6 @@
 -- Each step keeps the law, and so does each list of steps.
 use Rattle.std.proofs.Common.{◌≡◌, ◌≢◌, ℕ, ◌+◌, ◌<◌, ◌≤◌, Bool, true, false, List, [], ◌∷◌, ◌++◌, length, set, Option, Some, None, length-set, get_or-set_same, get_or-set_other, sym, refl, ap, ◌∙◌, subst, arith, lit<}
+use Rattle.std.proofs.lemmas.Option.{same_Some}
 use Rattle.std.specs.Prelude.{max}
 use mathlib.Core.Logic.{dite}
 use mathlib.Core.Option.{some}
@@ -51,7 +52,7 @@ use Rattle.history_core.proofs.Homes as homes
 use Rattle.history_core.proofs.Homes.{known, home_after, Keeps_by}
 use Rattle.history_core.proofs.Pools.{SameHere, pool_aside, pool_touched}
 use Rattle.history_core.proofs.Outer.{Outer, outer_same, outer_grows, outer_joins, lanes_touched, wide_set}
-use Rattle.history_core.proofs.Blocks.{known_is, plain_keeps, plain_block, IsFresh, pins_keep, tag_goes, lacked, written_is_logged, Blocks, no_link, home_forgets, unframed_put, still_unframed}
+use Rattle.history_core.proofs.Blocks.{plain_keeps, plain_block, IsFresh, pins_keep, tag_goes, lacked, written_is_logged, Blocks, no_link, home_forgets, unframed_put, still_unframed}
 use Rattle.grid.specs.Shape.{Grid, put, tallies}
 use Rattle.grid.proofs.Lists.{put_here, put_at, put_else, put_same, set_else}
 use Rattle.grid.proofs.Sums.{term_le}
@@ -243,7 +244,7 @@ noted_keeps : (s : State) (h : Invariant s) (i q f : ℕ) (k : Kind) (v : View) 
 noted_keeps s h i q f (note_read p) v there live low inside x = let fr = s.pool.core.frame f in let hm = home_of s fr.tag in
     let input = for_input (block_of s.pool.logged fr.tag) fr (link v f) (tallies frame_shape s.pool.core.views f) (h.pool.core.grid.columns f inside) (h.pool.pages.cells i v f there inside) x.right in
     let clean = (h.homes.columns f inside).clean input.0 input.1 in let held = (h.lanes.cells i v q there low).hold.read fr.tag p x.was_read in
-    let is : hm.stored ≡ p = ap (λ (z : ℕ). (s.lane z).stored fr.tag) x.lane ∙ held in let a : Allowed (note_read p) hm.block fr (link v f) = record { right = x.right; fresh = x.fresh; given = λ r e. known_is (sym e ∙ clean.stored) ∙ is } in record {
+    let is : hm.stored ≡ p = ap (λ (z : ℕ). (s.lane z).stored fr.tag) x.lane ∙ held in let a : Allowed (note_read p) hm.block fr (link v f) = record { right = x.right; fresh = x.fresh; given = λ r e. same_Some r hm.stored (sym e ∙ clean.stored) ∙ is } in record {
       allowed = a;
       stays = refl;
       keeps = homes.note_read_keeps hm fr (link v f) p a;

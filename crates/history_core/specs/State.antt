@@ -1,5 +1,5 @@
 -- The buffer pool with the lanes that hold its blocks, and the log.
-use Rattle.std.specs.Prelude.{◌≡◌, ℕ, ◌+◌, ◌<◌, ◌≤◌, Bool, true, false, List, [], ◌∷◌, length, nat_eq, Option, Some, None, if◌then◌else◌}
+use Rattle.std.specs.Prelude.{◌≡◌, ℕ, ◌+◌, ◌<◌, ◌≤◌, Bool, false, List, [], length, nat_eq, Option, Some, None, if◌then◌else◌}
 use Rattle.pin_core.specs.State.{Page, Config}
 use Rattle.page_core.specs.State as page
 use Rattle.history_core.specs.Log.{Log, head_bytes}

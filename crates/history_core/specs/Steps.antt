@@ -3,8 +3,6 @@ use Rattle.std.specs.Prelude.{◌≡◌, ◌≢◌, ℕ, ◌+◌, ◌<◌, ◌�
 use mathlib.Core.Option.{some}
 use lib.ListN.{get_elem?}
 use Rattle.page_layout.specs.Fields.{lsn_of}
-use Rattle.page_layout.specs.Soundness.{is_new_page, is_sound_page}
-use Rattle.state_word.specs.declared.word.IoEnd.TheVariants.{ReadOk}
 use Rattle.pin_core.specs.declared.view.Content.TheVariants.{Unlocked}
 use Rattle.pin_core.specs.declared.view.Io.TheVariants.{Input}
 use Rattle.pin_core.specs.declared.view.LaneChange.{LaneChange}
