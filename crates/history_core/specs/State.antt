@@ -1,5 +1,5 @@
 -- The buffer pool with the lanes that hold its blocks, and the log.
-use Rattle.std.specs.Prelude.{◌≡◌, ℕ, ◌+◌, ◌<◌, ◌≤◌, Bool, true, false, List, [], ◌∷◌, length, nat_eq, Option, None, if◌then◌else◌}
+use Rattle.std.specs.Prelude.{◌≡◌, ℕ, ◌+◌, ◌<◌, ◌≤◌, Bool, false, List, [], length, nat_eq, Option, None, if◌then◌else◌}
 use Rattle.pin_core.specs.State.{Page, Config}
 use Rattle.page_core.specs.State as page
 use Rattle.history_core.specs.Log.{Log, head_bytes}
@@ -53,8 +53,9 @@ pub record State : Type 0 where
   pub log : Log
   -- how the log names a block, by its tag
   pub names : ℕ → List ℕ
-  -- the device that holds the log's bytes
+  -- the device that holds the log's bytes, and how many of its calls had failed at the start
   pub device : Device
+  pub log_faults : ℕ
   -- the word of the log's end, and the word up to which the log is flushed
   pub end : ℕ
   pub flushed : ℕ
@@ -104,6 +105,7 @@ opening c store p = record {
   log = record { base = store.base; entries = [] };
   names = store.names;
   device = fresh_device store;
+  log_faults = store.log_faults;
   end = store.base;
   flushed = store.base;
 }
