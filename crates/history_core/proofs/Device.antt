@@ -3,12 +3,18 @@ use Rattle.std.proofs.Common.{◌≡◌, ◌≢◌, ℕ, ◌+◌, ◌≤◌, Boo
 use Rattle.pin_core.specs.declared.view.TakenLog.{TakenLog}
 use Rattle.pin_core.specs.declared.view.LogHold.{LogHold}
 use Rattle.pin_core.specs.State.{Page, no_log}
-use Rattle.history_core.specs.State.{Device}
-use Rattle.history_core.specs.Device.{LogKind, take_log, leave_log, log_out, append, fail_append, sync_log, fail_sync, log_back, see_down, LogAllowed, device_after, log_hold_after, sees_down, Written, LogTally, holders, appenders, log_weigh, IsLeft, DeviceLaw, LogLink, log_shape, log_part}
+use Rattle.history_core.specs.State.{Device, raised}
+use Rattle.history_core.specs.Device.{LogKind, take_log, leave_log, log_out, append, fail_append, sync_log, fail_sync, log_back, see_down, LogAllowed, device_after, log_hold_after, sees_down, Written, HasRisen, LogTally, holders, appenders, log_weigh, IsLeft, DeviceLaw, LogLink, log_shape, log_part}
 use Rattle.grid.proofs.Grids.{Keeps}
 
 abbrev pub Keeps_by : LogKind → Written → Device → Bool → LogHold → Type 0
 Keeps_by k w d saw h = Keeps log_shape log_part log_part w w saw (saw || sees_down k) d h (device_after k w.end d) (log_hold_after k h)
+
+raised_least : (before n : ℕ) → before ≤ n → before ≤ raised n
+raised_least before n h = grind (arith, h)
+
+raised_rises : (before n : ℕ) → before ≤ n → HasRisen before (raised n)
+raised_rises before n h = grind (arith, h)
 
 module _ (w : Written) (d : Device) (saw : Bool) (h : LogHold) where
   -- the holder of the latch is the only one that may have appended a record
@@ -61,6 +67,8 @@ module _ (w : Written) (d : Device) (saw : Bool) (h : LogHold) where
       bytes = λ e f. absurd (cc);
       down = λ p e. cc;
       left = λ e. record { rest = bytes; is_bytes = ap (λ (x : List ℕ). x ++ bytes) is; short = a.part };
+      rose = λ e. raised_rises w.faults d.faults q.least;
+      least = raised_least w.faults d.faults q.least;
       synced = (let x = q.synced in omega (arith, length-append d.bytes bytes));
     };
     cell = λ t q le c. let x = a.call in grind (arith, c, x, a.entered, a.unsynced);
@@ -81,6 +89,8 @@ module _ (w : Written) (d : Device) (saw : Bool) (h : LogHold) where
       bytes = λ e f. absurd (cc);
       down = λ p e. cc;
       left = λ e. let x = left_now t q c le (holds c a.out) a.up in record { rest = x.rest; is_bytes = x.is_bytes; short = x.short };
+      rose = λ e. raised_rises w.faults d.faults q.least;
+      least = raised_least w.faults d.faults q.least;
       synced = q.synced;
     };
     cell = λ t q le c. grind (arith, c, a);
@@ -128,13 +138,15 @@ module _ (w : Written) (d : Device) (saw : Bool) (h : LogHold) where
   synced_all t q c le synced = let held : h.held ≡ true = grind (arith, c, synced) in let x = left_held t q c le held in let long : length d.bytes ≡ length w.bytes + length x.rest = ap (λ (y : List ℕ). length y) x.is_bytes ∙ length-append w.bytes x.rest in let all = c.synced synced in omega arith
 
   -- the record that is appended becomes part of the log
-  pub enter_keeps : (bytes : List ℕ) (end : ℕ) (all : List ℕ) → h.appended ≡ Some bytes → all ≡ w.bytes ++ bytes → Keeps log_shape log_part log_part w (record { bytes = all; end = end }) saw saw d h d (record h { appended = None })
+  pub enter_keeps : (bytes : List ℕ) (end : ℕ) (all : List ℕ) → h.appended ≡ Some bytes → all ≡ w.bytes ++ bytes → Keeps log_shape log_part log_part w (record { bytes = all; end = end; faults = w.faults }) saw saw d h d (record h { appended = None })
   enter_keeps bytes end all appended is = record {
     column = λ t t' q c sums le alone. let x = c.appended bytes appended in record {
       taken = grind (arith, q, c, appended, sums holders, sums appenders);
       bytes = λ e f. x.is_bytes ∙ sym is;
       down = λ p e. let y = x.up in absurd (cc);
       left = λ e. absurd (e x.up);
+      rose = λ e. absurd (e x.up);
+      least = q.least;
       synced = q.synced;
     };
     cell = λ t q le c. record { resting = (let r = c.resting in grind (arith, r)); home = c.home; appended = λ b e. absurd (cc); synced = c.synced; saw = c.saw };

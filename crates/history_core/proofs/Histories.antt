@@ -1,5 +1,5 @@
 -- What the law says in the field's words.
-use Rattle.std.proofs.Common.{◌≡◌, ◌≢◌, ◌⊎◌, ℕ, zero, suc, ◌+◌, ◌<◌, ◌≤◌, Bool, true, false, cond, List, [], ◌∷◌, ◌++◌, length, Some, None, inl, inr, sym, refl, ◌∙◌, subst, ⊎_elim, arith}
+use Rattle.std.proofs.Common.{◌≡◌, ◌≢◌, ◌⊎◌, ℕ, zero, suc, ◌+◌, ◌<◌, ◌≤◌, Bool, true, false, cond, List, [], ◌∷◌, ◌++◌, length, Some, None, inl, inr, sym, refl, ◌∙◌, subst, ⊎_elim, arith, lit<, ap}
 use Rattle.std.specs.Prelude.{if◌then◌else◌}
 use Rattle.std.proofs.lemmas.Option.{same_Some}
 use mathlib.Core.Logic.{dite}
@@ -12,7 +12,7 @@ use Rattle.pin_core.specs.declared.view.Link.{Link}
 use Rattle.pin_core.specs.declared.view.View.{View}
 use Rattle.pin_core.specs.declared.view.Call.TheVariants.{Read}
 use Rattle.pin_core.specs.State.{Frame, Page, link, lane_hold}
-use Rattle.pin_core.specs.Tallies.{flag_weight}
+use Rattle.pin_core.specs.Tallies.{flag_weight, some_weight}
 use Rattle.pin_core.specs.declared.view.Seen.TheVariants as seen
 use Rattle.page_core.specs.Kinds.{make_entry}
 use Rattle.page_core.proofs.Histories as pages
@@ -20,15 +20,16 @@ use Rattle.history_core.specs.Log.{record_size, cell}
 use Rattle.history_core.specs.State.{State, stored}
 use Rattle.history_core.specs.Lanes as lane_kinds
 use Rattle.history_core.specs.Lanes.{LaneKind, LaneAllowed}
+use Rattle.history_core.specs.Device.{appenders, log_weigh}
 use Rattle.history_core.specs.Homes.{IsUnframed}
 use Rattle.history_core.specs.Invariant.{Invariant}
 use Rattle.history_core.specs.Steps.{looked, paged, has_read, has_written, new_entry, Writes, writes, enters, reads}
-use Rattle.history_core.specs.Histories.{IsReached, CallsAreLegal, WritesAreEntries, ReadsStand, WritesStand, LogBeforeData, LanesHoldFlushedPages, IsStored, CleanBlocksAreStored, FramesAreSound, FramesHoldCells, LogWords, holds_lane, LanesAreHeld}
+use Rattle.history_core.specs.Histories.{IsReached, CallsAreLegal, WritesAreEntries, ReadsStand, WritesStand, LogBeforeData, LanesHoldFlushedPages, IsStored, CleanBlocksAreStored, FramesAreSound, FramesHoldCells, LogWords, holds_lane, LanesAreHeld, EntriesAreDurable, DeviceHoldsLog}
 use Rattle.history_core.proofs.Logs.{end_longer}
 use Rattle.history_core.proofs.Opening.{opens}
 use Rattle.history_core.proofs.Stepping.{step_keeps, run_keeps}
 use Rattle.grid.proofs.Lists.{set_here}
-use Rattle.grid.proofs.Sums.{total-count}
+use Rattle.grid.proofs.Sums.{total-count, total-none}
 
 pub reached : (s : State) → IsReached s → Invariant s
 reached s r = run_keeps r.run (opens r.config r.store r.page r.opens r.stores)
@@ -149,3 +150,15 @@ module _ (s : State) (h : Invariant s) where
       flag_is : (b : Bool) → flag_weight b ≡ cond b 1 0
       flag_is true = refl
       flag_is false = refl
+
+  pub durable : EntriesAreDurable s
+  durable k e there low = let starts = h.log.chained k e there in let x = h.durable (omega arith) in omega arith
+
+  pub device_holds : DeviceHoldsLog s
+  device_holds = let d = h.device.columns 0 (lit< tt) in record {
+    whole = λ up none. d.bytes (total-none (λ (v : View). log_weigh appenders v.log) s.pool.core.views (λ i v there. ap some_weight (none i v there))) up;
+    left = d.left;
+    down = d.down;
+    rose = d.rose;
+    saw = λ i v there. (h.device.cells i v 0 there (lit< tt)).saw;
+  }

@@ -7,5 +7,6 @@ pub mod Pools
 pub mod Outer
 pub mod Blocks
 pub mod Stepping
+pub mod Causes
 pub mod Opening
 pub mod Histories

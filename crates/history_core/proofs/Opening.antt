@@ -52,7 +52,7 @@ opens c store page can stores = let w : View = first_view c.base c.frames c.part
   named = stores.named;
   durable = λ lt. absurd (omega arith);
   device = record {
-    columns = λ g below. record { taken = sym (omega (arith, none holders, none appenders)); bytes = λ e f. head_only store.names c.base; down = λ p e. cc; left = λ e. absurd (e refl); synced = stores.synced };
+    columns = λ g below. record { taken = sym (omega (arith, none holders, none appenders)); bytes = λ e f. head_only store.names c.base; down = λ p e. cc; left = λ e. absurd (e refl); rose = λ e. absurd (e refl); least = omega arith; synced = stores.synced };
     cells = λ i v g there below. subst (λ (x : View). LogLink (written_of (opening c store page)) (fresh_device c.base store) x.saw_down x.log) (at_only w v i there).0 (no_log_law (written_of (opening c store page)) (fresh_device c.base store));
   };
   history = record {

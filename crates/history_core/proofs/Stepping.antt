@@ -98,7 +98,7 @@ assemble s h pool' lane' law same kept outer blocks = let is : homes_with s lane
     }
 
 -- a lane that holds what it held
-lane_put_same : (lane : ℕ → Lane) (q : ℕ) (ln : Lane) → ln.stored ≡ (lane q).stored → ln.failed ≡ (lane q).failed → (x tag : ℕ) → ((put lane q ln x).stored tag ≡ (lane x).stored tag) × ((put lane q ln x).failed tag ≡ (lane x).failed tag)
+pub lane_put_same : (lane : ℕ → Lane) (q : ℕ) (ln : Lane) → ln.stored ≡ (lane q).stored → ln.failed ≡ (lane q).failed → (x tag : ℕ) → ((put lane q ln x).stored tag ≡ (lane x).stored tag) × ((put lane q ln x).failed tag ≡ (lane x).failed tag)
 lane_put_same lane q ln stored failed x tag = dite (ℕ_discrete x q)
     (λ e. (ap (λ (y : Lane). y.stored tag) (put_at lane q ln x e) ∙ ap (λ (g : ℕ → Page). g tag) stored ∙ ap (λ (z : ℕ). (lane z).stored tag) (sym e), ap (λ (y : Lane). y.failed tag) (put_at lane q ln x e) ∙ ap (λ (g : ℕ → Bool). g tag) failed ∙ ap (λ (z : ℕ). (lane z).failed tag) (sym e)))
     (λ o. (ap (λ (y : Lane). y.stored tag) (put_else lane q ln x o), ap (λ (y : Lane). y.failed tag) (put_else lane q ln x o)))
@@ -107,7 +107,7 @@ homes_same : (s : State) (q : ℕ) (ln : Lane) → ln.stored ≡ (s.lane q).stor
 homes_same s q ln stored failed = λ j tag. record { block = block_of s.pool.logged tag; stored = sym (lane_put_same s.lane q ln stored failed (s.lane_of tag) tag).0 j; failed = sym (lane_put_same s.lane q ln stored failed (s.lane_of tag) tag).1 j }
 
 -- a kind at a lane that is no write leaves what the lane holds
-no_write_holds : (k : LaneKind) (s : State) (q : ℕ) (x : LaneHold) (ln : Lane) → LaneAlone k s q x → ((lane_after k ln).stored ≡ ln.stored) × ((lane_after k ln).failed ≡ ln.failed)
+pub no_write_holds : (k : LaneKind) (s : State) (q : ℕ) (x : LaneHold) (ln : Lane) → LaneAlone k s q x → ((lane_after k ln).stored ≡ ln.stored) × ((lane_after k ln).failed ≡ ln.failed)
 no_write_holds (lane_kinds.write_block f tag p) s q x ln a = absurd a
 no_write_holds (lane_kinds.fail_write f tag p) s q x ln a = absurd a
 no_write_holds _ s q x ln a = (refl, refl)
@@ -366,7 +366,7 @@ writes_step s h i q f (lane_kinds.lane_back noted) v there live low inside back 
 
 -- the note that a view makes of a page copied is that of the block
 copied_is_logged : (b : Block) (fr : Frame) (l : Link) (tag : ℕ) (p : Page) → PageLink b fr l → LinkLaw fr l → CanRead tag p l → ((q : Page) → b.logged ≡ Some q → q ≡ p) × (fr.tag ≡ tag)
-copied_is_logged b fr l tag p c d a = ((c.copied p a.copied).is_logged, (d.remembers tag a.remembered).1)
+copied_is_logged _ _ _ tag p c d a = ((c.copied p a.copied).is_logged, (d.remembers tag a.remembered).1)
 
 -- a state where a view changes beside all that the pool and the lanes know of it
 with_view : (s : State) (h : Invariant s) (i : ℕ) (v w : View) → get_elem? s.pool.core.views i ≡ some v → SameHere v w → w.lanes ≡ v.lanes → w.log ≡ v.log → w.saw_down ≡ v.saw_down → HistoryLaw s.origin s.log s.flushed (set s.pool.core.views i w) → Invariant (record s { pool = aside s.pool i w })

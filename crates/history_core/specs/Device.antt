@@ -11,7 +11,7 @@ use Rattle.pin_core.specs.declared.view.View.{View}
 use Rattle.pin_core.specs.State.{Page, sum_of_met}
 use Rattle.pin_core.specs.Tallies.{flag_weight, some_weight}
 use Rattle.history_core.specs.Log.{record_size}
-use Rattle.history_core.specs.State.{Device, raised}
+use Rattle.history_core.specs.State.{Device, last_count, raised}
 use Rattle.grid.specs.Shape.{Shape, Part}
 
 pub data LogKind : Type 0 where
@@ -141,10 +141,15 @@ view_logged k v = record v {
   steps = v.steps + 1;
 }
 
--- What is known of the log: its bytes, and its end
+-- What is known of the log: its bytes, its end, and how many calls of its device had failed at the start
 pub record Written : Type 0 where
   pub bytes : List ℕ
   pub end : ℕ
+  pub faults : ℕ
+
+-- a count rose: it is greater now, or at its last value
+abbrev pub HasRisen : ℕ → ℕ → Type 0
+HasRisen before now = now ≢ last_count → before < now
 
 pub data LogTally : Type 0 where
   -- the views whose record is appended and not part of the log yet
@@ -180,6 +185,9 @@ pub record DeviceLaw (w : Written) (d : Device) (t : LogTally → ℕ) : Type 0 
   -- a log that is down has the end that it had at the failure
   pub down : (p : ℕ) → d.down ≡ Some p → p ≡ w.end
   pub left : d.down ≢ None → IsLeft w d
+  -- and its count of faults rose since the start
+  pub rose : d.down ≢ None → HasRisen w.faults d.faults
+  pub least : w.faults ≤ d.faults
   pub synced : d.synced ≤ length d.bytes
 
 -- What holds where a view appended a record that is not part of the log yet

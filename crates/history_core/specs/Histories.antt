@@ -1,5 +1,5 @@
 -- What every list of events keeps of reads, writes, lanes and the log, in the field's words.
-use Rattle.std.specs.Prelude.{◌≡◌, ◌≢◌, ℕ, ◌<◌, ◌≤◌, Bool, true, false, List, [], ◌∷◌, ◌++◌, length, count_by, if◌then◌else◌}
+use Rattle.std.specs.Prelude.{◌≡◌, ◌≢◌, ℕ, ◌+◌, ◌<◌, ◌≤◌, Bool, true, false, List, [], ◌∷◌, ◌++◌, length, Some, None, count_by, if◌then◌else◌}
 use mathlib.Core.Option.{some}
 use lib.ListN.{get_elem?}
 use Rattle.page_layout.specs.Fields.{lsn_of}
@@ -10,10 +10,12 @@ use Rattle.pin_core.specs.declared.view.View.{View}
 use Rattle.pin_core.specs.State.{Page, Config, CanOpen, no_tag, lane_hold}
 use Rattle.pin_core.specs.Invariant.{HasTag}
 use Rattle.page_core.specs.Histories.{NoneUnapplied}
-use Rattle.history_core.specs.Log.{Entry, log_end, end_of, cell, cut, IsLegal, place_of, writes_in, writes_at}
+use Rattle.history_core.specs.Log.{Entry, log_end, end_of, cell, cut, head_size, log_bytes, IsLegal, place_of, writes_in, writes_at}
 use Rattle.history_core.specs.State.{State, Store, CanStore, stored, failed, last_position, opening}
 use Rattle.history_core.specs.Homes.{IsFlushedCell}
 use Rattle.history_core.specs.Lanes.{LaneKind}
+use Rattle.history_core.specs.Device.{IsLeft, HasRisen}
+use Rattle.history_core.specs.Invariant.{written_of}
 use Rattle.history_core.specs.Steps.{Event, write, enter, read, Step, Run}
 use Rattle.grid.specs.Shape.{total}
 
@@ -113,6 +115,27 @@ pub record LogWords (s : State) : Type 0 where
   pub limit : s.end ≤ last_position
   pub flushed_from : s.log.base ≤ s.flushed
   pub flushed_to : s.flushed ≤ s.end
+
+-- each entry that ends at the flushed position or before it is durable in the log's device
+abbrev pub EntriesAreDurable : State → Type 0
+EntriesAreDurable s = (k : ℕ) (e : Entry) → get_elem? s.log.entries k ≡ some e → end_of e ≤ s.flushed → head_size + end_of e ≤ s.log.base + s.device.synced
+
+-- no view has appended a record that is not part of the log yet
+abbrev pub NoneAppended : State → Type 0
+NoneAppended s = (i : ℕ) (v : View) → get_elem? s.pool.core.views i ≡ some v → v.log.appended ≡ None
+
+-- What the log's device holds
+pub record DeviceHoldsLog (s : State) : Type 0 where
+  -- the log's bytes, while it isn't down and no record is appended that is not part of it yet
+  pub whole : s.device.down ≡ None → NoneAppended s → s.device.bytes ≡ log_bytes s.names s.log
+  -- once a call failed, these and behind them at most a record's bytes
+  pub left : s.device.down ≢ None → IsLeft (written_of s) s.device
+  -- the log is down at its end
+  pub down : (p : ℕ) → s.device.down ≡ Some p → p ≡ s.end
+  -- and only where a call of its device failed since the start
+  pub rose : s.device.down ≢ None → HasRisen s.log_faults s.device.faults
+  -- a log that a view saw down is down
+  pub saw : (i : ℕ) (v : View) → get_elem? s.pool.core.views i ≡ some v → v.saw_down ≡ true → s.device.down ≢ None
 
 -- whether the view holds the latch of the lane n
 abbrev pub holds_lane : ℕ → View → Bool

@@ -36,7 +36,7 @@ pub record HistoryLaw (origin : ℕ → Page) (log : Log) (flushed : ℕ) (views
 
 -- what is known of the log: its bytes, and its end
 abbrev pub written_of : State → Written
-written_of s = record { bytes = log_bytes s.names s.log; end = s.end }
+written_of s = record { bytes = log_bytes s.names s.log; end = s.end; faults = s.log_faults }
 
 -- The law of the buffer pool, and that of the lanes, the log and the calls
 pub record Invariant (s : State) : Type 0 where

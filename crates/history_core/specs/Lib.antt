@@ -5,4 +5,5 @@ pub mod Device
 pub mod Steps
 pub mod Homes
 pub mod Invariant
+pub mod Causes
 pub mod Histories

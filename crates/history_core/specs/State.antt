@@ -53,8 +53,9 @@ pub record State : Type 0 where
   pub log : Log
   -- how the log names a block, by its tag
   pub names : ℕ → List ℕ
-  -- the device that holds the log's bytes
+  -- the device that holds the log's bytes, and how many of its calls had failed at the start
   pub device : Device
+  pub log_faults : ℕ
   -- the word of the log's end, and the word up to which the log is flushed
   pub end : ℕ
   pub flushed : ℕ
@@ -103,6 +104,7 @@ opening c store p = record {
   log = record { base = c.base; entries = [] };
   names = store.names;
   device = fresh_device c.base store;
+  log_faults = store.log_faults;
   end = c.base;
   flushed = c.base;
 }

@@ -1,7 +1,8 @@
 use Rattle.pin_core.proofs.Schedules as pins
 use Rattle.history_core.proofs.Opening.{opens}
 use Rattle.history_core.proofs.Stepping.{run_keeps}
-use Rattle.history_core.proofs.Histories.{reached, legal, entries, reads_stand, writes_stand, log_first, lanes_hold, clean_stored, sound, hold_cells, words, held}
+use Rattle.history_core.proofs.Causes.{marks_open, marks_after}
+use Rattle.history_core.proofs.Histories.{reached, legal, entries, reads_stand, writes_stand, log_first, lanes_hold, clean_stored, sound, hold_cells, words, held, durable, device_holds}
 use Rattle.history_core.proofs.all_histories.Goals as goal
 
 pub returns-clause-kept : goal.returns-clause-kept
@@ -48,3 +49,18 @@ returns-clause-unique c = λ s r. pins.unique s.pool.core (reached s r).pool.cor
 
 pub returns-clause-remembers : goal.returns-clause-remembers
 returns-clause-remembers c = λ s r. pins.remembers s.pool.core (reached s r).pool.core
+
+pub returns-clause-durable : goal.returns-clause-durable
+returns-clause-durable c = λ s r. durable s (reached s r)
+
+pub returns-clause-device_holds : goal.returns-clause-device_holds
+returns-clause-device_holds c = λ s r. device_holds s (reached s r)
+
+pub returns-clause-marks_kept : goal.returns-clause-marks_kept
+returns-clause-marks_kept c = λ es s t h m r. marks_after r h m
+
+pub returns-clause-marks_open : goal.returns-clause-marks_open
+returns-clause-marks_open c = marks_open
+
+pub returns-clause-marked : goal.returns-clause-marked
+returns-clause-marked c = λ s r. marks_after r.run (opens r.config r.store r.page r.opens r.stores) (marks_open r.config r.store r.page)
