@@ -10,10 +10,10 @@ use Rattle.grid.proofs.Grids.{Keeps}
 abbrev pub Keeps_by : LogKind → Written → Device → Bool → LogHold → Type 0
 Keeps_by k w d saw h = Keeps log_shape log_part log_part w w saw (saw || sees_down k) d h (device_after k w.end d) (log_hold_after k h)
 
-raised_least : (before n : ℕ) → before ≤ n → before ≤ raised n
+pub raised_least : (before n : ℕ) → before ≤ n → before ≤ raised n
 raised_least before n h = grind (arith, h)
 
-raised_rises : (before n : ℕ) → before ≤ n → HasRisen before (raised n)
+pub raised_rises : (before n : ℕ) → before ≤ n → HasRisen before (raised n)
 raised_rises before n h = grind (arith, h)
 
 module _ (w : Written) (d : Device) (saw : Bool) (h : LogHold) where

@@ -8,5 +8,7 @@ pub mod Outer
 pub mod Blocks
 pub mod Stepping
 pub mod Causes
+pub mod Counts
+pub mod Counting
 pub mod Opening
 pub mod Histories

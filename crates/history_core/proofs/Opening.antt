@@ -7,7 +7,7 @@ use Rattle.pin_core.specs.State.{Config, CanOpen, Page, link, no_lane, lane_hold
 use Rattle.pin_core.proofs.Views.{link_new}
 use Rattle.page_core.proofs.Opening as pages
 use Rattle.history_core.specs.Log.{Log, cell, cut, write_weight, writes_in, records, head_bytes}
-use Rattle.history_core.specs.State.{Store, CanStore, Lane, fresh_lane, fresh_device, opening}
+use Rattle.history_core.specs.State.{Store, CanStore, fresh_lane, fresh_device, opening}
 use Rattle.history_core.specs.Lanes.{holders, LaneLink, lane_shape}
 use Rattle.history_core.specs.Homes.{Home, HomeFrame, HomeLink, home_of}
 use Rattle.history_core.specs.Invariant.{CallsLaw, written_of, Invariant}
@@ -40,7 +40,7 @@ fresh_frame : (h : Home) (p : Page) → HomeFrame h (empty_frame p)
 fresh_frame h p = record { clean = λ named. absurd (named refl) }
 
 pub opens : (c : Config) (store : Store) (page : Page) → CanOpen c → CanStore c store → Invariant (opening c store page)
-opens c store page can stores = let w : View = first_view c.base c.frames c.partitions c.lanes in let ln : Lane = fresh_lane store.origin in let log : Log = record { base = c.base; entries = [] } in let none : (k : LogTally) → total (λ (v : View). log_weigh k v.log) (w ∷ []) ≡ 0 = (λ k. one_total (λ (v : View). log_weigh k v.log) w (no_weight k)) in record {
+opens c store page can stores = let w : View = first_view c.base c.frames c.partitions c.lanes in let log : Log = record { base = c.base; entries = [] } in let none : (k : LogTally) → total (λ (v : View). log_weigh k v.log) (w ∷ []) ≡ 0 = (λ k. one_total (λ (v : View). log_weigh k v.log) w (no_weight k)) in record {
   pool = pages.opens c (λ tag. Some (store.origin tag)) page can;
   logged = λ j tag. Some (sym (cell_none store.origin) j tag);
   log = record { chained = λ k e t. absurd (some-ne-none e (sym t)); images = λ k e t. absurd (some-ne-none e (sym t)) };
@@ -62,7 +62,7 @@ opens c store page can stores = let w : View = first_view c.base c.frames c.part
   };
   lanes = record {
     columns = λ n below. record { taken = sym (one_total (λ (v : View). lane_shape.weigh holders (lane_hold v n)) w (ap (lane_shape.weigh holders) (lane_new c.frames c.partitions c.lanes 0 c.base n))) };
-    cells = λ i v n there below. subst (λ (x : View). LaneLink c.base ln (lane_hold x n)) (at_only w v i there).0 (subst (LaneLink c.base ln) (sym (lane_new c.frames c.partitions c.lanes 0 c.base n)) (no_lane_law c.base ln));
+    cells = λ i v n there below. subst (λ (x : View). LaneLink c.base (fresh_lane store n) (lane_hold x n)) (at_only w v i there).0 (subst (LaneLink c.base (fresh_lane store n)) (sym (lane_new c.frames c.partitions c.lanes 0 c.base n)) (no_lane_law c.base (fresh_lane store n)));
   };
   wide = λ i v there live. ap (λ (x : View). length x.lanes) (sym (at_only w v i there).0) ∙ length-replicate c.lanes no_lane;
   placed = stores.placed;

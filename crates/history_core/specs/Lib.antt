@@ -6,4 +6,5 @@ pub mod Steps
 pub mod Homes
 pub mod Invariant
 pub mod Causes
+pub mod Counts
 pub mod Histories

@@ -15,6 +15,9 @@ pub record Lane : Type 0 where
   -- how many reads, and how many writes and syncs, have failed
   pub read_faults : ℕ
   pub write_faults : ℕ
+  -- and how many had at the start
+  pub read_faults_at_start : ℕ
+  pub write_faults_at_start : ℕ
 
 -- the last value of a counter
 abbrev pub last_count : ℕ
@@ -74,6 +77,9 @@ pub record Store : Type 0 where
   pub origin : ℕ → Page
   -- how the log names a block
   pub names : ℕ → List ℕ
+  -- how many reads of each lane, and how many writes and syncs, have failed
+  pub read_faults : ℕ → ℕ
+  pub write_faults : ℕ → ℕ
   -- how many bytes of the log's head are durable, and how many calls of its device have failed
   pub head_synced : ℕ
   pub log_faults : ℕ
@@ -85,9 +91,17 @@ pub record CanStore (c : Config) (store : Store) : Type 0 where
   pub named : (tag : ℕ) → length (store.names tag) ≡ 20
   pub synced : store.head_synced ≤ length (head_bytes c.base)
 
--- a lane at the start: no write has failed
-abbrev pub fresh_lane : (ℕ → Page) → Lane
-fresh_lane origin = record { taken = false; stored = origin; failed = λ _. false; read_faults = 0; write_faults = 0 }
+-- the lane n at the start: no block's last write has failed
+abbrev pub fresh_lane : Store → ℕ → Lane
+fresh_lane store n = record {
+  taken = false;
+  stored = store.origin;
+  failed = λ _. false;
+  read_faults = store.read_faults n;
+  write_faults = store.write_faults n;
+  read_faults_at_start = store.read_faults n;
+  write_faults_at_start = store.write_faults n;
+}
 
 -- the log's device at the start: it has the head of a log that begins at `base`
 abbrev pub fresh_device : ℕ → Store → Device
@@ -99,7 +113,7 @@ opening c store p = record {
   pool = page.opening c (λ tag. Some (store.origin tag)) p;
   lanes = c.lanes;
   lane_of = store.lane_of;
-  lane = λ _. fresh_lane store.origin;
+  lane = fresh_lane store;
   origin = store.origin;
   log = record { base = c.base; entries = [] };
   names = store.names;

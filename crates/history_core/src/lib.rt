@@ -9,6 +9,7 @@ ghost use Rattle.pin_core.specs.Schedules.{TagsAreUnique, PinsRemember};
 ghost use Rattle.history_core.specs.State.{CanStore, State, Store, opening};
 ghost use Rattle.history_core.specs.Invariant.{Invariant};
 ghost use Rattle.history_core.specs.Causes.{MarksLaw};
+ghost use Rattle.history_core.specs.Counts.{CountsLaw};
 ghost use Rattle.history_core.specs.Steps.{Event, Run};
 ghost use Rattle.history_core.specs.Histories.{IsReached, CallsAreLegal, WritesAreEntries, ReadsStand, WritesStand, LogBeforeData, LanesHoldFlushedPages, CleanBlocksAreStored, FramesAreSound, FramesHoldCells, LogWords, EntriesAreDurable, DeviceHoldsLog, LanesAreHeld};
 
@@ -20,6 +21,8 @@ pub fn all_histories()
 
     ensures marks_kept { (es : List Event) (s : State) (t : State) → Invariant s → MarksLaw s → Run es s t → MarksLaw t }
     ensures marks_open { (config : Config) (store : Store) (page : Page) → MarksLaw (opening config store page) }
+    ensures counts_kept { (es : List Event) (s : State) (t : State) → Invariant s → CountsLaw s → Run es s t → CountsLaw t }
+    ensures counts_open { (config : Config) (store : Store) (page : Page) → CountsLaw (opening config store page) }
 
     // So in every state that events lead to, of what backends read and wrote:
     ensures legal { (s : State) → IsReached s → CallsAreLegal s }
@@ -37,6 +40,7 @@ pub fn all_histories()
     ensures held { (s : State) → IsReached s → LanesAreHeld s }
 
     ensures marked { (s : State) → IsReached s → MarksLaw s }
+    ensures counted { (s : State) → IsReached s → CountsLaw s }
 
     // and of the frames:
     ensures sound { (s : State) → IsReached s → FramesAreSound s }

@@ -1,6 +1,7 @@
 use Rattle.pin_core.proofs.Schedules as pins
 use Rattle.history_core.proofs.Opening.{opens}
 use Rattle.history_core.proofs.Stepping.{run_keeps}
+use Rattle.history_core.proofs.Counting.{counts_open, counts_after}
 use Rattle.history_core.proofs.Causes.{marks_open, marks_after}
 use Rattle.history_core.proofs.Histories.{reached, legal, entries, reads_stand, writes_stand, log_first, lanes_hold, clean_stored, sound, hold_cells, words, held, durable, device_holds}
 use Rattle.history_core.proofs.all_histories.Goals as goal
@@ -64,3 +65,12 @@ returns-clause-marks_open c = marks_open
 
 pub returns-clause-marked : goal.returns-clause-marked
 returns-clause-marked c = λ s r. marks_after r.run (opens r.config r.store r.page r.opens r.stores) (marks_open r.config r.store r.page)
+
+pub returns-clause-counts_kept : goal.returns-clause-counts_kept
+returns-clause-counts_kept c = λ es s t h m r. counts_after r h m
+
+pub returns-clause-counts_open : goal.returns-clause-counts_open
+returns-clause-counts_open c = counts_open
+
+pub returns-clause-counted : goal.returns-clause-counted
+returns-clause-counted c = λ s r. counts_after r.run (opens r.config r.store r.page r.opens r.stores) (counts_open r.config r.store r.page)
