@@ -7,7 +7,7 @@ use Rattle.pin_core.specs.State.{Frame}
 use Rattle.pin_core.specs.Kinds as pin_kinds
 use Rattle.page_core.specs.State.{Block}
 use Rattle.page_core.specs.Invariant.{page_part, pin_part}
-use Rattle.page_core.specs.Kinds.{Kind, load_content, mark_dirty, share, exclude, unshare, unexclude, take_copy, leave_copy, page_out, overwrite_logged, overwrite_read, page_back, note_read, note_write, make_entry, start_input, start_output, clear_just_dirtied, end_io, Allowed, frame_after, block_after, link_after}
+use Rattle.page_core.specs.Kinds.{Kind, load_content, mark_dirty, share, exclude, unshare, unexclude, take_copy, leave_copy, page_out, overwrite_logged, overwrite_read, page_back, note_read, begin_write, note_write, make_entry, start_input, start_output, clear_just_dirtied, end_io, Allowed, frame_after, block_after, link_after}
 use Rattle.page_core.proofs.KeepingPages as pages
 use Rattle.page_core.proofs.KeepingPages.{Keeps_by, Keeps_by_pins}
 use Rattle.page_core.proofs.KeepingPins as pins
@@ -27,6 +27,7 @@ pages_kept overwrite_logged b fr l a = pages.overwrite_logged_keeps b fr l a
 pages_kept (overwrite_read p) b fr l a = pages.overwrite_read_keeps b fr l p a
 pages_kept page_back b fr l a = pages.page_back_keeps b fr l a
 pages_kept (note_read p) b fr l a = pages.note_read_keeps b fr l p a
+pages_kept begin_write b fr l a = pages.begin_write_keeps b fr l a
 pages_kept (note_write done) b fr l a = pages.note_write_keeps b fr l done a
 pages_kept (make_entry p) b fr l a = pages.make_entry_keeps b fr l p a
 pages_kept start_input b fr l a = pages.start_input_keeps b fr l a
@@ -50,6 +51,7 @@ pins_kept overwrite_logged b fr l a = pins.overwrite_logged_keeps b fr l a
 pins_kept (overwrite_read p) b fr l a = pins.overwrite_read_keeps b fr l p a
 pins_kept page_back b fr l a = pins.page_back_keeps b fr l a
 pins_kept (note_read p) b fr l a = pins.note_read_keeps b fr l p a
+pins_kept begin_write b fr l a = pins.begin_write_keeps b fr l a
 pins_kept (note_write done) b fr l a = pins.note_write_keeps b fr l done a
 pins_kept (make_entry p) b fr l a = pins.make_entry_keeps b fr l p a
 pins_kept start_input b fr l a = pins.start_input_keeps b fr l a
@@ -74,6 +76,7 @@ tag_kept overwrite_logged b fr = refl
 tag_kept (overwrite_read p) b fr = refl
 tag_kept page_back b fr = refl
 tag_kept (note_read p) b fr = refl
+tag_kept begin_write b fr = refl
 tag_kept (note_write done) b fr = refl
 tag_kept (make_entry p) b fr = refl
 tag_kept start_input b fr = refl
@@ -96,6 +99,7 @@ role_kept overwrite_logged b fr l = refl
 role_kept (overwrite_read p) b fr l = refl
 role_kept page_back b fr l = refl
 role_kept (note_read p) b fr l = refl
+role_kept begin_write b fr l = refl
 role_kept (note_write done) b fr l = refl
 role_kept (make_entry p) b fr l = refl
 role_kept start_input b fr l = refl

@@ -117,6 +117,13 @@ module _ (b : Block) (fr : Frame) (l : Link) where
     others = λ t n m q c le d. grind (arith, q, c, d, a);
   }
 
+  pub begin_write_keeps : Allowed kinds.begin_write b fr l → Keeps_by page_part kinds.begin_write b fr l
+  begin_write_keeps a = record {
+    column = λ t t' q c sums le _. grind (arith, q, c, a, sums sharers, sums applied_locks, sums unapplied_locks, sums copies, sums works);
+    cell = λ t q le c. grind (arith, q, c, a);
+    others = λ t n m q c le d. grind (arith, q, c, d, a);
+  }
+
   pub note_write_keeps : (done : Bool) → Allowed (kinds.note_write done) b fr l → Keeps_by page_part (kinds.note_write done) b fr l
   note_write_keeps done a = record {
     column = λ t t' q c sums le _. grind (arith, q, c, a, sums sharers, sums applied_locks, sums unapplied_locks, sums copies, sums works, sums outs);

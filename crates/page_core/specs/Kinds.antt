@@ -44,7 +44,9 @@ pub data Kind : Type 0 where
   page_back : Kind
   -- the lane gave this page of the block (`smgrread`)
   note_read : Page → Kind
-  -- the lane took the frame's page, or failed to (`smgrwrite`)
+  -- a write of the frame's page to its lane begins: what was noted of an earlier one goes (`smgrwrite`)
+  begin_write : Kind
+  -- the lane took the frame's page, or failed to
   note_write : Bool → Kind
   -- the entry of a new page of the frame's block is in the log (`XLogInsert`)
   make_entry : Page → Kind
@@ -190,6 +192,7 @@ Allowed overwrite_logged b fr l = CanOverwriteLogged fr l
 Allowed (overwrite_read p) b fr l = CanOverwriteRead p fr l
 Allowed page_back b fr l = CanReturnPage fr l
 Allowed (note_read p) b fr l = CanNoteRead p b fr l
+Allowed begin_write b fr l = CanNoteWrite fr l
 Allowed (note_write done) b fr l = CanNoteWrite fr l
 Allowed (make_entry p) b fr l = CanMakeEntry p fr l
 Allowed start_input b fr l = CanStartInput fr l
@@ -256,6 +259,7 @@ link_after overwrite_logged b fr l = record l { overwritten = Some (image_over b
 link_after (overwrite_read p) b fr l = record l { overwritten = Some p }
 link_after page_back b fr l = record l { out = None; overwritten = None; copied = copied_after l.content l.unapplied fr.page l.copied; read_is_home = home_after l.io l.overwritten l.read_is_home }
 link_after (note_read p) b fr l = record l { read = Some p; read_is_home = false }
+link_after begin_write b fr l = record l { last_write = Unwritten }
 link_after (note_write done) b fr l = record l { last_write = write_noted done }
 link_after (make_entry p) b fr l = record l { unapplied = true; copied = None }
 link_after start_input b fr l = record l { header = None; io = Input; read = None; read_is_home = false }

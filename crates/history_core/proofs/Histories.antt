@@ -1,0 +1,164 @@
+-- What the law says in the field's words.
+use Rattle.std.proofs.Common.{◌≡◌, ◌≢◌, ◌⊎◌, ℕ, zero, suc, ◌+◌, ◌<◌, ◌≤◌, Bool, true, false, cond, List, [], ◌∷◌, ◌++◌, length, Some, None, inl, inr, sym, refl, ◌∙◌, subst, ⊎_elim, arith, lit<, ap}
+use Rattle.std.specs.Prelude.{if◌then◌else◌}
+use Rattle.std.proofs.lemmas.Option.{same_Some}
+use mathlib.Core.Logic.{dite}
+use mathlib.Core.Option.{some}
+use native.Mathlib.Decide.{ℕ_discrete}
+use lib.ListN.{get_elem?}
+use Rattle.page_layout.specs.Fields.{lsn_of}
+use Rattle.pin_core.specs.declared.view.LaneHold.{LaneHold}
+use Rattle.pin_core.specs.declared.view.Link.{Link}
+use Rattle.pin_core.specs.declared.view.View.{View}
+use Rattle.pin_core.specs.declared.view.Call.TheVariants.{Read}
+use Rattle.pin_core.specs.State.{Frame, Page, link, lane_hold}
+use Rattle.pin_core.specs.Tallies.{flag_weight, some_weight}
+use Rattle.pin_core.specs.declared.view.Seen.TheVariants as seen
+use Rattle.page_core.specs.Kinds.{make_entry}
+use Rattle.page_core.proofs.Histories as pages
+use Rattle.history_core.specs.Log.{record_size, cell}
+use Rattle.history_core.specs.State.{State, stored}
+use Rattle.history_core.specs.Lanes as lane_kinds
+use Rattle.history_core.specs.Lanes.{LaneKind, LaneAllowed}
+use Rattle.history_core.specs.Device.{appenders, log_weigh}
+use Rattle.history_core.specs.Homes.{IsUnframed}
+use Rattle.history_core.specs.Invariant.{Invariant}
+use Rattle.history_core.specs.Steps.{looked, paged, has_read, has_written, new_entry, Writes, writes, enters, reads}
+use Rattle.history_core.specs.Histories.{IsReached, CallsAreLegal, WritesAreEntries, ReadsStand, WritesStand, LogBeforeData, LanesHoldFlushedPages, IsStored, CleanBlocksAreStored, FramesAreSound, FramesHoldCells, LogWords, holds_lane, LanesAreHeld, EntriesAreDurable, DeviceHoldsLog}
+use Rattle.history_core.proofs.Logs.{end_longer}
+use Rattle.history_core.proofs.Opening.{opens}
+use Rattle.history_core.proofs.Stepping.{step_keeps, run_keeps}
+use Rattle.grid.proofs.Lists.{set_here}
+use Rattle.grid.proofs.Sums.{total-count, total-none}
+
+pub reached : (s : State) → IsReached s → Invariant s
+reached s r = run_keeps r.run (opens r.config r.store r.page r.opens r.stores)
+
+flag_count : (b : Bool) → flag_weight b ≡ (if b then 1 else 0)
+flag_count true = refl
+flag_count false = refl
+
+-- a frame below n has the tag, or none has
+framed : (n : ℕ) (frame : ℕ → Frame) (tag : ℕ) → ((f : ℕ) × (f < n) × ((frame f).tag ≡ tag)) ⊎ IsUnframed n frame tag
+framed zero frame tag = inr (λ f below. absurd (omega arith))
+framed (suc n) frame tag = ⊎_elim
+    (λ (x : (f : ℕ) × (f < n) × ((frame f).tag ≡ tag)). inl (x.0, (let b = x.1 in omega arith), x.2))
+    (λ (none : IsUnframed n frame tag). dite (ℕ_discrete (frame n).tag tag) (λ e. inl (n, omega arith, e)) (λ o. inr (λ f below. dite (ℕ_discrete f n) (λ e. subst (λ (z : ℕ). (frame z).tag ≢ tag) (sym e) o) (λ other. none f (omega arith)))))
+    (framed n frame tag)
+
+at_last : {A : Type 0} (l : List A) (a : A) → get_elem? (l ++ a ∷ []) (length l) ≡ some a
+at_last [] a = refl
+at_last (x ∷ l) a = at_last l a
+
+-- a write of a frame's page asks for the log to be flushed, and is made while the lane is out
+loaded : (k : LaneKind) (s : State) (n f : ℕ) (h : LaneHold) (l : Link) → Writes k s n f h l → lsn_of (s.pool.core.frame f).page ≤ h.flushed
+loaded (lane_kinds.write_block g tag p) s n f h l (at, x) = subst (λ (z : Page). lsn_of z ≤ h.flushed) (sym x.page) x.log_first
+loaded (lane_kinds.fail_write g tag p) s n f h l (at, x) = x.log_first
+loaded lane_kinds.take_lane s n f h l x = absurd x
+loaded lane_kinds.leave_lane s n f h l x = absurd x
+loaded (lane_kinds.lane_out taken) s n f h l x = absurd x
+loaded (lane_kinds.read_block tag) s n f h l x = absurd x
+loaded (lane_kinds.fail_read tag) s n f h l x = absurd x
+loaded lane_kinds.sync_lane s n f h l x = absurd x
+loaded lane_kinds.fail_sync s n f h l x = absurd x
+loaded (lane_kinds.lane_back noted) s n f h l x = absurd x
+
+is_out : (k : LaneKind) (s : State) (n f : ℕ) (h : LaneHold) (l : Link) → Writes k s n f h l → LaneAllowed k (s.lane n) h → h.out ≢ None
+is_out (lane_kinds.write_block g tag p) s n f h l x a = a.out
+is_out (lane_kinds.fail_write g tag p) s n f h l x a = a.out
+is_out lane_kinds.take_lane s n f h l x a = absurd x
+is_out lane_kinds.leave_lane s n f h l x a = absurd x
+is_out (lane_kinds.lane_out taken) s n f h l x a = absurd x
+is_out (lane_kinds.read_block tag) s n f h l x a = absurd x
+is_out (lane_kinds.fail_read tag) s n f h l x a = absurd x
+is_out lane_kinds.sync_lane s n f h l x a = absurd x
+is_out lane_kinds.fail_sync s n f h l x a = absurd x
+is_out (lane_kinds.lane_back noted) s n f h l x a = absurd x
+
+module _ (s : State) (h : Invariant s) where
+  pub legal : CallsAreLegal s
+  legal i k v c there at = (h.history.calls i v there).legal k c at
+
+  pub entries : WritesAreEntries s
+  entries = record { counted = h.history.counted; once = h.history.once }
+
+  pub reads_stand : ReadsStand s
+  reads_stand _ _ t (reads i f tag p v there live inside a) = let w : View = looked (seen.LogEnd s.end) (has_read s.end tag p v) in let here = set_here s.pool.core.views i v w there in let k = step_keeps (reads i f tag p v there live inside a) h in
+      let c = h.history.calls i v there in let e = h.ends in (
+        v,
+        w,
+        there,
+        here,
+        record {
+          tag = tag;
+          page = p;
+          place = s.end;
+          added = refl;
+          front = refl;
+          is_cell = ((k.history.calls i w here).legal (length v.calls) (Read tag p s.end) (at_last v.calls (Read tag p s.end))).reads;
+          later = λ j x at. let y = c.fronted j x at in let z = c.within in omega arith;
+          above = let z = c.within in omega arith;
+        },
+      )
+
+  pub writes_stand : WritesStand s
+  writes_stand _ _ _ t (enters i f p v there live inside a) = let tag = (s.pool.core.frame f).tag in let w : View = has_written (s.end + record_size) tag p (paged (make_entry p) s.pool f v) in let here = set_here s.pool.core.views i v w there in
+      let c = h.history.calls i v there in let e = h.ends in (
+        v,
+        w,
+        there,
+        here,
+        record {
+          tag = tag;
+          page = p;
+          place = s.end + record_size;
+          added = refl;
+          front = refl;
+          position = a.ends;
+          end = omega (arith, end_longer s.log (new_entry s v.number tag p) h.log);
+          above = let z = c.within in omega arith;
+        },
+      )
+
+  pub log_first : LogBeforeData s
+  log_first _ _ _ _ t (writes i n f k v there live low inside back x) = (v, there, record { loaded = loaded k s n f (lane_hold v n) (link v f) x; flushed = (h.lanes.cells i v n there low).hold.flushed_by (is_out k s n f (lane_hold v n) (link v f) x back) })
+
+  pub lanes_hold : LanesHoldFlushedPages s
+  lanes_hold = h.flushed_cells
+
+  stored_is : (tag : ℕ) → s.pool.logged tag ≡ Some (stored s tag) → stored s tag ≡ cell s.origin s.log.entries tag
+  stored_is tag e = same_Some (stored s tag) (cell s.origin s.log.entries tag) (sym e ∙ (λ j. h.logged j tag))
+
+  pub clean_stored : CleanBlocksAreStored s
+  clean_stored tag named none = ⊎_elim
+      (λ (x : (f : ℕ) × (f < s.pool.core.frames) × ((s.pool.core.frame f).tag ≡ tag)). let c = (h.homes.columns x.0 x.1).clean (λ e. named (sym x.2 ∙ e)) (none x.0 x.1 x.2) in subst (IsStored s) x.2 (record { done = c.done; stored_is = stored_is (s.pool.core.frame x.0).tag c.stored }))
+      (λ (free : IsUnframed s.pool.core.frames s.pool.core.frame tag). let c = h.unframed tag named free in record { done = c.done; stored_is = stored_is tag c.stored })
+      (framed s.pool.core.frames s.pool.core.frame tag)
+
+  pub sound : FramesAreSound s
+  sound = pages.sound s.pool h.pool
+
+  pub hold_cells : FramesHoldCells s
+  hold_cells f below tag valid none = pages.frames_hold s.pool h.pool f (cell s.origin s.log.entries (s.pool.core.frame f).tag) below tag valid none (λ j. h.logged j (s.pool.core.frame f).tag)
+
+  pub words : LogWords s
+  words = record { ends = h.ends; limit = h.limit; flushed_from = h.flushed_from; flushed_to = h.flushed_to }
+
+  pub held : LanesAreHeld s
+  held n below = sym (total-count (λ (v : View). flag_weight (lane_hold v n).held) (holds_lane n) (λ v. flag_is (lane_hold v n).held) s.pool.core.views) ∙ sym (h.lanes.columns n below).taken ∙ flag_count (s.lane n).taken
+    where
+      flag_is : (b : Bool) → flag_weight b ≡ cond b 1 0
+      flag_is true = refl
+      flag_is false = refl
+
+  pub durable : EntriesAreDurable s
+  durable k e there low = let starts = h.log.chained k e there in let x = h.durable (omega arith) in omega arith
+
+  pub device_holds : DeviceHoldsLog s
+  device_holds = let d = h.device.columns 0 (lit< tt) in record {
+    whole = λ up none. d.bytes (total-none (λ (v : View). log_weigh appenders v.log) s.pool.core.views (λ i v there. ap some_weight (none i v there))) up;
+    left = d.left;
+    down = d.down;
+    rose = d.rose;
+    saw = λ i v there. (h.device.cells i v 0 there (lit< tt)).saw;
+  }

@@ -1,0 +1,126 @@
+-- Each kind of step at a lane keeps the law of the lanes.
+use Rattle.std.proofs.Common.{◌≡◌, ◌≢◌, ℕ, ◌+◌, ◌≤◌, Bool, true, false, None, ap, arith}
+use Rattle.pin_core.specs.Tallies.{flag_weight}
+use Rattle.pin_core.specs.declared.view.LaneChange.{LaneChange}
+use Rattle.pin_core.specs.declared.view.LaneChange.TheVariants.{Untouched}
+use Rattle.pin_core.specs.declared.view.TakenLane.{TakenLane}
+use Rattle.pin_core.specs.declared.view.LaneHold.{LaneHold}
+use Rattle.pin_core.specs.State.{Page, no_lane}
+use Rattle.history_core.specs.State.{Lane}
+use Rattle.history_core.specs.Lanes.{LaneKind, take_lane, leave_lane, lane_out, read_block, fail_read, write_block, fail_write, sync_lane, fail_sync, lane_back, LaneAllowed, lane_after, lane_hold_after, is_failed_read, is_failed_write, LaneTally, holders, LaneColumn, HoldLaw, LaneLink, lane_shape, lane_part}
+use Rattle.grid.proofs.Lists.{put_here}
+use Rattle.grid.proofs.Grids.{Keeps}
+
+-- where no call is noted none failed
+quiet : {change : LaneChange} → change ≡ Untouched → (is_failed_read change ≡ false) × (is_failed_write change ≡ false)
+quiet e = (ap is_failed_read e, ap is_failed_write e)
+
+-- the kind k keeps the law
+abbrev pub Keeps_by : LaneKind → ℕ → ℕ → Lane → LaneHold → Type 0
+Keeps_by k loaded flushed ln h = Keeps lane_shape lane_part lane_part flushed flushed tt tt ln h (lane_after k ln) (lane_hold_after k loaded ln h)
+
+-- only one view has the lane out
+alone : (flushed : ℕ) (ln : Lane) (h m : LaneHold) (t : LaneTally → ℕ) → LaneColumn ln t → HoldLaw flushed ln h → HoldLaw flushed ln m → flag_weight h.held + flag_weight m.held ≤ t holders → h.out ≢ None → m.out ≡ None
+alone flushed ln h m t q c d le o = grind (arith, q, c, d, le, o)
+
+module _ (loaded flushed : ℕ) (ln : Lane) (h : LaneHold) (low : loaded ≤ flushed) where
+  -- a view that hasn't the lane out is as before, whatever the lane is
+  resting : (ln' : Lane) (m : LaneHold) → HoldLaw flushed ln m → m.out ≡ None → LaneLink flushed ln' m
+  resting ln' m d e = record { hold = grind (arith, d, e); counts = λ taken o. absurd (cc) }
+
+  take_lane_keeps : LaneAllowed take_lane ln h → Keeps_by take_lane loaded flushed ln h
+  take_lane_keeps a = record {
+    column = λ t t' q c sums le _. grind (arith, q, c, a, sums holders);
+    cell = λ t q le c. record { hold = grind (arith, q, c.hold, a, le holders); counts = λ taken e. let x = c.counts taken e in grind (arith, x) };
+    others = λ t n m q c le d. record { hold = grind (arith, d.hold); counts = λ taken e. let x = d.counts taken e in grind (arith, x) };
+  }
+
+  leave_lane_keeps : LaneAllowed leave_lane ln h → Keeps_by leave_lane loaded flushed ln h
+  leave_lane_keeps a = record {
+    column = λ t t' q c sums le _. grind (arith, q, c, a, sums holders);
+    cell = λ t q le c. record { hold = grind (arith, q, c.hold, a); counts = λ taken e. let x = c.counts taken e in grind (arith, x) };
+    others = λ t n m q c le d. record { hold = grind (arith, d.hold); counts = λ taken e. let x = d.counts taken e in grind (arith, x) };
+  }
+
+  lane_out_keeps : (taken : TakenLane) → LaneAllowed (lane_out taken) ln h → Keeps_by (lane_out taken) loaded flushed ln h
+  lane_out_keeps taken a = record {
+    column = λ t t' q c sums le _. grind (arith, q, c, a, sums holders);
+    cell = λ t q le c. record { hold = grind (arith, q, c.hold, a, low); counts = λ taken' e. grind (arith, e, q, c.hold, a) };
+    others = λ t n m q c le d. d;
+  }
+
+  read_block_keeps : (tag : ℕ) → LaneAllowed (read_block tag) ln h → Keeps_by (read_block tag) loaded flushed ln h
+  read_block_keeps tag a = record {
+    column = λ t t' q c sums le _. grind (arith, q, c, a, sums holders);
+    cell = λ t q le c. record { hold = grind (arith, q, c.hold, a, quiet a.once); counts = λ taken e. let x = c.counts taken e in grind (arith, x, quiet a.once) };
+    others = λ t n m q c le d. d;
+  }
+
+  fail_read_keeps : (tag : ℕ) → LaneAllowed (fail_read tag) ln h → Keeps_by (fail_read tag) loaded flushed ln h
+  fail_read_keeps tag a = record {
+    column = λ t t' q c sums le _. grind (arith, q, c, a, sums holders);
+    cell = λ t q le c. record { hold = grind (arith, q, c.hold, a, quiet a.once); counts = λ taken e. let x = c.counts taken e in grind (arith, x, quiet a.once) };
+    others = λ t n m q c le d. resting (lane_after (fail_read tag) ln) m d.hold (alone flushed ln h m t q c.hold d.hold (le holders) a.out);
+  }
+
+  write_block_keeps : (f tag : ℕ) (p : Page) → LaneAllowed (write_block f tag p) ln h → Keeps_by (write_block f tag p) loaded flushed ln h
+  write_block_keeps f tag p a = record {
+    column = λ t t' q c sums le _. grind (arith, q, c, a, sums holders);
+    cell = λ t q le c. record { hold = grind (arith, q, c.hold, a, quiet a.once, put_here ln.stored tag p, put_here ln.failed tag false); counts = λ taken e. let x = c.counts taken e in grind (arith, x, quiet a.once) };
+    others = λ t n m q c le d. resting (lane_after (write_block f tag p) ln) m d.hold (alone flushed ln h m t q c.hold d.hold (le holders) a.out);
+  }
+
+  fail_write_keeps : (f tag : ℕ) (p : Page) → LaneAllowed (fail_write f tag p) ln h → Keeps_by (fail_write f tag p) loaded flushed ln h
+  fail_write_keeps f tag p a = record {
+    column = λ t t' q c sums le _. grind (arith, q, c, a, sums holders);
+    cell = λ t q le c. record { hold = grind (arith, q, c.hold, a, quiet a.once, put_here ln.stored tag p, put_here ln.failed tag true); counts = λ taken e. let x = c.counts taken e in grind (arith, x, quiet a.once) };
+    others = λ t n m q c le d. resting (lane_after (fail_write f tag p) ln) m d.hold (alone flushed ln h m t q c.hold d.hold (le holders) a.out);
+  }
+
+  sync_lane_keeps : LaneAllowed sync_lane ln h → Keeps_by sync_lane loaded flushed ln h
+  sync_lane_keeps a = record {
+    column = λ t t' q c sums le _. grind (arith, q, c, a, sums holders);
+    cell = λ t q le c. record { hold = grind (arith, q, c.hold, a, quiet a.once); counts = λ taken e. let x = c.counts taken e in grind (arith, x, quiet a.once) };
+    others = λ t n m q c le d. d;
+  }
+
+  fail_sync_keeps : LaneAllowed fail_sync ln h → Keeps_by fail_sync loaded flushed ln h
+  fail_sync_keeps a = record {
+    column = λ t t' q c sums le _. grind (arith, q, c, a, sums holders);
+    cell = λ t q le c. record { hold = grind (arith, q, c.hold, a, quiet a.once); counts = λ taken e. let x = c.counts taken e in grind (arith, x, quiet a.once) };
+    others = λ t n m q c le d. resting (lane_after (fail_sync) ln) m d.hold (alone flushed ln h m t q c.hold d.hold (le holders) a.out);
+  }
+
+  lane_back_keeps : (noted : Bool) → LaneAllowed (lane_back noted) ln h → Keeps_by (lane_back noted) loaded flushed ln h
+  lane_back_keeps noted a = record {
+    column = λ t t' q c sums le _. grind (arith, q, c, a, sums holders);
+    cell = λ t q le c. record { hold = grind (arith, q, c.hold, a); counts = λ taken e. absurd (cc) };
+    others = λ t n m q c le d. d;
+  }
+
+  pub lane_keeps : (k : LaneKind) → LaneAllowed k ln h → Keeps_by k loaded flushed ln h
+  lane_keeps take_lane a = take_lane_keeps a
+  lane_keeps leave_lane a = leave_lane_keeps a
+  lane_keeps (lane_out taken) a = lane_out_keeps taken a
+  lane_keeps (read_block tag) a = read_block_keeps tag a
+  lane_keeps (fail_read tag) a = fail_read_keeps tag a
+  lane_keeps (write_block f tag p) a = write_block_keeps f tag p a
+  lane_keeps (fail_write f tag p) a = fail_write_keeps f tag p a
+  lane_keeps sync_lane a = sync_lane_keeps a
+  lane_keeps fail_sync a = fail_sync_keeps a
+  lane_keeps (lane_back noted) a = lane_back_keeps noted a
+
+-- the law where the log is flushed further
+pub lane_later : (flushed flushed' : ℕ) (ln : Lane) (h : LaneHold) → flushed ≤ flushed' → LaneLink flushed ln h → LaneLink flushed' ln h
+lane_later flushed flushed' ln h le c = record { hold = (let x = c.hold in grind (arith, le, x)); counts = c.counts }
+
+pub no_lane_law : (flushed : ℕ) (ln : Lane) → LaneLink flushed ln no_lane
+no_lane_law flushed ln = record { hold = grind arith; counts = λ taken e. absurd (cc) }
+
+-- a view that doesn't hold the latch may be forgotten
+pub lane_forgets : (flushed : ℕ) (ln : Lane) (h : LaneHold) → h.held ≡ false → Keeps lane_shape lane_part lane_part flushed flushed tt tt ln h ln no_lane
+lane_forgets flushed ln h free = record {
+  column = λ t t' q c sums le _. grind (arith, q, c, free, sums holders);
+  cell = λ t q le c. no_lane_law flushed ln;
+  others = λ t n m q c le d. grind (arith, d);
+}

@@ -1,0 +1,14 @@
+pub mod Lanes
+pub mod Device
+pub mod Logs
+pub mod Calls
+pub mod Homes
+pub mod Pools
+pub mod Outer
+pub mod Blocks
+pub mod Stepping
+pub mod Causes
+pub mod Counts
+pub mod Counting
+pub mod Opening
+pub mod Histories

@@ -1,0 +1,60 @@
+-- A view changes beside what the frames and maps know of it.
+use Rattle.std.proofs.Common.{◌≡◌, ℕ, ◌<◌, false, List, set, set-set, refl, ap, subst}
+use mathlib.Core.Option.{some}
+use lib.ListN.{get_elem?}
+use Rattle.pin_core.specs.declared.view.Link.{Link}
+use Rattle.pin_core.specs.declared.view.PartitionHold.{PartitionHold}
+use Rattle.pin_core.specs.declared.view.View.{View}
+use Rattle.pin_core.specs.State.{Frame, link, hold}
+use Rattle.pin_core.specs.State as pins
+use Rattle.pin_core.specs.Tallies.{frame_shape}
+use Rattle.pin_core.specs.Turns.{turn_shape, turn_part}
+use Rattle.pin_core.specs.Invariant as pin_law
+use Rattle.pin_core.proofs.Views.{SameBackend, views_set, accounted_set}
+use Rattle.page_core.specs.State as page
+use Rattle.page_core.specs.State.{block_of}
+use Rattle.page_core.specs.Tallies.{page_shape}
+use Rattle.page_core.specs.Invariant as page_law
+use Rattle.page_core.specs.Kinds.{Kind, Allowed, frame_after}
+use Rattle.page_core.specs.Steps.{state_after, logged_after}
+use Rattle.page_core.proofs.Stepping.{kind_step_keeps}
+use Rattle.history_core.specs.Steps.{aside, pool_after, paged}
+use Rattle.grid.specs.Shape.{put}
+use Rattle.grid.proofs.Lists.{set_here}
+use Rattle.grid.proofs.Grids.{steady}
+
+-- The view w has the pins, rights and latches of v
+pub record SameHere (v w : View) : Type 0 where
+  pub backend : SameBackend v w
+  pub joined : w.joined ≡ v.joined
+  pub links : w.links ≡ v.links
+  pub partitions : w.partitions ≡ v.partitions
+
+link_same : (v w : View) → w.links ≡ v.links → (f : ℕ) → link w f ≡ link v f
+link_same v w e f = ap (λ (x : List Link). link (record w { links = x }) f) e
+
+hold_same : (v w : View) → w.partitions ≡ v.partitions → (p : ℕ) → hold w p ≡ hold v p
+hold_same v w e p = ap (λ (x : List PartitionHold). hold (record w { partitions = x }) p) e
+
+core_aside : (s : pins.State) (i : ℕ) (v w : View) → pin_law.Invariant s → get_elem? s.views i ≡ some v → SameHere v w → pin_law.Invariant (record s { views = set s.views i w })
+core_aside s i v w h there same = record {
+  grid = steady frame_shape pin_law.pin_part s.frames s.frame (λ _. tt) s.views h.grid i v w there refl (link_same v w same.links);
+  turns = steady turn_shape turn_part s.partitions s.partition (λ _. tt) s.views h.turns i v w there refl (hold_same v w same.partitions);
+  apart = h.apart;
+  maps = h.maps;
+  placed = h.placed;
+  views = views_set s.frames s.partitions s.backends s.views h.views i v w there same.backend;
+  accounted = accounted_set s.views i v w h.accounted there same.backend.emptied same.joined;
+}
+
+pub pool_aside : (s : page.State) (i : ℕ) (v w : View) → page_law.Invariant s → get_elem? s.core.views i ≡ some v → SameHere v w → page_law.Invariant (aside s i w)
+pool_aside s i v w h there same = record {
+  core = core_aside s.core i v w h.core there same;
+  pages = steady page_shape page_law.page_part s.core.frames s.core.frame (block_of s.logged) s.core.views h.pages i v w there refl (link_same v w same.links);
+}
+
+-- a step of a kind of `page_core`, with more of the view changed
+pub pool_touched : (s : page.State) (h : page_law.Invariant s) (i f : ℕ) (k : Kind) (v w : View) → get_elem? s.core.views i ≡ some v → v.emptied ≡ false → f < s.core.frames → Allowed k (block_of s.logged (s.core.frame f).tag) (s.core.frame f) (link v f) → SameHere (paged k s f v) w → page_law.Invariant (pool_after k s i f w)
+pool_touched s h i f k v w there live inside a same = let fr = s.core.frame f in let b = block_of s.logged fr.tag in
+    subst (λ (x : List View). page_law.Invariant (record { core = record s.core { frame = put s.core.frame f (frame_after k b fr); views = x }; logged = logged_after k s.logged fr.tag })) (set-set s.core.views i (paged k s f v) w)
+    (pool_aside (state_after k s i f v) i (paged k s f v) w (kind_step_keeps s h i f v there live inside k a) (set_here s.core.views i v (paged k s f v) there) same)

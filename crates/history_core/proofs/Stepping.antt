@@ -1,0 +1,544 @@
+-- Each step keeps the law, and so does each list of steps.
+use Rattle.std.proofs.Common.{◌≡◌, ◌≢◌, ℕ, ◌+◌, ◌<◌, ◌≤◌, Bool, true, false, List, [], ◌∷◌, ◌++◌, length, set, Option, Some, None, length-set, get_or-set_same, get_or-set_other, sym, refl, ap, ◌∙◌, subst, arith, lit<}
+use Rattle.std.proofs.lemmas.Option.{same_Some}
+use Rattle.std.specs.Prelude.{max}
+use mathlib.Core.Logic.{dite}
+use mathlib.Core.Option.{some}
+use native.Mathlib.Decide.{ℕ_discrete}
+use lib.ListN.{get_elem?}
+use Rattle.page_layout.specs.Fields.{lsn_of}
+use Rattle.pin_core.specs.declared.view.Content.TheVariants.{Unlocked, Exclusive}
+use Rattle.pin_core.specs.declared.view.Io.TheVariants.{Input}
+use Rattle.pin_core.specs.declared.view.LaneHold.{LaneHold}
+use Rattle.pin_core.specs.declared.view.Link.{Link}
+use Rattle.pin_core.specs.declared.view.View.{View}
+use Rattle.pin_core.specs.declared.view.Call.TheVariants.{Read}
+use Rattle.pin_core.specs.declared.view.Seen.TheVariants as seen
+use Rattle.pin_core.specs.State.{Frame, Page, no_tag, idle, link, hold, lane_hold, no_lane, new_view, emptied_view, joined_view}
+use Rattle.pin_core.specs.State as pins
+use Rattle.pin_core.specs.Tallies as pin_tallies
+use Rattle.pin_core.specs.Tallies.{frame_shape}
+use Rattle.pin_core.specs.Invariant.{FrameLaw, LinkLaw, HasTag}
+use Rattle.pin_core.specs.Kinds as pin_kinds
+use Rattle.pin_core.specs.Turns.{view_turned}
+use Rattle.pin_core.specs.Steps as pin_steps
+use Rattle.pin_core.proofs.Views.{link_new}
+use Rattle.pin_core.proofs.Stepping as pin_stepping
+use Rattle.page_core.specs.State as page
+use Rattle.page_core.specs.State.{Block, block_of}
+use Rattle.page_core.specs.Tallies.{sharers, weigh, page_shape}
+use Rattle.page_core.specs.Invariant as page_law
+use Rattle.page_core.specs.Invariant.{PageFrame, PageLink}
+use Rattle.page_core.specs.Kinds as kinds
+use Rattle.page_core.specs.Kinds.{Kind, note_read, begin_write, note_write, make_entry, Allowed, frame_after, block_after, link_after, view_after}
+use Rattle.page_core.specs.Steps as page_steps
+use Rattle.page_core.specs.Steps.{logged_after}
+use Rattle.page_core.proofs.Cases.{tag_kept}
+use Rattle.page_core.proofs.Stepping as page_stepping
+use Rattle.page_core.proofs.Stepping.{new_none}
+use Rattle.history_core.specs.Log.{Entry, IsImage, record_size, cell, log_bytes, record_bytes}
+use Rattle.history_core.specs.State.{Lane, Device, State, stored, failed}
+use Rattle.history_core.specs.Lanes as lane_kinds
+use Rattle.history_core.specs.Lanes.{LaneKind, LaneAllowed, lane_after, lane_hold_after, LaneLink, lane_shape, lane_part}
+use Rattle.history_core.specs.Homes.{Home, home_of, IsClean, HomeLink, home_shape, home_part, IsFlushedCell}
+use Rattle.history_core.specs.Invariant.{HistoryLaw, written_of, Invariant}
+use Rattle.history_core.specs.Steps.{Event, IsPlain, PoolAllowed, stepped, looked, aside, pool_after, paged, laned, LaneAlone, CanWrite, Writes, Notes, new_entry, CanEnter, CanRead, has_read, has_written, Step, pools, lanes, writes, notes, enters, reads, loads_end, loads_flushed, raises, logs, Run, rests, goes}
+use Rattle.history_core.specs.Device.{LogKind, take_log, leave_log, log_out, append, fail_append, sync_log, fail_sync, log_back, see_down, LogAllowed, device_after, view_logged, log_weigh, log_shape, log_part}
+use Rattle.history_core.proofs.Device.{log_keeps, enter_keeps, synced_all}
+use Rattle.history_core.proofs.Calls.{SameCalls, history_same, history_read, history_written, history_loaded, history_raised}
+use Rattle.history_core.proofs.Logs.{bytes_longer, bytes_length, cell_longer, cut_longer, cell_at_position, end_longer, log_longer}
+use Rattle.history_core.proofs.Lanes.{lane_later}
+use Rattle.history_core.proofs.Homes as homes
+use Rattle.history_core.proofs.Homes.{known, home_after, Keeps_by}
+use Rattle.history_core.proofs.Pools.{SameHere, pool_aside, pool_touched}
+use Rattle.history_core.proofs.Outer.{Outer, outer_same, outer_grows, outer_joins, lanes_touched, wide_set}
+use Rattle.history_core.proofs.Blocks.{plain_keeps, plain_block, IsFresh, pins_keep, tag_goes, lacked, written_is_logged, Blocks, no_link, home_forgets, unframed_put, still_unframed}
+use Rattle.grid.specs.Shape.{Grid, put, tallies}
+use Rattle.grid.proofs.Lists.{put_here, put_at, put_else, put_same, set_else}
+use Rattle.grid.proofs.Sums.{term_le}
+use Rattle.grid.proofs.Grids.{Keeps, Relinks, both_grids, touch, sweep, steady, reblock, grows}
+
+-- the laws of a state, by what they speak of
+pub outer_of : (s : State) → Invariant s → Outer s.origin s.log s.lanes s.lane s.flushed (written_of s) s.device s.pool.core.views
+outer_of s h = record { device = h.device; history = h.history; lanes = h.lanes; wide = h.wide }
+
+pub blocks_of : (s : State) → Invariant s → Blocks s.pool.core.frames s.pool.core.frame s.pool.core.views s.origin s.log.entries s.flushed (home_of s)
+blocks_of s h = record { homes = h.homes; unframed = h.unframed; flushed_cells = h.flushed_cells }
+
+knows : (s : State) → Invariant s → Grid home_shape known s.pool.core.frames s.pool.core.frame (home_of s) s.pool.core.views
+knows s h = let g = page_stepping.knows s.pool h.pool in both_grids (record { columns = g.columns; cells = g.cells }) h.homes
+
+-- what is known of each block with these lanes
+abbrev homes_with : State → (ℕ → Lane) → ℕ → Home
+homes_with s lane tag = record { block = block_of s.pool.logged tag; stored = (lane (s.lane_of tag)).stored tag; failed = (lane (s.lane_of tag)).failed tag }
+
+-- a state with another buffer pool and other lanes, where the log stays
+assemble : (s : State) → Invariant s → (pool' : page.State) (lane' : ℕ → Lane) → page_law.Invariant pool' → pool'.logged ≡ s.pool.logged → pool'.core.base ≡ s.pool.core.base → Outer s.origin s.log s.lanes lane' s.flushed (written_of s) s.device pool'.core.views
+    → Blocks pool'.core.frames pool'.core.frame pool'.core.views s.origin s.log.entries s.flushed (homes_with s lane') → Invariant (record s { pool = pool'; lane = lane' })
+assemble s h pool' lane' law same kept outer blocks = let is : homes_with s lane' ≡ home_of (record s { pool = pool'; lane = lane' }) = λ j tag. record { block = block_of (sym same j) tag; stored = (lane' (s.lane_of tag)).stored tag; failed = (lane' (s.lane_of tag)).failed tag } in
+    let moved = subst (λ (x : ℕ → Home). Blocks pool'.core.frames pool'.core.frame pool'.core.views s.origin s.log.entries s.flushed x) is blocks in record {
+      pool = law;
+      logged = same ∙ h.logged;
+      log = h.log;
+      based = kept ∙ h.based;
+      ends = h.ends;
+      limit = h.limit;
+      flushed_from = h.flushed_from;
+      flushed_to = h.flushed_to;
+      named = h.named;
+      durable = h.durable;
+      device = outer.device;
+      history = outer.history;
+      lanes = outer.lanes;
+      wide = outer.wide;
+      placed = h.placed;
+      homes = moved.homes;
+      unframed = moved.unframed;
+      flushed_cells = moved.flushed_cells;
+    }
+
+-- a lane that holds what it held
+pub lane_put_same : (lane : ℕ → Lane) (q : ℕ) (ln : Lane) → ln.stored ≡ (lane q).stored → ln.failed ≡ (lane q).failed → (x tag : ℕ) → ((put lane q ln x).stored tag ≡ (lane x).stored tag) × ((put lane q ln x).failed tag ≡ (lane x).failed tag)
+lane_put_same lane q ln stored failed x tag = dite (ℕ_discrete x q)
+    (λ e. (ap (λ (y : Lane). y.stored tag) (put_at lane q ln x e) ∙ ap (λ (g : ℕ → Page). g tag) stored ∙ ap (λ (z : ℕ). (lane z).stored tag) (sym e), ap (λ (y : Lane). y.failed tag) (put_at lane q ln x e) ∙ ap (λ (g : ℕ → Bool). g tag) failed ∙ ap (λ (z : ℕ). (lane z).failed tag) (sym e)))
+    (λ o. (ap (λ (y : Lane). y.stored tag) (put_else lane q ln x o), ap (λ (y : Lane). y.failed tag) (put_else lane q ln x o)))
+
+homes_same : (s : State) (q : ℕ) (ln : Lane) → ln.stored ≡ (s.lane q).stored → ln.failed ≡ (s.lane q).failed → home_of s ≡ homes_with s (put s.lane q ln)
+homes_same s q ln stored failed = λ j tag. record { block = block_of s.pool.logged tag; stored = sym (lane_put_same s.lane q ln stored failed (s.lane_of tag) tag).0 j; failed = sym (lane_put_same s.lane q ln stored failed (s.lane_of tag) tag).1 j }
+
+-- a kind at a lane that is no write leaves what the lane holds
+pub no_write_holds : (k : LaneKind) (s : State) (q : ℕ) (x : LaneHold) (ln : Lane) → LaneAlone k s q x → ((lane_after k ln).stored ≡ ln.stored) × ((lane_after k ln).failed ≡ ln.failed)
+no_write_holds (lane_kinds.write_block f tag p) s q x ln a = absurd a
+no_write_holds (lane_kinds.fail_write f tag p) s q x ln a = absurd a
+no_write_holds _ s q x ln a = (refl, refl)
+
+module _ (s : State) (h : Invariant s) where
+  abbrev views : List View
+  views = s.pool.core.views
+
+  abbrev n : ℕ
+  n = s.pool.core.frames
+
+  abbrev frame : ℕ → Frame
+  frame = s.pool.core.frame
+
+  wide_links : (i f : ℕ) (v : View) → get_elem? views i ≡ some v → v.emptied ≡ false → f < n → f < length v.links
+  wide_links i f v there live inside = subst (λ (m : ℕ). f < m) (sym (h.pool.core.views.wide i v there live).0) inside
+
+  -- the frame f and the view of backend i change, where the view's link there becomes l
+  relinks : (i f : ℕ) (v w : View) (l : Link) → get_elem? views i ≡ some v → v.emptied ≡ false → f < n → w.links ≡ set v.links f l → Relinks home_shape v w f l
+  relinks i f v w l there live inside e = record {
+    own = refl;
+    here = ap (λ (x : List Link). link (record w { links = x }) f) e ∙ get_or-set_same v.links f l idle (wide_links i f v there live inside);
+    else = λ g other. ap (λ (x : List Link). link (record w { links = x }) g) e ∙ get_or-set_other v.links f g l idle other;
+  }
+
+  touched : (i f : ℕ) (v w : View) (fr : Frame) (l : Link) → get_elem? views i ≡ some v → v.emptied ≡ false → f < n → w.links ≡ set v.links f l → (home' : ℕ → Home) → ((g : ℕ) → g < n → g ≢ f → home' (frame g).tag ≡ home_of s (frame g).tag)
+      → Keeps home_shape known home_part (home_of s (frame f).tag) (home' fr.tag) tt tt (frame f) (link v f) fr l → Grid home_shape home_part n (put frame f fr) home' (set views i w)
+  touched i f v w fr l there live inside e home' same keeps = touch home_shape known home_part n frame (home_of s) home' views i f v w fr l (knows s h) h.homes there inside (relinks i f v w l there live inside e) same keeps
+
+  clean_at : (f : ℕ) → f < n → (frame f).tag ≢ no_tag → (frame f).word.dirty ≡ false → IsClean (home_of s (frame f).tag)
+  clean_at f inside named = (h.homes.columns f inside).clean named
+
+  -- a tag that no frame has, as a backend names it
+  fresh : (i f : ℕ) (k : pin_kinds.Kind) (v : View) → get_elem? views i ≡ some v → pin_kinds.Allowed k (frame f) (link v f) → pin_steps.AllowedAround k s.pool.core v f → IsFresh k (home_of s (pin_kinds.frame_after k (frame f)).tag)
+  fresh i f (pin_kinds.store_tag tag) v there a around = let m = around.naming in let p = s.pool.core.partition_of tag in h.unframed tag a.named
+      (λ g below. lacked (s.pool.core.partition p) (hold v p) (frame g).tag tag g (h.pool.core.turns.cells i v p there (h.pool.core.placed tag)) (h.pool.core.maps.pairs tag g a.named below) m.held m.unchanged (m.settled p) around.lacking)
+  fresh i f _ v there a around = tt
+
+  -- a step of a kind of `pin_core` at a frame
+  pins_step : (i f : ℕ) (k : pin_kinds.Kind) (v : View) → get_elem? views i ≡ some v → v.emptied ≡ false → f < n → pin_kinds.Allowed k (frame f) (link v f) → pin_steps.AllowedAround k s.pool.core v f → Invariant (record s { pool = record s.pool { core = pin_steps.state_after k s.pool.core i f v } })
+  pins_step i f k v there live inside a around = let w : View = pin_stepping.after k s.pool.core f v in let fr : Frame = pin_kinds.frame_after k (frame f) in let l : Link = pin_kinds.link_after k (frame f) (link v f) in
+      let law = page_stepping.step_keeps (page_steps.cores (pin_steps.touches i f k v there live inside a around)) h.pool in
+      assemble s h (record s.pool { core = pin_steps.state_after k s.pool.core i f v }) s.lane law refl refl (outer_same s.origin s.log s.lanes s.lane s.flushed (written_of s) s.device views (outer_of s h) i v w there (record { calls = refl; front = refl; joined = refl; flushed = refl }) refl refl refl refl)
+      (record {
+        homes = touched i f v w fr l there live inside refl (home_of s) (λ g below other. refl) (pins_keep k (home_of s (frame f).tag) (home_of s fr.tag) (frame f) (link v f) a (λ e. ap (home_of s) e) (fresh i f k v there a around));
+        unframed = unframed_put n frame (home_of s) f fr inside h.unframed (clean_at f inside) (tag_goes k (frame f) (link v f) (tallies frame_shape views f) (h.pool.core.grid.columns f inside) a);
+        flushed_cells = h.flushed_cells;
+      })
+
+  -- The page kind k at the frame f leaves each block's page after the log, and what is known of it is kept
+  module _ (i f : ℕ) (k : Kind) (v : View) (there : get_elem? views i ≡ some v) (live : v.emptied ≡ false) (inside : f < n) (stays : block_after k (block_of s.pool.logged (frame f).tag) ≡ block_of s.pool.logged (frame f).tag) where
+    abbrev b : Block
+    b = block_of s.pool.logged (frame f).tag
+
+    abbrev fr : Frame
+    fr = frame_after k b (frame f)
+
+    abbrev l : Link
+    l = link_after k b (frame f) (link v f)
+
+    pub logged_same : logged_after k s.pool.logged (frame f).tag ≡ s.pool.logged
+    logged_same = λ j g. put_same s.pool.logged (frame f).tag (block_after k b).logged g (ap (λ (x : Block). x.logged) stays) j
+
+    pub blocks_touched : (w : View) → w.links ≡ set v.links f l → Keeps_by k (home_of s (frame f).tag) (home_after k (home_of s (frame f).tag)) (frame f) (link v f) → Blocks n (put frame f fr) (set views i w) s.origin s.log.entries s.flushed (home_of s)
+    blocks_touched w e keeps = let is : home_after k (home_of s (frame f).tag) ≡ home_of s fr.tag = ap (λ (x : Block). record (home_of s (frame f).tag) { block = x }) stays ∙ ap (home_of s) (sym (tag_kept k b (frame f))) in record {
+      homes = touched i f v w fr l there live inside e (home_of s) (λ g below other. refl) (subst (λ (x : Home). Keeps home_shape known home_part (home_of s (frame f).tag) x tt tt (frame f) (link v f) fr l) is keeps);
+      unframed = unframed_put n frame (home_of s) f fr inside h.unframed (clean_at f inside) (λ goes. absurd (goes (tag_kept k b (frame f))));
+      flushed_cells = h.flushed_cells;
+    }
+
+  -- a step of a plain kind of `page_core`
+  page_step : (i f : ℕ) (k : Kind) (v : View) → get_elem? views i ≡ some v → v.emptied ≡ false → f < n → Allowed k (block_of s.pool.logged (frame f).tag) (frame f) (link v f) → page_steps.AllowedAround k v f → IsPlain k → Invariant (record s { pool = page_steps.state_after k s.pool i f v })
+  page_step i f k v there live inside a around plain = let stays = plain_block k (block_of s.pool.logged (frame f).tag) plain in let w : View = paged k s.pool f v in
+      assemble s h (page_steps.state_after k s.pool i f v) s.lane (page_stepping.step_keeps (page_steps.touches i f k v there live inside a around) h.pool) (logged_same i f k v there live inside stays) refl
+      (outer_same s.origin s.log s.lanes s.lane s.flushed (written_of s) s.device views (outer_of s h) i v w there (record { calls = refl; front = refl; joined = refl; flushed = refl }) refl refl refl refl)
+      (blocks_touched i f k v there live inside stays w refl (plain_keeps k (home_of s (frame f).tag) (frame f) (link v f) (cell s.origin s.log.entries (frame f).tag) (λ j. h.logged j (frame f).tag) plain a))
+
+  -- the blocks where a view changes beside its links
+  blocks_aside : (i : ℕ) (v w : View) → get_elem? views i ≡ some v → w.links ≡ v.links → Blocks n frame (set views i w) s.origin s.log.entries s.flushed (home_of s)
+  blocks_aside i v w there e = record { homes = steady home_shape home_part n frame (home_of s) views h.homes i v w there refl (λ g. ap (λ (x : List Link). link (record w { links = x }) g) e); unframed = h.unframed; flushed_cells = h.flushed_cells }
+
+  -- a step of `pin_core` that is no step at a frame
+  others_step : {e : pin_steps.Event} {core' : pins.State} → pin_steps.Step e s.pool.core core' → Invariant (record s { pool = record s.pool { core = core' } })
+  others_step (pin_steps.touches i f k v there live inside a around) = pins_step i f k v there live inside a around
+  others_step (pin_steps.turns i p k v there live below a) = let x : pin_steps.Step (pin_steps.turn i p k) s.pool.core (pin_steps.state_turned k s.pool.core i p v) = pin_steps.turns i p k v there live below a in let w : View = view_turned k p (hold v p) v in
+      assemble s h (record s.pool { core = pin_steps.state_turned k s.pool.core i p v }) s.lane (page_stepping.step_keeps (page_steps.cores x) h.pool) refl refl
+      (outer_same s.origin s.log s.lanes s.lane s.flushed (written_of s) s.device views (outer_of s h) i v w there (record { calls = refl; front = refl; joined = refl; flushed = refl }) refl refl refl refl) (blocks_aside i v w there refl)
+  others_step (pin_steps.splits v there room) = let x : pin_steps.Step pin_steps.split s.pool.core (pins.split_state s.pool.core v) = pin_steps.splits v there room in let w : View = record v { next = v.next + 1 } in
+      let a = length v.links in let p = length v.partitions in let m = length v.lanes in let first = h.pool.core.views.first v there in
+      let outer = outer_grows s.origin s.log s.lanes s.lane s.flushed (written_of s) s.device (set views 0 w) (outer_same s.origin s.log s.lanes s.lane s.flushed (written_of s) s.device views (outer_of s h) 0 v w there (record { calls = refl; front = refl; joined = refl; flushed = refl }) refl refl refl refl) v.next s.pool.core.base a p h.based h.flushed_from in
+      let blocks = blocks_aside 0 v w there refl in
+      assemble s h (record s.pool { core = pins.split_state s.pool.core v }) s.lane (page_stepping.step_keeps (page_steps.cores x) h.pool) refl refl
+      (subst (λ (z : ℕ). Outer s.origin s.log s.lanes s.lane s.flushed (written_of s) s.device (set views 0 w ++ new_view v.next s.pool.core.base a p z ∷ [])) (sym (h.wide 0 v there first.0)) outer)
+      (record {
+        homes = grows home_shape home_part n frame (home_of s) (set views 0 w) blocks.homes (new_view v.next s.pool.core.base a p m) (new_none v.next s.pool.core.base a p m) (λ g inside. subst (HomeLink (home_of s (frame g).tag) (frame g)) (sym (link_new a p m v.next s.pool.core.base g)) (no_link (home_of s (frame g).tag) (frame g)));
+        unframed = h.unframed;
+        flushed_cells = h.flushed_cells;
+      })
+  others_step (pin_steps.joins j v u there other here live free) = let x : pin_steps.Step (pin_steps.join j) s.pool.core (pins.joined_state s.pool.core v j u) = pin_steps.joins j v u there other here live free in let w : View = joined_view v u in
+      let first = steady home_shape known n frame (home_of s) views (knows s h) 0 v w there refl (λ g. refl) in
+      assemble s h (record s.pool { core = pins.joined_state s.pool.core v j u }) s.lane (page_stepping.step_keeps (page_steps.cores x) h.pool) refl refl
+      (outer_joins s.origin s.log s.lanes s.lane s.flushed (written_of s) s.device views (outer_of s h) j v u there other here free.lanes free.log)
+      (record {
+        homes = sweep home_shape known home_part n frame frame (home_of s) (home_of s) (set views 0 w) j u emptied_view first (set_else views 0 j w other ∙ here) (λ g inside. home_forgets (home_of s (frame g).tag) (frame g) (link u g));
+        unframed = h.unframed;
+        flushed_cells = h.flushed_cells;
+      })
+
+pools_step : (s : State) → Invariant s → {e : page_steps.Event} {pool' : page.State} → page_steps.Step e s.pool pool' → PoolAllowed e → Invariant (record s { pool = pool' })
+pools_step s h (page_steps.cores x) a = others_step s h x
+pools_step s h (page_steps.touches i f k v there live inside a around) plain = page_step s h i f k v there live inside a around plain
+
+-- the laws of the calls and the lanes after a step at a lane
+laned_outer : (s : State) (h : Invariant s) (i q : ℕ) (k : LaneKind) (v w : View) → get_elem? s.pool.core.views i ≡ some v → v.emptied ≡ false → q < s.lanes → LaneAllowed k (s.lane q) (lane_hold v q) → SameCalls v w → w.emptied ≡ v.emptied → w.lanes ≡ set v.lanes q (lane_hold_after k v.flushed (s.lane q) (lane_hold v q)) → w.log ≡ v.log → w.saw_down ≡ v.saw_down
+    → Outer s.origin s.log s.lanes (put s.lane q (lane_after k (s.lane q))) s.flushed (written_of s) s.device (set s.pool.core.views i w)
+laned_outer s h i q k v w there live low a same emptied holds unlogged saw = record {
+  device = steady log_shape log_part 1 (λ _. s.device) (λ _. written_of s) s.pool.core.views h.device i v w there saw (λ g. unlogged);
+  history = history_same s.origin s.log s.flushed s.pool.core.views h.history i v w there same;
+  lanes = lanes_touched s.origin s.log s.lanes s.lane s.flushed (written_of s) s.device s.pool.core.views (outer_of s h) i q k v w there live low a holds;
+  wide = wide_set s.lanes s.pool.core.views h.wide i v w there emptied (ap (λ (x : List LaneHold). length x) holds ∙ length-set v.lanes q (lane_hold_after k v.flushed (s.lane q) (lane_hold v q)));
+}
+
+-- What is to be shown of a kind that notes something
+record Noted (s : State) (f : ℕ) (k : Kind) (v : View) : Type 0 where
+  pub allowed : Allowed k (block_of s.pool.logged (s.pool.core.frame f).tag) (s.pool.core.frame f) (link v f)
+  pub stays : block_after k (block_of s.pool.logged (s.pool.core.frame f).tag) ≡ block_of s.pool.logged (s.pool.core.frame f).tag
+  pub keeps : Keeps_by k (home_of s (s.pool.core.frame f).tag) (home_after k (home_of s (s.pool.core.frame f).tag)) (s.pool.core.frame f) (link v f)
+
+-- a frame for input has a tag and isn't dirty
+for_input : (b : Block) (fr : Frame) (l : Link) (t : pin_tallies.Tally → ℕ) → FrameLaw fr t → PageLink b fr l → l.io ≡ Input → (fr.tag ≢ no_tag) × (fr.word.dirty ≡ false)
+for_input b fr l t c d e = let x = d.input e in (x.0.named, grind (arith, c, x.1))
+
+noted_keeps : (s : State) (h : Invariant s) (i q f : ℕ) (k : Kind) (v : View) → get_elem? s.pool.core.views i ≡ some v → v.emptied ≡ false → q < s.lanes → f < s.pool.core.frames → Notes k s q f (lane_hold v q) (link v f) → Noted s f k v
+noted_keeps s h i q f (note_read p) v there live low inside x = let fr = s.pool.core.frame f in let hm = home_of s fr.tag in
+    let input = for_input (block_of s.pool.logged fr.tag) fr (link v f) (tallies frame_shape s.pool.core.views f) (h.pool.core.grid.columns f inside) (h.pool.pages.cells i v f there inside) x.right in
+    let clean = (h.homes.columns f inside).clean input.0 input.1 in let held = (h.lanes.cells i v q there low).hold.read fr.tag p x.was_read in
+    let is : hm.stored ≡ p = ap (λ (z : ℕ). (s.lane z).stored fr.tag) x.lane ∙ held in let a : Allowed (note_read p) hm.block fr (link v f) = record { right = x.right; fresh = x.fresh; given = λ r e. same_Some r hm.stored (sym e ∙ clean.stored) ∙ is } in record {
+      allowed = a;
+      stays = refl;
+      keeps = homes.note_read_keeps hm fr (link v f) p a;
+    }
+noted_keeps s h i q f (note_write true) v there live low inside (p, x) = let fr = s.pool.core.frame f in let hm = home_of s fr.tag in let held = (h.lanes.cells i v q there low).hold.written f fr.tag p x.was_written in record {
+  allowed = x.right;
+  stays = refl;
+  keeps = homes.note_done_keeps hm fr (link v f) (ap (λ (z : ℕ). (s.lane z).failed fr.tag) x.lane ∙ held.done) (ap (λ (z : ℕ). (s.lane z).stored fr.tag) x.lane ∙ held.stored ∙ sym x.page) x.right;
+}
+noted_keeps s h i q f (note_write false) v there live low inside x = let fr = s.pool.core.frame f in record { allowed = x.right; stays = refl; keeps = homes.note_failed_keeps (home_of s fr.tag) fr (link v f) x.right }
+noted_keeps s h i q f begin_write v there live low inside x = absurd x
+noted_keeps s h i q f (make_entry p) v there live low inside x = absurd x
+noted_keeps s h i q f kinds.load_content v there live low inside x = absurd x
+noted_keeps s h i q f kinds.mark_dirty v there live low inside x = absurd x
+noted_keeps s h i q f kinds.share v there live low inside x = absurd x
+noted_keeps s h i q f kinds.exclude v there live low inside x = absurd x
+noted_keeps s h i q f kinds.unshare v there live low inside x = absurd x
+noted_keeps s h i q f kinds.unexclude v there live low inside x = absurd x
+noted_keeps s h i q f kinds.take_copy v there live low inside x = absurd x
+noted_keeps s h i q f kinds.leave_copy v there live low inside x = absurd x
+noted_keeps s h i q f kinds.page_out v there live low inside x = absurd x
+noted_keeps s h i q f kinds.overwrite_logged v there live low inside x = absurd x
+noted_keeps s h i q f (kinds.overwrite_read p) v there live low inside x = absurd x
+noted_keeps s h i q f kinds.page_back v there live low inside x = absurd x
+noted_keeps s h i q f kinds.start_input v there live low inside x = absurd x
+noted_keeps s h i q f kinds.start_output v there live low inside x = absurd x
+noted_keeps s h i q f kinds.clear_just_dirtied v there live low inside x = absurd x
+noted_keeps s h i q f (kinds.end_io end) v there live low inside x = absurd x
+
+-- a step at a lane that touches no frame
+lanes_step : (s : State) → Invariant s → (i q : ℕ) (k : LaneKind) (v : View) → get_elem? s.pool.core.views i ≡ some v → v.emptied ≡ false → q < s.lanes → LaneAllowed k (s.lane q) (lane_hold v q) → LaneAlone k s q (lane_hold v q)
+    → Invariant (record s { pool = aside s.pool i (stepped (laned k s q v v)); lane = put s.lane q (lane_after k (s.lane q)) })
+lanes_step s h i q k v there live inside a alone = let w : View = stepped (laned k s q v v) in let views = s.pool.core.views in let holds = no_write_holds k s q (lane_hold v q) (s.lane q) alone in
+    let same : SameHere v w = record { backend = record { emptied = refl; number = refl; next = refl; links = refl; partitions = refl }; joined = refl; links = refl; partitions = refl } in
+    assemble s h (aside s.pool i w) (put s.lane q (lane_after k (s.lane q))) (pool_aside s.pool i v w h.pool there same) refl refl
+    (laned_outer s h i q k v w there live inside a (record { calls = refl; front = refl; joined = refl; flushed = refl }) refl refl refl refl)
+    (subst (λ (x : ℕ → Home). Blocks s.pool.core.frames s.pool.core.frame (set views i w) s.origin s.log.entries s.flushed x) (homes_same s q (lane_after k (s.lane q)) holds.0 holds.1) (blocks_aside s h i v w there refl))
+
+-- what comes back is noted at a frame
+notes_step : (s : State) → Invariant s → (i q f : ℕ) (noted : Bool) (k : Kind) (v : View) → get_elem? s.pool.core.views i ≡ some v → v.emptied ≡ false → q < s.lanes → f < s.pool.core.frames → LaneAllowed (lane_kinds.lane_back noted) (s.lane q) (lane_hold v q) → Notes k s q f (lane_hold v q) (link v f)
+    → Invariant (record s { pool = pool_after k s.pool i f (laned (lane_kinds.lane_back noted) s q v (paged k s.pool f v)); lane = put s.lane q (s.lane q) })
+notes_step s h i q f noted k v there live low inside back what = let fr = s.pool.core.frame f in let b : Block = block_of s.pool.logged fr.tag in let w : View = laned (lane_kinds.lane_back noted) s q v (paged k s.pool f v) in let views = s.pool.core.views in
+    let x = noted_keeps s h i q f k v there live low inside what in
+    let same : SameHere (paged k s.pool f v) w = record { backend = record { emptied = refl; number = refl; next = refl; links = refl; partitions = refl }; joined = refl; links = refl; partitions = refl } in
+    assemble s h (pool_after k s.pool i f w) (put s.lane q (s.lane q)) (pool_touched s.pool h.pool i f k v w there live inside x.allowed same) (logged_same s h i f k v there live inside x.stays) refl
+    (laned_outer s h i q (lane_kinds.lane_back noted) v w there live low back (record { calls = refl; front = refl; joined = refl; flushed = refl }) refl refl refl refl)
+    (subst (λ (y : ℕ → Home). Blocks s.pool.core.frames (put s.pool.core.frame f (frame_after k b fr)) (set views i w) s.origin s.log.entries s.flushed y) (homes_same s q (s.lane q) refl refl) (blocks_touched s h i f k v there live inside x.stays w refl x.keeps))
+
+-- The page p of the frame f goes to its lane q, or fails to
+module _ (s : State) (h : Invariant s) (i q f : ℕ) (v : View) (there : get_elem? s.pool.core.views i ≡ some v) (live : v.emptied ≡ false) (low : q < s.lanes) (inside : f < s.pool.core.frames) (tag : ℕ) (x : CanWrite s q f tag (s.pool.core.frame f).page (lane_hold v q) (link v f)) where
+  abbrev written_frame : Frame
+  written_frame = s.pool.core.frame f
+
+  named_logged : HasTag written_frame × ((p : Page) → s.pool.logged written_frame.tag ≡ Some p → p ≡ written_frame.page)
+  named_logged = written_is_logged (block_of s.pool.logged written_frame.tag) written_frame (link v f) (tallies page_shape s.pool.core.views f) (h.pool.pages.columns f inside) (h.pool.pages.cells i v f there inside) (term_le (λ (u : View). weigh sharers (link u f)) s.pool.core.views i v there) x.right.right
+
+  -- the block is another one than that of each other frame
+  other_tag : (g : ℕ) → g < s.pool.core.frames → g ≢ f → (s.pool.core.frame g).tag ≢ tag
+  other_tag g below other same = other (sym (h.pool.core.apart f g inside below named_logged.0.named (x.tagged ∙ sym same)))
+
+  -- the page is the block's after the entries up to the flushed position
+  is_flushed : (lane_hold v q).out ≢ None → IsFlushedCell s.origin s.log.entries s.flushed tag written_frame.page
+  is_flushed out = let early : lsn_of written_frame.page ≤ s.flushed = (let a = x.log_first in let b = (h.lanes.cells i v q there low).hold.flushed_by out in omega arith) in
+      let is : written_frame.page ≡ cell s.origin s.log.entries tag = sym (named_logged.1 (cell s.origin s.log.entries tag) (ap s.pool.logged x.tagged ∙ (λ j. h.logged j tag))) in record {
+        place = s.flushed;
+        within = omega arith;
+        is_cell = is ∙ sym (cell_at_position s.origin s.log.entries tag s.flushed h.log.images (subst (λ (y : Page). lsn_of y ≤ s.flushed) is early));
+      }
+
+  -- the lane after the write holds the page p for the block
+  module _ (k : LaneKind) (p : Page) (done : Bool) (back : LaneAllowed k (s.lane q) (lane_hold v q)) (stores : (lane_after k (s.lane q)).stored ≡ put (s.lane q).stored tag p) (fails : (lane_after k (s.lane q)).failed ≡ put (s.lane q).failed tag done) (good : done ≡ false → IsFlushedCell s.origin s.log.entries s.flushed tag p) where
+    abbrev lane' : ℕ → Lane
+    lane' = put s.lane q (lane_after k (s.lane q))
+
+    abbrev home' : ℕ → Home
+    home' = homes_with s lane'
+
+    else : (t : ℕ) → t ≢ tag → home' t ≡ home_of s t
+    else t other = dite (ℕ_discrete (s.lane_of t) q)
+        (λ (e : s.lane_of t ≡ q). let at : lane' (s.lane_of t) ≡ lane_after k (s.lane q) = put_at s.lane q (lane_after k (s.lane q)) (s.lane_of t) e in let was : s.lane q ≡ s.lane (s.lane_of t) = ap s.lane (sym e) in
+        let a : (lane' (s.lane_of t)).stored t ≡ (s.lane (s.lane_of t)).stored t = ap (λ (y : Lane). y.stored t) at ∙ (λ j. stores j t) ∙ put_else (s.lane q).stored tag p t other ∙ ap (λ (y : Lane). y.stored t) was in
+        let b : (lane' (s.lane_of t)).failed t ≡ (s.lane (s.lane_of t)).failed t = ap (λ (y : Lane). y.failed t) at ∙ (λ j. fails j t) ∙ put_else (s.lane q).failed tag done t other ∙ ap (λ (y : Lane). y.failed t) was in
+        λ j. record { block = block_of s.pool.logged t; stored = a j; failed = b j })
+        (λ (o : s.lane_of t ≢ q). let at : lane' (s.lane_of t) ≡ s.lane (s.lane_of t) = put_else s.lane q (lane_after k (s.lane q)) (s.lane_of t) o in λ j. record { block = block_of s.pool.logged t; stored = (at j).stored t; failed = (at j).failed t })
+
+    here : ((home' tag).stored ≡ p) × ((home' tag).failed ≡ done)
+    here = let at : lane' (s.lane_of tag) ≡ lane_after k (s.lane q) = put_at s.lane q (lane_after k (s.lane q)) (s.lane_of tag) x.lane in
+        (ap (λ (y : Lane). y.stored tag) at ∙ (λ j. stores j tag) ∙ put_here (s.lane q).stored tag p, ap (λ (y : Lane). y.failed tag) at ∙ (λ j. fails j tag) ∙ put_here (s.lane q).failed tag done)
+
+    pub write_keeps : Invariant (record s { pool = pool_after begin_write s.pool i f (laned k s q v (paged begin_write s.pool f v)); lane = lane' })
+    write_keeps = let b : Block = block_of s.pool.logged written_frame.tag in let w : View = laned k s q v (paged begin_write s.pool f v) in let views = s.pool.core.views in let a : Allowed begin_write b written_frame (link v f) = record { right = x.right.right } in
+        let same : SameHere (paged begin_write s.pool f v) w = record { backend = record { emptied = refl; number = refl; next = refl; links = refl; partitions = refl }; joined = refl; links = refl; partitions = refl } in
+        assemble s h (pool_after begin_write s.pool i f w) lane' (pool_touched s.pool h.pool i f begin_write v w there live inside a same) (logged_same s h i f begin_write v there live inside refl) refl
+        (laned_outer s h i q k v w there live low back (record { calls = refl; front = refl; joined = refl; flushed = refl }) refl refl refl refl)
+        (record {
+          homes = touched s h i f v w written_frame (link_after begin_write b written_frame (link v f)) there live inside refl home' (λ g below other. else (s.pool.core.frame g).tag (other_tag g below other))
+              (homes.begin_write_keeps (home_of s written_frame.tag) written_frame (link v f) (home' written_frame.tag) refl a);
+          unframed = λ t named none. dite (ℕ_discrete t tag)
+              (λ (e : t ≡ tag). absurd (still_unframed s.pool.core.frames s.pool.core.frame f written_frame t refl inside none f inside (x.tagged ∙ sym e)))
+              (λ (o : t ≢ tag). subst IsClean (sym (else t o)) (h.unframed t named (still_unframed s.pool.core.frames s.pool.core.frame f written_frame t refl inside none)));
+          flushed_cells = λ t ok. dite (ℕ_discrete t tag)
+              (λ (e : t ≡ tag). subst (λ (z : ℕ). IsFlushedCell s.origin s.log.entries s.flushed z (home' z).stored) (sym e) (subst (λ (y : Page). IsFlushedCell s.origin s.log.entries s.flushed tag y) (sym here.0) (good (sym here.1 ∙ ap (λ (z : ℕ). (home' z).failed) (sym e) ∙ ok))))
+              (λ (o : t ≢ tag). subst (λ (y : Page). IsFlushedCell s.origin s.log.entries s.flushed t y) (ap (λ (y : Home). y.stored) (sym (else t o))) (h.flushed_cells t (ap (λ (y : Home). y.failed) (sym (else t o)) ∙ ok)));
+        })
+
+writes_step : (s : State) → Invariant s → (i q f : ℕ) (k : LaneKind) (v : View) → get_elem? s.pool.core.views i ≡ some v → v.emptied ≡ false → q < s.lanes → f < s.pool.core.frames → LaneAllowed k (s.lane q) (lane_hold v q) → Writes k s q f (lane_hold v q) (link v f)
+    → Invariant (record s { pool = pool_after begin_write s.pool i f (laned k s q v (paged begin_write s.pool f v)); lane = put s.lane q (lane_after k (s.lane q)) })
+writes_step s h i q f (lane_kinds.write_block g tag p) v there live low inside back (at, x) = let y : CanWrite s q f tag (s.pool.core.frame f).page (lane_hold v q) (link v f) = record { tagged = x.tagged; lane = x.lane; page = refl; right = x.right; log_first = subst (λ (z : Page). lsn_of z ≤ (lane_hold v q).flushed) (sym x.page) x.log_first } in
+    write_keeps s h i q f v there live low inside tag y (lane_kinds.write_block g tag p) p false back refl refl (λ ok. subst (λ (z : Page). IsFlushedCell s.origin s.log.entries s.flushed tag z) x.page (is_flushed s h i q f v there live low inside tag y back.out))
+writes_step s h i q f (lane_kinds.fail_write g tag p) v there live low inside back (at, x) = write_keeps s h i q f v there live low inside tag x (lane_kinds.fail_write g tag p) p true back refl refl (λ ok. absurd (cc))
+writes_step s h i q f lane_kinds.take_lane v there live low inside back x = absurd x
+writes_step s h i q f lane_kinds.leave_lane v there live low inside back x = absurd x
+writes_step s h i q f (lane_kinds.lane_out taken) v there live low inside back x = absurd x
+writes_step s h i q f (lane_kinds.read_block tag) v there live low inside back x = absurd x
+writes_step s h i q f (lane_kinds.fail_read tag) v there live low inside back x = absurd x
+writes_step s h i q f lane_kinds.sync_lane v there live low inside back x = absurd x
+writes_step s h i q f lane_kinds.fail_sync v there live low inside back x = absurd x
+writes_step s h i q f (lane_kinds.lane_back noted) v there live low inside back x = absurd x
+
+-- the note that a view makes of a page copied is that of the block
+copied_is_logged : (b : Block) (fr : Frame) (l : Link) (tag : ℕ) (p : Page) → PageLink b fr l → LinkLaw fr l → CanRead tag p l → ((q : Page) → b.logged ≡ Some q → q ≡ p) × (fr.tag ≡ tag)
+copied_is_logged _ _ _ tag p c d a = ((c.copied p a.copied).is_logged, (d.remembers tag a.remembered).1)
+
+-- a state where a view changes beside all that the pool and the lanes know of it
+with_view : (s : State) (h : Invariant s) (i : ℕ) (v w : View) → get_elem? s.pool.core.views i ≡ some v → SameHere v w → w.lanes ≡ v.lanes → w.log ≡ v.log → w.saw_down ≡ v.saw_down → HistoryLaw s.origin s.log s.flushed (set s.pool.core.views i w) → Invariant (record s { pool = aside s.pool i w })
+with_view s h i v w there same holds unlogged saw history = assemble s h (aside s.pool i w) s.lane (pool_aside s.pool i v w h.pool there same) refl refl
+    (record {
+      device = steady log_shape log_part 1 (λ _. s.device) (λ _. written_of s) s.pool.core.views h.device i v w there saw (λ g. unlogged);
+      history = history;
+      lanes = steady lane_shape lane_part s.lanes s.lane (λ _. s.flushed) s.pool.core.views h.lanes i v w there refl (λ q. ap (λ (x : List LaneHold). lane_hold (record w { lanes = x }) q) holds);
+      wide = wide_set s.lanes s.pool.core.views h.wide i v w there same.backend.emptied (ap (λ (x : List LaneHold). length x) holds);
+    })
+    (blocks_aside s h i v w there same.links)
+
+reads_step : (s : State) → Invariant s → (i f tag : ℕ) (p : Page) (v : View) → get_elem? s.pool.core.views i ≡ some v → f < s.pool.core.frames → CanRead tag p (link v f) → Invariant (record s { pool = aside s.pool i (looked (seen.LogEnd s.end) (has_read s.end tag p v)) })
+reads_step s h i f tag p v there inside a = let w : View = looked (seen.LogEnd s.end) (has_read s.end tag p v) in
+    let x = copied_is_logged (block_of s.pool.logged (s.pool.core.frame f).tag) (s.pool.core.frame f) (link v f) tag p (h.pool.pages.cells i v f there inside) (h.pool.core.grid.cells i v f there inside) a in
+    let is : p ≡ cell s.origin s.log.entries tag = sym (x.0 (cell s.origin s.log.entries tag) (ap s.pool.logged x.1 ∙ (λ j. h.logged j tag))) in
+    with_view s h i v w there (record { backend = record { emptied = refl; number = refl; next = refl; links = refl; partitions = refl }; joined = refl; links = refl; partitions = refl }) refl refl refl
+    (history_read s.origin s.log s.flushed s.pool.core.views h.history h.log i v w there tag p is (new_entry s 0 tag p) (ap (λ (z : ℕ). v.calls ++ Read tag p z ∷ []) h.ends) h.ends refl refl)
+
+-- the flushed position rises to the log's end, whose bytes are durable
+raised_state : (t : State) → Invariant t → length (log_bytes t.names t.log) ≤ t.device.synced → Invariant (record t { flushed = max t.flushed t.end })
+raised_state t k durable = let more : t.flushed ≤ max t.flushed t.end = omega arith in record {
+  pool = k.pool;
+  logged = k.logged;
+  log = k.log;
+  based = k.based;
+  ends = k.ends;
+  limit = k.limit;
+  flushed_from = let x = k.flushed_from in omega arith;
+  flushed_to = let x = k.flushed_to in omega arith;
+  named = k.named;
+  durable = λ lt. let x = bytes_length t.names t.log k.named k.log in let y = k.ends in let z = k.flushed_to in omega arith;
+  device = k.device;
+  history = history_raised t.origin t.log t.flushed t.pool.core.views k.history (max t.flushed t.end) more;
+  lanes = reblock lane_shape lane_part t.lanes t.lane (λ _. t.flushed) t.pool.core.views k.lanes (λ _. max t.flushed t.end) (λ g below sums c. c) (λ g o l below c. lane_later t.flushed (max t.flushed t.end) (t.lane g) l more c);
+  wide = k.wide;
+  placed = k.placed;
+  homes = k.homes;
+  unframed = k.unframed;
+  flushed_cells = λ tag ok. let x = k.flushed_cells tag ok in record { place = x.place; within = (let y = x.within in omega arith); is_cell = x.is_cell };
+}
+
+raises_step : (s : State) → Invariant s → (i : ℕ) (v : View) → get_elem? s.pool.core.views i ≡ some v → v.log.synced ≡ true → Invariant (record s { pool = aside s.pool i (stepped v); flushed = max s.flushed s.end })
+raises_step s h i v there synced = raised_state (record s { pool = aside s.pool i (stepped v) }) (with_view s h i v (stepped v) there (record { backend = record { emptied = refl; number = refl; next = refl; links = refl; partitions = refl }; joined = refl; links = refl; partitions = refl }) refl refl refl (history_same s.origin s.log s.flushed s.pool.core.views h.history i v (stepped v) there (record { calls = refl; front = refl; joined = refl; flushed = refl })))
+    (synced_all (written_of s) s.device v.saw_down v.log (tallies log_shape s.pool.core.views 0) (h.device.columns 0 (lit< tt)) (h.device.cells i v 0 there (lit< tt)) (λ k. term_le (λ (u : View). log_weigh k u.log) s.pool.core.views i v there) synced)
+
+-- what is durable stays so
+durable_later : (k : LogKind) (end : ℕ) (d : Device) → d.synced ≤ length d.bytes → d.synced ≤ (device_after k end d).synced
+durable_later sync_log end d h = h
+durable_later take_log end d h = omega arith
+durable_later leave_log end d h = omega arith
+durable_later (log_out taken) end d h = omega arith
+durable_later (append f tag p bytes) end d h = omega arith
+durable_later (fail_append bytes) end d h = omega arith
+durable_later fail_sync end d h = omega arith
+durable_later (log_back noted) end d h = omega arith
+durable_later see_down end d h = omega arith
+
+-- a step at the log
+logs_step : (s : State) → Invariant s → (i : ℕ) (k : LogKind) (v : View) → get_elem? s.pool.core.views i ≡ some v → LogAllowed k s.device v.log → Invariant (record s { pool = aside s.pool i (view_logged k v); device = device_after k s.end s.device })
+logs_step s h i k v there a = let w : View = view_logged k v in let views = s.pool.core.views in let later = durable_later k s.end s.device (h.device.columns 0 (lit< tt)).synced in
+    let same : SameHere v w = record { backend = record { emptied = refl; number = refl; next = refl; links = refl; partitions = refl }; joined = refl; links = refl; partitions = refl } in let blocks = blocks_aside s h i v w there refl in record {
+      pool = pool_aside s.pool i v w h.pool there same;
+      logged = h.logged;
+      log = h.log;
+      based = h.based;
+      ends = h.ends;
+      limit = h.limit;
+      flushed_from = h.flushed_from;
+      flushed_to = h.flushed_to;
+      named = h.named;
+      durable = λ lt. let x = h.durable lt in omega arith;
+      device = sweep log_shape log_part log_part 1 (λ _. s.device) (λ _. device_after k s.end s.device) (λ _. written_of s) (λ _. written_of s) views i v w h.device there (λ g below. log_keeps (written_of s) s.device v.saw_down v.log k a);
+      history = history_same s.origin s.log s.flushed views h.history i v w there (record { calls = refl; front = refl; joined = refl; flushed = refl });
+      lanes = steady lane_shape lane_part s.lanes s.lane (λ _. s.flushed) views h.lanes i v w there refl (λ q. refl);
+      wide = wide_set s.lanes views h.wide i v w there refl refl;
+      placed = h.placed;
+      homes = blocks.homes;
+      unframed = blocks.unframed;
+      flushed_cells = blocks.flushed_cells;
+    }
+
+-- pages that are all known
+abbrev known_pages : (ℕ → Page) → ℕ → Option Page
+known_pages g = λ t. Some (g t)
+
+-- where all pages are known one that is replaced is known too
+put_known : (g : ℕ → Page) (a : ℕ) (p : Page) → put (λ (t : ℕ). Some (g t)) a (Some p) ≡ (λ t. Some (put g a p t))
+put_known g a p = λ j t. at t j
+  where
+    at : (t : ℕ) → put (λ (x : ℕ). Some (g x)) a (Some p) t ≡ Some (put g a p t)
+    at t = dite (ℕ_discrete t a) (λ e. put_at (λ (x : ℕ). Some (g x)) a (Some p) t e ∙ ap Some (sym (put_at g a p t e))) (λ o. put_else (λ (x : ℕ). Some (g x)) a (Some p) t o ∙ ap Some (sym (put_else g a p t o)))
+
+-- An entry of the page p of the frame f is made
+module _ (s : State) (h : Invariant s) (i f : ℕ) (p : Page) (v : View) (there : get_elem? s.pool.core.views i ≡ some v) (live : v.emptied ≡ false) (inside : f < s.pool.core.frames) (x : CanEnter s f p v) where
+  abbrev old : Frame
+  old = s.pool.core.frame f
+
+  abbrev tag_of : ℕ
+  tag_of = old.tag
+
+  abbrev at_block : Block
+  at_block = block_of s.pool.logged tag_of
+
+  abbrev entry : Entry
+  entry = new_entry s v.number tag_of p
+
+  abbrev after : View
+  after = has_written (s.end + record_size) tag_of p (paged (make_entry p) s.pool f v)
+
+  abbrev entered : State
+  entered = record s { pool = pool_after (make_entry p) s.pool i f after; log = record s.log { entries = s.log.entries ++ entry ∷ [] }; end = s.end + record_size }
+
+  image : IsImage entry
+  image = record { sound = x.right.sound; used = x.right.used; full = x.full; ends = x.ends }
+
+  named : tag_of ≢ no_tag
+  named = (((h.pool.pages.cells i v f there inside).content (λ e. exclusive_not_unlocked x.right.right e)).2).named
+    where
+      exclusive_not_unlocked : {c : _} → c ≡ Exclusive → c ≡ Unlocked → ⊥
+      exclusive_not_unlocked a e = cc
+
+  block_else : (t : ℕ) → t ≢ tag_of → home_of entered t ≡ home_of s t
+  block_else t other = let e : logged_after (make_entry p) s.pool.logged tag_of t ≡ s.pool.logged t = put_else s.pool.logged tag_of (Some p) t other in λ j. record { block = record { logged = e j }; stored = stored s t; failed = failed s t }
+
+  block_here : home_of entered tag_of ≡ home_after (make_entry p) (home_of s tag_of)
+  block_here = let e : logged_after (make_entry p) s.pool.logged tag_of tag_of ≡ Some p = put_here s.pool.logged tag_of (Some p) in λ j. record { block = record { logged = e j }; stored = stored s tag_of; failed = failed s tag_of }
+
+  pub enters_step : Invariant entered
+  enters_step = let views = s.pool.core.views in let n = s.pool.core.frames in let frame = s.pool.core.frame in let l : Link = link_after (make_entry p) at_block old (link v f) in
+      let same : SameHere (paged (make_entry p) s.pool f v) after = record { backend = record { emptied = refl; number = refl; next = refl; links = refl; partitions = refl }; joined = refl; links = refl; partitions = refl } in
+      let longer = end_longer s.log entry h.log in record {
+        pool = pool_touched s.pool h.pool i f (make_entry p) v after there live inside x.right same;
+        logged = ap (λ (g : ℕ → Option Page). put g tag_of (Some p)) h.logged ∙ put_known (cell s.origin s.log.entries) tag_of p ∙ ap known_pages (sym (cell_longer s.origin s.log.entries entry));
+        log = log_longer s.log entry h.log h.ends image;
+        based = h.based;
+        ends = let e = h.ends in omega arith;
+        limit = x.room;
+        flushed_from = h.flushed_from;
+        flushed_to = let y = h.flushed_to in omega arith;
+        named = h.named;
+        durable = h.durable;
+        device = sweep log_shape log_part log_part 1 (λ _. s.device) (λ _. s.device) (λ _. written_of s) (λ _. written_of entered) views i v after h.device there
+            (λ g below. enter_keeps (written_of s) s.device v.saw_down v.log (record_bytes s.names entry) (s.end + record_size) (log_bytes s.names entered.log) x.appended (bytes_longer s.names s.log entry));
+        history = history_written s.origin s.log s.flushed views h.history h.log i v after there entry h.ends refl refl refl refl;
+        lanes = steady lane_shape lane_part s.lanes s.lane (λ _. s.flushed) views h.lanes i v after there refl (λ q. refl);
+        wide = wide_set s.lanes views h.wide i v after there refl refl;
+        placed = h.placed;
+        homes = touched s h i f v after old l there live inside refl (home_of entered) (λ g below other. block_else (frame g).tag (λ e. other (sym (h.pool.core.apart f g inside below named (sym e)))))
+            (subst (λ (y : Home). Keeps home_shape known home_part (home_of s tag_of) y tt tt old (link v f) old l) (sym block_here) (homes.make_entry_keeps (home_of s tag_of) old (link v f) p x.right));
+        unframed = λ t given none. let free = still_unframed n frame f old t refl inside none in subst IsClean (sym (block_else t (λ e. free f inside (sym e)))) (h.unframed t given free);
+        flushed_cells = λ t ok. let y = h.flushed_cells t ok in record {
+          place = y.place;
+          within = y.within;
+          is_cell = y.is_cell ∙ ap (λ (es : List Entry). cell s.origin es t) (sym (cut_longer y.place s.log.entries entry (let a = y.within in let c = h.flushed_to in omega arith)));
+        };
+      }
+
+pub step_keeps : {e : Event} {s t : State} → Step e s t → Invariant s → Invariant t
+step_keeps (pools {s = s} x a) h = pools_step s h x a
+step_keeps (lanes {s = s} i q k v there live low a alone) h = lanes_step s h i q k v there live low a alone
+step_keeps (writes {s = s} i q f k v there live low inside a x) h = writes_step s h i q f k v there live low inside a x
+step_keeps (notes {s = s} i q f noted k v there live low inside a x) h = notes_step s h i q f noted k v there live low inside a x
+step_keeps (enters {s = s} i f p v there live inside x) h = enters_step s h i f p v there live inside x
+step_keeps (reads {s = s} i f tag p v there live inside a) h = reads_step s h i f tag p v there inside a
+step_keeps (loads_end {s = s} i v there live) h = let w : View = looked (seen.LogEnd s.end) v in with_view s h i v w there (record { backend = record { emptied = refl; number = refl; next = refl; links = refl; partitions = refl }; joined = refl; links = refl; partitions = refl }) refl refl refl
+    (history_same s.origin s.log s.flushed s.pool.core.views h.history i v w there (record { calls = refl; front = refl; joined = refl; flushed = refl }))
+step_keeps (loads_flushed {s = s} i v there live) h = let w : View = looked (seen.Flushed s.flushed) (record v { flushed = s.flushed }) in with_view s h i v w there (record { backend = record { emptied = refl; number = refl; next = refl; links = refl; partitions = refl }; joined = refl; links = refl; partitions = refl }) refl refl refl
+    (history_loaded s.origin s.log s.flushed s.pool.core.views h.history i v w there refl refl refl refl)
+step_keeps (raises {s = s} i v there live synced) h = raises_step s h i v there synced
+step_keeps (logs {s = s} i k v there live a) h = logs_step s h i k v there a
+
+pub run_keeps : {es : List Event} {s t : State} → Run es s t → Invariant s → Invariant t
+run_keeps rests h = h
+run_keeps (goes x r) h = run_keeps r (step_keeps x h)

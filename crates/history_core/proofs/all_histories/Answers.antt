@@ -1,0 +1,76 @@
+use Rattle.pin_core.proofs.Schedules as pins
+use Rattle.history_core.proofs.Opening.{opens}
+use Rattle.history_core.proofs.Stepping.{run_keeps}
+use Rattle.history_core.proofs.Counting.{counts_open, counts_after}
+use Rattle.history_core.proofs.Causes.{marks_open, marks_after}
+use Rattle.history_core.proofs.Histories.{reached, legal, entries, reads_stand, writes_stand, log_first, lanes_hold, clean_stored, sound, hold_cells, words, held, durable, device_holds}
+use Rattle.history_core.proofs.all_histories.Goals as goal
+
+pub returns-clause-kept : goal.returns-clause-kept
+returns-clause-kept c = λ es s t h r. run_keeps r h
+
+pub returns-clause-opens : goal.returns-clause-opens
+returns-clause-opens c = opens
+
+pub returns-clause-legal : goal.returns-clause-legal
+returns-clause-legal c = λ s r. legal s (reached s r)
+
+pub returns-clause-entries : goal.returns-clause-entries
+returns-clause-entries c = λ s r. entries s (reached s r)
+
+pub returns-clause-reads_stand : goal.returns-clause-reads_stand
+returns-clause-reads_stand c = λ s r. reads_stand s (reached s r)
+
+pub returns-clause-writes_stand : goal.returns-clause-writes_stand
+returns-clause-writes_stand c = λ s r. writes_stand s (reached s r)
+
+pub returns-clause-log_first : goal.returns-clause-log_first
+returns-clause-log_first c = λ s r. log_first s (reached s r)
+
+pub returns-clause-lanes_hold : goal.returns-clause-lanes_hold
+returns-clause-lanes_hold c = λ s r. lanes_hold s (reached s r)
+
+pub returns-clause-clean_stored : goal.returns-clause-clean_stored
+returns-clause-clean_stored c = λ s r. clean_stored s (reached s r)
+
+pub returns-clause-words : goal.returns-clause-words
+returns-clause-words c = λ s r. words s (reached s r)
+
+pub returns-clause-held : goal.returns-clause-held
+returns-clause-held c = λ s r. held s (reached s r)
+
+pub returns-clause-sound : goal.returns-clause-sound
+returns-clause-sound c = λ s r. sound s (reached s r)
+
+pub returns-clause-hold_cells : goal.returns-clause-hold_cells
+returns-clause-hold_cells c = λ s r. hold_cells s (reached s r)
+
+pub returns-clause-unique : goal.returns-clause-unique
+returns-clause-unique c = λ s r. pins.unique s.pool.core (reached s r).pool.core
+
+pub returns-clause-remembers : goal.returns-clause-remembers
+returns-clause-remembers c = λ s r. pins.remembers s.pool.core (reached s r).pool.core
+
+pub returns-clause-durable : goal.returns-clause-durable
+returns-clause-durable c = λ s r. durable s (reached s r)
+
+pub returns-clause-device_holds : goal.returns-clause-device_holds
+returns-clause-device_holds c = λ s r. device_holds s (reached s r)
+
+pub returns-clause-marks_kept : goal.returns-clause-marks_kept
+returns-clause-marks_kept c = λ es s t h m r. marks_after r h m
+
+pub returns-clause-marks_open : goal.returns-clause-marks_open
+returns-clause-marks_open c = marks_open
+
+pub returns-clause-marked : goal.returns-clause-marked
+returns-clause-marked c = λ s r. marks_after r.run (opens r.config r.store r.page r.opens r.stores) (marks_open r.config r.store r.page)
+
+pub returns-clause-counts_kept : goal.returns-clause-counts_kept
+returns-clause-counts_kept c = λ es s t h m r. counts_after r h m
+
+pub returns-clause-counts_open : goal.returns-clause-counts_open
+returns-clause-counts_open c = counts_open
+
+pub returns-clause-counted : goal.returns-clause-counted
+returns-clause-counted c = λ s r. counts_after r.run (opens r.config r.store r.page r.opens r.stores) (counts_open r.config r.store r.page)

@@ -1,0 +1,34 @@
+-- What must have happened before there can be a fault of writing: some backend marked a frame dirty, or synced a lane.
+use Rattle.std.specs.Prelude.{◌≡◌, ℕ, ◌<◌, false, List}
+use mathlib.Core.Option.{some}
+use lib.ListN.{get_elem?}
+use Rattle.pin_core.specs.declared.view.View.{View}
+use Rattle.pin_core.specs.State.{lane_hold}
+use Rattle.pin_core.specs.Tallies.{flag_weight}
+use Rattle.history_core.specs.State.{State, failed}
+use Rattle.history_core.specs.Lanes.{is_failed_write}
+use Rattle.grid.specs.Shape.{total}
+
+-- 1 for a view that has marked a frame dirty, or called a lane's sync
+abbrev pub mark_weight : View → ℕ
+mark_weight v = flag_weight v.dirtied_or_synced
+
+-- no view has
+abbrev pub NoneMarked : List View → Type 0
+NoneMarked views = total mark_weight views ≡ 0
+
+-- A view has had no output right, counts no failed write or sync, and has none out
+pub record IsQuiet (v : View) : Type 0 where
+  pub output : v.had_output ≡ false
+  pub met : v.met.writes ≡ 0
+  pub out : (n : ℕ) → is_failed_write (lane_hold v n).change ≡ false
+
+-- No frame is dirty, no block's last write failed, and no view knows of output
+pub record AllQuiet (s : State) : Type 0 where
+  pub frames : (f : ℕ) → f < s.pool.core.frames → (s.pool.core.frame f).word.dirty ≡ false
+  pub blocks : (tag : ℕ) → failed s tag ≡ false
+  pub views : (i : ℕ) (v : View) → get_elem? s.pool.core.views i ≡ some v → IsQuiet v
+
+-- so it is where no view has the mark
+abbrev pub MarksLaw : State → Type 0
+MarksLaw s = NoneMarked s.pool.core.views → AllQuiet s

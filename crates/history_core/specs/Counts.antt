@@ -1,0 +1,83 @@
+-- The faults that backends count, and the devices' counts of faults.
+use Rattle.std.specs.Prelude.{◌≡◌, ℕ, ◌+◌, ◌<◌, ◌≤◌, true, List, Some}
+use Rattle.pin_core.specs.declared.view.TakenLane.{TakenLane}
+use Rattle.pin_core.specs.declared.view.LaneHold.{LaneHold}
+use Rattle.pin_core.specs.declared.view.Met.{Met}
+use Rattle.pin_core.specs.declared.view.View.{View}
+use Rattle.pin_core.specs.State.{lane_hold}
+use Rattle.pin_core.specs.Tallies.{flag_weight, unless_flag}
+use Rattle.history_core.specs.State.{Lane, State}
+use Rattle.history_core.specs.Lanes.{LaneColumn, LaneLink, is_failed_read, is_failed_write}
+use Rattle.history_core.specs.Device.{HasRisen}
+use Rattle.grid.specs.Shape.{Shape, Part, Grid, total}
+
+-- what all views have counted
+abbrev pub all_met : List View → Met
+all_met views = record { reads = total (λ (v : View). v.met.reads) views; writes = total (λ (v : View). v.met.writes) views; logs = total (λ (v : View). v.met.logs) views }
+
+-- What is known of every lane: the flushed position, and what all views have counted
+pub record Known : Type 0 where
+  pub flushed : ℕ
+  pub met : Met
+
+pub data CountTally : Type 0 where
+  -- the views that hold the latch
+  holders : CountTally
+  -- those that have a failed read out, and a failed write or sync
+  failed_reads : CountTally
+  failed_writes : CountTally
+  -- those that hold the latch and have none of these out
+  unfailed : CountTally
+
+abbrev pub count_weigh : CountTally → LaneHold → ℕ
+count_weigh holders h = flag_weight h.held
+count_weigh failed_reads h = flag_weight (is_failed_read h.change)
+count_weigh failed_writes h = flag_weight (is_failed_write h.change)
+count_weigh unfailed h = unless_flag (is_failed_read h.change) (unless_flag (is_failed_write h.change) (flag_weight h.held))
+
+abbrev pub count_shape : Shape
+count_shape = record { Column = Lane; Link = LaneHold; View = View; Tally = CountTally; Block = Known; Own = Unit {0}; weigh = count_weigh; link = lane_hold; own = λ _. tt; spot = λ _. 0 }
+
+-- the law of lanes, in this grid
+abbrev pub lane_part : Part count_shape
+lane_part = record { column = λ _ ln t. LaneColumn ln (λ _. t holders); cell = λ k ln _ h. LaneLink k.flushed ln h }
+
+-- A count of a device, from what it was at the start to what it is now, where `out` views have a failed call of it out, and `met` faults are counted
+pub record CountLaw (start now out met : ℕ) : Type 0 where
+  -- it doesn't fall
+  pub least : start ≤ now
+  -- where it rose, some view counts a fault, or has the failed call out
+  pub is_met : out ≡ 0 → start < now → 0 < met
+
+-- What holds of a lane's counts
+pub record LaneCounts (m : Met) (ln : Lane) (t : CountTally → ℕ) : Type 0 where
+  pub reads : CountLaw ln.read_faults_at_start ln.read_faults (t failed_reads) m.reads
+  pub writes : CountLaw ln.write_faults_at_start ln.write_faults (t failed_writes) m.writes
+  -- who has a failed call out holds the latch
+  pub split : t holders ≡ t unfailed + t failed_reads + t failed_writes
+
+-- and of what a view has out
+pub record HoldCounts (m : Met) (ln : Lane) (h : LaneHold) : Type 0 where
+  -- a failed call that is out made the count rise
+  pub read_rose : is_failed_read h.change ≡ true → HasRisen ln.read_faults_at_start ln.read_faults
+  pub write_rose : is_failed_write h.change ≡ true → HasRisen ln.write_faults_at_start ln.write_faults
+  -- where a count had risen when the lane went out, some view counts a fault
+  pub taken_reads : (taken : TakenLane) → h.out ≡ Some taken → ln.read_faults_at_start < taken.read_faults → 0 < m.reads
+  pub taken_writes : (taken : TakenLane) → h.out ≡ Some taken → ln.write_faults_at_start < taken.write_faults → 0 < m.writes
+
+abbrev pub count_part : Part count_shape
+count_part = record { column = λ k ln t. LaneCounts k.met ln t; cell = λ k ln _ h. HoldCounts k.met ln h }
+
+-- The law of the counts of n lanes, where the log is flushed up to `flushed`
+pub record Counted (n : ℕ) (lane : ℕ → Lane) (flushed : ℕ) (views : List View) : Type 0 where
+  pub lanes : Grid count_shape count_part n lane (λ _. record { flushed = flushed; met = all_met views }) views
+  -- where a view counts a fault, a lane's count rose since the start
+  pub reads_rose : 0 < (all_met views).reads → (q : ℕ) × (q < n) × HasRisen (lane q).read_faults_at_start (lane q).read_faults
+  pub writes_rose : 0 < (all_met views).writes → (q : ℕ) × (q < n) × HasRisen (lane q).write_faults_at_start (lane q).write_faults
+
+-- what is known of every lane, in a state
+abbrev pub known_of : State → Known
+known_of s = record { flushed = s.flushed; met = all_met s.pool.core.views }
+
+abbrev pub CountsLaw : State → Type 0
+CountsLaw s = Counted s.lanes s.lane s.flushed s.pool.core.views

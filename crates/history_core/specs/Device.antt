@@ -1,0 +1,212 @@
+-- The log's device and its latch: the kinds of step, and what holds of it.
+use Rattle.std.specs.Prelude.{◌≡◌, ◌≢◌, ℕ, ◌+◌, ◌<◌, ◌≤◌, Bool, true, false, List, [], ◌∷◌, ◌++◌, length, Option, Some, None, ◌||◌}
+use Rattle.pin_core.specs.declared.view.LogChange.{LogChange}
+use Rattle.pin_core.specs.declared.view.LogChange.TheVariants as change
+use Rattle.pin_core.specs.declared.view.TakenLog.{TakenLog}
+use Rattle.pin_core.specs.declared.view.LogHold.{LogHold}
+use Rattle.pin_core.specs.declared.view.DeviceCall.{DeviceCall}
+use Rattle.pin_core.specs.declared.view.DeviceCall.TheVariants.{LogAppend, LogSync}
+use Rattle.pin_core.specs.declared.view.Met.{Met}
+use Rattle.pin_core.specs.declared.view.View.{View}
+use Rattle.pin_core.specs.State.{Page, sum_of_met}
+use Rattle.pin_core.specs.Tallies.{flag_weight, some_weight}
+use Rattle.history_core.specs.Log.{record_size}
+use Rattle.history_core.specs.State.{Device, last_count, raised}
+use Rattle.grid.specs.Shape.{Shape, Part}
+
+pub data LogKind : Type 0 where
+  -- the latch is taken (`WALWriteLock`)
+  take_log : LogKind
+  -- and left
+  leave_log : LogKind
+  -- the device goes out to the holder, and this is what it is then
+  log_out : TakenLog → LogKind
+  -- the holder appends the bytes of a record, of a new page of a frame's block; or fails to, and then the device has some of them
+  append : ℕ → ℕ → Page → List ℕ → LogKind
+  fail_append : List ℕ → LogKind
+  -- it makes the bytes durable (`XLogFlush`), or fails to
+  sync_log : LogKind
+  fail_sync : LogKind
+  -- the device comes back; the backend counts a fault, or none
+  log_back : Bool → LogKind
+  -- the holder sees that the log is down
+  see_down : LogKind
+
+abbrev pub is_failed : LogChange → Bool
+is_failed change.AppendFailed = true
+is_failed change.SyncFailed = true
+is_failed _ = false
+
+pub record CanTakeLog (d : Device) (h : LogHold) : Type 0 where
+  pub free : d.taken ≡ false
+
+-- a record that was appended is part of the log by then
+pub record CanLeaveLog (d : Device) (h : LogHold) : Type 0 where
+  pub held : h.held ≡ true
+  pub home : h.out ≡ None
+  pub entered : h.appended ≡ None
+
+pub record CanTakeDevice (taken : TakenLog) (d : Device) (h : LogHold) : Type 0 where
+  pub held : h.held ≡ true
+  pub home : h.out ≡ None
+  pub faults : taken.faults ≡ d.faults
+
+-- one call each time that the device is out, and none once the log is down
+pub record CanCallLog (d : Device) (h : LogHold) : Type 0 where
+  pub out : h.out ≢ None
+  pub once : h.change ≡ change.Untouched
+  pub up : d.down ≡ None
+
+-- one record at a time, and none after a sync under this latch
+pub record CanAppend (bytes : List ℕ) (d : Device) (h : LogHold) : Type 0 where
+  pub call : CanCallLog d h
+  pub entered : h.appended ≡ None
+  pub unsynced : h.synced ≡ false
+  pub full : length bytes ≡ record_size
+
+pub record CanFailAppend (bytes : List ℕ) (d : Device) (h : LogHold) : Type 0 where
+  pub call : CanCallLog d h
+  pub entered : h.appended ≡ None
+  pub unsynced : h.synced ≡ false
+  pub part : length bytes ≤ record_size
+
+-- a fault is counted only for a call that failed, and is where the count rose
+pub record CanReturnLog (noted : Bool) (d : Device) (h : LogHold) : Type 0 where
+  pub out : h.out ≢ None
+  pub failed : noted ≡ true → is_failed h.change ≡ true
+  pub rose : (taken : TakenLog) → h.out ≡ Some taken → taken.faults < d.faults → noted ≡ true
+
+pub record CanSeeDown (d : Device) (h : LogHold) : Type 0 where
+  pub held : h.held ≡ true
+  pub down : d.down ≢ None
+
+abbrev pub LogAllowed : LogKind → Device → LogHold → Type 0
+LogAllowed take_log d h = CanTakeLog d h
+LogAllowed leave_log d h = CanLeaveLog d h
+LogAllowed (log_out taken) d h = CanTakeDevice taken d h
+LogAllowed (append f tag p bytes) d h = CanAppend bytes d h
+LogAllowed (fail_append bytes) d h = CanFailAppend bytes d h
+LogAllowed sync_log d h = CanCallLog d h
+LogAllowed fail_sync d h = CanCallLog d h
+LogAllowed (log_back noted) d h = CanReturnLog noted d h
+LogAllowed see_down d h = CanSeeDown d h
+
+-- What a kind makes of the device, where the log's end is `end`
+abbrev pub device_after : LogKind → ℕ → Device → Device
+device_after take_log end d = record d { taken = true }
+device_after leave_log end d = record d { taken = false }
+device_after (append f tag p bytes) end d = record d { bytes = d.bytes ++ bytes }
+device_after (fail_append bytes) end d = record d { bytes = d.bytes ++ bytes; faults = raised d.faults; down = Some end }
+device_after sync_log end d = record d { synced = length d.bytes }
+device_after fail_sync end d = record d { faults = raised d.faults; down = Some end }
+device_after _ end d = d
+
+-- What a kind makes of what the view has of the latch
+abbrev pub log_hold_after : LogKind → LogHold → LogHold
+log_hold_after take_log h = record h { held = true }
+log_hold_after leave_log h = record h { held = false; synced = false }
+log_hold_after (log_out taken) h = record h { out = Some taken }
+log_hold_after (append f tag p bytes) h = record h { change = change.Appended f tag p; appended = Some bytes }
+log_hold_after (fail_append bytes) h = record h { change = change.AppendFailed }
+log_hold_after sync_log h = record h { change = change.Synced; synced = true }
+log_hold_after fail_sync h = record h { change = change.SyncFailed; appended = None }
+log_hold_after (log_back noted) h = record h { out = None; change = change.Untouched }
+log_hold_after see_down h = h
+
+abbrev pub calls_by : LogKind → List DeviceCall
+calls_by (append f tag p bytes) = LogAppend ∷ []
+calls_by (fail_append bytes) = LogAppend ∷ []
+calls_by sync_log = LogSync ∷ []
+calls_by fail_sync = LogSync ∷ []
+calls_by _ = []
+
+abbrev pub met_by : LogKind → Met
+met_by (log_back true) = record { reads = 0; writes = 0; logs = 1 }
+met_by _ = record { reads = 0; writes = 0; logs = 0 }
+
+-- the holder's own failure shows it that the log is down
+abbrev pub sees_down : LogKind → Bool
+sees_down (fail_append bytes) = true
+sees_down fail_sync = true
+sees_down see_down = true
+sees_down _ = false
+
+-- What a kind makes of the view
+abbrev pub view_logged : LogKind → View → View
+view_logged k v = record v {
+  log = log_hold_after k v.log;
+  device_calls = v.device_calls ++ calls_by k;
+  met = sum_of_met v.met (met_by k);
+  saw_down = v.saw_down || sees_down k;
+  steps = v.steps + 1;
+}
+
+-- What is known of the log: its bytes, its end, and how many calls of its device had failed at the start
+pub record Written : Type 0 where
+  pub bytes : List ℕ
+  pub end : ℕ
+  pub faults : ℕ
+
+-- a count rose: it is greater now, or at its last value
+abbrev pub HasRisen : ℕ → ℕ → Type 0
+HasRisen before now = now ≢ last_count → before < now
+
+pub data LogTally : Type 0 where
+  -- the views whose record is appended and not part of the log yet
+  appenders : LogTally
+  -- the others that hold the latch
+  holders : LogTally
+
+-- the weight of who holds the latch, where it has no such record
+abbrev pub resting_weight : Option (List ℕ) → Bool → ℕ
+resting_weight None held = flag_weight held
+resting_weight (Some bytes) held = 0
+
+abbrev pub log_weigh : LogTally → LogHold → ℕ
+log_weigh holders h = resting_weight h.appended h.held
+log_weigh appenders h = some_weight h.appended
+
+-- the grid of views and of the log's one device; a view's own part is whether it saw the log down
+abbrev pub log_shape : Shape
+log_shape = record { Column = Device; Link = LogHold; View = View; Tally = LogTally; Block = Written; Own = Bool; weigh = log_weigh; link = λ v _. v.log; own = λ v. v.saw_down; spot = λ _. 0 }
+
+-- behind the log's bytes the device has nothing, or at most a record
+pub record IsLeft (w : Written) (d : Device) : Type 0 where
+  pub rest : List ℕ
+  pub is_bytes : d.bytes ≡ w.bytes ++ rest
+  pub short : length rest ≤ record_size
+
+-- What holds of the device
+pub record DeviceLaw (w : Written) (d : Device) (t : LogTally → ℕ) : Type 0 where
+  -- the latch is taken exactly where one view holds it
+  pub taken : flag_weight d.taken ≡ t holders + t appenders
+  -- the device holds the log's bytes, but for a record that is appended and not part of the log yet, and for what a failure left
+  pub bytes : t appenders ≡ 0 → d.down ≡ None → d.bytes ≡ w.bytes
+  -- a log that is down has the end that it had at the failure
+  pub down : (p : ℕ) → d.down ≡ Some p → p ≡ w.end
+  pub left : d.down ≢ None → IsLeft w d
+  -- and its count of faults rose since the start
+  pub rose : d.down ≢ None → HasRisen w.faults d.faults
+  pub least : w.faults ≤ d.faults
+  pub synced : d.synced ≤ length d.bytes
+
+-- What holds where a view appended a record that is not part of the log yet
+pub record AppendedLog (w : Written) (d : Device) (bytes : List ℕ) : Type 0 where
+  pub up : d.down ≡ None
+  pub is_bytes : d.bytes ≡ w.bytes ++ bytes
+  pub full : length bytes ≡ record_size
+
+-- What holds of the device and of what a view has of its latch
+pub record LogLink (w : Written) (d : Device) (saw_down : Bool) (h : LogHold) : Type 0 where
+  -- who doesn't hold the latch has neither the device nor a record nor a sync
+  pub resting : h.held ≡ false → (h.out ≡ None) × (h.appended ≡ None) × (h.synced ≡ false)
+  -- a call is noted only while the device is out
+  pub home : h.out ≡ None → h.change ≡ change.Untouched
+  pub appended : (bytes : List ℕ) → h.appended ≡ Some bytes → AppendedLog w d bytes
+  -- after a sync under this latch all bytes are durable
+  pub synced : h.synced ≡ true → d.synced ≡ length d.bytes
+  -- a log that a view saw down is down
+  pub saw : saw_down ≡ true → d.down ≢ None
+
+abbrev pub log_part : Part log_shape
+log_part = record { column = DeviceLaw; cell = LogLink }

@@ -1,0 +1,146 @@
+-- What every list of events keeps of reads, writes, lanes and the log, in the field's words.
+use Rattle.std.specs.Prelude.{◌≡◌, ◌≢◌, ℕ, ◌+◌, ◌<◌, ◌≤◌, Bool, true, false, List, [], ◌∷◌, ◌++◌, length, Some, None, count_by, if◌then◌else◌}
+use mathlib.Core.Option.{some}
+use lib.ListN.{get_elem?}
+use Rattle.page_layout.specs.Fields.{lsn_of}
+use Rattle.page_layout.specs.Soundness.{is_sound_page}
+use Rattle.pin_core.specs.declared.view.Call.{Call}
+use Rattle.pin_core.specs.declared.view.Call.TheVariants.{Read, Write}
+use Rattle.pin_core.specs.declared.view.View.{View}
+use Rattle.pin_core.specs.State.{Page, Config, CanOpen, no_tag, lane_hold}
+use Rattle.pin_core.specs.Invariant.{HasTag}
+use Rattle.page_core.specs.Histories.{NoneUnapplied}
+use Rattle.history_core.specs.Log.{Entry, log_end, end_of, cell, cut, head_size, log_bytes, IsLegal, place_of, writes_in, writes_at}
+use Rattle.history_core.specs.State.{State, Store, CanStore, stored, failed, last_position, opening}
+use Rattle.history_core.specs.Homes.{IsFlushedCell}
+use Rattle.history_core.specs.Lanes.{LaneKind}
+use Rattle.history_core.specs.Device.{IsLeft, HasRisen}
+use Rattle.history_core.specs.Invariant.{written_of}
+use Rattle.history_core.specs.Steps.{Event, write, enter, read, Step, Run}
+use Rattle.grid.specs.Shape.{total}
+
+-- a list of events leads to the state, from the start of a buffer pool over these lanes
+pub record IsReached (s : State) : Type 0 where
+  pub config : Config
+  pub store : Store
+  pub opens : CanOpen config
+  pub stores : CanStore config store
+  pub page : Page
+  pub events : List Event
+  pub run : Run events (opening config store page) s
+
+-- each page that a backend read or wrote stands at its place in one history, that of the log
+abbrev pub CallsAreLegal : State → Type 0
+CallsAreLegal s = (i k : ℕ) (v : View) (c : Call) → get_elem? s.pool.core.views i ≡ some v → get_elem? v.calls k ≡ some c → IsLegal s.origin s.log c
+
+-- The writes of all backends are the entries of the log
+pub record WritesAreEntries (s : State) : Type 0 where
+  -- they are as many
+  pub counted : total (λ (v : View). writes_in v.calls) s.pool.core.views ≡ length s.log.entries
+  -- and each entry is one write
+  pub once : (k : ℕ) (e : Entry) → get_elem? s.log.entries k ≡ some e → total (λ (v : View). writes_at (end_of e) v.calls) s.pool.core.views ≡ 1
+
+-- what a backend had read or written stands at the place or before it
+abbrev pub IsAfterCalls : View → ℕ → Type 0
+IsAfterCalls v place = (k : ℕ) (c : Call) → get_elem? v.calls k ≡ some c → place_of c ≤ place
+
+-- A step gave a read its place: the backend's view was v, and is w
+pub record ReadStands (s : State) (v w : View) : Type 0 where
+  pub tag : ℕ
+  pub page : Page
+  pub place : ℕ
+  -- the calls grow by the read, which is the front now
+  pub added : w.calls ≡ v.calls ++ Read tag page place ∷ []
+  pub front : w.front ≡ place
+  -- its page is the block's page after the entries up to its place
+  pub is_cell : page ≡ cell s.origin (cut place s.log.entries) tag
+  -- its place is at least all that the backend had seen
+  pub later : IsAfterCalls v place
+  pub above : v.front ≤ place
+
+-- A step made a write: likewise, and its place is above all that the backend had seen
+pub record WriteStands (t : State) (v w : View) : Type 0 where
+  pub tag : ℕ
+  pub page : Page
+  pub place : ℕ
+  pub added : w.calls ≡ v.calls ++ Write tag page place ∷ []
+  pub front : w.front ≡ place
+  -- the page's position in the log is its place, which is the log's end then
+  pub position : lsn_of page ≡ place
+  pub end : place ≡ log_end t.log
+  pub above : v.front < place
+
+abbrev pub ReadsStand : State → Type 0
+ReadsStand s = (i f : ℕ) (t : State) → Step (read i f) s t → (v : View) × (w : View) × (get_elem? s.pool.core.views i ≡ some v) × (get_elem? t.pool.core.views i ≡ some w) × ReadStands s v w
+
+abbrev pub WritesStand : State → Type 0
+WritesStand s = (i f : ℕ) (p : Page) (t : State) → Step (enter i f p) s t → (v : View) × (w : View) × (get_elem? s.pool.core.views i ≡ some v) × (get_elem? t.pool.core.views i ≡ some w) × WriteStands t v w
+
+-- Log before data: the page of a frame that goes to a lane, or was to go there when the write failed, has its position in the log at most at the flushed position as the backend had loaded it before the lane went out, and so at the flushed position
+pub record IsLogged (s : State) (n f : ℕ) (v : View) : Type 0 where
+  pub loaded : lsn_of (s.pool.core.frame f).page ≤ (lane_hold v n).flushed
+  pub flushed : (lane_hold v n).flushed ≤ s.flushed
+
+abbrev pub LogBeforeData : State → Type 0
+LogBeforeData s = (i n f : ℕ) (k : LaneKind) (t : State) → Step (write i n f k) s t → (v : View) × (get_elem? s.pool.core.views i ≡ some v) × IsLogged s n f v
+
+-- what a lane holds for a block whose last write didn't fail is no page ahead of the flushed log
+abbrev pub LanesHoldFlushedPages : State → Type 0
+LanesHoldFlushedPages s = (tag : ℕ) → failed s tag ≡ false → IsFlushedCell s.origin s.log.entries s.flushed tag (stored s tag)
+
+-- no dirty frame has the tag
+abbrev pub HasNoDirtyFrame : State → ℕ → Type 0
+HasNoDirtyFrame s tag = (f : ℕ) → f < s.pool.core.frames → (s.pool.core.frame f).tag ≡ tag → (s.pool.core.frame f).word.dirty ≡ false
+
+-- The lane holds the block's page, and its last write didn't fail
+pub record IsStored (s : State) (tag : ℕ) : Type 0 where
+  pub done : failed s tag ≡ false
+  pub stored_is : stored s tag ≡ cell s.origin s.log.entries tag
+
+-- so it is where no dirty frame has the block
+abbrev pub CleanBlocksAreStored : State → Type 0
+CleanBlocksAreStored s = (tag : ℕ) → tag ≢ no_tag → HasNoDirtyFrame s tag → IsStored s tag
+
+-- the page of a valid frame is sound
+abbrev pub FramesAreSound : State → Type 0
+FramesAreSound s = (f : ℕ) → f < s.pool.core.frames → (s.pool.core.frame f).word.valid ≡ true → is_sound_page (s.pool.core.frame f).page ≡ true
+
+-- and is its block's page after all entries, unless a view has an entry to apply there
+abbrev pub FramesHoldCells : State → Type 0
+FramesHoldCells s = (f : ℕ) → f < s.pool.core.frames → HasTag (s.pool.core.frame f) → (s.pool.core.frame f).word.valid ≡ true → NoneUnapplied s.pool f → (s.pool.core.frame f).page ≡ cell s.origin s.log.entries (s.pool.core.frame f).tag
+
+-- The words of the log
+pub record LogWords (s : State) : Type 0 where
+  pub ends : s.end ≡ log_end s.log
+  pub limit : s.end ≤ last_position
+  pub flushed_from : s.log.base ≤ s.flushed
+  pub flushed_to : s.flushed ≤ s.end
+
+-- each entry that ends at the flushed position or before it is durable in the log's device
+abbrev pub EntriesAreDurable : State → Type 0
+EntriesAreDurable s = (k : ℕ) (e : Entry) → get_elem? s.log.entries k ≡ some e → end_of e ≤ s.flushed → head_size + end_of e ≤ s.log.base + s.device.synced
+
+-- no view has appended a record that is not part of the log yet
+abbrev pub NoneAppended : State → Type 0
+NoneAppended s = (i : ℕ) (v : View) → get_elem? s.pool.core.views i ≡ some v → v.log.appended ≡ None
+
+-- What the log's device holds
+pub record DeviceHoldsLog (s : State) : Type 0 where
+  -- the log's bytes, while it isn't down and no record is appended that is not part of it yet
+  pub whole : s.device.down ≡ None → NoneAppended s → s.device.bytes ≡ log_bytes s.names s.log
+  -- once a call failed, these and behind them at most a record's bytes
+  pub left : s.device.down ≢ None → IsLeft (written_of s) s.device
+  -- the log is down at its end
+  pub down : (p : ℕ) → s.device.down ≡ Some p → p ≡ s.end
+  -- and only where a call of its device failed since the start
+  pub rose : s.device.down ≢ None → HasRisen s.log_faults s.device.faults
+  -- a log that a view saw down is down
+  pub saw : (i : ℕ) (v : View) → get_elem? s.pool.core.views i ≡ some v → v.saw_down ≡ true → s.device.down ≢ None
+
+-- whether the view holds the latch of the lane n
+abbrev pub holds_lane : ℕ → View → Bool
+holds_lane n v = (lane_hold v n).held
+
+-- one view has a lane's latch where it is taken, and none where it isn't
+abbrev pub LanesAreHeld : State → Type 0
+LanesAreHeld s = (n : ℕ) → n < s.lanes → count_by (holds_lane n) s.pool.core.views ≡ (if (s.lane n).taken then 1 else 0)

@@ -1,0 +1,64 @@
+-- The blocks of the frames: what their lanes hold.
+use Rattle.std.specs.Prelude.{◌≡◌, ◌≢◌, ℕ, ◌<◌, ◌≤◌, Bool, false, List, Some}
+use Rattle.pin_core.specs.declared.view.LastWrite.TheVariants.{Done}
+use Rattle.pin_core.specs.declared.view.Link.{Link}
+use Rattle.pin_core.specs.declared.view.View.{View}
+use Rattle.pin_core.specs.State.{Frame, Page, no_tag, link}
+use Rattle.page_core.specs.State as page
+use Rattle.page_core.specs.State.{block_of}
+use Rattle.page_core.specs.Tallies.{Tally, weigh, page_shape}
+use Rattle.history_core.specs.Log.{Entry, cell, cut}
+use Rattle.history_core.specs.State.{State, stored, failed}
+use Rattle.grid.specs.Shape.{Shape, Part}
+
+-- What is known of a block
+pub record Home : Type 0 where
+  -- its page after the log
+  pub block : page.Block
+  -- the page that its lane holds, and whether its last write failed
+  pub stored : Page
+  pub failed : Bool
+
+abbrev pub home_of : State → ℕ → Home
+home_of s tag = record { block = block_of s.pool.logged tag; stored = stored s tag; failed = failed s tag }
+
+-- the lane holds the block's page after the log, and its last write didn't fail
+pub record IsClean (h : Home) : Type 0 where
+  pub done : h.failed ≡ false
+  pub stored : h.block.logged ≡ Some h.stored
+
+-- the grid of views and frames, with what is known of the block that a frame's tag names
+abbrev pub home_shape : Shape
+home_shape = record { Column = Frame; Link = Link; View = View; Tally = Tally; Block = Home; Own = Unit {0}; weigh = weigh; link = link; own = λ _. tt; spot = λ fr. fr.tag }
+
+-- a law of `page_core` in this grid
+abbrev pub of_pages : Part page_shape → Part home_shape
+of_pages p = record { column = λ h fr t. p.column h.block fr t; cell = λ h fr o l. p.cell h.block fr o l }
+
+-- What holds of a frame and of its block
+pub record HomeFrame (h : Home) (fr : Frame) : Type 0 where
+  -- the block of a frame that isn't dirty is clean
+  pub clean : fr.tag ≢ no_tag → fr.word.dirty ≡ false → IsClean h
+
+-- What holds where a view's last write under its output right is noted as done
+pub record DoneLink (h : Home) (fr : Frame) : Type 0 where
+  -- the lane holds the frame's page, and the block's last write didn't fail
+  pub done : h.failed ≡ false
+  pub stored : h.stored ≡ fr.page
+
+-- What holds of a frame, of its block and of what a view has there
+pub record HomeLink (h : Home) (fr : Frame) (l : Link) : Type 0 where
+  pub written : l.last_write ≡ Done → DoneLink h fr
+
+abbrev pub home_part : Part home_shape
+home_part = record { column = λ h fr t. HomeFrame h fr; cell = λ h fr _ l. HomeLink h fr l }
+
+-- no frame has the tag
+abbrev pub IsUnframed : ℕ → (ℕ → Frame) → ℕ → Type 0
+IsUnframed frames frame tag = (f : ℕ) → f < frames → (frame f).tag ≢ tag
+
+-- the page is the block's after the entries up to some position that is flushed
+pub record IsFlushedCell (origin : ℕ → Page) (entries : List Entry) (flushed tag : ℕ) (p : Page) : Type 0 where
+  pub place : ℕ
+  pub within : place ≤ flushed
+  pub is_cell : p ≡ cell origin (cut place entries) tag

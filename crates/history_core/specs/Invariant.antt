@@ -1,0 +1,70 @@
+-- What holds of the lanes, the log and the calls in every state that steps lead to.
+use Rattle.std.specs.Prelude.{◌≡◌, ◌≢◌, ℕ, ◌+◌, ◌<◌, ◌≤◌, false, List, Some, length}
+use mathlib.Core.Option.{some}
+use lib.ListN.{get_elem?}
+use Rattle.pin_core.specs.declared.view.Call.{Call}
+use Rattle.pin_core.specs.declared.view.View.{View}
+use Rattle.pin_core.specs.State.{Page, no_tag}
+use Rattle.page_core.specs.Invariant as pages
+use Rattle.history_core.specs.Log.{Entry, Log, LogLaw, log_end, head_size, log_bytes, end_of, cell, IsLegal, place_of, writes_in, writes_at, AreInOrder}
+use Rattle.history_core.specs.State.{State, stored, failed, last_position}
+use Rattle.history_core.specs.Lanes.{lane_shape, lane_part}
+use Rattle.history_core.specs.Device.{Written, log_shape, log_part}
+use Rattle.history_core.specs.Homes.{home_of, home_shape, home_part, IsClean, IsUnframed, IsFlushedCell}
+use Rattle.grid.specs.Shape.{Grid, total}
+
+-- What holds of the calls of a view
+pub record CallsLaw (origin : ℕ → Page) (log : Log) (flushed : ℕ) (v : View) : Type 0 where
+  -- each is legal with the log
+  pub legal : (k : ℕ) (c : Call) → get_elem? v.calls k ≡ some c → IsLegal origin log c
+  -- none has a place above the front
+  pub fronted : (k : ℕ) (c : Call) → get_elem? v.calls k ≡ some c → place_of c ≤ v.front
+  -- the front is at most the log's end
+  pub within : v.front ≤ log_end log
+  -- the places never fall, but where the view took in the calls of others
+  pub in_order : v.joined ≡ 0 → AreInOrder v.calls
+  -- the flushed position that the view has loaded is at most the flushed position
+  pub loaded : v.flushed ≤ flushed
+
+-- What holds of the calls of all views
+pub record HistoryLaw (origin : ℕ → Page) (log : Log) (flushed : ℕ) (views : List View) : Type 0 where
+  pub calls : (i : ℕ) (v : View) → get_elem? views i ≡ some v → CallsLaw origin log flushed v
+  -- the writes in all views are as many as the entries
+  pub counted : total (λ (v : View). writes_in v.calls) views ≡ length log.entries
+  -- each entry is a write in exactly one view
+  pub once : (k : ℕ) (e : Entry) → get_elem? log.entries k ≡ some e → total (λ (v : View). writes_at (end_of e) v.calls) views ≡ 1
+
+-- what is known of the log: its bytes, and its end
+abbrev pub written_of : State → Written
+written_of s = record { bytes = log_bytes s.names s.log; end = s.end; faults = s.log_faults }
+
+-- The law of the buffer pool, and that of the lanes, the log and the calls
+pub record Invariant (s : State) : Type 0 where
+  pub pool : pages.Invariant s.pool
+  -- the page of a block after the log is the image of its last entry, or what its lane held at the start
+  pub logged : s.pool.logged ≡ (λ tag. Some (cell s.origin s.log.entries tag))
+  pub log : LogLaw s.log
+  -- new views begin where the log does
+  pub based : s.pool.core.base ≡ s.log.base
+  -- the log's end is behind its last entry, and at most the last position
+  pub ends : s.end ≡ log_end s.log
+  pub limit : s.end ≤ last_position
+  -- the flushed position is between the base and the log's end
+  pub flushed_from : s.log.base ≤ s.flushed
+  pub flushed_to : s.flushed ≤ s.end
+  -- the log names a block in 20 bytes
+  pub named : (tag : ℕ) → length (s.names tag) ≡ 20
+  -- each entry that ends at the flushed position or before it is durable: the position p is at the byte `head_size + (p - base)`
+  pub durable : s.log.base < s.flushed → head_size + s.flushed ≤ s.log.base + s.device.synced
+  pub device : Grid log_shape log_part 1 (λ _. s.device) (λ _. written_of s) s.pool.core.views
+  pub history : HistoryLaw s.origin s.log s.flushed s.pool.core.views
+  pub lanes : Grid lane_shape lane_part s.lanes s.lane (λ _. s.flushed) s.pool.core.views
+  -- a view has a hold for each lane
+  pub wide : (i : ℕ) (v : View) → get_elem? s.pool.core.views i ≡ some v → v.emptied ≡ false → length v.lanes ≡ s.lanes
+  -- each tag has a lane
+  pub placed : (tag : ℕ) → s.lane_of tag < s.lanes
+  pub homes : Grid home_shape home_part s.pool.core.frames s.pool.core.frame (home_of s) s.pool.core.views
+  -- a block that has no frame is clean
+  pub unframed : (tag : ℕ) → tag ≢ no_tag → IsUnframed s.pool.core.frames s.pool.core.frame tag → IsClean (home_of s tag)
+  -- what a lane holds for a block whose last write didn't fail is the block's page after the entries up to some flushed position
+  pub flushed_cells : (tag : ℕ) → failed s tag ≡ false → IsFlushedCell s.origin s.log.entries s.flushed tag (stored s tag)

@@ -1,0 +1,184 @@
+-- The latches of the lanes: the kinds of step at one, and what holds of it.
+use Rattle.std.specs.Prelude.{◌≡◌, ◌≢◌, ℕ, ◌<◌, ◌≤◌, Bool, true, false, List, [], ◌∷◌, ◌++◌, Some, None, slice_set, ◌||◌}
+use Rattle.pin_core.specs.declared.view.LaneChange.{LaneChange}
+use Rattle.pin_core.specs.declared.view.LaneChange.TheVariants.{Untouched, Read, ReadFailed, Written, WriteFailed, Synced, SyncFailed}
+use Rattle.pin_core.specs.declared.view.TakenLane.{TakenLane}
+use Rattle.pin_core.specs.declared.view.LaneHold.{LaneHold}
+use Rattle.pin_core.specs.declared.view.DeviceCall.{DeviceCall}
+use Rattle.pin_core.specs.declared.view.DeviceCall.TheVariants as device
+use Rattle.pin_core.specs.declared.view.Met.{Met}
+use Rattle.pin_core.specs.declared.view.View.{View}
+use Rattle.pin_core.specs.State.{Page, lane_hold, sum_of_met}
+use Rattle.pin_core.specs.Tallies.{flag_weight}
+use Rattle.history_core.specs.State.{Lane, raised}
+use Rattle.grid.specs.Shape.{Shape, Part, put}
+
+pub data LaneKind : Type 0 where
+  -- the latch is taken
+  take_lane : LaneKind
+  -- and left
+  leave_lane : LaneKind
+  -- the lane goes out to the holder, and this is what it is then
+  lane_out : TakenLane → LaneKind
+  -- the holder reads the block of a tag (`smgrread`), or fails to
+  read_block : ℕ → LaneKind
+  fail_read : ℕ → LaneKind
+  -- it writes the page of a frame to the block of the frame's tag (`smgrwrite`), or fails to: then the lane holds any page for the block
+  write_block : ℕ → ℕ → Page → LaneKind
+  fail_write : ℕ → ℕ → Page → LaneKind
+  -- it makes the lane's writes durable (`smgrimmedsync`), or fails to
+  sync_lane : LaneKind
+  fail_sync : LaneKind
+  -- the lane comes back; the backend counts a fault, or none
+  lane_back : Bool → LaneKind
+
+abbrev pub is_failed_read : LaneChange → Bool
+is_failed_read (ReadFailed tag) = true
+is_failed_read _ = false
+
+abbrev pub is_failed_write : LaneChange → Bool
+is_failed_write (WriteFailed f tag) = true
+is_failed_write SyncFailed = true
+is_failed_write _ = false
+
+pub record CanTakeLane (ln : Lane) (h : LaneHold) : Type 0 where
+  pub free : ln.taken ≡ false
+
+pub record CanLeaveLane (ln : Lane) (h : LaneHold) : Type 0 where
+  pub held : h.held ≡ true
+  pub home : h.out ≡ None
+
+pub record CanTakeOut (taken : TakenLane) (ln : Lane) (h : LaneHold) : Type 0 where
+  pub held : h.held ≡ true
+  pub home : h.out ≡ None
+  pub reads : taken.read_faults ≡ ln.read_faults
+  pub writes : taken.write_faults ≡ ln.write_faults
+
+-- one call of the lane each time that it is out
+pub record CanCall (ln : Lane) (h : LaneHold) : Type 0 where
+  pub out : h.out ≢ None
+  pub once : h.change ≡ Untouched
+
+-- a fault is counted only for a call that failed, and is where its count rose
+pub record CountsFault (noted : Bool) (taken : TakenLane) (ln : Lane) (change : LaneChange) : Type 0 where
+  pub failed : noted ≡ true → (is_failed_read change || is_failed_write change) ≡ true
+  pub read_rose : taken.read_faults < ln.read_faults → noted ≡ true
+  pub write_rose : taken.write_faults < ln.write_faults → noted ≡ true
+
+pub record CanReturnLane (noted : Bool) (ln : Lane) (h : LaneHold) : Type 0 where
+  pub out : h.out ≢ None
+  pub counts : (taken : TakenLane) → h.out ≡ Some taken → CountsFault noted taken ln h.change
+
+abbrev pub LaneAllowed : LaneKind → Lane → LaneHold → Type 0
+LaneAllowed take_lane ln h = CanTakeLane ln h
+LaneAllowed leave_lane ln h = CanLeaveLane ln h
+LaneAllowed (lane_out taken) ln h = CanTakeOut taken ln h
+LaneAllowed (lane_back noted) ln h = CanReturnLane noted ln h
+LaneAllowed _ ln h = CanCall ln h
+
+-- What a kind makes of the lane
+abbrev pub lane_after : LaneKind → Lane → Lane
+lane_after take_lane ln = record ln { taken = true }
+lane_after leave_lane ln = record ln { taken = false }
+lane_after (fail_read tag) ln = record ln { read_faults = raised ln.read_faults }
+lane_after (write_block f tag p) ln = record ln { stored = put ln.stored tag p; failed = put ln.failed tag false }
+lane_after (fail_write f tag p) ln = record ln { stored = put ln.stored tag p; failed = put ln.failed tag true; write_faults = raised ln.write_faults }
+lane_after fail_sync ln = record ln { write_faults = raised ln.write_faults }
+lane_after _ ln = ln
+
+-- What a kind makes of what the view has of the latch, where `flushed` is the flushed position as the view had loaded it
+abbrev pub lane_hold_after : LaneKind → ℕ → Lane → LaneHold → LaneHold
+lane_hold_after take_lane flushed ln h = record h { held = true }
+lane_hold_after leave_lane flushed ln h = record h { held = false }
+lane_hold_after (lane_out taken) flushed ln h = record h { out = Some taken; flushed = flushed }
+lane_hold_after (read_block tag) flushed ln h = record h { change = Read tag (ln.stored tag) }
+lane_hold_after (fail_read tag) flushed ln h = record h { change = ReadFailed tag }
+lane_hold_after (write_block f tag p) flushed ln h = record h { change = Written f tag p }
+lane_hold_after (fail_write f tag p) flushed ln h = record h { change = WriteFailed f tag }
+lane_hold_after sync_lane flushed ln h = record h { change = Synced }
+lane_hold_after fail_sync flushed ln h = record h { change = SyncFailed }
+lane_hold_after (lane_back noted) flushed ln h = record h { out = None; change = Untouched }
+
+-- the device call that a kind is, at the lane n
+abbrev pub calls_by : LaneKind → ℕ → List DeviceCall
+calls_by (read_block tag) n = device.LaneRead n tag ∷ []
+calls_by (fail_read tag) n = device.LaneRead n tag ∷ []
+calls_by (write_block f tag p) n = device.LaneWrite n tag ∷ []
+calls_by (fail_write f tag p) n = device.LaneWrite n tag ∷ []
+calls_by sync_lane n = device.LaneSync n ∷ []
+calls_by fail_sync n = device.LaneSync n ∷ []
+calls_by _ n = []
+
+-- the fault that a backend counts as the lane comes back
+abbrev pub fault_of : Bool → LaneChange → Met
+fault_of true (ReadFailed tag) = record { reads = 1; writes = 0; logs = 0 }
+fault_of true (WriteFailed f tag) = record { reads = 0; writes = 1; logs = 0 }
+fault_of true SyncFailed = record { reads = 0; writes = 1; logs = 0 }
+fault_of _ _ = record { reads = 0; writes = 0; logs = 0 }
+
+abbrev pub met_by : LaneKind → LaneHold → Met
+met_by (lane_back noted) h = fault_of noted h.change
+met_by _ h = record { reads = 0; writes = 0; logs = 0 }
+
+abbrev pub syncs : LaneKind → Bool
+syncs sync_lane = true
+syncs fail_sync = true
+syncs _ = false
+
+-- What a kind at the lane n makes of the view, beside the number of its steps
+abbrev pub lane_changed : LaneKind → ℕ → Lane → LaneHold → View → View
+lane_changed k n ln h v = record v {
+  lanes = slice_set v.lanes n (lane_hold_after k v.flushed ln h);
+  device_calls = v.device_calls ++ calls_by k n;
+  met = sum_of_met v.met (met_by k h);
+  dirtied_or_synced = v.dirtied_or_synced || syncs k;
+}
+
+-- what is summed over the views of a latch: those that hold it
+pub data LaneTally : Type 0 where
+  holders : LaneTally
+
+-- the grid of views and lanes; what is known of every lane is the word up to which the log is flushed
+abbrev pub lane_shape : Shape
+lane_shape = record { Column = Lane; Link = LaneHold; View = View; Tally = LaneTally; Block = ℕ; Own = Unit {0}; weigh = λ _ h. flag_weight h.held; link = lane_hold; own = λ _. tt; spot = λ _. 0 }
+
+-- What holds of a lane and of how many views hold its latch
+pub record LaneColumn (ln : Lane) (t : LaneTally → ℕ) : Type 0 where
+  -- the latch is taken exactly where one view holds it
+  pub taken : flag_weight ln.taken ≡ t holders
+
+-- What holds of a lane that was written while it is out
+pub record WrittenLane (ln : Lane) (tag : ℕ) (page : Page) : Type 0 where
+  -- it holds the page, and the block's last write didn't fail
+  pub stored : ln.stored tag ≡ page
+  pub done : ln.failed tag ≡ false
+
+-- What holds of the counts of a lane that is out
+pub record CountsOut (taken : TakenLane) (ln : Lane) (change : LaneChange) : Type 0 where
+  -- they are as they were when it went out, but for the holder's call that failed
+  pub reads : is_failed_read change ≡ false → ln.read_faults ≡ taken.read_faults
+  pub read_failed : is_failed_read change ≡ true → ln.read_faults ≡ raised taken.read_faults
+  pub writes : is_failed_write change ≡ false → ln.write_faults ≡ taken.write_faults
+  pub write_failed : is_failed_write change ≡ true → ln.write_faults ≡ raised taken.write_faults
+
+-- What holds of a lane's pages and of what a view has of its latch, where the log is flushed up to `flushed`
+pub record HoldLaw (flushed : ℕ) (ln : Lane) (h : LaneHold) : Type 0 where
+  -- who doesn't hold the latch hasn't the lane
+  pub resting : h.held ≡ false → h.out ≡ None
+  -- a call is noted only while the lane is out
+  pub home : h.out ≡ None → h.change ≡ Untouched
+  -- the page that was read is the one that the lane holds
+  pub read : (tag : ℕ) (page : Page) → h.change ≡ Read tag page → ln.stored tag ≡ page
+  pub written : (f tag : ℕ) (page : Page) → h.change ≡ Written f tag page → WrittenLane ln tag page
+  -- a write that failed is among the failed ones
+  pub write_failed : (f tag : ℕ) → h.change ≡ WriteFailed f tag → ln.failed tag ≡ true
+  -- the flushed position that was loaded before the lane went out is at most the flushed position
+  pub flushed_by : h.out ≢ None → h.flushed ≤ flushed
+
+-- and of its counts
+pub record LaneLink (flushed : ℕ) (ln : Lane) (h : LaneHold) : Type 0 where
+  pub hold : HoldLaw flushed ln h
+  pub counts : (taken : TakenLane) → h.out ≡ Some taken → CountsOut taken ln h.change
+
+abbrev pub lane_part : Part lane_shape
+lane_part = record { column = λ _ ln t. LaneColumn ln t; cell = λ flushed ln _ h. LaneLink flushed ln h }

@@ -1,0 +1,124 @@
+-- The buffer pool with the lanes that hold its blocks, and the log.
+use Rattle.std.specs.Prelude.{◌≡◌, ℕ, ◌+◌, ◌<◌, ◌≤◌, Bool, false, List, [], length, nat_eq, Option, Some, None, if◌then◌else◌}
+use Rattle.pin_core.specs.State.{Page, Config}
+use Rattle.page_core.specs.State as page
+use Rattle.history_core.specs.Log.{Log, head_bytes}
+
+-- A lane: the device that holds some of the blocks, with its latch
+pub record Lane : Type 0 where
+  -- whether a backend has the latch
+  pub taken : Bool
+  -- the page that it holds for each block, by its tag
+  pub stored : ℕ → Page
+  -- the blocks whose last write failed
+  pub failed : ℕ → Bool
+  -- how many reads, and how many writes and syncs, have failed
+  pub read_faults : ℕ
+  pub write_faults : ℕ
+  -- and how many had at the start
+  pub read_faults_at_start : ℕ
+  pub write_faults_at_start : ℕ
+
+-- the last value of a counter
+abbrev pub last_count : ℕ
+last_count = 18446744073709551615
+
+-- a counter that rises, and stands still at its last value
+abbrev pub raised : ℕ → ℕ
+raised n = if nat_eq n last_count then n else n + 1
+
+-- The device of the log, with its latch
+pub record Device : Type 0 where
+  -- whether a backend has the latch
+  pub taken : Bool
+  pub bytes : List ℕ
+  -- how many of the bytes are durable
+  pub synced : ℕ
+  -- how many appends and syncs have failed
+  pub faults : ℕ
+  -- once a call has failed, the log is down for good: this is the log's end as it was then
+  pub down : Option ℕ
+
+-- the last position in the log: 2 to the power 62
+abbrev pub last_position : ℕ
+last_position = 4611686018427387904
+
+-- The buffer pool with the pages of its blocks, the lanes, and the log
+pub record State : Type 0 where
+  -- frames, maps, views, and each block's page after the log
+  pub pool : page.State
+  -- how many lanes there are, and the lane of each tag
+  pub lanes : ℕ
+  pub lane_of : ℕ → ℕ
+  pub lane : ℕ → Lane
+  -- the pages that the lanes held at the start
+  pub origin : ℕ → Page
+  pub log : Log
+  -- how the log names a block, by its tag
+  pub names : ℕ → List ℕ
+  -- the device that holds the log's bytes, and how many of its calls had failed at the start
+  pub device : Device
+  pub log_faults : ℕ
+  -- the word of the log's end, and the word up to which the log is flushed
+  pub end : ℕ
+  pub flushed : ℕ
+
+-- the page that the block's lane holds, and whether the block's last write failed
+abbrev pub stored : State → ℕ → Page
+stored s tag = (s.lane (s.lane_of tag)).stored tag
+
+abbrev pub failed : State → ℕ → Bool
+failed s tag = (s.lane (s.lane_of tag)).failed tag
+
+-- What the lanes and the log are at the start
+pub record Store : Type 0 where
+  pub lane_of : ℕ → ℕ
+  -- the pages that the lanes hold, whose contents are known
+  pub origin : ℕ → Page
+  -- how the log names a block
+  pub names : ℕ → List ℕ
+  -- how many reads of each lane, and how many writes and syncs, have failed
+  pub read_faults : ℕ → ℕ
+  pub write_faults : ℕ → ℕ
+  -- how many bytes of the log's head are durable, and how many calls of its device have failed
+  pub head_synced : ℕ
+  pub log_faults : ℕ
+
+-- each tag has a lane, the log begins at a position, and it names a block in 20 bytes
+pub record CanStore (c : Config) (store : Store) : Type 0 where
+  pub placed : (tag : ℕ) → store.lane_of tag < c.lanes
+  pub based : c.base ≤ last_position
+  pub named : (tag : ℕ) → length (store.names tag) ≡ 20
+  pub synced : store.head_synced ≤ length (head_bytes c.base)
+
+-- the lane n at the start: no block's last write has failed
+abbrev pub fresh_lane : Store → ℕ → Lane
+fresh_lane store n = record {
+  taken = false;
+  stored = store.origin;
+  failed = λ _. false;
+  read_faults = store.read_faults n;
+  write_faults = store.write_faults n;
+  read_faults_at_start = store.read_faults n;
+  write_faults_at_start = store.write_faults n;
+}
+
+-- the log's device at the start: it has the head of a log that begins at `base`
+abbrev pub fresh_device : ℕ → Store → Device
+fresh_device base store = record { taken = false; bytes = head_bytes base; synced = store.head_synced; faults = store.log_faults; down = None }
+
+-- the start: an empty log
+abbrev pub opening : Config → Store → Page → State
+opening c store p = record {
+  pool = page.opening c (λ tag. Some (store.origin tag)) p;
+  lanes = c.lanes;
+  lane_of = store.lane_of;
+  lane = fresh_lane store;
+  origin = store.origin;
+  log = record { base = c.base; entries = [] };
+  names = store.names;
+  device = fresh_device c.base store;
+  log_faults = store.log_faults;
+  end = c.base;
+  flushed = c.base;
+}

@@ -1,0 +1,202 @@
+-- One step, and lists of steps.
+use Rattle.std.specs.Prelude.{◌≡◌, ◌≢◌, ℕ, ◌+◌, ◌<◌, ◌≤◌, true, false, List, [], ◌∷◌, ◌++◌, length, max, Bool, Some, slice_set, None}
+use mathlib.Core.Option.{some}
+use lib.ListN.{get_elem?}
+use Rattle.page_layout.specs.Fields.{lsn_of}
+use Rattle.pin_core.specs.declared.view.Content.TheVariants.{Unlocked}
+use Rattle.pin_core.specs.declared.view.Io.TheVariants.{Input}
+use Rattle.pin_core.specs.declared.view.LaneChange.{LaneChange}
+use Rattle.pin_core.specs.declared.view.LaneChange.TheVariants as lane_change
+use Rattle.pin_core.specs.declared.view.LaneHold.{LaneHold}
+use Rattle.pin_core.specs.declared.view.Seen.{Seen}
+use Rattle.pin_core.specs.declared.view.Seen.TheVariants as seen
+use Rattle.pin_core.specs.declared.view.Link.{Link}
+use Rattle.pin_core.specs.declared.view.View.{View}
+use Rattle.pin_core.specs.declared.view.Call.TheVariants.{Read, Write}
+use Rattle.pin_core.specs.State.{Page, link, lane_hold, local}
+use Rattle.pin_core.specs.Kinds.{load_of}
+use Rattle.page_core.specs.State as page
+use Rattle.page_core.specs.State.{Block, block_of}
+use Rattle.page_core.specs.Kinds as pages
+use Rattle.page_core.specs.Kinds.{Kind, note_read, begin_write, note_write, make_entry, end_io}
+use Rattle.page_core.specs.Steps as page_steps
+use Rattle.page_core.specs.Steps.{logged_after}
+use Rattle.history_core.specs.Log.{Entry, record_size, record_bytes}
+use Rattle.history_core.specs.State.{State, last_position}
+use Rattle.history_core.specs.Lanes.{LaneKind, read_block, fail_read, write_block, fail_write, lane_back, LaneAllowed, lane_after, lane_changed}
+use Rattle.history_core.specs.Device.{LogKind, LogAllowed, device_after, view_logged}
+use Rattle.grid.specs.Shape.{put}
+
+-- What happens: what happens to pins, maps, content locks and pages, or a backend's step at a lane or at the log
+pub data Event : Type 0 where
+  pool : page_steps.Event → Event
+  -- a step at the latch of a lane; the last two take a frame besides
+  lane : ℕ → ℕ → LaneKind → Event
+  write : ℕ → ℕ → ℕ → LaneKind → Event
+  note : ℕ → ℕ → ℕ → LaneKind → Kind → Event
+  -- a step at the latch of the log
+  log : ℕ → LogKind → Event
+  -- a backend's entry of a new page of a frame becomes part of the log: the log's end is stored
+  enter : ℕ → ℕ → Page → Event
+  -- the log's end is loaded as the place of a read of the page that was copied from a frame
+  read : ℕ → ℕ → Event
+  -- the log's end is loaded, and the flushed position
+  load_end : ℕ → Event
+  load_flushed : ℕ → Event
+  -- the flushed position is raised to the log's end
+  raise_flushed : ℕ → Event
+
+-- the kinds of `page_core` that stand there for what a lane gives and takes, and for a new entry, are part of a step of this crate's own
+abbrev pub IsPlain : Kind → Type 0
+IsPlain (note_read p) = ⊥
+IsPlain begin_write = ⊥
+IsPlain (note_write done) = ⊥
+IsPlain (make_entry p) = ⊥
+IsPlain _ = Unit {0}
+
+-- What an event of the buffer pool asks besides
+abbrev pub PoolAllowed : page_steps.Event → Type 0
+PoolAllowed (page_steps.pins_and_maps e) = Unit {0}
+PoolAllowed (page_steps.at i f k) = IsPlain k
+
+-- a view after one more step that isn't a load
+abbrev pub stepped : View → View
+stepped v = record v { steps = v.steps + 1 }
+
+-- a view after a load
+abbrev pub looked : Seen → View → View
+looked seen v = record v { loads = v.loads ++ load_of v seen ∷ [] }
+
+-- the view of backend i changes, and nothing else of the buffer pool
+abbrev pub aside : page.State → ℕ → View → page.State
+aside s i w = record s { core = record s.core { views = slice_set s.core.views i w } }
+
+-- the frame f, its block and the view of backend i change as by the kind k of `page_core`; the view becomes w
+abbrev pub pool_after : Kind → page.State → ℕ → ℕ → View → page.State
+pool_after k s i f w = let fr = s.core.frame f in let b = block_of s.logged fr.tag in record {
+  core = local s.core i f (pages.frame_after k b fr) w;
+  logged = logged_after k s.logged fr.tag;
+}
+
+-- what the kind k of `page_core` at the frame f makes of the view
+abbrev pub paged : Kind → page.State → ℕ → View → View
+paged k s f v = let fr = s.core.frame f in pages.view_after k f (block_of s.logged fr.tag) fr (link v f) v
+
+-- the lane n after a step of the kind k, and what this makes of the view v, whose hold of the latch is h
+abbrev pub laned : LaneKind → State → ℕ → View → View → View
+laned k s n v w = lane_changed k n (s.lane n) (lane_hold v n) w
+
+-- The kinds at a lane that touch no frame: a call other than a write, and a return without a write
+abbrev pub NoWrite : LaneChange → Type 0
+NoWrite (lane_change.Written f tag page) = ⊥
+NoWrite (lane_change.WriteFailed f tag) = ⊥
+NoWrite _ = Unit {0}
+
+abbrev pub LaneAlone : LaneKind → State → ℕ → LaneHold → Type 0
+LaneAlone (read_block tag) s n h = s.lane_of tag ≡ n
+LaneAlone (fail_read tag) s n h = s.lane_of tag ≡ n
+LaneAlone (write_block f tag p) s n h = ⊥
+LaneAlone (fail_write f tag p) s n h = ⊥
+LaneAlone (lane_back noted) s n h = NoWrite h.change
+LaneAlone _ s n h = Unit {0}
+
+-- A lane write carries the page of the frame f, under the output right, to the lane of the frame's block; the page's position in the log is at most the flushed position that the backend had loaded when the lane went out
+pub record CanWrite (s : State) (n f tag : ℕ) (p : Page) (h : LaneHold) (l : Link) : Type 0 where
+  pub tagged : (s.pool.core.frame f).tag ≡ tag
+  pub lane : s.lane_of tag ≡ n
+  pub page : (s.pool.core.frame f).page ≡ p
+  pub right : pages.Allowed begin_write (block_of s.pool.logged tag) (s.pool.core.frame f) l
+  pub log_first : lsn_of p ≤ h.flushed
+
+-- a write that fails leaves any page in the lane
+abbrev pub Writes : LaneKind → State → ℕ → ℕ → LaneHold → Link → Type 0
+Writes (write_block g tag p) s n f h l = (g ≡ f) × CanWrite s n f tag p h l
+Writes (fail_write g tag p) s n f h l = (g ≡ f) × CanWrite s n f tag (s.pool.core.frame f).page h l
+Writes _ s n f h l = ⊥
+
+-- the page that was read is of the frame's block; the backend has the input right there, and isn't just putting an earlier read into the frame
+pub record CanNoteLaneRead (s : State) (n f : ℕ) (p : Page) (h : LaneHold) (l : Link) : Type 0 where
+  pub was_read : h.change ≡ lane_change.Read (s.pool.core.frame f).tag p
+  pub lane : s.lane_of (s.pool.core.frame f).tag ≡ n
+  pub right : l.io ≡ Input
+  pub fresh : l.overwritten ≡ None
+
+-- the page that was written is the frame's, and the backend has the output right still
+pub record CanNoteLaneWrite (s : State) (n f : ℕ) (p : Page) (h : LaneHold) (l : Link) : Type 0 where
+  pub was_written : h.change ≡ lane_change.Written f (s.pool.core.frame f).tag p
+  pub lane : s.lane_of (s.pool.core.frame f).tag ≡ n
+  pub page : (s.pool.core.frame f).page ≡ p
+  pub right : pages.Allowed (note_write true) (block_of s.pool.logged (s.pool.core.frame f).tag) (s.pool.core.frame f) l
+
+pub record CanNoteFailedWrite (s : State) (f : ℕ) (h : LaneHold) (l : Link) : Type 0 where
+  pub failed : h.change ≡ lane_change.WriteFailed f (s.pool.core.frame f).tag
+  pub right : pages.Allowed (note_write false) (block_of s.pool.logged (s.pool.core.frame f).tag) (s.pool.core.frame f) l
+
+-- What is noted at the frame f as the lane n comes back
+abbrev pub Notes : Kind → State → ℕ → ℕ → LaneHold → Link → Type 0
+Notes (note_read p) s n f h l = CanNoteLaneRead s n f p h l
+Notes (note_write true) s n f h l = (p : Page) × CanNoteLaneWrite s n f p h l
+Notes (note_write false) s n f h l = CanNoteFailedWrite s f h l
+Notes _ s n f h l = ⊥
+
+-- the entry that a backend makes of the page p of the block of a tag
+abbrev pub new_entry : State → ℕ → ℕ → Page → Entry
+new_entry s number tag p = record { start = s.end; backend = number; tag = tag; image = p }
+
+-- The page is a whole page that the content lock lets the backend enter, and has the position of the entry's end, which is at most the last one; under the log's latch the entry's bytes are appended
+pub record CanEnter (s : State) (f : ℕ) (p : Page) (v : View) : Type 0 where
+  pub right : pages.Allowed (make_entry p) (block_of s.pool.logged (s.pool.core.frame f).tag) (s.pool.core.frame f) (link v f)
+  pub around : page_steps.AllowedAround (make_entry p) v f
+  pub full : length p ≡ 8192
+  pub ends : lsn_of p ≡ s.end + record_size
+  pub room : s.end + record_size ≤ last_position
+  pub appended : v.log.appended ≡ Some (record_bytes s.names (new_entry s v.number (s.pool.core.frame f).tag p))
+
+-- The page was copied under a content lock that the backend has still, no entry of its own is unapplied, and its pin remembers the tag
+pub record CanRead (tag : ℕ) (p : Page) (l : Link) : Type 0 where
+  pub right : l.content ≢ Unlocked
+  pub copied : l.copied ≡ Some p
+  pub settled : l.unapplied ≡ false
+  pub remembered : l.tag ≡ Some tag
+
+-- a view that has written the page p of the block of a tag; its record is part of the log now
+abbrev pub has_written : ℕ → ℕ → Page → View → View
+has_written end tag p v = record v { calls = v.calls ++ Write tag p end ∷ []; front = end; log = record v.log { appended = None } }
+
+-- a view that has read it
+abbrev pub has_read : ℕ → ℕ → Page → View → View
+has_read end tag p v = record v { calls = v.calls ++ Read tag p end ∷ []; front = end; place_loads = v.place_loads + 1 }
+
+pub data Step : Event → State → State → Type 0 where
+  -- a step of `page_core`
+  pools : {s : State} {e : page_steps.Event} {pool' : page.State} → page_steps.Step e s.pool pool' → PoolAllowed e → Step (pool e) s (record s { pool = pool' })
+  -- a step at the lane n by backend i, whose view is v
+  lanes : {s : State} (i n : ℕ) (k : LaneKind) (v : View) → get_elem? s.pool.core.views i ≡ some v → v.emptied ≡ false → n < s.lanes → LaneAllowed k (s.lane n) (lane_hold v n) → LaneAlone k s n (lane_hold v n)
+      → Step (lane i n k) s (record s { pool = aside s.pool i (stepped (laned k s n v v)); lane = put s.lane n (lane_after k (s.lane n)) })
+  -- a write of the page of the frame f to the lane n, likewise
+  writes : {s : State} (i n f : ℕ) (k : LaneKind) (v : View) → get_elem? s.pool.core.views i ≡ some v → v.emptied ≡ false → n < s.lanes → f < s.pool.core.frames → LaneAllowed k (s.lane n) (lane_hold v n) → Writes k s n f (lane_hold v n) (link v f)
+      → Step (write i n f k) s (record s { pool = pool_after begin_write s.pool i f (laned k s n v (paged begin_write s.pool f v)); lane = put s.lane n (lane_after k (s.lane n)) })
+  -- the lane n comes back, and what was read or written is noted at the frame f
+  notes : {s : State} (i n f : ℕ) (noted : Bool) (k : Kind) (v : View) → get_elem? s.pool.core.views i ≡ some v → v.emptied ≡ false → n < s.lanes → f < s.pool.core.frames → LaneAllowed (lane_back noted) (s.lane n) (lane_hold v n) → Notes k s n f (lane_hold v n) (link v f)
+      → Step (note i n f (lane_back noted) k) s (record s { pool = pool_after k s.pool i f (laned (lane_back noted) s n v (paged k s.pool f v)); lane = put s.lane n (lane_after (lane_back noted) (s.lane n)) })
+  -- a step at the log by backend i, whose view is v
+  logs : {s : State} (i : ℕ) (k : LogKind) (v : View) → get_elem? s.pool.core.views i ≡ some v → v.emptied ≡ false → LogAllowed k s.device v.log → Step (log i k) s (record s { pool = aside s.pool i (view_logged k v); device = device_after k s.end s.device })
+  -- backend i makes an entry of the page p of the frame f
+  enters : {s : State} (i f : ℕ) (p : Page) (v : View) → get_elem? s.pool.core.views i ≡ some v → v.emptied ≡ false → f < s.pool.core.frames → CanEnter s f p v
+      → Step (enter i f p) s (let tag = (s.pool.core.frame f).tag in let end = s.end + record_size in record s {
+        pool = pool_after (make_entry p) s.pool i f (has_written end tag p (paged (make_entry p) s.pool f v));
+        log = record s.log { entries = s.log.entries ++ new_entry s v.number tag p ∷ [] };
+        end = end;
+      })
+  -- backend i gives the read of the page p its place
+  reads : {s : State} (i f tag : ℕ) (p : Page) (v : View) → get_elem? s.pool.core.views i ≡ some v → v.emptied ≡ false → f < s.pool.core.frames → CanRead tag p (link v f)
+      → Step (read i f) s (record s { pool = aside s.pool i (looked (seen.LogEnd s.end) (has_read s.end tag p v)) })
+  loads_end : {s : State} (i : ℕ) (v : View) → get_elem? s.pool.core.views i ≡ some v → v.emptied ≡ false → Step (load_end i) s (record s { pool = aside s.pool i (looked (seen.LogEnd s.end) v) })
+  loads_flushed : {s : State} (i : ℕ) (v : View) → get_elem? s.pool.core.views i ≡ some v → v.emptied ≡ false → Step (load_flushed i) s (record s { pool = aside s.pool i (looked (seen.Flushed s.flushed) (record v { flushed = s.flushed })) })
+  -- under the log's latch, after a sync
+  raises : {s : State} (i : ℕ) (v : View) → get_elem? s.pool.core.views i ≡ some v → v.emptied ≡ false → v.log.synced ≡ true → Step (raise_flushed i) s (record s { pool = aside s.pool i (stepped v); flushed = max s.flushed s.end })
+
+-- the events lead from one state to the other
+pub data Run : List Event → State → State → Type 0 where
+  rests : {s : State} → Run [] s s
+  goes : {e : Event} {es : List Event} {s t u : State} → Step e s t → Run es t u → Run (e ∷ es) s u
