@@ -21,7 +21,7 @@ pub data LogKind : Type 0 where
   leave_log : LogKind
   -- the device goes out to the holder, and this is what it is then
   log_out : TakenLog → LogKind
-  -- the holder appends the bytes of a record, of a new page of a frame's block; or fails to, and then the device has some of them
+  -- the holder appends the bytes of a record, of a changed page of a frame's block; or fails to, and then the device has some of them
   append : ℕ → ℕ → Page → List ℕ → LogKind
   fail_append : List ℕ → LogKind
   -- it makes the bytes durable (`XLogFlush`), or fails to

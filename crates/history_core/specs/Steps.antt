@@ -36,7 +36,7 @@ pub data Event : Type 0 where
   note : ℕ → ℕ → ℕ → LaneKind → Kind → Event
   -- a step at the latch of the log
   log : ℕ → LogKind → Event
-  -- a backend's entry of a new page of a frame becomes part of the log: the log's end is stored
+  -- a backend's entry of a changed page of a frame becomes part of the log: the log's end is stored
   enter : ℕ → ℕ → Page → Event
   -- the log's end is loaded as the place of a read of the page that was copied from a frame
   read : ℕ → ℕ → Event
