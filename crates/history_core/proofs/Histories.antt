@@ -16,7 +16,7 @@ use Rattle.pin_core.specs.Tallies.{flag_weight, some_weight}
 use Rattle.pin_core.specs.declared.view.Seen.TheVariants as seen
 use Rattle.page_core.specs.Kinds.{make_entry}
 use Rattle.page_core.proofs.Histories as pages
-use Rattle.history_core.specs.Log.{record_size, cell}
+use Rattle.history_core.specs.Log.{record_size, cell, cut}
 use Rattle.history_core.specs.State.{State, stored}
 use Rattle.history_core.specs.Lanes as lane_kinds
 use Rattle.history_core.specs.Lanes.{LaneKind, LaneAllowed}
@@ -25,10 +25,10 @@ use Rattle.history_core.specs.Homes.{IsUnframed}
 use Rattle.history_core.specs.Invariant.{Invariant}
 use Rattle.history_core.specs.Steps.{looked, paged, has_read, has_written, new_entry, Writes, writes, enters, reads}
 use Rattle.history_core.specs.Histories.{IsReached, CallsAreLegal, WritesAreEntries, ReadsStand, WritesStand, LogBeforeData, LanesHoldFlushedPages, IsStored, CleanBlocksAreStored, FramesAreSound, FramesHoldCells, LogWords, holds_lane, LanesAreHeld, EntriesAreDurable, DeviceHoldsLog}
-use Rattle.history_core.proofs.Logs.{end_longer}
+use Rattle.history_core.proofs.Logs.{end_longer, cell_longer}
 use Rattle.history_core.proofs.Opening.{opens}
 use Rattle.history_core.proofs.Stepping.{step_keeps, run_keeps}
-use Rattle.grid.proofs.Lists.{set_here}
+use Rattle.grid.proofs.Lists.{set_here, put_here}
 use Rattle.grid.proofs.Sums.{total-count, total-none}
 
 pub reached : (s : State) → IsReached s → Invariant s
@@ -84,18 +84,20 @@ module _ (s : State) (h : Invariant s) where
 
   pub reads_stand : ReadsStand s
   reads_stand _ _ t (reads i f tag p v there live inside a) = let w : View = looked (seen.LogEnd s.end) (has_read s.end tag p v) in let here = set_here s.pool.core.views i v w there in let k = step_keeps (reads i f tag p v there live inside a) h in
-      let c = h.history.calls i v there in let e = h.ends in (
+      let c = h.history.calls i v there in let e = h.ends in let is : tag ≡ (s.pool.core.frame f).tag = sym ((h.pool.core.grid.cells i v f there inside).remembers tag a.remembered).1 in
+      let cell_is : p ≡ cell s.origin (cut s.end s.log.entries) tag = ((k.history.calls i w here).legal (length v.calls) (Read tag p s.end) (at_last v.calls (Read tag p s.end))).reads in (
         v,
         w,
         there,
         here,
         record {
-          tag = tag;
           page = p;
-          place = s.end;
-          added = refl;
+          copied = a.copied;
+          remembered = a.remembered ∙ ap (λ (z : ℕ). Some z) is;
+          added = ap (λ (z : ℕ). v.calls ++ Read z p s.end ∷ []) is;
           front = refl;
-          is_cell = ((k.history.calls i w here).legal (length v.calls) (Read tag p s.end) (at_last v.calls (Read tag p s.end))).reads;
+          place_loads = refl;
+          is_cell = subst (λ (z : ℕ). p ≡ cell s.origin (cut s.end s.log.entries) z) is cell_is;
           later = λ j x at. let y = c.fronted j x at in let z = c.within in omega arith;
           above = let z = c.within in omega arith;
         },
@@ -103,19 +105,19 @@ module _ (s : State) (h : Invariant s) where
 
   pub writes_stand : WritesStand s
   writes_stand _ _ _ t (enters i f p v there live inside a) = let tag = (s.pool.core.frame f).tag in let w : View = has_written (s.end + record_size) tag p (paged (make_entry p) s.pool f v) in let here = set_here s.pool.core.views i v w there in
-      let c = h.history.calls i v there in let e = h.ends in (
+      let c = h.history.calls i v there in let e = h.ends in let entry = new_entry s v.number tag p in (
         v,
         w,
         there,
         here,
         record {
-          tag = tag;
-          page = p;
-          place = s.end + record_size;
+          logged = refl;
+          end = omega (arith, end_longer s.log entry h.log);
+          longer = refl;
           added = refl;
           front = refl;
           position = a.ends;
-          end = omega (arith, end_longer s.log (new_entry s v.number tag p) h.log);
+          is_cell = sym (put_here (cell s.origin s.log.entries) tag p) ∙ (λ j. sym (cell_longer s.origin s.log.entries entry) j tag);
           above = let z = c.within in omega arith;
         },
       )

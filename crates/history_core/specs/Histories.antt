@@ -7,16 +7,16 @@ use Rattle.page_layout.specs.Soundness.{is_sound_page}
 use Rattle.pin_core.specs.declared.view.Call.{Call}
 use Rattle.pin_core.specs.declared.view.Call.TheVariants.{Read, Write}
 use Rattle.pin_core.specs.declared.view.View.{View}
-use Rattle.pin_core.specs.State.{Page, Config, CanOpen, no_tag, lane_hold}
+use Rattle.pin_core.specs.State.{Page, Config, CanOpen, no_tag, link, lane_hold}
 use Rattle.pin_core.specs.Invariant.{HasTag}
 use Rattle.page_core.specs.Histories.{NoneUnapplied}
-use Rattle.history_core.specs.Log.{Entry, log_end, end_of, cell, cut, head_size, log_bytes, IsLegal, place_of, writes_in, writes_at}
+use Rattle.history_core.specs.Log.{Entry, log_end, end_of, cell, cut, head_size, log_bytes, record_size, IsLegal, place_of, writes_in, writes_at}
 use Rattle.history_core.specs.State.{State, Store, CanStore, stored, failed, last_position, opening}
 use Rattle.history_core.specs.Homes.{IsFlushedCell}
 use Rattle.history_core.specs.Lanes.{LaneKind}
 use Rattle.history_core.specs.Device.{IsLeft, HasRisen}
 use Rattle.history_core.specs.Invariant.{written_of}
-use Rattle.history_core.specs.Steps.{Event, write, enter, read, Step, Run}
+use Rattle.history_core.specs.Steps.{Event, write, enter, read, new_entry, Step, Run}
 use Rattle.grid.specs.Shape.{total}
 
 -- a list of events leads to the state, from the start of a buffer pool over these lanes
@@ -44,37 +44,42 @@ pub record WritesAreEntries (s : State) : Type 0 where
 abbrev pub IsAfterCalls : View → ℕ → Type 0
 IsAfterCalls v place = (k : ℕ) (c : Call) → get_elem? v.calls k ≡ some c → place_of c ≤ place
 
--- A step gave a read its place: the backend's view was v, and is w
-pub record ReadStands (s : State) (v w : View) : Type 0 where
-  pub tag : ℕ
+-- A step gave a read of the frame f its place, the log's end: the backend's view was v, and is w
+pub record ReadStands (s : State) (f : ℕ) (v w : View) : Type 0 where
+  -- the page is the one that the backend had copied there under the content lock
   pub page : Page
-  pub place : ℕ
-  -- the calls grow by the read, which is the front now
-  pub added : w.calls ≡ v.calls ++ Read tag page place ∷ []
-  pub front : w.front ≡ place
+  pub copied : (link v f).copied ≡ Some page
+  -- its block is the frame's, as the pin remembers it
+  pub remembered : (link v f).tag ≡ Some (s.pool.core.frame f).tag
+  -- the calls grow by the read, which is the front now, and one load more is a place
+  pub added : w.calls ≡ v.calls ++ Read (s.pool.core.frame f).tag page s.end ∷ []
+  pub front : w.front ≡ s.end
+  pub place_loads : w.place_loads ≡ v.place_loads + 1
   -- its page is the block's page after the entries up to its place
-  pub is_cell : page ≡ cell s.origin (cut place s.log.entries) tag
+  pub is_cell : page ≡ cell s.origin (cut s.end s.log.entries) (s.pool.core.frame f).tag
   -- its place is at least all that the backend had seen
-  pub later : IsAfterCalls v place
-  pub above : v.front ≤ place
+  pub later : IsAfterCalls v s.end
+  pub above : v.front ≤ s.end
 
--- A step made a write: likewise, and its place is above all that the backend had seen
-pub record WriteStands (t : State) (v w : View) : Type 0 where
-  pub tag : ℕ
-  pub page : Page
-  pub place : ℕ
-  pub added : w.calls ≡ v.calls ++ Write tag page place ∷ []
-  pub front : w.front ≡ place
-  -- the page's position in the log is its place, which is the log's end then
-  pub position : lsn_of page ≡ place
-  pub end : place ≡ log_end t.log
-  pub above : v.front < place
+-- A step made a write of the page p of the frame f: its place is the log's new end, above all that the backend had seen
+pub record WriteStands (s t : State) (f : ℕ) (p : Page) (v w : View) : Type 0 where
+  -- the log has one entry more, of this page of the frame's block, and its end is the place
+  pub logged : t.log ≡ record s.log { entries = s.log.entries ++ new_entry s v.number (s.pool.core.frame f).tag p ∷ [] }
+  pub end : t.end ≡ log_end t.log
+  pub longer : t.end ≡ s.end + record_size
+  -- the calls grow by the write, which is the front now
+  pub added : w.calls ≡ v.calls ++ Write (s.pool.core.frame f).tag p t.end ∷ []
+  pub front : w.front ≡ t.end
+  -- the page's position in the log is its place, and it is the block's page after all entries now
+  pub position : lsn_of p ≡ t.end
+  pub is_cell : p ≡ cell t.origin t.log.entries (s.pool.core.frame f).tag
+  pub above : v.front < t.end
 
 abbrev pub ReadsStand : State → Type 0
-ReadsStand s = (i f : ℕ) (t : State) → Step (read i f) s t → (v : View) × (w : View) × (get_elem? s.pool.core.views i ≡ some v) × (get_elem? t.pool.core.views i ≡ some w) × ReadStands s v w
+ReadsStand s = (i f : ℕ) (t : State) → Step (read i f) s t → (v : View) × (w : View) × (get_elem? s.pool.core.views i ≡ some v) × (get_elem? t.pool.core.views i ≡ some w) × ReadStands s f v w
 
 abbrev pub WritesStand : State → Type 0
-WritesStand s = (i f : ℕ) (p : Page) (t : State) → Step (enter i f p) s t → (v : View) × (w : View) × (get_elem? s.pool.core.views i ≡ some v) × (get_elem? t.pool.core.views i ≡ some w) × WriteStands t v w
+WritesStand s = (i f : ℕ) (p : Page) (t : State) → Step (enter i f p) s t → (v : View) × (w : View) × (get_elem? s.pool.core.views i ≡ some v) × (get_elem? t.pool.core.views i ≡ some w) × WriteStands s t f p v w
 
 -- Log before data: the page of a frame that goes to a lane, or was to go there when the write failed, has its position in the log at most at the flushed position as the backend had loaded it before the lane went out, and so at the flushed position
 pub record IsLogged (s : State) (n f : ℕ) (v : View) : Type 0 where
