@@ -24,7 +24,7 @@ use Rattle.history_core.specs.Device.{appenders, log_weigh}
 use Rattle.history_core.specs.Homes.{IsUnframed}
 use Rattle.history_core.specs.Invariant.{Invariant}
 use Rattle.history_core.specs.Steps.{looked, paged, has_read, has_written, new_entry, Writes, writes, enters, reads}
-use Rattle.history_core.specs.Histories.{IsReached, CallsAreLegal, WritesAreEntries, ReadsStand, WritesStand, LogBeforeData, LanesHoldFlushedPages, IsStored, CleanBlocksAreStored, FramesAreSound, FramesHoldCells, LogWords, holds_lane, LanesAreHeld, EntriesAreDurable, DeviceHoldsLog}
+use Rattle.history_core.specs.Histories.{IsReached, CallsAreLegal, FrontsAreReached, WritesAreEntries, ReadsStand, WritesStand, LogBeforeData, LanesHoldFlushedPages, IsStored, CleanBlocksAreStored, FramesAreSound, FramesHoldCells, LogWords, holds_lane, LanesAreHeld, EntriesAreDurable, DeviceHoldsLog}
 use Rattle.history_core.proofs.Logs.{end_longer, cell_longer}
 use Rattle.history_core.proofs.Opening.{opens}
 use Rattle.history_core.proofs.Stepping.{step_keeps, run_keeps}
@@ -78,6 +78,9 @@ is_out (lane_kinds.lane_back noted) s n f h l x a = absurd x
 module _ (s : State) (h : Invariant s) where
   pub legal : CallsAreLegal s
   legal i k v c there at = (h.history.calls i v there).legal k c at
+
+  pub fronts : FrontsAreReached s
+  fronts i v there live = let c = h.history.calls i v there in record { from_base = c.from_base live; above = c.fronted; reached = c.reached live }
 
   pub entries : WritesAreEntries s
   entries = record { counted = h.history.counted; once = h.history.once }

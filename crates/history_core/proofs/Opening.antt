@@ -56,7 +56,7 @@ opens c store page can stores = let w : View = first_view c.base c.frames c.part
     cells = λ i v g there below. subst (λ (x : View). LogLink (written_of (opening c store page)) (fresh_device c.base store) x.saw_down x.log) (at_only w v i there).0 (no_log_law (written_of (opening c store page)) (fresh_device c.base store));
   };
   history = record {
-    calls = λ i v there. subst (CallsLaw store.origin log c.base) (at_only w v i there).0 (no_calls store.origin log c.base w refl (omega arith) (omega arith));
+    calls = λ i v there. subst (CallsLaw store.origin log c.base) (at_only w v i there).0 (no_calls store.origin log c.base w refl (λ _. refl) (omega arith) (omega arith));
     counted = one_total (λ (v : View). writes_in v.calls) w (no_total write_weight);
     once = λ k e t. absurd (some-ne-none e (sym t));
   };

@@ -10,7 +10,7 @@ use Rattle.pin_core.specs.declared.view.View.{View}
 use Rattle.pin_core.specs.State.{Page, Config, CanOpen, no_tag, link, lane_hold}
 use Rattle.pin_core.specs.Invariant.{HasTag}
 use Rattle.page_core.specs.Histories.{NoneUnapplied}
-use Rattle.history_core.specs.Log.{Entry, log_end, end_of, cell, cut, head_size, log_bytes, record_size, IsLegal, place_of, writes_in, writes_at}
+use Rattle.history_core.specs.Log.{Entry, log_end, end_of, cell, cut, head_size, log_bytes, record_size, IsLegal, IsFront, place_of, writes_in, writes_at}
 use Rattle.history_core.specs.State.{State, Store, CanStore, stored, failed, last_position, opening}
 use Rattle.history_core.specs.Homes.{IsFlushedCell}
 use Rattle.history_core.specs.Lanes.{LaneKind}
@@ -32,6 +32,10 @@ pub record IsReached (s : State) : Type 0 where
 -- each page that a backend read or wrote stands at its place in one history, that of the log
 abbrev pub CallsAreLegal : State → Type 0
 CallsAreLegal s = (i k : ℕ) (v : View) (c : Call) → get_elem? s.pool.core.views i ≡ some v → get_elem? v.calls k ≡ some c → IsLegal s.origin s.log c
+
+-- a backend's front is the largest of the log's base and the places of its calls
+abbrev pub FrontsAreReached : State → Type 0
+FrontsAreReached s = (i : ℕ) (v : View) → get_elem? s.pool.core.views i ≡ some v → v.emptied ≡ false → IsFront s.log.base v.calls v.front
 
 -- The writes of all backends are the entries of the log
 pub record WritesAreEntries (s : State) : Type 0 where

@@ -6,7 +6,7 @@ use Rattle.pin_core.specs.declared.view.Call.{Call}
 use Rattle.pin_core.specs.declared.view.View.{View}
 use Rattle.pin_core.specs.State.{Page, no_tag}
 use Rattle.page_core.specs.Invariant as pages
-use Rattle.history_core.specs.Log.{Entry, Log, LogLaw, log_end, head_size, log_bytes, end_of, cell, IsLegal, place_of, writes_in, writes_at, AreInOrder}
+use Rattle.history_core.specs.Log.{Entry, Log, LogLaw, log_end, head_size, log_bytes, end_of, cell, IsLegal, place_of, writes_in, writes_at, HasPlace, AreInOrder}
 use Rattle.history_core.specs.State.{State, stored, failed, last_position}
 use Rattle.history_core.specs.Lanes.{lane_shape, lane_part}
 use Rattle.history_core.specs.Device.{Written, log_shape, log_part}
@@ -19,6 +19,9 @@ pub record CallsLaw (origin : ℕ → Page) (log : Log) (flushed : ℕ) (v : Vie
   pub legal : (k : ℕ) (c : Call) → get_elem? v.calls k ≡ some c → IsLegal origin log c
   -- none has a place above the front
   pub fronted : (k : ℕ) (c : Call) → get_elem? v.calls k ≡ some c → place_of c ≤ v.front
+  -- the front is the base or above it, and where it is above it some call has that place
+  pub from_base : v.emptied ≡ false → log.base ≤ v.front
+  pub reached : v.emptied ≡ false → v.front ≢ log.base → HasPlace v.calls v.front
   -- the front is at most the log's end
   pub within : v.front ≤ log_end log
   -- the places never fall, but where the view took in the calls of others

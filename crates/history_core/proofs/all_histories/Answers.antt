@@ -3,7 +3,7 @@ use Rattle.history_core.proofs.Opening.{opens}
 use Rattle.history_core.proofs.Stepping.{run_keeps}
 use Rattle.history_core.proofs.Counting.{counts_open, counts_after}
 use Rattle.history_core.proofs.Causes.{marks_open, marks_after}
-use Rattle.history_core.proofs.Histories.{reached, legal, entries, reads_stand, writes_stand, log_first, lanes_hold, clean_stored, sound, hold_cells, words, held, durable, device_holds}
+use Rattle.history_core.proofs.Histories.{reached, legal, fronts, entries, reads_stand, writes_stand, log_first, lanes_hold, clean_stored, sound, hold_cells, words, held, durable, device_holds}
 use Rattle.history_core.proofs.all_histories.Goals as goal
 
 pub returns-clause-kept : goal.returns-clause-kept
@@ -14,6 +14,9 @@ returns-clause-opens c = opens
 
 pub returns-clause-legal : goal.returns-clause-legal
 returns-clause-legal c = λ s r. legal s (reached s r)
+
+pub returns-clause-fronts : goal.returns-clause-fronts
+returns-clause-fronts c = λ s r. fronts s (reached s r)
 
 pub returns-clause-entries : goal.returns-clause-entries
 returns-clause-entries c = λ s r. entries s (reached s r)
