@@ -6,17 +6,19 @@ use Rattle.page_layout.specs.Fields.{lsn_of}
 use Rattle.page_layout.specs.Soundness.{is_sound_page}
 use Rattle.pin_core.specs.declared.view.Call.{Call}
 use Rattle.pin_core.specs.declared.view.Call.TheVariants.{Read, Write}
+use Rattle.pin_core.specs.declared.view.LastWrite.TheVariants.{Done}
+use Rattle.pin_core.specs.declared.view.TakenLane.{TakenLane}
 use Rattle.pin_core.specs.declared.view.View.{View}
 use Rattle.pin_core.specs.State.{Page, Config, CanOpen, no_tag, link, lane_hold}
 use Rattle.pin_core.specs.Invariant.{HasTag}
 use Rattle.page_core.specs.Histories.{NoneUnapplied}
-use Rattle.history_core.specs.Log.{Entry, log_end, end_of, cell, cut, head_size, log_bytes, record_size, IsLegal, IsFront, place_of, writes_in, writes_at}
+use Rattle.history_core.specs.Log.{Entry, log_end, end_of, cell, cut, head_size, log_bytes, record_size, IsLegal, IsFront, place_of, writes_in, writes_at, AreInOrder}
 use Rattle.history_core.specs.State.{State, Store, CanStore, stored, failed, last_position, opening}
 use Rattle.history_core.specs.Homes.{IsFlushedCell}
-use Rattle.history_core.specs.Lanes.{LaneKind}
+use Rattle.history_core.specs.Lanes.{LaneKind, lane_out}
 use Rattle.history_core.specs.Device.{IsLeft, HasRisen}
 use Rattle.history_core.specs.Invariant.{written_of}
-use Rattle.history_core.specs.Steps.{Event, write, enter, read, new_entry, Step, Run}
+use Rattle.history_core.specs.Steps.{Event, lane, write, enter, read, new_entry, Step, Run}
 use Rattle.grid.specs.Shape.{total}
 
 -- a list of events leads to the state, from the start of a buffer pool over these lanes
@@ -36,6 +38,10 @@ CallsAreLegal s = (i k : ℕ) (v : View) (c : Call) → get_elem? s.pool.core.vi
 -- a backend's front is the largest of the log's base and the places of its calls
 abbrev pub FrontsAreReached : State → Type 0
 FrontsAreReached s = (i : ℕ) (v : View) → get_elem? s.pool.core.views i ≡ some v → v.emptied ≡ false → IsFront s.log.base v.calls v.front
+
+-- the places of a backend's calls never fall, where it took in those of no others
+abbrev pub CallsAreInOrder : State → Type 0
+CallsAreInOrder s = (i : ℕ) (v : View) → get_elem? s.pool.core.views i ≡ some v → v.joined ≡ 0 → AreInOrder v.calls
 
 -- The writes of all backends are the entries of the log
 pub record WritesAreEntries (s : State) : Type 0 where
@@ -89,9 +95,27 @@ WritesStand s = (i f : ℕ) (p : Page) (t : State) → Step (enter i f p) s t �
 pub record IsLogged (s : State) (n f : ℕ) (v : View) : Type 0 where
   pub loaded : lsn_of (s.pool.core.frame f).page ≤ (lane_hold v n).flushed
   pub flushed : (lane_hold v n).flushed ≤ s.flushed
+  -- so each entry up to the page's position is durable
+  pub durable : (k : ℕ) (e : Entry) → get_elem? s.log.entries k ≡ some e → end_of e ≤ lsn_of (s.pool.core.frame f).page → head_size + end_of e ≤ s.log.base + s.device.synced
 
 abbrev pub LogBeforeData : State → Type 0
 LogBeforeData s = (i n f : ℕ) (k : LaneKind) (t : State) → Step (write i n f k) s t → (v : View) × (get_elem? s.pool.core.views i ≡ some v) × IsLogged s n f v
+
+-- as a lane goes out, its holder's flushed position is kept with it as the backend had loaded it
+abbrev pub LanesGoOutFlushed : State → Type 0
+LanesGoOutFlushed s = (i n : ℕ) (taken : TakenLane) (t : State) → Step (lane i n (lane_out taken)) s t → (v : View) × (w : View) × (get_elem? s.pool.core.views i ≡ some v) × (get_elem? t.pool.core.views i ≡ some w) × ((lane_hold w n).flushed ≡ v.flushed)
+
+-- what a backend has loaded as the flushed position is at most the flushed position
+abbrev pub LoadedIsFlushed : State → Type 0
+LoadedIsFlushed s = (i : ℕ) (v : View) → get_elem? s.pool.core.views i ≡ some v → v.flushed ≤ s.flushed
+
+-- Under an output right whose last write is noted as done the lane holds the frame's page, and the block's last write didn't fail
+pub record IsWritten (s : State) (f : ℕ) : Type 0 where
+  pub done : failed s (s.pool.core.frame f).tag ≡ false
+  pub stored_is : stored s (s.pool.core.frame f).tag ≡ (s.pool.core.frame f).page
+
+abbrev pub NotedWritesAreDone : State → Type 0
+NotedWritesAreDone s = (i f : ℕ) (v : View) → get_elem? s.pool.core.views i ≡ some v → f < s.pool.core.frames → (link v f).last_write ≡ Done → IsWritten s f
 
 -- what a lane holds for a block whose last write didn't fail is no page ahead of the flushed log
 abbrev pub LanesHoldFlushedPages : State → Type 0
@@ -153,3 +177,11 @@ holds_lane n v = (lane_hold v n).held
 -- one view has a lane's latch where it is taken, and none where it isn't
 abbrev pub LanesAreHeld : State → Type 0
 LanesAreHeld s = (n : ℕ) → n < s.lanes → count_by (holds_lane n) s.pool.core.views ≡ (if (s.lane n).taken then 1 else 0)
+
+-- whether the view holds the log's latch
+abbrev pub holds_log : View → Bool
+holds_log v = v.log.held
+
+-- and one has the log's latch where that is taken, and none where it isn't
+abbrev pub LogIsHeld : State → Type 0
+LogIsHeld s = count_by holds_log s.pool.core.views ≡ (if s.device.taken then 1 else 0)

@@ -11,7 +11,7 @@ ghost use Rattle.history_core.specs.Invariant.{Invariant};
 ghost use Rattle.history_core.specs.Causes.{MarksLaw};
 ghost use Rattle.history_core.specs.Counts.{CountsLaw};
 ghost use Rattle.history_core.specs.Steps.{Event, Run};
-ghost use Rattle.history_core.specs.Histories.{IsReached, CallsAreLegal, FrontsAreReached, WritesAreEntries, ReadsStand, WritesStand, LogBeforeData, LanesHoldFlushedPages, CleanBlocksAreStored, FramesAreSound, FramesHoldCells, LogWords, EntriesAreDurable, DeviceHoldsLog, LanesAreHeld};
+ghost use Rattle.history_core.specs.Histories.{IsReached, CallsAreLegal, FrontsAreReached, CallsAreInOrder, LoadedIsFlushed, LanesGoOutFlushed, NotedWritesAreDone, LogIsHeld, WritesAreEntries, ReadsStand, WritesStand, LogBeforeData, LanesHoldFlushedPages, CleanBlocksAreStored, FramesAreSound, FramesHoldCells, LogWords, EntriesAreDurable, DeviceHoldsLog, LanesAreHeld};
 
 /// What every list of events keeps, whatever the backends do and in whatever order.
 pub fn all_histories()
@@ -27,18 +27,23 @@ pub fn all_histories()
     // So in every state that events lead to, of what backends read and wrote:
     ensures legal { (s : State) → IsReached s → CallsAreLegal s }
     ensures fronts { (s : State) → IsReached s → FrontsAreReached s }
+    ensures in_order { (s : State) → IsReached s → CallsAreInOrder s }
     ensures entries { (s : State) → IsReached s → WritesAreEntries s }
     ensures reads_stand { (s : State) → IsReached s → ReadsStand s }
     ensures writes_stand { (s : State) → IsReached s → WritesStand s }
 
     // of the log and the lanes:
     ensures log_first { (s : State) → IsReached s → LogBeforeData s }
+    ensures go_out_flushed { (s : State) → IsReached s → LanesGoOutFlushed s }
+    ensures loaded { (s : State) → IsReached s → LoadedIsFlushed s }
     ensures lanes_hold { (s : State) → IsReached s → LanesHoldFlushedPages s }
+    ensures noted_done { (s : State) → IsReached s → NotedWritesAreDone s }
     ensures clean_stored { (s : State) → IsReached s → CleanBlocksAreStored s }
     ensures words { (s : State) → IsReached s → LogWords s }
     ensures durable { (s : State) → IsReached s → EntriesAreDurable s }
     ensures device_holds { (s : State) → IsReached s → DeviceHoldsLog s }
     ensures held { (s : State) → IsReached s → LanesAreHeld s }
+    ensures log_held { (s : State) → IsReached s → LogIsHeld s }
 
     ensures marked { (s : State) → IsReached s → MarksLaw s }
     ensures counted { (s : State) → IsReached s → CountsLaw s }

@@ -3,7 +3,7 @@ use Rattle.history_core.proofs.Opening.{opens}
 use Rattle.history_core.proofs.Stepping.{run_keeps}
 use Rattle.history_core.proofs.Counting.{counts_open, counts_after}
 use Rattle.history_core.proofs.Causes.{marks_open, marks_after}
-use Rattle.history_core.proofs.Histories.{reached, legal, fronts, entries, reads_stand, writes_stand, log_first, lanes_hold, clean_stored, sound, hold_cells, words, held, durable, device_holds}
+use Rattle.history_core.proofs.Histories.{reached, legal, fronts, in_order, go_out_flushed, loaded_flushed, noted_done, log_held, entries, reads_stand, writes_stand, log_first, lanes_hold, clean_stored, sound, hold_cells, words, held, durable, device_holds}
 use Rattle.history_core.proofs.all_histories.Goals as goal
 
 pub returns-clause-kept : goal.returns-clause-kept
@@ -77,3 +77,18 @@ returns-clause-counts_open c = counts_open
 
 pub returns-clause-counted : goal.returns-clause-counted
 returns-clause-counted c = λ s r. counts_after r.run (opens r.config r.store r.page r.opens r.stores) (counts_open r.config r.store r.page)
+
+pub returns-clause-in_order : goal.returns-clause-in_order
+returns-clause-in_order c = λ s r. in_order s (reached s r)
+
+pub returns-clause-go_out_flushed : goal.returns-clause-go_out_flushed
+returns-clause-go_out_flushed c = λ s r. go_out_flushed s (reached s r)
+
+pub returns-clause-loaded : goal.returns-clause-loaded
+returns-clause-loaded c = λ s r. loaded_flushed s (reached s r)
+
+pub returns-clause-noted_done : goal.returns-clause-noted_done
+returns-clause-noted_done c = λ s r. noted_done s (reached s r)
+
+pub returns-clause-log_held : goal.returns-clause-log_held
+returns-clause-log_held c = λ s r. log_held s (reached s r)
