@@ -11,4 +11,5 @@ pub mod Causes
 pub mod Counts
 pub mod Counting
 pub mod Opening
+pub mod Staying
 pub mod Histories

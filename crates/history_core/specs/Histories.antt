@@ -11,6 +11,8 @@ use Rattle.pin_core.specs.declared.view.TakenLane.{TakenLane}
 use Rattle.pin_core.specs.declared.view.View.{View}
 use Rattle.pin_core.specs.State.{Page, Config, CanOpen, no_tag, link, lane_hold}
 use Rattle.pin_core.specs.Invariant.{HasTag}
+use Rattle.pin_core.specs.Steps as pin_steps
+use Rattle.page_core.specs.Steps as page_steps
 use Rattle.page_core.specs.Histories.{NoneUnapplied}
 use Rattle.history_core.specs.Log.{Entry, log_end, end_of, cell, cut, head_size, log_bytes, record_size, IsLegal, IsFront, place_of, writes_in, writes_at, AreInOrder}
 use Rattle.history_core.specs.State.{State, Store, CanStore, stored, failed, last_position, opening}
@@ -18,7 +20,7 @@ use Rattle.history_core.specs.Homes.{IsFlushedCell}
 use Rattle.history_core.specs.Lanes.{LaneKind, lane_out}
 use Rattle.history_core.specs.Device.{IsLeft, HasRisen}
 use Rattle.history_core.specs.Invariant.{written_of}
-use Rattle.history_core.specs.Steps.{Event, lane, write, enter, read, new_entry, Step, Run}
+use Rattle.history_core.specs.Steps.{Event, pool, lane, write, enter, read, new_entry, Step, Run}
 use Rattle.grid.specs.Shape.{total}
 
 -- a list of events leads to the state, from the start of a buffer pool over these lanes
@@ -38,6 +40,24 @@ CallsAreLegal s = (i k : ℕ) (v : View) (c : Call) → get_elem? s.pool.core.vi
 -- a backend's front is the largest of the log's base and the places of its calls
 abbrev pub FrontsAreReached : State → Type 0
 FrontsAreReached s = (i : ℕ) (v : View) → get_elem? s.pool.core.views i ≡ some v → v.emptied ≡ false → IsFront s.log.base v.calls v.front
+
+-- the event is no read or entry of backend i, and no join that takes it in or has it take in another
+abbrev pub LeavesCalls : Event → ℕ → Type 0
+LeavesCalls (read j f) i = i ≢ j
+LeavesCalls (enter j f p) i = i ≢ j
+LeavesCalls (pool (page_steps.pins_and_maps (pin_steps.join j))) i = (i ≢ 0) × (i ≢ j)
+LeavesCalls _ i = Unit {0}
+
+-- View i among these has the calls and the front of v
+pub record HasCallsOf (views : List View) (i : ℕ) (v : View) : Type 0 where
+  pub view : View
+  pub there : get_elem? views i ≡ some view
+  pub calls : view.calls ≡ v.calls
+  pub front : view.front ≡ v.front
+
+-- no other event changes a backend's calls or its front
+abbrev pub CallsStay : State → Type 0
+CallsStay s = (e : Event) (t : State) → Step e s t → (i : ℕ) (v : View) → get_elem? s.pool.core.views i ≡ some v → LeavesCalls e i → HasCallsOf t.pool.core.views i v
 
 -- the places of a backend's calls never fall, where it took in those of no others
 abbrev pub CallsAreInOrder : State → Type 0

@@ -11,7 +11,7 @@ ghost use Rattle.history_core.specs.Invariant.{Invariant};
 ghost use Rattle.history_core.specs.Causes.{MarksLaw};
 ghost use Rattle.history_core.specs.Counts.{CountsLaw};
 ghost use Rattle.history_core.specs.Steps.{Event, Run};
-ghost use Rattle.history_core.specs.Histories.{IsReached, CallsAreLegal, FrontsAreReached, CallsAreInOrder, LoadedIsFlushed, LanesGoOutFlushed, NotedWritesAreDone, LogIsHeld, WritesAreEntries, ReadsStand, WritesStand, LogBeforeData, LanesHoldFlushedPages, CleanBlocksAreStored, FramesAreSound, FramesHoldCells, LogWords, EntriesAreDurable, DeviceHoldsLog, LanesAreHeld};
+ghost use Rattle.history_core.specs.Histories.{IsReached, CallsAreLegal, FrontsAreReached, CallsStay, CallsAreInOrder, LoadedIsFlushed, LanesGoOutFlushed, NotedWritesAreDone, LogIsHeld, WritesAreEntries, ReadsStand, WritesStand, LogBeforeData, LanesHoldFlushedPages, CleanBlocksAreStored, FramesAreSound, FramesHoldCells, LogWords, EntriesAreDurable, DeviceHoldsLog, LanesAreHeld};
 
 /// What every list of events keeps, whatever the backends do and in whatever order.
 pub fn all_histories()
@@ -27,6 +27,7 @@ pub fn all_histories()
     // So in every state that events lead to, of what backends read and wrote:
     ensures legal { (s : State) → IsReached s → CallsAreLegal s }
     ensures fronts { (s : State) → IsReached s → FrontsAreReached s }
+    ensures calls_stay { (s : State) → CallsStay s }
     ensures in_order { (s : State) → IsReached s → CallsAreInOrder s }
     ensures entries { (s : State) → IsReached s → WritesAreEntries s }
     ensures reads_stand { (s : State) → IsReached s → ReadsStand s }

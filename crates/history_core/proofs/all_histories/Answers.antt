@@ -4,6 +4,7 @@ use Rattle.history_core.proofs.Stepping.{run_keeps}
 use Rattle.history_core.proofs.Counting.{counts_open, counts_after}
 use Rattle.history_core.proofs.Causes.{marks_open, marks_after}
 use Rattle.history_core.proofs.Histories.{reached, legal, fronts, in_order, go_out_flushed, loaded_flushed, noted_done, log_held, entries, reads_stand, writes_stand, log_first, lanes_hold, clean_stored, sound, hold_cells, words, held, durable, device_holds}
+use Rattle.history_core.proofs.Staying.{calls_stay}
 use Rattle.history_core.proofs.all_histories.Goals as goal
 
 pub returns-clause-kept : goal.returns-clause-kept
@@ -92,3 +93,6 @@ returns-clause-noted_done c = λ s r. noted_done s (reached s r)
 
 pub returns-clause-log_held : goal.returns-clause-log_held
 returns-clause-log_held c = λ s r. log_held s (reached s r)
+
+pub returns-clause-calls_stay : goal.returns-clause-calls_stay
+returns-clause-calls_stay c = calls_stay
