@@ -71,5 +71,5 @@ opens c store page can stores = let w : View = first_view c.base c.frames c.part
     cells = λ i v f there below. subst (λ (x : View). HomeLink (home_of (opening c store page) no_tag) (empty_frame page) (link x f)) (at_only w v i there).0 (subst (HomeLink (home_of (opening c store page) no_tag) (empty_frame page)) (sym (link_new c.frames c.partitions c.lanes 0 c.base f)) (no_link (home_of (opening c store page) no_tag) (empty_frame page)));
   };
   unframed = λ tag named none. record { done = refl; stored = refl };
-  flushed_cells = λ tag ok. record { place = c.base; within = omega arith; is_cell = (λ j. sym (cell_none store.origin) j tag) ∙ ap (λ es. cell store.origin es tag) (sym (cut_none c.base)) };
+  flushed_cells = λ tag ok. record { place = c.base; based = omega arith; within = omega arith; is_cell = (λ j. sym (cell_none store.origin) j tag) ∙ ap (λ es. cell store.origin es tag) (sym (cut_none c.base)) };
 }

@@ -139,7 +139,7 @@ NotedWritesAreDone s = (i f : ℕ) (v : View) → get_elem? s.pool.core.views i 
 
 -- what a lane holds for a block whose last write didn't fail is no page ahead of the flushed log
 abbrev pub LanesHoldFlushedPages : State → Type 0
-LanesHoldFlushedPages s = (tag : ℕ) → failed s tag ≡ false → IsFlushedCell s.origin s.log.entries s.flushed tag (stored s tag)
+LanesHoldFlushedPages s = (tag : ℕ) → failed s tag ≡ false → IsFlushedCell s.origin s.log s.flushed tag (stored s tag)
 
 -- no dirty frame has the tag
 abbrev pub HasNoDirtyFrame : State → ℕ → Type 0

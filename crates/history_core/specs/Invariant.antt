@@ -70,4 +70,4 @@ pub record Invariant (s : State) : Type 0 where
   -- a block that has no frame is clean
   pub unframed : (tag : ℕ) → tag ≢ no_tag → IsUnframed s.pool.core.frames s.pool.core.frame tag → IsClean (home_of s tag)
   -- what a lane holds for a block whose last write didn't fail is the block's page after the entries up to some flushed position
-  pub flushed_cells : (tag : ℕ) → failed s tag ≡ false → IsFlushedCell s.origin s.log.entries s.flushed tag (stored s tag)
+  pub flushed_cells : (tag : ℕ) → failed s tag ≡ false → IsFlushedCell s.origin s.log s.flushed tag (stored s tag)

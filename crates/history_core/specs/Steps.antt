@@ -128,15 +128,17 @@ pub record CanNoteLaneWrite (s : State) (n f : ℕ) (p : Page) (h : LaneHold) (l
   pub page : (s.pool.core.frame f).page ≡ p
   pub right : pages.Allowed (note_write true) (block_of s.pool.logged (s.pool.core.frame f).tag) (s.pool.core.frame f) l
 
-pub record CanNoteFailedWrite (s : State) (f : ℕ) (h : LaneHold) (l : Link) : Type 0 where
+-- the write that failed was of the frame's block, to this lane
+pub record CanNoteFailedWrite (s : State) (n f : ℕ) (h : LaneHold) (l : Link) : Type 0 where
   pub failed : h.change ≡ lane_change.WriteFailed f (s.pool.core.frame f).tag
+  pub lane : s.lane_of (s.pool.core.frame f).tag ≡ n
   pub right : pages.Allowed (note_write false) (block_of s.pool.logged (s.pool.core.frame f).tag) (s.pool.core.frame f) l
 
 -- What is noted at the frame f as the lane n comes back
 abbrev pub Notes : Kind → State → ℕ → ℕ → LaneHold → Link → Type 0
 Notes (note_read p) s n f h l = CanNoteLaneRead s n f p h l
 Notes (note_write true) s n f h l = (p : Page) × CanNoteLaneWrite s n f p h l
-Notes (note_write false) s n f h l = CanNoteFailedWrite s f h l
+Notes (note_write false) s n f h l = CanNoteFailedWrite s n f h l
 Notes _ s n f h l = ⊥
 
 -- the entry that a backend makes of the page p of the block of a tag
