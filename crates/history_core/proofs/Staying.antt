@@ -53,7 +53,7 @@ step_stays (pools x a) j v at leaves = pages_stay x j v at leaves
 step_stays (lanes {s = s} i n k u there live low a alone) j v at leaves = set_stays s.pool.core.views i j u (stepped (laned k s n u u)) v there refl refl at
 step_stays (writes {s = s} i n f k u there live low inside a x) j v at leaves = set_stays s.pool.core.views i j u (laned k s n u (paged begin_write s.pool f u)) v there refl refl at
 step_stays (notes {s = s} i n f noted k u there live low inside a x) j v at leaves = set_stays s.pool.core.views i j u (laned (lane_back noted) s n u (paged k s.pool f u)) v there refl refl at
-step_stays (logs {s = s} i k u there live a) j v at leaves = set_stays s.pool.core.views i j u (view_logged k u) v there refl refl at
+step_stays (logs {s = s} i k u there live a record_is) j v at leaves = set_stays s.pool.core.views i j u (view_logged k u) v there refl refl at
 step_stays (enters {s = s} i f p u there live inside x) j v at leaves = other_stays s.pool.core.views i j (has_written (s.end + record_size) (s.pool.core.frame f).tag p (paged (make_entry p) s.pool f u)) v leaves at
 step_stays (reads {s = s} i f tag p u there live inside a) j v at leaves = other_stays s.pool.core.views i j (looked (seen.LogEnd s.end) (has_read s.end tag p u)) v leaves at
 step_stays (loads_end {s = s} i u there live) j v at leaves = set_stays s.pool.core.views i j u (looked (seen.LogEnd s.end) u) v there refl refl at

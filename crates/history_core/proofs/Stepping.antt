@@ -539,7 +539,7 @@ step_keeps (loads_end {s = s} i v there live) h = let w : View = looked (seen.Lo
 step_keeps (loads_flushed {s = s} i v there live) h = let w : View = looked (seen.Flushed s.flushed) (record v { flushed = s.flushed }) in with_view s h i v w there (record { backend = record { emptied = refl; number = refl; next = refl; links = refl; partitions = refl }; joined = refl; links = refl; partitions = refl }) refl refl refl
     (history_loaded s.origin s.log s.flushed s.pool.core.views h.history i v w there refl refl refl refl refl)
 step_keeps (raises {s = s} i v there live synced) h = raises_step s h i v there synced
-step_keeps (logs {s = s} i k v there live a) h = logs_step s h i k v there a
+step_keeps (logs {s = s} i k v there live a record_is) h = logs_step s h i k v there a
 
 pub run_keeps : {es : List Event} {s t : State} → Run es s t → Invariant s → Invariant t
 run_keeps rests h = h
