@@ -25,7 +25,7 @@ use Rattle.history_core.specs.Device as log
 use Rattle.history_core.specs.Homes.{IsUnframed}
 use Rattle.history_core.specs.Invariant.{Invariant}
 use Rattle.history_core.specs.Steps.{looked, stepped, laned, lanes, paged, has_read, has_written, new_entry, Writes, writes, enters, reads}
-use Rattle.history_core.specs.Histories.{IsReached, CallsAreLegal, FrontsAreReached, CallsAreInOrder, LoadedIsFlushed, LanesGoOutFlushed, NotedWritesAreDone, holds_log, LogIsHeld, WritesAreEntries, ReadsStand, WritesStand, LogBeforeData, LanesHoldFlushedPages, IsStored, CleanBlocksAreStored, FramesAreSound, FramesHoldCells, LogWords, holds_lane, LanesAreHeld, EntriesAreDurable, DeviceHoldsLog}
+use Rattle.history_core.specs.Histories.{IsReached, CallsAreLegal, WritesAreOwn, FrontsAreReached, CallsAreInOrder, LoadedIsFlushed, LanesGoOutFlushed, NotedWritesAreDone, holds_log, LogIsHeld, WritesAreEntries, ReadsStand, WritesStand, LogBeforeData, LanesHoldFlushedPages, IsStored, CleanBlocksAreStored, FramesAreSound, FramesHoldCells, LogWords, holds_lane, LanesAreHeld, EntriesAreDurable, DeviceHoldsLog}
 use Rattle.history_core.proofs.Logs.{end_longer, cell_longer}
 use Rattle.history_core.proofs.Opening.{opens}
 use Rattle.history_core.proofs.Stepping.{step_keeps, run_keeps}
@@ -89,6 +89,9 @@ is_out (lane_kinds.lane_back noted) s n f h l x a = absurd x
 module _ (s : State) (h : Invariant s) where
   pub legal : CallsAreLegal s
   legal i k v c there at = (h.history.calls i v there).legal k c at
+
+  pub own : WritesAreOwn s
+  own i k v c there at = (h.history.calls i v there).own k c at
 
   pub fronts : FrontsAreReached s
   fronts i v there live = let c = h.history.calls i v there in record { from_base = c.from_base live; above = c.fronted; reached = c.reached live }

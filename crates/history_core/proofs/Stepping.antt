@@ -150,7 +150,7 @@ module _ (s : State) (h : Invariant s) where
   pins_step : (i f : ℕ) (k : pin_kinds.Kind) (v : View) → get_elem? views i ≡ some v → v.emptied ≡ false → f < n → pin_kinds.Allowed k (frame f) (link v f) → pin_steps.AllowedAround k s.pool.core v f → Invariant (record s { pool = record s.pool { core = pin_steps.state_after k s.pool.core i f v } })
   pins_step i f k v there live inside a around = let w : View = pin_stepping.after k s.pool.core f v in let fr : Frame = pin_kinds.frame_after k (frame f) in let l : Link = pin_kinds.link_after k (frame f) (link v f) in
       let law = page_stepping.step_keeps (page_steps.cores (pin_steps.touches i f k v there live inside a around)) h.pool in
-      assemble s h (record s.pool { core = pin_steps.state_after k s.pool.core i f v }) s.lane law refl refl (outer_same s.origin s.log s.lanes s.lane s.flushed (written_of s) s.device views (outer_of s h) i v w there (record { calls = refl; front = refl; joined = refl; flushed = refl; emptied = refl }) refl refl refl refl)
+      assemble s h (record s.pool { core = pin_steps.state_after k s.pool.core i f v }) s.lane law refl refl (outer_same s.origin s.log s.lanes s.lane s.flushed (written_of s) s.device views (outer_of s h) i v w there (record { calls = refl; front = refl; joined = refl; flushed = refl; emptied = refl; number = refl; kept = refl }) refl refl refl refl)
       (record {
         homes = touched i f v w fr l there live inside refl (home_of s) (λ g below other. refl) (pins_keep k (home_of s (frame f).tag) (home_of s fr.tag) (frame f) (link v f) a (λ e. ap (home_of s) e) (fresh i f k v there a around));
         unframed = unframed_put n frame (home_of s) f fr inside h.unframed (clean_at f inside) (tag_goes k (frame f) (link v f) (tallies frame_shape views f) (h.pool.core.grid.columns f inside) a);
@@ -182,7 +182,7 @@ module _ (s : State) (h : Invariant s) where
   page_step : (i f : ℕ) (k : Kind) (v : View) → get_elem? views i ≡ some v → v.emptied ≡ false → f < n → Allowed k (block_of s.pool.logged (frame f).tag) (frame f) (link v f) → page_steps.AllowedAround k v f → IsPlain k → Invariant (record s { pool = page_steps.state_after k s.pool i f v })
   page_step i f k v there live inside a around plain = let stays = plain_block k (block_of s.pool.logged (frame f).tag) plain in let w : View = paged k s.pool f v in
       assemble s h (page_steps.state_after k s.pool i f v) s.lane (page_stepping.step_keeps (page_steps.touches i f k v there live inside a around) h.pool) (logged_same i f k v there live inside stays) refl
-      (outer_same s.origin s.log s.lanes s.lane s.flushed (written_of s) s.device views (outer_of s h) i v w there (record { calls = refl; front = refl; joined = refl; flushed = refl; emptied = refl }) refl refl refl refl)
+      (outer_same s.origin s.log s.lanes s.lane s.flushed (written_of s) s.device views (outer_of s h) i v w there (record { calls = refl; front = refl; joined = refl; flushed = refl; emptied = refl; number = refl; kept = refl }) refl refl refl refl)
       (blocks_touched i f k v there live inside stays w refl (plain_keeps k (home_of s (frame f).tag) (frame f) (link v f) (cell s.origin s.log.entries (frame f).tag) (λ j. h.logged j (frame f).tag) plain a))
 
   -- the blocks where a view changes beside its links
@@ -194,10 +194,10 @@ module _ (s : State) (h : Invariant s) where
   others_step (pin_steps.touches i f k v there live inside a around) = pins_step i f k v there live inside a around
   others_step (pin_steps.turns i p k v there live below a) = let x : pin_steps.Step (pin_steps.turn i p k) s.pool.core (pin_steps.state_turned k s.pool.core i p v) = pin_steps.turns i p k v there live below a in let w : View = view_turned k p (hold v p) v in
       assemble s h (record s.pool { core = pin_steps.state_turned k s.pool.core i p v }) s.lane (page_stepping.step_keeps (page_steps.cores x) h.pool) refl refl
-      (outer_same s.origin s.log s.lanes s.lane s.flushed (written_of s) s.device views (outer_of s h) i v w there (record { calls = refl; front = refl; joined = refl; flushed = refl; emptied = refl }) refl refl refl refl) (blocks_aside i v w there refl)
+      (outer_same s.origin s.log s.lanes s.lane s.flushed (written_of s) s.device views (outer_of s h) i v w there (record { calls = refl; front = refl; joined = refl; flushed = refl; emptied = refl; number = refl; kept = refl }) refl refl refl refl) (blocks_aside i v w there refl)
   others_step (pin_steps.splits v there room) = let x : pin_steps.Step pin_steps.split s.pool.core (pins.split_state s.pool.core v) = pin_steps.splits v there room in let w : View = record v { next = v.next + 1 } in
       let a = length v.links in let p = length v.partitions in let m = length v.lanes in let first = h.pool.core.views.first v there in
-      let outer = outer_grows s.origin s.log s.lanes s.lane s.flushed (written_of s) s.device (set views 0 w) (outer_same s.origin s.log s.lanes s.lane s.flushed (written_of s) s.device views (outer_of s h) 0 v w there (record { calls = refl; front = refl; joined = refl; flushed = refl; emptied = refl }) refl refl refl refl) v.next s.pool.core.base a p h.based h.flushed_from in
+      let outer = outer_grows s.origin s.log s.lanes s.lane s.flushed (written_of s) s.device (set views 0 w) (outer_same s.origin s.log s.lanes s.lane s.flushed (written_of s) s.device views (outer_of s h) 0 v w there (record { calls = refl; front = refl; joined = refl; flushed = refl; emptied = refl; number = refl; kept = refl }) refl refl refl refl) v.next s.pool.core.base a p h.based h.flushed_from in
       let blocks = blocks_aside 0 v w there refl in
       assemble s h (record s.pool { core = pins.split_state s.pool.core v }) s.lane (page_stepping.step_keeps (page_steps.cores x) h.pool) refl refl
       (subst (λ (z : ℕ). Outer s.origin s.log s.lanes s.lane s.flushed (written_of s) s.device (set views 0 w ++ new_view v.next s.pool.core.base a p z ∷ [])) (sym (h.wide 0 v there first.0)) outer)
@@ -280,7 +280,7 @@ lanes_step : (s : State) → Invariant s → (i q : ℕ) (k : LaneKind) (v : Vie
 lanes_step s h i q k v there live inside a alone = let w : View = stepped (laned k s q v v) in let views = s.pool.core.views in let holds = no_write_holds k s q (lane_hold v q) (s.lane q) alone in
     let same : SameHere v w = record { backend = record { emptied = refl; number = refl; next = refl; links = refl; partitions = refl }; joined = refl; links = refl; partitions = refl } in
     assemble s h (aside s.pool i w) (put s.lane q (lane_after k (s.lane q))) (pool_aside s.pool i v w h.pool there same) refl refl
-    (laned_outer s h i q k v w there live inside a (record { calls = refl; front = refl; joined = refl; flushed = refl; emptied = refl }) refl refl refl refl)
+    (laned_outer s h i q k v w there live inside a (record { calls = refl; front = refl; joined = refl; flushed = refl; emptied = refl; number = refl; kept = refl }) refl refl refl refl)
     (subst (λ (x : ℕ → Home). Blocks s.pool.core.frames s.pool.core.frame (set views i w) s.origin s.log s.flushed x) (homes_same s q (lane_after k (s.lane q)) holds.0 holds.1) (blocks_aside s h i v w there refl))
 
 -- what comes back is noted at a frame
@@ -290,7 +290,7 @@ notes_step s h i q f noted k v there live low inside back what = let fr = s.pool
     let x = noted_keeps s h i q f k v there live low inside what in
     let same : SameHere (paged k s.pool f v) w = record { backend = record { emptied = refl; number = refl; next = refl; links = refl; partitions = refl }; joined = refl; links = refl; partitions = refl } in
     assemble s h (pool_after k s.pool i f w) (put s.lane q (s.lane q)) (pool_touched s.pool h.pool i f k v w there live inside x.allowed same) (logged_same s h i f k v there live inside x.stays) refl
-    (laned_outer s h i q (lane_kinds.lane_back noted) v w there live low back (record { calls = refl; front = refl; joined = refl; flushed = refl; emptied = refl }) refl refl refl refl)
+    (laned_outer s h i q (lane_kinds.lane_back noted) v w there live low back (record { calls = refl; front = refl; joined = refl; flushed = refl; emptied = refl; number = refl; kept = refl }) refl refl refl refl)
     (subst (λ (y : ℕ → Home). Blocks s.pool.core.frames (put s.pool.core.frame f (frame_after k b fr)) (set views i w) s.origin s.log s.flushed y) (homes_same s q (s.lane q) refl refl) (blocks_touched s h i f k v there live inside x.stays w refl x.keeps))
 
 -- The page p of the frame f goes to its lane q, or fails to
@@ -339,7 +339,7 @@ module _ (s : State) (h : Invariant s) (i q f : ℕ) (v : View) (there : get_ele
     write_keeps = let b : Block = block_of s.pool.logged written_frame.tag in let w : View = laned k s q v (paged begin_write s.pool f v) in let views = s.pool.core.views in let a : Allowed begin_write b written_frame (link v f) = record { right = x.right.right } in
         let same : SameHere (paged begin_write s.pool f v) w = record { backend = record { emptied = refl; number = refl; next = refl; links = refl; partitions = refl }; joined = refl; links = refl; partitions = refl } in
         assemble s h (pool_after begin_write s.pool i f w) lane' (pool_touched s.pool h.pool i f begin_write v w there live inside a same) (logged_same s h i f begin_write v there live inside refl) refl
-        (laned_outer s h i q k v w there live low back (record { calls = refl; front = refl; joined = refl; flushed = refl; emptied = refl }) refl refl refl refl)
+        (laned_outer s h i q k v w there live low back (record { calls = refl; front = refl; joined = refl; flushed = refl; emptied = refl; number = refl; kept = refl }) refl refl refl refl)
         (record {
           homes = touched s h i f v w written_frame (link_after begin_write b written_frame (link v f)) there live inside refl home' (λ g below other. else (s.pool.core.frame g).tag (other_tag g below other))
               (homes.begin_write_keeps (home_of s written_frame.tag) written_frame (link v f) (home' written_frame.tag) refl a);
@@ -385,7 +385,7 @@ reads_step s h i f tag p v there inside a = let w : View = looked (seen.LogEnd s
     let x = copied_is_logged (block_of s.pool.logged (s.pool.core.frame f).tag) (s.pool.core.frame f) (link v f) tag p (h.pool.pages.cells i v f there inside) (h.pool.core.grid.cells i v f there inside) a in
     let is : p ≡ cell s.origin s.log.entries tag = sym (x.0 (cell s.origin s.log.entries tag) (ap s.pool.logged x.1 ∙ (λ j. h.logged j tag))) in
     with_view s h i v w there (record { backend = record { emptied = refl; number = refl; next = refl; links = refl; partitions = refl }; joined = refl; links = refl; partitions = refl }) refl refl refl
-    (history_read s.origin s.log s.flushed s.pool.core.views h.history h.log i v w there tag p is (new_entry s 0 tag p) (ap (λ (z : ℕ). v.calls ++ Read tag p z ∷ []) h.ends) h.ends refl refl)
+    (history_read s.origin s.log s.flushed s.pool.core.views h.history h.log i v w there tag p is (new_entry s 0 tag p) (ap (λ (z : ℕ). v.calls ++ Read tag p z ∷ []) h.ends) h.ends refl refl refl refl)
 
 -- the flushed position rises to the log's end, whose bytes are durable
 raised_state : (t : State) → Invariant t → length (log_bytes t.names t.log) ≤ t.device.synced → Invariant (record t { flushed = max t.flushed t.end })
@@ -411,7 +411,7 @@ raised_state t k durable = let more : t.flushed ≤ max t.flushed t.end = omega 
 }
 
 raises_step : (s : State) → Invariant s → (i : ℕ) (v : View) → get_elem? s.pool.core.views i ≡ some v → v.log.synced ≡ true → Invariant (record s { pool = aside s.pool i (stepped v); flushed = max s.flushed s.end })
-raises_step s h i v there synced = raised_state (record s { pool = aside s.pool i (stepped v) }) (with_view s h i v (stepped v) there (record { backend = record { emptied = refl; number = refl; next = refl; links = refl; partitions = refl }; joined = refl; links = refl; partitions = refl }) refl refl refl (history_same s.origin s.log s.flushed s.pool.core.views h.history i v (stepped v) there (record { calls = refl; front = refl; joined = refl; flushed = refl; emptied = refl })))
+raises_step s h i v there synced = raised_state (record s { pool = aside s.pool i (stepped v) }) (with_view s h i v (stepped v) there (record { backend = record { emptied = refl; number = refl; next = refl; links = refl; partitions = refl }; joined = refl; links = refl; partitions = refl }) refl refl refl (history_same s.origin s.log s.flushed s.pool.core.views h.history i v (stepped v) there (record { calls = refl; front = refl; joined = refl; flushed = refl; emptied = refl; number = refl; kept = refl })))
     (synced_all (written_of s) s.device v.saw_down v.log (tallies log_shape s.pool.core.views 0) (h.device.columns 0 (lit< tt)) (h.device.cells i v 0 there (lit< tt)) (λ k. term_le (λ (u : View). log_weigh k u.log) s.pool.core.views i v there) synced)
 
 -- what is durable stays so
@@ -441,7 +441,7 @@ logs_step s h i k v there a = let w : View = view_logged k v in let views = s.po
       named = h.named;
       durable = λ lt. let x = h.durable lt in omega arith;
       device = sweep log_shape log_part log_part 1 (λ _. s.device) (λ _. device_after k s.end s.device) (λ _. written_of s) (λ _. written_of s) views i v w h.device there (λ g below. log_keeps (written_of s) s.device v.saw_down v.log k a);
-      history = history_same s.origin s.log s.flushed views h.history i v w there (record { calls = refl; front = refl; joined = refl; flushed = refl; emptied = refl });
+      history = history_same s.origin s.log s.flushed views h.history i v w there (record { calls = refl; front = refl; joined = refl; flushed = refl; emptied = refl; number = refl; kept = refl });
       lanes = steady lane_shape lane_part s.lanes s.lane (λ _. s.flushed) views h.lanes i v w there refl (λ q. refl);
       wide = wide_set s.lanes views h.wide i v w there refl refl;
       placed = h.placed;
@@ -512,7 +512,7 @@ module _ (s : State) (h : Invariant s) (i f : ℕ) (p : Page) (v : View) (there 
         durable = h.durable;
         device = sweep log_shape log_part log_part 1 (λ _. s.device) (λ _. s.device) (λ _. written_of s) (λ _. written_of entered) views i v after h.device there
             (λ g below. enter_keeps (written_of s) s.device v.saw_down v.log (record_bytes s.names entry) (s.end + record_size) (log_bytes s.names entered.log) x.appended (bytes_longer s.names s.log entry));
-        history = history_written s.origin s.log s.flushed views h.history h.log i v after there entry h.ends refl refl refl refl;
+        history = history_written s.origin s.log s.flushed views h.history h.log i v after there entry h.ends refl refl refl refl refl refl refl;
         lanes = steady lane_shape lane_part s.lanes s.lane (λ _. s.flushed) views h.lanes i v after there refl (λ q. refl);
         wide = wide_set s.lanes views h.wide i v after there refl refl;
         placed = h.placed;
@@ -535,9 +535,9 @@ step_keeps (notes {s = s} i q f noted k v there live low inside a x) h = notes_s
 step_keeps (enters {s = s} i f p v there live inside x) h = enters_step s h i f p v there live inside x
 step_keeps (reads {s = s} i f tag p v there live inside a) h = reads_step s h i f tag p v there inside a
 step_keeps (loads_end {s = s} i v there live) h = let w : View = looked (seen.LogEnd s.end) v in with_view s h i v w there (record { backend = record { emptied = refl; number = refl; next = refl; links = refl; partitions = refl }; joined = refl; links = refl; partitions = refl }) refl refl refl
-    (history_same s.origin s.log s.flushed s.pool.core.views h.history i v w there (record { calls = refl; front = refl; joined = refl; flushed = refl; emptied = refl }))
+    (history_same s.origin s.log s.flushed s.pool.core.views h.history i v w there (record { calls = refl; front = refl; joined = refl; flushed = refl; emptied = refl; number = refl; kept = refl }))
 step_keeps (loads_flushed {s = s} i v there live) h = let w : View = looked (seen.Flushed s.flushed) (record v { flushed = s.flushed }) in with_view s h i v w there (record { backend = record { emptied = refl; number = refl; next = refl; links = refl; partitions = refl }; joined = refl; links = refl; partitions = refl }) refl refl refl
-    (history_loaded s.origin s.log s.flushed s.pool.core.views h.history i v w there refl refl refl refl refl)
+    (history_loaded s.origin s.log s.flushed s.pool.core.views h.history i v w there refl refl refl refl refl refl refl)
 step_keeps (raises {s = s} i v there live synced) h = raises_step s h i v there synced
 step_keeps (logs {s = s} i k v there live a record_is) h = logs_step s h i k v there a
 

@@ -19,7 +19,7 @@ use Rattle.history_core.specs.State.{State, Store, CanStore, stored, failed, las
 use Rattle.history_core.specs.Homes.{IsFlushedCell}
 use Rattle.history_core.specs.Lanes.{LaneKind, lane_out}
 use Rattle.history_core.specs.Device.{IsLeft, HasRisen}
-use Rattle.history_core.specs.Invariant.{written_of}
+use Rattle.history_core.specs.Invariant.{IsOwn, written_of}
 use Rattle.history_core.specs.Steps.{Event, pool, lane, write, enter, read, new_entry, Step, Run}
 use Rattle.grid.specs.Shape.{total}
 
@@ -36,6 +36,10 @@ pub record IsReached (s : State) : Type 0 where
 -- each page that a backend read or wrote stands at its place in one history, that of the log
 abbrev pub CallsAreLegal : State → Type 0
 CallsAreLegal s = (i k : ℕ) (v : View) (c : Call) → get_elem? s.pool.core.views i ≡ some v → get_elem? v.calls k ≡ some c → IsLegal s.origin s.log c
+
+-- the entry of each write was made by the backend, or by one whose calls it took in
+abbrev pub WritesAreOwn : State → Type 0
+WritesAreOwn s = (i k : ℕ) (v : View) (c : Call) → get_elem? s.pool.core.views i ≡ some v → get_elem? v.calls k ≡ some c → IsOwn s.log v c
 
 -- a backend's front is the largest of the log's base and the places of its calls
 abbrev pub FrontsAreReached : State → Type 0
