@@ -19,7 +19,7 @@ use Rattle.page_core.specs.Tallies.{Tally, sharers, weigh}
 use Rattle.page_core.specs.Invariant.{PageFrame, PageLink}
 use Rattle.page_core.specs.Kinds as kinds
 use Rattle.page_core.specs.Kinds.{Kind, Allowed, frame_after, block_after, link_after}
-use Rattle.history_core.specs.Log.{Log, Entry}
+use Rattle.history_core.specs.Log.{Log}
 use Rattle.history_core.specs.Homes.{Home, IsClean, HomeLink, home_shape, home_part, IsUnframed, IsFlushedCell}
 use Rattle.history_core.specs.Steps.{IsPlain}
 use Rattle.history_core.proofs.Homes as homes

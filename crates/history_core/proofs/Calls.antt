@@ -92,9 +92,15 @@ own_same log v w number kept c x = own_longer log log v w [] (λ k e at. at) num
 -- the calls of a view that is taken in
 own_joined : (log : Log) (v u : View) (c : Call) → IsOwn log u c → IsOwn log (joined_view v u) c
 own_joined log v u (Read tag page place) x = tt
-own_joined log v u (Write tag page place) (k, e, at, ends, has) = (k, e, at, ends, λ other. dite (ℕ_discrete e.backend u.number)
-    (λ (z : e.backend ≡ u.number). let y = kept_right v.kept (kept_checkpoint u ∷ u.kept) 0 (kept_checkpoint u) refl in (y.0, kept_checkpoint u, y.1, sym z))
-    (λ (o : e.backend ≢ u.number). let x = has o in let y = kept_right v.kept (kept_checkpoint u ∷ u.kept) (suc x.0) x.1 x.2 in (y.0, x.1, y.1, x.3)))
+own_joined log v u (Write tag page place) (k, e, at, ends, has) = (
+  k,
+  e,
+  at,
+  ends,
+  λ other. dite (ℕ_discrete e.backend u.number)
+      (λ (z : e.backend ≡ u.number). let y = kept_right v.kept (kept_checkpoint u ∷ u.kept) 0 (kept_checkpoint u) refl in (y.0, kept_checkpoint u, y.1, sym z))
+      (λ (o : e.backend ≢ u.number). let x = has o in let y = kept_right v.kept (kept_checkpoint u ∷ u.kept) (suc x.0) x.1 x.2 in (y.0, x.1, y.1, x.3)),
+)
   where
     kept_right : (l m : List Checkpoint) (k : ℕ) (c : Checkpoint) → get_elem? m k ≡ some c → (j : ℕ) × (get_elem? (l ++ m) j ≡ some c)
     kept_right [] m k c at = (k, at)

@@ -196,6 +196,7 @@ module _ (s : State) (h : Invariant s) where
 
   pub held : LanesAreHeld s
   held n below = sym (total-count (λ (v : View). flag_weight (lane_hold v n).held) (holds_lane n) (λ v. flag_cond (lane_hold v n).held) s.pool.core.views) ∙ sym (h.lanes.columns n below).taken ∙ flag_count (s.lane n).taken
+
   pub device_holds : DeviceHoldsLog s
   device_holds = let d = h.device.columns 0 (lit< tt) in record {
     whole = λ up none. d.bytes (total-none (λ (v : View). log_weigh appenders v.log) s.pool.core.views (λ i v there. ap some_weight (none i v there))) up;
