@@ -11,6 +11,7 @@ ghost use Rattle.history_core.specs.Invariant.{Invariant};
 ghost use Rattle.history_core.specs.Causes.{MarksLaw};
 ghost use Rattle.history_core.specs.Counts.{CountsLaw};
 ghost use Rattle.history_core.specs.Steps.{Event, Run};
+ghost use Rattle.history_core.specs.Sample.{SampleRuns};
 ghost use Rattle.history_core.specs.Histories.{IsReached, CallsAreLegal, WritesAreOwn, FrontsAreReached, CallsStay, CallsAreInOrder, LoadedIsFlushed, LanesGoOutFlushed, NotedWritesAreDone, LogIsHeld, WritesAreEntries, ReadsStand, WritesStand, LogBeforeData, LanesHoldFlushedPages, CleanBlocksAreStored, FramesAreSound, FramesHoldCells, LogWords, EntriesAreDurable, DeviceHoldsLog, LanesAreHeld};
 
 /// What every list of events keeps, whatever the backends do and in whatever order.
@@ -55,4 +56,9 @@ pub fn all_histories()
     ensures hold_cells { (s : State) → IsReached s → FramesHoldCells s }
     ensures unique { (s : State) → IsReached s → TagsAreUnique s.pool.core }
     ensures remembers { (s : State) → IsReached s → PinsRemember s.pool.core }
+{}
+
+/// An example: a backend reads a block from its lane, and makes the log durable.
+pub fn lane_read_and_log_flush()
+    ensures { SampleRuns }
 {}
