@@ -19,7 +19,7 @@ use Rattle.page_core.specs.Tallies.{Tally, sharers, weigh}
 use Rattle.page_core.specs.Invariant.{PageFrame, PageLink}
 use Rattle.page_core.specs.Kinds as kinds
 use Rattle.page_core.specs.Kinds.{Kind, Allowed, frame_after, block_after, link_after}
-use Rattle.history_core.specs.Log.{Entry}
+use Rattle.history_core.specs.Log.{Log}
 use Rattle.history_core.specs.Homes.{Home, IsClean, HomeLink, home_shape, home_part, IsUnframed, IsFlushedCell}
 use Rattle.history_core.specs.Steps.{IsPlain}
 use Rattle.history_core.proofs.Homes as homes
@@ -104,10 +104,10 @@ pub written_is_logged : (b : Block) (fr : Frame) (l : Link) (t : Tally → ℕ) 
 written_is_logged b fr l t q c le e = (grind (arith, q, c, le, e), λ p is. grind (arith, q, c, le, e, is))
 
 -- The laws of the blocks, where `home` is what is known of each
-pub record Blocks (n : ℕ) (frame : ℕ → Frame) (views : List View) (origin : ℕ → Page) (entries : List Entry) (flushed : ℕ) (home : ℕ → Home) : Type 0 where
+pub record Blocks (n : ℕ) (frame : ℕ → Frame) (views : List View) (origin : ℕ → Page) (log : Log) (flushed : ℕ) (home : ℕ → Home) : Type 0 where
   pub homes : Grid home_shape home_part n frame home views
   pub unframed : (tag : ℕ) → tag ≢ no_tag → IsUnframed n frame tag → IsClean (home tag)
-  pub flushed_cells : (tag : ℕ) → (home tag).failed ≡ false → IsFlushedCell origin entries flushed tag (home tag).stored
+  pub flushed_cells : (tag : ℕ) → (home tag).failed ≡ false → IsFlushedCell origin log flushed tag (home tag).stored
 
 pub no_link : (h : Home) (fr : Frame) → HomeLink h fr idle
 no_link h fr = grind arith

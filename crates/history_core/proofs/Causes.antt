@@ -295,7 +295,7 @@ marks_kept (pools {s = s} x a) h m = pool_marks s h m x
 marks_kept (lanes {s = s} i q k v there live low a alone) h m = lanes_marks s h m i q k v there alone
 marks_kept (writes {s = s} i q f k v there live low inside a x) h m = writes_marks s h m i q f k v there inside x
 marks_kept (notes {s = s} i q f noted k v there live low inside a x) h m = notes_marks s h m i q f noted k v there inside x
-marks_kept (logs {s = s} i k v there live a) h m = λ none. let x = aside_marks s h m i v (view_logged k v) there (omega arith) refl (no_write_fault k v) refl none in record { frames = x.frames; blocks = x.blocks; views = x.views }
+marks_kept (logs {s = s} i k v there live a record_is) h m = λ none. let x = aside_marks s h m i v (view_logged k v) there (omega arith) refl (no_write_fault k v) refl none in record { frames = x.frames; blocks = x.blocks; views = x.views }
 marks_kept (enters {s = s} i f p v there live inside x) h m = entered_marks s h m i f p v there inside refl refl refl (λ tag. refl)
 marks_kept (reads {s = s} i f tag p v there live inside a) h m = aside_marks s h m i v (looked (seen.LogEnd s.end) (has_read s.end tag p v)) there (omega arith) refl refl refl
 marks_kept (loads_end {s = s} i v there live) h m = aside_marks s h m i v (looked (seen.LogEnd s.end) v) there (omega arith) refl refl refl

@@ -244,7 +244,7 @@ counting (pools {s = s} (page_steps.touches i f k v there live inside a around) 
 counting (lanes {s = s} i q k v there live low a alone) h m = laned_counts s h m i q k v (stepped (laned k s q v v)) there live low a refl refl
 counting (writes {s = s} i q f k v there live low inside a x) h m = laned_counts s h m i q k v (laned k s q v (paged begin_write s.pool f v)) there live low a refl refl
 counting (notes {s = s} i q f noted k v there live low inside a x) h m = laned_counts s h m i q (lane_kinds.lane_back noted) v (laned (lane_kinds.lane_back noted) s q v (paged k s.pool f v)) there live low a refl refl
-counting (logs {s = s} i k v there live a) h m = logged_counts s h m i k v there
+counting (logs {s = s} i k v there live a record_is) h m = logged_counts s h m i k v there
 counting (enters {s = s} i f p v there live inside x) h m = unlaned_counts s h m i v (has_written (s.end + record_size) (s.pool.core.frame f).tag p (paged (make_entry p) s.pool f v)) there refl refl refl refl
 counting (reads {s = s} i f tag p v there live inside a) h m = unlaned_counts s h m i v (looked (seen.LogEnd s.end) (has_read s.end tag p v)) there refl refl refl refl
 counting (loads_end {s = s} i v there live) h m = unlaned_counts s h m i v (looked (seen.LogEnd s.end) v) there refl refl refl refl

@@ -1,5 +1,5 @@
 -- What the law says in the field's words.
-use Rattle.std.proofs.Common.{◌≡◌, ◌≢◌, ◌⊎◌, ℕ, zero, suc, ◌+◌, ◌<◌, ◌≤◌, Bool, true, false, cond, List, [], ◌∷◌, ◌++◌, length, Some, None, inl, inr, sym, refl, ◌∙◌, subst, ⊎_elim, arith, lit<, ap}
+use Rattle.std.proofs.Common.{◌≡◌, ◌≢◌, ◌⊎◌, ℕ, zero, suc, ◌+◌, ◌<◌, ◌≤◌, Bool, true, false, cond, List, [], ◌∷◌, ◌++◌, length, Option, Some, None, get_or-set_same, inl, inr, sym, refl, ◌∙◌, subst, ⊎_elim, arith, lit<, ap}
 use Rattle.std.specs.Prelude.{if◌then◌else◌}
 use Rattle.std.proofs.lemmas.Option.{same_Some}
 use mathlib.Core.Logic.{dite}
@@ -11,25 +11,26 @@ use Rattle.pin_core.specs.declared.view.LaneHold.{LaneHold}
 use Rattle.pin_core.specs.declared.view.Link.{Link}
 use Rattle.pin_core.specs.declared.view.View.{View}
 use Rattle.pin_core.specs.declared.view.Call.TheVariants.{Read}
-use Rattle.pin_core.specs.State.{Frame, Page, link, lane_hold}
+use Rattle.pin_core.specs.State.{Frame, Page, link, lane_hold, no_lane}
 use Rattle.pin_core.specs.Tallies.{flag_weight, some_weight}
 use Rattle.pin_core.specs.declared.view.Seen.TheVariants as seen
 use Rattle.page_core.specs.Kinds.{make_entry}
 use Rattle.page_core.proofs.Histories as pages
-use Rattle.history_core.specs.Log.{record_size, cell}
+use Rattle.history_core.specs.Log.{record_size, cell, cut}
 use Rattle.history_core.specs.State.{State, stored}
 use Rattle.history_core.specs.Lanes as lane_kinds
-use Rattle.history_core.specs.Lanes.{LaneKind, LaneAllowed}
-use Rattle.history_core.specs.Device.{appenders, log_weigh}
+use Rattle.history_core.specs.Lanes.{LaneKind, LaneAllowed, lane_hold_after}
+use Rattle.history_core.specs.Device.{appenders, log_weigh, resting_weight}
+use Rattle.history_core.specs.Device as log
 use Rattle.history_core.specs.Homes.{IsUnframed}
 use Rattle.history_core.specs.Invariant.{Invariant}
-use Rattle.history_core.specs.Steps.{looked, paged, has_read, has_written, new_entry, Writes, writes, enters, reads}
-use Rattle.history_core.specs.Histories.{IsReached, CallsAreLegal, WritesAreEntries, ReadsStand, WritesStand, LogBeforeData, LanesHoldFlushedPages, IsStored, CleanBlocksAreStored, FramesAreSound, FramesHoldCells, LogWords, holds_lane, LanesAreHeld, EntriesAreDurable, DeviceHoldsLog}
-use Rattle.history_core.proofs.Logs.{end_longer}
+use Rattle.history_core.specs.Steps.{looked, stepped, laned, lanes, paged, has_read, has_written, new_entry, Writes, writes, enters, reads}
+use Rattle.history_core.specs.Histories.{IsReached, CallsAreLegal, WritesAreOwn, FrontsAreReached, CallsAreInOrder, LoadedIsFlushed, LanesGoOutFlushed, NotedWritesAreDone, holds_log, LogIsHeld, WritesAreEntries, ReadsStand, WritesStand, LogBeforeData, LanesHoldFlushedPages, IsStored, CleanBlocksAreStored, FramesAreSound, FramesHoldCells, LogWords, holds_lane, LanesAreHeld, EntriesAreDurable, DeviceHoldsLog}
+use Rattle.history_core.proofs.Logs.{end_longer, cell_longer}
 use Rattle.history_core.proofs.Opening.{opens}
 use Rattle.history_core.proofs.Stepping.{step_keeps, run_keeps}
-use Rattle.grid.proofs.Lists.{set_here}
-use Rattle.grid.proofs.Sums.{total-count, total-none}
+use Rattle.grid.proofs.Lists.{set_here, put_here}
+use Rattle.grid.proofs.Sums.{total-count, total-none, total-same, total-add}
 
 pub reached : (s : State) → IsReached s → Invariant s
 reached s r = run_keeps r.run (opens r.config r.store r.page r.opens r.stores)
@@ -37,6 +38,16 @@ reached s r = run_keeps r.run (opens r.config r.store r.page r.opens r.stores)
 flag_count : (b : Bool) → flag_weight b ≡ (if b then 1 else 0)
 flag_count true = refl
 flag_count false = refl
+
+flag_cond : (b : Bool) → flag_weight b ≡ cond b 1 0
+flag_cond true = refl
+flag_cond false = refl
+
+-- who has a record appended holds the latch
+weigh_split : (a : Option (List ℕ)) (b : Bool) → (b ≡ false → a ≡ None) → flag_weight b ≡ resting_weight a b + some_weight a
+weigh_split None b rests = omega arith
+weigh_split (Some x) true rests = refl
+weigh_split (Some x) false rests = let e = rests refl in absurd (cc)
 
 -- a frame below n has the tag, or none has
 framed : (n : ℕ) (frame : ℕ → Frame) (tag : ℕ) → ((f : ℕ) × (f < n) × ((frame f).tag ≡ tag)) ⊎ IsUnframed n frame tag
@@ -79,23 +90,31 @@ module _ (s : State) (h : Invariant s) where
   pub legal : CallsAreLegal s
   legal i k v c there at = (h.history.calls i v there).legal k c at
 
+  pub own : WritesAreOwn s
+  own i k v c there at = (h.history.calls i v there).own k c at
+
+  pub fronts : FrontsAreReached s
+  fronts i v there live = let c = h.history.calls i v there in record { from_base = c.from_base live; above = c.fronted; reached = c.reached live }
+
   pub entries : WritesAreEntries s
   entries = record { counted = h.history.counted; once = h.history.once }
 
   pub reads_stand : ReadsStand s
   reads_stand _ _ t (reads i f tag p v there live inside a) = let w : View = looked (seen.LogEnd s.end) (has_read s.end tag p v) in let here = set_here s.pool.core.views i v w there in let k = step_keeps (reads i f tag p v there live inside a) h in
-      let c = h.history.calls i v there in let e = h.ends in (
+      let c = h.history.calls i v there in let e = h.ends in let is : tag ≡ (s.pool.core.frame f).tag = sym ((h.pool.core.grid.cells i v f there inside).remembers tag a.remembered).1 in
+      let cell_is : p ≡ cell s.origin (cut s.end s.log.entries) tag = ((k.history.calls i w here).legal (length v.calls) (Read tag p s.end) (at_last v.calls (Read tag p s.end))).reads in (
         v,
         w,
         there,
         here,
         record {
-          tag = tag;
           page = p;
-          place = s.end;
-          added = refl;
+          copied = a.copied;
+          remembered = a.remembered ∙ ap (λ (z : ℕ). Some z) is;
+          added = ap (λ (z : ℕ). v.calls ++ Read z p s.end ∷ []) is;
           front = refl;
-          is_cell = ((k.history.calls i w here).legal (length v.calls) (Read tag p s.end) (at_last v.calls (Read tag p s.end))).reads;
+          place_loads = refl;
+          is_cell = subst (λ (z : ℕ). p ≡ cell s.origin (cut s.end s.log.entries) z) is cell_is;
           later = λ j x at. let y = c.fronted j x at in let z = c.within in omega arith;
           above = let z = c.within in omega arith;
         },
@@ -103,25 +122,56 @@ module _ (s : State) (h : Invariant s) where
 
   pub writes_stand : WritesStand s
   writes_stand _ _ _ t (enters i f p v there live inside a) = let tag = (s.pool.core.frame f).tag in let w : View = has_written (s.end + record_size) tag p (paged (make_entry p) s.pool f v) in let here = set_here s.pool.core.views i v w there in
-      let c = h.history.calls i v there in let e = h.ends in (
+      let c = h.history.calls i v there in let e = h.ends in let entry = new_entry s v.number tag p in (
         v,
         w,
         there,
         here,
         record {
-          tag = tag;
-          page = p;
-          place = s.end + record_size;
+          logged = refl;
+          end = omega (arith, end_longer s.log entry h.log);
+          longer = refl;
           added = refl;
           front = refl;
           position = a.ends;
-          end = omega (arith, end_longer s.log (new_entry s v.number tag p) h.log);
+          is_cell = sym (put_here (cell s.origin s.log.entries) tag p) ∙ (λ j. sym (cell_longer s.origin s.log.entries entry) j tag);
           above = let z = c.within in omega arith;
         },
       )
 
+  pub durable : EntriesAreDurable s
+  durable k e there low = let starts = h.log.chained k e there in let x = h.durable (omega arith) in omega arith
+
   pub log_first : LogBeforeData s
-  log_first _ _ _ _ t (writes i n f k v there live low inside back x) = (v, there, record { loaded = loaded k s n f (lane_hold v n) (link v f) x; flushed = (h.lanes.cells i v n there low).hold.flushed_by (is_out k s n f (lane_hold v n) (link v f) x back) })
+  log_first _ _ _ _ t (writes i n f k v there live low inside back x) = let before = loaded k s n f (lane_hold v n) (link v f) x in let by = (h.lanes.cells i v n there low).hold.flushed_by (is_out k s n f (lane_hold v n) (link v f) x back) in (
+    v,
+    there,
+    record { loaded = before; flushed = by; durable = λ j e at upto. durable j e at (omega arith) },
+  )
+
+  pub go_out_flushed : LanesGoOutFlushed s
+  go_out_flushed _ _ taken t (lanes i n k v there live low a alone) = let l : LaneHold = lane_hold_after k v.flushed (s.lane n) (lane_hold v n) in let w : View = stepped (laned k s n v v) in (
+    v,
+    w,
+    there,
+    set_here s.pool.core.views i v w there,
+    ap (λ (x : LaneHold). x.flushed) (get_or-set_same v.lanes n l no_lane (subst (λ (m : ℕ). n < m) (sym (h.wide i v there live)) low)),
+  )
+
+  pub loaded_flushed : LoadedIsFlushed s
+  loaded_flushed i v there = (h.history.calls i v there).loaded
+
+  pub in_order : CallsAreInOrder s
+  in_order i v there = (h.history.calls i v there).in_order
+
+  pub noted_done : NotedWritesAreDone s
+  noted_done i f v there below done = let x = (h.homes.cells i v f there below).written done in record { done = x.done; stored_is = x.stored }
+
+  pub log_held : LogIsHeld s
+  log_held = let views = s.pool.core.views in let column = h.device.columns 0 (lit< tt) in
+      let same = total-same (λ (v : View). flag_weight v.log.held) (λ (v : View). log_weigh log.holders v.log + log_weigh appenders v.log) views (λ i v there. weigh_split v.log.appended v.log.held (λ e. ((h.device.cells i v 0 there (lit< tt)).resting e).1)) in
+      let sums = total-add (λ (v : View). log_weigh log.holders v.log + log_weigh appenders v.log) (λ (v : View). log_weigh log.holders v.log) (λ (v : View). log_weigh appenders v.log) (λ v. refl) views in
+      sym (total-count (λ (v : View). flag_weight v.log.held) holds_log (λ v. flag_cond v.log.held) views) ∙ same ∙ sums ∙ sym column.taken ∙ flag_count s.device.taken
 
   pub lanes_hold : LanesHoldFlushedPages s
   lanes_hold = h.flushed_cells
@@ -145,14 +195,7 @@ module _ (s : State) (h : Invariant s) where
   words = record { ends = h.ends; limit = h.limit; flushed_from = h.flushed_from; flushed_to = h.flushed_to }
 
   pub held : LanesAreHeld s
-  held n below = sym (total-count (λ (v : View). flag_weight (lane_hold v n).held) (holds_lane n) (λ v. flag_is (lane_hold v n).held) s.pool.core.views) ∙ sym (h.lanes.columns n below).taken ∙ flag_count (s.lane n).taken
-    where
-      flag_is : (b : Bool) → flag_weight b ≡ cond b 1 0
-      flag_is true = refl
-      flag_is false = refl
-
-  pub durable : EntriesAreDurable s
-  durable k e there low = let starts = h.log.chained k e there in let x = h.durable (omega arith) in omega arith
+  held n below = sym (total-count (λ (v : View). flag_weight (lane_hold v n).held) (holds_lane n) (λ v. flag_cond (lane_hold v n).held) s.pool.core.views) ∙ sym (h.lanes.columns n below).taken ∙ flag_count (s.lane n).taken
 
   pub device_holds : DeviceHoldsLog s
   device_holds = let d = h.device.columns 0 (lit< tt) in record {

@@ -11,4 +11,6 @@ pub mod Causes
 pub mod Counts
 pub mod Counting
 pub mod Opening
+pub mod Sample
+pub mod Staying
 pub mod Histories

@@ -56,7 +56,7 @@ opens c store page can stores = let w : View = first_view c.base c.frames c.part
     cells = λ i v g there below. subst (λ (x : View). LogLink (written_of (opening c store page)) (fresh_device c.base store) x.saw_down x.log) (at_only w v i there).0 (no_log_law (written_of (opening c store page)) (fresh_device c.base store));
   };
   history = record {
-    calls = λ i v there. subst (CallsLaw store.origin log c.base) (at_only w v i there).0 (no_calls store.origin log c.base w refl (omega arith) (omega arith));
+    calls = λ i v there. subst (CallsLaw store.origin log c.base) (at_only w v i there).0 (no_calls store.origin log c.base w refl (λ _. refl) (omega arith) (omega arith));
     counted = one_total (λ (v : View). writes_in v.calls) w (no_total write_weight);
     once = λ k e t. absurd (some-ne-none e (sym t));
   };
@@ -71,5 +71,5 @@ opens c store page can stores = let w : View = first_view c.base c.frames c.part
     cells = λ i v f there below. subst (λ (x : View). HomeLink (home_of (opening c store page) no_tag) (empty_frame page) (link x f)) (at_only w v i there).0 (subst (HomeLink (home_of (opening c store page) no_tag) (empty_frame page)) (sym (link_new c.frames c.partitions c.lanes 0 c.base f)) (no_link (home_of (opening c store page) no_tag) (empty_frame page)));
   };
   unframed = λ tag named none. record { done = refl; stored = refl };
-  flushed_cells = λ tag ok. record { place = c.base; within = omega arith; is_cell = (λ j. sym (cell_none store.origin) j tag) ∙ ap (λ es. cell store.origin es tag) (sym (cut_none c.base)) };
+  flushed_cells = λ tag ok. record { place = c.base; based = omega arith; within = omega arith; is_cell = (λ j. sym (cell_none store.origin) j tag) ∙ ap (λ es. cell store.origin es tag) (sym (cut_none c.base)) };
 }

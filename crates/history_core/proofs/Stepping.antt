@@ -62,7 +62,7 @@ use Rattle.grid.proofs.Grids.{Keeps, Relinks, both_grids, touch, sweep, steady, 
 pub outer_of : (s : State) → Invariant s → Outer s.origin s.log s.lanes s.lane s.flushed (written_of s) s.device s.pool.core.views
 outer_of s h = record { device = h.device; history = h.history; lanes = h.lanes; wide = h.wide }
 
-pub blocks_of : (s : State) → Invariant s → Blocks s.pool.core.frames s.pool.core.frame s.pool.core.views s.origin s.log.entries s.flushed (home_of s)
+pub blocks_of : (s : State) → Invariant s → Blocks s.pool.core.frames s.pool.core.frame s.pool.core.views s.origin s.log s.flushed (home_of s)
 blocks_of s h = record { homes = h.homes; unframed = h.unframed; flushed_cells = h.flushed_cells }
 
 knows : (s : State) → Invariant s → Grid home_shape known s.pool.core.frames s.pool.core.frame (home_of s) s.pool.core.views
@@ -74,9 +74,9 @@ homes_with s lane tag = record { block = block_of s.pool.logged tag; stored = (l
 
 -- a state with another buffer pool and other lanes, where the log stays
 assemble : (s : State) → Invariant s → (pool' : page.State) (lane' : ℕ → Lane) → page_law.Invariant pool' → pool'.logged ≡ s.pool.logged → pool'.core.base ≡ s.pool.core.base → Outer s.origin s.log s.lanes lane' s.flushed (written_of s) s.device pool'.core.views
-    → Blocks pool'.core.frames pool'.core.frame pool'.core.views s.origin s.log.entries s.flushed (homes_with s lane') → Invariant (record s { pool = pool'; lane = lane' })
+    → Blocks pool'.core.frames pool'.core.frame pool'.core.views s.origin s.log s.flushed (homes_with s lane') → Invariant (record s { pool = pool'; lane = lane' })
 assemble s h pool' lane' law same kept outer blocks = let is : homes_with s lane' ≡ home_of (record s { pool = pool'; lane = lane' }) = λ j tag. record { block = block_of (sym same j) tag; stored = (lane' (s.lane_of tag)).stored tag; failed = (lane' (s.lane_of tag)).failed tag } in
-    let moved = subst (λ (x : ℕ → Home). Blocks pool'.core.frames pool'.core.frame pool'.core.views s.origin s.log.entries s.flushed x) is blocks in record {
+    let moved = subst (λ (x : ℕ → Home). Blocks pool'.core.frames pool'.core.frame pool'.core.views s.origin s.log s.flushed x) is blocks in record {
       pool = law;
       logged = same ∙ h.logged;
       log = h.log;
@@ -150,7 +150,7 @@ module _ (s : State) (h : Invariant s) where
   pins_step : (i f : ℕ) (k : pin_kinds.Kind) (v : View) → get_elem? views i ≡ some v → v.emptied ≡ false → f < n → pin_kinds.Allowed k (frame f) (link v f) → pin_steps.AllowedAround k s.pool.core v f → Invariant (record s { pool = record s.pool { core = pin_steps.state_after k s.pool.core i f v } })
   pins_step i f k v there live inside a around = let w : View = pin_stepping.after k s.pool.core f v in let fr : Frame = pin_kinds.frame_after k (frame f) in let l : Link = pin_kinds.link_after k (frame f) (link v f) in
       let law = page_stepping.step_keeps (page_steps.cores (pin_steps.touches i f k v there live inside a around)) h.pool in
-      assemble s h (record s.pool { core = pin_steps.state_after k s.pool.core i f v }) s.lane law refl refl (outer_same s.origin s.log s.lanes s.lane s.flushed (written_of s) s.device views (outer_of s h) i v w there (record { calls = refl; front = refl; joined = refl; flushed = refl }) refl refl refl refl)
+      assemble s h (record s.pool { core = pin_steps.state_after k s.pool.core i f v }) s.lane law refl refl (outer_same s.origin s.log s.lanes s.lane s.flushed (written_of s) s.device views (outer_of s h) i v w there (record { calls = refl; front = refl; joined = refl; flushed = refl; emptied = refl; number = refl; kept = refl }) refl refl refl refl)
       (record {
         homes = touched i f v w fr l there live inside refl (home_of s) (λ g below other. refl) (pins_keep k (home_of s (frame f).tag) (home_of s fr.tag) (frame f) (link v f) a (λ e. ap (home_of s) e) (fresh i f k v there a around));
         unframed = unframed_put n frame (home_of s) f fr inside h.unframed (clean_at f inside) (tag_goes k (frame f) (link v f) (tallies frame_shape views f) (h.pool.core.grid.columns f inside) a);
@@ -171,7 +171,7 @@ module _ (s : State) (h : Invariant s) where
     pub logged_same : logged_after k s.pool.logged (frame f).tag ≡ s.pool.logged
     logged_same = λ j g. put_same s.pool.logged (frame f).tag (block_after k b).logged g (ap (λ (x : Block). x.logged) stays) j
 
-    pub blocks_touched : (w : View) → w.links ≡ set v.links f l → Keeps_by k (home_of s (frame f).tag) (home_after k (home_of s (frame f).tag)) (frame f) (link v f) → Blocks n (put frame f fr) (set views i w) s.origin s.log.entries s.flushed (home_of s)
+    pub blocks_touched : (w : View) → w.links ≡ set v.links f l → Keeps_by k (home_of s (frame f).tag) (home_after k (home_of s (frame f).tag)) (frame f) (link v f) → Blocks n (put frame f fr) (set views i w) s.origin s.log s.flushed (home_of s)
     blocks_touched w e keeps = let is : home_after k (home_of s (frame f).tag) ≡ home_of s fr.tag = ap (λ (x : Block). record (home_of s (frame f).tag) { block = x }) stays ∙ ap (home_of s) (sym (tag_kept k b (frame f))) in record {
       homes = touched i f v w fr l there live inside e (home_of s) (λ g below other. refl) (subst (λ (x : Home). Keeps home_shape known home_part (home_of s (frame f).tag) x tt tt (frame f) (link v f) fr l) is keeps);
       unframed = unframed_put n frame (home_of s) f fr inside h.unframed (clean_at f inside) (λ goes. absurd (goes (tag_kept k b (frame f))));
@@ -182,11 +182,11 @@ module _ (s : State) (h : Invariant s) where
   page_step : (i f : ℕ) (k : Kind) (v : View) → get_elem? views i ≡ some v → v.emptied ≡ false → f < n → Allowed k (block_of s.pool.logged (frame f).tag) (frame f) (link v f) → page_steps.AllowedAround k v f → IsPlain k → Invariant (record s { pool = page_steps.state_after k s.pool i f v })
   page_step i f k v there live inside a around plain = let stays = plain_block k (block_of s.pool.logged (frame f).tag) plain in let w : View = paged k s.pool f v in
       assemble s h (page_steps.state_after k s.pool i f v) s.lane (page_stepping.step_keeps (page_steps.touches i f k v there live inside a around) h.pool) (logged_same i f k v there live inside stays) refl
-      (outer_same s.origin s.log s.lanes s.lane s.flushed (written_of s) s.device views (outer_of s h) i v w there (record { calls = refl; front = refl; joined = refl; flushed = refl }) refl refl refl refl)
+      (outer_same s.origin s.log s.lanes s.lane s.flushed (written_of s) s.device views (outer_of s h) i v w there (record { calls = refl; front = refl; joined = refl; flushed = refl; emptied = refl; number = refl; kept = refl }) refl refl refl refl)
       (blocks_touched i f k v there live inside stays w refl (plain_keeps k (home_of s (frame f).tag) (frame f) (link v f) (cell s.origin s.log.entries (frame f).tag) (λ j. h.logged j (frame f).tag) plain a))
 
   -- the blocks where a view changes beside its links
-  blocks_aside : (i : ℕ) (v w : View) → get_elem? views i ≡ some v → w.links ≡ v.links → Blocks n frame (set views i w) s.origin s.log.entries s.flushed (home_of s)
+  blocks_aside : (i : ℕ) (v w : View) → get_elem? views i ≡ some v → w.links ≡ v.links → Blocks n frame (set views i w) s.origin s.log s.flushed (home_of s)
   blocks_aside i v w there e = record { homes = steady home_shape home_part n frame (home_of s) views h.homes i v w there refl (λ g. ap (λ (x : List Link). link (record w { links = x }) g) e); unframed = h.unframed; flushed_cells = h.flushed_cells }
 
   -- a step of `pin_core` that is no step at a frame
@@ -194,10 +194,10 @@ module _ (s : State) (h : Invariant s) where
   others_step (pin_steps.touches i f k v there live inside a around) = pins_step i f k v there live inside a around
   others_step (pin_steps.turns i p k v there live below a) = let x : pin_steps.Step (pin_steps.turn i p k) s.pool.core (pin_steps.state_turned k s.pool.core i p v) = pin_steps.turns i p k v there live below a in let w : View = view_turned k p (hold v p) v in
       assemble s h (record s.pool { core = pin_steps.state_turned k s.pool.core i p v }) s.lane (page_stepping.step_keeps (page_steps.cores x) h.pool) refl refl
-      (outer_same s.origin s.log s.lanes s.lane s.flushed (written_of s) s.device views (outer_of s h) i v w there (record { calls = refl; front = refl; joined = refl; flushed = refl }) refl refl refl refl) (blocks_aside i v w there refl)
+      (outer_same s.origin s.log s.lanes s.lane s.flushed (written_of s) s.device views (outer_of s h) i v w there (record { calls = refl; front = refl; joined = refl; flushed = refl; emptied = refl; number = refl; kept = refl }) refl refl refl refl) (blocks_aside i v w there refl)
   others_step (pin_steps.splits v there room) = let x : pin_steps.Step pin_steps.split s.pool.core (pins.split_state s.pool.core v) = pin_steps.splits v there room in let w : View = record v { next = v.next + 1 } in
       let a = length v.links in let p = length v.partitions in let m = length v.lanes in let first = h.pool.core.views.first v there in
-      let outer = outer_grows s.origin s.log s.lanes s.lane s.flushed (written_of s) s.device (set views 0 w) (outer_same s.origin s.log s.lanes s.lane s.flushed (written_of s) s.device views (outer_of s h) 0 v w there (record { calls = refl; front = refl; joined = refl; flushed = refl }) refl refl refl refl) v.next s.pool.core.base a p h.based h.flushed_from in
+      let outer = outer_grows s.origin s.log s.lanes s.lane s.flushed (written_of s) s.device (set views 0 w) (outer_same s.origin s.log s.lanes s.lane s.flushed (written_of s) s.device views (outer_of s h) 0 v w there (record { calls = refl; front = refl; joined = refl; flushed = refl; emptied = refl; number = refl; kept = refl }) refl refl refl refl) v.next s.pool.core.base a p h.based h.flushed_from in
       let blocks = blocks_aside 0 v w there refl in
       assemble s h (record s.pool { core = pins.split_state s.pool.core v }) s.lane (page_stepping.step_keeps (page_steps.cores x) h.pool) refl refl
       (subst (λ (z : ℕ). Outer s.origin s.log s.lanes s.lane s.flushed (written_of s) s.device (set views 0 w ++ new_view v.next s.pool.core.base a p z ∷ [])) (sym (h.wide 0 v there first.0)) outer)
@@ -209,7 +209,7 @@ module _ (s : State) (h : Invariant s) where
   others_step (pin_steps.joins j v u there other here live free) = let x : pin_steps.Step (pin_steps.join j) s.pool.core (pins.joined_state s.pool.core v j u) = pin_steps.joins j v u there other here live free in let w : View = joined_view v u in
       let first = steady home_shape known n frame (home_of s) views (knows s h) 0 v w there refl (λ g. refl) in
       assemble s h (record s.pool { core = pins.joined_state s.pool.core v j u }) s.lane (page_stepping.step_keeps (page_steps.cores x) h.pool) refl refl
-      (outer_joins s.origin s.log s.lanes s.lane s.flushed (written_of s) s.device views (outer_of s h) j v u there other here free.lanes free.log)
+      (outer_joins s.origin s.log s.lanes s.lane s.flushed (written_of s) s.device views (outer_of s h) j v u there other here live free.lanes free.log)
       (record {
         homes = sweep home_shape known home_part n frame frame (home_of s) (home_of s) (set views 0 w) j u emptied_view first (set_else views 0 j w other ∙ here) (λ g inside. home_forgets (home_of s (frame g).tag) (frame g) (link u g));
         unframed = h.unframed;
@@ -280,8 +280,8 @@ lanes_step : (s : State) → Invariant s → (i q : ℕ) (k : LaneKind) (v : Vie
 lanes_step s h i q k v there live inside a alone = let w : View = stepped (laned k s q v v) in let views = s.pool.core.views in let holds = no_write_holds k s q (lane_hold v q) (s.lane q) alone in
     let same : SameHere v w = record { backend = record { emptied = refl; number = refl; next = refl; links = refl; partitions = refl }; joined = refl; links = refl; partitions = refl } in
     assemble s h (aside s.pool i w) (put s.lane q (lane_after k (s.lane q))) (pool_aside s.pool i v w h.pool there same) refl refl
-    (laned_outer s h i q k v w there live inside a (record { calls = refl; front = refl; joined = refl; flushed = refl }) refl refl refl refl)
-    (subst (λ (x : ℕ → Home). Blocks s.pool.core.frames s.pool.core.frame (set views i w) s.origin s.log.entries s.flushed x) (homes_same s q (lane_after k (s.lane q)) holds.0 holds.1) (blocks_aside s h i v w there refl))
+    (laned_outer s h i q k v w there live inside a (record { calls = refl; front = refl; joined = refl; flushed = refl; emptied = refl; number = refl; kept = refl }) refl refl refl refl)
+    (subst (λ (x : ℕ → Home). Blocks s.pool.core.frames s.pool.core.frame (set views i w) s.origin s.log s.flushed x) (homes_same s q (lane_after k (s.lane q)) holds.0 holds.1) (blocks_aside s h i v w there refl))
 
 -- what comes back is noted at a frame
 notes_step : (s : State) → Invariant s → (i q f : ℕ) (noted : Bool) (k : Kind) (v : View) → get_elem? s.pool.core.views i ≡ some v → v.emptied ≡ false → q < s.lanes → f < s.pool.core.frames → LaneAllowed (lane_kinds.lane_back noted) (s.lane q) (lane_hold v q) → Notes k s q f (lane_hold v q) (link v f)
@@ -290,8 +290,8 @@ notes_step s h i q f noted k v there live low inside back what = let fr = s.pool
     let x = noted_keeps s h i q f k v there live low inside what in
     let same : SameHere (paged k s.pool f v) w = record { backend = record { emptied = refl; number = refl; next = refl; links = refl; partitions = refl }; joined = refl; links = refl; partitions = refl } in
     assemble s h (pool_after k s.pool i f w) (put s.lane q (s.lane q)) (pool_touched s.pool h.pool i f k v w there live inside x.allowed same) (logged_same s h i f k v there live inside x.stays) refl
-    (laned_outer s h i q (lane_kinds.lane_back noted) v w there live low back (record { calls = refl; front = refl; joined = refl; flushed = refl }) refl refl refl refl)
-    (subst (λ (y : ℕ → Home). Blocks s.pool.core.frames (put s.pool.core.frame f (frame_after k b fr)) (set views i w) s.origin s.log.entries s.flushed y) (homes_same s q (s.lane q) refl refl) (blocks_touched s h i f k v there live inside x.stays w refl x.keeps))
+    (laned_outer s h i q (lane_kinds.lane_back noted) v w there live low back (record { calls = refl; front = refl; joined = refl; flushed = refl; emptied = refl; number = refl; kept = refl }) refl refl refl refl)
+    (subst (λ (y : ℕ → Home). Blocks s.pool.core.frames (put s.pool.core.frame f (frame_after k b fr)) (set views i w) s.origin s.log s.flushed y) (homes_same s q (s.lane q) refl refl) (blocks_touched s h i f k v there live inside x.stays w refl x.keeps))
 
 -- The page p of the frame f goes to its lane q, or fails to
 module _ (s : State) (h : Invariant s) (i q f : ℕ) (v : View) (there : get_elem? s.pool.core.views i ≡ some v) (live : v.emptied ≡ false) (low : q < s.lanes) (inside : f < s.pool.core.frames) (tag : ℕ) (x : CanWrite s q f tag (s.pool.core.frame f).page (lane_hold v q) (link v f)) where
@@ -306,16 +306,17 @@ module _ (s : State) (h : Invariant s) (i q f : ℕ) (v : View) (there : get_ele
   other_tag g below other same = other (sym (h.pool.core.apart f g inside below named_logged.0.named (x.tagged ∙ sym same)))
 
   -- the page is the block's after the entries up to the flushed position
-  is_flushed : (lane_hold v q).out ≢ None → IsFlushedCell s.origin s.log.entries s.flushed tag written_frame.page
+  is_flushed : (lane_hold v q).out ≢ None → IsFlushedCell s.origin s.log s.flushed tag written_frame.page
   is_flushed out = let early : lsn_of written_frame.page ≤ s.flushed = (let a = x.log_first in let b = (h.lanes.cells i v q there low).hold.flushed_by out in omega arith) in
       let is : written_frame.page ≡ cell s.origin s.log.entries tag = sym (named_logged.1 (cell s.origin s.log.entries tag) (ap s.pool.logged x.tagged ∙ (λ j. h.logged j tag))) in record {
         place = s.flushed;
+        based = h.flushed_from;
         within = omega arith;
         is_cell = is ∙ sym (cell_at_position s.origin s.log.entries tag s.flushed h.log.images (subst (λ (y : Page). lsn_of y ≤ s.flushed) is early));
       }
 
   -- the lane after the write holds the page p for the block
-  module _ (k : LaneKind) (p : Page) (done : Bool) (back : LaneAllowed k (s.lane q) (lane_hold v q)) (stores : (lane_after k (s.lane q)).stored ≡ put (s.lane q).stored tag p) (fails : (lane_after k (s.lane q)).failed ≡ put (s.lane q).failed tag done) (good : done ≡ false → IsFlushedCell s.origin s.log.entries s.flushed tag p) where
+  module _ (k : LaneKind) (p : Page) (done : Bool) (back : LaneAllowed k (s.lane q) (lane_hold v q)) (stores : (lane_after k (s.lane q)).stored ≡ put (s.lane q).stored tag p) (fails : (lane_after k (s.lane q)).failed ≡ put (s.lane q).failed tag done) (good : done ≡ false → IsFlushedCell s.origin s.log s.flushed tag p) where
     abbrev lane' : ℕ → Lane
     lane' = put s.lane q (lane_after k (s.lane q))
 
@@ -338,7 +339,7 @@ module _ (s : State) (h : Invariant s) (i q f : ℕ) (v : View) (there : get_ele
     write_keeps = let b : Block = block_of s.pool.logged written_frame.tag in let w : View = laned k s q v (paged begin_write s.pool f v) in let views = s.pool.core.views in let a : Allowed begin_write b written_frame (link v f) = record { right = x.right.right } in
         let same : SameHere (paged begin_write s.pool f v) w = record { backend = record { emptied = refl; number = refl; next = refl; links = refl; partitions = refl }; joined = refl; links = refl; partitions = refl } in
         assemble s h (pool_after begin_write s.pool i f w) lane' (pool_touched s.pool h.pool i f begin_write v w there live inside a same) (logged_same s h i f begin_write v there live inside refl) refl
-        (laned_outer s h i q k v w there live low back (record { calls = refl; front = refl; joined = refl; flushed = refl }) refl refl refl refl)
+        (laned_outer s h i q k v w there live low back (record { calls = refl; front = refl; joined = refl; flushed = refl; emptied = refl; number = refl; kept = refl }) refl refl refl refl)
         (record {
           homes = touched s h i f v w written_frame (link_after begin_write b written_frame (link v f)) there live inside refl home' (λ g below other. else (s.pool.core.frame g).tag (other_tag g below other))
               (homes.begin_write_keeps (home_of s written_frame.tag) written_frame (link v f) (home' written_frame.tag) refl a);
@@ -346,14 +347,14 @@ module _ (s : State) (h : Invariant s) (i q f : ℕ) (v : View) (there : get_ele
               (λ (e : t ≡ tag). absurd (still_unframed s.pool.core.frames s.pool.core.frame f written_frame t refl inside none f inside (x.tagged ∙ sym e)))
               (λ (o : t ≢ tag). subst IsClean (sym (else t o)) (h.unframed t named (still_unframed s.pool.core.frames s.pool.core.frame f written_frame t refl inside none)));
           flushed_cells = λ t ok. dite (ℕ_discrete t tag)
-              (λ (e : t ≡ tag). subst (λ (z : ℕ). IsFlushedCell s.origin s.log.entries s.flushed z (home' z).stored) (sym e) (subst (λ (y : Page). IsFlushedCell s.origin s.log.entries s.flushed tag y) (sym here.0) (good (sym here.1 ∙ ap (λ (z : ℕ). (home' z).failed) (sym e) ∙ ok))))
-              (λ (o : t ≢ tag). subst (λ (y : Page). IsFlushedCell s.origin s.log.entries s.flushed t y) (ap (λ (y : Home). y.stored) (sym (else t o))) (h.flushed_cells t (ap (λ (y : Home). y.failed) (sym (else t o)) ∙ ok)));
+              (λ (e : t ≡ tag). subst (λ (z : ℕ). IsFlushedCell s.origin s.log s.flushed z (home' z).stored) (sym e) (subst (λ (y : Page). IsFlushedCell s.origin s.log s.flushed tag y) (sym here.0) (good (sym here.1 ∙ ap (λ (z : ℕ). (home' z).failed) (sym e) ∙ ok))))
+              (λ (o : t ≢ tag). subst (λ (y : Page). IsFlushedCell s.origin s.log s.flushed t y) (ap (λ (y : Home). y.stored) (sym (else t o))) (h.flushed_cells t (ap (λ (y : Home). y.failed) (sym (else t o)) ∙ ok)));
         })
 
 writes_step : (s : State) → Invariant s → (i q f : ℕ) (k : LaneKind) (v : View) → get_elem? s.pool.core.views i ≡ some v → v.emptied ≡ false → q < s.lanes → f < s.pool.core.frames → LaneAllowed k (s.lane q) (lane_hold v q) → Writes k s q f (lane_hold v q) (link v f)
     → Invariant (record s { pool = pool_after begin_write s.pool i f (laned k s q v (paged begin_write s.pool f v)); lane = put s.lane q (lane_after k (s.lane q)) })
 writes_step s h i q f (lane_kinds.write_block g tag p) v there live low inside back (at, x) = let y : CanWrite s q f tag (s.pool.core.frame f).page (lane_hold v q) (link v f) = record { tagged = x.tagged; lane = x.lane; page = refl; right = x.right; log_first = subst (λ (z : Page). lsn_of z ≤ (lane_hold v q).flushed) (sym x.page) x.log_first } in
-    write_keeps s h i q f v there live low inside tag y (lane_kinds.write_block g tag p) p false back refl refl (λ ok. subst (λ (z : Page). IsFlushedCell s.origin s.log.entries s.flushed tag z) x.page (is_flushed s h i q f v there live low inside tag y back.out))
+    write_keeps s h i q f v there live low inside tag y (lane_kinds.write_block g tag p) p false back refl refl (λ ok. subst (λ (z : Page). IsFlushedCell s.origin s.log s.flushed tag z) x.page (is_flushed s h i q f v there live low inside tag y back.out))
 writes_step s h i q f (lane_kinds.fail_write g tag p) v there live low inside back (at, x) = write_keeps s h i q f v there live low inside tag x (lane_kinds.fail_write g tag p) p true back refl refl (λ ok. absurd (cc))
 writes_step s h i q f lane_kinds.take_lane v there live low inside back x = absurd x
 writes_step s h i q f lane_kinds.leave_lane v there live low inside back x = absurd x
@@ -384,7 +385,7 @@ reads_step s h i f tag p v there inside a = let w : View = looked (seen.LogEnd s
     let x = copied_is_logged (block_of s.pool.logged (s.pool.core.frame f).tag) (s.pool.core.frame f) (link v f) tag p (h.pool.pages.cells i v f there inside) (h.pool.core.grid.cells i v f there inside) a in
     let is : p ≡ cell s.origin s.log.entries tag = sym (x.0 (cell s.origin s.log.entries tag) (ap s.pool.logged x.1 ∙ (λ j. h.logged j tag))) in
     with_view s h i v w there (record { backend = record { emptied = refl; number = refl; next = refl; links = refl; partitions = refl }; joined = refl; links = refl; partitions = refl }) refl refl refl
-    (history_read s.origin s.log s.flushed s.pool.core.views h.history h.log i v w there tag p is (new_entry s 0 tag p) (ap (λ (z : ℕ). v.calls ++ Read tag p z ∷ []) h.ends) h.ends refl refl)
+    (history_read s.origin s.log s.flushed s.pool.core.views h.history h.log i v w there tag p is (new_entry s 0 tag p) (ap (λ (z : ℕ). v.calls ++ Read tag p z ∷ []) h.ends) h.ends refl refl refl refl)
 
 -- the flushed position rises to the log's end, whose bytes are durable
 raised_state : (t : State) → Invariant t → length (log_bytes t.names t.log) ≤ t.device.synced → Invariant (record t { flushed = max t.flushed t.end })
@@ -406,11 +407,11 @@ raised_state t k durable = let more : t.flushed ≤ max t.flushed t.end = omega 
   placed = k.placed;
   homes = k.homes;
   unframed = k.unframed;
-  flushed_cells = λ tag ok. let x = k.flushed_cells tag ok in record { place = x.place; within = (let y = x.within in omega arith); is_cell = x.is_cell };
+  flushed_cells = λ tag ok. let x = k.flushed_cells tag ok in record { place = x.place; based = x.based; within = (let y = x.within in omega arith); is_cell = x.is_cell };
 }
 
 raises_step : (s : State) → Invariant s → (i : ℕ) (v : View) → get_elem? s.pool.core.views i ≡ some v → v.log.synced ≡ true → Invariant (record s { pool = aside s.pool i (stepped v); flushed = max s.flushed s.end })
-raises_step s h i v there synced = raised_state (record s { pool = aside s.pool i (stepped v) }) (with_view s h i v (stepped v) there (record { backend = record { emptied = refl; number = refl; next = refl; links = refl; partitions = refl }; joined = refl; links = refl; partitions = refl }) refl refl refl (history_same s.origin s.log s.flushed s.pool.core.views h.history i v (stepped v) there (record { calls = refl; front = refl; joined = refl; flushed = refl })))
+raises_step s h i v there synced = raised_state (record s { pool = aside s.pool i (stepped v) }) (with_view s h i v (stepped v) there (record { backend = record { emptied = refl; number = refl; next = refl; links = refl; partitions = refl }; joined = refl; links = refl; partitions = refl }) refl refl refl (history_same s.origin s.log s.flushed s.pool.core.views h.history i v (stepped v) there (record { calls = refl; front = refl; joined = refl; flushed = refl; emptied = refl; number = refl; kept = refl })))
     (synced_all (written_of s) s.device v.saw_down v.log (tallies log_shape s.pool.core.views 0) (h.device.columns 0 (lit< tt)) (h.device.cells i v 0 there (lit< tt)) (λ k. term_le (λ (u : View). log_weigh k u.log) s.pool.core.views i v there) synced)
 
 -- what is durable stays so
@@ -440,7 +441,7 @@ logs_step s h i k v there a = let w : View = view_logged k v in let views = s.po
       named = h.named;
       durable = λ lt. let x = h.durable lt in omega arith;
       device = sweep log_shape log_part log_part 1 (λ _. s.device) (λ _. device_after k s.end s.device) (λ _. written_of s) (λ _. written_of s) views i v w h.device there (λ g below. log_keeps (written_of s) s.device v.saw_down v.log k a);
-      history = history_same s.origin s.log s.flushed views h.history i v w there (record { calls = refl; front = refl; joined = refl; flushed = refl });
+      history = history_same s.origin s.log s.flushed views h.history i v w there (record { calls = refl; front = refl; joined = refl; flushed = refl; emptied = refl; number = refl; kept = refl });
       lanes = steady lane_shape lane_part s.lanes s.lane (λ _. s.flushed) views h.lanes i v w there refl (λ q. refl);
       wide = wide_set s.lanes views h.wide i v w there refl refl;
       placed = h.placed;
@@ -511,7 +512,7 @@ module _ (s : State) (h : Invariant s) (i f : ℕ) (p : Page) (v : View) (there 
         durable = h.durable;
         device = sweep log_shape log_part log_part 1 (λ _. s.device) (λ _. s.device) (λ _. written_of s) (λ _. written_of entered) views i v after h.device there
             (λ g below. enter_keeps (written_of s) s.device v.saw_down v.log (record_bytes s.names entry) (s.end + record_size) (log_bytes s.names entered.log) x.appended (bytes_longer s.names s.log entry));
-        history = history_written s.origin s.log s.flushed views h.history h.log i v after there entry h.ends refl refl refl refl;
+        history = history_written s.origin s.log s.flushed views h.history h.log i v after there entry h.ends refl refl refl refl refl refl refl;
         lanes = steady lane_shape lane_part s.lanes s.lane (λ _. s.flushed) views h.lanes i v after there refl (λ q. refl);
         wide = wide_set s.lanes views h.wide i v after there refl refl;
         placed = h.placed;
@@ -520,6 +521,7 @@ module _ (s : State) (h : Invariant s) (i f : ℕ) (p : Page) (v : View) (there 
         unframed = λ t given none. let free = still_unframed n frame f old t refl inside none in subst IsClean (sym (block_else t (λ e. free f inside (sym e)))) (h.unframed t given free);
         flushed_cells = λ t ok. let y = h.flushed_cells t ok in record {
           place = y.place;
+          based = y.based;
           within = y.within;
           is_cell = y.is_cell ∙ ap (λ (es : List Entry). cell s.origin es t) (sym (cut_longer y.place s.log.entries entry (let a = y.within in let c = h.flushed_to in omega arith)));
         };
@@ -533,11 +535,11 @@ step_keeps (notes {s = s} i q f noted k v there live low inside a x) h = notes_s
 step_keeps (enters {s = s} i f p v there live inside x) h = enters_step s h i f p v there live inside x
 step_keeps (reads {s = s} i f tag p v there live inside a) h = reads_step s h i f tag p v there inside a
 step_keeps (loads_end {s = s} i v there live) h = let w : View = looked (seen.LogEnd s.end) v in with_view s h i v w there (record { backend = record { emptied = refl; number = refl; next = refl; links = refl; partitions = refl }; joined = refl; links = refl; partitions = refl }) refl refl refl
-    (history_same s.origin s.log s.flushed s.pool.core.views h.history i v w there (record { calls = refl; front = refl; joined = refl; flushed = refl }))
+    (history_same s.origin s.log s.flushed s.pool.core.views h.history i v w there (record { calls = refl; front = refl; joined = refl; flushed = refl; emptied = refl; number = refl; kept = refl }))
 step_keeps (loads_flushed {s = s} i v there live) h = let w : View = looked (seen.Flushed s.flushed) (record v { flushed = s.flushed }) in with_view s h i v w there (record { backend = record { emptied = refl; number = refl; next = refl; links = refl; partitions = refl }; joined = refl; links = refl; partitions = refl }) refl refl refl
-    (history_loaded s.origin s.log s.flushed s.pool.core.views h.history i v w there refl refl refl refl)
+    (history_loaded s.origin s.log s.flushed s.pool.core.views h.history i v w there refl refl refl refl refl refl refl)
 step_keeps (raises {s = s} i v there live synced) h = raises_step s h i v there synced
-step_keeps (logs {s = s} i k v there live a) h = logs_step s h i k v there a
+step_keeps (logs {s = s} i k v there live a record_is) h = logs_step s h i k v there a
 
 pub run_keeps : {es : List Event} {s t : State} → Run es s t → Invariant s → Invariant t
 run_keeps rests h = h

@@ -21,7 +21,7 @@ pub data LogKind : Type 0 where
   leave_log : LogKind
   -- the device goes out to the holder, and this is what it is then
   log_out : TakenLog → LogKind
-  -- the holder appends the bytes of a record, of a new page of a frame's block; or fails to, and then the device has some of them
+  -- the holder appends the bytes of a record, of a changed page of a frame's block; or fails to, and then the device has some of them
   append : ℕ → ℕ → Page → List ℕ → LogKind
   fail_append : List ℕ → LogKind
   -- it makes the bytes durable (`XLogFlush`), or fails to
@@ -50,6 +50,7 @@ pub record CanTakeDevice (taken : TakenLog) (d : Device) (h : LogHold) : Type 0 
   pub held : h.held ≡ true
   pub home : h.out ≡ None
   pub faults : taken.faults ≡ d.faults
+  pub bytes : taken.bytes ≡ Some d.bytes
 
 -- one call each time that the device is out, and none once the log is down
 pub record CanCallLog (d : Device) (h : LogHold) : Type 0 where

@@ -6,17 +6,21 @@ use Rattle.page_layout.specs.Fields.{lsn_of}
 use Rattle.page_layout.specs.Soundness.{is_sound_page}
 use Rattle.pin_core.specs.declared.view.Call.{Call}
 use Rattle.pin_core.specs.declared.view.Call.TheVariants.{Read, Write}
+use Rattle.pin_core.specs.declared.view.LastWrite.TheVariants.{Done}
+use Rattle.pin_core.specs.declared.view.TakenLane.{TakenLane}
 use Rattle.pin_core.specs.declared.view.View.{View}
-use Rattle.pin_core.specs.State.{Page, Config, CanOpen, no_tag, lane_hold}
+use Rattle.pin_core.specs.State.{Page, Config, CanOpen, no_tag, link, lane_hold}
 use Rattle.pin_core.specs.Invariant.{HasTag}
+use Rattle.pin_core.specs.Steps as pin_steps
+use Rattle.page_core.specs.Steps as page_steps
 use Rattle.page_core.specs.Histories.{NoneUnapplied}
-use Rattle.history_core.specs.Log.{Entry, log_end, end_of, cell, cut, head_size, log_bytes, IsLegal, place_of, writes_in, writes_at}
+use Rattle.history_core.specs.Log.{Entry, log_end, end_of, cell, cut, head_size, log_bytes, record_size, IsLegal, IsFront, place_of, writes_in, writes_at, AreInOrder}
 use Rattle.history_core.specs.State.{State, Store, CanStore, stored, failed, last_position, opening}
 use Rattle.history_core.specs.Homes.{IsFlushedCell}
-use Rattle.history_core.specs.Lanes.{LaneKind}
+use Rattle.history_core.specs.Lanes.{LaneKind, lane_out}
 use Rattle.history_core.specs.Device.{IsLeft, HasRisen}
-use Rattle.history_core.specs.Invariant.{written_of}
-use Rattle.history_core.specs.Steps.{Event, write, enter, read, Step, Run}
+use Rattle.history_core.specs.Invariant.{IsOwn, written_of}
+use Rattle.history_core.specs.Steps.{Event, pool, lane, write, enter, read, new_entry, Step, Run}
 use Rattle.grid.specs.Shape.{total}
 
 -- a list of events leads to the state, from the start of a buffer pool over these lanes
@@ -33,6 +37,36 @@ pub record IsReached (s : State) : Type 0 where
 abbrev pub CallsAreLegal : State → Type 0
 CallsAreLegal s = (i k : ℕ) (v : View) (c : Call) → get_elem? s.pool.core.views i ≡ some v → get_elem? v.calls k ≡ some c → IsLegal s.origin s.log c
 
+-- the entry of each write was made by the backend, or by one whose calls it took in
+abbrev pub WritesAreOwn : State → Type 0
+WritesAreOwn s = (i k : ℕ) (v : View) (c : Call) → get_elem? s.pool.core.views i ≡ some v → get_elem? v.calls k ≡ some c → IsOwn s.log v c
+
+-- a backend's front is the largest of the log's base and the places of its calls
+abbrev pub FrontsAreReached : State → Type 0
+FrontsAreReached s = (i : ℕ) (v : View) → get_elem? s.pool.core.views i ≡ some v → v.emptied ≡ false → IsFront s.log.base v.calls v.front
+
+-- the event is no read or entry of backend i, and no join that takes it in or has it take in another
+abbrev pub LeavesCalls : Event → ℕ → Type 0
+LeavesCalls (read j f) i = i ≢ j
+LeavesCalls (enter j f p) i = i ≢ j
+LeavesCalls (pool (page_steps.pins_and_maps (pin_steps.join j))) i = (i ≢ 0) × (i ≢ j)
+LeavesCalls _ i = Unit {0}
+
+-- View i among these has the calls and the front of v
+pub record HasCallsOf (views : List View) (i : ℕ) (v : View) : Type 0 where
+  pub view : View
+  pub there : get_elem? views i ≡ some view
+  pub calls : view.calls ≡ v.calls
+  pub front : view.front ≡ v.front
+
+-- no other event changes a backend's calls or its front
+abbrev pub CallsStay : State → Type 0
+CallsStay s = (e : Event) (t : State) → Step e s t → (i : ℕ) (v : View) → get_elem? s.pool.core.views i ≡ some v → LeavesCalls e i → HasCallsOf t.pool.core.views i v
+
+-- the places of a backend's calls never fall, where it took in those of no others
+abbrev pub CallsAreInOrder : State → Type 0
+CallsAreInOrder s = (i : ℕ) (v : View) → get_elem? s.pool.core.views i ≡ some v → v.joined ≡ 0 → AreInOrder v.calls
+
 -- The writes of all backends are the entries of the log
 pub record WritesAreEntries (s : State) : Type 0 where
   -- they are as many
@@ -44,49 +78,72 @@ pub record WritesAreEntries (s : State) : Type 0 where
 abbrev pub IsAfterCalls : View → ℕ → Type 0
 IsAfterCalls v place = (k : ℕ) (c : Call) → get_elem? v.calls k ≡ some c → place_of c ≤ place
 
--- A step gave a read its place: the backend's view was v, and is w
-pub record ReadStands (s : State) (v w : View) : Type 0 where
-  pub tag : ℕ
+-- A step gave a read of the frame f its place, the log's end: the backend's view was v, and is w
+pub record ReadStands (s : State) (f : ℕ) (v w : View) : Type 0 where
+  -- the page is the one that the backend had copied there under the content lock
   pub page : Page
-  pub place : ℕ
-  -- the calls grow by the read, which is the front now
-  pub added : w.calls ≡ v.calls ++ Read tag page place ∷ []
-  pub front : w.front ≡ place
+  pub copied : (link v f).copied ≡ Some page
+  -- its block is the frame's, as the pin remembers it
+  pub remembered : (link v f).tag ≡ Some (s.pool.core.frame f).tag
+  -- the calls grow by the read, which is the front now, and one load more is a place
+  pub added : w.calls ≡ v.calls ++ Read (s.pool.core.frame f).tag page s.end ∷ []
+  pub front : w.front ≡ s.end
+  pub place_loads : w.place_loads ≡ v.place_loads + 1
   -- its page is the block's page after the entries up to its place
-  pub is_cell : page ≡ cell s.origin (cut place s.log.entries) tag
+  pub is_cell : page ≡ cell s.origin (cut s.end s.log.entries) (s.pool.core.frame f).tag
   -- its place is at least all that the backend had seen
-  pub later : IsAfterCalls v place
-  pub above : v.front ≤ place
+  pub later : IsAfterCalls v s.end
+  pub above : v.front ≤ s.end
 
--- A step made a write: likewise, and its place is above all that the backend had seen
-pub record WriteStands (t : State) (v w : View) : Type 0 where
-  pub tag : ℕ
-  pub page : Page
-  pub place : ℕ
-  pub added : w.calls ≡ v.calls ++ Write tag page place ∷ []
-  pub front : w.front ≡ place
-  -- the page's position in the log is its place, which is the log's end then
-  pub position : lsn_of page ≡ place
-  pub end : place ≡ log_end t.log
-  pub above : v.front < place
+-- A step made a write of the page p of the frame f: its place is the log's new end, above all that the backend had seen
+pub record WriteStands (s t : State) (f : ℕ) (p : Page) (v w : View) : Type 0 where
+  -- the log has one entry more, of this page of the frame's block, and its end is the place
+  pub logged : t.log ≡ record s.log { entries = s.log.entries ++ new_entry s v.number (s.pool.core.frame f).tag p ∷ [] }
+  pub end : t.end ≡ log_end t.log
+  pub longer : t.end ≡ s.end + record_size
+  -- the calls grow by the write, which is the front now
+  pub added : w.calls ≡ v.calls ++ Write (s.pool.core.frame f).tag p t.end ∷ []
+  pub front : w.front ≡ t.end
+  -- the page's position in the log is its place, and it is the block's page after all entries now
+  pub position : lsn_of p ≡ t.end
+  pub is_cell : p ≡ cell t.origin t.log.entries (s.pool.core.frame f).tag
+  pub above : v.front < t.end
 
 abbrev pub ReadsStand : State → Type 0
-ReadsStand s = (i f : ℕ) (t : State) → Step (read i f) s t → (v : View) × (w : View) × (get_elem? s.pool.core.views i ≡ some v) × (get_elem? t.pool.core.views i ≡ some w) × ReadStands s v w
+ReadsStand s = (i f : ℕ) (t : State) → Step (read i f) s t → (v : View) × (w : View) × (get_elem? s.pool.core.views i ≡ some v) × (get_elem? t.pool.core.views i ≡ some w) × ReadStands s f v w
 
 abbrev pub WritesStand : State → Type 0
-WritesStand s = (i f : ℕ) (p : Page) (t : State) → Step (enter i f p) s t → (v : View) × (w : View) × (get_elem? s.pool.core.views i ≡ some v) × (get_elem? t.pool.core.views i ≡ some w) × WriteStands t v w
+WritesStand s = (i f : ℕ) (p : Page) (t : State) → Step (enter i f p) s t → (v : View) × (w : View) × (get_elem? s.pool.core.views i ≡ some v) × (get_elem? t.pool.core.views i ≡ some w) × WriteStands s t f p v w
 
 -- Log before data: the page of a frame that goes to a lane, or was to go there when the write failed, has its position in the log at most at the flushed position as the backend had loaded it before the lane went out, and so at the flushed position
 pub record IsLogged (s : State) (n f : ℕ) (v : View) : Type 0 where
   pub loaded : lsn_of (s.pool.core.frame f).page ≤ (lane_hold v n).flushed
   pub flushed : (lane_hold v n).flushed ≤ s.flushed
+  -- so each entry up to the page's position is durable
+  pub durable : (k : ℕ) (e : Entry) → get_elem? s.log.entries k ≡ some e → end_of e ≤ lsn_of (s.pool.core.frame f).page → head_size + end_of e ≤ s.log.base + s.device.synced
 
 abbrev pub LogBeforeData : State → Type 0
 LogBeforeData s = (i n f : ℕ) (k : LaneKind) (t : State) → Step (write i n f k) s t → (v : View) × (get_elem? s.pool.core.views i ≡ some v) × IsLogged s n f v
 
+-- as a lane goes out, its holder's flushed position is kept with it as the backend had loaded it
+abbrev pub LanesGoOutFlushed : State → Type 0
+LanesGoOutFlushed s = (i n : ℕ) (taken : TakenLane) (t : State) → Step (lane i n (lane_out taken)) s t → (v : View) × (w : View) × (get_elem? s.pool.core.views i ≡ some v) × (get_elem? t.pool.core.views i ≡ some w) × ((lane_hold w n).flushed ≡ v.flushed)
+
+-- what a backend has loaded as the flushed position is at most the flushed position
+abbrev pub LoadedIsFlushed : State → Type 0
+LoadedIsFlushed s = (i : ℕ) (v : View) → get_elem? s.pool.core.views i ≡ some v → v.flushed ≤ s.flushed
+
+-- Under an output right whose last write is noted as done the lane holds the frame's page, and the block's last write didn't fail
+pub record IsWritten (s : State) (f : ℕ) : Type 0 where
+  pub done : failed s (s.pool.core.frame f).tag ≡ false
+  pub stored_is : stored s (s.pool.core.frame f).tag ≡ (s.pool.core.frame f).page
+
+abbrev pub NotedWritesAreDone : State → Type 0
+NotedWritesAreDone s = (i f : ℕ) (v : View) → get_elem? s.pool.core.views i ≡ some v → f < s.pool.core.frames → (link v f).last_write ≡ Done → IsWritten s f
+
 -- what a lane holds for a block whose last write didn't fail is no page ahead of the flushed log
 abbrev pub LanesHoldFlushedPages : State → Type 0
-LanesHoldFlushedPages s = (tag : ℕ) → failed s tag ≡ false → IsFlushedCell s.origin s.log.entries s.flushed tag (stored s tag)
+LanesHoldFlushedPages s = (tag : ℕ) → failed s tag ≡ false → IsFlushedCell s.origin s.log s.flushed tag (stored s tag)
 
 -- no dirty frame has the tag
 abbrev pub HasNoDirtyFrame : State → ℕ → Type 0
@@ -144,3 +201,11 @@ holds_lane n v = (lane_hold v n).held
 -- one view has a lane's latch where it is taken, and none where it isn't
 abbrev pub LanesAreHeld : State → Type 0
 LanesAreHeld s = (n : ℕ) → n < s.lanes → count_by (holds_lane n) s.pool.core.views ≡ (if (s.lane n).taken then 1 else 0)
+
+-- whether the view holds the log's latch
+abbrev pub holds_log : View → Bool
+holds_log v = v.log.held
+
+-- and one has the log's latch where that is taken, and none where it isn't
+abbrev pub LogIsHeld : State → Type 0
+LogIsHeld s = count_by holds_log s.pool.core.views ≡ (if s.device.taken then 1 else 0)

@@ -1,5 +1,5 @@
 -- The blocks of the frames: what their lanes hold.
-use Rattle.std.specs.Prelude.{◌≡◌, ◌≢◌, ℕ, ◌<◌, ◌≤◌, Bool, false, List, Some}
+use Rattle.std.specs.Prelude.{◌≡◌, ◌≢◌, ℕ, ◌<◌, ◌≤◌, Bool, false, Some}
 use Rattle.pin_core.specs.declared.view.LastWrite.TheVariants.{Done}
 use Rattle.pin_core.specs.declared.view.Link.{Link}
 use Rattle.pin_core.specs.declared.view.View.{View}
@@ -7,7 +7,7 @@ use Rattle.pin_core.specs.State.{Frame, Page, no_tag, link}
 use Rattle.page_core.specs.State as page
 use Rattle.page_core.specs.State.{block_of}
 use Rattle.page_core.specs.Tallies.{Tally, weigh, page_shape}
-use Rattle.history_core.specs.Log.{Entry, cell, cut}
+use Rattle.history_core.specs.Log.{Log, cell, cut}
 use Rattle.history_core.specs.State.{State, stored, failed}
 use Rattle.grid.specs.Shape.{Shape, Part}
 
@@ -57,8 +57,9 @@ home_part = record { column = λ h fr t. HomeFrame h fr; cell = λ h fr _ l. Hom
 abbrev pub IsUnframed : ℕ → (ℕ → Frame) → ℕ → Type 0
 IsUnframed frames frame tag = (f : ℕ) → f < frames → (frame f).tag ≢ tag
 
--- the page is the block's after the entries up to some position that is flushed
-pub record IsFlushedCell (origin : ℕ → Page) (entries : List Entry) (flushed tag : ℕ) (p : Page) : Type 0 where
+-- the page is the block's after the entries up to some position of the log that is flushed
+pub record IsFlushedCell (origin : ℕ → Page) (log : Log) (flushed tag : ℕ) (p : Page) : Type 0 where
   pub place : ℕ
+  pub based : log.base ≤ place
   pub within : place ≤ flushed
-  pub is_cell : p ≡ cell origin (cut place entries) tag
+  pub is_cell : p ≡ cell origin (cut place log.entries) tag

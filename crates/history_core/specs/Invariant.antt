@@ -3,22 +3,38 @@ use Rattle.std.specs.Prelude.{◌≡◌, ◌≢◌, ℕ, ◌+◌, ◌<◌, ◌�
 use mathlib.Core.Option.{some}
 use lib.ListN.{get_elem?}
 use Rattle.pin_core.specs.declared.view.Call.{Call}
+use Rattle.pin_core.specs.declared.view.Call.TheVariants.{Read, Write}
+use Rattle.pin_core.specs.declared.view.Checkpoint.{Checkpoint}
 use Rattle.pin_core.specs.declared.view.View.{View}
 use Rattle.pin_core.specs.State.{Page, no_tag}
 use Rattle.page_core.specs.Invariant as pages
-use Rattle.history_core.specs.Log.{Entry, Log, LogLaw, log_end, head_size, log_bytes, end_of, cell, IsLegal, place_of, writes_in, writes_at, AreInOrder}
+use Rattle.history_core.specs.Log.{Entry, Log, LogLaw, log_end, head_size, log_bytes, end_of, cell, IsLegal, place_of, writes_in, writes_at, HasPlace, AreInOrder}
 use Rattle.history_core.specs.State.{State, stored, failed, last_position}
 use Rattle.history_core.specs.Lanes.{lane_shape, lane_part}
 use Rattle.history_core.specs.Device.{Written, log_shape, log_part}
 use Rattle.history_core.specs.Homes.{home_of, home_shape, home_part, IsClean, IsUnframed, IsFlushedCell}
 use Rattle.grid.specs.Shape.{Grid, total}
 
+-- the number is the view's own, or that of a backend whose calls it took in
+abbrev pub HasNumber : View → ℕ → Type 0
+HasNumber v number = number ≢ v.number → (k : ℕ) × (c : Checkpoint) × (get_elem? v.kept k ≡ some c) × (c.number ≡ number)
+
+-- the entry of a write names such a number
+abbrev pub IsOwn : Log → View → Call → Type 0
+IsOwn log v (Read tag page place) = Unit {0}
+IsOwn log v (Write tag page place) = (k : ℕ) × (e : Entry) × (get_elem? log.entries k ≡ some e) × (end_of e ≡ place) × HasNumber v e.backend
+
 -- What holds of the calls of a view
 pub record CallsLaw (origin : ℕ → Page) (log : Log) (flushed : ℕ) (v : View) : Type 0 where
   -- each is legal with the log
   pub legal : (k : ℕ) (c : Call) → get_elem? v.calls k ≡ some c → IsLegal origin log c
+  -- the entries of the writes name the view's backend, or one that it took in
+  pub own : (k : ℕ) (c : Call) → get_elem? v.calls k ≡ some c → IsOwn log v c
   -- none has a place above the front
   pub fronted : (k : ℕ) (c : Call) → get_elem? v.calls k ≡ some c → place_of c ≤ v.front
+  -- the front is the base or above it, and where it is above it some call has that place
+  pub from_base : v.emptied ≡ false → log.base ≤ v.front
+  pub reached : v.emptied ≡ false → v.front ≢ log.base → HasPlace v.calls v.front
   -- the front is at most the log's end
   pub within : v.front ≤ log_end log
   -- the places never fall, but where the view took in the calls of others
@@ -67,4 +83,4 @@ pub record Invariant (s : State) : Type 0 where
   -- a block that has no frame is clean
   pub unframed : (tag : ℕ) → tag ≢ no_tag → IsUnframed s.pool.core.frames s.pool.core.frame tag → IsClean (home_of s tag)
   -- what a lane holds for a block whose last write didn't fail is the block's page after the entries up to some flushed position
-  pub flushed_cells : (tag : ℕ) → failed s tag ≡ false → IsFlushedCell s.origin s.log.entries s.flushed tag (stored s tag)
+  pub flushed_cells : (tag : ℕ) → failed s tag ≡ false → IsFlushedCell s.origin s.log s.flushed tag (stored s tag)

@@ -1,7 +1,10 @@
 -- The latches of the lanes: the kinds of step at one, and what holds of it.
 use Rattle.std.specs.Prelude.{◌≡◌, ◌≢◌, ℕ, ◌<◌, ◌≤◌, Bool, true, false, List, [], ◌∷◌, ◌++◌, Some, None, slice_set, ◌||◌}
+use mathlib.Core.Option.{some}
+use lib.ListN.{get_elem?}
 use Rattle.pin_core.specs.declared.view.LaneChange.{LaneChange}
 use Rattle.pin_core.specs.declared.view.LaneChange.TheVariants.{Untouched, Read, ReadFailed, Written, WriteFailed, Synced, SyncFailed}
+use Rattle.pin_core.specs.declared.view.BlockPage.{BlockPage}
 use Rattle.pin_core.specs.declared.view.TakenLane.{TakenLane}
 use Rattle.pin_core.specs.declared.view.LaneHold.{LaneHold}
 use Rattle.pin_core.specs.declared.view.DeviceCall.{DeviceCall}
@@ -48,11 +51,15 @@ pub record CanLeaveLane (ln : Lane) (h : LaneHold) : Type 0 where
   pub held : h.held ≡ true
   pub home : h.out ≡ None
 
+-- what is noted of a lane that goes out is what it is: its pages, where they are noted, and its failed blocks
 pub record CanTakeOut (taken : TakenLane) (ln : Lane) (h : LaneHold) : Type 0 where
   pub held : h.held ≡ true
   pub home : h.out ≡ None
   pub reads : taken.read_faults ≡ ln.read_faults
   pub writes : taken.write_faults ≡ ln.write_faults
+  pub pages : (blocks : List BlockPage) (k : ℕ) (b : BlockPage) → taken.pages ≡ Some blocks → get_elem? blocks k ≡ some b → ln.stored b.tag ≡ b.page
+  pub failed : (tag : ℕ) → ln.failed tag ≡ true → (k : ℕ) × (get_elem? taken.failed k ≡ some tag)
+  pub only_failed : (k : ℕ) (tag : ℕ) → get_elem? taken.failed k ≡ some tag → ln.failed tag ≡ true
 
 -- one call of the lane each time that it is out
 pub record CanCall (ln : Lane) (h : LaneHold) : Type 0 where

@@ -8,3 +8,4 @@ pub mod Invariant
 pub mod Causes
 pub mod Counts
 pub mod Histories
+pub mod Sample

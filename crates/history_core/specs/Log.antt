@@ -1,5 +1,5 @@
 -- The write-ahead log, the pages of blocks that follow from it, and what backends read and wrote.
-use Rattle.std.specs.Prelude.{◌≡◌, ℕ, ◌+◌, ◌*◌, ◌<◌, ◌≤◌, true, false, List, [], ◌∷◌, ◌++◌, length, nat_eq, nat_le, if◌then◌else◌}
+use Rattle.std.specs.Prelude.{◌≡◌, ◌≢◌, ℕ, ◌+◌, ◌*◌, ◌<◌, ◌≤◌, true, false, List, [], ◌∷◌, ◌++◌, length, nat_eq, nat_le, if◌then◌else◌}
 use mathlib.Core.Option.{some}
 use lib.ListN.{get_elem?}
 use Rattle.byteorder.specs.Endian.{little_bytes}
@@ -116,6 +116,16 @@ writes_in calls = total write_weight calls
 
 abbrev pub writes_at : ℕ → List Call → ℕ
 writes_at p calls = total (weight_at p) calls
+
+-- some call has the place p
+abbrev pub HasPlace : List Call → ℕ → Type 0
+HasPlace calls p = (k : ℕ) × (c : Call) × (get_elem? calls k ≡ some c) × (place_of c ≡ p)
+
+-- The front: the largest of the log's base and the places of the calls
+pub record IsFront (base : ℕ) (calls : List Call) (front : ℕ) : Type 0 where
+  pub from_base : base ≤ front
+  pub above : (k : ℕ) (c : Call) → get_elem? calls k ≡ some c → place_of c ≤ front
+  pub reached : front ≢ base → HasPlace calls front
 
 -- the places of the calls never fall
 abbrev pub AreInOrder : List Call → Type 0

@@ -39,7 +39,7 @@ pub record Device : Type 0 where
   -- once a call has failed, the log is down for good: this is the log's end as it was then
   pub down : Option ℕ
 
--- the last position in the log: 2 to the power 62
+-- the greatest position that a log may reach: 2 to the power 62
 abbrev pub last_position : ℕ
 last_position = 4611686018427387904
 

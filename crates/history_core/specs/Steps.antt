@@ -24,7 +24,7 @@ use Rattle.page_core.specs.Steps.{logged_after}
 use Rattle.history_core.specs.Log.{Entry, record_size, record_bytes}
 use Rattle.history_core.specs.State.{State, last_position}
 use Rattle.history_core.specs.Lanes.{LaneKind, read_block, fail_read, write_block, fail_write, lane_back, LaneAllowed, lane_after, lane_changed}
-use Rattle.history_core.specs.Device.{LogKind, LogAllowed, device_after, view_logged}
+use Rattle.history_core.specs.Device.{LogKind, append, fail_append, LogAllowed, device_after, view_logged}
 use Rattle.grid.specs.Shape.{put}
 
 -- What happens: what happens to pins, maps, content locks and pages, or a backend's step at a lane or at the log
@@ -36,7 +36,7 @@ pub data Event : Type 0 where
   note : ℕ → ℕ → ℕ → LaneKind → Kind → Event
   -- a step at the latch of the log
   log : ℕ → LogKind → Event
-  -- a backend's entry of a new page of a frame becomes part of the log: the log's end is stored
+  -- a backend's entry of a changed page of a frame becomes part of the log: the log's end is stored
   enter : ℕ → ℕ → Page → Event
   -- the log's end is loaded as the place of a read of the page that was copied from a frame
   read : ℕ → ℕ → Event
@@ -128,20 +128,35 @@ pub record CanNoteLaneWrite (s : State) (n f : ℕ) (p : Page) (h : LaneHold) (l
   pub page : (s.pool.core.frame f).page ≡ p
   pub right : pages.Allowed (note_write true) (block_of s.pool.logged (s.pool.core.frame f).tag) (s.pool.core.frame f) l
 
-pub record CanNoteFailedWrite (s : State) (f : ℕ) (h : LaneHold) (l : Link) : Type 0 where
+-- the write that failed was of the frame's block, to this lane
+pub record CanNoteFailedWrite (s : State) (n f : ℕ) (h : LaneHold) (l : Link) : Type 0 where
   pub failed : h.change ≡ lane_change.WriteFailed f (s.pool.core.frame f).tag
+  pub lane : s.lane_of (s.pool.core.frame f).tag ≡ n
   pub right : pages.Allowed (note_write false) (block_of s.pool.logged (s.pool.core.frame f).tag) (s.pool.core.frame f) l
 
 -- What is noted at the frame f as the lane n comes back
 abbrev pub Notes : Kind → State → ℕ → ℕ → LaneHold → Link → Type 0
 Notes (note_read p) s n f h l = CanNoteLaneRead s n f p h l
 Notes (note_write true) s n f h l = (p : Page) × CanNoteLaneWrite s n f p h l
-Notes (note_write false) s n f h l = CanNoteFailedWrite s f h l
+Notes (note_write false) s n f h l = CanNoteFailedWrite s n f h l
 Notes _ s n f h l = ⊥
 
 -- the entry that a backend makes of the page p of the block of a tag
 abbrev pub new_entry : State → ℕ → ℕ → Page → Entry
 new_entry s number tag p = record { start = s.end; backend = number; tag = tag; image = p }
+
+-- the bytes are the first of the record of some entry that the backend would make now
+pub record BeginsRecord (s : State) (number : ℕ) (bytes : List ℕ) : Type 0 where
+  pub tag : ℕ
+  pub page : Page
+  pub rest : List ℕ
+  pub begins : bytes ++ rest ≡ record_bytes s.names (new_entry s number tag page)
+
+-- what is appended is the record of the entry that the backend would make of the page now; an append that fails leaves the first bytes of one
+abbrev pub AppendsRecord : LogKind → State → ℕ → Type 0
+AppendsRecord (append f tag p bytes) s number = bytes ≡ record_bytes s.names (new_entry s number tag p)
+AppendsRecord (fail_append bytes) s number = BeginsRecord s number bytes
+AppendsRecord _ s number = Unit {0}
 
 -- The page is a whole page that the content lock lets the backend enter, and has the position of the entry's end, which is at most the last one; under the log's latch the entry's bytes are appended
 pub record CanEnter (s : State) (f : ℕ) (p : Page) (v : View) : Type 0 where
@@ -180,7 +195,7 @@ pub data Step : Event → State → State → Type 0 where
   notes : {s : State} (i n f : ℕ) (noted : Bool) (k : Kind) (v : View) → get_elem? s.pool.core.views i ≡ some v → v.emptied ≡ false → n < s.lanes → f < s.pool.core.frames → LaneAllowed (lane_back noted) (s.lane n) (lane_hold v n) → Notes k s n f (lane_hold v n) (link v f)
       → Step (note i n f (lane_back noted) k) s (record s { pool = pool_after k s.pool i f (laned (lane_back noted) s n v (paged k s.pool f v)); lane = put s.lane n (lane_after (lane_back noted) (s.lane n)) })
   -- a step at the log by backend i, whose view is v
-  logs : {s : State} (i : ℕ) (k : LogKind) (v : View) → get_elem? s.pool.core.views i ≡ some v → v.emptied ≡ false → LogAllowed k s.device v.log → Step (log i k) s (record s { pool = aside s.pool i (view_logged k v); device = device_after k s.end s.device })
+  logs : {s : State} (i : ℕ) (k : LogKind) (v : View) → get_elem? s.pool.core.views i ≡ some v → v.emptied ≡ false → LogAllowed k s.device v.log → AppendsRecord k s v.number → Step (log i k) s (record s { pool = aside s.pool i (view_logged k v); device = device_after k s.end s.device })
   -- backend i makes an entry of the page p of the frame f
   enters : {s : State} (i f : ℕ) (p : Page) (v : View) → get_elem? s.pool.core.views i ≡ some v → v.emptied ≡ false → f < s.pool.core.frames → CanEnter s f p v
       → Step (enter i f p) s (let tag = (s.pool.core.frame f).tag in let end = s.end + record_size in record s {

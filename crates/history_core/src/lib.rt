@@ -11,7 +11,8 @@ ghost use Rattle.history_core.specs.Invariant.{Invariant};
 ghost use Rattle.history_core.specs.Causes.{MarksLaw};
 ghost use Rattle.history_core.specs.Counts.{CountsLaw};
 ghost use Rattle.history_core.specs.Steps.{Event, Run};
-ghost use Rattle.history_core.specs.Histories.{IsReached, CallsAreLegal, WritesAreEntries, ReadsStand, WritesStand, LogBeforeData, LanesHoldFlushedPages, CleanBlocksAreStored, FramesAreSound, FramesHoldCells, LogWords, EntriesAreDurable, DeviceHoldsLog, LanesAreHeld};
+ghost use Rattle.history_core.specs.Sample.{SampleRuns};
+ghost use Rattle.history_core.specs.Histories.{IsReached, CallsAreLegal, WritesAreOwn, FrontsAreReached, CallsStay, CallsAreInOrder, LoadedIsFlushed, LanesGoOutFlushed, NotedWritesAreDone, LogIsHeld, WritesAreEntries, ReadsStand, WritesStand, LogBeforeData, LanesHoldFlushedPages, CleanBlocksAreStored, FramesAreSound, FramesHoldCells, LogWords, EntriesAreDurable, DeviceHoldsLog, LanesAreHeld};
 
 /// What every list of events keeps, whatever the backends do and in whatever order.
 pub fn all_histories()
@@ -26,18 +27,26 @@ pub fn all_histories()
 
     // So in every state that events lead to, of what backends read and wrote:
     ensures legal { (s : State) → IsReached s → CallsAreLegal s }
+    ensures own { (s : State) → IsReached s → WritesAreOwn s }
+    ensures fronts { (s : State) → IsReached s → FrontsAreReached s }
+    ensures calls_stay { (s : State) → CallsStay s }
+    ensures in_order { (s : State) → IsReached s → CallsAreInOrder s }
     ensures entries { (s : State) → IsReached s → WritesAreEntries s }
     ensures reads_stand { (s : State) → IsReached s → ReadsStand s }
     ensures writes_stand { (s : State) → IsReached s → WritesStand s }
 
     // of the log and the lanes:
     ensures log_first { (s : State) → IsReached s → LogBeforeData s }
+    ensures go_out_flushed { (s : State) → IsReached s → LanesGoOutFlushed s }
+    ensures loaded { (s : State) → IsReached s → LoadedIsFlushed s }
     ensures lanes_hold { (s : State) → IsReached s → LanesHoldFlushedPages s }
+    ensures noted_done { (s : State) → IsReached s → NotedWritesAreDone s }
     ensures clean_stored { (s : State) → IsReached s → CleanBlocksAreStored s }
     ensures words { (s : State) → IsReached s → LogWords s }
     ensures durable { (s : State) → IsReached s → EntriesAreDurable s }
     ensures device_holds { (s : State) → IsReached s → DeviceHoldsLog s }
     ensures held { (s : State) → IsReached s → LanesAreHeld s }
+    ensures log_held { (s : State) → IsReached s → LogIsHeld s }
 
     ensures marked { (s : State) → IsReached s → MarksLaw s }
     ensures counted { (s : State) → IsReached s → CountsLaw s }
@@ -47,4 +56,9 @@ pub fn all_histories()
     ensures hold_cells { (s : State) → IsReached s → FramesHoldCells s }
     ensures unique { (s : State) → IsReached s → TagsAreUnique s.pool.core }
     ensures remembers { (s : State) → IsReached s → PinsRemember s.pool.core }
+{}
+
+/// An example: a backend reads a block from its lane, and makes the log durable.
+pub fn lane_read_and_log_flush()
+    ensures { SampleRuns }
 {}

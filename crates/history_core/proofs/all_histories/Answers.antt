@@ -3,7 +3,8 @@ use Rattle.history_core.proofs.Opening.{opens}
 use Rattle.history_core.proofs.Stepping.{run_keeps}
 use Rattle.history_core.proofs.Counting.{counts_open, counts_after}
 use Rattle.history_core.proofs.Causes.{marks_open, marks_after}
-use Rattle.history_core.proofs.Histories.{reached, legal, entries, reads_stand, writes_stand, log_first, lanes_hold, clean_stored, sound, hold_cells, words, held, durable, device_holds}
+use Rattle.history_core.proofs.Histories.{reached, legal, own, fronts, in_order, go_out_flushed, loaded_flushed, noted_done, log_held, entries, reads_stand, writes_stand, log_first, lanes_hold, clean_stored, sound, hold_cells, words, held, durable, device_holds}
+use Rattle.history_core.proofs.Staying.{calls_stay}
 use Rattle.history_core.proofs.all_histories.Goals as goal
 
 pub returns-clause-kept : goal.returns-clause-kept
@@ -14,6 +15,9 @@ returns-clause-opens c = opens
 
 pub returns-clause-legal : goal.returns-clause-legal
 returns-clause-legal c = λ s r. legal s (reached s r)
+
+pub returns-clause-fronts : goal.returns-clause-fronts
+returns-clause-fronts c = λ s r. fronts s (reached s r)
 
 pub returns-clause-entries : goal.returns-clause-entries
 returns-clause-entries c = λ s r. entries s (reached s r)
@@ -74,3 +78,24 @@ returns-clause-counts_open c = counts_open
 
 pub returns-clause-counted : goal.returns-clause-counted
 returns-clause-counted c = λ s r. counts_after r.run (opens r.config r.store r.page r.opens r.stores) (counts_open r.config r.store r.page)
+
+pub returns-clause-in_order : goal.returns-clause-in_order
+returns-clause-in_order c = λ s r. in_order s (reached s r)
+
+pub returns-clause-go_out_flushed : goal.returns-clause-go_out_flushed
+returns-clause-go_out_flushed c = λ s r. go_out_flushed s (reached s r)
+
+pub returns-clause-loaded : goal.returns-clause-loaded
+returns-clause-loaded c = λ s r. loaded_flushed s (reached s r)
+
+pub returns-clause-noted_done : goal.returns-clause-noted_done
+returns-clause-noted_done c = λ s r. noted_done s (reached s r)
+
+pub returns-clause-log_held : goal.returns-clause-log_held
+returns-clause-log_held c = λ s r. log_held s (reached s r)
+
+pub returns-clause-calls_stay : goal.returns-clause-calls_stay
+returns-clause-calls_stay c = calls_stay
+
+pub returns-clause-own : goal.returns-clause-own
+returns-clause-own c = λ s r. own s (reached s r)

@@ -1,0 +1,56 @@
+-- Some events at a lane and at the log, for the definitions to be seen at work: a backend reads a block from its lane, and makes the log durable.
+use Rattle.std.specs.Prelude.{◌≡◌, false, List, [], ◌∷◌, Some, None}
+use Rattle.pin_core.specs.declared.view.TakenLane.{TakenLane}
+use Rattle.pin_core.specs.declared.view.TakenLog.{TakenLog}
+use Rattle.pin_core.specs.State.{CanOpen, Config, Page}
+use Rattle.history_core.specs.Log.{head_bytes}
+use Rattle.history_core.specs.State.{CanStore, State, Store, opening}
+use Rattle.history_core.specs.Lanes.{take_lane, leave_lane, lane_out, read_block, lane_back}
+use Rattle.history_core.specs.Device.{take_log, leave_log, log_out, sync_log, log_back}
+use Rattle.history_core.specs.Steps.{Event, lane, log, load_end, load_flushed, raise_flushed, Run}
+
+-- one frame, one partition, one lane, one backend
+abbrev pub sample_config : Config
+sample_config = record { frames = 1; partitions = 1; partition_of = λ _. 0; lanes = 1; backends = 1; base = 0 }
+
+-- the lane holds a page of three bytes for each block; nothing of the log's head is durable
+abbrev pub sample_page : Page
+sample_page = 1 ∷ 2 ∷ 3 ∷ []
+
+abbrev pub sample_store : Store
+sample_store = record {
+  lane_of = λ _. 0;
+  origin = λ _. sample_page;
+  names = λ _. 0 ∷ 0 ∷ 0 ∷ 0 ∷ 0 ∷ 0 ∷ 0 ∷ 0 ∷ 0 ∷ 0 ∷ 0 ∷ 0 ∷ 0 ∷ 0 ∷ 0 ∷ 0 ∷ 0 ∷ 0 ∷ 0 ∷ 0 ∷ [];
+  read_faults = λ _. 0;
+  write_faults = λ _. 0;
+  head_synced = 0;
+  log_faults = 0;
+}
+
+abbrev pub sample_start : State
+sample_start = opening sample_config sample_store []
+
+abbrev pub sample_lane : TakenLane
+sample_lane = record { pages = None; failed = []; read_faults = 0; write_faults = 0 }
+
+abbrev pub sample_log : TakenLog
+sample_log = record { bytes = Some (head_bytes 0); faults = 0 }
+
+-- the block 7 is read from the lane
+abbrev pub read_lane : List Event
+read_lane = lane 0 0 take_lane ∷ lane 0 0 (lane_out sample_lane) ∷ lane 0 0 (read_block 7) ∷ lane 0 0 (lane_back false) ∷ lane 0 0 leave_lane ∷ []
+
+-- the log is made durable, and the flushed position raised
+abbrev pub flush_log : List Event
+flush_log = log 0 take_log ∷ log 0 (log_out sample_log) ∷ log 0 sync_log ∷ log 0 (log_back false) ∷ raise_flushed 0 ∷ log 0 leave_log ∷ load_flushed 0 ∷ load_end 0 ∷ []
+
+-- both latches are free then, and the log's head is durable
+pub record Flushed (t : State) : Type 0 where
+  pub lane : (t.lane 0).taken ≡ false
+  pub log : t.device.taken ≡ false
+  pub synced : t.device.synced ≡ 16
+  pub flushed : t.flushed ≡ 0
+
+abbrev pub SampleRuns : Type 0
+SampleRuns = CanOpen sample_config × CanStore sample_config sample_store × ((m : State) × (t : State) × Run read_lane sample_start m × Run flush_log m t × Flushed t)
