@@ -12,5 +12,6 @@ pub mod Counts
 pub mod Counting
 pub mod Opening
 pub mod Sample
+pub mod Miss
 pub mod Staying
 pub mod Histories

@@ -9,3 +9,4 @@ pub mod Causes
 pub mod Counts
 pub mod Histories
 pub mod Sample
+pub mod Miss

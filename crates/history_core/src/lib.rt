@@ -12,6 +12,7 @@ ghost use Rattle.history_core.specs.Causes.{MarksLaw};
 ghost use Rattle.history_core.specs.Counts.{CountsLaw};
 ghost use Rattle.history_core.specs.Steps.{Event, Run};
 ghost use Rattle.history_core.specs.Sample.{SampleRuns};
+ghost use Rattle.history_core.specs.Miss.{MissRuns};
 ghost use Rattle.history_core.specs.Histories.{IsReached, CallsAreLegal, WritesAreOwn, FrontsAreReached, CallsStay, CallsAreInOrder, LoadedIsFlushed, LanesGoOutFlushed, NotedWritesAreDone, LogIsHeld, WritesAreEntries, ReadsStand, WritesStand, LogBeforeData, LanesHoldFlushedPages, CleanBlocksAreStored, FramesAreSound, FramesHoldCells, LogWords, EntriesAreDurable, DeviceHoldsLog, LanesAreHeld};
 
 /// What every list of events keeps, whatever the backends do and in whatever order.
@@ -61,4 +62,9 @@ pub fn all_histories()
 /// An example: a backend reads a block from its lane, and makes the log durable.
 pub fn lane_read_and_log_flush()
     ensures { SampleRuns }
+{}
+
+/// An example: a backend misses a block, reads it from its lane into a frame, copies the page and gives the read its place.
+pub fn miss_and_read()
+    ensures { MissRuns }
 {}

@@ -1,0 +1,225 @@
+-- The events of the miss are steps.
+use Rattle.std.proofs.Common.{◌≡◌, ◌≢◌, ◌<◌, ℕ, zero, suc, true, false, [], ◌∷◌, List, slice_index_or, Some, None, lit<, refl, sym, subst, arith}
+use Rattle.state_word.specs.declared.word.IoEnd.TheVariants.{ReadOk}
+use Rattle.pin_core.specs.declared.view.Role.TheVariants.{Victim}
+use Rattle.pin_core.specs.declared.view.Io.TheVariants.{Quiet}
+use Rattle.pin_core.specs.declared.view.MapChange.TheVariants.{Settled, Entering}
+use Rattle.pin_core.specs.declared.view.PartitionHold.{PartitionHold}
+use Rattle.pin_core.specs.declared.view.Link.{Link}
+use Rattle.pin_core.specs.declared.view.View.{View}
+use Rattle.pin_core.specs.State.{Page, link, idle, hold, no_partition, no_tag, emptied_view}
+use Rattle.pin_core.specs.Kinds as pins
+use Rattle.pin_core.specs.Turns.{TurnKind, take_turn, leave_turn, map_out, change_map, map_back, found, map_after}
+use Rattle.pin_core.specs.Steps as pin_steps
+use Rattle.pin_core.proofs.Sample.{packed}
+use Rattle.page_layout.specs.Fields.{header_of, lsn_of}
+use Rattle.page_layout.specs.Soundness.{is_new_page, is_sound_page}
+use Rattle.page_core.specs.Kinds.{Kind, start_input, note_read, page_out, overwrite_read, page_back, end_io, share, take_copy, leave_copy}
+use mathlib.Core.Option.{some-ne-none}
+use Rattle.pin_core.specs.declared.view.LaneHold.{LaneHold}
+use Rattle.pin_core.specs.declared.view.Seen.TheVariants as seen
+use Rattle.pin_core.specs.State.{lane_hold, no_lane}
+use Rattle.page_core.specs.Steps as page_steps
+use Rattle.page_core.specs.Steps.{HasNoWriteOut, IsWriteOf}
+use Rattle.page_core.specs.Sample.{sample_page, sample_entry}
+use Rattle.history_core.specs.State.{State}
+use Rattle.history_core.specs.Lanes.{LaneKind, take_lane, leave_lane, lane_out, read_block, lane_back, CanTakeOut, lane_after}
+use Rattle.history_core.specs.Steps.{aside, pool_after, stepped, looked, laned, has_read, pools, lanes, notes, reads, rests, goes}
+use Rattle.history_core.specs.Steps as steps
+use Rattle.history_core.specs.Sample.{sample_lane}
+use Rattle.history_core.specs.Miss.{miss_start, MissRuns}
+use Rattle.grid.specs.Shape.{put}
+
+abbrev view_of : State → View
+view_of s = slice_index_or s.pool.core.views 0 emptied_view
+
+abbrev pooled : pins.Kind → State → State
+pooled k s = record s { pool = record s.pool { core = pin_steps.state_after k s.pool.core 0 0 (view_of s) } }
+
+abbrev turned : TurnKind → State → State
+turned k s = record s { pool = record s.pool { core = pin_steps.state_turned k s.pool.core 0 0 (view_of s) } }
+
+abbrev paged : Kind → State → State
+paged k s = record s { pool = page_steps.state_after k s.pool 0 0 (view_of s) }
+
+abbrev at_lane : LaneKind → State → State
+at_lane k s = record s { pool = aside s.pool 0 (stepped (laned k s 0 (view_of s) (view_of s))); lane = put s.lane 0 (lane_after k (s.lane 0)) }
+
+abbrev noted : Kind → State → State
+noted k s = record s { pool = pool_after k s.pool 0 0 (laned (lane_back false) s 0 (view_of s) (steps.paged k s.pool 0 (view_of s))); lane = put s.lane 0 (lane_after (lane_back false) (s.lane 0)) }
+
+-- where it holds at the one frame it holds of the view
+at_one : (P : Link → Type 0) (v : View) (a : Link) → v.links ≡ a ∷ [] → P a → P idle → (f : ℕ) → P (link v f)
+at_one P v a e x z f = subst (λ (l : List Link). P (slice_index_or l f idle)) (sym e) (cases f)
+  where
+    cases : (f : ℕ) → P (slice_index_or (a ∷ []) f idle)
+    cases zero = x
+    cases (suc f) = z
+
+-- likewise at the one partition
+turn_one : (P : PartitionHold → Type 0) (v : View) (a : PartitionHold) → v.partitions ≡ a ∷ [] → P a → P no_partition → (p : ℕ) → P (hold v p)
+turn_one P v a e x z p = subst (λ (l : List PartitionHold). P (slice_index_or l p no_partition)) (sym e) (cases p)
+  where
+    cases : (p : ℕ) → P (slice_index_or (a ∷ []) p no_partition)
+    cases zero = x
+    cases (suc p) = z
+
+no_entries : found [] ≡ (λ _. None)
+unfolding found
+no_entries = refl
+
+one_entry : found (sample_entry ∷ []) ≡ map_after (Entering 7 0) (λ _. None)
+unfolding found
+one_entry = refl
+
+named : 7 ≢ no_tag
+named e = absurd (omega arith)
+
+same_page : (p q : Page) → Some p ≡ Some q → q ≡ p
+same_page p q e = cc
+
+sound_sample : is_sound_page sample_page ≡ true
+unfolding is_sound_page is_new_page header_of lsn_of
+sound_sample = refl
+
+sound_read : (p : Page) → Some sample_page ≡ Some p → is_sound_page p ≡ true
+sound_read p e = subst (λ (x : Page). is_sound_page x ≡ true) (sym (same_page sample_page p e)) sound_sample
+
+abbrev m0 : State
+m0 = miss_start
+
+abbrev m1 : State
+m1 = turned take_turn m0
+
+abbrev m2 : State
+m2 = pooled pins.lock_header m1
+
+abbrev m3 : State
+m3 = pooled pins.pin_victim m2
+
+abbrev m4 : State
+m4 = pooled pins.lock_header m3
+
+abbrev m5 : State
+m5 = pooled (pins.store_tag 7) m4
+
+abbrev m6 : State
+m6 = pooled pins.assign m5
+
+abbrev m7 : State
+m7 = turned (map_out []) m6
+
+abbrev m8 : State
+m8 = turned change_map m7
+
+abbrev m9 : State
+m9 = turned (map_back (sample_entry ∷ [])) m8
+
+abbrev m10 : State
+m10 = turned leave_turn m9
+
+abbrev m11 : State
+m11 = pooled pins.lock_header m10
+
+abbrev m12 : State
+m12 = paged start_input m11
+
+abbrev m13 : State
+m13 = at_lane take_lane m12
+
+abbrev m14 : State
+m14 = at_lane (lane_out sample_lane) m13
+
+abbrev m15 : State
+m15 = at_lane (read_block 7) m14
+
+abbrev m16 : State
+m16 = noted (note_read sample_page) m15
+
+abbrev m17 : State
+m17 = at_lane leave_lane m16
+
+abbrev m18 : State
+m18 = paged page_out m17
+
+abbrev m19 : State
+m19 = paged (overwrite_read sample_page) m18
+
+abbrev m20 : State
+m20 = paged page_back m19
+
+abbrev m21 : State
+m21 = pooled pins.lock_header m20
+
+abbrev m22 : State
+m22 = paged (end_io ReadOk) m21
+
+abbrev m23 : State
+m23 = pooled pins.load_state m22
+
+abbrev m24 : State
+m24 = paged share m23
+
+abbrev m25 : State
+m25 = paged take_copy m24
+
+abbrev m26 : State
+m26 = paged page_out m25
+
+abbrev m27 : State
+m27 = paged page_back m26
+
+abbrev m28 : State
+m28 = paged leave_copy m27
+
+lane_one : (l : List LaneHold) (a : LaneHold) → l ≡ a ∷ [] → a.out ≡ None → (n : ℕ) → (slice_index_or l n no_lane).out ≡ None
+lane_one l a e x n = subst (λ (y : List LaneHold). (slice_index_or y n no_lane).out ≡ None) (sym e) (cases n)
+  where
+    cases : (n : ℕ) → (slice_index_or (a ∷ []) n no_lane).out ≡ None
+    cases zero = x
+    cases (suc n) = refl
+
+no_write : HasNoWriteOut (view_of m21) 0
+no_write n out = absurd (out (lane_one (view_of m21).lanes _ refl refl n))
+
+goes_out : CanTakeOut sample_lane (m13.lane 0) (lane_hold (view_of m13) 0)
+goes_out = record { held = refl; home = refl; reads = refl; writes = refl; pages = λ blocks k b e at. absurd (cc); failed = λ tag e. absurd (cc); only_failed = λ k tag at. absurd (some-ne-none tag (sym at)) }
+
+below : (n : ℕ) → n < 0 → false ≡ true
+below n z = absurd (omega arith)
+
+pub misses : MissRuns
+misses = (
+  record m28 { pool = aside m28.pool 0 (looked (seen.LogEnd m28.end) (has_read m28.end 7 sample_page (view_of m28))) },
+  (goes (pools (page_steps.cores (pin_steps.turns 0 0 take_turn (view_of m0) refl refl (lit< tt) (record { free = refl }))) tt)
+      (goes (pools (page_steps.cores (pin_steps.touches 0 0 pins.lock_header (view_of m1) refl refl (lit< tt) (record { unlocked = refl }) (at_one (λ (l : Link). l.header ≡ None) (view_of m1) _ refl refl refl))) tt)
+      (goes (pools (page_steps.cores (pin_steps.touches 0 0 pins.pin_victim (view_of m2) refl refl (lit< tt) (record { held = refl; absent = refl; room = λ e. refl }) (at_one (λ (l : Link). l.role ≢ Victim) (view_of m2) _ refl (λ e. cc) (λ e. cc)))) tt)
+      (goes (pools (page_steps.cores (pin_steps.touches 0 0 pins.lock_header (view_of m3) refl refl (lit< tt) (record { unlocked = refl }) (at_one (λ (l : Link). l.header ≡ None) (view_of m3) _ refl refl refl))) tt)
+      (goes (pools (page_steps.cores (pin_steps.touches 0 0 (pins.store_tag 7) (view_of m4) refl refl (lit< tt) (record { alone = record { held = refl; settled = refl; single = refl; victim = refl; no_content = refl; no_io = refl }; named = named; packed = packed; untagged = refl }) (record { naming = record { held = refl; unchanged = refl; settled = (turn_one (λ (h : PartitionHold). h.change ≡ Settled) (view_of m4) _ refl refl refl) }; lacking = refl }))) tt)
+      (goes (pools (page_steps.cores (pin_steps.touches 0 0 pins.assign (view_of m5) refl refl (lit< tt) (record { held = refl; stored = refl; named = named }) tt)) tt)
+      (goes (pools (page_steps.cores (pin_steps.turns 0 0 (map_out []) (view_of m6) refl refl (lit< tt) (record { held = refl; home = refl; entries_are = no_entries }))) tt)
+      (goes (pools (page_steps.cores (pin_steps.turns 0 0 change_map (view_of m7) refl refl (lit< tt) (record { out = λ e. cc; unchanged = refl; named = λ e. cc }))) tt)
+      (goes (pools (page_steps.cores (pin_steps.turns 0 0 (map_back (sample_entry ∷ [])) (view_of m8) refl refl (lit< tt) (record { out = λ e. cc; entries_are = one_entry }))) tt)
+      (goes (pools (page_steps.cores (pin_steps.turns 0 0 leave_turn (view_of m9) refl refl (lit< tt) (record { held = refl; home = refl; settled = refl }))) tt)
+      (goes (pools (page_steps.cores (pin_steps.touches 0 0 pins.lock_header (view_of m10) refl refl (lit< tt) (record { unlocked = refl }) (at_one (λ (l : Link). l.header ≡ None) (view_of m10) _ refl refl refl))) tt)
+      (goes (pools (page_steps.touches 0 0 start_input (view_of m11) refl refl (lit< tt) (record { held = refl; settled = refl; pinned = λ e. cc; clear = refl; tagged = refl; invalid = refl }) (at_one (λ (l : Link). l.io ≡ Quiet) (view_of m11) _ refl refl refl)) tt)
+      (goes (lanes 0 0 take_lane (view_of m12) refl refl (lit< tt) (record { free = refl }) tt)
+      (goes (lanes 0 0 (lane_out sample_lane) (view_of m13) refl refl (lit< tt) goes_out tt)
+      (goes (lanes 0 0 (read_block 7) (view_of m14) refl refl (lit< tt) (record { out = λ e. cc; once = refl }) refl)
+      (goes (notes 0 0 0 false (note_read sample_page) (view_of m15) refl refl (lit< tt) (lit< tt) (record { out = λ e. cc; counts = λ taken e. record { failed = λ z. absurd (cc); read_rose = λ z. below taken.read_faults z; write_rose = λ z. below taken.write_faults z } }) (record { was_read = refl; lane = refl; right = refl; fresh = refl }))
+      (goes (lanes 0 0 leave_lane (view_of m16) refl refl (lit< tt) (record { held = refl; home = refl }) tt)
+      (goes (pools (page_steps.touches 0 0 page_out (view_of m17) refl refl (lit< tt) (record { page_home = refl; shared = λ e. absurd (cc); unlocked = λ e. refl }) tt) tt)
+      (goes (pools (page_steps.touches 0 0 (overwrite_read sample_page) (view_of m18) refl refl (lit< tt) (record { out = λ e. cc; once = refl; right = refl; read = refl }) tt) tt)
+      (goes (pools (page_steps.touches 0 0 page_back (view_of m19) refl refl (lit< tt) (record { out = λ e. cc }) tt) tt)
+      (goes (pools (page_steps.cores (pin_steps.touches 0 0 pins.lock_header (view_of m20) refl refl (lit< tt) (record { unlocked = refl }) (at_one (λ (l : Link). l.header ≡ None) (view_of m20) _ refl refl refl))) tt)
+      (goes (pools (page_steps.touches 0 0 (end_io ReadOk) (view_of m21) refl refl (lit< tt) (record { held = refl; page_home = λ e. refl; ends = record { right = refl; read = λ e. cc; sound = sound_read; home = refl } }) no_write) tt)
+      (goes (pools (page_steps.cores (pin_steps.touches 0 0 pins.load_state (view_of m22) refl refl (lit< tt) tt tt)) tt)
+      (goes (pools (page_steps.touches 0 0 share (view_of m23) refl refl (lit< tt) (record { pinned = λ e. cc; seen = refl; none = refl; free = refl }) tt) tt)
+      (goes (pools (page_steps.touches 0 0 take_copy (view_of m24) refl refl (lit< tt) (record { right = refl; free = refl }) tt) tt)
+      (goes (pools (page_steps.touches 0 0 page_out (view_of m25) refl refl (lit< tt) (record { page_home = refl; shared = λ e. refl; unlocked = λ e. absurd (cc) }) tt) tt)
+      (goes (pools (page_steps.touches 0 0 page_back (view_of m26) refl refl (lit< tt) (record { out = λ e. cc }) tt) tt)
+      (goes (pools (page_steps.touches 0 0 leave_copy (view_of m27) refl refl (lit< tt) (record { right = refl; page_home = refl }) tt) tt)
+      (goes (reads 0 0 7 sample_page (view_of m28) refl refl (lit< tt) (record { right = λ e. cc; copied = refl; settled = refl; remembered = refl }))
+      rests))))))))))))))))))))))))))))),
+  record { held = refl; called = (_, refl, refl, refl) },
+)

@@ -1,0 +1,52 @@
+-- A miss and a read, for the definitions to be seen at work: a backend gives a frame to a block, reads the block from its lane into it, copies the page under the shared lock and gives the read its place.
+use Rattle.std.specs.Prelude.{◌≡◌, false, List, [], ◌∷◌, ◌++◌}
+use mathlib.Core.Option.{some}
+use lib.ListN.{get_elem?}
+use Rattle.state_word.specs.declared.word.IoEnd.TheVariants.{ReadOk}
+use Rattle.pin_core.specs.declared.view.Call.TheVariants.{Read}
+use Rattle.pin_core.specs.declared.view.View.{View}
+use Rattle.pin_core.specs.Kinds as pins
+use Rattle.pin_core.specs.Turns.{TurnKind, take_turn, leave_turn, map_out, change_map, map_back}
+use Rattle.pin_core.specs.Steps as pin_steps
+use Rattle.page_core.specs.Kinds.{Kind, start_input, note_read, page_out, overwrite_read, page_back, end_io, share, take_copy, leave_copy}
+use Rattle.page_core.specs.Steps as page_steps
+use Rattle.page_core.specs.Sample.{sample_page, sample_entry}
+use Rattle.history_core.specs.State.{State, opening}
+use Rattle.history_core.specs.Lanes.{take_lane, leave_lane, lane_out, read_block, lane_back}
+use Rattle.history_core.specs.Steps as steps
+use Rattle.history_core.specs.Steps.{Event, Run}
+use Rattle.history_core.specs.Sample.{sample_config, sample_store, sample_lane}
+
+-- the lane holds a sound page for each block
+abbrev pub miss_start : State
+miss_start = opening sample_config (record sample_store { origin = λ _. sample_page }) []
+
+-- a step of the one backend, at the one frame or the one latch of a partition
+abbrev pub pool : pins.Kind → Event
+pool k = steps.pool (page_steps.pins_and_maps (pin_steps.at 0 0 k))
+
+abbrev pub turn : TurnKind → Event
+turn k = steps.pool (page_steps.pins_and_maps (pin_steps.turn 0 0 k))
+
+abbrev pub page : Kind → Event
+page k = steps.pool (page_steps.at 0 0 k)
+
+-- the frame is given the block 7, under the latch of its partition
+abbrev pub miss : List Event
+miss = turn take_turn ∷ pool pins.lock_header ∷ pool pins.pin_victim ∷ pool pins.lock_header ∷ pool (pins.store_tag 7) ∷ pool pins.assign ∷ turn (map_out []) ∷ turn change_map ∷ turn (map_back (sample_entry ∷ [])) ∷ turn leave_turn ∷ []
+
+-- the block is read from its lane, and its page put into the frame
+abbrev pub fill : List Event
+fill = pool pins.lock_header ∷ page start_input ∷ steps.lane 0 0 take_lane ∷ steps.lane 0 0 (lane_out sample_lane) ∷ steps.lane 0 0 (read_block 7) ∷ steps.note 0 0 0 (lane_back false) (note_read sample_page) ∷ steps.lane 0 0 leave_lane ∷ page page_out ∷ page (overwrite_read sample_page) ∷ page page_back ∷ pool pins.lock_header ∷ page (end_io ReadOk) ∷ pool pins.load_state ∷ []
+
+-- the page is copied under the shared content lock, and the read gets its place
+abbrev pub copy : List Event
+copy = page share ∷ page take_copy ∷ page page_out ∷ page page_back ∷ page leave_copy ∷ steps.read 0 0 ∷ []
+
+-- the frame holds the block's page, and the backend's one call is the read of it, at the log's base
+pub record HasRead (t : State) : Type 0 where
+  pub held : (t.pool.core.frame 0).page ≡ sample_page
+  pub called : (v : View) × (get_elem? t.pool.core.views 0 ≡ some v) × (v.calls ≡ Read 7 sample_page 0 ∷ []) × (v.front ≡ 0)
+
+abbrev pub MissRuns : Type 0
+MissRuns = (t : State) × Run (miss ++ fill ++ copy) miss_start t × HasRead t
