@@ -28,6 +28,7 @@ use Rattle.history_core.specs.Device.{LogKind, view_logged}
 use Rattle.history_core.specs.Steps.{Event, stepped, looked, paged, laned, has_read, has_written, Step, pools, lanes, writes, notes, logs, enters, reads, loads_end, loads_flushed, raises, Run, rests, goes}
 use Rattle.history_core.specs.Invariant.{Invariant}
 use Rattle.history_core.proofs.Counts.{known, more, counts_kept, count_stays, other_link, raised_later}
+use Rattle.history_core.proofs.Opening.{one_total}
 use Rattle.history_core.proofs.Outer.{lane_new}
 use Rattle.history_core.proofs.Stepping.{step_keeps}
 use Rattle.grid.specs.Shape.{Grid, put, total}
@@ -255,10 +256,6 @@ pub counts_after : {es : List Event} {s t : State} → Run es s t → Invariant 
 counts_after rests h m = m
 counts_after (goes x r) h m = counts_after r (step_keeps x h) (counting x h m)
 
-one_none : (g : View → ℕ) (v : View) → g v ≡ 0 → total g (v ∷ []) ≡ 0
-unfolding total
-one_none g v e = omega arith
-
 pub counts_open : (c : Config) (store : Store) (page : Page) → CountsLaw (opening c store page)
 counts_open c store page = let w : View = first_view c.base c.frames c.partitions c.lanes in record {
   lanes = record {
@@ -270,8 +267,8 @@ counts_open c store page = let w : View = first_view c.base c.frames c.partition
     cells = λ i v q there below. subst (λ (x : View). HoldCounts (all_met (w ∷ [])) (fresh_lane store q) (lane_hold x q)) (at_only w v i there).0
         (subst (HoldCounts (all_met (w ∷ [])) (fresh_lane store q)) (sym (lane_new c.frames c.partitions c.lanes 0 c.base q)) (no_counts (record { flushed = c.base; met = all_met (w ∷ []) }) (fresh_lane store q)));
   };
-  reads_rose = λ e. absurd (let x = one_none (λ (v : View). v.met.reads) w refl in omega arith);
-  writes_rose = λ e. absurd (let x = one_none (λ (v : View). v.met.writes) w refl in omega arith);
+  reads_rose = λ e. absurd (let x = one_total (λ (v : View). v.met.reads) w refl in omega arith);
+  writes_rose = λ e. absurd (let x = one_total (λ (v : View). v.met.writes) w refl in omega arith);
 }
   where
     idle_none : (k : CountTally) → count_weigh k no_lane ≡ 0
@@ -281,4 +278,4 @@ counts_open c store page = let w : View = first_view c.base c.frames c.partition
     idle_none unfailed = refl
 
     none_at : (q : ℕ) (k : CountTally) → total (λ (v : View). count_weigh k (lane_hold v q)) (first_view c.base c.frames c.partitions c.lanes ∷ []) ≡ 0
-    none_at q k = one_none (λ (v : View). count_weigh k (lane_hold v q)) (first_view c.base c.frames c.partitions c.lanes) (ap (count_weigh k) (lane_new c.frames c.partitions c.lanes 0 c.base q) ∙ idle_none k)
+    none_at q k = one_total (λ (v : View). count_weigh k (lane_hold v q)) (first_view c.base c.frames c.partitions c.lanes) (ap (count_weigh k) (lane_new c.frames c.partitions c.lanes 0 c.base q) ∙ idle_none k)

@@ -16,6 +16,7 @@ use Rattle.pin_core.specs.Tallies.{flag_weight, some_weight}
 use Rattle.pin_core.specs.declared.view.Seen.TheVariants as seen
 use Rattle.page_core.specs.Kinds.{make_entry}
 use Rattle.page_core.proofs.Histories as pages
+use Rattle.page_core.proofs.Histories.{flag_count}
 use Rattle.history_core.specs.Log.{record_size, cell, cut}
 use Rattle.history_core.specs.State.{State, stored}
 use Rattle.history_core.specs.Lanes as lane_kinds
@@ -34,10 +35,6 @@ use Rattle.grid.proofs.Sums.{total-count, total-none, total-same, total-add}
 
 pub reached : (s : State) → IsReached s → Invariant s
 reached s r = run_keeps r.run (opens r.config r.store r.page r.opens r.stores)
-
-flag_count : (b : Bool) → flag_weight b ≡ (if b then 1 else 0)
-flag_count true = refl
-flag_count false = refl
 
 flag_cond : (b : Bool) → flag_weight b ≡ cond b 1 0
 flag_cond true = refl

@@ -11,7 +11,8 @@ use Rattle.pin_core.specs.State.{Page, link, idle, hold, no_partition, no_tag, e
 use Rattle.pin_core.specs.Kinds as pins
 use Rattle.pin_core.specs.Turns.{TurnKind, take_turn, leave_turn, map_out, change_map, map_back, found, map_after}
 use Rattle.pin_core.specs.Steps as pin_steps
-use Rattle.pin_core.proofs.Sample.{packed}
+use Rattle.pin_core.proofs.Sample.{at_partition, no_entries, one_entry, named, packed}
+use Rattle.page_core.proofs.Sample.{at_frame, sound_read}
 use Rattle.page_layout.specs.Fields.{header_of, lsn_of}
 use Rattle.page_layout.specs.Soundness.{is_new_page, is_sound_page}
 use Rattle.page_core.specs.Kinds.{Kind, start_input, note_read, page_out, overwrite_read, page_back, end_io, share, take_copy, leave_copy}
@@ -47,43 +48,6 @@ at_lane k s = record s { pool = aside s.pool 0 (stepped (laned k s 0 (view_of s)
 
 abbrev noted : Kind → State → State
 noted k s = record s { pool = pool_after k s.pool 0 0 (laned (lane_back false) s 0 (view_of s) (steps.paged k s.pool 0 (view_of s))); lane = put s.lane 0 (lane_after (lane_back false) (s.lane 0)) }
-
--- where it holds at the one frame it holds of the view
-at_one : (P : Link → Type 0) (v : View) (a : Link) → v.links ≡ a ∷ [] → P a → P idle → (f : ℕ) → P (link v f)
-at_one P v a e x z f = subst (λ (l : List Link). P (slice_index_or l f idle)) (sym e) (cases f)
-  where
-    cases : (f : ℕ) → P (slice_index_or (a ∷ []) f idle)
-    cases zero = x
-    cases (suc f) = z
-
--- likewise at the one partition
-turn_one : (P : PartitionHold → Type 0) (v : View) (a : PartitionHold) → v.partitions ≡ a ∷ [] → P a → P no_partition → (p : ℕ) → P (hold v p)
-turn_one P v a e x z p = subst (λ (l : List PartitionHold). P (slice_index_or l p no_partition)) (sym e) (cases p)
-  where
-    cases : (p : ℕ) → P (slice_index_or (a ∷ []) p no_partition)
-    cases zero = x
-    cases (suc p) = z
-
-no_entries : found [] ≡ (λ _. None)
-unfolding found
-no_entries = refl
-
-one_entry : found (sample_entry ∷ []) ≡ map_after (Entering 7 0) (λ _. None)
-unfolding found
-one_entry = refl
-
-named : 7 ≢ no_tag
-named e = absurd (omega arith)
-
-same_page : (p q : Page) → Some p ≡ Some q → q ≡ p
-same_page p q e = cc
-
-sound_sample : is_sound_page sample_page ≡ true
-unfolding is_sound_page is_new_page header_of lsn_of
-sound_sample = refl
-
-sound_read : (p : Page) → Some sample_page ≡ Some p → is_sound_page p ≡ true
-sound_read p e = subst (λ (x : Page). is_sound_page x ≡ true) (sym (same_page sample_page p e)) sound_sample
 
 abbrev m0 : State
 m0 = miss_start
@@ -192,17 +156,17 @@ pub misses : MissRuns
 misses = (
   record m28 { pool = aside m28.pool 0 (looked (seen.LogEnd m28.end) (has_read m28.end 7 sample_page (view_of m28))) },
   (goes (pools (page_steps.cores (pin_steps.turns 0 0 take_turn (view_of m0) refl refl (lit< tt) (record { free = refl }))) tt)
-      (goes (pools (page_steps.cores (pin_steps.touches 0 0 pins.lock_header (view_of m1) refl refl (lit< tt) (record { unlocked = refl }) (at_one (λ (l : Link). l.header ≡ None) (view_of m1) _ refl refl refl))) tt)
-      (goes (pools (page_steps.cores (pin_steps.touches 0 0 pins.pin_victim (view_of m2) refl refl (lit< tt) (record { held = refl; absent = refl; room = λ e. refl }) (at_one (λ (l : Link). l.role ≢ Victim) (view_of m2) _ refl (λ e. cc) (λ e. cc)))) tt)
-      (goes (pools (page_steps.cores (pin_steps.touches 0 0 pins.lock_header (view_of m3) refl refl (lit< tt) (record { unlocked = refl }) (at_one (λ (l : Link). l.header ≡ None) (view_of m3) _ refl refl refl))) tt)
-      (goes (pools (page_steps.cores (pin_steps.touches 0 0 (pins.store_tag 7) (view_of m4) refl refl (lit< tt) (record { alone = record { held = refl; settled = refl; single = refl; victim = refl; no_content = refl; no_io = refl }; named = named; packed = packed; untagged = refl }) (record { naming = record { held = refl; unchanged = refl; settled = (turn_one (λ (h : PartitionHold). h.change ≡ Settled) (view_of m4) _ refl refl refl) }; lacking = refl }))) tt)
+      (goes (pools (page_steps.cores (pin_steps.touches 0 0 pins.lock_header (view_of m1) refl refl (lit< tt) (record { unlocked = refl }) (at_frame (λ (l : Link). l.header ≡ None) (view_of m1) _ refl refl refl))) tt)
+      (goes (pools (page_steps.cores (pin_steps.touches 0 0 pins.pin_victim (view_of m2) refl refl (lit< tt) (record { held = refl; absent = refl; room = λ e. refl }) (at_frame (λ (l : Link). l.role ≢ Victim) (view_of m2) _ refl (λ e. cc) (λ e. cc)))) tt)
+      (goes (pools (page_steps.cores (pin_steps.touches 0 0 pins.lock_header (view_of m3) refl refl (lit< tt) (record { unlocked = refl }) (at_frame (λ (l : Link). l.header ≡ None) (view_of m3) _ refl refl refl))) tt)
+      (goes (pools (page_steps.cores (pin_steps.touches 0 0 (pins.store_tag 7) (view_of m4) refl refl (lit< tt) (record { alone = record { held = refl; settled = refl; single = refl; victim = refl; no_content = refl; no_io = refl }; named = named; packed = packed; untagged = refl }) (record { naming = record { held = refl; unchanged = refl; settled = (at_partition (λ (h : PartitionHold). h.change ≡ Settled) (view_of m4) _ refl refl refl) }; lacking = refl }))) tt)
       (goes (pools (page_steps.cores (pin_steps.touches 0 0 pins.assign (view_of m5) refl refl (lit< tt) (record { held = refl; stored = refl; named = named }) tt)) tt)
       (goes (pools (page_steps.cores (pin_steps.turns 0 0 (map_out []) (view_of m6) refl refl (lit< tt) (record { held = refl; home = refl; entries_are = no_entries }))) tt)
       (goes (pools (page_steps.cores (pin_steps.turns 0 0 change_map (view_of m7) refl refl (lit< tt) (record { out = λ e. cc; unchanged = refl; named = λ e. cc }))) tt)
       (goes (pools (page_steps.cores (pin_steps.turns 0 0 (map_back (sample_entry ∷ [])) (view_of m8) refl refl (lit< tt) (record { out = λ e. cc; entries_are = one_entry }))) tt)
       (goes (pools (page_steps.cores (pin_steps.turns 0 0 leave_turn (view_of m9) refl refl (lit< tt) (record { held = refl; home = refl; settled = refl }))) tt)
-      (goes (pools (page_steps.cores (pin_steps.touches 0 0 pins.lock_header (view_of m10) refl refl (lit< tt) (record { unlocked = refl }) (at_one (λ (l : Link). l.header ≡ None) (view_of m10) _ refl refl refl))) tt)
-      (goes (pools (page_steps.touches 0 0 start_input (view_of m11) refl refl (lit< tt) (record { held = refl; settled = refl; pinned = λ e. cc; clear = refl; tagged = refl; invalid = refl }) (at_one (λ (l : Link). l.io ≡ Quiet) (view_of m11) _ refl refl refl)) tt)
+      (goes (pools (page_steps.cores (pin_steps.touches 0 0 pins.lock_header (view_of m10) refl refl (lit< tt) (record { unlocked = refl }) (at_frame (λ (l : Link). l.header ≡ None) (view_of m10) _ refl refl refl))) tt)
+      (goes (pools (page_steps.touches 0 0 start_input (view_of m11) refl refl (lit< tt) (record { held = refl; settled = refl; pinned = λ e. cc; clear = refl; tagged = refl; invalid = refl }) (at_frame (λ (l : Link). l.io ≡ Quiet) (view_of m11) _ refl refl refl)) tt)
       (goes (lanes 0 0 take_lane (view_of m12) refl refl (lit< tt) (record { free = refl }) tt)
       (goes (lanes 0 0 (lane_out sample_lane) (view_of m13) refl refl (lit< tt) goes_out tt)
       (goes (lanes 0 0 (read_block 7) (view_of m14) refl refl (lit< tt) (record { out = λ e. cc; once = refl }) refl)
@@ -211,7 +175,7 @@ misses = (
       (goes (pools (page_steps.touches 0 0 page_out (view_of m17) refl refl (lit< tt) (record { page_home = refl; shared = λ e. absurd (cc); unlocked = λ e. refl }) tt) tt)
       (goes (pools (page_steps.touches 0 0 (overwrite_read sample_page) (view_of m18) refl refl (lit< tt) (record { out = λ e. cc; once = refl; right = refl; read = refl }) tt) tt)
       (goes (pools (page_steps.touches 0 0 page_back (view_of m19) refl refl (lit< tt) (record { out = λ e. cc }) tt) tt)
-      (goes (pools (page_steps.cores (pin_steps.touches 0 0 pins.lock_header (view_of m20) refl refl (lit< tt) (record { unlocked = refl }) (at_one (λ (l : Link). l.header ≡ None) (view_of m20) _ refl refl refl))) tt)
+      (goes (pools (page_steps.cores (pin_steps.touches 0 0 pins.lock_header (view_of m20) refl refl (lit< tt) (record { unlocked = refl }) (at_frame (λ (l : Link). l.header ≡ None) (view_of m20) _ refl refl refl))) tt)
       (goes (pools (page_steps.touches 0 0 (end_io ReadOk) (view_of m21) refl refl (lit< tt) (record { held = refl; page_home = λ e. refl; ends = record { right = refl; read = λ e. cc; sound = sound_read; home = refl } }) no_write) tt)
       (goes (pools (page_steps.cores (pin_steps.touches 0 0 pins.load_state (view_of m22) refl refl (lit< tt) tt tt)) tt)
       (goes (pools (page_steps.touches 0 0 share (view_of m23) refl refl (lit< tt) (record { pinned = λ e. cc; seen = refl; none = refl; free = refl }) tt) tt)

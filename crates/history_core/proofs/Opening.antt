@@ -20,7 +20,7 @@ use Rattle.history_core.proofs.Outer.{lane_new, no_weight}
 use Rattle.grid.specs.Shape.{total}
 use Rattle.grid.proofs.Lists.{at_only}
 
-one_total : (g : View → ℕ) (v : View) → g v ≡ 0 → total g (v ∷ []) ≡ 0
+pub one_total : (g : View → ℕ) (v : View) → g v ≡ 0 → total g (v ∷ []) ≡ 0
 unfolding total
 one_total g v e = omega arith
 

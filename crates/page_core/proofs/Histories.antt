@@ -66,7 +66,7 @@ one_worker Quiet = refl
 one_worker Input = refl
 one_worker Output = refl
 
-flag_count : (b : Bool) → flag_weight b ≡ (if b then 1 else 0)
+pub flag_count : (b : Bool) → flag_weight b ≡ (if b then 1 else 0)
 flag_count true = refl
 flag_count false = refl
 

@@ -11,7 +11,7 @@ use Rattle.pin_core.specs.State.{Page, link, idle, hold, no_partition, no_tag, e
 use Rattle.pin_core.specs.Kinds as pins
 use Rattle.pin_core.specs.Turns.{TurnKind, take_turn, leave_turn, map_out, change_map, map_back, found, map_after}
 use Rattle.pin_core.specs.Steps as pin_steps
-use Rattle.pin_core.proofs.Sample.{packed}
+use Rattle.pin_core.proofs.Sample.{at_partition, no_entries, one_entry, named, packed}
 use Rattle.page_layout.specs.Fields.{header_of, lsn_of}
 use Rattle.page_layout.specs.Soundness.{is_new_page, is_sound_page}
 use Rattle.page_core.specs.State.{State}
@@ -32,28 +32,12 @@ abbrev paged : Kind → State → State
 paged k s = state_after k s 0 0 (view_of s)
 
 -- where it holds at the one frame it holds of the view
-at_one : (P : Link → Type 0) (v : View) (a : Link) → v.links ≡ a ∷ [] → P a → P idle → (f : ℕ) → P (link v f)
-at_one P v a e x z f = subst (λ (l : List Link). P (slice_index_or l f idle)) (sym e) (cases f)
+pub at_frame : (P : Link → Type 0) (v : View) (a : Link) → v.links ≡ a ∷ [] → P a → P idle → (f : ℕ) → P (link v f)
+at_frame P v a e x z f = subst (λ (l : List Link). P (slice_index_or l f idle)) (sym e) (cases f)
   where
     cases : (f : ℕ) → P (slice_index_or (a ∷ []) f idle)
     cases zero = x
     cases (suc f) = z
-
--- likewise at the one partition
-turn_one : (P : PartitionHold → Type 0) (v : View) (a : PartitionHold) → v.partitions ≡ a ∷ [] → P a → P no_partition → (p : ℕ) → P (hold v p)
-turn_one P v a e x z p = subst (λ (l : List PartitionHold). P (slice_index_or l p no_partition)) (sym e) (cases p)
-  where
-    cases : (p : ℕ) → P (slice_index_or (a ∷ []) p no_partition)
-    cases zero = x
-    cases (suc p) = z
-
-no_entries : found [] ≡ (λ _. None)
-unfolding found
-no_entries = refl
-
-one_entry : found (sample_entry ∷ []) ≡ map_after (Entering 7 0) (λ _. None)
-unfolding found
-one_entry = refl
 
 left_out : found [] ≡ map_after (Leaving 7 0) (map_after (Entering 7 0) (λ _. None))
 unfolding found
@@ -66,9 +50,6 @@ left_out = λ k tag. gone (nat_eq tag 7) k
     gone true = refl
     gone false = refl
 
-named : 7 ≢ no_tag
-named e = absurd (omega arith)
-
 same_page : (p q : Page) → Some p ≡ Some q → q ≡ p
 same_page p q e = cc
 
@@ -76,7 +57,7 @@ sound_sample : is_sound_page sample_page ≡ true
 unfolding is_sound_page is_new_page header_of lsn_of
 sound_sample = refl
 
-sound_read : (p : Page) → Some sample_page ≡ Some p → is_sound_page p ≡ true
+pub sound_read : (p : Page) → Some sample_page ≡ Some p → is_sound_page p ≡ true
 sound_read p e = subst (λ (x : Page). is_sound_page x ≡ true) (sym (same_page sample_page p e)) sound_sample
 
 abbrev s1 : State
@@ -200,22 +181,22 @@ sample = (
     s24,
     s37,
     (goes (cores (pin_steps.turns 0 0 take_turn (view_of sample_start) refl refl (lit< tt) (record { free = refl })))
-        (goes (cores (pin_steps.touches 0 0 pins.lock_header (view_of s1) refl refl (lit< tt) (record { unlocked = refl }) (at_one (λ (l : Link). l.header ≡ None) (view_of s1) _ refl refl refl)))
-        (goes (cores (pin_steps.touches 0 0 pins.pin_victim (view_of s2) refl refl (lit< tt) (record { held = refl; absent = refl; room = λ e. refl }) (at_one (λ (l : Link). l.role ≢ Victim) (view_of s2) _ refl (λ e. cc) (λ e. cc))))
-        (goes (cores (pin_steps.touches 0 0 pins.lock_header (view_of s3) refl refl (lit< tt) (record { unlocked = refl }) (at_one (λ (l : Link). l.header ≡ None) (view_of s3) _ refl refl refl)))
-        (goes (cores (pin_steps.touches 0 0 (pins.store_tag 7) (view_of s4) refl refl (lit< tt) (record { alone = record { held = refl; settled = refl; single = refl; victim = refl; no_content = refl; no_io = refl }; named = named; packed = packed; untagged = refl }) (record { naming = record { held = refl; unchanged = refl; settled = (turn_one (λ (h : PartitionHold). h.change ≡ Settled) (view_of s4) _ refl refl refl) }; lacking = refl })))
+        (goes (cores (pin_steps.touches 0 0 pins.lock_header (view_of s1) refl refl (lit< tt) (record { unlocked = refl }) (at_frame (λ (l : Link). l.header ≡ None) (view_of s1) _ refl refl refl)))
+        (goes (cores (pin_steps.touches 0 0 pins.pin_victim (view_of s2) refl refl (lit< tt) (record { held = refl; absent = refl; room = λ e. refl }) (at_frame (λ (l : Link). l.role ≢ Victim) (view_of s2) _ refl (λ e. cc) (λ e. cc))))
+        (goes (cores (pin_steps.touches 0 0 pins.lock_header (view_of s3) refl refl (lit< tt) (record { unlocked = refl }) (at_frame (λ (l : Link). l.header ≡ None) (view_of s3) _ refl refl refl)))
+        (goes (cores (pin_steps.touches 0 0 (pins.store_tag 7) (view_of s4) refl refl (lit< tt) (record { alone = record { held = refl; settled = refl; single = refl; victim = refl; no_content = refl; no_io = refl }; named = named; packed = packed; untagged = refl }) (record { naming = record { held = refl; unchanged = refl; settled = (at_partition (λ (h : PartitionHold). h.change ≡ Settled) (view_of s4) _ refl refl refl) }; lacking = refl })))
         (goes (cores (pin_steps.touches 0 0 pins.assign (view_of s5) refl refl (lit< tt) (record { held = refl; stored = refl; named = named }) tt))
         (goes (cores (pin_steps.turns 0 0 (map_out []) (view_of s6) refl refl (lit< tt) (record { held = refl; home = refl; entries_are = no_entries })))
         (goes (cores (pin_steps.turns 0 0 change_map (view_of s7) refl refl (lit< tt) (record { out = λ e. cc; unchanged = refl; named = λ e. cc })))
         (goes (cores (pin_steps.turns 0 0 (map_back (sample_entry ∷ [])) (view_of s8) refl refl (lit< tt) (record { out = λ e. cc; entries_are = one_entry })))
         (goes (cores (pin_steps.turns 0 0 leave_turn (view_of s9) refl refl (lit< tt) (record { held = refl; home = refl; settled = refl })))
-        (goes (cores (pin_steps.touches 0 0 pins.lock_header (view_of s10) refl refl (lit< tt) (record { unlocked = refl }) (at_one (λ (l : Link). l.header ≡ None) (view_of s10) _ refl refl refl)))
-        (goes (touches 0 0 start_input (view_of s11) refl refl (lit< tt) (record { held = refl; settled = refl; pinned = λ e. cc; clear = refl; tagged = refl; invalid = refl }) (at_one (λ (l : Link). l.io ≡ Quiet) (view_of s11) _ refl refl refl))
+        (goes (cores (pin_steps.touches 0 0 pins.lock_header (view_of s10) refl refl (lit< tt) (record { unlocked = refl }) (at_frame (λ (l : Link). l.header ≡ None) (view_of s10) _ refl refl refl)))
+        (goes (touches 0 0 start_input (view_of s11) refl refl (lit< tt) (record { held = refl; settled = refl; pinned = λ e. cc; clear = refl; tagged = refl; invalid = refl }) (at_frame (λ (l : Link). l.io ≡ Quiet) (view_of s11) _ refl refl refl))
         (goes (touches 0 0 (note_read sample_page) (view_of s12) refl refl (lit< tt) (record { right = refl; fresh = refl; given = same_page sample_page }) tt)
         (goes (touches 0 0 page_out (view_of s13) refl refl (lit< tt) (record { page_home = refl; shared = λ e. absurd (cc); unlocked = λ e. refl }) tt)
         (goes (touches 0 0 (overwrite_read sample_page) (view_of s14) refl refl (lit< tt) (record { out = λ e. cc; once = refl; right = refl; read = refl }) tt)
         (goes (touches 0 0 page_back (view_of s15) refl refl (lit< tt) (record { out = λ e. cc }) tt)
-        (goes (cores (pin_steps.touches 0 0 pins.lock_header (view_of s16) refl refl (lit< tt) (record { unlocked = refl }) (at_one (λ (l : Link). l.header ≡ None) (view_of s16) _ refl refl refl)))
+        (goes (cores (pin_steps.touches 0 0 pins.lock_header (view_of s16) refl refl (lit< tt) (record { unlocked = refl }) (at_frame (λ (l : Link). l.header ≡ None) (view_of s16) _ refl refl refl)))
         (goes (touches 0 0 (end_io ReadOk) (view_of s17) refl refl (lit< tt) (record { held = refl; page_home = λ e. refl; ends = record { right = refl; read = λ e. cc; sound = sound_read; home = refl } }) no_lanes)
         (goes (cores (pin_steps.touches 0 0 pins.load_state (view_of s18) refl refl (lit< tt) tt tt))
         (goes (touches 0 0 share (view_of s19) refl refl (lit< tt) (record { pinned = λ e. cc; seen = refl; none = refl; free = refl }) tt)
@@ -227,11 +208,11 @@ sample = (
     record { tag = refl; word = refl; held = refl; shared = refl; noted = (view_of s24, refl, refl, refl) },
     (goes (touches 0 0 unshare (view_of s24) refl refl (lit< tt) (record { right = refl; no_copy = refl; no_output = λ e. cc; page_home = refl }) tt)
         (goes (cores (pin_steps.touches 0 0 pins.unpin (view_of s25) refl refl (lit< tt) (record { unlocked = refl; pinned = λ e. cc; no_content = refl; no_io = refl; no_wait = refl }) tt))
-        (goes (cores (pin_steps.touches 0 0 pins.lock_header (view_of s26) refl refl (lit< tt) (record { unlocked = refl }) (at_one (λ (l : Link). l.header ≡ None) (view_of s26) _ refl refl refl)))
-        (goes (cores (pin_steps.touches 0 0 pins.pin_victim (view_of s27) refl refl (lit< tt) (record { held = refl; absent = refl; room = λ e. refl }) (at_one (λ (l : Link). l.role ≢ Victim) (view_of s27) _ refl (λ e. cc) (λ e. cc))))
+        (goes (cores (pin_steps.touches 0 0 pins.lock_header (view_of s26) refl refl (lit< tt) (record { unlocked = refl }) (at_frame (λ (l : Link). l.header ≡ None) (view_of s26) _ refl refl refl)))
+        (goes (cores (pin_steps.touches 0 0 pins.pin_victim (view_of s27) refl refl (lit< tt) (record { held = refl; absent = refl; room = λ e. refl }) (at_frame (λ (l : Link). l.role ≢ Victim) (view_of s27) _ refl (λ e. cc) (λ e. cc))))
         (goes (cores (pin_steps.turns 0 0 take_turn (view_of s28) refl refl (lit< tt) (record { free = refl })))
-        (goes (cores (pin_steps.touches 0 0 pins.lock_header (view_of s29) refl refl (lit< tt) (record { unlocked = refl }) (at_one (λ (l : Link). l.header ≡ None) (view_of s29) _ refl refl refl)))
-        (goes (cores (pin_steps.touches 0 0 pins.erase_tag (view_of s30) refl refl (lit< tt) (record { alone = record { held = refl; settled = refl; single = refl; victim = refl; no_content = refl; no_io = refl }; named = named; clean = refl }) (record { held = refl; unchanged = refl; settled = (turn_one (λ (h : PartitionHold). h.change ≡ Settled) (view_of s30) _ refl refl refl) })))
+        (goes (cores (pin_steps.touches 0 0 pins.lock_header (view_of s29) refl refl (lit< tt) (record { unlocked = refl }) (at_frame (λ (l : Link). l.header ≡ None) (view_of s29) _ refl refl refl)))
+        (goes (cores (pin_steps.touches 0 0 pins.erase_tag (view_of s30) refl refl (lit< tt) (record { alone = record { held = refl; settled = refl; single = refl; victim = refl; no_content = refl; no_io = refl }; named = named; clean = refl }) (record { held = refl; unchanged = refl; settled = (at_partition (λ (h : PartitionHold). h.change ≡ Settled) (view_of s30) _ refl refl refl) })))
         (goes (cores (pin_steps.touches 0 0 pins.clear (view_of s31) refl refl (lit< tt) (record { held = refl; erased = refl; unnamed = refl }) tt))
         (goes (cores (pin_steps.turns 0 0 (map_out (sample_entry ∷ [])) (view_of s32) refl refl (lit< tt) (record { held = refl; home = refl; entries_are = one_entry })))
         (goes (cores (pin_steps.turns 0 0 change_map (view_of s33) refl refl (lit< tt) (record { out = λ e. cc; unchanged = refl; named = λ e. cc })))

@@ -31,8 +31,8 @@ at_two P v a b e x y z f = subst (λ (l : List Link). P (slice_index_or l f idle
     cases (suc (suc f)) = z
 
 -- where it holds at the one partition it holds of the view
-at_one : (P : PartitionHold → Type 0) (v : View) (a : PartitionHold) → v.partitions ≡ a ∷ [] → P a → P no_partition → (p : ℕ) → P (hold v p)
-at_one P v a e x z p = subst (λ (l : List PartitionHold). P (slice_index_or l p no_partition)) (sym e) (cases p)
+pub at_partition : (P : PartitionHold → Type 0) (v : View) (a : PartitionHold) → v.partitions ≡ a ∷ [] → P a → P no_partition → (p : ℕ) → P (hold v p)
+at_partition P v a e x z p = subst (λ (l : List PartitionHold). P (slice_index_or l p no_partition)) (sym e) (cases p)
   where
     cases : (p : ℕ) → P (slice_index_or (a ∷ []) p no_partition)
     cases zero = x
@@ -83,11 +83,11 @@ s14 = turned leave_turn 1 s13
 abbrev s15 : State
 s15 = then unpin 0 s14
 
-no_entries : found [] ≡ (λ _. None)
+pub no_entries : found [] ≡ (λ _. None)
 unfolding found
 no_entries = refl
 
-one_entry : found (sample_entry ∷ []) ≡ map_after (Entering 7 0) (λ _. None)
+pub one_entry : found (sample_entry ∷ []) ≡ map_after (Entering 7 0) (λ _. None)
 unfolding found
 one_entry = refl
 
@@ -95,7 +95,7 @@ pub packed : is_tag 7 ≡ true
 unfolding is_tag unpacked_tag
 packed = refl
 
-named : 7 ≢ no_tag
+pub named : 7 ≢ no_tag
 named e = absurd (omega arith)
 
 pub sample : SampleRuns
@@ -107,7 +107,7 @@ sample = (
         (goes (touches 0 0 lock_header (view_at s1 0) refl refl (lit< tt) (record { unlocked = refl }) (at_two (λ (l : Link). l.header ≡ None) (view_at s1 0) _ _ refl refl refl refl))
         (goes (touches 0 0 pin_victim (view_at s2 0) refl refl (lit< tt) (record { held = refl; absent = refl; room = λ _. refl }) (at_two (λ (l : Link). l.role ≢ Victim) (view_at s2 0) _ _ refl (λ e. cc) (λ e. cc) (λ e. cc)))
         (goes (touches 0 0 lock_header (view_at s3 0) refl refl (lit< tt) (record { unlocked = refl }) (at_two (λ (l : Link). l.header ≡ None) (view_at s3 0) _ _ refl refl refl refl))
-        (goes (touches 0 0 (store_tag 7) (view_at s4 0) refl refl (lit< tt) (record { alone = record { held = refl; settled = refl; single = refl; victim = refl; no_content = refl; no_io = refl }; named = named; packed = packed; untagged = refl }) (record { naming = record { held = refl; unchanged = refl; settled = at_one (λ (h : PartitionHold). h.change ≡ Settled) (view_at s4 0) _ refl refl refl }; lacking = refl }))
+        (goes (touches 0 0 (store_tag 7) (view_at s4 0) refl refl (lit< tt) (record { alone = record { held = refl; settled = refl; single = refl; victim = refl; no_content = refl; no_io = refl }; named = named; packed = packed; untagged = refl }) (record { naming = record { held = refl; unchanged = refl; settled = at_partition (λ (h : PartitionHold). h.change ≡ Settled) (view_at s4 0) _ refl refl refl }; lacking = refl }))
         (goes (touches 0 0 assign (view_at s5 0) refl refl (lit< tt) (record { held = refl; stored = refl; named = named }) tt)
         (goes (turns 0 0 (map_out []) (view_at s6 0) refl refl (lit< tt) (record { held = refl; home = refl; entries_are = no_entries }))
         (goes (turns 0 0 change_map (view_at s7 0) refl refl (lit< tt) (record { out = λ e. cc; unchanged = refl; named = λ e. cc }))
