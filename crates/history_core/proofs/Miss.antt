@@ -1,20 +1,18 @@
 -- The events of the miss are steps.
-use Rattle.std.proofs.Common.{◌≡◌, ◌≢◌, ◌<◌, ℕ, zero, suc, true, false, [], ◌∷◌, List, slice_index_or, Some, None, lit<, refl, sym, subst, arith}
+use Rattle.std.proofs.Common.{◌≡◌, ◌≢◌, ◌<◌, ℕ, zero, suc, true, false, [], ◌∷◌, List, slice_index_or, None, lit<, refl, sym, subst, arith}
 use Rattle.state_word.specs.declared.word.IoEnd.TheVariants.{ReadOk}
 use Rattle.pin_core.specs.declared.view.Role.TheVariants.{Victim}
 use Rattle.pin_core.specs.declared.view.Io.TheVariants.{Quiet}
-use Rattle.pin_core.specs.declared.view.MapChange.TheVariants.{Settled, Entering}
+use Rattle.pin_core.specs.declared.view.MapChange.TheVariants.{Settled}
 use Rattle.pin_core.specs.declared.view.PartitionHold.{PartitionHold}
 use Rattle.pin_core.specs.declared.view.Link.{Link}
 use Rattle.pin_core.specs.declared.view.View.{View}
-use Rattle.pin_core.specs.State.{Page, link, idle, hold, no_partition, no_tag, emptied_view}
+use Rattle.pin_core.specs.State.{emptied_view}
 use Rattle.pin_core.specs.Kinds as pins
-use Rattle.pin_core.specs.Turns.{TurnKind, take_turn, leave_turn, map_out, change_map, map_back, found, map_after}
+use Rattle.pin_core.specs.Turns.{TurnKind, take_turn, leave_turn, map_out, change_map, map_back}
 use Rattle.pin_core.specs.Steps as pin_steps
 use Rattle.pin_core.proofs.Sample.{at_partition, no_entries, one_entry, named, packed}
 use Rattle.page_core.proofs.Sample.{at_frame, sound_read}
-use Rattle.page_layout.specs.Fields.{header_of, lsn_of}
-use Rattle.page_layout.specs.Soundness.{is_new_page, is_sound_page}
 use Rattle.page_core.specs.Kinds.{Kind, start_input, note_read, page_out, overwrite_read, page_back, end_io, share, take_copy, leave_copy}
 use mathlib.Core.Option.{some-ne-none}
 use Rattle.pin_core.specs.declared.view.LaneHold.{LaneHold}
