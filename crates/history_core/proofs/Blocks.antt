@@ -28,8 +28,8 @@ use Rattle.grid.specs.Shape.{Grid, put}
 use Rattle.grid.proofs.Lists.{put_here, put_else}
 use Rattle.grid.proofs.Grids.{Keeps}
 
--- A kind that is plain keeps the law of the homes; the block's page after the log is known
-pub plain_keeps : (k : Kind) (h : Home) (fr : Frame) (l : Link) (p : Page) → h.block.logged ≡ Some p → IsPlain k → Allowed k h.block fr l → Keeps_by k h (home_after k h) fr l
+-- A kind that is plain keeps the law of the homes; the block's page after the log is known where its lane's contents are
+pub plain_keeps : (k : Kind) (h : Home) (fr : Frame) (l : Link) (p : Page) → (h.known ≡ true → h.block.logged ≡ Some p) → IsPlain k → Allowed k h.block fr l → Keeps_by k h (home_after k h) fr l
 plain_keeps kinds.load_content h fr l q is x a = homes.load_content_keeps h fr l a
 plain_keeps kinds.mark_dirty h fr l q is x a = homes.mark_dirty_keeps h fr l a
 plain_keeps kinds.share h fr l q is x a = homes.share_keeps h fr l a
@@ -107,7 +107,7 @@ written_is_logged b fr l t q c le e = (grind (arith, q, c, le, e), λ p is. grin
 pub record Blocks (n : ℕ) (frame : ℕ → Frame) (views : List View) (origin : ℕ → Page) (log : Log) (flushed : ℕ) (home : ℕ → Home) : Type 0 where
   pub homes : Grid home_shape home_part n frame home views
   pub unframed : (tag : ℕ) → tag ≢ no_tag → IsUnframed n frame tag → IsClean (home tag)
-  pub flushed_cells : (tag : ℕ) → (home tag).failed ≡ false → IsFlushedCell origin log flushed tag (home tag).stored
+  pub flushed_cells : (tag : ℕ) → IsFlushedCell origin log flushed tag (home tag)
 
 pub no_link : (h : Home) (fr : Frame) → HomeLink h fr idle
 no_link h fr = grind arith

@@ -24,14 +24,14 @@ use Rattle.page_core.specs.Steps as page_steps
 use Rattle.history_core.specs.State.{Lane, State, Store, failed, opening}
 use Rattle.history_core.specs.Lanes as lane_kinds
 use Rattle.history_core.specs.Lanes.{LaneKind, LaneAllowed, lane_after, lane_hold_after, met_by, fault_of, syncs, is_failed_write}
-use Rattle.history_core.specs.Steps.{LaneAlone, Writes, Notes, Step, pools, lanes, writes, notes, logs, enters, reads, loads_end, loads_flushed, raises, Event, Run, rests, goes, stepped, looked, aside, pool_after, paged, laned, has_read, has_written}
+use Rattle.history_core.specs.Steps.{LaneAlone, Writes, Notes, Step, pools, lanes, writes, notes, logs, enters, reads, loads_end, loads_flushed, raises, Event, Run, rests, goes, stepped, looked, aside, pool_after, logged_noting, pool_noting, paged, laned, has_read, has_written}
 use Rattle.history_core.specs.Log.{record_size}
 use Rattle.history_core.specs.Device as log_kinds
 use Rattle.history_core.specs.Device.{LogKind, view_logged}
 use Rattle.history_core.specs.Causes.{mark_weight, NoneMarked, IsQuiet, AllQuiet, MarksLaw}
 use Rattle.history_core.specs.Invariant.{Invariant}
 use Rattle.history_core.proofs.Outer.{lane_new}
-use Rattle.history_core.proofs.Stepping.{step_keeps, lane_put_same, no_write_holds}
+use Rattle.history_core.proofs.Stepping.{step_keeps, lane_put, HoldsSame, no_write_holds}
 use Rattle.grid.specs.Shape.{put}
 use Rattle.grid.proofs.Lists.{at_set, at_end, at_only, put_at, put_else, set_else, set_here}
 use Rattle.grid.proofs.Sums.{total-set, total-snoc, term_le, terms_le}
@@ -93,17 +93,17 @@ no_fault true lane_change.Synced e = refl
 no_fault false change e = refl
 
 -- a step at a lane that is no failed write and no sync leaves the view quiet
-still_no_fault : (k : LaneKind) (s : State) (q : ℕ) (loaded : ℕ) (ln : Lane) (x : LaneHold) → LaneAlone k s q x → syncs k ≡ false → is_failed_write x.change ≡ false → (is_failed_write (lane_hold_after k loaded ln x).change ≡ false) × ((met_by k x).writes ≡ 0)
-still_no_fault lane_kinds.take_lane s q loaded ln x a e h = (h, refl)
-still_no_fault lane_kinds.leave_lane s q loaded ln x a e h = (h, refl)
-still_no_fault (lane_kinds.lane_out taken) s q loaded ln x a e h = (h, refl)
-still_no_fault (lane_kinds.read_block tag) s q loaded ln x a e h = (refl, refl)
-still_no_fault (lane_kinds.fail_read tag) s q loaded ln x a e h = (refl, refl)
-still_no_fault (lane_kinds.write_block f tag p) s q loaded ln x a e h = absurd a
-still_no_fault (lane_kinds.fail_write f tag p) s q loaded ln x a e h = absurd a
-still_no_fault lane_kinds.sync_lane s q loaded ln x a e h = absurd (cc)
-still_no_fault lane_kinds.fail_sync s q loaded ln x a e h = absurd (cc)
-still_no_fault (lane_kinds.lane_back noted) s q loaded ln x a e h = (refl, no_fault noted x.change h)
+still_no_fault : (k : LaneKind) (s : State) (q : ℕ) (loaded : ℕ) (x : LaneHold) → LaneAlone k s q x → syncs k ≡ false → is_failed_write x.change ≡ false → (is_failed_write (lane_hold_after k loaded x).change ≡ false) × ((met_by k x).writes ≡ 0)
+still_no_fault lane_kinds.take_lane s q loaded x a e h = (h, refl)
+still_no_fault lane_kinds.leave_lane s q loaded x a e h = (h, refl)
+still_no_fault (lane_kinds.lane_out taken) s q loaded x a e h = (h, refl)
+still_no_fault (lane_kinds.read_block tag p) s q loaded x a e h = (refl, refl)
+still_no_fault (lane_kinds.fail_read tag) s q loaded x a e h = (refl, refl)
+still_no_fault (lane_kinds.write_block f tag p) s q loaded x a e h = absurd a
+still_no_fault (lane_kinds.fail_write f tag p) s q loaded x a e h = absurd a
+still_no_fault lane_kinds.sync_lane s q loaded x a e h = absurd (cc)
+still_no_fault lane_kinds.fail_sync s q loaded x a e h = absurd (cc)
+still_no_fault (lane_kinds.lane_back noted) s q loaded x a e h = (refl, no_fault noted x.change h)
 
 either_false : (a b : Bool) → a ≡ false → b ≡ false → (a || b) ≡ false
 either_false false false x y = refl
@@ -169,8 +169,8 @@ laned_quiet v w q h a b c d x = record {
     at n = no_fault_at v.lanes q n x.out
 
 -- the blocks where a lane's failed ones stay
-same_failed : (s : State) (q : ℕ) (ln : Lane) → ln.stored ≡ (s.lane q).stored → ln.failed ≡ (s.lane q).failed → ((tag : ℕ) → failed s tag ≡ false) → (tag : ℕ) → (put s.lane q ln (s.lane_of tag)).failed tag ≡ false
-same_failed s q ln a b h tag = (lane_put_same s.lane q ln a b (s.lane_of tag) tag).1 ∙ h tag
+same_failed : (s : State) (q : ℕ) (ln : Lane) → ln.failed ≡ (s.lane q).failed → ((tag : ℕ) → failed s tag ≡ false) → (tag : ℕ) → (put s.lane q ln (s.lane_of tag)).failed tag ≡ false
+same_failed s q ln same h tag = lane_put (λ (x : Lane). x.failed tag) s.lane q ln (λ j. same j tag) (s.lane_of tag) ∙ h tag
 
 -- a new view is quiet
 new_quiet : (number base n p l : ℕ) → IsQuiet (new_view number base n p l)
@@ -218,18 +218,18 @@ module _ (s : State) (h : Invariant s) (m : MarksLaw s) where
         views = x.1;
       }
 
-  lanes_marks : (i q : ℕ) (k : LaneKind) (v : View) → get_elem? views i ≡ some v → LaneAlone k s q (lane_hold v q) → MarksLaw (record s { pool = aside s.pool i (stepped (laned k s q v v)); lane = put s.lane q (lane_after k (s.lane q)) })
-  lanes_marks i q k v there alone none = let w : View = stepped (laned k s q v v) in let more = or_more v.dirtied_or_synced (syncs k) in
-      let x = one_view i v w there more (λ quiet z. let y = quiet.views i v there in let c = still_no_fault k s q v.flushed (s.lane q) (lane_hold v q) alone (or_right v.dirtied_or_synced (syncs k) (unmarked (v.dirtied_or_synced || syncs k) z)) (y.out q) in
-      laned_quiet v w q (lane_hold_after k v.flushed (s.lane q) (lane_hold v q)) y.output (let l = y.met in let r = c.1 in omega arith) refl c.0 y) none in let holds = no_write_holds k s q (lane_hold v q) (s.lane q) alone in record {
+  lanes_marks : (i q : ℕ) (k : LaneKind) (v : View) → get_elem? views i ≡ some v → LaneAlone k s q (lane_hold v q) → MarksLaw (record s { pool = aside s.pool i (stepped (laned k q v v)); lane = put s.lane q (lane_after k (s.lane q)) })
+  lanes_marks i q k v there alone none = let w : View = stepped (laned k q v v) in let more = or_more v.dirtied_or_synced (syncs k) in
+      let x = one_view i v w there more (λ quiet z. let y = quiet.views i v there in let c = still_no_fault k s q v.flushed (lane_hold v q) alone (or_right v.dirtied_or_synced (syncs k) (unmarked (v.dirtied_or_synced || syncs k) z)) (y.out q) in
+      laned_quiet v w q (lane_hold_after k v.flushed (lane_hold v q)) y.output (let l = y.met in let r = c.1 in omega arith) refl c.0 y) none in let holds = no_write_holds k s q (lane_hold v q) (s.lane q) alone in record {
         frames = x.0.frames;
-        blocks = same_failed s q (lane_after k (s.lane q)) holds.0 holds.1 x.0.blocks;
+        blocks = same_failed s q (lane_after k (s.lane q)) holds.failed x.0.blocks;
         views = x.1;
       }
 
   -- a write needs a dirty frame
-  writes_marks : (i q f : ℕ) (k : LaneKind) (v : View) → get_elem? views i ≡ some v → f < s.pool.core.frames → Writes k s q f (lane_hold v q) (link v f) → MarksLaw (record s { pool = pool_after begin_write s.pool i f (laned k s q v (paged begin_write s.pool f v)); lane = put s.lane q (lane_after k (s.lane q)) })
-  writes_marks i q f k v there inside x none = let w : View = laned k s q v (paged begin_write s.pool f v) in let quiet = m (none_before views i v w there (more_of k x) none) in
+  writes_marks : (i q f : ℕ) (k : LaneKind) (v : View) → get_elem? views i ≡ some v → f < s.pool.core.frames → Writes k s q f (lane_hold v q) (link v f) → MarksLaw (record s { pool = pool_after begin_write s.pool i f (laned k q v (paged begin_write s.pool f v)); lane = put s.lane q (lane_after k (s.lane q)) })
+  writes_marks i q f k v there inside x none = let w : View = laned k q v (paged begin_write s.pool f v) in let quiet = m (none_before views i v w there (more_of k x) none) in
       absurd (dirty_now ((h.pool.pages.cells i v f there inside).output (output_of k x)).0 (quiet.frames f inside))
     where
       output_of : (k : LaneKind) → Writes k s q f (lane_hold v q) (link v f) → (link v f).io ≡ Output
@@ -238,7 +238,7 @@ module _ (s : State) (h : Invariant s) (m : MarksLaw s) where
       output_of lane_kinds.take_lane x = absurd x
       output_of lane_kinds.leave_lane x = absurd x
       output_of (lane_kinds.lane_out taken) x = absurd x
-      output_of (lane_kinds.read_block tag) x = absurd x
+      output_of (lane_kinds.read_block tag p) x = absurd x
       output_of (lane_kinds.fail_read tag) x = absurd x
       output_of lane_kinds.sync_lane x = absurd x
       output_of lane_kinds.fail_sync x = absurd x
@@ -247,16 +247,16 @@ module _ (s : State) (h : Invariant s) (m : MarksLaw s) where
       dirty_now : {b : Bool} → b ≡ true → b ≡ false → ⊥
       dirty_now a e = cc
 
-      more_of : (k : LaneKind) → Writes k s q f (lane_hold v q) (link v f) → mark_weight v ≤ mark_weight (laned k s q v (paged begin_write s.pool f v))
+      more_of : (k : LaneKind) → Writes k s q f (lane_hold v q) (link v f) → mark_weight v ≤ mark_weight (laned k q v (paged begin_write s.pool f v))
       more_of k x = let a = or_more v.dirtied_or_synced false in let b = or_more (v.dirtied_or_synced || false) (syncs k) in omega arith
 
   notes_marks : (i q f : ℕ) (noted : Bool) (k : Kind) (v : View) → get_elem? views i ≡ some v → f < s.pool.core.frames → Notes k s q f (lane_hold v q) (link v f)
-      → MarksLaw (record s { pool = pool_after k s.pool i f (laned (lane_kinds.lane_back noted) s q v (paged k s.pool f v)); lane = put s.lane q (s.lane q) })
-  notes_marks i q f noted k v there inside what none = let fr = s.pool.core.frame f in let b = block_of s.pool.logged fr.tag in let w : View = laned (lane_kinds.lane_back noted) s q v (paged k s.pool f v) in
+      → MarksLaw (record s { pool = pool_after k (pool_noting k s f) i f (laned (lane_kinds.lane_back noted) q v (paged k (pool_noting k s f) f v)); lane = put s.lane q (s.lane q) })
+  notes_marks i q f noted k v there inside what none = let fr = s.pool.core.frame f in let b = block_of (logged_noting k s f) fr.tag in let w : View = laned (lane_kinds.lane_back noted) q v (paged k (pool_noting k s f) f v) in
       let more : mark_weight v ≤ mark_weight w = (let a = or_more v.dirtied_or_synced (dirties k) in let c = or_more (v.dirtied_or_synced || dirties k) false in omega arith) in let plain = notes_nothing k what in
-      let x = one_view i v w there more (λ quiet z. let y = quiet.views i v there in laned_quiet v w q (lane_hold_after (lane_kinds.lane_back noted) v.flushed (s.lane q) (lane_hold v q)) (either_false v.had_output (starts_output k) y.output plain.1) (let l = y.met in let r = no_fault noted (lane_hold v q).change (y.out q) in omega arith) refl refl y) none in record {
+      let x = one_view i v w there more (λ quiet z. let y = quiet.views i v there in laned_quiet v w q (lane_hold_after (lane_kinds.lane_back noted) v.flushed (lane_hold v q)) (either_false v.had_output (starts_output k) y.output plain.1) (let l = y.met in let r = no_fault noted (lane_hold v q).change (y.out q) in omega arith) refl refl y) none in record {
         frames = quiet_put s.pool.core.frame s.pool.core.frames f (frame_after k b fr) x.0.frames (pages_clean k b fr plain.0 (x.0.frames f inside));
-        blocks = same_failed s q (s.lane q) refl refl x.0.blocks;
+        blocks = same_failed s q (s.lane q) refl x.0.blocks;
         views = x.1;
       }
     where

@@ -25,9 +25,10 @@ use Rattle.page_core.specs.Kinds.{begin_write, make_entry}
 use Rattle.history_core.specs.Log.{record_size}
 use Rattle.history_core.specs.Device as log_kinds
 use Rattle.history_core.specs.Device.{LogKind, view_logged}
-use Rattle.history_core.specs.Steps.{Event, stepped, looked, paged, laned, has_read, has_written, Step, pools, lanes, writes, notes, logs, enters, reads, loads_end, loads_flushed, raises, Run, rests, goes}
+use Rattle.history_core.specs.Steps.{Event, stepped, looked, pool_noting, paged, laned, has_read, has_written, Step, pools, lanes, writes, notes, logs, enters, reads, loads_end, loads_flushed, raises, Run, rests, goes}
 use Rattle.history_core.specs.Invariant.{Invariant}
 use Rattle.history_core.proofs.Counts.{known, more, counts_kept, count_stays, other_link, raised_later}
+use Rattle.history_core.proofs.LogCounting.{log_counting, log_counts_open}
 use Rattle.history_core.proofs.Opening.{one_total}
 use Rattle.history_core.proofs.Outer.{lane_new}
 use Rattle.history_core.proofs.Stepping.{step_keeps}
@@ -35,6 +36,10 @@ use Rattle.grid.specs.Shape.{Grid, put, total}
 use Rattle.grid.proofs.Lists.{put_at, put_else, set_else, at_only}
 use Rattle.grid.proofs.Sums.{total-set, total-snoc}
 use Rattle.grid.proofs.Grids.{Keeps, both_grids, sweep, steady, grows}
+
+-- the law of the lanes' counts
+abbrev LanesCounted : State → Type 0
+LanesCounted s = Counted s.lanes s.lane s.flushed s.pool.core.views
 
 -- what all views count, where one of them counts d besides
 met_set : (views : List View) (i : ℕ) (v w : View) (d : Met) → get_elem? views i ≡ some v → w.met ≡ sum_of_met v.met d → all_met (set views i w) ≡ sum_of_met (all_met views) d
@@ -64,7 +69,7 @@ stays_more k d ln h = record {
   others = λ t u m q c le e. other_link k d ln ln m refl refl (λ x. x) (λ x. x) e.1;
 }
 
-module _ (s : State) (h : Invariant s) (m : CountsLaw s) where
+module _ (s : State) (h : Invariant s) (m : LanesCounted s) where
   abbrev views : List View
   views = s.pool.core.views
 
@@ -72,9 +77,9 @@ module _ (s : State) (h : Invariant s) (m : CountsLaw s) where
   all_known = both_grids (record { columns = λ f below. record { taken = (h.lanes.columns f below).taken }; cells = h.lanes.cells }) m.lanes
 
   -- one lane and one view change
-  laned_grid : (i q : ℕ) (k : LaneKind) (v w : View) → get_elem? views i ≡ some v → v.emptied ≡ false → q < s.lanes → LaneAllowed k (s.lane q) (lane_hold v q) → w.lanes ≡ set v.lanes q (lane_hold_after k v.flushed (s.lane q) (lane_hold v q)) → w.met ≡ sum_of_met v.met (met_by k (lane_hold v q))
+  laned_grid : (i q : ℕ) (k : LaneKind) (v w : View) → get_elem? views i ≡ some v → v.emptied ≡ false → q < s.lanes → LaneAllowed k (s.lane q) (lane_hold v q) → w.lanes ≡ set v.lanes q (lane_hold_after k v.flushed (lane_hold v q)) → w.met ≡ sum_of_met v.met (met_by k (lane_hold v q))
       → Grid count_shape count_part s.lanes (put s.lane q (lane_after k (s.lane q))) (λ _. record { flushed = s.flushed; met = all_met (set views i w) }) (set views i w)
-  laned_grid i q k v w there live inside a holds met = let d : Met = met_by k (lane_hold v q) in let ln : Lane = lane_after k (s.lane q) in let l : LaneHold = lane_hold_after k v.flushed (s.lane q) (lane_hold v q) in
+  laned_grid i q k v w there live inside a holds met = let d : Met = met_by k (lane_hold v q) in let ln : Lane = lane_after k (s.lane q) in let l : LaneHold = lane_hold_after k v.flushed (lane_hold v q) in
       subst (λ (x : Met). Grid count_shape count_part s.lanes (put s.lane q ln) (λ _. record { flushed = s.flushed; met = x }) (set views i w)) (sym (met_set views i v w d there met))
       (sweep count_shape known count_part s.lanes s.lane (put s.lane q ln) (λ _. known_of s) (λ _. more (known_of s) d) views i v w all_known there (λ g below. dite (ℕ_discrete g q)
       (λ (e : g ≡ q). subst (λ (x : Lane × LaneHold). Keeps count_shape known count_part (known_of s) (more (known_of s) d) tt tt (s.lane g) (lane_hold v g) x.0 x.1)
@@ -83,11 +88,11 @@ module _ (s : State) (h : Invariant s) (m : CountsLaw s) where
       (λ (o : g ≢ q). subst (λ (x : Lane × LaneHold). Keeps count_shape known count_part (known_of s) (more (known_of s) d) tt tt (s.lane g) (lane_hold v g) x.0 x.1)
       (λ j. (sym (put_else s.lane q ln g o) j, sym (there_else g o) j)) (stays_more (known_of s) d (s.lane g) (lane_hold v g)))))
     where
-      here : lane_hold w q ≡ lane_hold_after k v.flushed (s.lane q) (lane_hold v q)
-      here = ap (λ (x : List LaneHold). lane_hold (record w { lanes = x }) q) holds ∙ get_or-set_same v.lanes q (lane_hold_after k v.flushed (s.lane q) (lane_hold v q)) no_lane (subst (λ (z : ℕ). q < z) (sym (h.wide i v there live)) inside)
+      here : lane_hold w q ≡ lane_hold_after k v.flushed (lane_hold v q)
+      here = ap (λ (x : List LaneHold). lane_hold (record w { lanes = x }) q) holds ∙ get_or-set_same v.lanes q (lane_hold_after k v.flushed (lane_hold v q)) no_lane (subst (λ (z : ℕ). q < z) (sym (h.wide i v there live)) inside)
 
       there_else : (g : ℕ) → g ≢ q → lane_hold w g ≡ lane_hold v g
-      there_else g o = ap (λ (x : List LaneHold). lane_hold (record w { lanes = x }) g) holds ∙ get_or-set_other v.lanes q g (lane_hold_after k v.flushed (s.lane q) (lane_hold v q)) no_lane o
+      there_else g o = ap (λ (x : List LaneHold). lane_hold (record w { lanes = x }) g) holds ∙ get_or-set_other v.lanes q g (lane_hold_after k v.flushed (lane_hold v q)) no_lane o
 
   -- a view changes elsewhere
   unlaned : (i : ℕ) (v w : View) → get_elem? views i ≡ some v → w.lanes ≡ v.lanes → w.met ≡ v.met → Grid count_shape count_part s.lanes s.lane (λ _. record { flushed = s.flushed; met = all_met (set views i w) }) (set views i w)
@@ -122,7 +127,7 @@ rose_later lane_kinds.fail_sync ln = ((λ x. x), raised_later ln.write_faults_at
 rose_later lane_kinds.take_lane ln = ((λ x. x), λ x. x)
 rose_later lane_kinds.leave_lane ln = ((λ x. x), λ x. x)
 rose_later (lane_kinds.lane_out taken) ln = ((λ x. x), λ x. x)
-rose_later (lane_kinds.read_block tag) ln = ((λ x. x), λ x. x)
+rose_later (lane_kinds.read_block tag p) ln = ((λ x. x), λ x. x)
 rose_later (lane_kinds.write_block f tag p) ln = ((λ x. x), λ x. x)
 rose_later lane_kinds.sync_lane ln = ((λ x. x), λ x. x)
 rose_later (lane_kinds.lane_back noted) ln = ((λ x. x), λ x. x)
@@ -133,7 +138,7 @@ counts_by (lane_kinds.lane_back noted) h = counted_failed noted h.change
 counts_by lane_kinds.take_lane h = ((λ e. absurd (omega arith)), λ e. absurd (omega arith))
 counts_by lane_kinds.leave_lane h = ((λ e. absurd (omega arith)), λ e. absurd (omega arith))
 counts_by (lane_kinds.lane_out taken) h = ((λ e. absurd (omega arith)), λ e. absurd (omega arith))
-counts_by (lane_kinds.read_block tag) h = ((λ e. absurd (omega arith)), λ e. absurd (omega arith))
+counts_by (lane_kinds.read_block tag p) h = ((λ e. absurd (omega arith)), λ e. absurd (omega arith))
 counts_by (lane_kinds.fail_read tag) h = ((λ e. absurd (omega arith)), λ e. absurd (omega arith))
 counts_by (lane_kinds.write_block f tag p) h = ((λ e. absurd (omega arith)), λ e. absurd (omega arith))
 counts_by (lane_kinds.fail_write f tag p) h = ((λ e. absurd (omega arith)), λ e. absurd (omega arith))
@@ -148,7 +153,7 @@ zero_or_more zero = inl refl
 zero_or_more (suc n) = inr (omega arith)
 
 -- the law after a step at the lane q, where the view becomes w
-laned_counts : (s : State) (h : Invariant s) (m : CountsLaw s) (i q : ℕ) (k : LaneKind) (v w : View) → get_elem? s.pool.core.views i ≡ some v → v.emptied ≡ false → q < s.lanes → LaneAllowed k (s.lane q) (lane_hold v q) → w.lanes ≡ set v.lanes q (lane_hold_after k v.flushed (s.lane q) (lane_hold v q)) → w.met ≡ sum_of_met v.met (met_by k (lane_hold v q))
+laned_counts : (s : State) (h : Invariant s) (m : LanesCounted s) (i q : ℕ) (k : LaneKind) (v w : View) → get_elem? s.pool.core.views i ≡ some v → v.emptied ≡ false → q < s.lanes → LaneAllowed k (s.lane q) (lane_hold v q) → w.lanes ≡ set v.lanes q (lane_hold_after k v.flushed (lane_hold v q)) → w.met ≡ sum_of_met v.met (met_by k (lane_hold v q))
     → Counted s.lanes (put s.lane q (lane_after k (s.lane q))) s.flushed (set s.pool.core.views i w)
 laned_counts s h m i q k v w there live low a holds met = let lane' : ℕ → Lane = put s.lane q (lane_after k (s.lane q)) in let d : Met = met_by k (lane_hold v q) in let vs' : List View = set s.pool.core.views i w in
     let sums : all_met vs' ≡ sum_of_met (all_met s.pool.core.views) d = met_set s.pool.core.views i v w d there met in let cells = m.lanes.cells i v q there low in
@@ -165,7 +170,7 @@ laned_counts s h m i q k v w there live low a holds met = let lane' : ℕ → La
     }
 
 -- the law where a view changes elsewhere
-unlaned_counts : (s : State) (h : Invariant s) (m : CountsLaw s) (i : ℕ) (v w : View) → get_elem? s.pool.core.views i ≡ some v → w.lanes ≡ v.lanes → w.met.reads ≡ v.met.reads → w.met.writes ≡ v.met.writes → w.met.logs ≡ v.met.logs → Counted s.lanes s.lane s.flushed (set s.pool.core.views i w)
+unlaned_counts : (s : State) (h : Invariant s) (m : LanesCounted s) (i : ℕ) (v w : View) → get_elem? s.pool.core.views i ≡ some v → w.lanes ≡ v.lanes → w.met.reads ≡ v.met.reads → w.met.writes ≡ v.met.writes → w.met.logs ≡ v.met.logs → Counted s.lanes s.lane s.flushed (set s.pool.core.views i w)
 unlaned_counts s h m i v w there holds a b c = let met : w.met ≡ v.met = λ j. record { reads = a j; writes = b j; logs = c j } in let same = met_set s.pool.core.views i v w none there (met ∙ sym (plus_none v.met)) in record {
   lanes = unlaned s h m i v w there holds met;
   reads_rose = λ e. m.reads_rose (let y = ap (λ (n : Met). n.reads) same in omega arith);
@@ -185,7 +190,7 @@ forgets k ln h free = record {
   others = λ t u m q c le e. e.1;
 }
 
-pools_counts : (s : State) (h : Invariant s) (m : CountsLaw s) → {e : pin_steps.Event} {core' : _} → pin_steps.Step e s.pool.core core' → Counted s.lanes s.lane s.flushed core'.views
+pools_counts : (s : State) (h : Invariant s) (m : LanesCounted s) → {e : pin_steps.Event} {core' : _} → pin_steps.Step e s.pool.core core' → Counted s.lanes s.lane s.flushed core'.views
 pools_counts s h m (pin_steps.touches i f k v there live inside a around) = unlaned_counts s h m i v (pin_kinds.view_after k s.pool.core.partition_of f (s.pool.core.frame f) (link v f) v) there refl refl refl refl
 pools_counts s h m (pin_steps.turns i p k v there live below a) = unlaned_counts s h m i v (view_turned k p (hold v p) v) there refl refl refl refl
 pools_counts s h m (pin_steps.splits v there room) = let w : View = record v { next = v.next + 1 } in let b : View = new_view v.next s.pool.core.base (length v.links) (length v.partitions) (length v.lanes) in let x = unlaned_counts s h m 0 v w there refl refl refl refl in let vs : List View = set s.pool.core.views 0 w in
@@ -231,7 +236,7 @@ log_reads log_kinds.fail_sync = (refl, refl)
 log_reads log_kinds.see_down = (refl, refl)
 
 -- a step at the log
-logged_counts : (s : State) (h : Invariant s) (m : CountsLaw s) (i : ℕ) (k : LogKind) (v : View) → get_elem? s.pool.core.views i ≡ some v → Counted s.lanes s.lane s.flushed (set s.pool.core.views i (view_logged k v))
+logged_counts : (s : State) (h : Invariant s) (m : LanesCounted s) (i : ℕ) (k : LogKind) (v : View) → get_elem? s.pool.core.views i ≡ some v → Counted s.lanes s.lane s.flushed (set s.pool.core.views i (view_logged k v))
 logged_counts s h m i k v there = let w : View = view_logged k v in let d : Met = log_kinds.met_by k in let same = met_set s.pool.core.views i v w d there refl in let zero_d = log_reads k in record {
   lanes = subst (λ (x : Met). Grid count_shape count_part s.lanes s.lane (λ _. record { flushed = s.flushed; met = x }) (set s.pool.core.views i w)) (sym same)
       (sweep count_shape known count_part s.lanes s.lane s.lane (λ _. known_of s) (λ _. more (known_of s) d) s.pool.core.views i v w (all_known s h m) there (λ g below. stays_more (known_of s) d (s.lane g) (lane_hold v g)));
@@ -239,33 +244,36 @@ logged_counts s h m i k v there = let w : View = view_logged k v in let d : Met 
   writes_rose = λ e. m.writes_rose (let y = ap (λ (n : Met). n.writes) same in let z = zero_d.1 in omega arith);
 }
 
+lane_counting : {e : Event} {s t : State} → Step e s t → Invariant s → LanesCounted s → LanesCounted t
+lane_counting (pools {s = s} (page_steps.cores x) a) h m = pools_counts s h m x
+lane_counting (pools {s = s} (page_steps.touches i f k v there live inside a around) plain) h m = unlaned_counts s h m i v (paged k s.pool f v) there refl refl refl refl
+lane_counting (lanes {s = s} i q k v there live low a alone) h m = laned_counts s h m i q k v (stepped (laned k q v v)) there live low a refl refl
+lane_counting (writes {s = s} i q f k v there live low inside a x) h m = laned_counts s h m i q k v (laned k q v (paged begin_write s.pool f v)) there live low a refl refl
+lane_counting (notes {s = s} i q f noted k v there live low inside a x) h m = laned_counts s h m i q (lane_kinds.lane_back noted) v (laned (lane_kinds.lane_back noted) q v (paged k (pool_noting k s f) f v)) there live low a refl refl
+lane_counting (logs {s = s} i k v there live a record_is) h m = logged_counts s h m i k v there
+lane_counting (enters {s = s} i f p v there live inside x) h m = unlaned_counts s h m i v (has_written (s.end + record_size) (s.pool.core.frame f).tag p (paged (make_entry p) s.pool f v)) there refl refl refl refl
+lane_counting (reads {s = s} i f tag p v there live inside a) h m = unlaned_counts s h m i v (looked (seen.LogEnd s.end) (has_read s.end tag p v)) there refl refl refl refl
+lane_counting (loads_end {s = s} i v there live) h m = unlaned_counts s h m i v (looked (seen.LogEnd s.end) v) there refl refl refl refl
+lane_counting (loads_flushed {s = s} i v there live) h m = unlaned_counts s h m i v (looked (seen.Flushed s.flushed) (record v { flushed = s.flushed })) there refl refl refl refl
+lane_counting (raises {s = s} i v there live synced) h m = let x = unlaned_counts s h m i v (stepped v) there refl refl refl refl in record { lanes = record { columns = x.lanes.columns; cells = x.lanes.cells }; reads_rose = x.reads_rose; writes_rose = x.writes_rose }
+
 pub counting : {e : Event} {s t : State} → Step e s t → Invariant s → CountsLaw s → CountsLaw t
-counting (pools {s = s} (page_steps.cores x) a) h m = pools_counts s h m x
-counting (pools {s = s} (page_steps.touches i f k v there live inside a around) plain) h m = unlaned_counts s h m i v (paged k s.pool f v) there refl refl refl refl
-counting (lanes {s = s} i q k v there live low a alone) h m = laned_counts s h m i q k v (stepped (laned k s q v v)) there live low a refl refl
-counting (writes {s = s} i q f k v there live low inside a x) h m = laned_counts s h m i q k v (laned k s q v (paged begin_write s.pool f v)) there live low a refl refl
-counting (notes {s = s} i q f noted k v there live low inside a x) h m = laned_counts s h m i q (lane_kinds.lane_back noted) v (laned (lane_kinds.lane_back noted) s q v (paged k s.pool f v)) there live low a refl refl
-counting (logs {s = s} i k v there live a record_is) h m = logged_counts s h m i k v there
-counting (enters {s = s} i f p v there live inside x) h m = unlaned_counts s h m i v (has_written (s.end + record_size) (s.pool.core.frame f).tag p (paged (make_entry p) s.pool f v)) there refl refl refl refl
-counting (reads {s = s} i f tag p v there live inside a) h m = unlaned_counts s h m i v (looked (seen.LogEnd s.end) (has_read s.end tag p v)) there refl refl refl refl
-counting (loads_end {s = s} i v there live) h m = unlaned_counts s h m i v (looked (seen.LogEnd s.end) v) there refl refl refl refl
-counting (loads_flushed {s = s} i v there live) h m = unlaned_counts s h m i v (looked (seen.Flushed s.flushed) (record v { flushed = s.flushed })) there refl refl refl refl
-counting (raises {s = s} i v there live synced) h m = let x = unlaned_counts s h m i v (stepped v) there refl refl refl refl in record { lanes = record { columns = x.lanes.columns; cells = x.lanes.cells }; reads_rose = x.reads_rose; writes_rose = x.writes_rose }
+counting x h m = record { lanes = lane_counting x h m.lanes; log = log_counting x h m.log }
 
 pub counts_after : {es : List Event} {s t : State} → Run es s t → Invariant s → CountsLaw s → CountsLaw t
 counts_after rests h m = m
 counts_after (goes x r) h m = counts_after r (step_keeps x h) (counting x h m)
 
-pub counts_open : (c : Config) (store : Store) (page : Page) → CountsLaw (opening c store page)
-counts_open c store page = let w : View = first_view c.base c.frames c.partitions c.lanes in record {
+lane_counts_open : (c : Config) (store : Store) (page : Page) → LanesCounted (opening c store page)
+lane_counts_open c store page = let w : View = first_view c.base c.frames c.partitions c.lanes in record {
   lanes = record {
     columns = λ q below. record {
       reads = record { least = omega arith; is_met = λ e lt. absurd (omega arith) };
       writes = record { least = omega arith; is_met = λ e lt. absurd (omega arith) };
       split = (let a = none_at q holders in let b = none_at q unfailed in let d = none_at q failed_reads in let e = none_at q failed_writes in omega arith);
     };
-    cells = λ i v q there below. subst (λ (x : View). HoldCounts (all_met (w ∷ [])) (fresh_lane store q) (lane_hold x q)) (at_only w v i there).0
-        (subst (HoldCounts (all_met (w ∷ [])) (fresh_lane store q)) (sym (lane_new c.frames c.partitions c.lanes 0 c.base q)) (no_counts (record { flushed = c.base; met = all_met (w ∷ []) }) (fresh_lane store q)));
+    cells = λ i v q there below. subst (λ (x : View). HoldCounts (all_met (w ∷ [])) (fresh_lane c.base store q) (lane_hold x q)) (at_only w v i there).0
+        (subst (HoldCounts (all_met (w ∷ [])) (fresh_lane c.base store q)) (sym (lane_new c.frames c.partitions c.lanes 0 c.base q)) (no_counts (record { flushed = c.base; met = all_met (w ∷ []) }) (fresh_lane c.base store q)));
   };
   reads_rose = λ e. absurd (let x = one_total (λ (v : View). v.met.reads) w refl in omega arith);
   writes_rose = λ e. absurd (let x = one_total (λ (v : View). v.met.writes) w refl in omega arith);
@@ -279,3 +287,6 @@ counts_open c store page = let w : View = first_view c.base c.frames c.partition
 
     none_at : (q : ℕ) (k : CountTally) → total (λ (v : View). count_weigh k (lane_hold v q)) (first_view c.base c.frames c.partitions c.lanes ∷ []) ≡ 0
     none_at q k = one_total (λ (v : View). count_weigh k (lane_hold v q)) (first_view c.base c.frames c.partitions c.lanes) (ap (count_weigh k) (lane_new c.frames c.partitions c.lanes 0 c.base q) ∙ idle_none k)
+
+pub counts_open : (c : Config) (store : Store) (page : Page) → CountsLaw (opening c store page)
+counts_open c store page = record { lanes = lane_counts_open c store page; log = log_counts_open c store }

@@ -25,7 +25,7 @@ abbrev pub more : Known → Met → Known
 more k d = record k { met = sum_of_met k.met d }
 
 abbrev pub Keeps_by : LaneKind → Known → Met → ℕ → Lane → LaneHold → Type 0
-Keeps_by kind k d loaded ln h = Keeps count_shape known count_part k (more k d) tt tt ln h (lane_after kind ln) (lane_hold_after kind loaded ln h)
+Keeps_by kind k d loaded ln h = Keeps count_shape known count_part k (more k d) tt tt ln h (lane_after kind ln) (lane_hold_after kind loaded h)
 
 -- a count that a failed call makes rise
 count_fails : (start now out met d : ℕ) → CountLaw start now out met → CountLaw start (raised now) (out + 1) (met + d)
@@ -122,7 +122,7 @@ module _ (k : Known) (loaded : ℕ) (ln : Lane) (h : LaneHold) where
   none = record { reads = 0; writes = 0; logs = 0 }
 
   -- a kind that leaves the counts, and what failed of the view
-  module _ (kind : LaneKind) (ln' : Lane) (h' : LaneHold) (is_lane : lane_after kind ln ≡ ln') (is_hold : lane_hold_after kind loaded ln h ≡ h') (r : ln'.read_faults ≡ ln.read_faults) (w : ln'.write_faults ≡ ln.write_faults) (r0 : ln'.read_faults_at_start ≡ ln.read_faults_at_start) (w0 : ln'.write_faults_at_start ≡ ln.write_faults_at_start)
+  module _ (kind : LaneKind) (ln' : Lane) (h' : LaneHold) (is_lane : lane_after kind ln ≡ ln') (is_hold : lane_hold_after kind loaded h ≡ h') (r : ln'.read_faults ≡ ln.read_faults) (w : ln'.write_faults ≡ ln.write_faults) (r0 : ln'.read_faults_at_start ≡ ln.read_faults_at_start) (w0 : ln'.write_faults_at_start ≡ ln.write_faults_at_start)
       (fr : is_failed_read h'.change ≡ is_failed_read h.change) (fw : is_failed_write h'.change ≡ is_failed_write h.change) (sane' : IsSane h → IsSane h') where
     column_same : (t t' : CountTally → ℕ) → LaneCounts k.met ln t → LaneLink k.flushed ln h → ((j : CountTally) → t' j + count_weigh j h ≡ t j + count_weigh j h') → LaneCounts (more k none).met ln' t'
     column_same t t' q c sums = record {
@@ -133,21 +133,21 @@ module _ (k : Known) (loaded : ℕ) (ln : Lane) (h : LaneHold) where
 
   take_lane_counts : LaneAllowed lanes.take_lane ln h → Keeps_by lanes.take_lane k none loaded ln h
   take_lane_counts a = record {
-    column = λ t t' q c sums le _. column_same lanes.take_lane (lane_after lanes.take_lane ln) (lane_hold_after lanes.take_lane loaded ln h) refl refl refl refl refl refl refl refl (λ x e. absurd (cc)) t t' q.1 c.0 sums;
+    column = λ t t' q c sums le _. column_same lanes.take_lane (lane_after lanes.take_lane ln) (lane_hold_after lanes.take_lane loaded h) refl refl refl refl refl refl refl refl (λ x e. absurd (cc)) t t' q.1 c.0 sums;
     cell = λ t q le c. record { read_rose = c.1.read_rose; write_rose = c.1.write_rose; taken_reads = λ taken e lt. let x = c.1.taken_reads taken e lt in omega arith; taken_writes = λ taken e lt. let x = c.1.taken_writes taken e lt in omega arith };
     others = λ t u m q c le e. other_link k none ln (lane_after lanes.take_lane ln) m refl refl (λ x. x) (λ x. x) e.1;
   }
 
   leave_lane_counts : LaneAllowed lanes.leave_lane ln h → Keeps_by lanes.leave_lane k none loaded ln h
   leave_lane_counts a = record {
-    column = λ t t' q c sums le _. column_same lanes.leave_lane (lane_after lanes.leave_lane ln) (lane_hold_after lanes.leave_lane loaded ln h) refl refl refl refl refl refl refl refl (λ x e. c.0.hold.home a.home) t t' q.1 c.0 sums;
+    column = λ t t' q c sums le _. column_same lanes.leave_lane (lane_after lanes.leave_lane ln) (lane_hold_after lanes.leave_lane loaded h) refl refl refl refl refl refl refl refl (λ x e. c.0.hold.home a.home) t t' q.1 c.0 sums;
     cell = λ t q le c. record { read_rose = c.1.read_rose; write_rose = c.1.write_rose; taken_reads = λ taken e lt. let x = c.1.taken_reads taken e lt in omega arith; taken_writes = λ taken e lt. let x = c.1.taken_writes taken e lt in omega arith };
     others = λ t u m q c le e. other_link k none ln (lane_after lanes.leave_lane ln) m refl refl (λ x. x) (λ x. x) e.1;
   }
 
   lane_out_counts : (taken : TakenLane) → LaneAllowed (lanes.lane_out taken) ln h → Keeps_by (lanes.lane_out taken) k none loaded ln h
   lane_out_counts taken a = record {
-    column = λ t t' q c sums le _. column_same (lanes.lane_out taken) (lane_after (lanes.lane_out taken) ln) (lane_hold_after (lanes.lane_out taken) loaded ln h) refl refl refl refl refl refl refl refl (λ x. x) t t' q.1 c.0 sums;
+    column = λ t t' q c sums le _. column_same (lanes.lane_out taken) (lane_after (lanes.lane_out taken) ln) (lane_hold_after (lanes.lane_out taken) loaded h) refl refl refl refl refl refl refl refl (λ x. x) t t' q.1 c.0 sums;
     cell = λ t q le c. let still = c.0.hold.home a.home in let free = none_failed k.met ln t h q.0 q.1 le a.held (ap is_failed_read still) (ap is_failed_write still) in record {
       read_rose = c.1.read_rose;
       write_rose = c.1.write_rose;
@@ -157,23 +157,23 @@ module _ (k : Known) (loaded : ℕ) (ln : Lane) (h : LaneHold) where
     others = λ t u m q c le e. other_link k none ln (lane_after (lanes.lane_out taken) ln) m refl refl (λ x. x) (λ x. x) e.1;
   }
 
-  read_block_counts : (tag : ℕ) → LaneAllowed (lanes.read_block tag) ln h → Keeps_by (lanes.read_block tag) k none loaded ln h
-  read_block_counts tag a = record {
-    column = λ t t' q c sums le _. column_same (lanes.read_block tag) (lane_after (lanes.read_block tag) ln) (lane_hold_after (lanes.read_block tag) loaded ln h) refl refl refl refl refl refl (sym (ap is_failed_read a.once)) (sym (ap is_failed_write a.once)) (λ x e. absurd (a.out (c.0.hold.resting e))) t t' q.1 c.0 sums;
+  read_block_counts : (tag : ℕ) (p : Page) → LaneAllowed (lanes.read_block tag p) ln h → Keeps_by (lanes.read_block tag p) k none loaded ln h
+  read_block_counts tag p a = record {
+    column = λ t t' q c sums le _. column_same (lanes.read_block tag p) (lane_after (lanes.read_block tag p) ln) (lane_hold_after (lanes.read_block tag p) loaded h) refl refl refl refl refl refl (sym (ap is_failed_read a.call.once)) (sym (ap is_failed_write a.call.once)) (λ x e. absurd (a.call.out (c.0.hold.resting e))) t t' q.1 c.0 sums;
     cell = λ t q le c. record { read_rose = λ e. absurd (cc); write_rose = λ e. absurd (cc); taken_reads = λ taken e lt. let x = c.1.taken_reads taken e lt in omega arith; taken_writes = λ taken e lt. let x = c.1.taken_writes taken e lt in omega arith };
-    others = λ t u m q c le e. other_link k none ln (lane_after (lanes.read_block tag) ln) m refl refl (λ x. x) (λ x. x) e.1;
+    others = λ t u m q c le e. other_link k none ln (lane_after (lanes.read_block tag p) ln) m refl refl (λ x. x) (λ x. x) e.1;
   }
 
   write_block_counts : (f tag : ℕ) (p : Page) → LaneAllowed (lanes.write_block f tag p) ln h → Keeps_by (lanes.write_block f tag p) k none loaded ln h
   write_block_counts f tag p a = record {
-    column = λ t t' q c sums le _. column_same (lanes.write_block f tag p) (lane_after (lanes.write_block f tag p) ln) (lane_hold_after (lanes.write_block f tag p) loaded ln h) refl refl refl refl refl refl (sym (ap is_failed_read a.once)) (sym (ap is_failed_write a.once)) (λ x e. absurd (a.out (c.0.hold.resting e))) t t' q.1 c.0 sums;
+    column = λ t t' q c sums le _. column_same (lanes.write_block f tag p) (lane_after (lanes.write_block f tag p) ln) (lane_hold_after (lanes.write_block f tag p) loaded h) refl refl refl refl refl refl (sym (ap is_failed_read a.once)) (sym (ap is_failed_write a.once)) (λ x e. absurd (a.out (c.0.hold.resting e))) t t' q.1 c.0 sums;
     cell = λ t q le c. record { read_rose = λ e. absurd (cc); write_rose = λ e. absurd (cc); taken_reads = λ taken e lt. let x = c.1.taken_reads taken e lt in omega arith; taken_writes = λ taken e lt. let x = c.1.taken_writes taken e lt in omega arith };
     others = λ t u m q c le e. other_link k none ln (lane_after (lanes.write_block f tag p) ln) m refl refl (λ x. x) (λ x. x) e.1;
   }
 
   sync_lane_counts : LaneAllowed lanes.sync_lane ln h → Keeps_by lanes.sync_lane k none loaded ln h
   sync_lane_counts a = record {
-    column = λ t t' q c sums le _. column_same lanes.sync_lane (lane_after lanes.sync_lane ln) (lane_hold_after lanes.sync_lane loaded ln h) refl refl refl refl refl refl (sym (ap is_failed_read a.once)) (sym (ap is_failed_write a.once)) (λ x e. absurd (a.out (c.0.hold.resting e))) t t' q.1 c.0 sums;
+    column = λ t t' q c sums le _. column_same lanes.sync_lane (lane_after lanes.sync_lane ln) (lane_hold_after lanes.sync_lane loaded h) refl refl refl refl refl refl (sym (ap is_failed_read a.once)) (sym (ap is_failed_write a.once)) (λ x e. absurd (a.out (c.0.hold.resting e))) t t' q.1 c.0 sums;
     cell = λ t q le c. record { read_rose = λ e. absurd (cc); write_rose = λ e. absurd (cc); taken_reads = λ taken e lt. let x = c.1.taken_reads taken e lt in omega arith; taken_writes = λ taken e lt. let x = c.1.taken_writes taken e lt in omega arith };
     others = λ t u m q c le e. other_link k none ln (lane_after lanes.sync_lane ln) m refl refl (λ x. x) (λ x. x) e.1;
   }
@@ -183,7 +183,7 @@ module _ (k : Known) (loaded : ℕ) (ln : Lane) (h : LaneHold) where
     column = λ t t' q c sums le _. let x = ap flag_weight (ap is_failed_read a.once) in let y = ap flag_weight (ap is_failed_write a.once) in let z = sums failed_reads in let v = sums failed_writes in record {
       reads = record { least = raised_least ln.read_faults_at_start ln.read_faults q.1.reads.least; is_met = λ e. absurd (omega arith) };
       writes = record { least = q.1.writes.least; is_met = λ e lt. let b = q.1.writes.is_met (omega arith) lt in omega arith };
-      split = split_kept t t' h (lane_hold_after (lanes.fail_read tag) loaded ln h) q.1.split sums (sane k.flushed ln h c.0) (λ e. absurd (a.out (c.0.hold.resting e)));
+      split = split_kept t t' h (lane_hold_after (lanes.fail_read tag) loaded h) q.1.split sums (sane k.flushed ln h c.0) (λ e. absurd (a.out (c.0.hold.resting e)));
     };
     cell = λ t q le c. record { read_rose = λ e. raised_rises ln.read_faults_at_start ln.read_faults q.1.reads.least; write_rose = λ e. absurd (cc); taken_reads = λ taken e lt. let x = c.1.taken_reads taken e lt in omega arith; taken_writes = λ taken e lt. let x = c.1.taken_writes taken e lt in omega arith };
     others = λ t u m q c le e. other_link k none ln (lane_after (lanes.fail_read tag) ln) m refl refl (raised_later ln.read_faults_at_start ln.read_faults) (λ x. x) e.1;
@@ -194,7 +194,7 @@ module _ (k : Known) (loaded : ℕ) (ln : Lane) (h : LaneHold) where
     column = λ t t' q c sums le _. let x = ap flag_weight (ap is_failed_read a.once) in let y = ap flag_weight (ap is_failed_write a.once) in let z = sums failed_reads in let v = sums failed_writes in record {
       writes = record { least = raised_least ln.write_faults_at_start ln.write_faults q.1.writes.least; is_met = λ e. absurd (omega arith) };
       reads = record { least = q.1.reads.least; is_met = λ e lt. let b = q.1.reads.is_met (omega arith) lt in omega arith };
-      split = split_kept t t' h (lane_hold_after (lanes.fail_write f tag p) loaded ln h) q.1.split sums (sane k.flushed ln h c.0) (λ e. absurd (a.out (c.0.hold.resting e)));
+      split = split_kept t t' h (lane_hold_after (lanes.fail_write f tag p) loaded h) q.1.split sums (sane k.flushed ln h c.0) (λ e. absurd (a.out (c.0.hold.resting e)));
     };
     cell = λ t q le c. record { write_rose = λ e. raised_rises ln.write_faults_at_start ln.write_faults q.1.writes.least; read_rose = λ e. absurd (cc); taken_reads = λ taken e lt. let x = c.1.taken_reads taken e lt in omega arith; taken_writes = λ taken e lt. let x = c.1.taken_writes taken e lt in omega arith };
     others = λ t u m q c le e. other_link k none ln (lane_after (lanes.fail_write f tag p) ln) m refl refl (λ x. x) (raised_later ln.write_faults_at_start ln.write_faults) e.1;
@@ -205,7 +205,7 @@ module _ (k : Known) (loaded : ℕ) (ln : Lane) (h : LaneHold) where
     column = λ t t' q c sums le _. let x = ap flag_weight (ap is_failed_read a.once) in let y = ap flag_weight (ap is_failed_write a.once) in let z = sums failed_reads in let v = sums failed_writes in record {
       writes = record { least = raised_least ln.write_faults_at_start ln.write_faults q.1.writes.least; is_met = λ e. absurd (omega arith) };
       reads = record { least = q.1.reads.least; is_met = λ e lt. let b = q.1.reads.is_met (omega arith) lt in omega arith };
-      split = split_kept t t' h (lane_hold_after lanes.fail_sync loaded ln h) q.1.split sums (sane k.flushed ln h c.0) (λ e. absurd (a.out (c.0.hold.resting e)));
+      split = split_kept t t' h (lane_hold_after lanes.fail_sync loaded h) q.1.split sums (sane k.flushed ln h c.0) (λ e. absurd (a.out (c.0.hold.resting e)));
     };
     cell = λ t q le c. record { write_rose = λ e. raised_rises ln.write_faults_at_start ln.write_faults q.1.writes.least; read_rose = λ e. absurd (cc); taken_reads = λ taken e lt. let x = c.1.taken_reads taken e lt in omega arith; taken_writes = λ taken e lt. let x = c.1.taken_writes taken e lt in omega arith };
     others = λ t u m q c le e. other_link k none ln (lane_after lanes.fail_sync ln) m refl refl (λ x. x) (raised_later ln.write_faults_at_start ln.write_faults) e.1;
@@ -218,19 +218,19 @@ module _ (k : Known) (loaded : ℕ) (ln : Lane) (h : LaneHold) where
     others = λ t u m q c le e. other_link k (fault_of noted h.change) ln ln m refl refl (λ x. x) (λ x. x) e.1;
   }
     where
-      by_taken : (t t' : CountTally → ℕ) → LaneCounts k.met ln t → LaneLink k.flushed ln h → HoldCounts k.met ln h → ((j : CountTally) → t' j + count_weigh j h ≡ t j + count_weigh j (lane_hold_after (lanes.lane_back noted) loaded ln h)) → (o : Option TakenLane) → h.out ≡ o → LaneCounts (more k (fault_of noted h.change)).met ln t'
+      by_taken : (t t' : CountTally → ℕ) → LaneCounts k.met ln t → LaneLink k.flushed ln h → HoldCounts k.met ln h → ((j : CountTally) → t' j + count_weigh j h ≡ t j + count_weigh j (lane_hold_after (lanes.lane_back noted) loaded h)) → (o : Option TakenLane) → h.out ≡ o → LaneCounts (more k (fault_of noted h.change)).met ln t'
       by_taken t t' q c l sums None e = absurd (a.out e)
       by_taken t t' q c l sums (Some taken) e = let counts = c.counts taken e in let rule = a.counts taken e in let x = sums failed_reads in let y = sums failed_writes in record {
         reads = count_back ln.read_faults_at_start ln.read_faults (t failed_reads) k.met.reads taken.read_faults (fault_of noted h.change).reads (t' failed_reads) (is_failed_read h.change) q.reads counts.reads (l.taken_reads taken e) (λ lt. read_counted noted h.change (rule.read_rose lt) (failed_if (is_failed_read h.change) (λ z. counts.reads z) lt)) (omega arith);
         writes = count_back ln.write_faults_at_start ln.write_faults (t failed_writes) k.met.writes taken.write_faults (fault_of noted h.change).writes (t' failed_writes) (is_failed_write h.change) q.writes counts.writes (l.taken_writes taken e) (λ lt. write_counted noted h.change (rule.write_rose lt) (failed_if (is_failed_write h.change) (λ z. counts.writes z) lt)) (omega arith);
-        split = split_kept t t' h (lane_hold_after (lanes.lane_back noted) loaded ln h) q.split sums (sane k.flushed ln h c) (λ w. refl);
+        split = split_kept t t' h (lane_hold_after (lanes.lane_back noted) loaded h) q.split sums (sane k.flushed ln h c) (λ w. refl);
       }
 
   pub counts_kept : (kind : LaneKind) → LaneAllowed kind ln h → Keeps_by kind k (met_by kind h) loaded ln h
   counts_kept lanes.take_lane a = take_lane_counts a
   counts_kept lanes.leave_lane a = leave_lane_counts a
   counts_kept (lanes.lane_out taken) a = lane_out_counts taken a
-  counts_kept (lanes.read_block tag) a = read_block_counts tag a
+  counts_kept (lanes.read_block tag p) a = read_block_counts tag p a
   counts_kept (lanes.fail_read tag) a = fail_read_counts tag a
   counts_kept (lanes.write_block f tag p) a = write_block_counts f tag p a
   counts_kept (lanes.fail_write f tag p) a = fail_write_counts f tag p a

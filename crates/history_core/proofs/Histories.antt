@@ -64,7 +64,7 @@ loaded (lane_kinds.fail_write g tag p) s n f h l (at, x) = x.log_first
 loaded lane_kinds.take_lane s n f h l x = absurd x
 loaded lane_kinds.leave_lane s n f h l x = absurd x
 loaded (lane_kinds.lane_out taken) s n f h l x = absurd x
-loaded (lane_kinds.read_block tag) s n f h l x = absurd x
+loaded (lane_kinds.read_block tag p) s n f h l x = absurd x
 loaded (lane_kinds.fail_read tag) s n f h l x = absurd x
 loaded lane_kinds.sync_lane s n f h l x = absurd x
 loaded lane_kinds.fail_sync s n f h l x = absurd x
@@ -76,7 +76,7 @@ is_out (lane_kinds.fail_write g tag p) s n f h l x a = a.out
 is_out lane_kinds.take_lane s n f h l x a = absurd x
 is_out lane_kinds.leave_lane s n f h l x a = absurd x
 is_out (lane_kinds.lane_out taken) s n f h l x a = absurd x
-is_out (lane_kinds.read_block tag) s n f h l x a = absurd x
+is_out (lane_kinds.read_block tag p) s n f h l x a = absurd x
 is_out (lane_kinds.fail_read tag) s n f h l x a = absurd x
 is_out lane_kinds.sync_lane s n f h l x a = absurd x
 is_out lane_kinds.fail_sync s n f h l x a = absurd x
@@ -98,7 +98,7 @@ module _ (s : State) (h : Invariant s) where
   pub reads_stand : ReadsStand s
   reads_stand _ _ t (reads i f tag p v there live inside a) = let w : View = looked (seen.LogEnd s.end) (has_read s.end tag p v) in let here = set_here s.pool.core.views i v w there in let k = step_keeps (reads i f tag p v there live inside a) h in
       let c = h.history.calls i v there in let e = h.ends in let is : tag ≡ (s.pool.core.frame f).tag = sym ((h.pool.core.grid.cells i v f there inside).remembers tag a.remembered).1 in
-      let cell_is : p ≡ cell s.origin (cut s.end s.log.entries) tag = ((k.history.calls i w here).legal (length v.calls) (Read tag p s.end) (at_last v.calls (Read tag p s.end))).reads in (
+      let cell_is : s.known tag ≡ true → p ≡ cell s.origin (cut s.end s.log.entries) tag = ((k.history.calls i w here).legal (length v.calls) (Read tag p s.end) (at_last v.calls (Read tag p s.end))).reads in (
         v,
         w,
         there,
@@ -110,7 +110,7 @@ module _ (s : State) (h : Invariant s) where
           added = ap (λ (z : ℕ). v.calls ++ Read z p s.end ∷ []) is;
           front = refl;
           place_loads = refl;
-          is_cell = subst (λ (z : ℕ). p ≡ cell s.origin (cut s.end s.log.entries) z) is cell_is;
+          is_cell = subst (λ (z : ℕ). s.known z ≡ true → p ≡ cell s.origin (cut s.end s.log.entries) z) is cell_is;
           later = λ j x at. let y = c.fronted j x at in let z = c.within in omega arith;
           above = let z = c.within in omega arith;
         },
@@ -146,7 +146,7 @@ module _ (s : State) (h : Invariant s) where
   )
 
   pub go_out_flushed : LanesGoOutFlushed s
-  go_out_flushed _ _ taken t (lanes i n k v there live low a alone) = let l : LaneHold = lane_hold_after k v.flushed (s.lane n) (lane_hold v n) in let w : View = stepped (laned k s n v v) in (
+  go_out_flushed _ _ taken t (lanes i n k v there live low a alone) = let l : LaneHold = lane_hold_after k v.flushed (lane_hold v n) in let w : View = stepped (laned k n v v) in (
     v,
     w,
     there,
@@ -172,8 +172,8 @@ module _ (s : State) (h : Invariant s) where
   pub lanes_hold : LanesHoldFlushedPages s
   lanes_hold = h.flushed_cells
 
-  stored_is : (tag : ℕ) → s.pool.logged tag ≡ Some (stored s tag) → stored s tag ≡ cell s.origin s.log.entries tag
-  stored_is tag e = same_Some (stored s tag) (cell s.origin s.log.entries tag) (sym e ∙ (λ j. h.logged j tag))
+  stored_is : (tag : ℕ) → (s.known tag ≡ true → s.pool.logged tag ≡ Some (stored s tag)) → s.known tag ≡ true → stored s tag ≡ cell s.origin s.log.entries tag
+  stored_is tag e known = same_Some (stored s tag) (cell s.origin s.log.entries tag) (sym (e known) ∙ h.logged tag known)
 
   pub clean_stored : CleanBlocksAreStored s
   clean_stored tag named none = ⊎_elim
@@ -185,7 +185,7 @@ module _ (s : State) (h : Invariant s) where
   sound = pages.sound s.pool h.pool
 
   pub hold_cells : FramesHoldCells s
-  hold_cells f below tag valid none = pages.frames_hold s.pool h.pool f (cell s.origin s.log.entries (s.pool.core.frame f).tag) below tag valid none (λ j. h.logged j (s.pool.core.frame f).tag)
+  hold_cells f known below tag valid none = pages.frames_hold s.pool h.pool f (cell s.origin s.log.entries (s.pool.core.frame f).tag) below tag valid none (h.logged (s.pool.core.frame f).tag known)
 
   pub words : LogWords s
   words = record { ends = h.ends; limit = h.limit; flushed_from = h.flushed_from; flushed_to = h.flushed_to }

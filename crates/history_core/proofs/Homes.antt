@@ -4,6 +4,7 @@ use Rattle.state_word.specs.declared.word.IoEnd.TheVariants.{ReadOk, WriteOk, Ba
 use Rattle.pin_core.specs.declared.view.Link.{Link}
 use Rattle.pin_core.specs.State.{Frame, Page}
 use Rattle.pin_core.specs.Kinds as pin_kinds
+use Rattle.pin_core.specs.declared.view.Io.TheVariants.{Input}
 use Rattle.page_core.specs.Tallies.{works}
 use Rattle.page_core.specs.Kinds as kinds
 use Rattle.page_core.specs.Kinds.{Kind, Allowed, frame_after, block_after, link_after}
@@ -202,11 +203,12 @@ module _ (h : Home) (fr : Frame) (l : Link) where
     others = λ t n m q c le d. grind (arith, q, c, d, a);
   }
 
-  pub note_read_keeps : (p : Page) → Allowed (kinds.note_read p) h.block fr l → Keeps_by (kinds.note_read p) h (home_after (kinds.note_read p) h) fr l
-  note_read_keeps p a = record {
-    column = λ t t' q c sums le _. grind (arith, q, c, a);
-    cell = λ t q le c. grind (arith, q, c, a);
-    others = λ t n m q c le d. grind (arith, q, c, d, a);
+  -- where the lane's contents aren't known the block's page is forgotten
+  pub note_read_keeps : (p : Page) → (h' : Home) → h'.failed ≡ h.failed → h'.stored ≡ h.stored → (h'.known ≡ true → (h.known ≡ true) × (h'.block.logged ≡ h.block.logged)) → l.io ≡ Input → Keeps_by (kinds.note_read p) h h' fr l
+  note_read_keeps p h' failed stored same right = record {
+    column = λ t t' q c sums le _. grind (arith, q, failed, stored, same);
+    cell = λ t q le c. grind (arith, q, c, right);
+    others = λ t n m q c le d. grind (arith, q, c, d, failed, stored);
   }
 
   pub begin_write_keeps : (h' : Home) → h'.block ≡ h.block → Allowed kinds.begin_write h.block fr l → Keeps_by kinds.begin_write h h' fr l
@@ -251,7 +253,7 @@ module _ (h : Home) (fr : Frame) (l : Link) where
     others = λ t n m q c le d. grind (arith, q, c, d, a, le works);
   }
 
-  pub end_write_keeps : (p : Page) → h.block.logged ≡ Some p → Allowed (kinds.end_io WriteOk) h.block fr l → Keeps_by (kinds.end_io WriteOk) h (home_after (kinds.end_io WriteOk) h) fr l
+  pub end_write_keeps : (p : Page) → (h.known ≡ true → h.block.logged ≡ Some p) → Allowed (kinds.end_io WriteOk) h.block fr l → Keeps_by (kinds.end_io WriteOk) h (home_after (kinds.end_io WriteOk) h) fr l
   end_write_keeps p is a = record {
     column = λ t t' q c sums le _. let same = q.0.1.page p in grind (arith, q, c, a, is, same);
     cell = λ t q le c. grind (arith, q, c, a);

@@ -17,7 +17,7 @@ quiet e = (ap is_failed_read e, ap is_failed_write e)
 
 -- the kind k keeps the law
 abbrev pub Keeps_by : LaneKind → ℕ → ℕ → Lane → LaneHold → Type 0
-Keeps_by k loaded flushed ln h = Keeps lane_shape lane_part lane_part flushed flushed tt tt ln h (lane_after k ln) (lane_hold_after k loaded ln h)
+Keeps_by k loaded flushed ln h = Keeps lane_shape lane_part lane_part flushed flushed tt tt ln h (lane_after k ln) (lane_hold_after k loaded h)
 
 -- only one view has the lane out
 alone : (flushed : ℕ) (ln : Lane) (h m : LaneHold) (t : LaneTally → ℕ) → LaneColumn ln t → HoldLaw flushed ln h → HoldLaw flushed ln m → flag_weight h.held + flag_weight m.held ≤ t holders → h.out ≢ None → m.out ≡ None
@@ -49,10 +49,10 @@ module _ (loaded flushed : ℕ) (ln : Lane) (h : LaneHold) (low : loaded ≤ flu
     others = λ t n m q c le d. d;
   }
 
-  read_block_keeps : (tag : ℕ) → LaneAllowed (read_block tag) ln h → Keeps_by (read_block tag) loaded flushed ln h
-  read_block_keeps tag a = record {
+  read_block_keeps : (tag : ℕ) (p : Page) → LaneAllowed (read_block tag p) ln h → Keeps_by (read_block tag p) loaded flushed ln h
+  read_block_keeps tag p a = record {
     column = λ t t' q c sums le _. grind (arith, q, c, a, sums holders);
-    cell = λ t q le c. record { hold = grind (arith, q, c.hold, a, quiet a.once); counts = λ taken e. let x = c.counts taken e in grind (arith, x, quiet a.once) };
+    cell = λ t q le c. record { hold = grind (arith, q, c.hold, a, quiet a.call.once); counts = λ taken e. let x = c.counts taken e in grind (arith, x, quiet a.call.once) };
     others = λ t n m q c le d. d;
   }
 
@@ -102,7 +102,7 @@ module _ (loaded flushed : ℕ) (ln : Lane) (h : LaneHold) (low : loaded ≤ flu
   lane_keeps take_lane a = take_lane_keeps a
   lane_keeps leave_lane a = leave_lane_keeps a
   lane_keeps (lane_out taken) a = lane_out_keeps taken a
-  lane_keeps (read_block tag) a = read_block_keeps tag a
+  lane_keeps (read_block tag p) a = read_block_keeps tag p a
   lane_keeps (fail_read tag) a = fail_read_keeps tag a
   lane_keeps (write_block f tag p) a = write_block_keeps f tag p a
   lane_keeps (fail_write f tag p) a = fail_write_keeps f tag p a

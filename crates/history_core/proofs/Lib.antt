@@ -2,6 +2,7 @@ pub mod Lanes
 pub mod Device
 pub mod Logs
 pub mod Calls
+pub mod Forgetting
 pub mod Homes
 pub mod Pools
 pub mod Outer
@@ -9,6 +10,7 @@ pub mod Blocks
 pub mod Stepping
 pub mod Causes
 pub mod Counts
+pub mod LogCounting
 pub mod Counting
 pub mod Opening
 pub mod Sample

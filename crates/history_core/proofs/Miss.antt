@@ -42,10 +42,10 @@ abbrev paged : Kind → State → State
 paged k s = record s { pool = page_steps.state_after k s.pool 0 0 (view_of s) }
 
 abbrev at_lane : LaneKind → State → State
-at_lane k s = record s { pool = aside s.pool 0 (stepped (laned k s 0 (view_of s) (view_of s))); lane = put s.lane 0 (lane_after k (s.lane 0)) }
+at_lane k s = record s { pool = aside s.pool 0 (stepped (laned k 0 (view_of s) (view_of s))); lane = put s.lane 0 (lane_after k (s.lane 0)) }
 
 abbrev noted : Kind → State → State
-noted k s = record s { pool = pool_after k s.pool 0 0 (laned (lane_back false) s 0 (view_of s) (steps.paged k s.pool 0 (view_of s))); lane = put s.lane 0 (lane_after (lane_back false) (s.lane 0)) }
+noted k s = record s { pool = pool_after k (steps.pool_noting k s 0) 0 0 (laned (lane_back false) 0 (view_of s) (steps.paged k (steps.pool_noting k s 0) 0 (view_of s))); lane = put s.lane 0 (lane_after (lane_back false) (s.lane 0)) }
 
 abbrev m0 : State
 m0 = miss_start
@@ -93,7 +93,7 @@ abbrev m14 : State
 m14 = at_lane (lane_out sample_lane) m13
 
 abbrev m15 : State
-m15 = at_lane (read_block 7) m14
+m15 = at_lane (read_block 7 sample_page) m14
 
 abbrev m16 : State
 m16 = noted (note_read sample_page) m15
@@ -167,7 +167,7 @@ misses = (
       (goes (pools (page_steps.touches 0 0 start_input (view_of m11) refl refl (lit< tt) (record { held = refl; settled = refl; pinned = λ e. cc; clear = refl; tagged = refl; invalid = refl }) (at_frame (λ (l : Link). l.io ≡ Quiet) (view_of m11) _ refl refl refl)) tt)
       (goes (lanes 0 0 take_lane (view_of m12) refl refl (lit< tt) (record { free = refl }) tt)
       (goes (lanes 0 0 (lane_out sample_lane) (view_of m13) refl refl (lit< tt) goes_out tt)
-      (goes (lanes 0 0 (read_block 7) (view_of m14) refl refl (lit< tt) (record { out = λ e. cc; once = refl }) refl)
+      (goes (lanes 0 0 (read_block 7 sample_page) (view_of m14) refl refl (lit< tt) (record { call = record { out = λ e. cc; once = refl }; given = λ e. refl }) refl)
       (goes (notes 0 0 0 false (note_read sample_page) (view_of m15) refl refl (lit< tt) (lit< tt) (record { out = λ e. cc; counts = λ taken e. record { failed = λ z. absurd (cc); read_rose = λ z. below taken.read_faults z; write_rose = λ z. below taken.write_faults z } }) (record { was_read = refl; lane = refl; right = refl; fresh = refl }))
       (goes (lanes 0 0 leave_lane (view_of m16) refl refl (lit< tt) (record { held = refl; home = refl }) tt)
       (goes (pools (page_steps.touches 0 0 page_out (view_of m17) refl refl (lit< tt) (record { page_home = refl; shared = λ e. absurd (cc); unlocked = λ e. refl }) tt) tt)

@@ -1,5 +1,5 @@
 -- The law holds at the start.
-use Rattle.std.proofs.Common.{◌≡◌, ℕ, [], ◌∷◌, length, sym, refl, ap, ◌∙◌, subst, arith, ◌++◌, List, Some, append-nil}
+use Rattle.std.proofs.Common.{◌≡◌, ℕ, [], ◌∷◌, length, sym, refl, ap, ◌∙◌, subst, arith, ◌++◌, List, Bool, cond, Some, None, append-nil}
 use mathlib.Core.Option.{some-ne-none}
 use lib.ListN.{length-replicate}
 use Rattle.pin_core.specs.declared.view.View.{View}
@@ -7,7 +7,7 @@ use Rattle.pin_core.specs.State.{Config, CanOpen, Page, link, no_lane, lane_hold
 use Rattle.pin_core.proofs.Views.{link_new}
 use Rattle.page_core.proofs.Opening as pages
 use Rattle.history_core.specs.Log.{Log, cell, cut, write_weight, writes_in, records, head_bytes}
-use Rattle.history_core.specs.State.{Store, CanStore, fresh_lane, fresh_device, opening}
+use Rattle.history_core.specs.State.{Store, CanStore, is_known, known_origin, fresh_lane, fresh_device, opening}
 use Rattle.history_core.specs.Lanes.{holders, LaneLink, lane_shape}
 use Rattle.history_core.specs.Homes.{Home, HomeFrame, HomeLink, home_of}
 use Rattle.history_core.specs.Invariant.{CallsLaw, written_of, Invariant}
@@ -41,8 +41,9 @@ fresh_frame h p = record { clean = λ named. absurd (named refl) }
 
 pub opens : (c : Config) (store : Store) (page : Page) → CanOpen c → CanStore c store → Invariant (opening c store page)
 opens c store page can stores = let w : View = first_view c.base c.frames c.partitions c.lanes in let log : Log = record { base = c.base; entries = [] } in let none : (k : LogTally) → total (λ (v : View). log_weigh k v.log) (w ∷ []) ≡ 0 = (λ k. one_total (λ (v : View). log_weigh k v.log) w (no_weight k)) in record {
-  pool = pages.opens c (λ tag. Some (store.origin tag)) page can;
-  logged = λ j tag. Some (sym (cell_none store.origin) j tag);
+  pool = pages.opens c (known_origin store) page can;
+  logged = λ tag is. ap (λ (b : Bool). cond b (Some (store.origin tag)) None) is ∙ (λ j. Some (sym (cell_none store.origin) j tag));
+  known = λ tag. refl;
   log = record { chained = λ k e t. absurd (some-ne-none e (sym t)); images = λ k e t. absurd (some-ne-none e (sym t)) };
   based = refl;
   ends = omega arith;
@@ -56,13 +57,13 @@ opens c store page can stores = let w : View = first_view c.base c.frames c.part
     cells = λ i v g there below. subst (λ (x : View). LogLink (written_of (opening c store page)) (fresh_device c.base store) x.saw_down x.log) (at_only w v i there).0 (no_log_law (written_of (opening c store page)) (fresh_device c.base store));
   };
   history = record {
-    calls = λ i v there. subst (CallsLaw store.origin log c.base) (at_only w v i there).0 (no_calls store.origin log c.base w refl (λ _. refl) (omega arith) (omega arith));
+    calls = λ i v there. subst (CallsLaw (is_known store) store.origin log c.base) (at_only w v i there).0 (no_calls (is_known store) store.origin log c.base w refl (λ _. refl) (omega arith) (omega arith));
     counted = one_total (λ (v : View). writes_in v.calls) w (no_total write_weight);
     once = λ k e t. absurd (some-ne-none e (sym t));
   };
   lanes = record {
     columns = λ n below. record { taken = sym (one_total (λ (v : View). lane_shape.weigh holders (lane_hold v n)) w (ap (lane_shape.weigh holders) (lane_new c.frames c.partitions c.lanes 0 c.base n))) };
-    cells = λ i v n there below. subst (λ (x : View). LaneLink c.base (fresh_lane store n) (lane_hold x n)) (at_only w v i there).0 (subst (LaneLink c.base (fresh_lane store n)) (sym (lane_new c.frames c.partitions c.lanes 0 c.base n)) (no_lane_law c.base (fresh_lane store n)));
+    cells = λ i v n there below. subst (λ (x : View). LaneLink c.base (fresh_lane c.base store n) (lane_hold x n)) (at_only w v i there).0 (subst (LaneLink c.base (fresh_lane c.base store n)) (sym (lane_new c.frames c.partitions c.lanes 0 c.base n)) (no_lane_law c.base (fresh_lane c.base store n)));
   };
   wide = λ i v there live. ap (λ (x : View). length x.lanes) (sym (at_only w v i there).0) ∙ length-replicate c.lanes no_lane;
   placed = stores.placed;
@@ -70,6 +71,6 @@ opens c store page can stores = let w : View = first_view c.base c.frames c.part
     columns = λ f below. fresh_frame (home_of (opening c store page) no_tag) page;
     cells = λ i v f there below. subst (λ (x : View). HomeLink (home_of (opening c store page) no_tag) (empty_frame page) (link x f)) (at_only w v i there).0 (subst (HomeLink (home_of (opening c store page) no_tag) (empty_frame page)) (sym (link_new c.frames c.partitions c.lanes 0 c.base f)) (no_link (home_of (opening c store page) no_tag) (empty_frame page)));
   };
-  unframed = λ tag named none. record { done = refl; stored = refl };
-  flushed_cells = λ tag ok. record { place = c.base; based = omega arith; within = omega arith; is_cell = (λ j. sym (cell_none store.origin) j tag) ∙ ap (λ es. cell store.origin es tag) (sym (cut_none c.base)) };
+  unframed = λ tag named none. record { done = refl; stored = λ is. ap (λ (b : Bool). cond b (Some (store.origin tag)) None) is };
+  flushed_cells = λ tag. record { based = omega arith; within = omega arith; is_cell = λ is ok. (λ j. sym (cell_none store.origin) j tag) ∙ ap (λ es. cell store.origin es tag) (sym (cut_none c.base)) };
 }

@@ -1,22 +1,24 @@
 -- The sample's events are steps.
 use Rattle.std.proofs.Common.{false, slice_index_or, lit<, refl, sym, arith}
 use Rattle.std.specs.Prelude.{max}
+use Rattle.std.proofs.lemmas.Option.{same_Some}
 use mathlib.Core.Option.{some-ne-none}
 use Rattle.pin_core.specs.declared.view.Seen.TheVariants as seen
 use Rattle.pin_core.specs.declared.view.View.{View}
 use Rattle.pin_core.specs.State.{lane_hold, emptied_view}
+use Rattle.history_core.specs.Log.{head_bytes}
 use Rattle.history_core.specs.State.{State}
 use Rattle.history_core.specs.Lanes.{LaneKind, take_lane, leave_lane, lane_out, read_block, lane_back, CanTakeOut, lane_after}
 use Rattle.history_core.specs.Device.{LogKind, take_log, leave_log, log_out, sync_log, log_back, device_after, view_logged}
 use Rattle.history_core.specs.Steps.{aside, stepped, looked, laned, rests, goes, lanes, logs, raises, loads_flushed, loads_end}
-use Rattle.history_core.specs.Sample.{sample_start, sample_lane, sample_log, SampleRuns}
+use Rattle.history_core.specs.Sample.{sample_page, sample_start, sample_lane, sample_log, SampleRuns}
 use Rattle.grid.specs.Shape.{put}
 
 abbrev view_of : State → View
 view_of s = slice_index_or s.pool.core.views 0 emptied_view
 
 abbrev at_lane : LaneKind → State → State
-at_lane k s = record s { pool = aside s.pool 0 (stepped (laned k s 0 (view_of s) (view_of s))); lane = put s.lane 0 (lane_after k (s.lane 0)) }
+at_lane k s = record s { pool = aside s.pool 0 (stepped (laned k 0 (view_of s) (view_of s))); lane = put s.lane 0 (lane_after k (s.lane 0)) }
 
 abbrev at_log : LogKind → State → State
 at_log k s = record s { pool = aside s.pool 0 (view_logged k (view_of s)); device = device_after k s.end s.device }
@@ -28,7 +30,7 @@ abbrev s2 : State
 s2 = at_lane (lane_out sample_lane) s1
 
 abbrev s3 : State
-s3 = at_lane (read_block 7) s2
+s3 = at_lane (read_block 7 sample_page) s2
 
 abbrev s4 : State
 s4 = at_lane (lane_back false) s3
@@ -69,12 +71,12 @@ sample = (
     record s12 { pool = aside s12.pool 0 (looked (seen.LogEnd s12.end) (view_of s12)) },
     (goes (lanes 0 0 take_lane (view_of sample_start) refl refl (lit< tt) (record { free = refl }) tt)
         (goes (lanes 0 0 (lane_out sample_lane) (view_of s1) refl refl (lit< tt) goes_out tt)
-        (goes (lanes 0 0 (read_block 7) (view_of s2) refl refl (lit< tt) (record { out = λ e. cc; once = refl }) refl)
+        (goes (lanes 0 0 (read_block 7 sample_page) (view_of s2) refl refl (lit< tt) (record { call = record { out = λ e. cc; once = refl }; given = λ e. refl }) refl)
         (goes (lanes 0 0 (lane_back false) (view_of s3) refl refl (lit< tt) (record { out = λ e. cc; counts = λ taken e. record { failed = λ z. absurd (cc); read_rose = λ z. absurd (grind (arith, e, z)); write_rose = λ z. absurd (grind (arith, e, z)) } }) tt)
         (goes (lanes 0 0 leave_lane (view_of s4) refl refl (lit< tt) (record { held = refl; home = refl }) tt)
         rests))))),
     (goes (logs 0 take_log (view_of s5) refl refl (record { free = refl }) tt)
-        (goes (logs 0 (log_out sample_log) (view_of s6) refl refl (record { held = refl; home = refl; faults = refl; bytes = refl }) tt)
+        (goes (logs 0 (log_out sample_log) (view_of s6) refl refl (record { held = refl; home = refl; faults = refl; bytes = λ bytes e. sym (same_Some (head_bytes 0) bytes e) }) tt)
         (goes (logs 0 sync_log (view_of s7) refl refl (record { out = λ e. cc; once = refl; up = refl }) tt)
         (goes (logs 0 (log_back false) (view_of s8) refl refl (record { out = λ e. cc; failed = λ z. absurd (cc); rose = λ taken e z. absurd (grind (arith, e, z)) }) tt)
         (goes (raises 0 (view_of s9) refl refl refl)

@@ -18,7 +18,7 @@ use Rattle.history_core.specs.Log.{record_size}
 use Rattle.history_core.specs.State.{State}
 use Rattle.history_core.specs.Lanes.{lane_back}
 use Rattle.history_core.specs.Device.{view_logged}
-use Rattle.history_core.specs.Steps.{Event, pool, stepped, looked, paged, laned, has_read, has_written, Step, pools, lanes, writes, notes, enters, reads, loads_end, loads_flushed, raises, logs}
+use Rattle.history_core.specs.Steps.{Event, pool, stepped, looked, pool_noting, paged, laned, has_read, has_written, Step, pools, lanes, writes, notes, enters, reads, loads_end, loads_flushed, raises, logs}
 use Rattle.history_core.specs.Histories.{LeavesCalls, HasCallsOf, CallsStay}
 use Rattle.grid.proofs.Lists.{set_here, set_else, at_longer}
 
@@ -50,9 +50,9 @@ pages_stay (page_steps.touches {s = s} i f k u there live inside a around) j v a
 
 step_stays : {e : Event} {s t : State} → Step e s t → (j : ℕ) (v : View) → get_elem? s.pool.core.views j ≡ some v → LeavesCalls e j → HasCallsOf t.pool.core.views j v
 step_stays (pools x a) j v at leaves = pages_stay x j v at leaves
-step_stays (lanes {s = s} i n k u there live low a alone) j v at leaves = set_stays s.pool.core.views i j u (stepped (laned k s n u u)) v there refl refl at
-step_stays (writes {s = s} i n f k u there live low inside a x) j v at leaves = set_stays s.pool.core.views i j u (laned k s n u (paged begin_write s.pool f u)) v there refl refl at
-step_stays (notes {s = s} i n f noted k u there live low inside a x) j v at leaves = set_stays s.pool.core.views i j u (laned (lane_back noted) s n u (paged k s.pool f u)) v there refl refl at
+step_stays (lanes {s = s} i n k u there live low a alone) j v at leaves = set_stays s.pool.core.views i j u (stepped (laned k n u u)) v there refl refl at
+step_stays (writes {s = s} i n f k u there live low inside a x) j v at leaves = set_stays s.pool.core.views i j u (laned k n u (paged begin_write s.pool f u)) v there refl refl at
+step_stays (notes {s = s} i n f noted k u there live low inside a x) j v at leaves = set_stays s.pool.core.views i j u (laned (lane_back noted) n u (paged k (pool_noting k s f) f u)) v there refl refl at
 step_stays (logs {s = s} i k u there live a record_is) j v at leaves = set_stays s.pool.core.views i j u (view_logged k u) v there refl refl at
 step_stays (enters {s = s} i f p u there live inside x) j v at leaves = other_stays s.pool.core.views i j (has_written (s.end + record_size) (s.pool.core.frame f).tag p (paged (make_entry p) s.pool f u)) v leaves at
 step_stays (reads {s = s} i f tag p u there live inside a) j v at leaves = other_stays s.pool.core.views i j (looked (seen.LogEnd s.end) (has_read s.end tag p u)) v leaves at

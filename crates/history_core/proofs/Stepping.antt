@@ -1,5 +1,5 @@
 -- Each step keeps the law, and so does each list of steps.
-use Rattle.std.proofs.Common.{◌≡◌, ◌≢◌, ℕ, ◌+◌, ◌<◌, ◌≤◌, Bool, true, false, List, [], ◌∷◌, ◌++◌, length, set, Option, Some, None, length-set, get_or-set_same, get_or-set_other, sym, refl, ap, ◌∙◌, subst, arith, lit<}
+use Rattle.std.proofs.Common.{◌≡◌, ◌≢◌, ℕ, ◌+◌, ◌<◌, ◌≤◌, cond, Bool, true, false, List, [], ◌∷◌, ◌++◌, length, set, Option, Some, None, length-set, get_or-set_same, get_or-set_other, sym, refl, ap, ◌∙◌, subst, arith, lit<}
 use Rattle.std.proofs.lemmas.Option.{same_Some}
 use Rattle.std.specs.Prelude.{max}
 use mathlib.Core.Logic.{dite}
@@ -37,17 +37,18 @@ use Rattle.page_core.proofs.Cases.{tag_kept}
 use Rattle.page_core.proofs.Stepping as page_stepping
 use Rattle.page_core.proofs.Stepping.{new_none}
 use Rattle.history_core.specs.Log.{Entry, IsImage, record_size, cell, log_bytes, record_bytes}
-use Rattle.history_core.specs.State.{Lane, Device, State, stored, failed}
+use Rattle.history_core.specs.State.{Lane, Device, State, stored, stored_upto, failed}
 use Rattle.history_core.specs.Lanes as lane_kinds
 use Rattle.history_core.specs.Lanes.{LaneKind, LaneAllowed, lane_after, lane_hold_after, LaneLink, lane_shape, lane_part}
 use Rattle.history_core.specs.Homes.{Home, home_of, IsClean, HomeLink, home_shape, home_part, IsFlushedCell}
 use Rattle.history_core.specs.Invariant.{HistoryLaw, written_of, Invariant}
-use Rattle.history_core.specs.Steps.{Event, IsPlain, PoolAllowed, stepped, looked, aside, pool_after, paged, laned, LaneAlone, CanWrite, Writes, Notes, new_entry, CanEnter, CanRead, has_read, has_written, Step, pools, lanes, writes, notes, enters, reads, loads_end, loads_flushed, raises, logs, Run, rests, goes}
+use Rattle.history_core.specs.Steps.{Event, IsPlain, PoolAllowed, stepped, looked, aside, pool_after, pool_noting, CanNoteLaneRead, paged, laned, LaneAlone, CanWrite, Writes, Notes, new_entry, CanEnter, CanRead, has_read, has_written, Step, pools, lanes, writes, notes, enters, reads, loads_end, loads_flushed, raises, logs, Run, rests, goes}
 use Rattle.history_core.specs.Device.{LogKind, take_log, leave_log, log_out, append, fail_append, sync_log, fail_sync, log_back, see_down, LogAllowed, device_after, view_logged, log_weigh, log_shape, log_part}
 use Rattle.history_core.proofs.Device.{log_keeps, enter_keeps, synced_all}
 use Rattle.history_core.proofs.Calls.{SameCalls, history_same, history_read, history_written, history_loaded, history_raised}
 use Rattle.history_core.proofs.Logs.{bytes_longer, bytes_length, cell_longer, cut_longer, cell_at_position, end_longer, log_longer}
 use Rattle.history_core.proofs.Lanes.{lane_later}
+use Rattle.history_core.proofs.Forgetting.{forgets}
 use Rattle.history_core.proofs.Homes as homes
 use Rattle.history_core.proofs.Homes.{known, home_after, Keeps_by}
 use Rattle.history_core.proofs.Pools.{SameHere, pool_aside, pool_touched}
@@ -59,7 +60,7 @@ use Rattle.grid.proofs.Sums.{term_le}
 use Rattle.grid.proofs.Grids.{Keeps, Relinks, both_grids, touch, sweep, steady, reblock, grows}
 
 -- the laws of a state, by what they speak of
-pub outer_of : (s : State) → Invariant s → Outer s.origin s.log s.lanes s.lane s.flushed (written_of s) s.device s.pool.core.views
+pub outer_of : (s : State) → Invariant s → Outer s.known s.origin s.log s.lanes s.lane s.flushed (written_of s) s.device s.pool.core.views
 outer_of s h = record { device = h.device; history = h.history; lanes = h.lanes; wide = h.wide }
 
 pub blocks_of : (s : State) → Invariant s → Blocks s.pool.core.frames s.pool.core.frame s.pool.core.views s.origin s.log s.flushed (home_of s)
@@ -68,49 +69,78 @@ blocks_of s h = record { homes = h.homes; unframed = h.unframed; flushed_cells =
 knows : (s : State) → Invariant s → Grid home_shape known s.pool.core.frames s.pool.core.frame (home_of s) s.pool.core.views
 knows s h = let g = page_stepping.knows s.pool h.pool in both_grids (record { columns = g.columns; cells = g.cells }) h.homes
 
--- what is known of each block with these lanes
-abbrev homes_with : State → (ℕ → Lane) → ℕ → Home
-homes_with s lane tag = record { block = block_of s.pool.logged tag; stored = (lane (s.lane_of tag)).stored tag; failed = (lane (s.lane_of tag)).failed tag }
+-- what is known of each block with these pages after the log, and these lanes
+abbrev homes_with : State → (ℕ → Option Page) → (ℕ → Lane) → ℕ → Home
+homes_with s logged lane tag = record { block = block_of logged tag; known = s.known tag; stored = (lane (s.lane_of tag)).stored tag; stored_upto = (lane (s.lane_of tag)).stored_upto tag; failed = (lane (s.lane_of tag)).failed tag }
 
 -- a state with another buffer pool and other lanes, where the log stays
-assemble : (s : State) → Invariant s → (pool' : page.State) (lane' : ℕ → Lane) → page_law.Invariant pool' → pool'.logged ≡ s.pool.logged → pool'.core.base ≡ s.pool.core.base → Outer s.origin s.log s.lanes lane' s.flushed (written_of s) s.device pool'.core.views
-    → Blocks pool'.core.frames pool'.core.frame pool'.core.views s.origin s.log s.flushed (homes_with s lane') → Invariant (record s { pool = pool'; lane = lane' })
-assemble s h pool' lane' law same kept outer blocks = let is : homes_with s lane' ≡ home_of (record s { pool = pool'; lane = lane' }) = λ j tag. record { block = block_of (sym same j) tag; stored = (lane' (s.lane_of tag)).stored tag; failed = (lane' (s.lane_of tag)).failed tag } in
-    let moved = subst (λ (x : ℕ → Home). Blocks pool'.core.frames pool'.core.frame pool'.core.views s.origin s.log s.flushed x) is blocks in record {
-      pool = law;
-      logged = same ∙ h.logged;
-      log = h.log;
-      based = kept ∙ h.based;
-      ends = h.ends;
-      limit = h.limit;
-      flushed_from = h.flushed_from;
-      flushed_to = h.flushed_to;
-      named = h.named;
-      durable = h.durable;
-      device = outer.device;
-      history = outer.history;
-      lanes = outer.lanes;
-      wide = outer.wide;
-      placed = h.placed;
-      homes = moved.homes;
-      unframed = moved.unframed;
-      flushed_cells = moved.flushed_cells;
-    }
+assemble : (s : State) → Invariant s → (pool' : page.State) (lane' : ℕ → Lane) → page_law.Invariant pool' → ((tag : ℕ) → s.known tag ≡ true → pool'.logged tag ≡ Some (cell s.origin s.log.entries tag)) → ((tag : ℕ) → (lane' (s.lane_of tag)).known ≡ s.known tag) → pool'.core.base ≡ s.pool.core.base
+    → Outer s.known s.origin s.log s.lanes lane' s.flushed (written_of s) s.device pool'.core.views → Blocks pool'.core.frames pool'.core.frame pool'.core.views s.origin s.log s.flushed (homes_with s pool'.logged lane') → Invariant (record s { pool = pool'; lane = lane' })
+assemble s h pool' lane' law logged known kept outer blocks = record {
+  pool = law;
+  logged = logged;
+  known = known;
+  log = h.log;
+  based = kept ∙ h.based;
+  ends = h.ends;
+  limit = h.limit;
+  flushed_from = h.flushed_from;
+  flushed_to = h.flushed_to;
+  named = h.named;
+  durable = h.durable;
+  device = outer.device;
+  history = outer.history;
+  lanes = outer.lanes;
+  wide = outer.wide;
+  placed = h.placed;
+  homes = blocks.homes;
+  unframed = blocks.unframed;
+  flushed_cells = blocks.flushed_cells;
+}
 
--- a lane that holds what it held
-pub lane_put_same : (lane : ℕ → Lane) (q : ℕ) (ln : Lane) → ln.stored ≡ (lane q).stored → ln.failed ≡ (lane q).failed → (x tag : ℕ) → ((put lane q ln x).stored tag ≡ (lane x).stored tag) × ((put lane q ln x).failed tag ≡ (lane x).failed tag)
-lane_put_same lane q ln stored failed x tag = dite (ℕ_discrete x q)
-    (λ e. (ap (λ (y : Lane). y.stored tag) (put_at lane q ln x e) ∙ ap (λ (g : ℕ → Page). g tag) stored ∙ ap (λ (z : ℕ). (lane z).stored tag) (sym e), ap (λ (y : Lane). y.failed tag) (put_at lane q ln x e) ∙ ap (λ (g : ℕ → Bool). g tag) failed ∙ ap (λ (z : ℕ). (lane z).failed tag) (sym e)))
-    (λ o. (ap (λ (y : Lane). y.stored tag) (put_else lane q ln x o), ap (λ (y : Lane). y.failed tag) (put_else lane q ln x o)))
+-- and where each block's page after the log stays
+assemble_same : (s : State) → Invariant s → (pool' : page.State) (lane' : ℕ → Lane) → page_law.Invariant pool' → pool'.logged ≡ s.pool.logged → ((tag : ℕ) → (lane' (s.lane_of tag)).known ≡ s.known tag) → pool'.core.base ≡ s.pool.core.base
+    → Outer s.known s.origin s.log s.lanes lane' s.flushed (written_of s) s.device pool'.core.views → Blocks pool'.core.frames pool'.core.frame pool'.core.views s.origin s.log s.flushed (homes_with s s.pool.logged lane') → Invariant (record s { pool = pool'; lane = lane' })
+assemble_same s h pool' lane' law same known kept outer blocks = assemble s h pool' lane' law (λ tag is. (λ j. same j tag) ∙ h.logged tag is) known kept outer
+    (subst (λ (g : ℕ → Option Page). Blocks pool'.core.frames pool'.core.frame pool'.core.views s.origin s.log s.flushed (homes_with s g lane')) (sym same) blocks)
 
-homes_same : (s : State) (q : ℕ) (ln : Lane) → ln.stored ≡ (s.lane q).stored → ln.failed ≡ (s.lane q).failed → home_of s ≡ homes_with s (put s.lane q ln)
-homes_same s q ln stored failed = λ j tag. record { block = block_of s.pool.logged tag; stored = sym (lane_put_same s.lane q ln stored failed (s.lane_of tag) tag).0 j; failed = sym (lane_put_same s.lane q ln stored failed (s.lane_of tag) tag).1 j }
+-- what a lane that takes another's place has alike
+pub lane_put : {A : Type 0} (g : Lane → A) (lane : ℕ → Lane) (q : ℕ) (ln : Lane) → g ln ≡ g (lane q) → (x : ℕ) → g (put lane q ln x) ≡ g (lane x)
+lane_put g lane q ln same x = dite (ℕ_discrete x q) (λ e. ap g (put_at lane q ln x e) ∙ same ∙ ap (λ (z : ℕ). g (lane z)) (sym e)) (λ o. ap g (put_else lane q ln x o))
+
+-- The lane holds what it held
+pub record HoldsSame (a b : Lane) : Type 0 where
+  pub stored : a.stored ≡ b.stored
+  pub upto : a.stored_upto ≡ b.stored_upto
+  pub failed : a.failed ≡ b.failed
+
+homes_same : (s : State) (logged : ℕ → Option Page) (q : ℕ) (ln : Lane) → HoldsSame ln (s.lane q) → homes_with s logged s.lane ≡ homes_with s logged (put s.lane q ln)
+homes_same s logged q ln same = λ j tag. record {
+  block = block_of logged tag;
+  known = s.known tag;
+  stored = sym (lane_put (λ (x : Lane). x.stored tag) s.lane q ln (λ i. same.stored i tag) (s.lane_of tag)) j;
+  stored_upto = sym (lane_put (λ (x : Lane). x.stored_upto tag) s.lane q ln (λ i. same.upto i tag) (s.lane_of tag)) j;
+  failed = sym (lane_put (λ (x : Lane). x.failed tag) s.lane q ln (λ i. same.failed i tag) (s.lane_of tag)) j;
+}
 
 -- a kind at a lane that is no write leaves what the lane holds
-pub no_write_holds : (k : LaneKind) (s : State) (q : ℕ) (x : LaneHold) (ln : Lane) → LaneAlone k s q x → ((lane_after k ln).stored ≡ ln.stored) × ((lane_after k ln).failed ≡ ln.failed)
+pub no_write_holds : (k : LaneKind) (s : State) (q : ℕ) (x : LaneHold) (ln : Lane) → LaneAlone k s q x → HoldsSame (lane_after k ln) ln
 no_write_holds (lane_kinds.write_block f tag p) s q x ln a = absurd a
 no_write_holds (lane_kinds.fail_write f tag p) s q x ln a = absurd a
-no_write_holds _ s q x ln a = (refl, refl)
+no_write_holds _ s q x ln a = record { stored = refl; upto = refl; failed = refl }
+
+-- whether a lane's contents are known stays
+still_known : (k : LaneKind) (ln : Lane) → (lane_after k ln).known ≡ ln.known
+still_known lane_kinds.take_lane ln = refl
+still_known lane_kinds.leave_lane ln = refl
+still_known (lane_kinds.fail_read tag) ln = refl
+still_known (lane_kinds.write_block f tag p) ln = refl
+still_known (lane_kinds.fail_write f tag p) ln = refl
+still_known lane_kinds.fail_sync ln = refl
+still_known _ ln = refl
+
+known_after : (s : State) → Invariant s → (k : LaneKind) (q tag : ℕ) → (put s.lane q (lane_after k (s.lane q)) (s.lane_of tag)).known ≡ s.known tag
+known_after s h k q tag = lane_put (λ (x : Lane). x.known) s.lane q (lane_after k (s.lane q)) (still_known k (s.lane q)) (s.lane_of tag) ∙ h.known tag
 
 module _ (s : State) (h : Invariant s) where
   abbrev views : List View
@@ -150,7 +180,7 @@ module _ (s : State) (h : Invariant s) where
   pins_step : (i f : ℕ) (k : pin_kinds.Kind) (v : View) → get_elem? views i ≡ some v → v.emptied ≡ false → f < n → pin_kinds.Allowed k (frame f) (link v f) → pin_steps.AllowedAround k s.pool.core v f → Invariant (record s { pool = record s.pool { core = pin_steps.state_after k s.pool.core i f v } })
   pins_step i f k v there live inside a around = let w : View = pin_stepping.after k s.pool.core f v in let fr : Frame = pin_kinds.frame_after k (frame f) in let l : Link = pin_kinds.link_after k (frame f) (link v f) in
       let law = page_stepping.step_keeps (page_steps.cores (pin_steps.touches i f k v there live inside a around)) h.pool in
-      assemble s h (record s.pool { core = pin_steps.state_after k s.pool.core i f v }) s.lane law refl refl (outer_same s.origin s.log s.lanes s.lane s.flushed (written_of s) s.device views (outer_of s h) i v w there (record { calls = refl; front = refl; joined = refl; flushed = refl; emptied = refl; number = refl; kept = refl }) refl refl refl refl)
+      assemble_same s h (record s.pool { core = pin_steps.state_after k s.pool.core i f v }) s.lane law refl h.known refl (outer_same s.known s.origin s.log s.lanes s.lane s.flushed (written_of s) s.device views (outer_of s h) i v w there (record { calls = refl; front = refl; joined = refl; flushed = refl; emptied = refl; number = refl; kept = refl }) refl refl refl refl)
       (record {
         homes = touched i f v w fr l there live inside refl (home_of s) (λ g below other. refl) (pins_keep k (home_of s (frame f).tag) (home_of s fr.tag) (frame f) (link v f) a (λ e. ap (home_of s) e) (fresh i f k v there a around));
         unframed = unframed_put n frame (home_of s) f fr inside h.unframed (clean_at f inside) (tag_goes k (frame f) (link v f) (tallies frame_shape views f) (h.pool.core.grid.columns f inside) a);
@@ -181,9 +211,9 @@ module _ (s : State) (h : Invariant s) where
   -- a step of a plain kind of `page_core`
   page_step : (i f : ℕ) (k : Kind) (v : View) → get_elem? views i ≡ some v → v.emptied ≡ false → f < n → Allowed k (block_of s.pool.logged (frame f).tag) (frame f) (link v f) → page_steps.AllowedAround k v f → IsPlain k → Invariant (record s { pool = page_steps.state_after k s.pool i f v })
   page_step i f k v there live inside a around plain = let stays = plain_block k (block_of s.pool.logged (frame f).tag) plain in let w : View = paged k s.pool f v in
-      assemble s h (page_steps.state_after k s.pool i f v) s.lane (page_stepping.step_keeps (page_steps.touches i f k v there live inside a around) h.pool) (logged_same i f k v there live inside stays) refl
-      (outer_same s.origin s.log s.lanes s.lane s.flushed (written_of s) s.device views (outer_of s h) i v w there (record { calls = refl; front = refl; joined = refl; flushed = refl; emptied = refl; number = refl; kept = refl }) refl refl refl refl)
-      (blocks_touched i f k v there live inside stays w refl (plain_keeps k (home_of s (frame f).tag) (frame f) (link v f) (cell s.origin s.log.entries (frame f).tag) (λ j. h.logged j (frame f).tag) plain a))
+      assemble_same s h (page_steps.state_after k s.pool i f v) s.lane (page_stepping.step_keeps (page_steps.touches i f k v there live inside a around) h.pool) (logged_same i f k v there live inside stays) h.known refl
+      (outer_same s.known s.origin s.log s.lanes s.lane s.flushed (written_of s) s.device views (outer_of s h) i v w there (record { calls = refl; front = refl; joined = refl; flushed = refl; emptied = refl; number = refl; kept = refl }) refl refl refl refl)
+      (blocks_touched i f k v there live inside stays w refl (plain_keeps k (home_of s (frame f).tag) (frame f) (link v f) (cell s.origin s.log.entries (frame f).tag) (h.logged (frame f).tag) plain a))
 
   -- the blocks where a view changes beside its links
   blocks_aside : (i : ℕ) (v w : View) → get_elem? views i ≡ some v → w.links ≡ v.links → Blocks n frame (set views i w) s.origin s.log s.flushed (home_of s)
@@ -193,14 +223,14 @@ module _ (s : State) (h : Invariant s) where
   others_step : {e : pin_steps.Event} {core' : pins.State} → pin_steps.Step e s.pool.core core' → Invariant (record s { pool = record s.pool { core = core' } })
   others_step (pin_steps.touches i f k v there live inside a around) = pins_step i f k v there live inside a around
   others_step (pin_steps.turns i p k v there live below a) = let x : pin_steps.Step (pin_steps.turn i p k) s.pool.core (pin_steps.state_turned k s.pool.core i p v) = pin_steps.turns i p k v there live below a in let w : View = view_turned k p (hold v p) v in
-      assemble s h (record s.pool { core = pin_steps.state_turned k s.pool.core i p v }) s.lane (page_stepping.step_keeps (page_steps.cores x) h.pool) refl refl
-      (outer_same s.origin s.log s.lanes s.lane s.flushed (written_of s) s.device views (outer_of s h) i v w there (record { calls = refl; front = refl; joined = refl; flushed = refl; emptied = refl; number = refl; kept = refl }) refl refl refl refl) (blocks_aside i v w there refl)
+      assemble_same s h (record s.pool { core = pin_steps.state_turned k s.pool.core i p v }) s.lane (page_stepping.step_keeps (page_steps.cores x) h.pool) refl h.known refl
+      (outer_same s.known s.origin s.log s.lanes s.lane s.flushed (written_of s) s.device views (outer_of s h) i v w there (record { calls = refl; front = refl; joined = refl; flushed = refl; emptied = refl; number = refl; kept = refl }) refl refl refl refl) (blocks_aside i v w there refl)
   others_step (pin_steps.splits v there room) = let x : pin_steps.Step pin_steps.split s.pool.core (pins.split_state s.pool.core v) = pin_steps.splits v there room in let w : View = record v { next = v.next + 1 } in
       let a = length v.links in let p = length v.partitions in let m = length v.lanes in let first = h.pool.core.views.first v there in
-      let outer = outer_grows s.origin s.log s.lanes s.lane s.flushed (written_of s) s.device (set views 0 w) (outer_same s.origin s.log s.lanes s.lane s.flushed (written_of s) s.device views (outer_of s h) 0 v w there (record { calls = refl; front = refl; joined = refl; flushed = refl; emptied = refl; number = refl; kept = refl }) refl refl refl refl) v.next s.pool.core.base a p h.based h.flushed_from in
+      let outer = outer_grows s.known s.origin s.log s.lanes s.lane s.flushed (written_of s) s.device (set views 0 w) (outer_same s.known s.origin s.log s.lanes s.lane s.flushed (written_of s) s.device views (outer_of s h) 0 v w there (record { calls = refl; front = refl; joined = refl; flushed = refl; emptied = refl; number = refl; kept = refl }) refl refl refl refl) v.next s.pool.core.base a p h.based h.flushed_from in
       let blocks = blocks_aside 0 v w there refl in
-      assemble s h (record s.pool { core = pins.split_state s.pool.core v }) s.lane (page_stepping.step_keeps (page_steps.cores x) h.pool) refl refl
-      (subst (λ (z : ℕ). Outer s.origin s.log s.lanes s.lane s.flushed (written_of s) s.device (set views 0 w ++ new_view v.next s.pool.core.base a p z ∷ [])) (sym (h.wide 0 v there first.0)) outer)
+      assemble_same s h (record s.pool { core = pins.split_state s.pool.core v }) s.lane (page_stepping.step_keeps (page_steps.cores x) h.pool) refl h.known refl
+      (subst (λ (z : ℕ). Outer s.known s.origin s.log s.lanes s.lane s.flushed (written_of s) s.device (set views 0 w ++ new_view v.next s.pool.core.base a p z ∷ [])) (sym (h.wide 0 v there first.0)) outer)
       (record {
         homes = grows home_shape home_part n frame (home_of s) (set views 0 w) blocks.homes (new_view v.next s.pool.core.base a p m) (new_none v.next s.pool.core.base a p m) (λ g inside. subst (HomeLink (home_of s (frame g).tag) (frame g)) (sym (link_new a p m v.next s.pool.core.base g)) (no_link (home_of s (frame g).tag) (frame g)));
         unframed = h.unframed;
@@ -208,8 +238,8 @@ module _ (s : State) (h : Invariant s) where
       })
   others_step (pin_steps.joins j v u there other here live free) = let x : pin_steps.Step (pin_steps.join j) s.pool.core (pins.joined_state s.pool.core v j u) = pin_steps.joins j v u there other here live free in let w : View = joined_view v u in
       let first = steady home_shape known n frame (home_of s) views (knows s h) 0 v w there refl (λ g. refl) in
-      assemble s h (record s.pool { core = pins.joined_state s.pool.core v j u }) s.lane (page_stepping.step_keeps (page_steps.cores x) h.pool) refl refl
-      (outer_joins s.origin s.log s.lanes s.lane s.flushed (written_of s) s.device views (outer_of s h) j v u there other here live free.lanes free.log)
+      assemble_same s h (record s.pool { core = pins.joined_state s.pool.core v j u }) s.lane (page_stepping.step_keeps (page_steps.cores x) h.pool) refl h.known refl
+      (outer_joins s.known s.origin s.log s.lanes s.lane s.flushed (written_of s) s.device views (outer_of s h) j v u there other here live free.lanes free.log)
       (record {
         homes = sweep home_shape known home_part n frame frame (home_of s) (home_of s) (set views 0 w) j u emptied_view first (set_else views 0 j w other ∙ here) (λ g inside. home_forgets (home_of s (frame g).tag) (frame g) (link u g));
         unframed = h.unframed;
@@ -221,77 +251,115 @@ pools_step s h (page_steps.cores x) a = others_step s h x
 pools_step s h (page_steps.touches i f k v there live inside a around) plain = page_step s h i f k v there live inside a around plain
 
 -- the laws of the calls and the lanes after a step at a lane
-laned_outer : (s : State) (h : Invariant s) (i q : ℕ) (k : LaneKind) (v w : View) → get_elem? s.pool.core.views i ≡ some v → v.emptied ≡ false → q < s.lanes → LaneAllowed k (s.lane q) (lane_hold v q) → SameCalls v w → w.emptied ≡ v.emptied → w.lanes ≡ set v.lanes q (lane_hold_after k v.flushed (s.lane q) (lane_hold v q)) → w.log ≡ v.log → w.saw_down ≡ v.saw_down
-    → Outer s.origin s.log s.lanes (put s.lane q (lane_after k (s.lane q))) s.flushed (written_of s) s.device (set s.pool.core.views i w)
+laned_outer : (s : State) (h : Invariant s) (i q : ℕ) (k : LaneKind) (v w : View) → get_elem? s.pool.core.views i ≡ some v → v.emptied ≡ false → q < s.lanes → LaneAllowed k (s.lane q) (lane_hold v q) → SameCalls v w → w.emptied ≡ v.emptied → w.lanes ≡ set v.lanes q (lane_hold_after k v.flushed (lane_hold v q)) → w.log ≡ v.log → w.saw_down ≡ v.saw_down
+    → Outer s.known s.origin s.log s.lanes (put s.lane q (lane_after k (s.lane q))) s.flushed (written_of s) s.device (set s.pool.core.views i w)
 laned_outer s h i q k v w there live low a same emptied holds unlogged saw = record {
   device = steady log_shape log_part 1 (λ _. s.device) (λ _. written_of s) s.pool.core.views h.device i v w there saw (λ g. unlogged);
-  history = history_same s.origin s.log s.flushed s.pool.core.views h.history i v w there same;
-  lanes = lanes_touched s.origin s.log s.lanes s.lane s.flushed (written_of s) s.device s.pool.core.views (outer_of s h) i q k v w there live low a holds;
-  wide = wide_set s.lanes s.pool.core.views h.wide i v w there emptied (ap (λ (x : List LaneHold). length x) holds ∙ length-set v.lanes q (lane_hold_after k v.flushed (s.lane q) (lane_hold v q)));
+  history = history_same s.known s.origin s.log s.flushed s.pool.core.views h.history i v w there same;
+  lanes = lanes_touched s.known s.origin s.log s.lanes s.lane s.flushed (written_of s) s.device s.pool.core.views (outer_of s h) i q k v w there live low a holds;
+  wide = wide_set s.lanes s.pool.core.views h.wide i v w there emptied (ap (λ (x : List LaneHold). length x) holds ∙ length-set v.lanes q (lane_hold_after k v.flushed (lane_hold v q)));
 }
 
--- What is to be shown of a kind that notes something
-record Noted (s : State) (f : ℕ) (k : Kind) (v : View) : Type 0 where
-  pub allowed : Allowed k (block_of s.pool.logged (s.pool.core.frame f).tag) (s.pool.core.frame f) (link v f)
-  pub stays : block_after k (block_of s.pool.logged (s.pool.core.frame f).tag) ≡ block_of s.pool.logged (s.pool.core.frame f).tag
-  pub keeps : Keeps_by k (home_of s (s.pool.core.frame f).tag) (home_after k (home_of s (s.pool.core.frame f).tag)) (s.pool.core.frame f) (link v f)
+-- The kind k notes something at the frame f, where `logged` is what is known of the blocks' pages by then
+module _ (s : State) (h : Invariant s) (i q f : ℕ) (noted : Bool) (k : Kind) (v : View) (there : get_elem? s.pool.core.views i ≡ some v) (live : v.emptied ≡ false) (low : q < s.lanes) (inside : f < s.pool.core.frames) (back : LaneAllowed (lane_kinds.lane_back noted) (s.lane q) (lane_hold v q)) (logged : ℕ → Option Page) where
+  abbrev noting : page.State
+  noting = record s.pool { logged = logged }
 
--- a frame for input has a tag and isn't dirty
-for_input : (b : Block) (fr : Frame) (l : Link) (t : pin_tallies.Tally → ℕ) → FrameLaw fr t → PageLink b fr l → l.io ≡ Input → (fr.tag ≢ no_tag) × (fr.word.dirty ≡ false)
-for_input b fr l t c d e = let x = d.input e in (x.0.named, grind (arith, c, x.1))
+  abbrev noting_frame : Frame
+  noting_frame = s.pool.core.frame f
 
-noted_keeps : (s : State) (h : Invariant s) (i q f : ℕ) (k : Kind) (v : View) → get_elem? s.pool.core.views i ≡ some v → v.emptied ≡ false → q < s.lanes → f < s.pool.core.frames → Notes k s q f (lane_hold v q) (link v f) → Noted s f k v
-noted_keeps s h i q f (note_read p) v there live low inside x = let fr = s.pool.core.frame f in let hm = home_of s fr.tag in
-    let input = for_input (block_of s.pool.logged fr.tag) fr (link v f) (tallies frame_shape s.pool.core.views f) (h.pool.core.grid.columns f inside) (h.pool.pages.cells i v f there inside) x.right in
-    let clean = (h.homes.columns f inside).clean input.0 input.1 in let held = (h.lanes.cells i v q there low).hold.read fr.tag p x.was_read in
-    let is : hm.stored ≡ p = ap (λ (z : ℕ). (s.lane z).stored fr.tag) x.lane ∙ held in let a : Allowed (note_read p) hm.block fr (link v f) = record { right = x.right; fresh = x.fresh; given = λ r e. same_Some r hm.stored (sym e ∙ clean.stored) ∙ is } in record {
-      allowed = a;
-      stays = refl;
-      keeps = homes.note_read_keeps hm fr (link v f) p a;
-    }
-noted_keeps s h i q f (note_write true) v there live low inside (p, x) = let fr = s.pool.core.frame f in let hm = home_of s fr.tag in let held = (h.lanes.cells i v q there low).hold.written f fr.tag p x.was_written in record {
-  allowed = x.right;
-  stays = refl;
-  keeps = homes.note_done_keeps hm fr (link v f) (ap (λ (z : ℕ). (s.lane z).failed fr.tag) x.lane ∙ held.done) (ap (λ (z : ℕ). (s.lane z).stored fr.tag) x.lane ∙ held.stored ∙ sym x.page) x.right;
-}
-noted_keeps s h i q f (note_write false) v there live low inside x = let fr = s.pool.core.frame f in record { allowed = x.right; stays = refl; keeps = homes.note_failed_keeps (home_of s fr.tag) fr (link v f) x.right }
-noted_keeps s h i q f begin_write v there live low inside x = absurd x
-noted_keeps s h i q f (make_entry p) v there live low inside x = absurd x
-noted_keeps s h i q f kinds.load_content v there live low inside x = absurd x
-noted_keeps s h i q f kinds.mark_dirty v there live low inside x = absurd x
-noted_keeps s h i q f kinds.share v there live low inside x = absurd x
-noted_keeps s h i q f kinds.exclude v there live low inside x = absurd x
-noted_keeps s h i q f kinds.unshare v there live low inside x = absurd x
-noted_keeps s h i q f kinds.unexclude v there live low inside x = absurd x
-noted_keeps s h i q f kinds.take_copy v there live low inside x = absurd x
-noted_keeps s h i q f kinds.leave_copy v there live low inside x = absurd x
-noted_keeps s h i q f kinds.page_out v there live low inside x = absurd x
-noted_keeps s h i q f kinds.overwrite_logged v there live low inside x = absurd x
-noted_keeps s h i q f (kinds.overwrite_read p) v there live low inside x = absurd x
-noted_keeps s h i q f kinds.page_back v there live low inside x = absurd x
-noted_keeps s h i q f kinds.start_input v there live low inside x = absurd x
-noted_keeps s h i q f kinds.start_output v there live low inside x = absurd x
-noted_keeps s h i q f kinds.clear_just_dirtied v there live low inside x = absurd x
-noted_keeps s h i q f (kinds.end_io end) v there live low inside x = absurd x
+  abbrev noting_block : Block
+  noting_block = block_of logged noting_frame.tag
 
--- a step at a lane that touches no frame
-lanes_step : (s : State) → Invariant s → (i q : ℕ) (k : LaneKind) (v : View) → get_elem? s.pool.core.views i ≡ some v → v.emptied ≡ false → q < s.lanes → LaneAllowed k (s.lane q) (lane_hold v q) → LaneAlone k s q (lane_hold v q)
-    → Invariant (record s { pool = aside s.pool i (stepped (laned k s q v v)); lane = put s.lane q (lane_after k (s.lane q)) })
-lanes_step s h i q k v there live inside a alone = let w : View = stepped (laned k s q v v) in let views = s.pool.core.views in let holds = no_write_holds k s q (lane_hold v q) (s.lane q) alone in
-    let same : SameHere v w = record { backend = record { emptied = refl; number = refl; next = refl; links = refl; partitions = refl }; joined = refl; links = refl; partitions = refl } in
-    assemble s h (aside s.pool i w) (put s.lane q (lane_after k (s.lane q))) (pool_aside s.pool i v w h.pool there same) refl refl
-    (laned_outer s h i q k v w there live inside a (record { calls = refl; front = refl; joined = refl; flushed = refl; emptied = refl; number = refl; kept = refl }) refl refl refl refl)
-    (subst (λ (x : ℕ → Home). Blocks s.pool.core.frames s.pool.core.frame (set views i w) s.origin s.log s.flushed x) (homes_same s q (lane_after k (s.lane q)) holds.0 holds.1) (blocks_aside s h i v w there refl))
+  noted_keeps : page_law.Invariant noting → ((tag : ℕ) → s.known tag ≡ true → logged tag ≡ s.pool.logged tag) → ((tag : ℕ) → tag ≢ noting_frame.tag → homes_with s logged s.lane tag ≡ home_of s tag) → ((g : ℕ) → g < s.pool.core.frames → g ≢ f → homes_with s logged s.lane (s.pool.core.frame g).tag ≡ home_of s (s.pool.core.frame g).tag)
+      → Allowed k noting_block noting_frame (link v f) → block_after k noting_block ≡ noting_block
+      → Keeps home_shape known home_part (home_of s noting_frame.tag) (homes_with s logged s.lane noting_frame.tag) tt tt noting_frame (link v f) (frame_after k noting_block noting_frame) (link_after k noting_block noting_frame (link v f))
+      → Invariant (record s { pool = pool_after k noting i f (laned (lane_kinds.lane_back noted) q v (paged k noting f v)); lane = put s.lane q (s.lane q) })
+  noted_keeps law same free else a stays keeps = let fr : Frame = frame_after k noting_block noting_frame in let w : View = laned (lane_kinds.lane_back noted) q v (paged k noting f v) in let views = s.pool.core.views in
+      let is : logged_after k logged noting_frame.tag ≡ logged = (λ j g. put_same logged noting_frame.tag (block_after k noting_block).logged g (ap (λ (x : Block). x.logged) stays) j) in
+      let here : SameHere (paged k noting f v) w = record { backend = record { emptied = refl; number = refl; next = refl; links = refl; partitions = refl }; joined = refl; links = refl; partitions = refl } in
+      let tag_same = tag_kept k noting_block noting_frame in
+      assemble s h (pool_after k noting i f w) (put s.lane q (s.lane q)) (pool_touched noting law i f k v w there live inside a here) (λ tag e. (λ j. is j tag) ∙ same tag e ∙ h.logged tag e) (known_after s h (lane_kinds.lane_back noted) q) refl
+      (laned_outer s h i q (lane_kinds.lane_back noted) v w there live low back (record { calls = refl; front = refl; joined = refl; flushed = refl; emptied = refl; number = refl; kept = refl }) refl refl refl refl)
+      (subst (λ (y : ℕ → Option Page). Blocks s.pool.core.frames (put s.pool.core.frame f fr) (set views i w) s.origin s.log s.flushed (homes_with s y (put s.lane q (s.lane q)))) (sym is)
+      (subst (λ (y : ℕ → Home). Blocks s.pool.core.frames (put s.pool.core.frame f fr) (set views i w) s.origin s.log s.flushed y) (homes_same s logged q (s.lane q) (record { stored = refl; upto = refl; failed = refl }))
+      (record {
+        homes = touched s h i f v w fr (link_after k noting_block noting_frame (link v f)) there live inside refl (homes_with s logged s.lane) else
+            (subst (λ (y : ℕ). Keeps home_shape known home_part (home_of s noting_frame.tag) (homes_with s logged s.lane y) tt tt noting_frame (link v f) fr (link_after k noting_block noting_frame (link v f))) (sym tag_same) keeps);
+        unframed = λ t given none. let was = still_unframed s.pool.core.frames s.pool.core.frame f fr t tag_same inside none in subst IsClean (sym (free t (λ e. was f inside (sym e)))) (h.unframed t given was);
+        flushed_cells = λ t. let x = h.flushed_cells t in record { based = x.based; within = x.within; is_cell = x.is_cell };
+      })))
+
+-- a frame for input has a tag, and is neither valid nor dirty
+for_input : (b : Block) (fr : Frame) (l : Link) (t : pin_tallies.Tally → ℕ) → FrameLaw fr t → PageLink b fr l → l.io ≡ Input → (fr.tag ≢ no_tag) × (fr.word.dirty ≡ false) × (fr.word.valid ≡ false)
+for_input b fr l t c d e = let x = d.input e in (x.0.named, grind (arith, c, x.1), x.1)
+
+-- what a lane gave is noted at a frame
+module _ (s : State) (h : Invariant s) (i q f : ℕ) (noted : Bool) (v : View) (there : get_elem? s.pool.core.views i ≡ some v) (live : v.emptied ≡ false) (low : q < s.lanes) (inside : f < s.pool.core.frames) (back : LaneAllowed (lane_kinds.lane_back noted) (s.lane q) (lane_hold v q)) (p : Page) (x : CanNoteLaneRead s q f p (lane_hold v q) (link v f)) where
+  abbrev read_frame : Frame
+  read_frame = s.pool.core.frame f
+
+  is_input : (read_frame.tag ≢ no_tag) × (read_frame.word.dirty ≡ false) × (read_frame.word.valid ≡ false)
+  is_input = for_input (block_of s.pool.logged read_frame.tag) read_frame (link v f) (tallies frame_shape s.pool.core.views f) (h.pool.core.grid.columns f inside) (h.pool.pages.cells i v f there inside) x.right
+
+  note_known : s.known read_frame.tag ≡ true → Invariant (record s { pool = pool_after (note_read p) s.pool i f (laned (lane_kinds.lane_back noted) q v (paged (note_read p) s.pool f v)); lane = put s.lane q (s.lane q) })
+  note_known e = let hm = home_of s read_frame.tag in let clean = (h.homes.columns f inside).clean is_input.0 is_input.1 in
+      let held = (h.lanes.cells i v q there low).hold.read read_frame.tag p x.was_read (ap (λ (z : ℕ). (s.lane z).known) (sym x.lane) ∙ h.known read_frame.tag ∙ e) in let is : hm.stored ≡ p = ap (λ (z : ℕ). (s.lane z).stored read_frame.tag) x.lane ∙ held in
+      noted_keeps s h i q f noted (note_read p) v there live low inside back s.pool.logged h.pool (λ tag z. refl) (λ tag z. refl) (λ g below other. refl) (record { right = x.right; fresh = x.fresh; given = λ r z. same_Some r hm.stored (sym z ∙ clean.stored e) ∙ is }) refl
+      (homes.note_read_keeps hm read_frame (link v f) p hm refl refl (λ z. (z, refl)) x.right)
+
+  -- where the contents aren't known the block's page is forgotten
+  note_unknown : s.known read_frame.tag ≡ false → Invariant (record s { pool = pool_after (note_read p) (record s.pool { logged = put s.pool.logged read_frame.tag None }) i f (laned (lane_kinds.lane_back noted) q v (paged (note_read p) (record s.pool { logged = put s.pool.logged read_frame.tag None }) f v)); lane = put s.lane q (s.lane q) })
+  note_unknown e = let tag = read_frame.tag in let g : ℕ → Option Page = put s.pool.logged tag None in let hm = home_of s tag in
+      let else : (t : ℕ) → t ≢ tag → homes_with s g s.lane t ≡ home_of s t = (λ t other. ap (λ (o : Option Page). record (home_of s t) { block = record { logged = o } }) (put_else s.pool.logged tag None t other)) in
+      noted_keeps s h i q f noted (note_read p) v there live low inside back g (forgets s.pool f h.pool inside is_input.0 is_input.2) (λ t z. put_else s.pool.logged tag None t (λ same. absurd (apart (sym (ap s.known same) ∙ z) e))) else
+      (λ k below other. else (s.pool.core.frame k).tag (λ same. other (sym (h.pool.core.apart f k inside below is_input.0 (sym same)))))
+      (record { right = x.right; fresh = x.fresh; given = λ r z. let none = sym z ∙ put_here s.pool.logged tag None in absurd (cc) }) refl
+      (homes.note_read_keeps hm read_frame (link v f) p (homes_with s g s.lane tag) refl refl (λ z. absurd (apart z e)) x.right)
+    where
+      apart : {b : Bool} → b ≡ true → b ≡ false → ⊥
+      apart y n = cc
+
+  note_either : (b : Bool) → s.known read_frame.tag ≡ b → Invariant (record s { pool = pool_after (note_read p) (record s.pool { logged = cond b s.pool.logged (put s.pool.logged read_frame.tag None) }) i f (laned (lane_kinds.lane_back noted) q v (paged (note_read p) (record s.pool { logged = cond b s.pool.logged (put s.pool.logged read_frame.tag None) }) f v)); lane = put s.lane q (s.lane q) })
+  note_either true e = note_known e
+  note_either false e = note_unknown e
 
 -- what comes back is noted at a frame
 notes_step : (s : State) → Invariant s → (i q f : ℕ) (noted : Bool) (k : Kind) (v : View) → get_elem? s.pool.core.views i ≡ some v → v.emptied ≡ false → q < s.lanes → f < s.pool.core.frames → LaneAllowed (lane_kinds.lane_back noted) (s.lane q) (lane_hold v q) → Notes k s q f (lane_hold v q) (link v f)
-    → Invariant (record s { pool = pool_after k s.pool i f (laned (lane_kinds.lane_back noted) s q v (paged k s.pool f v)); lane = put s.lane q (s.lane q) })
-notes_step s h i q f noted k v there live low inside back what = let fr = s.pool.core.frame f in let b : Block = block_of s.pool.logged fr.tag in let w : View = laned (lane_kinds.lane_back noted) s q v (paged k s.pool f v) in let views = s.pool.core.views in
-    let x = noted_keeps s h i q f k v there live low inside what in
-    let same : SameHere (paged k s.pool f v) w = record { backend = record { emptied = refl; number = refl; next = refl; links = refl; partitions = refl }; joined = refl; links = refl; partitions = refl } in
-    assemble s h (pool_after k s.pool i f w) (put s.lane q (s.lane q)) (pool_touched s.pool h.pool i f k v w there live inside x.allowed same) (logged_same s h i f k v there live inside x.stays) refl
-    (laned_outer s h i q (lane_kinds.lane_back noted) v w there live low back (record { calls = refl; front = refl; joined = refl; flushed = refl; emptied = refl; number = refl; kept = refl }) refl refl refl refl)
-    (subst (λ (y : ℕ → Home). Blocks s.pool.core.frames (put s.pool.core.frame f (frame_after k b fr)) (set views i w) s.origin s.log s.flushed y) (homes_same s q (s.lane q) refl refl) (blocks_touched s h i f k v there live inside x.stays w refl x.keeps))
+    → Invariant (record s { pool = pool_after k (pool_noting k s f) i f (laned (lane_kinds.lane_back noted) q v (paged k (pool_noting k s f) f v)); lane = put s.lane q (s.lane q) })
+notes_step s h i q f noted (note_read p) v there live low inside back x = note_either s h i q f noted v there live low inside back p x (s.known (s.pool.core.frame f).tag) refl
+notes_step s h i q f noted (note_write true) v there live low inside back (p, x) = let fr = s.pool.core.frame f in let hm = home_of s fr.tag in let held = (h.lanes.cells i v q there low).hold.written f fr.tag p x.was_written in
+    noted_keeps s h i q f noted (note_write true) v there live low inside back s.pool.logged h.pool (λ tag z. refl) (λ tag z. refl) (λ g below other. refl) x.right refl
+    (homes.note_done_keeps hm fr (link v f) (ap (λ (z : ℕ). (s.lane z).failed fr.tag) x.lane ∙ held.done) (ap (λ (z : ℕ). (s.lane z).stored fr.tag) x.lane ∙ held.stored ∙ sym x.page) x.right)
+notes_step s h i q f noted (note_write false) v there live low inside back x = let fr = s.pool.core.frame f in
+    noted_keeps s h i q f noted (note_write false) v there live low inside back s.pool.logged h.pool (λ tag z. refl) (λ tag z. refl) (λ g below other. refl) x.right refl (homes.note_failed_keeps (home_of s fr.tag) fr (link v f) x.right)
+notes_step s h i q f noted begin_write v there live low inside back x = absurd x
+notes_step s h i q f noted (make_entry p) v there live low inside back x = absurd x
+notes_step s h i q f noted kinds.load_content v there live low inside back x = absurd x
+notes_step s h i q f noted kinds.mark_dirty v there live low inside back x = absurd x
+notes_step s h i q f noted kinds.share v there live low inside back x = absurd x
+notes_step s h i q f noted kinds.exclude v there live low inside back x = absurd x
+notes_step s h i q f noted kinds.unshare v there live low inside back x = absurd x
+notes_step s h i q f noted kinds.unexclude v there live low inside back x = absurd x
+notes_step s h i q f noted kinds.take_copy v there live low inside back x = absurd x
+notes_step s h i q f noted kinds.leave_copy v there live low inside back x = absurd x
+notes_step s h i q f noted kinds.page_out v there live low inside back x = absurd x
+notes_step s h i q f noted kinds.overwrite_logged v there live low inside back x = absurd x
+notes_step s h i q f noted (kinds.overwrite_read p) v there live low inside back x = absurd x
+notes_step s h i q f noted kinds.page_back v there live low inside back x = absurd x
+notes_step s h i q f noted kinds.start_input v there live low inside back x = absurd x
+notes_step s h i q f noted kinds.start_output v there live low inside back x = absurd x
+notes_step s h i q f noted kinds.clear_just_dirtied v there live low inside back x = absurd x
+notes_step s h i q f noted (kinds.end_io end) v there live low inside back x = absurd x
+
+-- a step at a lane that touches no frame
+lanes_step : (s : State) → Invariant s → (i q : ℕ) (k : LaneKind) (v : View) → get_elem? s.pool.core.views i ≡ some v → v.emptied ≡ false → q < s.lanes → LaneAllowed k (s.lane q) (lane_hold v q) → LaneAlone k s q (lane_hold v q)
+    → Invariant (record s { pool = aside s.pool i (stepped (laned k q v v)); lane = put s.lane q (lane_after k (s.lane q)) })
+lanes_step s h i q k v there live inside a alone = let w : View = stepped (laned k q v v) in let views = s.pool.core.views in let holds = no_write_holds k s q (lane_hold v q) (s.lane q) alone in
+    let same : SameHere v w = record { backend = record { emptied = refl; number = refl; next = refl; links = refl; partitions = refl }; joined = refl; links = refl; partitions = refl } in
+    assemble_same s h (aside s.pool i w) (put s.lane q (lane_after k (s.lane q))) (pool_aside s.pool i v w h.pool there same) refl (known_after s h k q) refl
+    (laned_outer s h i q k v w there live inside a (record { calls = refl; front = refl; joined = refl; flushed = refl; emptied = refl; number = refl; kept = refl }) refl refl refl refl)
+    (subst (λ (x : ℕ → Home). Blocks s.pool.core.frames s.pool.core.frame (set views i w) s.origin s.log s.flushed x) (homes_same s s.pool.logged q (lane_after k (s.lane q)) holds) (blocks_aside s h i v w there refl))
 
 -- The page p of the frame f goes to its lane q, or fails to
 module _ (s : State) (h : Invariant s) (i q f : ℕ) (v : View) (there : get_elem? s.pool.core.views i ≡ some v) (live : v.emptied ≡ false) (low : q < s.lanes) (inside : f < s.pool.core.frames) (tag : ℕ) (x : CanWrite s q f tag (s.pool.core.frame f).page (lane_hold v q) (link v f)) where
@@ -305,40 +373,61 @@ module _ (s : State) (h : Invariant s) (i q f : ℕ) (v : View) (there : get_ele
   other_tag : (g : ℕ) → g < s.pool.core.frames → g ≢ f → (s.pool.core.frame g).tag ≢ tag
   other_tag g below other same = other (sym (h.pool.core.apart f g inside below named_logged.0.named (x.tagged ∙ sym same)))
 
-  -- the page is the block's after the entries up to the flushed position
-  is_flushed : (lane_hold v q).out ≢ None → IsFlushedCell s.origin s.log s.flushed tag written_frame.page
-  is_flushed out = let early : lsn_of written_frame.page ≤ s.flushed = (let a = x.log_first in let b = (h.lanes.cells i v q there low).hold.flushed_by out in omega arith) in
-      let is : written_frame.page ≡ cell s.origin s.log.entries tag = sym (named_logged.1 (cell s.origin s.log.entries tag) (ap s.pool.logged x.tagged ∙ (λ j. h.logged j tag))) in record {
-        place = s.flushed;
-        based = h.flushed_from;
-        within = omega arith;
-        is_cell = is ∙ sym (cell_at_position s.origin s.log.entries tag s.flushed h.log.images (subst (λ (y : Page). lsn_of y ≤ s.flushed) is early));
-      }
+  -- the page's position in the log is flushed
+  is_early : (lane_hold v q).out ≢ None → lsn_of written_frame.page ≤ s.flushed
+  is_early out = let a = x.log_first in let b = (h.lanes.cells i v q there low).hold.flushed_by out in omega arith
 
-  -- the lane after the write holds the page p for the block
-  module _ (k : LaneKind) (p : Page) (done : Bool) (back : LaneAllowed k (s.lane q) (lane_hold v q)) (stores : (lane_after k (s.lane q)).stored ≡ put (s.lane q).stored tag p) (fails : (lane_after k (s.lane q)).failed ≡ put (s.lane q).failed tag done) (good : done ≡ false → IsFlushedCell s.origin s.log s.flushed tag p) where
+  -- the page is the block's after the entries up to its position
+  abbrev upto : ℕ
+  upto = max ((s.lane q).stored_upto tag) (lsn_of written_frame.page)
+
+  is_flushed : (lane_hold v q).out ≢ None → IsFlushedCell s.origin s.log s.flushed tag (record (home_of s tag) { stored = written_frame.page; stored_upto = upto; failed = false })
+  is_flushed out = let early = is_early out in let was = h.flushed_cells tag in let same : (s.lane q).stored_upto tag ≡ stored_upto s tag = ap (λ (z : ℕ). (s.lane z).stored_upto tag) (sym x.lane) in record {
+    based = (let z = was.based in omega arith);
+    within = (let z = was.within in omega arith);
+    is_cell = λ known ok. let is : written_frame.page ≡ cell s.origin s.log.entries tag = sym (named_logged.1 (cell s.origin s.log.entries tag) (ap s.pool.logged x.tagged ∙ h.logged tag known)) in
+        is ∙ sym (cell_at_position s.origin s.log.entries tag upto h.log.images (subst (λ (y : Page). lsn_of y ≤ upto) is (omega arith)));
+  }
+
+  -- the lane after the write holds the page p for the block, and the block's entries up to u
+  module _ (k : LaneKind) (p : Page) (u : ℕ) (done : Bool) (back : LaneAllowed k (s.lane q) (lane_hold v q)) (stores : (lane_after k (s.lane q)).stored ≡ put (s.lane q).stored tag p) (uptos : (lane_after k (s.lane q)).stored_upto ≡ put (s.lane q).stored_upto tag u) (fails : (lane_after k (s.lane q)).failed ≡ put (s.lane q).failed tag done)
+      (good : IsFlushedCell s.origin s.log s.flushed tag (record (home_of s tag) { stored = p; stored_upto = u; failed = done })) where
     abbrev lane' : ℕ → Lane
     lane' = put s.lane q (lane_after k (s.lane q))
 
     abbrev home' : ℕ → Home
-    home' = homes_with s lane'
+    home' = homes_with s s.pool.logged lane'
+
+    -- of what the lanes hold only the block's part changes
+    written_at : {A : Type 0} (g : Lane → ℕ → A) (a : A) → g (lane_after k (s.lane q)) ≡ put (g (s.lane q)) tag a → (t : ℕ) → g (lane' (s.lane_of t)) t ≡ put (λ (z : ℕ). g (s.lane (s.lane_of z)) z) tag a t
+    written_at g a e t = let all = (λ (z : ℕ). g (s.lane (s.lane_of z)) z) in dite (ℕ_discrete t tag)
+        (λ (same : t ≡ tag). ap (λ (y : Lane). g y t) (put_at s.lane q (lane_after k (s.lane q)) (s.lane_of t) (ap s.lane_of same ∙ x.lane)) ∙ (λ j. e j t) ∙ put_at (g (s.lane q)) tag a t same ∙ sym (put_at all tag a t same))
+        (λ (other : t ≢ tag). dite (ℕ_discrete (s.lane_of t) q)
+        (λ (at : s.lane_of t ≡ q). ap (λ (y : Lane). g y t) (put_at s.lane q (lane_after k (s.lane q)) (s.lane_of t) at) ∙ (λ j. e j t) ∙ put_else (g (s.lane q)) tag a t other ∙ ap (λ (z : ℕ). g (s.lane z) t) (sym at) ∙ sym (put_else all tag a t other))
+        (λ (o : s.lane_of t ≢ q). ap (λ (y : Lane). g y t) (put_else s.lane q (lane_after k (s.lane q)) (s.lane_of t) o) ∙ sym (put_else all tag a t other)))
 
     else : (t : ℕ) → t ≢ tag → home' t ≡ home_of s t
-    else t other = dite (ℕ_discrete (s.lane_of t) q)
-        (λ (e : s.lane_of t ≡ q). let at : lane' (s.lane_of t) ≡ lane_after k (s.lane q) = put_at s.lane q (lane_after k (s.lane q)) (s.lane_of t) e in let was : s.lane q ≡ s.lane (s.lane_of t) = ap s.lane (sym e) in
-        let a : (lane' (s.lane_of t)).stored t ≡ (s.lane (s.lane_of t)).stored t = ap (λ (y : Lane). y.stored t) at ∙ (λ j. stores j t) ∙ put_else (s.lane q).stored tag p t other ∙ ap (λ (y : Lane). y.stored t) was in
-        let b : (lane' (s.lane_of t)).failed t ≡ (s.lane (s.lane_of t)).failed t = ap (λ (y : Lane). y.failed t) at ∙ (λ j. fails j t) ∙ put_else (s.lane q).failed tag done t other ∙ ap (λ (y : Lane). y.failed t) was in
-        λ j. record { block = block_of s.pool.logged t; stored = a j; failed = b j })
-        (λ (o : s.lane_of t ≢ q). let at : lane' (s.lane_of t) ≡ s.lane (s.lane_of t) = put_else s.lane q (lane_after k (s.lane q)) (s.lane_of t) o in λ j. record { block = block_of s.pool.logged t; stored = (at j).stored t; failed = (at j).failed t })
+    else t other = λ j. record {
+      block = block_of s.pool.logged t;
+      known = s.known t;
+      stored = (written_at (λ (y : Lane). y.stored) p stores t ∙ put_else (stored s) tag p t other) j;
+      stored_upto = (written_at (λ (y : Lane). y.stored_upto) u uptos t ∙ put_else (stored_upto s) tag u t other) j;
+      failed = (written_at (λ (y : Lane). y.failed) done fails t ∙ put_else (failed s) tag done t other) j;
+    }
 
-    here : ((home' tag).stored ≡ p) × ((home' tag).failed ≡ done)
-    here = let at : lane' (s.lane_of tag) ≡ lane_after k (s.lane q) = put_at s.lane q (lane_after k (s.lane q)) (s.lane_of tag) x.lane in
-        (ap (λ (y : Lane). y.stored tag) at ∙ (λ j. stores j tag) ∙ put_here (s.lane q).stored tag p, ap (λ (y : Lane). y.failed tag) at ∙ (λ j. fails j tag) ∙ put_here (s.lane q).failed tag done)
+    here : home' tag ≡ record (home_of s tag) { stored = p; stored_upto = u; failed = done }
+    here = λ j. record {
+      block = block_of s.pool.logged tag;
+      known = s.known tag;
+      stored = (written_at (λ (y : Lane). y.stored) p stores tag ∙ put_here (stored s) tag p) j;
+      stored_upto = (written_at (λ (y : Lane). y.stored_upto) u uptos tag ∙ put_here (stored_upto s) tag u) j;
+      failed = (written_at (λ (y : Lane). y.failed) done fails tag ∙ put_here (failed s) tag done) j;
+    }
 
-    pub write_keeps : Invariant (record s { pool = pool_after begin_write s.pool i f (laned k s q v (paged begin_write s.pool f v)); lane = lane' })
-    write_keeps = let b : Block = block_of s.pool.logged written_frame.tag in let w : View = laned k s q v (paged begin_write s.pool f v) in let views = s.pool.core.views in let a : Allowed begin_write b written_frame (link v f) = record { right = x.right.right } in
+    pub write_keeps : Invariant (record s { pool = pool_after begin_write s.pool i f (laned k q v (paged begin_write s.pool f v)); lane = lane' })
+    write_keeps = let b : Block = block_of s.pool.logged written_frame.tag in let w : View = laned k q v (paged begin_write s.pool f v) in let views = s.pool.core.views in let a : Allowed begin_write b written_frame (link v f) = record { right = x.right.right } in
         let same : SameHere (paged begin_write s.pool f v) w = record { backend = record { emptied = refl; number = refl; next = refl; links = refl; partitions = refl }; joined = refl; links = refl; partitions = refl } in
-        assemble s h (pool_after begin_write s.pool i f w) lane' (pool_touched s.pool h.pool i f begin_write v w there live inside a same) (logged_same s h i f begin_write v there live inside refl) refl
+        assemble_same s h (pool_after begin_write s.pool i f w) lane' (pool_touched s.pool h.pool i f begin_write v w there live inside a same) (logged_same s h i f begin_write v there live inside refl) (known_after s h k q) refl
         (laned_outer s h i q k v w there live low back (record { calls = refl; front = refl; joined = refl; flushed = refl; emptied = refl; number = refl; kept = refl }) refl refl refl refl)
         (record {
           homes = touched s h i f v w written_frame (link_after begin_write b written_frame (link v f)) there live inside refl home' (λ g below other. else (s.pool.core.frame g).tag (other_tag g below other))
@@ -346,20 +435,22 @@ module _ (s : State) (h : Invariant s) (i q f : ℕ) (v : View) (there : get_ele
           unframed = λ t named none. dite (ℕ_discrete t tag)
               (λ (e : t ≡ tag). absurd (still_unframed s.pool.core.frames s.pool.core.frame f written_frame t refl inside none f inside (x.tagged ∙ sym e)))
               (λ (o : t ≢ tag). subst IsClean (sym (else t o)) (h.unframed t named (still_unframed s.pool.core.frames s.pool.core.frame f written_frame t refl inside none)));
-          flushed_cells = λ t ok. dite (ℕ_discrete t tag)
-              (λ (e : t ≡ tag). subst (λ (z : ℕ). IsFlushedCell s.origin s.log s.flushed z (home' z).stored) (sym e) (subst (λ (y : Page). IsFlushedCell s.origin s.log s.flushed tag y) (sym here.0) (good (sym here.1 ∙ ap (λ (z : ℕ). (home' z).failed) (sym e) ∙ ok))))
-              (λ (o : t ≢ tag). subst (λ (y : Page). IsFlushedCell s.origin s.log s.flushed t y) (ap (λ (y : Home). y.stored) (sym (else t o))) (h.flushed_cells t (ap (λ (y : Home). y.failed) (sym (else t o)) ∙ ok)));
+          flushed_cells = λ t. dite (ℕ_discrete t tag)
+              (λ (e : t ≡ tag). subst (λ (z : ℕ). IsFlushedCell s.origin s.log s.flushed z (home' z)) (sym e) (subst (IsFlushedCell s.origin s.log s.flushed tag) (sym here) good))
+              (λ (o : t ≢ tag). subst (IsFlushedCell s.origin s.log s.flushed t) (sym (else t o)) (h.flushed_cells t));
         })
 
 writes_step : (s : State) → Invariant s → (i q f : ℕ) (k : LaneKind) (v : View) → get_elem? s.pool.core.views i ≡ some v → v.emptied ≡ false → q < s.lanes → f < s.pool.core.frames → LaneAllowed k (s.lane q) (lane_hold v q) → Writes k s q f (lane_hold v q) (link v f)
-    → Invariant (record s { pool = pool_after begin_write s.pool i f (laned k s q v (paged begin_write s.pool f v)); lane = put s.lane q (lane_after k (s.lane q)) })
-writes_step s h i q f (lane_kinds.write_block g tag p) v there live low inside back (at, x) = let y : CanWrite s q f tag (s.pool.core.frame f).page (lane_hold v q) (link v f) = record { tagged = x.tagged; lane = x.lane; page = refl; right = x.right; log_first = subst (λ (z : Page). lsn_of z ≤ (lane_hold v q).flushed) (sym x.page) x.log_first } in
-    write_keeps s h i q f v there live low inside tag y (lane_kinds.write_block g tag p) p false back refl refl (λ ok. subst (λ (z : Page). IsFlushedCell s.origin s.log s.flushed tag z) x.page (is_flushed s h i q f v there live low inside tag y back.out))
-writes_step s h i q f (lane_kinds.fail_write g tag p) v there live low inside back (at, x) = write_keeps s h i q f v there live low inside tag x (lane_kinds.fail_write g tag p) p true back refl refl (λ ok. absurd (cc))
+    → Invariant (record s { pool = pool_after begin_write s.pool i f (laned k q v (paged begin_write s.pool f v)); lane = put s.lane q (lane_after k (s.lane q)) })
+writes_step s h i q f (lane_kinds.write_block g tag p) v there live low inside back (at, x) = let page = (s.pool.core.frame f).page in let upto_of = (λ (z : Page). max ((s.lane q).stored_upto tag) (lsn_of z)) in
+    let y : CanWrite s q f tag page (lane_hold v q) (link v f) = record { tagged = x.tagged; lane = x.lane; page = refl; right = x.right; log_first = subst (λ (z : Page). lsn_of z ≤ (lane_hold v q).flushed) (sym x.page) x.log_first } in
+    write_keeps s h i q f v there live low inside tag y (lane_kinds.write_block g tag p) p (upto_of p) false back refl refl refl (subst (λ (z : Page). IsFlushedCell s.origin s.log s.flushed tag (record (home_of s tag) { stored = z; stored_upto = upto_of z; failed = false })) x.page (is_flushed s h i q f v there live low inside tag y back.out))
+writes_step s h i q f (lane_kinds.fail_write g tag p) v there live low inside back (at, x) = let was = h.flushed_cells tag in let u = (s.lane q).stored_upto tag in let same : u ≡ stored_upto s tag = ap (λ (z : ℕ). (s.lane z).stored_upto tag) (sym x.lane) in
+    write_keeps s h i q f v there live low inside tag x (lane_kinds.fail_write g tag p) p u true back refl (λ j t. sym (put_same (s.lane q).stored_upto tag u t refl) j) refl (record { based = (let z = was.based in omega arith); within = (let z = was.within in omega arith); is_cell = λ known ok. absurd (cc) })
 writes_step s h i q f lane_kinds.take_lane v there live low inside back x = absurd x
 writes_step s h i q f lane_kinds.leave_lane v there live low inside back x = absurd x
 writes_step s h i q f (lane_kinds.lane_out taken) v there live low inside back x = absurd x
-writes_step s h i q f (lane_kinds.read_block tag) v there live low inside back x = absurd x
+writes_step s h i q f (lane_kinds.read_block tag p) v there live low inside back x = absurd x
 writes_step s h i q f (lane_kinds.fail_read tag) v there live low inside back x = absurd x
 writes_step s h i q f lane_kinds.sync_lane v there live low inside back x = absurd x
 writes_step s h i q f lane_kinds.fail_sync v there live low inside back x = absurd x
@@ -370,8 +461,8 @@ copied_is_logged : (b : Block) (fr : Frame) (l : Link) (tag : ℕ) (p : Page) �
 copied_is_logged _ _ _ tag p c d a = ((c.copied p a.copied).is_logged, (d.remembers tag a.remembered).1)
 
 -- a state where a view changes beside all that the pool and the lanes know of it
-with_view : (s : State) (h : Invariant s) (i : ℕ) (v w : View) → get_elem? s.pool.core.views i ≡ some v → SameHere v w → w.lanes ≡ v.lanes → w.log ≡ v.log → w.saw_down ≡ v.saw_down → HistoryLaw s.origin s.log s.flushed (set s.pool.core.views i w) → Invariant (record s { pool = aside s.pool i w })
-with_view s h i v w there same holds unlogged saw history = assemble s h (aside s.pool i w) s.lane (pool_aside s.pool i v w h.pool there same) refl refl
+with_view : (s : State) (h : Invariant s) (i : ℕ) (v w : View) → get_elem? s.pool.core.views i ≡ some v → SameHere v w → w.lanes ≡ v.lanes → w.log ≡ v.log → w.saw_down ≡ v.saw_down → HistoryLaw s.known s.origin s.log s.flushed (set s.pool.core.views i w) → Invariant (record s { pool = aside s.pool i w })
+with_view s h i v w there same holds unlogged saw history = assemble_same s h (aside s.pool i w) s.lane (pool_aside s.pool i v w h.pool there same) refl h.known refl
     (record {
       device = steady log_shape log_part 1 (λ _. s.device) (λ _. written_of s) s.pool.core.views h.device i v w there saw (λ g. unlogged);
       history = history;
@@ -383,15 +474,16 @@ with_view s h i v w there same holds unlogged saw history = assemble s h (aside 
 reads_step : (s : State) → Invariant s → (i f tag : ℕ) (p : Page) (v : View) → get_elem? s.pool.core.views i ≡ some v → f < s.pool.core.frames → CanRead tag p (link v f) → Invariant (record s { pool = aside s.pool i (looked (seen.LogEnd s.end) (has_read s.end tag p v)) })
 reads_step s h i f tag p v there inside a = let w : View = looked (seen.LogEnd s.end) (has_read s.end tag p v) in
     let x = copied_is_logged (block_of s.pool.logged (s.pool.core.frame f).tag) (s.pool.core.frame f) (link v f) tag p (h.pool.pages.cells i v f there inside) (h.pool.core.grid.cells i v f there inside) a in
-    let is : p ≡ cell s.origin s.log.entries tag = sym (x.0 (cell s.origin s.log.entries tag) (ap s.pool.logged x.1 ∙ (λ j. h.logged j tag))) in
+    let is : s.known tag ≡ true → p ≡ cell s.origin s.log.entries tag = (λ known. sym (x.0 (cell s.origin s.log.entries tag) (ap s.pool.logged x.1 ∙ h.logged tag known))) in
     with_view s h i v w there (record { backend = record { emptied = refl; number = refl; next = refl; links = refl; partitions = refl }; joined = refl; links = refl; partitions = refl }) refl refl refl
-    (history_read s.origin s.log s.flushed s.pool.core.views h.history h.log i v w there tag p is (new_entry s 0 tag p) (ap (λ (z : ℕ). v.calls ++ Read tag p z ∷ []) h.ends) h.ends refl refl refl refl)
+    (history_read s.known s.origin s.log s.flushed s.pool.core.views h.history h.log i v w there tag p is (new_entry s 0 tag p) (ap (λ (z : ℕ). v.calls ++ Read tag p z ∷ []) h.ends) h.ends refl refl refl refl)
 
 -- the flushed position rises to the log's end, whose bytes are durable
 raised_state : (t : State) → Invariant t → length (log_bytes t.names t.log) ≤ t.device.synced → Invariant (record t { flushed = max t.flushed t.end })
 raised_state t k durable = let more : t.flushed ≤ max t.flushed t.end = omega arith in record {
   pool = k.pool;
   logged = k.logged;
+  known = k.known;
   log = k.log;
   based = k.based;
   ends = k.ends;
@@ -401,17 +493,17 @@ raised_state t k durable = let more : t.flushed ≤ max t.flushed t.end = omega 
   named = k.named;
   durable = λ lt. let x = bytes_length t.names t.log k.named k.log in let y = k.ends in let z = k.flushed_to in omega arith;
   device = k.device;
-  history = history_raised t.origin t.log t.flushed t.pool.core.views k.history (max t.flushed t.end) more;
+  history = history_raised t.known t.origin t.log t.flushed t.pool.core.views k.history (max t.flushed t.end) more;
   lanes = reblock lane_shape lane_part t.lanes t.lane (λ _. t.flushed) t.pool.core.views k.lanes (λ _. max t.flushed t.end) (λ g below sums c. c) (λ g o l below c. lane_later t.flushed (max t.flushed t.end) (t.lane g) l more c);
   wide = k.wide;
   placed = k.placed;
   homes = k.homes;
   unframed = k.unframed;
-  flushed_cells = λ tag ok. let x = k.flushed_cells tag ok in record { place = x.place; based = x.based; within = (let y = x.within in omega arith); is_cell = x.is_cell };
+  flushed_cells = λ tag. let x = k.flushed_cells tag in record { based = x.based; within = (let y = x.within in omega arith); is_cell = x.is_cell };
 }
 
 raises_step : (s : State) → Invariant s → (i : ℕ) (v : View) → get_elem? s.pool.core.views i ≡ some v → v.log.synced ≡ true → Invariant (record s { pool = aside s.pool i (stepped v); flushed = max s.flushed s.end })
-raises_step s h i v there synced = raised_state (record s { pool = aside s.pool i (stepped v) }) (with_view s h i v (stepped v) there (record { backend = record { emptied = refl; number = refl; next = refl; links = refl; partitions = refl }; joined = refl; links = refl; partitions = refl }) refl refl refl (history_same s.origin s.log s.flushed s.pool.core.views h.history i v (stepped v) there (record { calls = refl; front = refl; joined = refl; flushed = refl; emptied = refl; number = refl; kept = refl })))
+raises_step s h i v there synced = raised_state (record s { pool = aside s.pool i (stepped v) }) (with_view s h i v (stepped v) there (record { backend = record { emptied = refl; number = refl; next = refl; links = refl; partitions = refl }; joined = refl; links = refl; partitions = refl }) refl refl refl (history_same s.known s.origin s.log s.flushed s.pool.core.views h.history i v (stepped v) there (record { calls = refl; front = refl; joined = refl; flushed = refl; emptied = refl; number = refl; kept = refl })))
     (synced_all (written_of s) s.device v.saw_down v.log (tallies log_shape s.pool.core.views 0) (h.device.columns 0 (lit< tt)) (h.device.cells i v 0 there (lit< tt)) (λ k. term_le (λ (u : View). log_weigh k u.log) s.pool.core.views i v there) synced)
 
 -- what is durable stays so
@@ -432,6 +524,7 @@ logs_step s h i k v there a = let w : View = view_logged k v in let views = s.po
     let same : SameHere v w = record { backend = record { emptied = refl; number = refl; next = refl; links = refl; partitions = refl }; joined = refl; links = refl; partitions = refl } in let blocks = blocks_aside s h i v w there refl in record {
       pool = pool_aside s.pool i v w h.pool there same;
       logged = h.logged;
+      known = h.known;
       log = h.log;
       based = h.based;
       ends = h.ends;
@@ -441,7 +534,7 @@ logs_step s h i k v there a = let w : View = view_logged k v in let views = s.po
       named = h.named;
       durable = λ lt. let x = h.durable lt in omega arith;
       device = sweep log_shape log_part log_part 1 (λ _. s.device) (λ _. device_after k s.end s.device) (λ _. written_of s) (λ _. written_of s) views i v w h.device there (λ g below. log_keeps (written_of s) s.device v.saw_down v.log k a);
-      history = history_same s.origin s.log s.flushed views h.history i v w there (record { calls = refl; front = refl; joined = refl; flushed = refl; emptied = refl; number = refl; kept = refl });
+      history = history_same s.known s.origin s.log s.flushed views h.history i v w there (record { calls = refl; front = refl; joined = refl; flushed = refl; emptied = refl; number = refl; kept = refl });
       lanes = steady lane_shape lane_part s.lanes s.lane (λ _. s.flushed) views h.lanes i v w there refl (λ q. refl);
       wide = wide_set s.lanes views h.wide i v w there refl refl;
       placed = h.placed;
@@ -449,17 +542,6 @@ logs_step s h i k v there a = let w : View = view_logged k v in let views = s.po
       unframed = blocks.unframed;
       flushed_cells = blocks.flushed_cells;
     }
-
--- pages that are all known
-abbrev known_pages : (ℕ → Page) → ℕ → Option Page
-known_pages g = λ t. Some (g t)
-
--- where all pages are known one that is replaced is known too
-put_known : (g : ℕ → Page) (a : ℕ) (p : Page) → put (λ (t : ℕ). Some (g t)) a (Some p) ≡ (λ t. Some (put g a p t))
-put_known g a p = λ j t. at t j
-  where
-    at : (t : ℕ) → put (λ (x : ℕ). Some (g x)) a (Some p) t ≡ Some (put g a p t)
-    at t = dite (ℕ_discrete t a) (λ e. put_at (λ (x : ℕ). Some (g x)) a (Some p) t e ∙ ap Some (sym (put_at g a p t e))) (λ o. put_else (λ (x : ℕ). Some (g x)) a (Some p) t o ∙ ap Some (sym (put_else g a p t o)))
 
 -- An entry of the page p of the frame f is made
 module _ (s : State) (h : Invariant s) (i f : ℕ) (p : Page) (v : View) (there : get_elem? s.pool.core.views i ≡ some v) (live : v.emptied ≡ false) (inside : f < s.pool.core.frames) (x : CanEnter s f p v) where
@@ -491,17 +573,23 @@ module _ (s : State) (h : Invariant s) (i f : ℕ) (p : Page) (v : View) (there 
       exclusive_not_unlocked a e = cc
 
   block_else : (t : ℕ) → t ≢ tag_of → home_of entered t ≡ home_of s t
-  block_else t other = let e : logged_after (make_entry p) s.pool.logged tag_of t ≡ s.pool.logged t = put_else s.pool.logged tag_of (Some p) t other in λ j. record { block = record { logged = e j }; stored = stored s t; failed = failed s t }
+  block_else t other = let e : logged_after (make_entry p) s.pool.logged tag_of t ≡ s.pool.logged t = put_else s.pool.logged tag_of (Some p) t other in ap (λ (o : Option Page). record (home_of s t) { block = record { logged = o } }) e
 
   block_here : home_of entered tag_of ≡ home_after (make_entry p) (home_of s tag_of)
-  block_here = let e : logged_after (make_entry p) s.pool.logged tag_of tag_of ≡ Some p = put_here s.pool.logged tag_of (Some p) in λ j. record { block = record { logged = e j }; stored = stored s tag_of; failed = failed s tag_of }
+  block_here = let e : logged_after (make_entry p) s.pool.logged tag_of tag_of ≡ Some p = put_here s.pool.logged tag_of (Some p) in ap (λ (o : Option Page). record (home_of s tag_of) { block = record { logged = o } }) e
+
+  logged_longer : (t : ℕ) → s.known t ≡ true → put s.pool.logged tag_of (Some p) t ≡ Some (cell s.origin (s.log.entries ++ entry ∷ []) t)
+  logged_longer t known = let more : cell s.origin (s.log.entries ++ entry ∷ []) t ≡ put (cell s.origin s.log.entries) tag_of p t = (λ j. cell_longer s.origin s.log.entries entry j t) in dite (ℕ_discrete t tag_of)
+      (λ e. put_at s.pool.logged tag_of (Some p) t e ∙ ap Some (sym (more ∙ put_at (cell s.origin s.log.entries) tag_of p t e)))
+      (λ o. put_else s.pool.logged tag_of (Some p) t o ∙ h.logged t known ∙ ap Some (sym (more ∙ put_else (cell s.origin s.log.entries) tag_of p t o)))
 
   pub enters_step : Invariant entered
   enters_step = let views = s.pool.core.views in let n = s.pool.core.frames in let frame = s.pool.core.frame in let l : Link = link_after (make_entry p) at_block old (link v f) in
       let same : SameHere (paged (make_entry p) s.pool f v) after = record { backend = record { emptied = refl; number = refl; next = refl; links = refl; partitions = refl }; joined = refl; links = refl; partitions = refl } in
       let longer = end_longer s.log entry h.log in record {
         pool = pool_touched s.pool h.pool i f (make_entry p) v after there live inside x.right same;
-        logged = ap (λ (g : ℕ → Option Page). put g tag_of (Some p)) h.logged ∙ put_known (cell s.origin s.log.entries) tag_of p ∙ ap known_pages (sym (cell_longer s.origin s.log.entries entry));
+        logged = logged_longer;
+        known = h.known;
         log = log_longer s.log entry h.log h.ends image;
         based = h.based;
         ends = let e = h.ends in omega arith;
@@ -512,18 +600,17 @@ module _ (s : State) (h : Invariant s) (i f : ℕ) (p : Page) (v : View) (there 
         durable = h.durable;
         device = sweep log_shape log_part log_part 1 (λ _. s.device) (λ _. s.device) (λ _. written_of s) (λ _. written_of entered) views i v after h.device there
             (λ g below. enter_keeps (written_of s) s.device v.saw_down v.log (record_bytes s.names entry) (s.end + record_size) (log_bytes s.names entered.log) x.appended (bytes_longer s.names s.log entry));
-        history = history_written s.origin s.log s.flushed views h.history h.log i v after there entry h.ends refl refl refl refl refl refl refl;
+        history = history_written s.known s.origin s.log s.flushed views h.history h.log i v after there entry h.ends refl refl refl refl refl refl refl;
         lanes = steady lane_shape lane_part s.lanes s.lane (λ _. s.flushed) views h.lanes i v after there refl (λ q. refl);
         wide = wide_set s.lanes views h.wide i v after there refl refl;
         placed = h.placed;
         homes = touched s h i f v after old l there live inside refl (home_of entered) (λ g below other. block_else (frame g).tag (λ e. other (sym (h.pool.core.apart f g inside below named (sym e)))))
             (subst (λ (y : Home). Keeps home_shape known home_part (home_of s tag_of) y tt tt old (link v f) old l) (sym block_here) (homes.make_entry_keeps (home_of s tag_of) old (link v f) p x.right));
         unframed = λ t given none. let free = still_unframed n frame f old t refl inside none in subst IsClean (sym (block_else t (λ e. free f inside (sym e)))) (h.unframed t given free);
-        flushed_cells = λ t ok. let y = h.flushed_cells t ok in record {
-          place = y.place;
+        flushed_cells = λ t. let y = h.flushed_cells t in record {
           based = y.based;
           within = y.within;
-          is_cell = y.is_cell ∙ ap (λ (es : List Entry). cell s.origin es t) (sym (cut_longer y.place s.log.entries entry (let a = y.within in let c = h.flushed_to in omega arith)));
+          is_cell = λ known ok. y.is_cell known ok ∙ ap (λ (es : List Entry). cell s.origin es t) (sym (cut_longer (stored_upto s t) s.log.entries entry (let a = y.within in let c = h.flushed_to in omega arith)));
         };
       }
 
@@ -535,9 +622,9 @@ step_keeps (notes {s = s} i q f noted k v there live low inside a x) h = notes_s
 step_keeps (enters {s = s} i f p v there live inside x) h = enters_step s h i f p v there live inside x
 step_keeps (reads {s = s} i f tag p v there live inside a) h = reads_step s h i f tag p v there inside a
 step_keeps (loads_end {s = s} i v there live) h = let w : View = looked (seen.LogEnd s.end) v in with_view s h i v w there (record { backend = record { emptied = refl; number = refl; next = refl; links = refl; partitions = refl }; joined = refl; links = refl; partitions = refl }) refl refl refl
-    (history_same s.origin s.log s.flushed s.pool.core.views h.history i v w there (record { calls = refl; front = refl; joined = refl; flushed = refl; emptied = refl; number = refl; kept = refl }))
+    (history_same s.known s.origin s.log s.flushed s.pool.core.views h.history i v w there (record { calls = refl; front = refl; joined = refl; flushed = refl; emptied = refl; number = refl; kept = refl }))
 step_keeps (loads_flushed {s = s} i v there live) h = let w : View = looked (seen.Flushed s.flushed) (record v { flushed = s.flushed }) in with_view s h i v w there (record { backend = record { emptied = refl; number = refl; next = refl; links = refl; partitions = refl }; joined = refl; links = refl; partitions = refl }) refl refl refl
-    (history_loaded s.origin s.log s.flushed s.pool.core.views h.history i v w there refl refl refl refl refl refl refl)
+    (history_loaded s.known s.origin s.log s.flushed s.pool.core.views h.history i v w there refl refl refl refl refl refl refl)
 step_keeps (raises {s = s} i v there live synced) h = raises_step s h i v there synced
 step_keeps (logs {s = s} i k v there live a record_is) h = logs_step s h i k v there a
 

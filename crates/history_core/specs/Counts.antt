@@ -1,14 +1,18 @@
 -- The faults that backends count, and the devices' counts of faults.
-use Rattle.std.specs.Prelude.{◌≡◌, ℕ, ◌+◌, ◌<◌, ◌≤◌, true, List, Some}
+use Rattle.std.specs.Prelude.{◌≡◌, ℕ, ◌+◌, ◌<◌, ◌≤◌, true, false, List, Some}
+use mathlib.Core.Option.{some}
+use lib.ListN.{get_elem?}
 use Rattle.pin_core.specs.declared.view.TakenLane.{TakenLane}
+use Rattle.pin_core.specs.declared.view.LogChange.{LogChange}
+use Rattle.pin_core.specs.declared.view.TakenLog.{TakenLog}
 use Rattle.pin_core.specs.declared.view.LaneHold.{LaneHold}
 use Rattle.pin_core.specs.declared.view.Met.{Met}
 use Rattle.pin_core.specs.declared.view.View.{View}
 use Rattle.pin_core.specs.State.{lane_hold}
 use Rattle.pin_core.specs.Tallies.{flag_weight, unless_flag}
-use Rattle.history_core.specs.State.{Lane, State}
+use Rattle.history_core.specs.State.{Lane, Device, State, raised}
 use Rattle.history_core.specs.Lanes.{LaneColumn, LaneLink, is_failed_read, is_failed_write}
-use Rattle.history_core.specs.Device.{HasRisen}
+use Rattle.history_core.specs.Device.{is_failed, HasRisen}
 use Rattle.grid.specs.Shape.{Shape, Part, Grid, total}
 
 -- what all views have counted
@@ -79,5 +83,29 @@ pub record Counted (n : ℕ) (lane : ℕ → Lane) (flushed : ℕ) (views : List
 abbrev pub known_of : State → Known
 known_of s = record { flushed = s.flushed; met = all_met s.pool.core.views }
 
-abbrev pub CountsLaw : State → Type 0
-CountsLaw s = Counted s.lanes s.lane s.flushed s.pool.core.views
+-- no view has a failed call of the log out
+abbrev pub NoneFailedOut : List View → Type 0
+NoneFailedOut views = (i : ℕ) (v : View) → get_elem? views i ≡ some v → is_failed v.log.change ≡ false
+
+-- What holds of the count of the log's faults while the device is out
+pub record FaultsOut (taken : TakenLog) (d : Device) (change : LogChange) : Type 0 where
+  -- it is as it was when the device went out, but for the holder's call that failed
+  pub same : is_failed change ≡ false → d.faults ≡ taken.faults
+  pub failed : is_failed change ≡ true → d.faults ≡ raised taken.faults
+
+-- The law of the count of the log's faults, from `start` on
+pub record LogCounted (start : ℕ) (d : Device) (views : List View) : Type 0 where
+  -- where a view counts a fault, the count rose since the start
+  pub rose : 0 < (all_met views).logs → HasRisen start d.faults
+  -- where it rose, some view counts a fault, or has the failed call out
+  pub is_met : NoneFailedOut views → start < d.faults → 0 < (all_met views).logs
+  -- a failed call that is out made the count rise
+  pub out_rose : (i : ℕ) (v : View) → get_elem? views i ≡ some v → is_failed v.log.change ≡ true → HasRisen start d.faults
+  pub counts : (i : ℕ) (v : View) (taken : TakenLog) → get_elem? views i ≡ some v → v.log.out ≡ Some taken → FaultsOut taken d v.log.change
+  -- where the count had risen when the device went out, some view counts a fault
+  pub taken : (i : ℕ) (v : View) (taken : TakenLog) → get_elem? views i ≡ some v → v.log.out ≡ Some taken → start < taken.faults → 0 < (all_met views).logs
+
+-- The laws of the counts of the lanes and of the log
+pub record CountsLaw (s : State) : Type 0 where
+  pub lanes : Counted s.lanes s.lane s.flushed s.pool.core.views
+  pub log : LogCounted s.log_faults s.device s.pool.core.views

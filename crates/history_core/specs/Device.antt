@@ -50,7 +50,7 @@ pub record CanTakeDevice (taken : TakenLog) (d : Device) (h : LogHold) : Type 0 
   pub held : h.held ≡ true
   pub home : h.out ≡ None
   pub faults : taken.faults ≡ d.faults
-  pub bytes : taken.bytes ≡ Some d.bytes
+  pub bytes : (bytes : List ℕ) → taken.bytes ≡ Some bytes → bytes ≡ d.bytes
 
 -- one call each time that the device is out, and none once the log is down
 pub record CanCallLog (d : Device) (h : LogHold) : Type 0 where

@@ -16,7 +16,7 @@ use Rattle.page_core.specs.Steps as page_steps
 use Rattle.page_core.specs.Histories.{NoneUnapplied}
 use Rattle.history_core.specs.Log.{Entry, log_end, end_of, cell, cut, head_size, log_bytes, record_size, IsLegal, IsFront, place_of, writes_in, writes_at, AreInOrder}
 use Rattle.history_core.specs.State.{State, Store, CanStore, stored, failed, last_position, opening}
-use Rattle.history_core.specs.Homes.{IsFlushedCell}
+use Rattle.history_core.specs.Homes.{home_of, IsFlushedCell}
 use Rattle.history_core.specs.Lanes.{LaneKind, lane_out}
 use Rattle.history_core.specs.Device.{IsLeft, HasRisen}
 use Rattle.history_core.specs.Invariant.{IsOwn, written_of}
@@ -35,7 +35,7 @@ pub record IsReached (s : State) : Type 0 where
 
 -- each page that a backend read or wrote stands at its place in one history, that of the log
 abbrev pub CallsAreLegal : State → Type 0
-CallsAreLegal s = (i k : ℕ) (v : View) (c : Call) → get_elem? s.pool.core.views i ≡ some v → get_elem? v.calls k ≡ some c → IsLegal s.origin s.log c
+CallsAreLegal s = (i k : ℕ) (v : View) (c : Call) → get_elem? s.pool.core.views i ≡ some v → get_elem? v.calls k ≡ some c → IsLegal s.known s.origin s.log c
 
 -- the entry of each write was made by the backend, or by one whose calls it took in
 abbrev pub WritesAreOwn : State → Type 0
@@ -89,8 +89,8 @@ pub record ReadStands (s : State) (f : ℕ) (v w : View) : Type 0 where
   pub added : w.calls ≡ v.calls ++ Read (s.pool.core.frame f).tag page s.end ∷ []
   pub front : w.front ≡ s.end
   pub place_loads : w.place_loads ≡ v.place_loads + 1
-  -- its page is the block's page after the entries up to its place
-  pub is_cell : page ≡ cell s.origin (cut s.end s.log.entries) (s.pool.core.frame f).tag
+  -- its page is the block's page after the entries up to its place, where the contents of the block's lane are known
+  pub is_cell : s.known (s.pool.core.frame f).tag ≡ true → page ≡ cell s.origin (cut s.end s.log.entries) (s.pool.core.frame f).tag
   -- its place is at least all that the backend had seen
   pub later : IsAfterCalls v s.end
   pub above : v.front ≤ s.end
@@ -141,18 +141,18 @@ pub record IsWritten (s : State) (f : ℕ) : Type 0 where
 abbrev pub NotedWritesAreDone : State → Type 0
 NotedWritesAreDone s = (i f : ℕ) (v : View) → get_elem? s.pool.core.views i ≡ some v → f < s.pool.core.frames → (link v f).last_write ≡ Done → IsWritten s f
 
--- what a lane holds for a block whose last write didn't fail is no page ahead of the flushed log
+-- no lane holds a page ahead of the flushed log
 abbrev pub LanesHoldFlushedPages : State → Type 0
-LanesHoldFlushedPages s = (tag : ℕ) → failed s tag ≡ false → IsFlushedCell s.origin s.log s.flushed tag (stored s tag)
+LanesHoldFlushedPages s = (tag : ℕ) → IsFlushedCell s.origin s.log s.flushed tag (home_of s tag)
 
 -- no dirty frame has the tag
 abbrev pub HasNoDirtyFrame : State → ℕ → Type 0
 HasNoDirtyFrame s tag = (f : ℕ) → f < s.pool.core.frames → (s.pool.core.frame f).tag ≡ tag → (s.pool.core.frame f).word.dirty ≡ false
 
--- The lane holds the block's page, and its last write didn't fail
+-- The block's last write didn't fail, and the lane holds its page, where the lane's contents are known
 pub record IsStored (s : State) (tag : ℕ) : Type 0 where
   pub done : failed s tag ≡ false
-  pub stored_is : stored s tag ≡ cell s.origin s.log.entries tag
+  pub stored_is : s.known tag ≡ true → stored s tag ≡ cell s.origin s.log.entries tag
 
 -- so it is where no dirty frame has the block
 abbrev pub CleanBlocksAreStored : State → Type 0
@@ -162,9 +162,9 @@ CleanBlocksAreStored s = (tag : ℕ) → tag ≢ no_tag → HasNoDirtyFrame s ta
 abbrev pub FramesAreSound : State → Type 0
 FramesAreSound s = (f : ℕ) → f < s.pool.core.frames → (s.pool.core.frame f).word.valid ≡ true → is_sound_page (s.pool.core.frame f).page ≡ true
 
--- and is its block's page after all entries, unless a view has an entry to apply there
+-- and is its block's page after all entries, where the contents of the block's lane are known, unless a view has an entry to apply there
 abbrev pub FramesHoldCells : State → Type 0
-FramesHoldCells s = (f : ℕ) → f < s.pool.core.frames → HasTag (s.pool.core.frame f) → (s.pool.core.frame f).word.valid ≡ true → NoneUnapplied s.pool f → (s.pool.core.frame f).page ≡ cell s.origin s.log.entries (s.pool.core.frame f).tag
+FramesHoldCells s = (f : ℕ) → s.known (s.pool.core.frame f).tag ≡ true → f < s.pool.core.frames → HasTag (s.pool.core.frame f) → (s.pool.core.frame f).word.valid ≡ true → NoneUnapplied s.pool f → (s.pool.core.frame f).page ≡ cell s.origin s.log.entries (s.pool.core.frame f).tag
 
 -- The words of the log
 pub record LogWords (s : State) : Type 0 where

@@ -1,5 +1,5 @@
 -- The blocks of the frames: what their lanes hold.
-use Rattle.std.specs.Prelude.{◌≡◌, ◌≢◌, ℕ, ◌<◌, ◌≤◌, Bool, false, Some}
+use Rattle.std.specs.Prelude.{◌≡◌, ◌≢◌, ℕ, ◌<◌, ◌≤◌, Bool, true, false, Some}
 use Rattle.pin_core.specs.declared.view.LastWrite.TheVariants.{Done}
 use Rattle.pin_core.specs.declared.view.Link.{Link}
 use Rattle.pin_core.specs.declared.view.View.{View}
@@ -8,24 +8,26 @@ use Rattle.page_core.specs.State as page
 use Rattle.page_core.specs.State.{block_of}
 use Rattle.page_core.specs.Tallies.{Tally, weigh, page_shape}
 use Rattle.history_core.specs.Log.{Log, cell, cut}
-use Rattle.history_core.specs.State.{State, stored, failed}
+use Rattle.history_core.specs.State.{State, stored, stored_upto, failed}
 use Rattle.grid.specs.Shape.{Shape, Part}
 
 -- What is known of a block
 pub record Home : Type 0 where
   -- its page after the log
   pub block : page.Block
-  -- the page that its lane holds, and whether its last write failed
+  -- whether its lane's contents are known, the page that the lane holds, up to which position of the log the block's entries are in that page, and whether the block's last write failed
+  pub known : Bool
   pub stored : Page
+  pub stored_upto : ℕ
   pub failed : Bool
 
 abbrev pub home_of : State → ℕ → Home
-home_of s tag = record { block = block_of s.pool.logged tag; stored = stored s tag; failed = failed s tag }
+home_of s tag = record { block = block_of s.pool.logged tag; known = s.known tag; stored = stored s tag; stored_upto = stored_upto s tag; failed = failed s tag }
 
--- the lane holds the block's page after the log, and its last write didn't fail
+-- the block's last write didn't fail, and the lane holds its page after the log, where its contents are known
 pub record IsClean (h : Home) : Type 0 where
   pub done : h.failed ≡ false
-  pub stored : h.block.logged ≡ Some h.stored
+  pub stored : h.known ≡ true → h.block.logged ≡ Some h.stored
 
 -- the grid of views and frames, with what is known of the block that a frame's tag names
 abbrev pub home_shape : Shape
@@ -57,9 +59,10 @@ home_part = record { column = λ h fr t. HomeFrame h fr; cell = λ h fr _ l. Hom
 abbrev pub IsUnframed : ℕ → (ℕ → Frame) → ℕ → Type 0
 IsUnframed frames frame tag = (f : ℕ) → f < frames → (frame f).tag ≢ tag
 
--- the page is the block's after the entries up to some position of the log that is flushed
-pub record IsFlushedCell (origin : ℕ → Page) (log : Log) (flushed tag : ℕ) (p : Page) : Type 0 where
-  pub place : ℕ
-  pub based : log.base ≤ place
-  pub within : place ≤ flushed
-  pub is_cell : p ≡ cell origin (cut place log.entries) tag
+-- The lane holds no page of the block that is ahead of the flushed log
+pub record IsFlushedCell (origin : ℕ → Page) (log : Log) (flushed tag : ℕ) (h : Home) : Type 0 where
+  -- the position up to which the block's entries are in its page is flushed
+  pub based : log.base ≤ h.stored_upto
+  pub within : h.stored_upto ≤ flushed
+  -- where the lane's contents are known, and the block's last write didn't fail, its page is the block's after the entries up to there
+  pub is_cell : h.known ≡ true → h.failed ≡ false → h.stored ≡ cell origin (cut h.stored_upto log.entries) tag

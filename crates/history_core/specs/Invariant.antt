@@ -1,5 +1,5 @@
 -- What holds of the lanes, the log and the calls in every state that steps lead to.
-use Rattle.std.specs.Prelude.{◌≡◌, ◌≢◌, ℕ, ◌+◌, ◌<◌, ◌≤◌, false, List, Some, length}
+use Rattle.std.specs.Prelude.{◌≡◌, ◌≢◌, ℕ, ◌+◌, ◌<◌, ◌≤◌, Bool, true, false, List, Some, length}
 use mathlib.Core.Option.{some}
 use lib.ListN.{get_elem?}
 use Rattle.pin_core.specs.declared.view.Call.{Call}
@@ -9,7 +9,7 @@ use Rattle.pin_core.specs.declared.view.View.{View}
 use Rattle.pin_core.specs.State.{Page, no_tag}
 use Rattle.page_core.specs.Invariant as pages
 use Rattle.history_core.specs.Log.{Entry, Log, LogLaw, log_end, head_size, log_bytes, end_of, cell, IsLegal, place_of, writes_in, writes_at, HasPlace, AreInOrder}
-use Rattle.history_core.specs.State.{State, stored, failed, last_position}
+use Rattle.history_core.specs.State.{State, last_position}
 use Rattle.history_core.specs.Lanes.{lane_shape, lane_part}
 use Rattle.history_core.specs.Device.{Written, log_shape, log_part}
 use Rattle.history_core.specs.Homes.{home_of, home_shape, home_part, IsClean, IsUnframed, IsFlushedCell}
@@ -25,9 +25,9 @@ IsOwn log v (Read tag page place) = Unit {0}
 IsOwn log v (Write tag page place) = (k : ℕ) × (e : Entry) × (get_elem? log.entries k ≡ some e) × (end_of e ≡ place) × HasNumber v e.backend
 
 -- What holds of the calls of a view
-pub record CallsLaw (origin : ℕ → Page) (log : Log) (flushed : ℕ) (v : View) : Type 0 where
+pub record CallsLaw (known : ℕ → Bool) (origin : ℕ → Page) (log : Log) (flushed : ℕ) (v : View) : Type 0 where
   -- each is legal with the log
-  pub legal : (k : ℕ) (c : Call) → get_elem? v.calls k ≡ some c → IsLegal origin log c
+  pub legal : (k : ℕ) (c : Call) → get_elem? v.calls k ≡ some c → IsLegal known origin log c
   -- the entries of the writes name the view's backend, or one that it took in
   pub own : (k : ℕ) (c : Call) → get_elem? v.calls k ≡ some c → IsOwn log v c
   -- none has a place above the front
@@ -43,8 +43,8 @@ pub record CallsLaw (origin : ℕ → Page) (log : Log) (flushed : ℕ) (v : Vie
   pub loaded : v.flushed ≤ flushed
 
 -- What holds of the calls of all views
-pub record HistoryLaw (origin : ℕ → Page) (log : Log) (flushed : ℕ) (views : List View) : Type 0 where
-  pub calls : (i : ℕ) (v : View) → get_elem? views i ≡ some v → CallsLaw origin log flushed v
+pub record HistoryLaw (known : ℕ → Bool) (origin : ℕ → Page) (log : Log) (flushed : ℕ) (views : List View) : Type 0 where
+  pub calls : (i : ℕ) (v : View) → get_elem? views i ≡ some v → CallsLaw known origin log flushed v
   -- the writes in all views are as many as the entries
   pub counted : total (λ (v : View). writes_in v.calls) views ≡ length log.entries
   -- each entry is a write in exactly one view
@@ -57,8 +57,9 @@ written_of s = record { bytes = log_bytes s.names s.log; end = s.end; faults = s
 -- The law of the buffer pool, and that of the lanes, the log and the calls
 pub record Invariant (s : State) : Type 0 where
   pub pool : pages.Invariant s.pool
-  -- the page of a block after the log is the image of its last entry, or what its lane held at the start
-  pub logged : s.pool.logged ≡ (λ tag. Some (cell s.origin s.log.entries tag))
+  -- the page of a block after the log is the image of its last entry, or what its lane held at the start, where the lane's contents are known
+  pub logged : (tag : ℕ) → s.known tag ≡ true → s.pool.logged tag ≡ Some (cell s.origin s.log.entries tag)
+  pub known : (tag : ℕ) → (s.lane (s.lane_of tag)).known ≡ s.known tag
   pub log : LogLaw s.log
   -- new views begin where the log does
   pub based : s.pool.core.base ≡ s.log.base
@@ -73,7 +74,7 @@ pub record Invariant (s : State) : Type 0 where
   -- each entry that ends at the flushed position or before it is durable: the position p is at the byte `head_size + (p - base)`
   pub durable : s.log.base < s.flushed → head_size + s.flushed ≤ s.log.base + s.device.synced
   pub device : Grid log_shape log_part 1 (λ _. s.device) (λ _. written_of s) s.pool.core.views
-  pub history : HistoryLaw s.origin s.log s.flushed s.pool.core.views
+  pub history : HistoryLaw s.known s.origin s.log s.flushed s.pool.core.views
   pub lanes : Grid lane_shape lane_part s.lanes s.lane (λ _. s.flushed) s.pool.core.views
   -- a view has a hold for each lane
   pub wide : (i : ℕ) (v : View) → get_elem? s.pool.core.views i ≡ some v → v.emptied ≡ false → length v.lanes ≡ s.lanes
@@ -82,5 +83,5 @@ pub record Invariant (s : State) : Type 0 where
   pub homes : Grid home_shape home_part s.pool.core.frames s.pool.core.frame (home_of s) s.pool.core.views
   -- a block that has no frame is clean
   pub unframed : (tag : ℕ) → tag ≢ no_tag → IsUnframed s.pool.core.frames s.pool.core.frame tag → IsClean (home_of s tag)
-  -- what a lane holds for a block whose last write didn't fail is the block's page after the entries up to some flushed position
-  pub flushed_cells : (tag : ℕ) → failed s tag ≡ false → IsFlushedCell s.origin s.log s.flushed tag (stored s tag)
+  -- no lane holds a page ahead of the flushed log
+  pub flushed_cells : (tag : ℕ) → IsFlushedCell s.origin s.log s.flushed tag (home_of s tag)

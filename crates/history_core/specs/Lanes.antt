@@ -1,7 +1,8 @@
 -- The latches of the lanes: the kinds of step at one, and what holds of it.
-use Rattle.std.specs.Prelude.{◌≡◌, ◌≢◌, ℕ, ◌<◌, ◌≤◌, Bool, true, false, List, [], ◌∷◌, ◌++◌, Some, None, slice_set, ◌||◌}
+use Rattle.std.specs.Prelude.{◌≡◌, ◌≢◌, ℕ, ◌<◌, ◌≤◌, Bool, true, false, List, [], ◌∷◌, ◌++◌, max, Some, None, slice_set, ◌||◌}
 use mathlib.Core.Option.{some}
 use lib.ListN.{get_elem?}
+use Rattle.page_layout.specs.Fields.{lsn_of}
 use Rattle.pin_core.specs.declared.view.LaneChange.{LaneChange}
 use Rattle.pin_core.specs.declared.view.LaneChange.TheVariants.{Untouched, Read, ReadFailed, Written, WriteFailed, Synced, SyncFailed}
 use Rattle.pin_core.specs.declared.view.BlockPage.{BlockPage}
@@ -23,8 +24,8 @@ pub data LaneKind : Type 0 where
   leave_lane : LaneKind
   -- the lane goes out to the holder, and this is what it is then
   lane_out : TakenLane → LaneKind
-  -- the holder reads the block of a tag (`smgrread`), or fails to
-  read_block : ℕ → LaneKind
+  -- the holder reads the page of the block of a tag (`smgrread`), or fails to
+  read_block : ℕ → Page → LaneKind
   fail_read : ℕ → LaneKind
   -- it writes the page of a frame to the block of the frame's tag (`smgrwrite`), or fails to: then the lane holds any page for the block
   write_block : ℕ → ℕ → Page → LaneKind
@@ -66,6 +67,11 @@ pub record CanCall (ln : Lane) (h : LaneHold) : Type 0 where
   pub out : h.out ≢ None
   pub once : h.change ≡ Untouched
 
+-- where the lane's contents are known the page that is read is the one that it holds
+pub record CanReadBlock (tag : ℕ) (page : Page) (ln : Lane) (h : LaneHold) : Type 0 where
+  pub call : CanCall ln h
+  pub given : ln.known ≡ true → ln.stored tag ≡ page
+
 -- a fault is counted only for a call that failed, and is where its count rose
 pub record CountsFault (noted : Bool) (taken : TakenLane) (ln : Lane) (change : LaneChange) : Type 0 where
   pub failed : noted ≡ true → (is_failed_read change || is_failed_write change) ≡ true
@@ -80,6 +86,7 @@ abbrev pub LaneAllowed : LaneKind → Lane → LaneHold → Type 0
 LaneAllowed take_lane ln h = CanTakeLane ln h
 LaneAllowed leave_lane ln h = CanLeaveLane ln h
 LaneAllowed (lane_out taken) ln h = CanTakeOut taken ln h
+LaneAllowed (read_block tag page) ln h = CanReadBlock tag page ln h
 LaneAllowed (lane_back noted) ln h = CanReturnLane noted ln h
 LaneAllowed _ ln h = CanCall ln h
 
@@ -88,27 +95,27 @@ abbrev pub lane_after : LaneKind → Lane → Lane
 lane_after take_lane ln = record ln { taken = true }
 lane_after leave_lane ln = record ln { taken = false }
 lane_after (fail_read tag) ln = record ln { read_faults = raised ln.read_faults }
-lane_after (write_block f tag p) ln = record ln { stored = put ln.stored tag p; failed = put ln.failed tag false }
+lane_after (write_block f tag p) ln = record ln { stored = put ln.stored tag p; stored_upto = put ln.stored_upto tag (max (ln.stored_upto tag) (lsn_of p)); failed = put ln.failed tag false }
 lane_after (fail_write f tag p) ln = record ln { stored = put ln.stored tag p; failed = put ln.failed tag true; write_faults = raised ln.write_faults }
 lane_after fail_sync ln = record ln { write_faults = raised ln.write_faults }
 lane_after _ ln = ln
 
 -- What a kind makes of what the view has of the latch, where `flushed` is the flushed position as the view had loaded it
-abbrev pub lane_hold_after : LaneKind → ℕ → Lane → LaneHold → LaneHold
-lane_hold_after take_lane flushed ln h = record h { held = true }
-lane_hold_after leave_lane flushed ln h = record h { held = false }
-lane_hold_after (lane_out taken) flushed ln h = record h { out = Some taken; flushed = flushed }
-lane_hold_after (read_block tag) flushed ln h = record h { change = Read tag (ln.stored tag) }
-lane_hold_after (fail_read tag) flushed ln h = record h { change = ReadFailed tag }
-lane_hold_after (write_block f tag p) flushed ln h = record h { change = Written f tag p }
-lane_hold_after (fail_write f tag p) flushed ln h = record h { change = WriteFailed f tag }
-lane_hold_after sync_lane flushed ln h = record h { change = Synced }
-lane_hold_after fail_sync flushed ln h = record h { change = SyncFailed }
-lane_hold_after (lane_back noted) flushed ln h = record h { out = None; change = Untouched }
+abbrev pub lane_hold_after : LaneKind → ℕ → LaneHold → LaneHold
+lane_hold_after take_lane flushed h = record h { held = true }
+lane_hold_after leave_lane flushed h = record h { held = false }
+lane_hold_after (lane_out taken) flushed h = record h { out = Some taken; flushed = flushed }
+lane_hold_after (read_block tag page) flushed h = record h { change = Read tag page }
+lane_hold_after (fail_read tag) flushed h = record h { change = ReadFailed tag }
+lane_hold_after (write_block f tag p) flushed h = record h { change = Written f tag p }
+lane_hold_after (fail_write f tag p) flushed h = record h { change = WriteFailed f tag }
+lane_hold_after sync_lane flushed h = record h { change = Synced }
+lane_hold_after fail_sync flushed h = record h { change = SyncFailed }
+lane_hold_after (lane_back noted) flushed h = record h { out = None; change = Untouched }
 
 -- the device call that a kind is, at the lane n
 abbrev pub calls_by : LaneKind → ℕ → List DeviceCall
-calls_by (read_block tag) n = device.LaneRead n tag ∷ []
+calls_by (read_block tag page) n = device.LaneRead n tag ∷ []
 calls_by (fail_read tag) n = device.LaneRead n tag ∷ []
 calls_by (write_block f tag p) n = device.LaneWrite n tag ∷ []
 calls_by (fail_write f tag p) n = device.LaneWrite n tag ∷ []
@@ -133,9 +140,9 @@ syncs fail_sync = true
 syncs _ = false
 
 -- What a kind at the lane n makes of the view, beside the number of its steps
-abbrev pub lane_changed : LaneKind → ℕ → Lane → LaneHold → View → View
-lane_changed k n ln h v = record v {
-  lanes = slice_set v.lanes n (lane_hold_after k v.flushed ln h);
+abbrev pub lane_changed : LaneKind → ℕ → LaneHold → View → View
+lane_changed k n h v = record v {
+  lanes = slice_set v.lanes n (lane_hold_after k v.flushed h);
   device_calls = v.device_calls ++ calls_by k n;
   met = sum_of_met v.met (met_by k h);
   dirtied_or_synced = v.dirtied_or_synced || syncs k;
@@ -174,8 +181,8 @@ pub record HoldLaw (flushed : ℕ) (ln : Lane) (h : LaneHold) : Type 0 where
   pub resting : h.held ≡ false → h.out ≡ None
   -- a call is noted only while the lane is out
   pub home : h.out ≡ None → h.change ≡ Untouched
-  -- the page that was read is the one that the lane holds
-  pub read : (tag : ℕ) (page : Page) → h.change ≡ Read tag page → ln.stored tag ≡ page
+  -- the page that was read is the one that the lane holds, where its contents are known
+  pub read : (tag : ℕ) (page : Page) → h.change ≡ Read tag page → ln.known ≡ true → ln.stored tag ≡ page
   pub written : (f tag : ℕ) (page : Page) → h.change ≡ Written f tag page → WrittenLane ln tag page
   -- a write that failed is among the failed ones
   pub write_failed : (f tag : ℕ) → h.change ≡ WriteFailed f tag → ln.failed tag ≡ true

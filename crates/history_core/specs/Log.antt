@@ -1,5 +1,5 @@
 -- The write-ahead log, the pages of blocks that follow from it, and what backends read and wrote.
-use Rattle.std.specs.Prelude.{◌≡◌, ◌≢◌, ℕ, ◌+◌, ◌*◌, ◌<◌, ◌≤◌, true, false, List, [], ◌∷◌, ◌++◌, length, nat_eq, nat_le, if◌then◌else◌}
+use Rattle.std.specs.Prelude.{◌≡◌, ◌≢◌, ℕ, ◌+◌, ◌*◌, ◌<◌, ◌≤◌, Bool, true, false, List, [], ◌∷◌, ◌++◌, length, nat_eq, nat_le, if◌then◌else◌}
 use mathlib.Core.Option.{some}
 use lib.ListN.{get_elem?}
 use Rattle.byteorder.specs.Endian.{little_bytes}
@@ -78,11 +78,11 @@ unfoldable pub cell : (ℕ → Page) → List Entry → ℕ → Page
 cell origin [] = origin
 cell origin (e ∷ es) = cell (put origin e.tag e.image) es
 
--- A read is legal with the log where its page is the block's page after the entries up to the read's place
-pub record IsLegalRead (origin : ℕ → Page) (log : Log) (tag : ℕ) (page : Page) (place : ℕ) : Type 0 where
+-- A read is legal with the log where its page is the block's page after the entries up to the read's place, if the contents of the block's lane are known (`known`)
+pub record IsLegalRead (known : ℕ → Bool) (origin : ℕ → Page) (log : Log) (tag : ℕ) (page : Page) (place : ℕ) : Type 0 where
   pub based : log.base ≤ place
   pub within : place ≤ log_end log
-  pub reads : page ≡ cell origin (cut place log.entries) tag
+  pub reads : known tag ≡ true → page ≡ cell origin (cut place log.entries) tag
 
 -- A write is legal where it is an entry, and its place the entry's end
 pub record IsLegalWrite (log : Log) (tag : ℕ) (page : Page) (place : ℕ) : Type 0 where
@@ -93,9 +93,9 @@ pub record IsLegalWrite (log : Log) (tag : ℕ) (page : Page) (place : ℕ) : Ty
   pub image : entry.image ≡ page
   pub ends : end_of entry ≡ place
 
-abbrev pub IsLegal : (ℕ → Page) → Log → Call → Type 0
-IsLegal origin log (Read tag page place) = IsLegalRead origin log tag page place
-IsLegal origin log (Write tag page place) = IsLegalWrite log tag page place
+abbrev pub IsLegal : (ℕ → Bool) → (ℕ → Page) → Log → Call → Type 0
+IsLegal known origin log (Read tag page place) = IsLegalRead known origin log tag page place
+IsLegal known origin log (Write tag page place) = IsLegalWrite log tag page place
 
 abbrev pub place_of : Call → ℕ
 place_of (Read tag page place) = place

@@ -1,5 +1,5 @@
 -- Some events at a lane and at the log, for the definitions to be seen at work: a backend reads a block from its lane, and makes the log durable.
-use Rattle.std.specs.Prelude.{◌≡◌, false, List, [], ◌∷◌, Some, None}
+use Rattle.std.specs.Prelude.{◌≡◌, true, false, List, [], ◌∷◌, Some, None}
 use Rattle.pin_core.specs.declared.view.TakenLane.{TakenLane}
 use Rattle.pin_core.specs.declared.view.TakenLog.{TakenLog}
 use Rattle.pin_core.specs.State.{CanOpen, Config, Page}
@@ -20,6 +20,7 @@ sample_page = 1 ∷ 2 ∷ 3 ∷ []
 abbrev pub sample_store : Store
 sample_store = record {
   lane_of = λ _. 0;
+  known = λ _. true;
   origin = λ _. sample_page;
   names = λ _. 0 ∷ 0 ∷ 0 ∷ 0 ∷ 0 ∷ 0 ∷ 0 ∷ 0 ∷ 0 ∷ 0 ∷ 0 ∷ 0 ∷ 0 ∷ 0 ∷ 0 ∷ 0 ∷ 0 ∷ 0 ∷ 0 ∷ 0 ∷ [];
   read_faults = λ _. 0;
@@ -39,7 +40,7 @@ sample_log = record { bytes = Some (head_bytes 0); faults = 0 }
 
 -- the block 7 is read from the lane
 abbrev pub read_lane : List Event
-read_lane = lane 0 0 take_lane ∷ lane 0 0 (lane_out sample_lane) ∷ lane 0 0 (read_block 7) ∷ lane 0 0 (lane_back false) ∷ lane 0 0 leave_lane ∷ []
+read_lane = lane 0 0 take_lane ∷ lane 0 0 (lane_out sample_lane) ∷ lane 0 0 (read_block 7 sample_page) ∷ lane 0 0 (lane_back false) ∷ lane 0 0 leave_lane ∷ []
 
 -- the log is made durable, and the flushed position raised
 abbrev pub flush_log : List Event

@@ -8,8 +8,12 @@ use Rattle.history_core.specs.Log.{Log, head_bytes}
 pub record Lane : Type 0 where
   -- whether a backend has the latch
   pub taken : Bool
-  -- the page that it holds for each block, by its tag
+  -- whether its contents are known
+  pub known : Bool
+  -- the page that it holds for each block, by its tag: where its contents aren't known, the one that was written last
   pub stored : ℕ → Page
+  -- the position in the log up to which the block's entries are in that page
+  pub stored_upto : ℕ → ℕ
   -- the blocks whose last write failed
   pub failed : ℕ → Bool
   -- how many reads, and how many writes and syncs, have failed
@@ -31,6 +35,7 @@ raised n = if nat_eq n last_count then n else n + 1
 pub record Device : Type 0 where
   -- whether a backend has the latch
   pub taken : Bool
+  -- its bytes: where its contents aren't known, those that were appended
   pub bytes : List ℕ
   -- how many of the bytes are durable
   pub synced : ℕ
@@ -51,7 +56,9 @@ pub record State : Type 0 where
   pub lanes : ℕ
   pub lane_of : ℕ → ℕ
   pub lane : ℕ → Lane
-  -- the pages that the lanes held at the start
+  -- whether the contents of a block's lane are known, by the block's tag
+  pub known : ℕ → Bool
+  -- the pages that the lanes held at the start, where their contents are known
   pub origin : ℕ → Page
   pub log : Log
   -- how the log names a block, by its tag
@@ -63,9 +70,12 @@ pub record State : Type 0 where
   pub end : ℕ
   pub flushed : ℕ
 
--- the page that the block's lane holds, and whether the block's last write failed
+-- the page that the block's lane holds, up to which position the block's entries are in it, and whether the block's last write failed
 abbrev pub stored : State → ℕ → Page
 stored s tag = (s.lane (s.lane_of tag)).stored tag
+
+abbrev pub stored_upto : State → ℕ → ℕ
+stored_upto s tag = (s.lane (s.lane_of tag)).stored_upto tag
 
 abbrev pub failed : State → ℕ → Bool
 failed s tag = (s.lane (s.lane_of tag)).failed tag
@@ -73,7 +83,8 @@ failed s tag = (s.lane (s.lane_of tag)).failed tag
 -- What the lanes and the log are at the start
 pub record Store : Type 0 where
   pub lane_of : ℕ → ℕ
-  -- the pages that the lanes hold, whose contents are known
+  -- whether the contents of a lane are known, and the pages that these lanes hold
+  pub known : ℕ → Bool
   pub origin : ℕ → Page
   -- how the log names a block
   pub names : ℕ → List ℕ
@@ -91,11 +102,13 @@ pub record CanStore (c : Config) (store : Store) : Type 0 where
   pub named : (tag : ℕ) → length (store.names tag) ≡ 20
   pub synced : store.head_synced ≤ length (head_bytes c.base)
 
--- the lane n at the start: no block's last write has failed
-abbrev pub fresh_lane : Store → ℕ → Lane
-fresh_lane store n = record {
+-- the lane n at the start, over a log that begins at `base`: no block's last write has failed
+abbrev pub fresh_lane : ℕ → Store → ℕ → Lane
+fresh_lane base store n = record {
   taken = false;
+  known = store.known n;
   stored = store.origin;
+  stored_upto = λ _. base;
   failed = λ _. false;
   read_faults = store.read_faults n;
   write_faults = store.write_faults n;
@@ -107,13 +120,22 @@ fresh_lane store n = record {
 abbrev pub fresh_device : ℕ → Store → Device
 fresh_device base store = record { taken = false; bytes = head_bytes base; synced = store.head_synced; faults = store.log_faults; down = None }
 
+-- whether the contents of a block's lane are known at the start
+abbrev pub is_known : Store → ℕ → Bool
+is_known store tag = store.known (store.lane_of tag)
+
+-- the pages of the blocks at the start, as far as they are known
+abbrev pub known_origin : Store → ℕ → Option Page
+known_origin store tag = if is_known store tag then Some (store.origin tag) else None
+
 -- the start: an empty log
 abbrev pub opening : Config → Store → Page → State
 opening c store p = record {
-  pool = page.opening c (λ tag. Some (store.origin tag)) p;
+  pool = page.opening c (known_origin store) p;
   lanes = c.lanes;
   lane_of = store.lane_of;
-  lane = fresh_lane store;
+  lane = fresh_lane c.base store;
+  known = is_known store;
   origin = store.origin;
   log = record { base = c.base; entries = [] };
   names = store.names;

@@ -1,5 +1,5 @@
 -- One step, and lists of steps.
-use Rattle.std.specs.Prelude.{◌≡◌, ◌≢◌, ℕ, ◌+◌, ◌<◌, ◌≤◌, true, false, List, [], ◌∷◌, ◌++◌, length, max, Bool, Some, slice_set, None}
+use Rattle.std.specs.Prelude.{◌≡◌, ◌≢◌, ℕ, ◌+◌, ◌<◌, ◌≤◌, true, false, List, [], ◌∷◌, ◌++◌, length, max, Bool, Option, Some, slice_set, None, if◌then◌else◌}
 use mathlib.Core.Option.{some}
 use lib.ListN.{get_elem?}
 use Rattle.page_layout.specs.Fields.{lsn_of}
@@ -82,9 +82,9 @@ pool_after k s i f w = let fr = s.core.frame f in let b = block_of s.logged fr.t
 abbrev pub paged : Kind → page.State → ℕ → View → View
 paged k s f v = let fr = s.core.frame f in pages.view_after k f (block_of s.logged fr.tag) fr (link v f) v
 
--- the lane n after a step of the kind k, and what this makes of the view v, whose hold of the latch is h
-abbrev pub laned : LaneKind → State → ℕ → View → View → View
-laned k s n v w = lane_changed k n (s.lane n) (lane_hold v n) w
+-- what a step of the kind k at the lane n makes of the view w, where the view was v
+abbrev pub laned : LaneKind → ℕ → View → View → View
+laned k n v w = lane_changed k n (lane_hold v n) w
 
 -- The kinds at a lane that touch no frame: a call other than a write, and a return without a write
 abbrev pub NoWrite : LaneChange → Type 0
@@ -93,7 +93,7 @@ NoWrite (lane_change.WriteFailed f tag) = ⊥
 NoWrite _ = Unit {0}
 
 abbrev pub LaneAlone : LaneKind → State → ℕ → LaneHold → Type 0
-LaneAlone (read_block tag) s n h = s.lane_of tag ≡ n
+LaneAlone (read_block tag p) s n h = s.lane_of tag ≡ n
 LaneAlone (fail_read tag) s n h = s.lane_of tag ≡ n
 LaneAlone (write_block f tag p) s n h = ⊥
 LaneAlone (fail_write f tag p) s n h = ⊥
@@ -141,6 +141,14 @@ Notes (note_write true) s n f h l = (p : Page) × CanNoteLaneWrite s n f p h l
 Notes (note_write false) s n f h l = CanNoteFailedWrite s n f h l
 Notes _ s n f h l = ⊥
 
+-- a read from a lane whose contents aren't known may give any page: what was known of the block's page is forgotten
+abbrev pub logged_noting : Kind → State → ℕ → ℕ → Option Page
+logged_noting (note_read p) s f = let tag = (s.pool.core.frame f).tag in if s.known tag then s.pool.logged else put s.pool.logged tag None
+logged_noting _ s f = s.pool.logged
+
+abbrev pub pool_noting : Kind → State → ℕ → page.State
+pool_noting k s f = record s.pool { logged = logged_noting k s f }
+
 -- the entry that a backend makes of the page p of the block of a tag
 abbrev pub new_entry : State → ℕ → ℕ → Page → Entry
 new_entry s number tag p = record { start = s.end; backend = number; tag = tag; image = p }
@@ -187,13 +195,13 @@ pub data Step : Event → State → State → Type 0 where
   pools : {s : State} {e : page_steps.Event} {pool' : page.State} → page_steps.Step e s.pool pool' → PoolAllowed e → Step (pool e) s (record s { pool = pool' })
   -- a step at the lane n by backend i, whose view is v
   lanes : {s : State} (i n : ℕ) (k : LaneKind) (v : View) → get_elem? s.pool.core.views i ≡ some v → v.emptied ≡ false → n < s.lanes → LaneAllowed k (s.lane n) (lane_hold v n) → LaneAlone k s n (lane_hold v n)
-      → Step (lane i n k) s (record s { pool = aside s.pool i (stepped (laned k s n v v)); lane = put s.lane n (lane_after k (s.lane n)) })
+      → Step (lane i n k) s (record s { pool = aside s.pool i (stepped (laned k n v v)); lane = put s.lane n (lane_after k (s.lane n)) })
   -- a write of the page of the frame f to the lane n, likewise
   writes : {s : State} (i n f : ℕ) (k : LaneKind) (v : View) → get_elem? s.pool.core.views i ≡ some v → v.emptied ≡ false → n < s.lanes → f < s.pool.core.frames → LaneAllowed k (s.lane n) (lane_hold v n) → Writes k s n f (lane_hold v n) (link v f)
-      → Step (write i n f k) s (record s { pool = pool_after begin_write s.pool i f (laned k s n v (paged begin_write s.pool f v)); lane = put s.lane n (lane_after k (s.lane n)) })
+      → Step (write i n f k) s (record s { pool = pool_after begin_write s.pool i f (laned k n v (paged begin_write s.pool f v)); lane = put s.lane n (lane_after k (s.lane n)) })
   -- the lane n comes back, and what was read or written is noted at the frame f
   notes : {s : State} (i n f : ℕ) (noted : Bool) (k : Kind) (v : View) → get_elem? s.pool.core.views i ≡ some v → v.emptied ≡ false → n < s.lanes → f < s.pool.core.frames → LaneAllowed (lane_back noted) (s.lane n) (lane_hold v n) → Notes k s n f (lane_hold v n) (link v f)
-      → Step (note i n f (lane_back noted) k) s (record s { pool = pool_after k s.pool i f (laned (lane_back noted) s n v (paged k s.pool f v)); lane = put s.lane n (lane_after (lane_back noted) (s.lane n)) })
+      → Step (note i n f (lane_back noted) k) s (record s { pool = pool_after k (pool_noting k s f) i f (laned (lane_back noted) n v (paged k (pool_noting k s f) f v)); lane = put s.lane n (lane_after (lane_back noted) (s.lane n)) })
   -- a step at the log by backend i, whose view is v
   logs : {s : State} (i : ℕ) (k : LogKind) (v : View) → get_elem? s.pool.core.views i ≡ some v → v.emptied ≡ false → LogAllowed k s.device v.log → AppendsRecord k s v.number → Step (log i k) s (record s { pool = aside s.pool i (view_logged k v); device = device_after k s.end s.device })
   -- backend i makes an entry of the page p of the frame f
