@@ -25,7 +25,7 @@ use Rattle.history_core.specs.Device as log
 use Rattle.history_core.specs.Homes.{IsUnframed}
 use Rattle.history_core.specs.Invariant.{Invariant}
 use Rattle.history_core.specs.Steps.{looked, stepped, laned, lanes, paged, has_read, has_written, new_entry, Writes, writes, enters, reads}
-use Rattle.history_core.specs.Histories.{IsReached, CallsAreLegal, WritesAreOwn, FrontsAreReached, CallsAreInOrder, LoadedIsFlushed, LanesGoOutFlushed, NotedWritesAreDone, holds_log, LogIsHeld, WritesAreEntries, ReadsStand, WritesStand, LogBeforeData, LanesHoldFlushedPages, IsStored, CleanBlocksAreStored, FramesAreSound, FramesHoldCells, LogWords, holds_lane, LanesAreHeld, EntriesAreDurable, DeviceHoldsLog}
+use Rattle.history_core.specs.Histories.{IsReached, CallsAreLegal, JoinedAreApart, CallsAreOwn, FrontsAreReached, CallsAreInOrder, LoadedIsFlushed, LanesGoOutFlushed, NotedWritesAreDone, holds_log, LogIsHeld, WritesAreEntries, ReadsStand, WritesStand, LogBeforeData, LanesHoldFlushedPages, IsStored, CleanBlocksAreStored, FramesAreSound, FramesHoldCells, LogWords, holds_lane, LanesAreHeld, EntriesAreDurable, DeviceHoldsLog}
 use Rattle.history_core.proofs.Logs.{end_longer, cell_longer}
 use Rattle.history_core.proofs.Opening.{opens}
 use Rattle.history_core.proofs.Stepping.{step_keeps, run_keeps}
@@ -86,8 +86,11 @@ module _ (s : State) (h : Invariant s) where
   pub legal : CallsAreLegal s
   legal i k v c there at = (h.history.calls i v there).legal k c at
 
-  pub own : WritesAreOwn s
+  pub own : CallsAreOwn s
   own i k v c there at = (h.history.calls i v there).own k c at
+
+  pub apart : JoinedAreApart s
+  apart = h.history.kept
 
   pub fronts : FrontsAreReached s
   fronts i v there live = let c = h.history.calls i v there in record { from_base = c.from_base live; above = c.fronted; reached = c.reached live }
@@ -98,7 +101,7 @@ module _ (s : State) (h : Invariant s) where
   pub reads_stand : ReadsStand s
   reads_stand _ _ t (reads i f tag p v there live inside a) = let w : View = looked (seen.LogEnd s.end) (has_read s.end tag p v) in let here = set_here s.pool.core.views i v w there in let k = step_keeps (reads i f tag p v there live inside a) h in
       let c = h.history.calls i v there in let e = h.ends in let is : tag ≡ (s.pool.core.frame f).tag = sym ((h.pool.core.grid.cells i v f there inside).remembers tag a.remembered).1 in
-      let cell_is : s.known tag ≡ true → p ≡ cell s.origin (cut s.end s.log.entries) tag = ((k.history.calls i w here).legal (length v.calls) (Read tag p s.end) (at_last v.calls (Read tag p s.end))).reads in (
+      let cell_is : s.known tag ≡ true → p ≡ cell s.origin (cut s.end s.log.entries) tag = ((k.history.calls i w here).legal (length v.calls) (Read v.number tag p s.end) (at_last v.calls (Read v.number tag p s.end))).reads in (
         v,
         w,
         there,
@@ -107,7 +110,7 @@ module _ (s : State) (h : Invariant s) where
           page = p;
           copied = a.copied;
           remembered = a.remembered ∙ ap (λ (z : ℕ). Some z) is;
-          added = ap (λ (z : ℕ). v.calls ++ Read z p s.end ∷ []) is;
+          added = ap (λ (z : ℕ). v.calls ++ Read v.number z p s.end ∷ []) is;
           front = refl;
           place_loads = refl;
           is_cell = subst (λ (z : ℕ). s.known z ≡ true → p ≡ cell s.origin (cut s.end s.log.entries) z) is cell_is;

@@ -1,7 +1,7 @@
 -- The law holds at the start.
 use Rattle.std.proofs.Common.{◌≡◌, ℕ, [], ◌∷◌, length, sym, refl, ap, ◌∙◌, subst, arith, ◌++◌, List, Bool, cond, Some, None, append-nil}
-use mathlib.Core.Option.{some-ne-none}
-use lib.ListN.{length-replicate}
+use mathlib.Core.Option.{some, some-ne-none}
+use lib.ListN.{get_elem?, length-replicate}
 use Rattle.pin_core.specs.declared.view.View.{View}
 use Rattle.pin_core.specs.State.{Config, CanOpen, Page, link, no_lane, lane_hold, first_view, empty_frame, no_tag}
 use Rattle.pin_core.proofs.Views.{link_new}
@@ -58,6 +58,11 @@ opens c store page can stores = let w : View = first_view c.base c.frames c.part
   };
   history = record {
     calls = λ i v there. subst (CallsLaw (is_known store) store.origin log c.base) (at_only w v i there).0 (no_calls (is_known store) store.origin log c.base w refl (λ _. refl) (omega arith) (omega arith));
+    kept = record {
+      only_first = λ i v there other. absurd (other (at_only w v i there).1);
+      spent = λ i k v c there at. absurd (some-ne-none c (sym (subst (λ (x : View). get_elem? x.kept k ≡ some c) (sym (at_only w v i there).0) at)));
+      apart = λ i j k v c d there at. absurd (some-ne-none c (sym (subst (λ (x : View). get_elem? x.kept j ≡ some c) (sym (at_only w v i there).0) at)));
+    };
     counted = one_total (λ (v : View). writes_in v.calls) w (no_total write_weight);
     once = λ k e t. absurd (some-ne-none e (sym t));
   };

@@ -14,12 +14,12 @@ use Rattle.pin_core.specs.Invariant.{HasTag}
 use Rattle.pin_core.specs.Steps as pin_steps
 use Rattle.page_core.specs.Steps as page_steps
 use Rattle.page_core.specs.Histories.{NoneUnapplied}
-use Rattle.history_core.specs.Log.{Entry, log_end, end_of, cell, cut, head_size, log_bytes, record_size, IsLegal, IsFront, place_of, writes_in, writes_at, AreInOrder}
+use Rattle.history_core.specs.Log.{Entry, log_end, end_of, cell, cut, head_size, log_bytes, record_size, IsLegal, IsFront, place_of, backend_of, writes_in, writes_at, AreInOrder}
 use Rattle.history_core.specs.State.{State, Store, CanStore, stored, failed, last_position, opening}
 use Rattle.history_core.specs.Homes.{home_of, IsFlushedCell}
 use Rattle.history_core.specs.Lanes.{LaneKind, lane_out}
 use Rattle.history_core.specs.Device.{IsLeft, HasRisen}
-use Rattle.history_core.specs.Invariant.{IsOwn, written_of}
+use Rattle.history_core.specs.Invariant.{HasNumber, KeptLaw, written_of}
 use Rattle.history_core.specs.Steps.{Event, pool, lane, write, enter, read, new_entry, Step, Run}
 use Rattle.grid.specs.Shape.{total}
 
@@ -37,9 +37,13 @@ pub record IsReached (s : State) : Type 0 where
 abbrev pub CallsAreLegal : State → Type 0
 CallsAreLegal s = (i k : ℕ) (v : View) (c : Call) → get_elem? s.pool.core.views i ≡ some v → get_elem? v.calls k ≡ some c → IsLegal s.known s.origin s.log c
 
--- the entry of each write was made by the backend, or by one whose calls it took in
-abbrev pub WritesAreOwn : State → Type 0
-WritesAreOwn s = (i k : ℕ) (v : View) (c : Call) → get_elem? s.pool.core.views i ≡ some v → get_elem? v.calls k ≡ some c → IsOwn s.log v c
+-- each call is the backend's own, or that of one whose calls it took in
+abbrev pub CallsAreOwn : State → Type 0
+CallsAreOwn s = (i k : ℕ) (v : View) (c : Call) → get_elem? s.pool.core.views i ≡ some v → get_elem? v.calls k ≡ some c → HasNumber v (backend_of c)
+
+-- backends that were joined into the first have numbers of their own, which differ from those of the backends that are there
+abbrev pub JoinedAreApart : State → Type 0
+JoinedAreApart s = KeptLaw s.pool.core.views
 
 -- a backend's front is the largest of the log's base and the places of its calls
 abbrev pub FrontsAreReached : State → Type 0
@@ -63,9 +67,9 @@ pub record HasCallsOf (views : List View) (i : ℕ) (v : View) : Type 0 where
 abbrev pub CallsStay : State → Type 0
 CallsStay s = (e : Event) (t : State) → Step e s t → (i : ℕ) (v : View) → get_elem? s.pool.core.views i ≡ some v → LeavesCalls e i → HasCallsOf t.pool.core.views i v
 
--- the places of a backend's calls never fall, where it took in those of no others
+-- the places of each backend's calls never fall
 abbrev pub CallsAreInOrder : State → Type 0
-CallsAreInOrder s = (i : ℕ) (v : View) → get_elem? s.pool.core.views i ≡ some v → v.joined ≡ 0 → AreInOrder v.calls
+CallsAreInOrder s = (i : ℕ) (v : View) → get_elem? s.pool.core.views i ≡ some v → AreInOrder v.calls
 
 -- The writes of all backends are the entries of the log
 pub record WritesAreEntries (s : State) : Type 0 where
@@ -86,7 +90,7 @@ pub record ReadStands (s : State) (f : ℕ) (v w : View) : Type 0 where
   -- its block is the frame's, as the pin remembers it
   pub remembered : (link v f).tag ≡ Some (s.pool.core.frame f).tag
   -- the calls grow by the read, which is the front now, and one load more is a place
-  pub added : w.calls ≡ v.calls ++ Read (s.pool.core.frame f).tag page s.end ∷ []
+  pub added : w.calls ≡ v.calls ++ Read v.number (s.pool.core.frame f).tag page s.end ∷ []
   pub front : w.front ≡ s.end
   pub place_loads : w.place_loads ≡ v.place_loads + 1
   -- its page is the block's page after the entries up to its place, where the contents of the block's lane are known
@@ -102,7 +106,7 @@ pub record WriteStands (s t : State) (f : ℕ) (p : Page) (v w : View) : Type 0 
   pub end : t.end ≡ log_end t.log
   pub longer : t.end ≡ s.end + record_size
   -- the calls grow by the write, which is the front now
-  pub added : w.calls ≡ v.calls ++ Write (s.pool.core.frame f).tag p t.end ∷ []
+  pub added : w.calls ≡ v.calls ++ Write v.number (s.pool.core.frame f).tag p t.end ∷ []
   pub front : w.front ≡ t.end
   -- the page's position in the log is its place, and it is the block's page after all entries now
   pub position : lsn_of p ≡ t.end

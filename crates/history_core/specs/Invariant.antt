@@ -1,14 +1,13 @@
 -- What holds of the lanes, the log and the calls in every state that steps lead to.
-use Rattle.std.specs.Prelude.{◌≡◌, ◌≢◌, ℕ, ◌+◌, ◌<◌, ◌≤◌, Bool, true, false, List, Some, length}
+use Rattle.std.specs.Prelude.{◌≡◌, ◌≢◌, ℕ, ◌+◌, ◌<◌, ◌≤◌, Bool, true, false, List, [], Some, length}
 use mathlib.Core.Option.{some}
 use lib.ListN.{get_elem?}
 use Rattle.pin_core.specs.declared.view.Call.{Call}
-use Rattle.pin_core.specs.declared.view.Call.TheVariants.{Read, Write}
 use Rattle.pin_core.specs.declared.view.Checkpoint.{Checkpoint}
 use Rattle.pin_core.specs.declared.view.View.{View}
 use Rattle.pin_core.specs.State.{Page, no_tag}
 use Rattle.page_core.specs.Invariant as pages
-use Rattle.history_core.specs.Log.{Entry, Log, LogLaw, log_end, head_size, log_bytes, end_of, cell, IsLegal, place_of, writes_in, writes_at, HasPlace, AreInOrder}
+use Rattle.history_core.specs.Log.{Entry, Log, LogLaw, log_end, head_size, log_bytes, end_of, cell, IsLegal, place_of, backend_of, writes_in, writes_at, HasPlace, AreInOrder}
 use Rattle.history_core.specs.State.{State, last_position}
 use Rattle.history_core.specs.Lanes.{lane_shape, lane_part}
 use Rattle.history_core.specs.Device.{Written, log_shape, log_part}
@@ -19,17 +18,12 @@ use Rattle.grid.specs.Shape.{Grid, total}
 abbrev pub HasNumber : View → ℕ → Type 0
 HasNumber v number = number ≢ v.number → (k : ℕ) × (c : Checkpoint) × (get_elem? v.kept k ≡ some c) × (c.number ≡ number)
 
--- the entry of a write names such a number
-abbrev pub IsOwn : Log → View → Call → Type 0
-IsOwn log v (Read tag page place) = Unit {0}
-IsOwn log v (Write tag page place) = (k : ℕ) × (e : Entry) × (get_elem? log.entries k ≡ some e) × (end_of e ≡ place) × HasNumber v e.backend
-
 -- What holds of the calls of a view
 pub record CallsLaw (known : ℕ → Bool) (origin : ℕ → Page) (log : Log) (flushed : ℕ) (v : View) : Type 0 where
   -- each is legal with the log
   pub legal : (k : ℕ) (c : Call) → get_elem? v.calls k ≡ some c → IsLegal known origin log c
-  -- the entries of the writes name the view's backend, or one that it took in
-  pub own : (k : ℕ) (c : Call) → get_elem? v.calls k ≡ some c → IsOwn log v c
+  -- each is the view's backend's, or that of one that it took in
+  pub own : (k : ℕ) (c : Call) → get_elem? v.calls k ≡ some c → HasNumber v (backend_of c)
   -- none has a place above the front
   pub fronted : (k : ℕ) (c : Call) → get_elem? v.calls k ≡ some c → place_of c ≤ v.front
   -- the front is the base or above it, and where it is above it some call has that place
@@ -37,14 +31,24 @@ pub record CallsLaw (known : ℕ → Bool) (origin : ℕ → Page) (log : Log) (
   pub reached : v.emptied ≡ false → v.front ≢ log.base → HasPlace v.calls v.front
   -- the front is at most the log's end
   pub within : v.front ≤ log_end log
-  -- the places never fall, but where the view took in the calls of others
-  pub in_order : v.joined ≡ 0 → AreInOrder v.calls
+  -- the places of each backend's never fall
+  pub in_order : AreInOrder v.calls
   -- the flushed position that the view has loaded is at most the flushed position
   pub loaded : v.flushed ≤ flushed
+
+-- What holds of the backends that were joined into the first
+pub record KeptLaw (views : List View) : Type 0 where
+  -- no other view took in a backend
+  pub only_first : (i : ℕ) (v : View) → get_elem? views i ≡ some v → i ≢ 0 → v.kept ≡ []
+  -- what is left of one that was taken in is emptied
+  pub spent : (i k : ℕ) (v : View) (c : Checkpoint) → get_elem? views i ≡ some v → get_elem? v.kept k ≡ some c → (u : View) × (get_elem? views c.number ≡ some u) × (u.emptied ≡ true)
+  -- their numbers differ
+  pub apart : (i j k : ℕ) (v : View) (c d : Checkpoint) → get_elem? views i ≡ some v → get_elem? v.kept j ≡ some c → get_elem? v.kept k ≡ some d → c.number ≡ d.number → j ≡ k
 
 -- What holds of the calls of all views
 pub record HistoryLaw (known : ℕ → Bool) (origin : ℕ → Page) (log : Log) (flushed : ℕ) (views : List View) : Type 0 where
   pub calls : (i : ℕ) (v : View) → get_elem? views i ≡ some v → CallsLaw known origin log flushed v
+  pub kept : KeptLaw views
   -- the writes in all views are as many as the entries
   pub counted : total (λ (v : View). writes_in v.calls) views ≡ length log.entries
   -- each entry is a write in exactly one view

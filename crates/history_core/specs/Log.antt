@@ -84,31 +84,36 @@ pub record IsLegalRead (known : ℕ → Bool) (origin : ℕ → Page) (log : Log
   pub within : place ≤ log_end log
   pub reads : known tag ≡ true → page ≡ cell origin (cut place log.entries) tag
 
--- A write is legal where it is an entry, and its place the entry's end
-pub record IsLegalWrite (log : Log) (tag : ℕ) (page : Page) (place : ℕ) : Type 0 where
+-- A write is legal where it is an entry of its backend, and its place the entry's end
+pub record IsLegalWrite (log : Log) (backend tag : ℕ) (page : Page) (place : ℕ) : Type 0 where
   pub index : ℕ
   pub entry : Entry
   pub there : get_elem? log.entries index ≡ some entry
+  pub made : entry.backend ≡ backend
   pub tagged : entry.tag ≡ tag
   pub image : entry.image ≡ page
   pub ends : end_of entry ≡ place
 
 abbrev pub IsLegal : (ℕ → Bool) → (ℕ → Page) → Log → Call → Type 0
-IsLegal known origin log (Read tag page place) = IsLegalRead known origin log tag page place
-IsLegal known origin log (Write tag page place) = IsLegalWrite log tag page place
+IsLegal known origin log (Read backend tag page place) = IsLegalRead known origin log tag page place
+IsLegal known origin log (Write backend tag page place) = IsLegalWrite log backend tag page place
 
 abbrev pub place_of : Call → ℕ
-place_of (Read tag page place) = place
-place_of (Write tag page place) = place
+place_of (Read backend tag page place) = place
+place_of (Write backend tag page place) = place
+
+abbrev pub backend_of : Call → ℕ
+backend_of (Read backend tag page place) = backend
+backend_of (Write backend tag page place) = backend
 
 -- 1 for a write, and for a write at the place p
 abbrev pub write_weight : Call → ℕ
-write_weight (Read tag page place) = 0
-write_weight (Write tag page place) = 1
+write_weight (Read backend tag page place) = 0
+write_weight (Write backend tag page place) = 1
 
 abbrev pub weight_at : ℕ → Call → ℕ
-weight_at p (Read tag page place) = 0
-weight_at p (Write tag page place) = if nat_eq place p then 1 else 0
+weight_at p (Read backend tag page place) = 0
+weight_at p (Write backend tag page place) = if nat_eq place p then 1 else 0
 
 -- how many writes are among the calls, and how many at the place p
 abbrev pub writes_in : List Call → ℕ
@@ -127,6 +132,6 @@ pub record IsFront (base : ℕ) (calls : List Call) (front : ℕ) : Type 0 where
   pub above : (k : ℕ) (c : Call) → get_elem? calls k ≡ some c → place_of c ≤ front
   pub reached : front ≢ base → HasPlace calls front
 
--- the places of the calls never fall
+-- the places of each backend's calls never fall
 abbrev pub AreInOrder : List Call → Type 0
-AreInOrder calls = (j k : ℕ) (c d : Call) → j < k → get_elem? calls j ≡ some c → get_elem? calls k ≡ some d → place_of c ≤ place_of d
+AreInOrder calls = (j k : ℕ) (c d : Call) → j < k → get_elem? calls j ≡ some c → get_elem? calls k ≡ some d → backend_of c ≡ backend_of d → place_of c ≤ place_of d

@@ -46,7 +46,7 @@ copy = page share ∷ page take_copy ∷ page page_out ∷ page page_back ∷ pa
 -- the frame holds the block's page, and the backend's one call is the read of it, at the log's base
 pub record HasRead (t : State) : Type 0 where
   pub held : (t.pool.core.frame 0).page ≡ sample_page
-  pub called : (v : View) × (get_elem? t.pool.core.views 0 ≡ some v) × (v.calls ≡ Read 7 sample_page 0 ∷ []) × (v.front ≡ 0)
+  pub called : (v : View) × (get_elem? t.pool.core.views 0 ≡ some v) × (v.calls ≡ Read 0 7 sample_page 0 ∷ []) × (v.front ≡ 0)
 
 abbrev pub MissRuns : Type 0
 MissRuns = (t : State) × Run (miss ++ fill ++ copy) miss_start t × HasRead t

@@ -184,11 +184,11 @@ pub record CanRead (tag : ℕ) (p : Page) (l : Link) : Type 0 where
 
 -- a view that has written the page p of the block of a tag; its record is part of the log now
 abbrev pub has_written : ℕ → ℕ → Page → View → View
-has_written end tag p v = record v { calls = v.calls ++ Write tag p end ∷ []; front = end; log = record v.log { appended = None } }
+has_written end tag p v = record v { calls = v.calls ++ Write v.number tag p end ∷ []; front = end; log = record v.log { appended = None } }
 
 -- a view that has read it
 abbrev pub has_read : ℕ → ℕ → Page → View → View
-has_read end tag p v = record v { calls = v.calls ++ Read tag p end ∷ []; front = end; place_loads = v.place_loads + 1 }
+has_read end tag p v = record v { calls = v.calls ++ Read v.number tag p end ∷ []; front = end; place_loads = v.place_loads + 1 }
 
 pub data Step : Event → State → State → Type 0 where
   -- a step of `page_core`

@@ -13,7 +13,7 @@ ghost use Rattle.history_core.specs.Counts.{CountsLaw};
 ghost use Rattle.history_core.specs.Steps.{Event, Run};
 ghost use Rattle.history_core.specs.Sample.{SampleRuns};
 ghost use Rattle.history_core.specs.Miss.{MissRuns};
-ghost use Rattle.history_core.specs.Histories.{IsReached, CallsAreLegal, WritesAreOwn, FrontsAreReached, CallsStay, CallsAreInOrder, LoadedIsFlushed, LanesGoOutFlushed, NotedWritesAreDone, LogIsHeld, WritesAreEntries, ReadsStand, WritesStand, LogBeforeData, LanesHoldFlushedPages, CleanBlocksAreStored, FramesAreSound, FramesHoldCells, LogWords, EntriesAreDurable, DeviceHoldsLog, LanesAreHeld};
+ghost use Rattle.history_core.specs.Histories.{IsReached, CallsAreLegal, JoinedAreApart, CallsAreOwn, FrontsAreReached, CallsStay, CallsAreInOrder, LoadedIsFlushed, LanesGoOutFlushed, NotedWritesAreDone, LogIsHeld, WritesAreEntries, ReadsStand, WritesStand, LogBeforeData, LanesHoldFlushedPages, CleanBlocksAreStored, FramesAreSound, FramesHoldCells, LogWords, EntriesAreDurable, DeviceHoldsLog, LanesAreHeld};
 
 /// What every list of events keeps, whatever the backends do and in whatever order.
 pub fn all_histories()
@@ -28,7 +28,8 @@ pub fn all_histories()
 
     // So in every state that events lead to, of what backends read and wrote:
     ensures legal { (s : State) → IsReached s → CallsAreLegal s }
-    ensures own { (s : State) → IsReached s → WritesAreOwn s }
+    ensures apart { (s : State) → IsReached s → JoinedAreApart s }
+    ensures own { (s : State) → IsReached s → CallsAreOwn s }
     ensures fronts { (s : State) → IsReached s → FrontsAreReached s }
     ensures calls_stay { (s : State) → CallsStay s }
     ensures in_order { (s : State) → IsReached s → CallsAreInOrder s }

@@ -167,10 +167,20 @@ pub struct LogHold {
     pub synced: bool,
 }
 
-/// A page that was read or written, and its place in the log.
+/// A page that a backend read or wrote, and its place in the log.
 pub enum Call {
-    Read { tag: u64, page: [u8; 0], place: u64 },
-    Write { tag: u64, page: [u8; 0], place: u64 },
+    Read {
+        backend: u64,
+        tag: u64,
+        page: [u8; 0],
+        place: u64,
+    },
+    Write {
+        backend: u64,
+        tag: u64,
+        page: [u8; 0],
+        place: u64,
+    },
 }
 
 /// A word as a load saw it.

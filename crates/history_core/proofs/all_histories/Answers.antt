@@ -3,7 +3,7 @@ use Rattle.history_core.proofs.Opening.{opens}
 use Rattle.history_core.proofs.Stepping.{run_keeps}
 use Rattle.history_core.proofs.Counting.{counts_open, counts_after}
 use Rattle.history_core.proofs.Causes.{marks_open, marks_after}
-use Rattle.history_core.proofs.Histories.{reached, legal, own, fronts, in_order, go_out_flushed, loaded_flushed, noted_done, log_held, entries, reads_stand, writes_stand, log_first, lanes_hold, clean_stored, sound, hold_cells, words, held, durable, device_holds}
+use Rattle.history_core.proofs.Histories.{reached, legal, own, apart, fronts, in_order, go_out_flushed, loaded_flushed, noted_done, log_held, entries, reads_stand, writes_stand, log_first, lanes_hold, clean_stored, sound, hold_cells, words, held, durable, device_holds}
 use Rattle.history_core.proofs.Staying.{calls_stay}
 use Rattle.history_core.proofs.all_histories.Goals as goal
 
@@ -99,3 +99,6 @@ returns-clause-calls_stay c = calls_stay
 
 pub returns-clause-own : goal.returns-clause-own
 returns-clause-own c = λ s r. own s (reached s r)
+
+pub returns-clause-apart : goal.returns-clause-apart
+returns-clause-apart c = λ s r. apart s (reached s r)
