@@ -57,14 +57,14 @@ module _ (b : Block) (fr : Frame) (l : Link) where
   store_tag_keeps tag b' a = record {
     column = λ t t' q c sums le _. grind (arith, q, c, a, sums sharers, sums applied_locks, sums unapplied_locks, sums copies, sums works, sums outs, sums (waits_as fr.word.waiter));
     cell = λ t q le c. grind (arith, q, c, a);
-    others = λ t n m q c le d. absent_link b b' fr (kinds.frame_after (kinds.store_tag tag) fr) m (others_absent fr l m t q.0 a.alone (le (pin pins.pins))) d.1;
+    others = λ t n m q c le d. absent_link b b' fr (kinds.frame_after (kinds.store_tag tag) fr) m (others_absent fr l m t q.0 (le (pin pins.pins)) a.alone.single (λ e. let x = a.alone.victim in absurd (cc))) d.1;
   }
 
   pub erase_tag_keeps : (b' : Block) → Allowed kinds.erase_tag fr l → Keeps_by_pins kinds.erase_tag b b' fr l
   erase_tag_keeps b' a = record {
     column = λ t t' q c sums le _. grind (arith, q, c, a, sums sharers, sums applied_locks, sums unapplied_locks, sums copies, sums works, sums outs, sums (waits_as fr.word.waiter));
     cell = λ t q le c. grind (arith, q, c, a);
-    others = λ t n m q c le d. absent_link b b' fr (kinds.frame_after kinds.erase_tag fr) m (others_absent fr l m t q.0 a.alone (le (pin pins.pins))) d.1;
+    others = λ t n m q c le d. absent_link b b' fr (kinds.frame_after kinds.erase_tag fr) m (others_absent fr l m t q.0 (le (pin pins.pins)) a.alone.single (λ e. let x = a.alone.victim in absurd (cc))) d.1;
   }
 
   pub load_tag_keeps : Allowed kinds.load_tag fr l → Keeps_by_pins kinds.load_tag b b fr l

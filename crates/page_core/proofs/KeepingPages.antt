@@ -7,7 +7,7 @@ use Rattle.pin_core.specs.Kinds as pin_kinds
 use Rattle.page_core.specs.State.{Block}
 use Rattle.page_core.specs.Tallies.{sharers, applied_locks, unapplied_locks, copies, works, outs, waits_as, page_shape}
 use Rattle.page_core.specs.Invariant.{page_part, pin_part}
-use Rattle.page_core.proofs.Others.{link_same, mark_dirty_link, header_goes, page_changes, page_back_link, end_badly_link, image_sound, takes_alone, exclusive_alone, input_alone}
+use Rattle.page_core.proofs.Others.{link_same, mark_dirty_link, header_goes, page_changes, locked_is_logged, page_back_link, end_badly_link, image_sound, takes_alone, exclusive_alone, input_alone}
 use Rattle.page_core.specs.Kinds as kinds
 use Rattle.page_core.specs.Kinds.{Kind, image_over, Allowed, frame_after, block_after, link_after}
 use Rattle.grid.specs.Shape.{Part}
@@ -106,7 +106,7 @@ module _ (b : Block) (fr : Frame) (l : Link) where
   pub page_back_keeps : Allowed kinds.page_back b fr l → Keeps_by page_part kinds.page_back b fr l
   page_back_keeps a = record {
     column = λ t t' q c sums le _. grind (arith, q, c, a, sums sharers, sums applied_locks, sums unapplied_locks, sums copies, sums works, sums outs, sums (waits_as fr.word.waiter));
-    cell = λ t q le c. page_back_link b fr l c.1 a;
+    cell = λ t q le c. page_back_link b fr l c.1 a (locked_is_logged b fr l t q.1 c.1 (le sharers) (le applied_locks));
     others = λ t n m q c le d. grind (arith, q, c, d, a);
   }
 

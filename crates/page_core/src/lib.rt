@@ -10,7 +10,7 @@ ghost use Rattle.pin_core.specs.Invariant.{AllAccounted};
 ghost use Rattle.page_core.specs.State.{State, opening};
 ghost use Rattle.page_core.specs.Invariant.{Invariant};
 ghost use Rattle.page_core.specs.Steps.{Event, Run};
-ghost use Rattle.page_core.specs.Histories.{IsReached, PinnedTagsStay, ContentLocks, OneIo, RightsNeedPins, CopyLatches, DirtiedFramesAreDirty, OnePageOut, FramesHoldPages, ValidPagesAreSound, CopiesArePages};
+ghost use Rattle.page_core.specs.Histories.{IsReached, PinnedTagsStay, ContentLocks, OneIo, RightsNeedPins, CopyLatches, DirtiedFramesAreDirty, OnePageOut, FramesHoldPages, ValidPagesAreSound, CopiesArePages, WaitersAreNamed, BackendsWaitOnce, CleanupIsAlone};
 ghost use Rattle.page_core.specs.Sample.{SampleRuns};
 
 /// What every list of events keeps, whatever the backends do and in whatever order.
@@ -44,6 +44,11 @@ pub fn all_histories()
     ensures dirtied { (s : State) → IsReached s → DirtiedFramesAreDirty s }
     ensures one_out { (s : State) → IsReached s → OnePageOut s }
     ensures sound { (s : State) → IsReached s → ValidPagesAreSound s }
+
+    // of waits for a cleanup lock:
+    ensures waiters { (s : State) (f : ℕ) → IsReached s → f < s.core.frames → WaitersAreNamed s f }
+    ensures one_wait { (s : State) → IsReached s → BackendsWaitOnce s }
+    ensures granted { (s : State) (f : ℕ) → IsReached s → f < s.core.frames → CleanupIsAlone s f }
 
     // over lists in which each read that is noted gives the block's page after the log, where that is known (the kind asks for it until the steps of lanes come):
     ensures frames_hold { (s : State) → IsReached s → FramesHoldPages s }
