@@ -11,7 +11,7 @@ ghost use Rattle.page_core.specs.State.{State, opening};
 ghost use Rattle.page_core.specs.Invariant.{Invariant};
 ghost use Rattle.page_core.specs.Steps.{Event, Run};
 ghost use Rattle.page_core.specs.Histories.{IsReached, PinnedTagsStay, ContentLocks, OneIo, RightsNeedPins, CopyLatches, DirtiedFramesAreDirty, OnePageOut, FramesHoldPages, ValidPagesAreSound, CopiesArePages, WaitersAreNamed, BackendsWaitOnce, CleanupIsAlone};
-ghost use Rattle.page_core.specs.Sample.{SampleRuns};
+ghost use Rattle.page_core.specs.Sample.{SampleRuns, CleanupRuns};
 
 /// What every list of events keeps, whatever the backends do and in whatever order.
 pub fn all_histories()
@@ -58,4 +58,9 @@ pub fn all_histories()
 /// An example: a backend misses a block and reads it into a frame, copies its page under a shared lock, and evicts it.
 pub fn miss_read_copy_evict()
     ensures { SampleRuns }
+{}
+
+/// An example: a backend waits for a cleanup lock of a frame that another one pins, is woken, and gets it.
+pub fn cleanup_wait()
+    ensures { CleanupRuns }
 {}
