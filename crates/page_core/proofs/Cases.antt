@@ -1,5 +1,6 @@
 -- What is shown kind by kind.
-use Rattle.std.proofs.Common.{◌≡◌, ◌⊎◌, sym, refl, subst, inl, inr}
+use Rattle.std.proofs.Common.{◌≡◌, ◌⊎◌, ℕ, Option, Some, None, sym, refl, subst, inl, inr, arith}
+use Rattle.state_word.specs.declared.word.StateWord.{StateWord}
 use Rattle.state_word.specs.declared.word.IoEnd.TheVariants.{ReadOk, WriteOk, Bad}
 use Rattle.pin_core.specs.declared.view.Content.TheVariants.{Exclusive}
 use Rattle.pin_core.specs.declared.view.Link.{Link}
@@ -7,7 +8,7 @@ use Rattle.pin_core.specs.State.{Frame}
 use Rattle.pin_core.specs.Kinds as pin_kinds
 use Rattle.page_core.specs.State.{Block}
 use Rattle.page_core.specs.Invariant.{page_part, pin_part}
-use Rattle.page_core.specs.Kinds.{Kind, load_content, mark_dirty, share, exclude, unshare, unexclude, take_copy, leave_copy, page_out, overwrite_logged, overwrite_read, page_back, note_read, begin_write, note_write, make_entry, start_input, start_output, clear_just_dirtied, end_io, Allowed, frame_after, block_after, link_after}
+use Rattle.page_core.specs.Kinds.{Kind, load_content, mark_dirty, share, exclude, unshare, unexclude, take_copy, leave_copy, page_out, overwrite_logged, overwrite_read, page_back, note_read, begin_write, note_write, make_entry, start_input, start_output, clear_just_dirtied, end_io, set_waiter, clear_waiter, need_checkpoint, Allowed, frame_after, block_after, link_after}
 use Rattle.page_core.proofs.KeepingPages as pages
 use Rattle.page_core.proofs.KeepingPages.{Keeps_by, Keeps_by_pins}
 use Rattle.page_core.proofs.KeepingPins as pins
@@ -36,6 +37,9 @@ pages_kept clear_just_dirtied b fr l a = pages.clear_just_dirtied_keeps b fr l a
 pages_kept (end_io ReadOk) b fr l a = pages.end_read_keeps b fr l a
 pages_kept (end_io WriteOk) b fr l a = pages.end_write_keeps b fr l a
 pages_kept (end_io Bad) b fr l a = pages.end_badly_keeps b fr l a
+pages_kept (set_waiter number) b fr l a = pages.set_waiter_keeps b fr l number a
+pages_kept clear_waiter b fr l a = pages.clear_waiter_keeps b fr l a
+pages_kept need_checkpoint b fr l a = pages.need_checkpoint_keeps b fr l a
 
 pub pins_kept : (k : Kind) (b : Block) (fr : Frame) (l : Link) → Allowed k b fr l → Keeps_by pin_part k b fr l
 pins_kept load_content b fr l a = pins.load_content_keeps b fr l a
@@ -60,6 +64,9 @@ pins_kept clear_just_dirtied b fr l a = pins.clear_just_dirtied_keeps b fr l a
 pins_kept (end_io ReadOk) b fr l a = pins.end_read_keeps b fr l a
 pins_kept (end_io WriteOk) b fr l a = pins.end_write_keeps b fr l a
 pins_kept (end_io Bad) b fr l a = pins.end_badly_keeps b fr l a
+pins_kept (set_waiter number) b fr l a = pins.set_waiter_keeps b fr l number a
+pins_kept clear_waiter b fr l a = pins.clear_waiter_keeps b fr l a
+pins_kept need_checkpoint b fr l a = pins.need_checkpoint_keeps b fr l a
 
 -- no kind of this crate changes the tag word
 pub tag_kept : (k : Kind) (b : Block) (fr : Frame) → (frame_after k b fr).tag ≡ fr.tag
@@ -83,6 +90,9 @@ tag_kept start_input b fr = refl
 tag_kept start_output b fr = refl
 tag_kept clear_just_dirtied b fr = refl
 tag_kept (end_io end) b fr = refl
+tag_kept (set_waiter number) b fr = refl
+tag_kept clear_waiter b fr = refl
+tag_kept need_checkpoint b fr = refl
 
 -- nor a pin
 pub role_kept : (k : Kind) (b : Block) (fr : Frame) (l : Link) → (link_after k b fr l).role ≡ l.role
@@ -106,6 +116,55 @@ role_kept start_input b fr l = refl
 role_kept start_output b fr l = refl
 role_kept clear_just_dirtied b fr l = refl
 role_kept (end_io end) b fr l = refl
+role_kept (set_waiter number) b fr l = refl
+role_kept clear_waiter b fr l = refl
+role_kept need_checkpoint b fr l = refl
+
+-- a kind leaves where the view waits, but for the one that begins a wait
+pub wait_kept : (k : Kind) (b : Block) (fr : Frame) (l : Link) → ((number : ℕ) × (k ≡ set_waiter number)) ⊎ ((link_after k b fr l).waits ≡ l.waits)
+wait_kept (set_waiter number) b fr l = inl (number, refl)
+wait_kept load_content b fr l = inr refl
+wait_kept mark_dirty b fr l = inr refl
+wait_kept share b fr l = inr refl
+wait_kept exclude b fr l = inr refl
+wait_kept unshare b fr l = inr refl
+wait_kept unexclude b fr l = inr refl
+wait_kept take_copy b fr l = inr refl
+wait_kept leave_copy b fr l = inr refl
+wait_kept page_out b fr l = inr refl
+wait_kept overwrite_logged b fr l = inr refl
+wait_kept (overwrite_read p) b fr l = inr refl
+wait_kept page_back b fr l = inr refl
+wait_kept (note_read p) b fr l = inr refl
+wait_kept begin_write b fr l = inr refl
+wait_kept (note_write done) b fr l = inr refl
+wait_kept (make_entry p) b fr l = inr refl
+wait_kept start_input b fr l = inr refl
+wait_kept start_output b fr l = inr refl
+wait_kept clear_just_dirtied b fr l = inr refl
+wait_kept (end_io end) b fr l = inr refl
+wait_kept clear_waiter b fr l = inr refl
+wait_kept need_checkpoint b fr l = inr refl
+
+-- a wait after a kind of `pin_core` was there before it
+pub wait_below : (k : pin_kinds.Kind) (fr : Frame) (l : Link) (number : ℕ) → (pin_kinds.link_after k fr l).waits ≡ Some number → l.waits ≡ Some number
+wait_below pin_kinds.load_state fr l number e = goes_on fr.word l.waits e
+  where
+    goes_on : (w : StateWord) (o : Option ℕ) → pin_kinds.wait_after w o ≡ Some number → o ≡ Some number
+    goes_on w None e = e
+    goes_on w (Some own) e = grind (arith, e)
+wait_below (pin_kinds.pin ring) fr l number e = e
+wait_below (pin_kinds.pin_mapped tag ring) fr l number e = e
+wait_below pin_kinds.unpin fr l number e = e
+wait_below pin_kinds.lock_header fr l number e = e
+wait_below pin_kinds.unlock_header fr l number e = e
+wait_below (pin_kinds.store_tag tag) fr l number e = e
+wait_below pin_kinds.erase_tag fr l number e = e
+wait_below pin_kinds.load_tag fr l number e = e
+wait_below pin_kinds.pin_victim fr l number e = e
+wait_below pin_kinds.lower_usage fr l number e = e
+wait_below pin_kinds.assign fr l number e = e
+wait_below pin_kinds.clear fr l number e = e
 
 -- a kind leaves the block as it is, but for one under the exclusive lock
 pub block_kept : (k : Kind) (b : Block) (fr : Frame) (l : Link) → Allowed k b fr l → (block_after k b ≡ b) ⊎ (l.content ≡ Exclusive)

@@ -1,8 +1,10 @@
 -- What the law says in the field's words.
-use Rattle.std.proofs.Common.{◌≡◌, ◌≢◌, ℕ, ◌+◌, ◌<◌, ◌≤◌, Bool, true, false, cond, List, None, sym, refl, ap, subst, ◌∙◌, arith}
+use Rattle.std.proofs.Common.{◌≡◌, ◌≢◌, ℕ, ◌+◌, ◌<◌, ◌≤◌, Bool, true, false, cond, List, Some, None, sym, refl, ap, subst, ◌∙◌, arith}
 use Rattle.std.specs.Prelude.{count_by, if◌then◌else◌}
 use mathlib.Core.Logic.{dite}
+use mathlib.Core.Option.{some}
 use native.Mathlib.Decide.{ℕ_discrete}
+use lib.ListN.{get_elem?}
 use Rattle.pin_core.specs.declared.view.Content.{Content}
 use Rattle.pin_core.specs.declared.view.Content.TheVariants.{Unlocked, Shared, Exclusive}
 use Rattle.pin_core.specs.declared.view.Io.{Io}
@@ -11,10 +13,11 @@ use Rattle.pin_core.specs.declared.view.Link.{Link}
 use Rattle.pin_core.specs.declared.view.View.{View}
 use Rattle.pin_core.specs.State.{Frame, link}
 use Rattle.pin_core.specs.Tallies.{flag_weight}
+use Rattle.pin_core.specs.Tallies as pins
 use Rattle.page_core.specs.State.{Block, State, block_of}
-use Rattle.page_core.specs.Tallies.{sharers, applied_locks, unapplied_locks, copies, works, outs, weigh, share_weight, exclusive_weight, work_weight, page_shape}
+use Rattle.page_core.specs.Tallies.{Tally, pin, sharers, applied_locks, unapplied_locks, copies, works, outs, weigh, share_weight, exclusive_weight, work_weight, page_shape}
 use Rattle.page_core.specs.Invariant.{PageLink, Invariant}
-use Rattle.page_core.specs.Histories.{IsReached, HasNoUnpin, PinnedTagsStay, is_shared, is_exclusive, is_working, shares, excludes, works_on, ContentLocks, OneIo, copies_at, CopyLatches, DirtiedFramesAreDirty, RightsNeedPins, OnePageOut, FramesHoldPages, ValidPagesAreSound, CopiesArePages}
+use Rattle.page_core.specs.Histories.{IsReached, HasNoUnpin, PinnedTagsStay, is_shared, is_exclusive, is_working, shares, excludes, works_on, ContentLocks, OneIo, copies_at, CopyLatches, DirtiedFramesAreDirty, RightsNeedPins, OnePageOut, FramesHoldPages, ValidPagesAreSound, CopiesArePages, IsAwaitedBy, WaitersAreNamed, BackendsWaitOnce, CleanupIsAlone}
 use Rattle.grid.specs.Shape.{tallies, total}
 use Rattle.grid.proofs.Sums.{total-count, total-add, total-same, total-none, terms_le}
 use Rattle.grid.proofs.Grids.{Relinks}
@@ -27,6 +30,8 @@ use Rattle.pin_core.proofs.Schedules.{Stays, view_stays, tag_there}
 use Rattle.page_core.specs.Kinds.{Kind, frame_after, link_after, view_after}
 use Rattle.page_core.specs.Steps.{Event, pins_and_maps, Step, cores, touches, Run, rests, goes}
 use Rattle.page_core.proofs.Cases.{tag_kept, role_kept}
+use Rattle.page_core.proofs.Others.{others_absent, others_unlocked}
+use Rattle.page_core.proofs.Waits.{waiter}
 use Rattle.page_core.proofs.Opening.{opens}
 use Rattle.page_core.proofs.Stepping.{relinked, step_keeps, run_keeps}
 
@@ -122,3 +127,28 @@ module _ (s : State) (h : Invariant s) where
     copied = λ i f v p q there below e is. ((h.pages.cells i v f there below).copied p e).is_logged q is;
     read = λ i f v p q there below e is. ((h.pages.cells i v f there below).read p e).is_logged q is;
   }
+
+  awaited_by : (f number : ℕ) → f < s.core.frames → ((j : ℕ) × (u : View) × (get_elem? s.core.views j ≡ some u) × ((link u f).waits ≡ Some number)) → IsAwaitedBy s f number
+  awaited_by f number below x = record {
+    backend = x.0;
+    view = x.1;
+    there = x.2;
+    named = sym ((h.waits x.0 x.1 x.2).own f number x.3);
+    pinned = (h.pages.cells x.0 x.1 f x.2 below).waits (λ none. let waiting = x.3 in absurd (cc));
+    waiting = x.3;
+  }
+
+  pub waiters : (f : ℕ) → f < s.core.frames → WaitersAreNamed s f
+  waiters f below = let c = h.pages.columns f below in let number = (s.core.frame f).word.waiter in record { awaited = λ e. awaited_by f number below (waiter number f s.core.views (c.waited e)); unawaited = c.unwaited }
+
+  pub wait_once : BackendsWaitOnce s
+  wait_once = record { own = λ i f number v there. (h.waits i v there).own f number; one = λ i f g v there. (h.waits i v there).one f g }
+
+  pub cleanup_alone : (f : ℕ) → f < s.core.frames → CleanupIsAlone s f
+  cleanup_alone f below = record {
+    pins = λ i j v u there here other. others_absent (s.core.frame f) (link v f) (link u f) (tallies page_shape s.core.views f) (h.core.grid.columns f below) (beside (pin pins.pins) i j v u there here other);
+    locks = λ i j v u there here other. others_unlocked (block_of s.logged (s.core.frame f).tag) (s.core.frame f) (link v f) (link u f) (tallies page_shape s.core.views f) (h.pages.columns f below) (λ k. beside k i j v u there here other);
+  }
+    where
+      beside : (k : Tally) (i j : ℕ) (v u : View) → get_elem? s.core.views i ≡ some v → get_elem? s.core.views j ≡ some u → i ≢ j → weigh k (link v f) + weigh k (link u f) ≤ tallies page_shape s.core.views f k
+      beside k i j v u there here other = terms_le (λ (x : View). weigh k (link x f)) s.core.views i j v u (λ e. other (sym e)) there here

@@ -1,5 +1,5 @@
 -- This crate's kinds keep the law of pins, headers and tags.
-use Rattle.std.proofs.Common.{Bool, arith}
+use Rattle.std.proofs.Common.{ℕ, Bool, arith}
 use Rattle.state_word.specs.declared.word.IoEnd.TheVariants.{ReadOk, WriteOk, Bad}
 use Rattle.pin_core.specs.declared.view.Link.{Link}
 use Rattle.pin_core.specs.State.{Frame, Page}
@@ -161,6 +161,27 @@ module _ (b : Block) (fr : Frame) (l : Link) where
 
   pub end_badly_keeps : Allowed (kinds.end_io Bad) b fr l → Keeps_by pin_part (kinds.end_io Bad) b fr l
   end_badly_keeps a = record {
+    column = λ t t' q c sums le _. grind (arith, q, c, a, sums (pin pins.pins), sums (pin pins.headers), sums (pin pins.pendings), sums (pin pins.settled_pins), sums (pin pins.settled_headers));
+    cell = λ t q le c. grind (arith, q, c, a);
+    others = λ t n m q c le d. grind (arith, q, c, d, a);
+  }
+
+  pub set_waiter_keeps : (number : ℕ) → Allowed (kinds.set_waiter number) b fr l → Keeps_by pin_part (kinds.set_waiter number) b fr l
+  set_waiter_keeps number a = record {
+    column = λ t t' q c sums le _. grind (arith, q, c, a, sums (pin pins.pins), sums (pin pins.headers), sums (pin pins.pendings), sums (pin pins.settled_pins), sums (pin pins.settled_headers));
+    cell = λ t q le c. grind (arith, q, c, a);
+    others = λ t n m q c le d. grind (arith, q, c, d, a);
+  }
+
+  pub clear_waiter_keeps : Allowed kinds.clear_waiter b fr l → Keeps_by pin_part kinds.clear_waiter b fr l
+  clear_waiter_keeps a = record {
+    column = λ t t' q c sums le _. grind (arith, q, c, a, sums (pin pins.pins), sums (pin pins.headers), sums (pin pins.pendings), sums (pin pins.settled_pins), sums (pin pins.settled_headers));
+    cell = λ t q le c. grind (arith, q, c, a);
+    others = λ t n m q c le d. grind (arith, q, c, d, a);
+  }
+
+  pub need_checkpoint_keeps : Allowed kinds.need_checkpoint b fr l → Keeps_by pin_part kinds.need_checkpoint b fr l
+  need_checkpoint_keeps a = record {
     column = λ t t' q c sums le _. grind (arith, q, c, a, sums (pin pins.pins), sums (pin pins.headers), sums (pin pins.pendings), sums (pin pins.settled_pins), sums (pin pins.settled_headers));
     cell = λ t q le c. grind (arith, q, c, a);
     others = λ t n m q c le d. grind (arith, q, c, d, a);

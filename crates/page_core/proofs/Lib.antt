@@ -3,6 +3,7 @@ pub mod KeepingPages
 pub mod KeepingPins
 pub mod KeepingBelow
 pub mod Cases
+pub mod Waits
 pub mod Stepping
 pub mod Opening
 pub mod Histories

@@ -4,10 +4,11 @@ use Rattle.pin_core.specs.declared.view.View.{View}
 use Rattle.pin_core.specs.State.{Config, CanOpen, Page, link, first_view, empty_frame, no_tag}
 use Rattle.pin_core.proofs.Opening as pins
 use Rattle.page_core.specs.State.{Block, block_of, opening}
-use Rattle.page_core.specs.Tallies.{Tally, sharers, applied_locks, unapplied_locks, copies, works, outs, weigh, page_shape}
-use Rattle.page_core.specs.Invariant.{PageFrame, PageLink, Invariant}
+use Rattle.page_core.specs.Tallies.{Tally, sharers, applied_locks, unapplied_locks, copies, works, outs, waits_as, weigh, page_shape}
+use Rattle.page_core.specs.Invariant.{PageFrame, PageLink, WaitsOnce, Invariant}
 use Rattle.grid.specs.Shape.{tallies, total}
 use Rattle.grid.proofs.Lists.{at_only}
+use Rattle.page_core.proofs.Waits.{waits_first}
 use Rattle.page_core.proofs.Stepping.{new_none, new_link}
 
 no_sums : (base n p m f : ℕ) (k : Tally) → tallies page_shape (first_view base n p m ∷ []) f k ≡ 0
@@ -15,7 +16,7 @@ unfolding total
 no_sums base n p m f k = let e : weigh k (link (first_view base n p m) f) ≡ 0 = new_none 0 base n p m f k in omega arith
 
 empty_frame_law : (b : Block) (p : Page) (t : Tally → ℕ) → ((k : Tally) → t k ≡ 0) → PageFrame b (empty_frame p) t
-empty_frame_law b p t e = grind (arith, e sharers, e applied_locks, e unapplied_locks, e copies, e works, e outs)
+empty_frame_law b p t e = grind (arith, e sharers, e applied_locks, e unapplied_locks, e copies, e works, e outs, e (waits_as 0))
 
 pub opens : (c : Config) (origin : ℕ → Option Page) (page : Page) → CanOpen c → Invariant (opening c origin page)
 opens c origin page can = let base = c.base in let n = c.frames in let p = c.partitions in let m = c.lanes in let w : View = first_view base n p m in let b : Block = block_of origin no_tag in record {
@@ -24,4 +25,5 @@ opens c origin page can = let base = c.base in let n = c.frames in let p = c.par
     columns = λ f below. empty_frame_law b page (tallies page_shape (w ∷ []) f) (no_sums base n p m f);
     cells = λ i v f there below. subst (λ (x : View). PageLink b (empty_frame page) (link x f)) (at_only w v i there).0 (new_link b 0 base n p m f (empty_frame page));
   };
+  waits = λ i v there. subst WaitsOnce (at_only w v i there).0 (waits_first base n p m);
 }

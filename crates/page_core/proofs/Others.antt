@@ -1,7 +1,8 @@
 -- What a step leaves of the links of the other views at the frame.
-use Rattle.std.proofs.Common.{◌≡◌, ◌≢◌, ℕ, ◌+◌, ◌≤◌, true, Option, Some, None, refl, arith}
+use Rattle.std.proofs.Common.{◌≡◌, ◌≢◌, ℕ, ◌+◌, ◌≤◌, true, false, Option, Some, None, refl, arith}
 use Rattle.state_word.specs.declared.word.IoEnd.TheVariants.{Bad}
-use Rattle.pin_core.specs.declared.view.Content.TheVariants.{Exclusive}
+use Rattle.pin_core.specs.declared.view.Role.TheVariants.{Absent}
+use Rattle.pin_core.specs.declared.view.Content.TheVariants.{Unlocked, Exclusive}
 use Rattle.pin_core.specs.declared.view.Io.TheVariants.{Input}
 use Rattle.pin_core.specs.declared.view.Link.{Link}
 use Rattle.pin_core.specs.State.{Frame, Page}
@@ -9,7 +10,7 @@ use Rattle.pin_core.specs.Tallies as pins
 use Rattle.pin_core.specs.Invariant.{FrameLaw, LinkLaw}
 use Rattle.pin_core.specs.Kinds as kinds
 use Rattle.page_layout.specs.Soundness.{is_sound_page}
-use Rattle.page_core.specs.Kinds.{image_over, CanTakePage, CanEndIo}
+use Rattle.page_core.specs.Kinds.{image_over, CanTakePage, CanReturnPage, CanEndIo}
 use Rattle.page_core.specs.Kinds as page_kinds
 use Rattle.page_core.specs.State.{Block}
 use Rattle.page_core.specs.Tallies.{Tally, pin, sharers, applied_locks, unapplied_locks, copies, works, outs, weigh, work_weight}
@@ -52,6 +53,26 @@ takes_alone b fr l m t q c d both a = grind (arith, q, c, d, a, both sharers, bo
 pub pending_alone : (b : Block) (fr : Frame) (l m : Link) (t : Tally → ℕ) → FrameLaw fr (λ k. t (pin k)) → LinkLaw fr l → PageLink b fr m → weigh (pin pins.pendings) l ≤ t (pin pins.pendings) → weigh (pin pins.pins) l + weigh (pin pins.pins) m ≤ t (pin pins.pins) → l.pending ≡ true → work_weight m.io ≡ 0
 pending_alone b fr l m t q c d x y e = grind (arith, q, c, d, x, y, e)
 
+-- a frame is marked dirty
+pub mark_dirty_link : (b : Block) (fr : Frame) (m : Link) → PageLink b fr m → PageLink b (page_kinds.frame_after page_kinds.mark_dirty b fr) m
+mark_dirty_link b fr m h = grind (arith, h)
+
+-- what is said of a view that has no pin is nothing of the frame
+pub absent_link : (b b' : Block) (fr fr' : Frame) (m : Link) → m.role ≡ Absent → PageLink b fr m → PageLink b' fr' m
+absent_link b b' fr fr' m e h = grind (arith, e, h)
+
+-- beside the one pin of a frame there is no other
+pub others_absent : (fr : Frame) (l m : Link) (t : Tally → ℕ) → FrameLaw fr (λ k. t (pin k)) → weigh (pin pins.pins) l + weigh (pin pins.pins) m ≤ t (pin pins.pins) → fr.word.pins ≡ 1 → l.role ≢ Absent → m.role ≡ Absent
+others_absent fr l m t q x single pinned = grind (arith, q, x, single, pinned)
+
+-- beside the exclusive lock there is no other
+pub others_unlocked : (b : Block) (fr : Frame) (l m : Link) (t : Tally → ℕ) → PageFrame b fr t → ((k : Tally) → weigh k l + weigh k m ≤ t k) → l.content ≡ Exclusive → m.content ≡ Unlocked
+others_unlocked b fr l m t q both right = grind (arith, q, right, both sharers, both applied_locks, both unapplied_locks)
+
+-- a view gives a header up
+pub header_goes : (b : Block) (fr : Frame) (l : Link) → PageLink b fr l → PageLink b fr (record l { header = None })
+header_goes b fr l h = grind (arith, h)
+
 -- a load and a header lock leave what the law says of a link
 pub load_state_link : (b : Block) (fr : Frame) (l : Link) → PageLink b fr l → PageLink b (kinds.frame_after kinds.load_state fr) (kinds.link_after kinds.load_state fr l)
 load_state_link b fr l h = grind (arith, h)
@@ -64,6 +85,14 @@ unlock_header_link b fr l h = grind (arith, h)
 
 pub load_tag_link : (b : Block) (fr : Frame) (l : Link) → PageLink b fr l → PageLink b (kinds.frame_after kinds.load_tag fr) (kinds.link_after kinds.load_tag fr l)
 load_tag_link b fr l h = grind (arith, h)
+
+-- under a content lock, with no entry to apply, the frame's page is the block's page after the log, where that is known
+pub locked_is_logged : (b : Block) (fr : Frame) (l : Link) (t : Tally → ℕ) → PageFrame b fr t → PageLink b fr l → weigh sharers l ≤ t sharers → weigh applied_locks l ≤ t applied_locks → l.content ≢ Unlocked → l.unapplied ≡ false → (p : Page) → b.logged ≡ Some p → p ≡ fr.page
+locked_is_logged b fr l t q c x y right settled p e = grind (arith, q, c, x, y, right, settled, e)
+
+-- a page comes back
+pub page_back_link : (b : Block) (fr : Frame) (l : Link) → PageLink b fr l → CanReturnPage fr l → (l.content ≢ Unlocked → l.unapplied ≡ false → (p : Page) → b.logged ≡ Some p → p ≡ fr.page) → PageLink b fr (page_kinds.link_after page_kinds.page_back b fr l)
+page_back_link b fr l h a is_logged = grind (arith, h, a, is_logged)
 
 -- the failed end of input or output leaves what holds of a link
 pub end_badly_link : (b : Block) (fr : Frame) (l : Link) → PageLink b fr l → CanEndIo Bad fr l → PageLink b (page_kinds.frame_after (page_kinds.end_io Bad) b fr) (page_kinds.link_after (page_kinds.end_io Bad) b fr l)

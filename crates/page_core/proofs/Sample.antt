@@ -1,5 +1,5 @@
 -- The sample's events are steps.
-use Rattle.std.proofs.Common.{◌≡◌, ◌≢◌, ℕ, zero, suc, true, false, [], ◌∷◌, List, slice_index_or, Some, None, Bool, Option, cond, nat_eq, lit<, refl, sym, subst, arith}
+use Rattle.std.proofs.Common.{◌≡◌, ◌≢◌, ℕ, zero, suc, true, false, [], ◌∷◌, ◌++◌, List, slice_index_or, Some, None, Bool, Option, cond, nat_eq, lit<, refl, sym, subst}
 use Rattle.state_word.specs.declared.word.IoEnd.TheVariants.{ReadOk}
 use Rattle.pin_core.specs.declared.view.Role.TheVariants.{Victim}
 use Rattle.pin_core.specs.declared.view.Io.TheVariants.{Quiet}
@@ -7,7 +7,7 @@ use Rattle.pin_core.specs.declared.view.MapChange.TheVariants.{Settled, Entering
 use Rattle.pin_core.specs.declared.view.PartitionHold.{PartitionHold}
 use Rattle.pin_core.specs.declared.view.Link.{Link}
 use Rattle.pin_core.specs.declared.view.View.{View}
-use Rattle.pin_core.specs.State.{Page, link, idle, hold, no_partition, no_tag, emptied_view}
+use Rattle.pin_core.specs.State.{Page, link, idle, emptied_view, split_state}
 use Rattle.pin_core.specs.Kinds as pins
 use Rattle.pin_core.specs.Turns.{TurnKind, take_turn, leave_turn, map_out, change_map, map_back, found, map_after}
 use Rattle.pin_core.specs.Steps as pin_steps
@@ -15,9 +15,9 @@ use Rattle.pin_core.proofs.Sample.{at_partition, no_entries, one_entry, named, p
 use Rattle.page_layout.specs.Fields.{header_of, lsn_of}
 use Rattle.page_layout.specs.Soundness.{is_new_page, is_sound_page}
 use Rattle.page_core.specs.State.{State}
-use Rattle.page_core.specs.Kinds.{Kind, start_input, note_read, page_out, overwrite_read, page_back, end_io, share, take_copy, leave_copy, unshare}
-use Rattle.page_core.specs.Steps.{state_after, HasNoWriteOut, rests, goes, cores, touches}
-use Rattle.page_core.specs.Sample.{sample_start, sample_page, sample_entry, SampleRuns}
+use Rattle.page_core.specs.Kinds.{Kind, start_input, note_read, page_out, overwrite_read, page_back, end_io, share, exclude, take_copy, leave_copy, unshare, unexclude, set_waiter, clear_waiter}
+use Rattle.page_core.specs.Steps.{Event, state_after, HasNoWriteOut, Run, rests, goes, cores, touches}
+use Rattle.page_core.specs.Sample.{sample_start, sample_page, sample_entry, miss, read, SampleRuns, CleanupRuns}
 
 abbrev view_of : State → View
 view_of s = slice_index_or s.core.views 0 emptied_view
@@ -174,37 +174,45 @@ s37 = pooled pins.unpin s36
 no_lanes : HasNoWriteOut (view_of s17) 0
 no_lanes n out e = e
 
+run_append : {xs ys : List Event} {s t u : State} → Run xs s t → Run ys t u → Run (xs ++ ys) s u
+run_append rests q = q
+run_append (goes x r) q = goes x (run_append r q)
+
+-- the block's page is in the frame
+read_in : Run (miss ++ read) sample_start s19
+read_in = goes (cores (pin_steps.turns 0 0 take_turn (view_of sample_start) refl refl (lit< tt) (record { free = refl })))
+    (goes (cores (pin_steps.touches 0 0 pins.lock_header (view_of s1) refl refl (lit< tt) (record { unlocked = refl }) (at_frame (λ (l : Link). l.header ≡ None) (view_of s1) _ refl refl refl)))
+    (goes (cores (pin_steps.touches 0 0 pins.pin_victim (view_of s2) refl refl (lit< tt) (record { held = refl; absent = refl; room = λ e. refl }) (at_frame (λ (l : Link). l.role ≢ Victim) (view_of s2) _ refl (λ e. cc) (λ e. cc))))
+    (goes (cores (pin_steps.touches 0 0 pins.lock_header (view_of s3) refl refl (lit< tt) (record { unlocked = refl }) (at_frame (λ (l : Link). l.header ≡ None) (view_of s3) _ refl refl refl)))
+    (goes (cores (pin_steps.touches 0 0 (pins.store_tag 7) (view_of s4) refl refl (lit< tt) (record { alone = record { held = refl; settled = refl; single = refl; victim = refl; no_content = refl; no_io = refl }; named = named; packed = packed; untagged = refl }) (record { naming = record { held = refl; unchanged = refl; settled = (at_partition (λ (h : PartitionHold). h.change ≡ Settled) (view_of s4) _ refl refl refl) }; lacking = refl })))
+    (goes (cores (pin_steps.touches 0 0 pins.assign (view_of s5) refl refl (lit< tt) (record { held = refl; stored = refl; named = named }) tt))
+    (goes (cores (pin_steps.turns 0 0 (map_out []) (view_of s6) refl refl (lit< tt) (record { held = refl; home = refl; entries_are = no_entries })))
+    (goes (cores (pin_steps.turns 0 0 change_map (view_of s7) refl refl (lit< tt) (record { out = λ e. cc; unchanged = refl; named = λ e. cc })))
+    (goes (cores (pin_steps.turns 0 0 (map_back (sample_entry ∷ [])) (view_of s8) refl refl (lit< tt) (record { out = λ e. cc; entries_are = one_entry })))
+    (goes (cores (pin_steps.turns 0 0 leave_turn (view_of s9) refl refl (lit< tt) (record { held = refl; home = refl; settled = refl })))
+    (goes (cores (pin_steps.touches 0 0 pins.lock_header (view_of s10) refl refl (lit< tt) (record { unlocked = refl }) (at_frame (λ (l : Link). l.header ≡ None) (view_of s10) _ refl refl refl)))
+    (goes (touches 0 0 start_input (view_of s11) refl refl (lit< tt) (record { held = refl; settled = refl; pinned = λ e. cc; clear = refl; tagged = refl; invalid = refl }) (at_frame (λ (l : Link). l.io ≡ Quiet) (view_of s11) _ refl refl refl))
+    (goes (touches 0 0 (note_read sample_page) (view_of s12) refl refl (lit< tt) (record { right = refl; fresh = refl; given = same_page sample_page }) tt)
+    (goes (touches 0 0 page_out (view_of s13) refl refl (lit< tt) (record { page_home = refl; shared = λ e. absurd (cc); unlocked = λ e. refl }) tt)
+    (goes (touches 0 0 (overwrite_read sample_page) (view_of s14) refl refl (lit< tt) (record { out = λ e. cc; once = refl; right = refl; read = refl }) tt)
+    (goes (touches 0 0 page_back (view_of s15) refl refl (lit< tt) (record { out = λ e. cc }) tt)
+    (goes (cores (pin_steps.touches 0 0 pins.lock_header (view_of s16) refl refl (lit< tt) (record { unlocked = refl }) (at_frame (λ (l : Link). l.header ≡ None) (view_of s16) _ refl refl refl)))
+    (goes (touches 0 0 (end_io ReadOk) (view_of s17) refl refl (lit< tt) (record { held = refl; page_home = λ e. refl; ends = record { right = refl; read = λ e. cc; sound = sound_read; home = refl } }) no_lanes)
+    (goes (cores (pin_steps.touches 0 0 pins.load_state (view_of s18) refl refl (lit< tt) tt tt))
+    rests))))))))))))))))))
+
 pub sample : SampleRuns
 sample = (
   record { some_backend = lit< tt; placed = λ tag. lit< tt },
   (
     s24,
     s37,
-    (goes (cores (pin_steps.turns 0 0 take_turn (view_of sample_start) refl refl (lit< tt) (record { free = refl })))
-        (goes (cores (pin_steps.touches 0 0 pins.lock_header (view_of s1) refl refl (lit< tt) (record { unlocked = refl }) (at_frame (λ (l : Link). l.header ≡ None) (view_of s1) _ refl refl refl)))
-        (goes (cores (pin_steps.touches 0 0 pins.pin_victim (view_of s2) refl refl (lit< tt) (record { held = refl; absent = refl; room = λ e. refl }) (at_frame (λ (l : Link). l.role ≢ Victim) (view_of s2) _ refl (λ e. cc) (λ e. cc))))
-        (goes (cores (pin_steps.touches 0 0 pins.lock_header (view_of s3) refl refl (lit< tt) (record { unlocked = refl }) (at_frame (λ (l : Link). l.header ≡ None) (view_of s3) _ refl refl refl)))
-        (goes (cores (pin_steps.touches 0 0 (pins.store_tag 7) (view_of s4) refl refl (lit< tt) (record { alone = record { held = refl; settled = refl; single = refl; victim = refl; no_content = refl; no_io = refl }; named = named; packed = packed; untagged = refl }) (record { naming = record { held = refl; unchanged = refl; settled = (at_partition (λ (h : PartitionHold). h.change ≡ Settled) (view_of s4) _ refl refl refl) }; lacking = refl })))
-        (goes (cores (pin_steps.touches 0 0 pins.assign (view_of s5) refl refl (lit< tt) (record { held = refl; stored = refl; named = named }) tt))
-        (goes (cores (pin_steps.turns 0 0 (map_out []) (view_of s6) refl refl (lit< tt) (record { held = refl; home = refl; entries_are = no_entries })))
-        (goes (cores (pin_steps.turns 0 0 change_map (view_of s7) refl refl (lit< tt) (record { out = λ e. cc; unchanged = refl; named = λ e. cc })))
-        (goes (cores (pin_steps.turns 0 0 (map_back (sample_entry ∷ [])) (view_of s8) refl refl (lit< tt) (record { out = λ e. cc; entries_are = one_entry })))
-        (goes (cores (pin_steps.turns 0 0 leave_turn (view_of s9) refl refl (lit< tt) (record { held = refl; home = refl; settled = refl })))
-        (goes (cores (pin_steps.touches 0 0 pins.lock_header (view_of s10) refl refl (lit< tt) (record { unlocked = refl }) (at_frame (λ (l : Link). l.header ≡ None) (view_of s10) _ refl refl refl)))
-        (goes (touches 0 0 start_input (view_of s11) refl refl (lit< tt) (record { held = refl; settled = refl; pinned = λ e. cc; clear = refl; tagged = refl; invalid = refl }) (at_frame (λ (l : Link). l.io ≡ Quiet) (view_of s11) _ refl refl refl))
-        (goes (touches 0 0 (note_read sample_page) (view_of s12) refl refl (lit< tt) (record { right = refl; fresh = refl; given = same_page sample_page }) tt)
-        (goes (touches 0 0 page_out (view_of s13) refl refl (lit< tt) (record { page_home = refl; shared = λ e. absurd (cc); unlocked = λ e. refl }) tt)
-        (goes (touches 0 0 (overwrite_read sample_page) (view_of s14) refl refl (lit< tt) (record { out = λ e. cc; once = refl; right = refl; read = refl }) tt)
-        (goes (touches 0 0 page_back (view_of s15) refl refl (lit< tt) (record { out = λ e. cc }) tt)
-        (goes (cores (pin_steps.touches 0 0 pins.lock_header (view_of s16) refl refl (lit< tt) (record { unlocked = refl }) (at_frame (λ (l : Link). l.header ≡ None) (view_of s16) _ refl refl refl)))
-        (goes (touches 0 0 (end_io ReadOk) (view_of s17) refl refl (lit< tt) (record { held = refl; page_home = λ e. refl; ends = record { right = refl; read = λ e. cc; sound = sound_read; home = refl } }) no_lanes)
-        (goes (cores (pin_steps.touches 0 0 pins.load_state (view_of s18) refl refl (lit< tt) tt tt))
-        (goes (touches 0 0 share (view_of s19) refl refl (lit< tt) (record { pinned = λ e. cc; seen = refl; none = refl; free = refl }) tt)
+    run_append read_in (goes (touches 0 0 share (view_of s19) refl refl (lit< tt) (record { pinned = λ e. cc; seen = refl; none = refl; free = refl }) tt)
         (goes (touches 0 0 take_copy (view_of s20) refl refl (lit< tt) (record { right = refl; free = refl }) tt)
         (goes (touches 0 0 page_out (view_of s21) refl refl (lit< tt) (record { page_home = refl; shared = λ e. refl; unlocked = λ e. absurd (cc) }) tt)
         (goes (touches 0 0 page_back (view_of s22) refl refl (lit< tt) (record { out = λ e. cc }) tt)
         (goes (touches 0 0 leave_copy (view_of s23) refl refl (lit< tt) (record { right = refl; page_home = refl }) tt)
-        rests)))))))))))))))))))))))),
+        rests))))),
     record { tag = refl; word = refl; held = refl; shared = refl; noted = (view_of s24, refl, refl, refl) },
     (goes (touches 0 0 unshare (view_of s24) refl refl (lit< tt) (record { right = refl; no_copy = refl; no_output = λ e. cc; page_home = refl }) tt)
         (goes (cores (pin_steps.touches 0 0 pins.unpin (view_of s25) refl refl (lit< tt) (record { unlocked = refl; pinned = λ e. cc; no_content = refl; no_io = refl; no_wait = refl }) tt))
@@ -222,4 +230,86 @@ sample = (
         rests))))))))))))),
     record { tag = refl; word = refl; shared = refl; mapped = refl; taken = refl },
   ),
+)
+
+abbrev second_of : State → View
+second_of s = slice_index_or s.core.views 1 emptied_view
+
+abbrev second_pooled : pins.Kind → State → State
+second_pooled k s = record s { core = pin_steps.state_after k s.core 1 0 (second_of s) }
+
+abbrev second_turned : TurnKind → State → State
+second_turned k s = record s { core = pin_steps.state_turned k s.core 1 0 (second_of s) }
+
+abbrev second_paged : Kind → State → State
+second_paged k s = state_after k s 1 0 (second_of s)
+
+abbrev w1 : State
+w1 = record s19 { core = split_state s19.core (view_of s19) }
+
+abbrev w2 : State
+w2 = second_turned take_turn w1
+
+abbrev w3 : State
+w3 = second_pooled (pins.pin_mapped 7 false) w2
+
+abbrev w4 : State
+w4 = second_turned leave_turn w3
+
+abbrev w5 : State
+w5 = second_pooled pins.load_state w4
+
+abbrev w6 : State
+w6 = second_paged exclude w5
+
+abbrev w7 : State
+w7 = second_pooled pins.lock_header w6
+
+abbrev w8 : State
+w8 = second_paged (set_waiter 1) w7
+
+abbrev w9 : State
+w9 = second_paged unexclude w8
+
+abbrev w10 : State
+w10 = pooled pins.unpin w9
+
+abbrev w11 : State
+w11 = pooled pins.lock_header w10
+
+abbrev w12 : State
+w12 = paged clear_waiter w11
+
+abbrev w13 : State
+w13 = second_pooled pins.load_state w12
+
+abbrev w14 : State
+w14 = second_paged exclude w13
+
+abbrev w15 : State
+w15 = second_pooled pins.load_state w14
+
+pub cleanup : CleanupRuns
+cleanup = (
+  w9,
+  w15,
+  run_append read_in (goes (cores (pin_steps.splits (view_of s19) refl (lit< tt)))
+      (goes (cores (pin_steps.turns 1 0 take_turn (second_of w1) refl refl (lit< tt) (record { free = refl })))
+      (goes (cores (pin_steps.touches 1 0 (pins.pin_mapped 7 false) (second_of w2) refl refl (lit< tt) (record { unlocked = refl; absent = refl }) (record { held = refl; settled = refl; given = refl })))
+      (goes (cores (pin_steps.turns 1 0 leave_turn (second_of w3) refl refl (lit< tt) (record { held = refl; home = refl; settled = refl })))
+      (goes (cores (pin_steps.touches 1 0 pins.load_state (second_of w4) refl refl (lit< tt) tt tt))
+      (goes (touches 1 0 exclude (second_of w5) refl refl (lit< tt) (record { pinned = λ e. cc; seen = refl; none = refl; free = refl; alone = refl; no_copy = refl }) tt)
+      (goes (cores (pin_steps.touches 1 0 pins.lock_header (second_of w6) refl refl (lit< tt) (record { unlocked = refl }) (at_frame (λ (l : Link). l.header ≡ None) (second_of w6) _ refl refl refl)))
+      (goes (touches 1 0 (set_waiter 1) (second_of w7) refl refl (lit< tt) (record { held = refl; settled = refl; pinned = λ e. cc; right = refl; free = refl }) (record { own = refl; nowhere = at_frame (λ (l : Link). l.waits ≡ None) (second_of w7) _ refl refl refl }))
+      (goes (touches 1 0 unexclude (second_of w8) refl refl (lit< tt) (record { right = refl; settled = refl; page_home = refl }) tt)
+      rests))))))))),
+  record { word = refl; free = refl; waits = (second_of w9, refl, refl) },
+  goes (cores (pin_steps.touches 0 0 pins.unpin (view_of w9) refl refl (lit< tt) (record { unlocked = refl; pinned = λ e. cc; no_content = refl; no_io = refl; no_wait = refl }) tt))
+      (goes (cores (pin_steps.touches 0 0 pins.lock_header (view_of w10) refl refl (lit< tt) (record { unlocked = refl }) (at_frame (λ (l : Link). l.header ≡ None) (view_of w10) _ refl refl refl)))
+      (goes (touches 0 0 clear_waiter (view_of w11) refl refl (lit< tt) (record { held = refl; settled = refl; awaited = refl; single = refl }) tt)
+      (goes (cores (pin_steps.touches 1 0 pins.load_state (second_of w12) refl refl (lit< tt) tt tt))
+      (goes (touches 1 0 exclude (second_of w13) refl refl (lit< tt) (record { pinned = λ e. cc; seen = refl; none = refl; free = refl; alone = refl; no_copy = refl }) tt)
+      (goes (cores (pin_steps.touches 1 0 pins.load_state (second_of w14) refl refl (lit< tt) tt tt))
+      rests))))),
+  record { word = refl; locked = (second_of w15, refl, refl, refl, refl) },
 )

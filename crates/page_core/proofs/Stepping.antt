@@ -17,12 +17,13 @@ use Rattle.pin_core.proofs.Views.{link_new}
 use Rattle.pin_core.proofs.Stepping as pin_stepping
 use Rattle.pin_core.proofs.Stepping.{local_keeps}
 use Rattle.page_core.specs.State.{Block, State, block_of}
-use Rattle.page_core.specs.Tallies.{Tally, pin, sharers, applied_locks, unapplied_locks, copies, works, outs, weigh, page_shape}
-use Rattle.page_core.specs.Invariant.{PageLink, page_part, pin_part, Invariant}
-use Rattle.page_core.specs.Kinds.{Kind, Allowed, frame_after, block_after, link_after, view_after}
-use Rattle.page_core.specs.Steps.{Event, logged_after, state_after, Step, cores, touches, Run, rests, goes}
+use Rattle.page_core.specs.Tallies.{Tally, pin, sharers, applied_locks, unapplied_locks, copies, works, outs, waits_as, weigh, page_shape}
+use Rattle.page_core.specs.Invariant.{PageLink, page_part, pin_part, WaitsOnce, WaitsLaw, Invariant}
+use Rattle.page_core.specs.Kinds.{Kind, set_waiter, Allowed, frame_after, block_after, link_after, view_after}
+use Rattle.page_core.specs.Steps.{AllowedAround, MayWait, Event, logged_after, state_after, Step, cores, touches, Run, rests, goes}
 use Rattle.page_core.proofs.KeepingPages.{known}
-use Rattle.page_core.proofs.Cases.{pages_kept, pins_kept, tag_kept, block_kept, below_kept}
+use Rattle.page_core.proofs.Cases.{pages_kept, pins_kept, tag_kept, wait_kept, wait_below, block_kept, below_kept}
+use Rattle.page_core.proofs.Waits.{relinks_less, waits_less, waits_at, waits_put, waits_fewer, waits_set, waits_split, waits_emptied}
 use Rattle.grid.specs.Shape.{Part, Grid, put}
 use Rattle.grid.proofs.Lists.{set_else, put_at, put_else, put_same}
 use Rattle.grid.proofs.Grids.{Keeps, Relinks, both_grids, touch, sweep, steady, grows}
@@ -82,11 +83,23 @@ module _ (s : State) (h : Invariant s) (i f : ℕ) (v : View) (there : get_elem?
     touched p grid keeps = touch page_shape known p s.core.frames s.core.frame (block_of s.logged) (block_of logged') s.core.views i f v w (frame_after k b fr) (link_after k b fr l) (knows s h) grid there inside relinked elsewhere
         (subst (λ (x : Block). Keeps page_shape known p b x tt tt fr l (frame_after k b fr) (link_after k b fr l)) (sym block_here) keeps)
 
-    pub kind_step_keeps : Invariant (state_after k s i f v)
-    kind_step_keeps = record {
+    -- where the view waits after the step
+    waits_here : AllowedAround k v f → WaitsOnce w
+    waits_here around = ⊎_elim begins goes_on (wait_kept k b fr l)
+      where
+        begins : ((number : ℕ) × (k ≡ set_waiter number)) → WaitsOnce w
+        begins x = let may : MayWait x.0 v = subst (λ (y : Kind). AllowedAround y v f) x.1 around in
+            waits_at w f x.0 may.own (ap (λ (y : Link). y.waits) relinked.here ∙ ap (λ (y : Kind). (link_after y b fr l).waits) x.1) (λ g other. ap (λ (y : Link). y.waits) (relinked.else g other) ∙ may.nowhere g)
+
+        goes_on : (link_after k b fr l).waits ≡ l.waits → WaitsOnce w
+        goes_on e = waits_less v w (relinks_less v w f refl relinked.else (λ number x. sym e ∙ sym (ap (λ (y : Link). y.waits) relinked.here) ∙ x)) (h.waits i v there)
+
+    pub kind_step_keeps : AllowedAround k v f → Invariant (state_after k s i f v)
+    kind_step_keeps around = record {
       core = local_keeps s.core i f v w (frame_after k b fr) h.core there (record { emptied = refl; number = refl; next = refl; links = length-set v.links f (link_after k b fr l); partitions = refl }) refl refl (tag_kept k b fr)
           (to_pins s.core.frames (put s.core.frame f (frame_after k b fr)) (block_of logged') (set s.core.views i w) (touched pin_part (to_pages s.core.frames s.core.frame (block_of s.logged) s.core.views h.core.grid) (pins_kept k b fr l a)));
       pages = touched page_part h.pages (pages_kept k b fr l a);
+      waits = waits_put s.core.views h.waits i w (waits_here around);
     }
 
   -- a step of a kind of `pin_core`
@@ -103,6 +116,7 @@ none unapplied_locks = refl
 none copies = refl
 none works = refl
 none outs = refl
+none (waits_as number) = refl
 
 pub idle_link : (b : Block) (fr : Frame) → PageLink b fr idle
 idle_link b fr = grind arith
@@ -116,7 +130,7 @@ new_link b number base n p m f fr = subst (PageLink b fr) (sym (link_new n p m n
 -- a view that has nothing at a frame may be forgotten there
 forgets : (b : Block) (fr : Frame) (l : Link) → IsFree l → Keeps page_shape known page_part b b tt tt fr l fr idle
 forgets b fr l a = record {
-  column = λ t t' q c sums le _. grind (arith, q, c, a, sums sharers, sums applied_locks, sums unapplied_locks, sums copies, sums works, sums outs);
+  column = λ t t' q c sums le _. grind (arith, q, c, a, sums sharers, sums applied_locks, sums unapplied_locks, sums copies, sums works, sums outs, sums (waits_as fr.word.waiter));
   cell = λ t q le c. idle_link b fr;
   others = λ t n m q c le d. d.1;
 }
@@ -134,9 +148,17 @@ pages_below s h (pin_steps.joins j v u there other here live free) = let w : Vie
     sweep page_shape known page_part s.core.frames s.core.frame s.core.frame (block_of s.logged) (block_of s.logged) (set s.core.views 0 w) j u emptied_view (both_grids core_first first) (set_else s.core.views 0 j w other ∙ here)
     (λ g inside. forgets (block_of s.logged (s.core.frame g).tag) (s.core.frame g) (link u g) (free.frames g))
 
+-- where the views wait after a step of `pin_core`
+waits_below : (s : State) → Invariant s → {e : pin_steps.Event} {core' : below.State} → pin_steps.Step e s.core core' → WaitsLaw core'.views
+waits_below s h (pin_steps.touches i f k v there live inside a around) = let r = pin_stepping.relinked s.core h.core i f v there live inside k in
+    waits_fewer s.core.views h.waits i v (pin_stepping.after k s.core f v) there (relinks_less v (pin_stepping.after k s.core f v) f refl r.else (λ number x. wait_below k (s.core.frame f) (link v f) number (sym (ap (λ (y : Link). y.waits) r.here) ∙ x)))
+waits_below s h (pin_steps.turns i p k v there live below a) = waits_set s.core.views h.waits i v (view_turned k p (hold v p) v) there refl refl
+waits_below s h (pin_steps.splits v there room) = let w : View = record v { next = v.next + 1 } in waits_split (set s.core.views 0 w) (waits_set s.core.views h.waits 0 v w there refl refl) v.next s.core.base (length v.links) (length v.partitions) (length v.lanes)
+waits_below s h (pin_steps.joins j v u there other here live free) = let w : View = joined_view v u in waits_emptied (set s.core.views 0 w) (waits_set s.core.views h.waits 0 v w there refl refl) j
+
 pub step_keeps : {e : Event} {s t : State} → Step e s t → Invariant s → Invariant t
-step_keeps (cores {s = s} x) h = record { core = pin_stepping.step_keeps x h.core; pages = pages_below s h x }
-step_keeps (touches {s = s} i f k v there live inside a around) h = kind_step_keeps s h i f v there live inside k a
+step_keeps (cores {s = s} x) h = record { core = pin_stepping.step_keeps x h.core; pages = pages_below s h x; waits = waits_below s h x }
+step_keeps (touches {s = s} i f k v there live inside a around) h = kind_step_keeps s h i f v there live inside k a around
 
 pub run_keeps : {es : List Event} {s t : State} → Run es s t → Invariant s → Invariant t
 run_keeps rests h = h

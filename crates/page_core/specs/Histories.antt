@@ -1,4 +1,4 @@
--- What every list of events keeps of content locks, pages, input and output, in the field's words.
+-- What every list of events keeps of content locks, pages, input and output, and of waits, in the field's words.
 use Rattle.std.specs.Prelude.{◌≡◌, ◌≢◌, ℕ, ◌<◌, Bool, true, false, List, [], ◌∷◌, Option, Some, None, count_by, if◌then◌else◌}
 use mathlib.Core.Option.{some}
 use lib.ListN.{get_elem?}
@@ -112,3 +112,29 @@ ValidPagesAreSound s = (f : ℕ) → f < s.core.frames → (s.core.frame f).word
 pub record CopiesArePages (s : State) : Type 0 where
   pub copied : (i f : ℕ) (v : View) (p q : Page) → get_elem? s.core.views i ≡ some v → f < s.core.frames → (link v f).copied ≡ Some p → s.logged (s.core.frame f).tag ≡ Some q → q ≡ p
   pub read : (i f : ℕ) (v : View) (p q : Page) → get_elem? s.core.views i ≡ some v → f < s.core.frames → (link v f).read ≡ Some p → s.logged (s.core.frame f).tag ≡ Some q → q ≡ p
+
+-- a backend of this number pins the frame f, and waits there under its number
+pub record IsAwaitedBy (s : State) (f number : ℕ) : Type 0 where
+  pub backend : ℕ
+  pub view : View
+  pub there : get_elem? s.core.views backend ≡ some view
+  pub named : view.number ≡ number
+  pub pinned : (link view f).role ≢ Absent
+  pub waiting : (link view f).waits ≡ Some number
+
+-- where BM_PIN_COUNT_WAITER stands the waiter's number is that of a backend that pins the frame and waits there; where it doesn't that number is 0
+pub record WaitersAreNamed (s : State) (f : ℕ) : Type 0 where
+  pub awaited : (s.core.frame f).word.awaited ≡ true → IsAwaitedBy s f (s.core.frame f).word.waiter
+  pub unawaited : (s.core.frame f).word.awaited ≡ false → (s.core.frame f).word.waiter ≡ 0
+
+-- a backend waits under its own number, and on one frame at most
+pub record BackendsWaitOnce (s : State) : Type 0 where
+  pub own : (i f number : ℕ) (v : View) → get_elem? s.core.views i ≡ some v → (link v f).waits ≡ Some number → number ≡ v.number
+  pub one : (i f g : ℕ) (v : View) → get_elem? s.core.views i ≡ some v → (link v f).waits ≢ None → (link v g).waits ≢ None → f ≡ g
+
+-- What a backend that asks for a cleanup lock may conclude (`LockBufferForCleanup`)
+pub record CleanupIsAlone (s : State) (f : ℕ) : Type 0 where
+  -- where the reference count is 1, and the backend pins the frame, no other one does
+  pub pins : (i j : ℕ) (v u : View) → get_elem? s.core.views i ≡ some v → get_elem? s.core.views j ≡ some u → i ≢ j → (s.core.frame f).word.pins ≡ 1 → (link v f).role ≢ Absent → (link u f).role ≡ Absent
+  -- where it has the content lock exclusively, no other one has it
+  pub locks : (i j : ℕ) (v u : View) → get_elem? s.core.views i ≡ some v → get_elem? s.core.views j ≡ some u → i ≢ j → (link v f).content ≡ Exclusive → (link u f).content ≡ Unlocked

@@ -1,17 +1,20 @@
--- What holds of content locks, pages, input and output in every state that steps lead to.
-use Rattle.std.specs.Prelude.{◌≡◌, ◌≢◌, ℕ, ◌+◌, ◌≤◌, true, false, Some, None}
+-- What holds of content locks, pages, input and output, and of waits, in every state that steps lead to.
+use Rattle.std.specs.Prelude.{◌≡◌, ◌≢◌, ℕ, ◌+◌, ◌<◌, ◌≤◌, true, false, List, Some, None}
+use mathlib.Core.Option.{some}
+use lib.ListN.{get_elem?}
 use Rattle.pin_core.specs.declared.view.Role.TheVariants.{Absent}
 use Rattle.pin_core.specs.declared.view.Content.TheVariants.{Unlocked, Shared, Exclusive}
 use Rattle.pin_core.specs.declared.view.Io.TheVariants.{Quiet, Input, Output}
 use Rattle.pin_core.specs.declared.view.LastWrite.TheVariants.{Unwritten}
 use Rattle.pin_core.specs.declared.view.Link.{Link}
-use Rattle.pin_core.specs.State.{Frame, Page, no_tag}
+use Rattle.pin_core.specs.declared.view.View.{View}
+use Rattle.pin_core.specs.State.{Frame, Page, no_tag, link}
 use Rattle.pin_core.specs.Tallies.{flag_weight}
 use Rattle.pin_core.specs.Invariant.{HasTag, FrameLaw, LinkLaw}
 use Rattle.pin_core.specs.Invariant as pins
 use Rattle.page_layout.specs.Soundness.{is_sound_page}
 use Rattle.page_core.specs.State.{Block, State, block_of}
-use Rattle.page_core.specs.Tallies.{Tally, pin, sharers, applied_locks, unapplied_locks, copies, works, outs, page_shape}
+use Rattle.page_core.specs.Tallies.{Tally, pin, sharers, applied_locks, unapplied_locks, copies, works, outs, waits_as, page_shape}
 use Rattle.grid.specs.Shape.{Part, Grid}
 
 -- What holds of a frame with its page and of the sums over the views there
@@ -32,6 +35,10 @@ pub record PageFrame (b : Block) (fr : Frame) (t : Tally → ℕ) : Type 0 where
   pub sound : fr.word.valid ≡ true → is_sound_page fr.page ≡ true
   -- the page of a valid frame is the block's page after the log, where that is known, unless a view has an entry to apply there
   pub page : (p : Page) → fr.word.valid ≡ true → fr.tag ≢ no_tag → t unapplied_locks ≡ 0 → b.logged ≡ Some p → p ≡ fr.page
+  -- where BM_PIN_COUNT_WAITER stands a view waits there under the waiter's number
+  pub waited : fr.word.awaited ≡ true → 0 < t (waits_as fr.word.waiter)
+  -- where it doesn't the word has no waiter's number
+  pub unwaited : fr.word.awaited ≡ false → fr.word.waiter ≡ 0
 
 -- What a view has that marked a frame dirty under its exclusive lock
 pub record DirtiedLink (fr : Frame) (l : Link) : Type 0 where
@@ -103,6 +110,8 @@ pub record PageLink (b : Block) (fr : Frame) (l : Link) : Type 0 where
   pub taken : (p : Page) → l.out ≡ Some p → l.overwritten ≡ None → fr.page ≡ p
   -- a page that was overwritten is out, and is what it was overwritten with; under an input right that is the page noted as read
   pub overwritten : (q : Page) → l.overwritten ≡ Some q → OverwrittenLink fr l q
+  -- who waits has a pin
+  pub waits : l.waits ≢ None → l.role ≢ Absent
 
 abbrev pub page_part : Part page_shape
 page_part = record { column = PageFrame; cell = λ b fr _ l. PageLink b fr l }
@@ -111,7 +120,19 @@ page_part = record { column = PageFrame; cell = λ b fr _ l. PageLink b fr l }
 abbrev pub pin_part : Part page_shape
 pin_part = record { column = λ _ fr t. FrameLaw fr (λ k. t (pin k)); cell = λ _ fr _ l. LinkLaw fr l }
 
--- What holds of pins, headers, tags and maps, and of content locks, pages, input and output
+-- What holds of the waits of a view
+pub record WaitsOnce (v : View) : Type 0 where
+  -- it waits under its own number
+  pub own : (f number : ℕ) → (link v f).waits ≡ Some number → number ≡ v.number
+  -- and on one frame at most
+  pub one : (f g : ℕ) → (link v f).waits ≢ None → (link v g).waits ≢ None → f ≡ g
+
+-- and of those of all views
+abbrev pub WaitsLaw : List View → Type 0
+WaitsLaw views = (i : ℕ) (v : View) → get_elem? views i ≡ some v → WaitsOnce v
+
+-- What holds of pins, headers, tags and maps, and of content locks, pages, input and output, and waits
 pub record Invariant (s : State) : Type 0 where
   pub core : pins.Invariant s.core
   pub pages : Grid page_shape page_part s.core.frames s.core.frame (block_of s.logged) s.core.views
+  pub waits : WaitsLaw s.core.views

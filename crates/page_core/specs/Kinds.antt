@@ -1,9 +1,9 @@
--- The kinds of step that content locks, pages, input and output add: where each is allowed, and what it makes of the frame, of its block, and of what the stepping view has there.
+-- The kinds of step that content locks, pages, input and output, waits and checkpoints add: where each is allowed, and what it makes of the frame, of its block, and of what the stepping view has there.
 use Rattle.std.specs.Prelude.{◌≡◌, ◌≢◌, ℕ, ◌+◌, ◌-◌, Bool, true, false, List, [], ◌∷◌, ◌++◌, map, slice_set, Option, Some, None, ◌||◌, if◌then◌else◌}
 use Rattle.state_word.specs.declared.word.StateWord.{StateWord}
 use Rattle.state_word.specs.declared.word.IoEnd.{IoEnd}
 use Rattle.state_word.specs.declared.word.IoEnd.TheVariants.{ReadOk, WriteOk, Bad}
-use Rattle.state_word.specs.Fields.{unlocked_fields, dirtied_fields, io_started_fields, io_ended_fields, just_dirtied_cleared_fields}
+use Rattle.state_word.specs.Fields.{unlocked_fields, dirtied_fields, io_started_fields, io_ended_fields, just_dirtied_cleared_fields, waiter_set_fields, waiter_cleared_fields, checkpoint_needed_fields}
 use Rattle.pin_core.specs.declared.view.Role.TheVariants.{Absent}
 use Rattle.pin_core.specs.declared.view.Content.{Content}
 use Rattle.pin_core.specs.declared.view.Content.TheVariants.{Unlocked, Shared, Exclusive}
@@ -57,6 +57,12 @@ pub data Kind : Type 0 where
   clear_just_dirtied : Kind
   -- input or output ends (`TerminateBufferIO`)
   end_io : IoEnd → Kind
+  -- the backend of this number, which has the exclusive lock, begins to wait until its pin is the only one (`LockBufferForCleanup`)
+  set_waiter : ℕ → Kind
+  -- the waiter is woken: the pin that is left is the only one (`UnpinBuffer`)
+  clear_waiter : Kind
+  -- the backend's checkpoint passes the frame, which it has still to write (`BufferSync`)
+  need_checkpoint : Kind
 
 pub record CanMarkDirty (fr : Frame) (l : Link) : Type 0 where
   pub unlocked : fr.word.locked ≡ false
@@ -178,6 +184,27 @@ pub record CanEndIo (end : IoEnd) (fr : Frame) (l : Link) : Type 0 where
   pub page_home : l.io ≡ Input → l.out ≡ None
   pub ends : EndsAs end l
 
+-- nobody waits there; the number is the view's own, and the view waits nowhere (`AllowedAround`)
+pub record CanSetWaiter (fr : Frame) (l : Link) : Type 0 where
+  pub held : l.header ≡ Some fr.word
+  pub settled : l.pending ≡ false
+  pub pinned : l.role ≢ Absent
+  pub right : l.content ≡ Exclusive
+  pub free : fr.word.awaited ≡ false
+
+pub record CanClearWaiter (fr : Frame) (l : Link) : Type 0 where
+  pub held : l.header ≡ Some fr.word
+  pub settled : l.pending ≡ false
+  pub awaited : fr.word.awaited ≡ true
+  pub single : fr.word.pins ≡ 1
+
+-- the view's checkpoint has not passed the frame
+pub record CanNeedCheckpoint (fr : Frame) (l : Link) : Type 0 where
+  pub held : l.header ≡ Some fr.word
+  pub settled : l.pending ≡ false
+  pub dirty : fr.word.dirty ≡ true
+  pub ahead : l.passed ≡ false
+
 abbrev pub Allowed : Kind → Block → Frame → Link → Type 0
 Allowed load_content b fr l = Unit {0}
 Allowed mark_dirty b fr l = CanMarkDirty fr l
@@ -199,6 +226,9 @@ Allowed start_input b fr l = CanStartInput fr l
 Allowed start_output b fr l = CanStartOutput fr l
 Allowed clear_just_dirtied b fr l = CanClearJustDirtied fr l
 Allowed (end_io end) b fr l = CanEndIo end fr l
+Allowed (set_waiter number) b fr l = CanSetWaiter fr l
+Allowed clear_waiter b fr l = CanClearWaiter fr l
+Allowed need_checkpoint b fr l = CanNeedCheckpoint fr l
 
 -- the image of the block's last entry, in place of the page p
 abbrev pub image_over : Option Page → Page → Page
@@ -220,6 +250,9 @@ frame_after start_input b fr = released (io_started_fields fr.word) fr
 frame_after start_output b fr = released (io_started_fields fr.word) fr
 frame_after clear_just_dirtied b fr = released (just_dirtied_cleared_fields fr.word) fr
 frame_after (end_io end) b fr = released (io_ended_fields end fr.word) fr
+frame_after (set_waiter number) b fr = released (waiter_set_fields number fr.word) fr
+frame_after clear_waiter b fr = released (waiter_cleared_fields fr.word) fr
+frame_after need_checkpoint b fr = released (checkpoint_needed_fields fr.word) fr
 frame_after _ b fr = fr
 
 -- What a kind makes of the block of the frame's tag
@@ -266,6 +299,9 @@ link_after start_input b fr l = record l { header = None; io = Input; read = Non
 link_after start_output b fr l = record l { header = None; io = Output }
 link_after clear_just_dirtied b fr l = record l { header = None }
 link_after (end_io end) b fr l = record l { header = None; io = Quiet; read = None; read_is_home = false; last_write = Unwritten }
+link_after (set_waiter number) b fr l = record l { header = None; waits = Some number }
+link_after clear_waiter b fr l = record l { header = None }
+link_after need_checkpoint b fr l = record l { header = None; passed = true; listed = true }
 
 -- whether a kind marks the frame dirty: a page may have to be written
 abbrev pub dirties : Kind → Bool

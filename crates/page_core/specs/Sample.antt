@@ -1,9 +1,10 @@
--- A history of some events, for the definitions to be seen at work: a backend misses a block and reads it into a frame, copies its page under a shared lock, and evicts it.
+-- A history of some events, for the definitions to be seen at work: a backend misses a block and reads it into a frame, copies its page under a shared lock, and evicts it; or another backend waits there for a cleanup lock, and gets it.
 use Rattle.std.specs.Prelude.{◌≡◌, true, false, List, [], ◌∷◌, ◌++◌, Some, None}
 use mathlib.Core.Option.{some}
 use lib.ListN.{get_elem?}
 use Rattle.state_word.specs.declared.word.IoEnd.TheVariants.{ReadOk}
 use Rattle.pin_core.specs.declared.view.Role.TheVariants.{HandedOut}
+use Rattle.pin_core.specs.declared.view.Content.TheVariants.{Exclusive}
 use Rattle.pin_core.specs.declared.view.MapEntry.{MapEntry}
 use Rattle.pin_core.specs.declared.view.View.{View}
 use Rattle.pin_core.specs.State.{CanOpen, Config, Page, link, no_tag, zero_word}
@@ -11,12 +12,12 @@ use Rattle.pin_core.specs.Kinds as pins
 use Rattle.pin_core.specs.Turns.{TurnKind, take_turn, leave_turn, map_out, change_map, map_back}
 use Rattle.pin_core.specs.Steps as pin_steps
 use Rattle.page_core.specs.State.{State, opening}
-use Rattle.page_core.specs.Kinds.{Kind, start_input, note_read, page_out, overwrite_read, page_back, end_io, share, take_copy, leave_copy, unshare}
+use Rattle.page_core.specs.Kinds.{Kind, start_input, note_read, page_out, overwrite_read, page_back, end_io, share, exclude, take_copy, leave_copy, unshare, unexclude, set_waiter, clear_waiter}
 use Rattle.page_core.specs.Steps.{Event, pins_and_maps, at, Run}
 
--- one frame, one partition, one backend
+-- one frame, one partition, and room for two backends
 abbrev pub sample_config : Config
-sample_config = record { frames = 1; partitions = 1; partition_of = λ _. 0; lanes = 0; backends = 1; base = 0 }
+sample_config = record { frames = 1; partitions = 1; partition_of = λ _. 0; lanes = 0; backends = 2; base = 0 }
 
 -- the page that the lane holds for each block, as far as its header goes: no flags, the line pointers end at 24, and items and special space begin at 8192
 abbrev pub sample_page : Page
@@ -28,7 +29,7 @@ sample_start = opening sample_config (λ _. Some sample_page) []
 abbrev pub sample_entry : MapEntry
 sample_entry = record { tag = 7; frame = 0 }
 
--- a step of the one backend, at the one frame or the one latch
+-- a step of the first backend, at the one frame or the one latch
 abbrev pub pool : pins.Kind → Event
 pool k = pins_and_maps (pin_steps.at 0 0 k)
 
@@ -37,6 +38,16 @@ turn k = pins_and_maps (pin_steps.turn 0 0 k)
 
 abbrev pub page : Kind → Event
 page k = at 0 0 k
+
+-- a step of the second, likewise
+abbrev pub second_pool : pins.Kind → Event
+second_pool k = pins_and_maps (pin_steps.at 1 0 k)
+
+abbrev pub second_turn : TurnKind → Event
+second_turn k = pins_and_maps (pin_steps.turn 1 0 k)
+
+abbrev pub second_page : Kind → Event
+second_page k = at 1 0 k
 
 -- the frame is given the block 7, under the latch of its partition
 abbrev pub miss : List Event
@@ -75,3 +86,27 @@ pub record Evicted (t : State) : Type 0 where
 
 abbrev pub SampleRuns : Type 0
 SampleRuns = CanOpen sample_config × ((m : State) × (t : State) × Run (miss ++ read ++ copy) sample_start m × Copied m × Run evict m t × Evicted t)
+
+-- another backend pins the frame and locks it exclusively; the first one's pin is there still, so it sets itself as waiter, and lets go of the lock
+abbrev pub wait : List Event
+wait = pins_and_maps pin_steps.split ∷ second_turn take_turn ∷ second_pool (pins.pin_mapped 7 false) ∷ second_turn leave_turn ∷ second_pool pins.load_state ∷ second_page exclude ∷ second_pool pins.lock_header ∷ second_page (set_waiter 1) ∷ second_page unexclude ∷ []
+
+-- the first one gives its pin up and wakes it; it locks the frame again, and loads the state word
+abbrev pub wake : List Event
+wake = pool pins.unpin ∷ pool pins.lock_header ∷ page clear_waiter ∷ second_pool pins.load_state ∷ second_page exclude ∷ second_pool pins.load_state ∷ []
+
+-- While it waits
+pub record Waiting (t : State) : Type 0 where
+  -- the word has its number
+  pub word : (t.core.frame 0).word ≡ record zero_word { pins = 2; usage = 2; valid = true; tag_valid = true; permanent = true; awaited = true; waiter = 1 }
+  pub free : (t.core.frame 0).exclusive ≡ false
+  pub waits : (v : View) × (get_elem? t.core.views 1 ≡ some v) × ((link v 0).waits ≡ Some 1)
+
+-- With the cleanup lock
+pub record Granted (t : State) : Type 0 where
+  -- its pin is the only one, and nobody waits
+  pub word : (t.core.frame 0).word ≡ record zero_word { pins = 1; usage = 2; valid = true; tag_valid = true; permanent = true }
+  pub locked : (v : View) × (get_elem? t.core.views 1 ≡ some v) × ((link v 0).role ≡ HandedOut) × ((link v 0).content ≡ Exclusive) × ((link v 0).waits ≡ None)
+
+abbrev pub CleanupRuns : Type 0
+CleanupRuns = (m : State) × (t : State) × Run (miss ++ read ++ wait) sample_start m × Waiting m × Run wake m t × Granted t

@@ -10,7 +10,7 @@ use Rattle.pin_core.specs.State.{link, lane_hold, local}
 use Rattle.pin_core.specs.State as pins
 use Rattle.pin_core.specs.Steps as pin_steps
 use Rattle.page_core.specs.State.{State, block_of}
-use Rattle.page_core.specs.Kinds.{Kind, make_entry, start_input, start_output, end_io, Allowed, frame_after, block_after, view_after}
+use Rattle.page_core.specs.Kinds.{Kind, make_entry, start_input, start_output, end_io, set_waiter, Allowed, frame_after, block_after, view_after}
 use Rattle.grid.specs.Shape.{put}
 
 -- the view has no input or output right
@@ -31,12 +31,18 @@ IsWriteOf f _ = ⊥
 abbrev pub HasNoWriteOut : View → ℕ → Type 0
 HasNoWriteOut v f = (n : ℕ) → (lane_hold v n).out ≢ None → ¬ IsWriteOf f (lane_hold v n).change
 
+-- the number is the view's own, and the view waits nowhere
+pub record MayWait (number : ℕ) (v : View) : Type 0 where
+  pub own : number ≡ v.number
+  pub nowhere : (f : ℕ) → (link v f).waits ≡ None
+
 -- What a kind at the frame f asks of the whole view, beyond the frame
 abbrev pub AllowedAround : Kind → View → ℕ → Type 0
 AllowedAround (make_entry p) v f = HasNoneUnapplied v
 AllowedAround start_input v f = HasNoIo v
 AllowedAround start_output v f = HasNoIo v
 AllowedAround (end_io end) v f = HasNoWriteOut v f
+AllowedAround (set_waiter number) v f = MayWait number v
 AllowedAround _ v f = Unit {0}
 
 -- What happens: what happens to pins, headers, tags and maps, or a step of this crate's kinds at a frame

@@ -1,5 +1,5 @@
 -- What is summed over the views at a frame, beside what `pin_core` sums.
-use Rattle.std.specs.Prelude.{ℕ}
+use Rattle.std.specs.Prelude.{ℕ, Option, Some, None, nat_eq}
 use Rattle.pin_core.specs.declared.view.Content.{Content}
 use Rattle.pin_core.specs.declared.view.Content.TheVariants.{Unlocked, Shared, Exclusive}
 use Rattle.pin_core.specs.declared.view.Io.{Io}
@@ -27,6 +27,8 @@ pub data Tally : Type 0 where
   works : Tally
   -- those that have the page out
   outs : Tally
+  -- those that wait under the number
+  waits_as : ℕ → Tally
 
 abbrev pub share_weight : Content → ℕ
 share_weight Unlocked = 0
@@ -43,6 +45,11 @@ work_weight Quiet = 0
 work_weight Input = 1
 work_weight Output = 1
 
+-- 1 for a wait under the number
+abbrev pub wait_weight : ℕ → Option ℕ → ℕ
+wait_weight number None = 0
+wait_weight number (Some own) = flag_weight (nat_eq number own)
+
 abbrev pub weigh : Tally → Link → ℕ
 weigh (pin k) l = pins.weigh k l
 weigh sharers l = share_weight l.content
@@ -51,6 +58,7 @@ weigh unapplied_locks l = flag_weight l.unapplied
 weigh copies l = flag_weight l.copying
 weigh works l = work_weight l.io
 weigh outs l = some_weight l.out
+weigh (waits_as number) l = wait_weight number l.waits
 
 -- the grid of views and frames, where a frame names the block of its tag word
 abbrev pub page_shape : Shape

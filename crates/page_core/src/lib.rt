@@ -10,8 +10,8 @@ ghost use Rattle.pin_core.specs.Invariant.{AllAccounted};
 ghost use Rattle.page_core.specs.State.{State, opening};
 ghost use Rattle.page_core.specs.Invariant.{Invariant};
 ghost use Rattle.page_core.specs.Steps.{Event, Run};
-ghost use Rattle.page_core.specs.Histories.{IsReached, PinnedTagsStay, ContentLocks, OneIo, RightsNeedPins, CopyLatches, DirtiedFramesAreDirty, OnePageOut, FramesHoldPages, ValidPagesAreSound, CopiesArePages};
-ghost use Rattle.page_core.specs.Sample.{SampleRuns};
+ghost use Rattle.page_core.specs.Histories.{IsReached, PinnedTagsStay, ContentLocks, OneIo, RightsNeedPins, CopyLatches, DirtiedFramesAreDirty, OnePageOut, FramesHoldPages, ValidPagesAreSound, CopiesArePages, WaitersAreNamed, BackendsWaitOnce, CleanupIsAlone};
+ghost use Rattle.page_core.specs.Sample.{SampleRuns, CleanupRuns};
 
 /// What every list of events keeps, whatever the backends do and in whatever order.
 pub fn all_histories()
@@ -45,6 +45,11 @@ pub fn all_histories()
     ensures one_out { (s : State) → IsReached s → OnePageOut s }
     ensures sound { (s : State) → IsReached s → ValidPagesAreSound s }
 
+    // of waits for a cleanup lock:
+    ensures waiters { (s : State) (f : ℕ) → IsReached s → f < s.core.frames → WaitersAreNamed s f }
+    ensures one_wait { (s : State) → IsReached s → BackendsWaitOnce s }
+    ensures granted { (s : State) (f : ℕ) → IsReached s → f < s.core.frames → CleanupIsAlone s f }
+
     // over lists in which each read that is noted gives the block's page after the log, where that is known (the kind asks for it until the steps of lanes come):
     ensures frames_hold { (s : State) → IsReached s → FramesHoldPages s }
     ensures copies_are { (s : State) → IsReached s → CopiesArePages s }
@@ -53,4 +58,9 @@ pub fn all_histories()
 /// An example: a backend misses a block and reads it into a frame, copies its page under a shared lock, and evicts it.
 pub fn miss_read_copy_evict()
     ensures { SampleRuns }
+{}
+
+/// An example: a backend waits for a cleanup lock of a frame that another one pins, is woken, and gets it.
+pub fn cleanup_wait()
+    ensures { CleanupRuns }
 {}

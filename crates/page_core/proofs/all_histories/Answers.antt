@@ -1,7 +1,7 @@
 use Rattle.pin_core.proofs.Schedules as pins
 use Rattle.page_core.proofs.Opening.{opens}
 use Rattle.page_core.proofs.Stepping.{run_keeps}
-use Rattle.page_core.proofs.Histories.{reached, stay, copy_latches, dirtied, locks, one_io, rights, one_out, frames_hold, sound, copies_are}
+use Rattle.page_core.proofs.Histories.{reached, stay, copy_latches, dirtied, locks, one_io, rights, one_out, frames_hold, sound, copies_are, waiters, wait_once, cleanup_alone}
 use Rattle.page_core.proofs.all_histories.Goals as goal
 
 pub returns-clause-kept : goal.returns-clause-kept
@@ -81,3 +81,12 @@ returns-clause-sound c = λ s r. sound s (reached s r)
 
 pub returns-clause-copies_are : goal.returns-clause-copies_are
 returns-clause-copies_are c = λ s r. copies_are s (reached s r)
+
+pub returns-clause-waiters : goal.returns-clause-waiters
+returns-clause-waiters c = λ s f r below. waiters s (reached s r) f below
+
+pub returns-clause-one_wait : goal.returns-clause-one_wait
+returns-clause-one_wait c = λ s r. wait_once s (reached s r)
+
+pub returns-clause-granted : goal.returns-clause-granted
+returns-clause-granted c = λ s f r below. cleanup_alone s (reached s r) f below
