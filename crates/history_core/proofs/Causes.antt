@@ -31,7 +31,7 @@ use Rattle.history_core.specs.Device.{LogKind, view_logged}
 use Rattle.history_core.specs.Causes.{mark_weight, NoneMarked, IsQuiet, AllQuiet, MarksLaw}
 use Rattle.history_core.specs.Invariant.{Invariant}
 use Rattle.history_core.proofs.Outer.{lane_new}
-use Rattle.history_core.proofs.Stepping.{step_keeps, lane_put, HoldsSame, no_write_holds}
+use Rattle.history_core.proofs.Stepping.{step_keeps, lane_put, no_write_holds}
 use Rattle.grid.specs.Shape.{put}
 use Rattle.grid.proofs.Lists.{at_set, at_end, at_only, put_at, put_else, set_else, set_here}
 use Rattle.grid.proofs.Sums.{total-set, total-snoc, term_le, terms_le}
@@ -73,6 +73,9 @@ pages_clean (kinds.make_entry p) b fr e h = h
 pages_clean kinds.start_input b fr e h = h
 pages_clean kinds.start_output b fr e h = h
 pages_clean kinds.clear_just_dirtied b fr e h = h
+pages_clean (kinds.set_waiter number) b fr e h = h
+pages_clean kinds.clear_waiter b fr e h = h
+pages_clean kinds.need_checkpoint b fr e h = h
 pages_clean (kinds.end_io ReadOk) b fr e h = grind (arith, h)
 pages_clean (kinds.end_io WriteOk) b fr e h = grind (arith, h)
 pages_clean (kinds.end_io Bad) b fr e h = grind (arith, h)

@@ -280,3 +280,24 @@ module _ (h : Home) (fr : Frame) (l : Link) where
     cell = λ t q le c. grind (arith, q, c, a);
     others = λ t n m q c le d. grind (arith, d);
   }
+
+  pub set_waiter_keeps : (number : ℕ) → Allowed (kinds.set_waiter number) h.block fr l → Keeps_by (kinds.set_waiter number) h (home_after (kinds.set_waiter number) h) fr l
+  set_waiter_keeps number a = record {
+    column = λ t t' q c sums le _. grind (arith, q, c, a);
+    cell = λ t q le c. grind (arith, q, c, a);
+    others = λ t n m q c le d. grind (arith, q, c, d, a);
+  }
+
+  pub clear_waiter_keeps : Allowed kinds.clear_waiter h.block fr l → Keeps_by kinds.clear_waiter h (home_after kinds.clear_waiter h) fr l
+  clear_waiter_keeps a = record {
+    column = λ t t' q c sums le _. grind (arith, q, c, a);
+    cell = λ t q le c. grind (arith, q, c, a);
+    others = λ t n m q c le d. grind (arith, q, c, d, a);
+  }
+
+  pub need_checkpoint_keeps : Allowed kinds.need_checkpoint h.block fr l → Keeps_by kinds.need_checkpoint h (home_after kinds.need_checkpoint h) fr l
+  need_checkpoint_keeps a = record {
+    column = λ t t' q c sums le _. grind (arith, q, c, a);
+    cell = λ t q le c. grind (arith, q, c, a);
+    others = λ t n m q c le d. grind (arith, q, c, d, a);
+  }

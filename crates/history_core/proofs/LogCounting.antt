@@ -1,5 +1,5 @@
 -- Each step keeps the law of the count of the log's faults.
-use Rattle.std.proofs.Common.{◌≡◌, ◌≢◌, ℕ, zero, suc, ◌+◌, ◌<◌, ◌≤◌, Bool, true, false, List, [], ◌∷◌, ◌++◌, length, set, Option, Some, None, inl, inr, ◌⊎◌, sym, refl, ap, ◌∙◌, subst, ⊎_elim, arith, lit<}
+use Rattle.std.proofs.Common.{◌≡◌, ◌≢◌, ℕ, ◌+◌, ◌<◌, ◌≤◌, Bool, true, false, List, [], ◌∷◌, ◌++◌, length, set, Option, Some, None, sym, refl, ap, ◌∙◌, subst, ⊎_elim, arith, lit<}
 use Rattle.std.proofs.lemmas.Bool.{cases_lt}
 use Rattle.std.proofs.lemmas.Option.{same_Some}
 use mathlib.Core.Logic.{dite}
@@ -14,14 +14,14 @@ use Rattle.pin_core.specs.declared.view.LogHold.{LogHold}
 use Rattle.pin_core.specs.declared.view.TakenLog.{TakenLog}
 use Rattle.pin_core.specs.declared.view.View.{View}
 use Rattle.pin_core.specs.declared.view.Seen.TheVariants as seen
-use Rattle.pin_core.specs.State.{Config, Page, link, hold, lane_hold, first_view, new_view, emptied_view, joined_view, no_log}
+use Rattle.pin_core.specs.State.{Config, link, hold, lane_hold, first_view, new_view, emptied_view, joined_view}
 use Rattle.pin_core.specs.Kinds as pin_kinds
 use Rattle.pin_core.specs.Turns.{view_turned}
 use Rattle.pin_core.specs.Steps as pin_steps
 use Rattle.page_core.specs.Steps as page_steps
 use Rattle.page_core.specs.Kinds.{begin_write, make_entry}
 use Rattle.history_core.specs.Log.{record_size}
-use Rattle.history_core.specs.State.{Device, State, Store, raised, fresh_device, opening}
+use Rattle.history_core.specs.State.{Device, State, Store, raised, fresh_device}
 use Rattle.history_core.specs.Lanes as lane_kinds
 use Rattle.history_core.specs.Lanes.{LaneKind, met_by, fault_of}
 use Rattle.history_core.specs.Device as log_kinds
@@ -29,10 +29,9 @@ use Rattle.history_core.specs.Device.{LogKind, LogAllowed, device_after, view_lo
 use Rattle.history_core.specs.Counts.{all_met, NoneFailedOut, FaultsOut, LogCounted}
 use Rattle.history_core.specs.Invariant.{Invariant, written_of}
 use Rattle.history_core.specs.Steps.{Event, stepped, looked, pool_noting, paged, laned, has_read, has_written, Step, pools, lanes, writes, notes, logs, enters, reads, loads_end, loads_flushed, raises}
-use Rattle.history_core.proofs.Counts.{raised_later}
 use Rattle.history_core.proofs.Device.{raised_rises}
 use Rattle.history_core.proofs.Opening.{one_total}
-use Rattle.grid.specs.Shape.{Grid, total}
+use Rattle.grid.specs.Shape.{total}
 use Rattle.grid.proofs.Lists.{at_set, at_end, at_longer, at_only, set_else, set_here}
 use Rattle.grid.proofs.Sums.{total-set, total-snoc, terms_le}
 

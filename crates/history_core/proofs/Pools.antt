@@ -16,7 +16,8 @@ use Rattle.page_core.specs.State.{block_of}
 use Rattle.page_core.specs.Tallies.{page_shape}
 use Rattle.page_core.specs.Invariant as page_law
 use Rattle.page_core.specs.Kinds.{Kind, Allowed, frame_after}
-use Rattle.page_core.specs.Steps.{state_after, logged_after}
+use Rattle.page_core.specs.Steps.{AllowedAround, state_after, logged_after}
+use Rattle.page_core.proofs.Waits.{waits_set}
 use Rattle.page_core.proofs.Stepping.{kind_step_keeps}
 use Rattle.history_core.specs.Steps.{aside, pool_after, paged}
 use Rattle.grid.specs.Shape.{put}
@@ -51,10 +52,11 @@ pub pool_aside : (s : page.State) (i : ℕ) (v w : View) → page_law.Invariant 
 pool_aside s i v w h there same = record {
   core = core_aside s.core i v w h.core there same;
   pages = steady page_shape page_law.page_part s.core.frames s.core.frame (block_of s.logged) s.core.views h.pages i v w there refl (link_same v w same.links);
+  waits = waits_set s.core.views h.waits i v w there same.links same.backend.number;
 }
 
 -- a step of a kind of `page_core`, with more of the view changed
-pub pool_touched : (s : page.State) (h : page_law.Invariant s) (i f : ℕ) (k : Kind) (v w : View) → get_elem? s.core.views i ≡ some v → v.emptied ≡ false → f < s.core.frames → Allowed k (block_of s.logged (s.core.frame f).tag) (s.core.frame f) (link v f) → SameHere (paged k s f v) w → page_law.Invariant (pool_after k s i f w)
-pool_touched s h i f k v w there live inside a same = let fr = s.core.frame f in let b = block_of s.logged fr.tag in
+pub pool_touched : (s : page.State) (h : page_law.Invariant s) (i f : ℕ) (k : Kind) (v w : View) → get_elem? s.core.views i ≡ some v → v.emptied ≡ false → f < s.core.frames → Allowed k (block_of s.logged (s.core.frame f).tag) (s.core.frame f) (link v f) → AllowedAround k v f → SameHere (paged k s f v) w → page_law.Invariant (pool_after k s i f w)
+pool_touched s h i f k v w there live inside a around same = let fr = s.core.frame f in let b = block_of s.logged fr.tag in
     subst (λ (x : List View). page_law.Invariant (record { core = record s.core { frame = put s.core.frame f (frame_after k b fr); views = x }; logged = logged_after k s.logged fr.tag })) (set-set s.core.views i (paged k s f v) w)
-    (pool_aside (state_after k s i f v) i (paged k s f v) w (kind_step_keeps s h i f v there live inside k a) (set_here s.core.views i v (paged k s f v) there) same)
+    (pool_aside (state_after k s i f v) i (paged k s f v) w (kind_step_keeps s h i f v there live inside k a around) (set_here s.core.views i v (paged k s f v) there) same)

@@ -272,14 +272,14 @@ module _ (s : State) (h : Invariant s) (i q f : ℕ) (noted : Bool) (k : Kind) (
   noting_block = block_of logged noting_frame.tag
 
   noted_keeps : page_law.Invariant noting → ((tag : ℕ) → s.known tag ≡ true → logged tag ≡ s.pool.logged tag) → ((tag : ℕ) → tag ≢ noting_frame.tag → homes_with s logged s.lane tag ≡ home_of s tag) → ((g : ℕ) → g < s.pool.core.frames → g ≢ f → homes_with s logged s.lane (s.pool.core.frame g).tag ≡ home_of s (s.pool.core.frame g).tag)
-      → Allowed k noting_block noting_frame (link v f) → block_after k noting_block ≡ noting_block
+      → Allowed k noting_block noting_frame (link v f) → page_steps.AllowedAround k v f → block_after k noting_block ≡ noting_block
       → Keeps home_shape known home_part (home_of s noting_frame.tag) (homes_with s logged s.lane noting_frame.tag) tt tt noting_frame (link v f) (frame_after k noting_block noting_frame) (link_after k noting_block noting_frame (link v f))
       → Invariant (record s { pool = pool_after k noting i f (laned (lane_kinds.lane_back noted) q v (paged k noting f v)); lane = put s.lane q (s.lane q) })
-  noted_keeps law same free else a stays keeps = let fr : Frame = frame_after k noting_block noting_frame in let w : View = laned (lane_kinds.lane_back noted) q v (paged k noting f v) in let views = s.pool.core.views in
+  noted_keeps law same free else a around stays keeps = let fr : Frame = frame_after k noting_block noting_frame in let w : View = laned (lane_kinds.lane_back noted) q v (paged k noting f v) in let views = s.pool.core.views in
       let is : logged_after k logged noting_frame.tag ≡ logged = (λ j g. put_same logged noting_frame.tag (block_after k noting_block).logged g (ap (λ (x : Block). x.logged) stays) j) in
       let here : SameHere (paged k noting f v) w = record { backend = record { emptied = refl; number = refl; next = refl; links = refl; partitions = refl }; joined = refl; links = refl; partitions = refl } in
       let tag_same = tag_kept k noting_block noting_frame in
-      assemble s h (pool_after k noting i f w) (put s.lane q (s.lane q)) (pool_touched noting law i f k v w there live inside a here) (λ tag e. (λ j. is j tag) ∙ same tag e ∙ h.logged tag e) (known_after s h (lane_kinds.lane_back noted) q) refl
+      assemble s h (pool_after k noting i f w) (put s.lane q (s.lane q)) (pool_touched noting law i f k v w there live inside a around here) (λ tag e. (λ j. is j tag) ∙ same tag e ∙ h.logged tag e) (known_after s h (lane_kinds.lane_back noted) q) refl
       (laned_outer s h i q (lane_kinds.lane_back noted) v w there live low back (record { calls = refl; front = refl; joined = refl; flushed = refl; emptied = refl; number = refl; kept = refl }) refl refl refl refl)
       (subst (λ (y : ℕ → Option Page). Blocks s.pool.core.frames (put s.pool.core.frame f fr) (set views i w) s.origin s.log s.flushed (homes_with s y (put s.lane q (s.lane q)))) (sym is)
       (subst (λ (y : ℕ → Home). Blocks s.pool.core.frames (put s.pool.core.frame f fr) (set views i w) s.origin s.log s.flushed y) (homes_same s logged q (s.lane q) (record { stored = refl; upto = refl; failed = refl }))
@@ -305,7 +305,7 @@ module _ (s : State) (h : Invariant s) (i q f : ℕ) (noted : Bool) (v : View) (
   note_known : s.known read_frame.tag ≡ true → Invariant (record s { pool = pool_after (note_read p) s.pool i f (laned (lane_kinds.lane_back noted) q v (paged (note_read p) s.pool f v)); lane = put s.lane q (s.lane q) })
   note_known e = let hm = home_of s read_frame.tag in let clean = (h.homes.columns f inside).clean is_input.0 is_input.1 in
       let held = (h.lanes.cells i v q there low).hold.read read_frame.tag p x.was_read (ap (λ (z : ℕ). (s.lane z).known) (sym x.lane) ∙ h.known read_frame.tag ∙ e) in let is : hm.stored ≡ p = ap (λ (z : ℕ). (s.lane z).stored read_frame.tag) x.lane ∙ held in
-      noted_keeps s h i q f noted (note_read p) v there live low inside back s.pool.logged h.pool (λ tag z. refl) (λ tag z. refl) (λ g below other. refl) (record { right = x.right; fresh = x.fresh; given = λ r z. same_Some r hm.stored (sym z ∙ clean.stored e) ∙ is }) refl
+      noted_keeps s h i q f noted (note_read p) v there live low inside back s.pool.logged h.pool (λ tag z. refl) (λ tag z. refl) (λ g below other. refl) (record { right = x.right; fresh = x.fresh; given = λ r z. same_Some r hm.stored (sym z ∙ clean.stored e) ∙ is }) tt refl
       (homes.note_read_keeps hm read_frame (link v f) p hm refl refl (λ z. (z, refl)) x.right)
 
   -- where the contents aren't known the block's page is forgotten
@@ -314,7 +314,7 @@ module _ (s : State) (h : Invariant s) (i q f : ℕ) (noted : Bool) (v : View) (
       let else : (t : ℕ) → t ≢ tag → homes_with s g s.lane t ≡ home_of s t = (λ t other. ap (λ (o : Option Page). record (home_of s t) { block = record { logged = o } }) (put_else s.pool.logged tag None t other)) in
       noted_keeps s h i q f noted (note_read p) v there live low inside back g (forgets s.pool f h.pool inside is_input.0 is_input.2) (λ t z. put_else s.pool.logged tag None t (λ same. absurd (apart (sym (ap s.known same) ∙ z) e))) else
       (λ k below other. else (s.pool.core.frame k).tag (λ same. other (sym (h.pool.core.apart f k inside below is_input.0 (sym same)))))
-      (record { right = x.right; fresh = x.fresh; given = λ r z. let none = sym z ∙ put_here s.pool.logged tag None in absurd (cc) }) refl
+      (record { right = x.right; fresh = x.fresh; given = λ r z. let none = sym z ∙ put_here s.pool.logged tag None in absurd (cc) }) tt refl
       (homes.note_read_keeps hm read_frame (link v f) p (homes_with s g s.lane tag) refl refl (λ z. absurd (apart z e)) x.right)
     where
       apart : {b : Bool} → b ≡ true → b ≡ false → ⊥
@@ -329,10 +329,10 @@ notes_step : (s : State) → Invariant s → (i q f : ℕ) (noted : Bool) (k : K
     → Invariant (record s { pool = pool_after k (pool_noting k s f) i f (laned (lane_kinds.lane_back noted) q v (paged k (pool_noting k s f) f v)); lane = put s.lane q (s.lane q) })
 notes_step s h i q f noted (note_read p) v there live low inside back x = note_either s h i q f noted v there live low inside back p x (s.known (s.pool.core.frame f).tag) refl
 notes_step s h i q f noted (note_write true) v there live low inside back (p, x) = let fr = s.pool.core.frame f in let hm = home_of s fr.tag in let held = (h.lanes.cells i v q there low).hold.written f fr.tag p x.was_written in
-    noted_keeps s h i q f noted (note_write true) v there live low inside back s.pool.logged h.pool (λ tag z. refl) (λ tag z. refl) (λ g below other. refl) x.right refl
+    noted_keeps s h i q f noted (note_write true) v there live low inside back s.pool.logged h.pool (λ tag z. refl) (λ tag z. refl) (λ g below other. refl) x.right tt refl
     (homes.note_done_keeps hm fr (link v f) (ap (λ (z : ℕ). (s.lane z).failed fr.tag) x.lane ∙ held.done) (ap (λ (z : ℕ). (s.lane z).stored fr.tag) x.lane ∙ held.stored ∙ sym x.page) x.right)
 notes_step s h i q f noted (note_write false) v there live low inside back x = let fr = s.pool.core.frame f in
-    noted_keeps s h i q f noted (note_write false) v there live low inside back s.pool.logged h.pool (λ tag z. refl) (λ tag z. refl) (λ g below other. refl) x.right refl (homes.note_failed_keeps (home_of s fr.tag) fr (link v f) x.right)
+    noted_keeps s h i q f noted (note_write false) v there live low inside back s.pool.logged h.pool (λ tag z. refl) (λ tag z. refl) (λ g below other. refl) x.right tt refl (homes.note_failed_keeps (home_of s fr.tag) fr (link v f) x.right)
 notes_step s h i q f noted begin_write v there live low inside back x = absurd x
 notes_step s h i q f noted (make_entry p) v there live low inside back x = absurd x
 notes_step s h i q f noted kinds.load_content v there live low inside back x = absurd x
@@ -350,6 +350,9 @@ notes_step s h i q f noted kinds.page_back v there live low inside back x = absu
 notes_step s h i q f noted kinds.start_input v there live low inside back x = absurd x
 notes_step s h i q f noted kinds.start_output v there live low inside back x = absurd x
 notes_step s h i q f noted kinds.clear_just_dirtied v there live low inside back x = absurd x
+notes_step s h i q f noted (kinds.set_waiter number) v there live low inside back x = absurd x
+notes_step s h i q f noted kinds.clear_waiter v there live low inside back x = absurd x
+notes_step s h i q f noted kinds.need_checkpoint v there live low inside back x = absurd x
 notes_step s h i q f noted (kinds.end_io end) v there live low inside back x = absurd x
 
 -- a step at a lane that touches no frame
@@ -427,7 +430,7 @@ module _ (s : State) (h : Invariant s) (i q f : ℕ) (v : View) (there : get_ele
     pub write_keeps : Invariant (record s { pool = pool_after begin_write s.pool i f (laned k q v (paged begin_write s.pool f v)); lane = lane' })
     write_keeps = let b : Block = block_of s.pool.logged written_frame.tag in let w : View = laned k q v (paged begin_write s.pool f v) in let views = s.pool.core.views in let a : Allowed begin_write b written_frame (link v f) = record { right = x.right.right } in
         let same : SameHere (paged begin_write s.pool f v) w = record { backend = record { emptied = refl; number = refl; next = refl; links = refl; partitions = refl }; joined = refl; links = refl; partitions = refl } in
-        assemble_same s h (pool_after begin_write s.pool i f w) lane' (pool_touched s.pool h.pool i f begin_write v w there live inside a same) (logged_same s h i f begin_write v there live inside refl) (known_after s h k q) refl
+        assemble_same s h (pool_after begin_write s.pool i f w) lane' (pool_touched s.pool h.pool i f begin_write v w there live inside a tt same) (logged_same s h i f begin_write v there live inside refl) (known_after s h k q) refl
         (laned_outer s h i q k v w there live low back (record { calls = refl; front = refl; joined = refl; flushed = refl; emptied = refl; number = refl; kept = refl }) refl refl refl refl)
         (record {
           homes = touched s h i f v w written_frame (link_after begin_write b written_frame (link v f)) there live inside refl home' (λ g below other. else (s.pool.core.frame g).tag (other_tag g below other))
@@ -587,7 +590,7 @@ module _ (s : State) (h : Invariant s) (i f : ℕ) (p : Page) (v : View) (there 
   enters_step = let views = s.pool.core.views in let n = s.pool.core.frames in let frame = s.pool.core.frame in let l : Link = link_after (make_entry p) at_block old (link v f) in
       let same : SameHere (paged (make_entry p) s.pool f v) after = record { backend = record { emptied = refl; number = refl; next = refl; links = refl; partitions = refl }; joined = refl; links = refl; partitions = refl } in
       let longer = end_longer s.log entry h.log in record {
-        pool = pool_touched s.pool h.pool i f (make_entry p) v after there live inside x.right same;
+        pool = pool_touched s.pool h.pool i f (make_entry p) v after there live inside x.right x.around same;
         logged = logged_longer;
         known = h.known;
         log = log_longer s.log entry h.log h.ends image;
