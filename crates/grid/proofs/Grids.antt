@@ -89,6 +89,17 @@ module _ (S : Shape) (p : Part S) (n : ℕ) (col : ℕ → S.Column) (block : �
   steady i v w at own same = sweep S (both p p) p n col col block block views i v w (both_grids grid grid) at
       (λ g below. stays S p p (block (S.spot (col g))) (block (S.spot (col g))) (S.own v) (S.own w) (col g) (col g) (S.link v g) (S.link w g) refl own refl (same g))
 
+  -- a view changes, whose links weigh what they weighed, and keep their law
+  pub steady_alike : (i : ℕ) (v w : S.View) → get_elem? views i ≡ some v → S.own w ≡ S.own v → ((g : ℕ) (k : S.Tally) → S.weigh k (S.link w g) ≡ S.weigh k (S.link v g)) → ((g : ℕ) (b : S.Block) (c : S.Column) (o : S.Own) → p.cell b c o (S.link v g) → p.cell b c o (S.link w g)) → Grid S p n col block (set views i w)
+  steady_alike i v w at own weighs keeps = sweep S p p n col col block block views i v w grid at (λ g below. record {
+    column = λ t t' known cell sums le alone. subst (λ (x : S.Tally → ℕ). p.column (block (S.spot (col g))) (col g) x) (λ j k. sym (same (t k) (t' k) (S.weigh k (S.link v g)) (S.weigh k (S.link w g)) (sums k) (weighs g k)) j) known;
+    cell = λ t known le cell. subst (λ (o : S.Own). p.cell (block (S.spot (col g))) (col g) o (S.link w g)) (sym own) (keeps g (block (S.spot (col g))) (col g) (S.own v) cell);
+    others = λ t u m known cell le other. other;
+  })
+    where
+      same : (a b x y : ℕ) → b + x ≡ a + y → y ≡ x → b ≡ a
+      same a b x y e f = omega arith
+
   -- the blocks change, and no view does
   pub reblock : (block' : ℕ → S.Block) → ((g : ℕ) → g < n → (t : S.Tally → ℕ) → p.column (block (S.spot (col g))) (col g) t → p.column (block' (S.spot (col g))) (col g) t)
       → ((g : ℕ) (o : S.Own) (l : S.Link) → g < n → p.cell (block (S.spot (col g))) (col g) o l → p.cell (block' (S.spot (col g))) (col g) o l) → Grid S p n col block' views

@@ -1,5 +1,7 @@
 -- Each kind of step at a lane keeps the law of the lanes.
 use Rattle.std.proofs.Common.{◌≡◌, ◌≢◌, ℕ, ◌+◌, ◌≤◌, Bool, true, false, None, ap, arith}
+use Rattle.std.specs.Prelude.{max}
+use Rattle.page_layout.specs.Fields.{lsn_of}
 use Rattle.pin_core.specs.Tallies.{flag_weight}
 use Rattle.pin_core.specs.declared.view.LaneChange.{LaneChange}
 use Rattle.pin_core.specs.declared.view.LaneChange.TheVariants.{Untouched}
@@ -66,7 +68,7 @@ module _ (loaded flushed : ℕ) (ln : Lane) (h : LaneHold) (low : loaded ≤ flu
   write_block_keeps : (f tag : ℕ) (p : Page) → LaneAllowed (write_block f tag p) ln h → Keeps_by (write_block f tag p) loaded flushed ln h
   write_block_keeps f tag p a = record {
     column = λ t t' q c sums le _. grind (arith, q, c, a, sums holders);
-    cell = λ t q le c. record { hold = grind (arith, q, c.hold, a, quiet a.once, put_here ln.stored tag p, put_here ln.failed tag false); counts = λ taken e. let x = c.counts taken e in grind (arith, x, quiet a.once) };
+    cell = λ t q le c. record { hold = grind (arith, q, c.hold, a, quiet a.once, put_here ln.stored tag p, put_here ln.stored_upto tag (max (ln.stored_upto tag) (lsn_of p)), put_here ln.failed tag false); counts = λ taken e. let x = c.counts taken e in grind (arith, x, quiet a.once) };
     others = λ t n m q c le d. resting (lane_after (write_block f tag p) ln) m d.hold (alone flushed ln h m t q c.hold d.hold (le holders) a.out);
   }
 

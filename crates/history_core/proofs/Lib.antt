@@ -5,6 +5,7 @@ pub mod Calls
 pub mod Forgetting
 pub mod Homes
 pub mod Pools
+pub mod Beginning
 pub mod Outer
 pub mod Blocks
 pub mod Stepping

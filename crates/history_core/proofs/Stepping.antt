@@ -42,7 +42,7 @@ use Rattle.history_core.specs.Lanes as lane_kinds
 use Rattle.history_core.specs.Lanes.{LaneKind, LaneAllowed, lane_after, lane_hold_after, LaneLink, lane_shape, lane_part}
 use Rattle.history_core.specs.Homes.{Home, home_of, IsClean, HomeLink, home_shape, home_part, IsFlushedCell}
 use Rattle.history_core.specs.Invariant.{HistoryLaw, written_of, Invariant}
-use Rattle.history_core.specs.Steps.{Event, IsPlain, PoolAllowed, stepped, looked, aside, pool_after, pool_noting, CanNoteLaneRead, paged, laned, LaneAlone, CanWrite, Writes, Notes, new_entry, CanEnter, CanRead, has_read, has_written, Step, pools, lanes, writes, notes, enters, reads, loads_end, loads_flushed, raises, logs, Run, rests, goes}
+use Rattle.history_core.specs.Steps.{Event, IsPlain, PoolAllowed, stepped, looked, aside, pool_after, pool_noting, CanNoteLaneRead, paged, laned, LaneAlone, CanWrite, Writes, Notes, new_entry, CanEnter, CanRead, has_read, has_begun, has_written, Step, pools, lanes, writes, notes, enters, reads, loads_end, begins, loads_flushed, raises, logs, Run, rests, goes}
 use Rattle.history_core.specs.Device.{LogKind, take_log, leave_log, log_out, append, fail_append, sync_log, fail_sync, log_back, see_down, LogAllowed, device_after, view_logged, log_weigh, log_shape, log_part}
 use Rattle.history_core.proofs.Device.{log_keeps, enter_keeps, synced_all}
 use Rattle.history_core.proofs.Calls.{SameCalls, history_same, history_read, history_written, history_loaded, history_raised}
@@ -52,6 +52,7 @@ use Rattle.history_core.proofs.Forgetting.{forgets}
 use Rattle.history_core.proofs.Homes as homes
 use Rattle.history_core.proofs.Homes.{known, home_after, Keeps_by}
 use Rattle.history_core.proofs.Pools.{SameHere, pool_aside, pool_touched}
+use Rattle.history_core.proofs.Beginning.{BegunHere, pool_begun, homes_begun}
 use Rattle.history_core.proofs.Outer.{Outer, outer_same, outer_grows, outer_joins, lanes_touched, wide_set}
 use Rattle.history_core.proofs.Blocks.{plain_keeps, plain_block, IsFresh, pins_keep, tag_goes, lacked, written_is_logged, Blocks, no_link, home_forgets, unframed_put, still_unframed}
 use Rattle.grid.specs.Shape.{Grid, put, tallies}
@@ -626,6 +627,10 @@ step_keeps (enters {s = s} i f p v there live inside x) h = enters_step s h i f 
 step_keeps (reads {s = s} i f tag p v there live inside a) h = reads_step s h i f tag p v there inside a
 step_keeps (loads_end {s = s} i v there live) h = let w : View = looked (seen.LogEnd s.end) v in with_view s h i v w there (record { backend = record { emptied = refl; number = refl; next = refl; links = refl; partitions = refl }; joined = refl; links = refl; partitions = refl }) refl refl refl
     (history_same s.known s.origin s.log s.flushed s.pool.core.views h.history i v w there (record { calls = refl; front = refl; joined = refl; flushed = refl; emptied = refl; number = refl; kept = refl }))
+step_keeps (begins {s = s} i v there live) h = let w : View = has_begun s.end (looked (seen.LogEnd s.end) v) in let begun : BegunHere v w = record { emptied = refl; number = refl; next = refl; joined = refl; links = refl; partitions = refl } in
+    assemble_same s h (aside s.pool i w) s.lane (pool_begun i v w begun s.pool h.pool there) refl h.known refl
+    (outer_same s.known s.origin s.log s.lanes s.lane s.flushed (written_of s) s.device s.pool.core.views (outer_of s h) i v w there (record { calls = refl; front = refl; joined = refl; flushed = refl; emptied = refl; number = refl; kept = refl }) refl refl refl refl)
+    (record { homes = homes_begun i v w begun s.pool.core.frames s.pool.core.frame (home_of s) s.pool.core.views h.homes there; unframed = h.unframed; flushed_cells = h.flushed_cells })
 step_keeps (loads_flushed {s = s} i v there live) h = let w : View = looked (seen.Flushed s.flushed) (record v { flushed = s.flushed }) in with_view s h i v w there (record { backend = record { emptied = refl; number = refl; next = refl; links = refl; partitions = refl }; joined = refl; links = refl; partitions = refl }) refl refl refl
     (history_loaded s.known s.origin s.log s.flushed s.pool.core.views h.history i v w there refl refl refl refl refl refl refl)
 step_keeps (raises {s = s} i v there live synced) h = raises_step s h i v there synced

@@ -163,8 +163,9 @@ pub record LaneColumn (ln : Lane) (t : LaneTally → ℕ) : Type 0 where
 
 -- What holds of a lane that was written while it is out
 pub record WrittenLane (ln : Lane) (tag : ℕ) (page : Page) : Type 0 where
-  -- it holds the page, and the block's last write didn't fail
+  -- it holds the page, with the block's entries up to the page's position, and the block's last write didn't fail
   pub stored : ln.stored tag ≡ page
+  pub upto : lsn_of page ≤ ln.stored_upto tag
   pub done : ln.failed tag ≡ false
 
 -- What holds of the counts of a lane that is out

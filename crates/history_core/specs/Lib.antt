@@ -6,6 +6,7 @@ pub mod Steps
 pub mod Homes
 pub mod Invariant
 pub mod Causes
+pub mod Debts
 pub mod Counts
 pub mod Histories
 pub mod Sample

@@ -1,5 +1,5 @@
 -- One step, and lists of steps.
-use Rattle.std.specs.Prelude.{◌≡◌, ◌≢◌, ℕ, ◌+◌, ◌<◌, ◌≤◌, true, false, List, [], ◌∷◌, ◌++◌, length, max, Bool, Option, Some, slice_set, None, if◌then◌else◌}
+use Rattle.std.specs.Prelude.{◌≡◌, ◌≢◌, ℕ, ◌+◌, ◌<◌, ◌≤◌, true, false, List, [], ◌∷◌, ◌++◌, length, map, max, Bool, Option, Some, slice_set, None, if◌then◌else◌}
 use mathlib.Core.Option.{some}
 use lib.ListN.{get_elem?}
 use Rattle.page_layout.specs.Fields.{lsn_of}
@@ -42,6 +42,8 @@ pub data Event : Type 0 where
   read : ℕ → ℕ → Event
   -- the log's end is loaded, and the flushed position
   load_end : ℕ → Event
+  -- a checkpoint begins at the log's end (`CreateCheckPoint`)
+  begin_checkpoint : ℕ → Event
   load_flushed : ℕ → Event
   -- the flushed position is raised to the log's end
   raise_flushed : ℕ → Event
@@ -186,6 +188,14 @@ pub record CanRead (tag : ℕ) (p : Page) (l : Link) : Type 0 where
 abbrev pub has_written : ℕ → ℕ → Page → View → View
 has_written end tag p v = record v { calls = v.calls ++ Write v.number tag p end ∷ []; front = end; log = record v.log { appended = None } }
 
+-- a checkpoint that begins has passed no frame, and listed none
+abbrev pub unmarked : Link → Link
+unmarked l = record l { passed = false; listed = false }
+
+-- a view whose checkpoint begins where the log ends at `end`
+abbrev pub has_begun : ℕ → View → View
+has_begun end v = record v { links = map unmarked v.links; upto = end }
+
 -- a view that has read it
 abbrev pub has_read : ℕ → ℕ → Page → View → View
 has_read end tag p v = record v { calls = v.calls ++ Read v.number tag p end ∷ []; front = end; place_loads = v.place_loads + 1 }
@@ -215,6 +225,8 @@ pub data Step : Event → State → State → Type 0 where
   reads : {s : State} (i f tag : ℕ) (p : Page) (v : View) → get_elem? s.pool.core.views i ≡ some v → v.emptied ≡ false → f < s.pool.core.frames → CanRead tag p (link v f)
       → Step (read i f) s (record s { pool = aside s.pool i (looked (seen.LogEnd s.end) (has_read s.end tag p v)) })
   loads_end : {s : State} (i : ℕ) (v : View) → get_elem? s.pool.core.views i ≡ some v → v.emptied ≡ false → Step (load_end i) s (record s { pool = aside s.pool i (looked (seen.LogEnd s.end) v) })
+  -- the checkpoint of backend i begins
+  begins : {s : State} (i : ℕ) (v : View) → get_elem? s.pool.core.views i ≡ some v → v.emptied ≡ false → Step (begin_checkpoint i) s (record s { pool = aside s.pool i (has_begun s.end (looked (seen.LogEnd s.end) v)) })
   loads_flushed : {s : State} (i : ℕ) (v : View) → get_elem? s.pool.core.views i ≡ some v → v.emptied ≡ false → Step (load_flushed i) s (record s { pool = aside s.pool i (looked (seen.Flushed s.flushed) (record v { flushed = s.flushed })) })
   -- under the log's latch, after a sync
   raises : {s : State} (i : ℕ) (v : View) → get_elem? s.pool.core.views i ≡ some v → v.emptied ≡ false → v.log.synced ≡ true → Step (raise_flushed i) s (record s { pool = aside s.pool i (stepped v); flushed = max s.flushed s.end })
