@@ -119,11 +119,10 @@ no_link h fr = grind arith
 pub home_forgets : (h : Home) (fr : Frame) (l : Link) → Keeps home_shape known home_part h h tt tt fr l fr idle
 home_forgets h fr l = record { column = λ t t' q c sums le _. q.1; cell = λ t q le c. no_link h fr; others = λ t n m q c le d. d.1 }
 
--- where the frame f may have lost its tag, which wasn't dirty then
-pub unframed_put : (n : ℕ) (frame : ℕ → Frame) (home : ℕ → Home) (f : ℕ) (fr : Frame) → f < n → ((tag : ℕ) → tag ≢ no_tag → IsUnframed n frame tag → IsClean (home tag)) → ((frame f).tag ≢ no_tag → (frame f).word.dirty ≡ false → IsClean (home (frame f).tag)) → (fr.tag ≢ (frame f).tag → (frame f).word.dirty ≡ false)
-    → (tag : ℕ) → tag ≢ no_tag → IsUnframed n (put frame f fr) tag → IsClean (home tag)
-unframed_put n frame home f fr inside was clean goes tag named none = dite (ℕ_discrete (frame f).tag tag)
-    (λ (same : (frame f).tag ≡ tag). subst (λ (x : ℕ). IsClean (home x)) same (clean (λ e. named (sym same ∙ e)) (goes (λ e. none f inside (ap (λ (x : Frame). x.tag) (put_here frame f fr) ∙ e ∙ same)))))
+-- where the frame f may have lost its tag, and what P says of a tag held of its tag then
+pub unframed_put : (P : ℕ → Type 0) (n : ℕ) (frame : ℕ → Frame) (f : ℕ) (fr : Frame) → f < n → ((tag : ℕ) → tag ≢ no_tag → IsUnframed n frame tag → P tag) → ((frame f).tag ≢ no_tag → (frame f).word.dirty ≡ false → P (frame f).tag) → (fr.tag ≢ (frame f).tag → (frame f).word.dirty ≡ false) → (tag : ℕ) → tag ≢ no_tag → IsUnframed n (put frame f fr) tag → P tag
+unframed_put P n frame f fr inside was clean goes tag named none = dite (ℕ_discrete (frame f).tag tag)
+    (λ (same : (frame f).tag ≡ tag). subst P same (clean (λ e. named (sym same ∙ e)) (goes (λ e. none f inside (ap (λ (x : Frame). x.tag) (put_here frame f fr) ∙ e ∙ same)))))
     (λ (other : (frame f).tag ≢ tag). was tag named (λ g below. dite (ℕ_discrete g f) (λ e. subst (λ (x : ℕ). (frame x).tag ≢ tag) (sym e) other) (λ o. subst (λ (x : Frame). x.tag ≢ tag) (put_else frame f fr g o) (none g below))))
 
 -- a frame that keeps its tag

@@ -19,7 +19,7 @@ use Rattle.grid.proofs.Sums.{total-set, total-snoc, total-none}
 use Rattle.history_core.proofs.Logs.{cut_longer, cut_all, ends_below, end_longer}
 
 -- what is at a place of two lists, one behind the other
-at_both : {A : Type 0} (l m : List A) (k : ℕ) (a : A) → get_elem? (l ++ m) k ≡ some a → (get_elem? l k ≡ some a) ⊎ ((j : ℕ) × (get_elem? m j ≡ some a))
+pub at_both : {A : Type 0} (l m : List A) (k : ℕ) (a : A) → get_elem? (l ++ m) k ≡ some a → (get_elem? l k ≡ some a) ⊎ ((j : ℕ) × (get_elem? m j ≡ some a))
 at_both [] m k a e = inr (k, e)
 at_both (x ∷ l) m zero a e = inl e
 at_both (x ∷ l) m (suc k) a e = at_both l m k a e

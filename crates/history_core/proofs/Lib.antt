@@ -10,6 +10,8 @@ pub mod Outer
 pub mod Blocks
 pub mod Stepping
 pub mod Causes
+pub mod Debts
+pub mod Owing
 pub mod Counts
 pub mod LogCounting
 pub mod Counting

@@ -40,7 +40,7 @@ use Rattle.history_core.specs.Log.{Entry, IsImage, record_size, cell, log_bytes,
 use Rattle.history_core.specs.State.{Lane, Device, State, stored, stored_upto, failed}
 use Rattle.history_core.specs.Lanes as lane_kinds
 use Rattle.history_core.specs.Lanes.{LaneKind, LaneAllowed, lane_after, lane_hold_after, LaneLink, lane_shape, lane_part}
-use Rattle.history_core.specs.Homes.{Home, home_of, IsClean, HomeLink, home_shape, home_part, IsFlushedCell}
+use Rattle.history_core.specs.Homes.{Home, home_of, IsClean, HomeLink, home_shape, home_part, IsUnframed, IsFlushedCell}
 use Rattle.history_core.specs.Invariant.{HistoryLaw, written_of, Invariant}
 use Rattle.history_core.specs.Steps.{Event, IsPlain, PoolAllowed, stepped, looked, aside, pool_after, pool_noting, CanNoteLaneRead, paged, laned, LaneAlone, CanWrite, Writes, Notes, new_entry, CanEnter, CanRead, has_read, has_begun, has_written, Step, pools, lanes, writes, notes, enters, reads, loads_end, begins, loads_flushed, raises, logs, Run, rests, goes}
 use Rattle.history_core.specs.Device.{LogKind, take_log, leave_log, log_out, append, fail_append, sync_log, fail_sync, log_back, see_down, LogAllowed, device_after, view_logged, log_weigh, log_shape, log_part}
@@ -109,6 +109,14 @@ assemble_same s h pool' lane' law same known kept outer blocks = assemble s h po
 pub lane_put : {A : Type 0} (g : Lane → A) (lane : ℕ → Lane) (q : ℕ) (ln : Lane) → g ln ≡ g (lane q) → (x : ℕ) → g (put lane q ln x) ≡ g (lane x)
 lane_put g lane q ln same x = dite (ℕ_discrete x q) (λ e. ap g (put_at lane q ln x e) ∙ same ∙ ap (λ (z : ℕ). g (lane z)) (sym e)) (λ o. ap g (put_else lane q ln x o))
 
+-- a lane takes another's place, which holds something else for one block
+pub lane_written : {A : Type 0} (lane_of : ℕ → ℕ) (lane : ℕ → Lane) (q : ℕ) (ln : Lane) (tag : ℕ) (g : Lane → ℕ → A) (a : A) → lane_of tag ≡ q → g ln ≡ put (g (lane q)) tag a → (t : ℕ) → g (put lane q ln (lane_of t)) t ≡ put (λ (z : ℕ). g (lane (lane_of z)) z) tag a t
+lane_written lane_of lane q ln tag g a is e t = let all = (λ (z : ℕ). g (lane (lane_of z)) z) in dite (ℕ_discrete t tag)
+    (λ (same : t ≡ tag). ap (λ (y : Lane). g y t) (put_at lane q ln (lane_of t) (ap lane_of same ∙ is)) ∙ (λ j. e j t) ∙ put_at (g (lane q)) tag a t same ∙ sym (put_at all tag a t same))
+    (λ (other : t ≢ tag). dite (ℕ_discrete (lane_of t) q)
+    (λ (at : lane_of t ≡ q). ap (λ (y : Lane). g y t) (put_at lane q ln (lane_of t) at) ∙ (λ j. e j t) ∙ put_else (g (lane q)) tag a t other ∙ ap (λ (z : ℕ). g (lane z) t) (sym at) ∙ sym (put_else all tag a t other))
+    (λ (o : lane_of t ≢ q). ap (λ (y : Lane). g y t) (put_else lane q ln (lane_of t) o) ∙ sym (put_else all tag a t other)))
+
 -- The lane holds what it held
 pub record HoldsSame (a b : Lane) : Type 0 where
   pub stored : a.stored ≡ b.stored
@@ -157,7 +165,7 @@ module _ (s : State) (h : Invariant s) where
   wide_links i f v there live inside = subst (λ (m : ℕ). f < m) (sym (h.pool.core.views.wide i v there live).0) inside
 
   -- the frame f and the view of backend i change, where the view's link there becomes l
-  relinks : (i f : ℕ) (v w : View) (l : Link) → get_elem? views i ≡ some v → v.emptied ≡ false → f < n → w.links ≡ set v.links f l → Relinks home_shape v w f l
+  pub relinks : (i f : ℕ) (v w : View) (l : Link) → get_elem? views i ≡ some v → v.emptied ≡ false → f < n → w.links ≡ set v.links f l → Relinks home_shape v w f l
   relinks i f v w l there live inside e = record {
     own = refl;
     here = ap (λ (x : List Link). link (record w { links = x }) f) e ∙ get_or-set_same v.links f l idle (wide_links i f v there live inside);
@@ -171,10 +179,14 @@ module _ (s : State) (h : Invariant s) where
   clean_at : (f : ℕ) → f < n → (frame f).tag ≢ no_tag → (frame f).word.dirty ≡ false → IsClean (home_of s (frame f).tag)
   clean_at f inside named = (h.homes.columns f inside).clean named
 
+  -- no frame has a tag that a backend may name
+  pub unframed_tag : (i f tag : ℕ) (v : View) → get_elem? views i ≡ some v → pin_kinds.Allowed (pin_kinds.store_tag tag) (frame f) (link v f) → pin_steps.AllowedAround (pin_kinds.store_tag tag) s.pool.core v f → IsUnframed n frame tag
+  unframed_tag i f tag v there a around g below = let m = around.naming in let p = s.pool.core.partition_of tag in
+      lacked (s.pool.core.partition p) (hold v p) (frame g).tag tag g (h.pool.core.turns.cells i v p there (h.pool.core.placed tag)) (h.pool.core.maps.pairs tag g a.named below) m.held m.unchanged (m.settled p) around.lacking
+
   -- a tag that no frame has, as a backend names it
   fresh : (i f : ℕ) (k : pin_kinds.Kind) (v : View) → get_elem? views i ≡ some v → pin_kinds.Allowed k (frame f) (link v f) → pin_steps.AllowedAround k s.pool.core v f → IsFresh k (home_of s (pin_kinds.frame_after k (frame f)).tag)
-  fresh i f (pin_kinds.store_tag tag) v there a around = let m = around.naming in let p = s.pool.core.partition_of tag in h.unframed tag a.named
-      (λ g below. lacked (s.pool.core.partition p) (hold v p) (frame g).tag tag g (h.pool.core.turns.cells i v p there (h.pool.core.placed tag)) (h.pool.core.maps.pairs tag g a.named below) m.held m.unchanged (m.settled p) around.lacking)
+  fresh i f (pin_kinds.store_tag tag) v there a around = h.unframed tag a.named (unframed_tag i f tag v there a around)
   fresh i f _ v there a around = tt
 
   -- a step of a kind of `pin_core` at a frame
@@ -184,7 +196,7 @@ module _ (s : State) (h : Invariant s) where
       assemble_same s h (record s.pool { core = pin_steps.state_after k s.pool.core i f v }) s.lane law refl h.known refl (outer_same s.known s.origin s.log s.lanes s.lane s.flushed (written_of s) s.device views (outer_of s h) i v w there (record { calls = refl; front = refl; joined = refl; flushed = refl; emptied = refl; number = refl; kept = refl }) refl refl refl refl)
       (record {
         homes = touched i f v w fr l there live inside refl (home_of s) (λ g below other. refl) (pins_keep k (home_of s (frame f).tag) (home_of s fr.tag) (frame f) (link v f) a (λ e. ap (home_of s) e) (fresh i f k v there a around));
-        unframed = unframed_put n frame (home_of s) f fr inside h.unframed (clean_at f inside) (tag_goes k (frame f) (link v f) (tallies frame_shape views f) (h.pool.core.grid.columns f inside) a);
+        unframed = unframed_put (λ (t : ℕ). IsClean (home_of s t)) n frame f fr inside h.unframed (clean_at f inside) (tag_goes k (frame f) (link v f) (tallies frame_shape views f) (h.pool.core.grid.columns f inside) a);
         flushed_cells = h.flushed_cells;
       })
 
@@ -205,7 +217,7 @@ module _ (s : State) (h : Invariant s) where
     pub blocks_touched : (w : View) → w.links ≡ set v.links f l → Keeps_by k (home_of s (frame f).tag) (home_after k (home_of s (frame f).tag)) (frame f) (link v f) → Blocks n (put frame f fr) (set views i w) s.origin s.log s.flushed (home_of s)
     blocks_touched w e keeps = let is : home_after k (home_of s (frame f).tag) ≡ home_of s fr.tag = ap (λ (x : Block). record (home_of s (frame f).tag) { block = x }) stays ∙ ap (home_of s) (sym (tag_kept k b (frame f))) in record {
       homes = touched i f v w fr l there live inside e (home_of s) (λ g below other. refl) (subst (λ (x : Home). Keeps home_shape known home_part (home_of s (frame f).tag) x tt tt (frame f) (link v f) fr l) is keeps);
-      unframed = unframed_put n frame (home_of s) f fr inside h.unframed (clean_at f inside) (λ goes. absurd (goes (tag_kept k b (frame f))));
+      unframed = unframed_put (λ (t : ℕ). IsClean (home_of s t)) n frame f fr inside h.unframed (clean_at f inside) (λ goes. absurd (goes (tag_kept k b (frame f))));
       flushed_cells = h.flushed_cells;
     }
 
@@ -292,7 +304,7 @@ module _ (s : State) (h : Invariant s) (i q f : ℕ) (noted : Bool) (k : Kind) (
       })))
 
 -- a frame for input has a tag, and is neither valid nor dirty
-for_input : (b : Block) (fr : Frame) (l : Link) (t : pin_tallies.Tally → ℕ) → FrameLaw fr t → PageLink b fr l → l.io ≡ Input → (fr.tag ≢ no_tag) × (fr.word.dirty ≡ false) × (fr.word.valid ≡ false)
+pub for_input : (b : Block) (fr : Frame) (l : Link) (t : pin_tallies.Tally → ℕ) → FrameLaw fr t → PageLink b fr l → l.io ≡ Input → (fr.tag ≢ no_tag) × (fr.word.dirty ≡ false) × (fr.word.valid ≡ false)
 for_input b fr l t c d e = let x = d.input e in (x.0.named, grind (arith, c, x.1), x.1)
 
 -- what a lane gave is noted at a frame
@@ -402,13 +414,8 @@ module _ (s : State) (h : Invariant s) (i q f : ℕ) (v : View) (there : get_ele
     abbrev home' : ℕ → Home
     home' = homes_with s s.pool.logged lane'
 
-    -- of what the lanes hold only the block's part changes
     written_at : {A : Type 0} (g : Lane → ℕ → A) (a : A) → g (lane_after k (s.lane q)) ≡ put (g (s.lane q)) tag a → (t : ℕ) → g (lane' (s.lane_of t)) t ≡ put (λ (z : ℕ). g (s.lane (s.lane_of z)) z) tag a t
-    written_at g a e t = let all = (λ (z : ℕ). g (s.lane (s.lane_of z)) z) in dite (ℕ_discrete t tag)
-        (λ (same : t ≡ tag). ap (λ (y : Lane). g y t) (put_at s.lane q (lane_after k (s.lane q)) (s.lane_of t) (ap s.lane_of same ∙ x.lane)) ∙ (λ j. e j t) ∙ put_at (g (s.lane q)) tag a t same ∙ sym (put_at all tag a t same))
-        (λ (other : t ≢ tag). dite (ℕ_discrete (s.lane_of t) q)
-        (λ (at : s.lane_of t ≡ q). ap (λ (y : Lane). g y t) (put_at s.lane q (lane_after k (s.lane q)) (s.lane_of t) at) ∙ (λ j. e j t) ∙ put_else (g (s.lane q)) tag a t other ∙ ap (λ (z : ℕ). g (s.lane z) t) (sym at) ∙ sym (put_else all tag a t other))
-        (λ (o : s.lane_of t ≢ q). ap (λ (y : Lane). g y t) (put_else s.lane q (lane_after k (s.lane q)) (s.lane_of t) o) ∙ sym (put_else all tag a t other)))
+    written_at g a e t = lane_written s.lane_of s.lane q (lane_after k (s.lane q)) tag g a x.lane e t
 
     else : (t : ℕ) → t ≢ tag → home' t ≡ home_of s t
     else t other = λ j. record {
