@@ -37,12 +37,12 @@ use Rattle.page_core.proofs.Cases.{tag_kept}
 use Rattle.page_core.proofs.Stepping as page_stepping
 use Rattle.page_core.proofs.Stepping.{new_none}
 use Rattle.history_core.specs.Log.{Entry, IsImage, record_size, cell, log_bytes, record_bytes}
-use Rattle.history_core.specs.State.{Lane, Device, State, stored, stored_upto, failed}
+use Rattle.history_core.specs.State.{Lane, Device, State, next_hand, stored, stored_upto, failed}
 use Rattle.history_core.specs.Lanes as lane_kinds
 use Rattle.history_core.specs.Lanes.{LaneKind, LaneAllowed, lane_after, lane_hold_after, LaneLink, lane_shape, lane_part}
 use Rattle.history_core.specs.Homes.{Home, home_of, IsClean, HomeLink, home_shape, home_part, IsUnframed, IsFlushedCell}
 use Rattle.history_core.specs.Invariant.{HistoryLaw, written_of, Invariant}
-use Rattle.history_core.specs.Steps.{Event, IsPlain, PoolAllowed, stepped, looked, aside, pool_after, pool_noting, CanNoteLaneRead, paged, laned, LaneAlone, CanWrite, Writes, Notes, new_entry, CanEnter, CanRead, has_read, has_begun, has_written, Step, pools, lanes, writes, notes, enters, reads, loads_end, begins, loads_flushed, raises, logs, Run, rests, goes}
+use Rattle.history_core.specs.Steps.{Event, IsPlain, PoolAllowed, stepped, looked, aside, pool_after, pool_noting, CanNoteLaneRead, paged, laned, LaneAlone, CanWrite, Writes, Notes, new_entry, CanEnter, CanRead, has_read, has_begun, has_written, Step, pools, lanes, writes, notes, enters, reads, loads_end, begins, loads_flushed, raises, adds_hand, loads_hand, logs, Run, rests, goes}
 use Rattle.history_core.specs.Device.{LogKind, take_log, leave_log, log_out, append, fail_append, sync_log, fail_sync, log_back, see_down, LogAllowed, device_after, view_logged, log_weigh, log_shape, log_part}
 use Rattle.history_core.proofs.Device.{log_keeps, enter_keeps, synced_all}
 use Rattle.history_core.proofs.Calls.{SameCalls, history_same, history_read, history_written, history_loaded, history_raised}
@@ -625,6 +625,30 @@ module _ (s : State) (h : Invariant s) (i f : ℕ) (p : Page) (v : View) (there 
         };
       }
 
+-- no law speaks of the hand
+handed : {t : State} → Invariant t → (hand : ℕ) → Invariant (record t { hand = hand })
+handed k hand = record {
+  pool = k.pool;
+  logged = k.logged;
+  known = k.known;
+  log = k.log;
+  based = k.based;
+  ends = k.ends;
+  limit = k.limit;
+  flushed_from = k.flushed_from;
+  flushed_to = k.flushed_to;
+  named = k.named;
+  durable = k.durable;
+  device = k.device;
+  history = k.history;
+  lanes = k.lanes;
+  wide = k.wide;
+  placed = k.placed;
+  homes = k.homes;
+  unframed = k.unframed;
+  flushed_cells = k.flushed_cells;
+}
+
 pub step_keeps : {e : Event} {s t : State} → Step e s t → Invariant s → Invariant t
 step_keeps (pools {s = s} x a) h = pools_step s h x a
 step_keeps (lanes {s = s} i q k v there live low a alone) h = lanes_step s h i q k v there live low a alone
@@ -641,6 +665,10 @@ step_keeps (begins {s = s} i v there live) h = let w : View = has_begun s.end (l
 step_keeps (loads_flushed {s = s} i v there live) h = let w : View = looked (seen.Flushed s.flushed) (record v { flushed = s.flushed }) in with_view s h i v w there (record { backend = record { emptied = refl; number = refl; next = refl; links = refl; partitions = refl }; joined = refl; links = refl; partitions = refl }) refl refl refl
     (history_loaded s.known s.origin s.log s.flushed s.pool.core.views h.history i v w there refl refl refl refl refl refl refl)
 step_keeps (raises {s = s} i v there live synced) h = raises_step s h i v there synced
+step_keeps (adds_hand {s = s} i v there live) h = let w : View = stepped v in handed (with_view s h i v w there (record { backend = record { emptied = refl; number = refl; next = refl; links = refl; partitions = refl }; joined = refl; links = refl; partitions = refl }) refl refl refl
+    (history_same s.known s.origin s.log s.flushed s.pool.core.views h.history i v w there (record { calls = refl; front = refl; joined = refl; flushed = refl; emptied = refl; number = refl; kept = refl }))) (next_hand s.hand)
+step_keeps (loads_hand {s = s} i v there live) h = let w : View = looked (seen.Hand s.hand) v in with_view s h i v w there (record { backend = record { emptied = refl; number = refl; next = refl; links = refl; partitions = refl }; joined = refl; links = refl; partitions = refl }) refl refl refl
+    (history_same s.known s.origin s.log s.flushed s.pool.core.views h.history i v w there (record { calls = refl; front = refl; joined = refl; flushed = refl; emptied = refl; number = refl; kept = refl }))
 step_keeps (logs {s = s} i k v there live a record_is) h = logs_step s h i k v there a
 
 pub run_keeps : {es : List Event} {s t : State} → Run es s t → Invariant s → Invariant t

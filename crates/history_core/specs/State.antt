@@ -31,6 +31,10 @@ last_count = 18446744073709551615
 abbrev pub raised : ℕ → ℕ
 raised n = if nat_eq n last_count then n else n + 1
 
+-- the hand moves on, from its last value to 0
+abbrev pub next_hand : ℕ → ℕ
+next_hand n = if nat_eq n last_count then 0 else n + 1
+
 -- The device of the log, with its latch
 pub record Device : Type 0 where
   -- whether a backend has the latch
@@ -69,6 +73,8 @@ pub record State : Type 0 where
   -- the word of the log's end, and the word up to which the log is flushed
   pub end : ℕ
   pub flushed : ℕ
+  -- the word of the clock's hand (`nextVictimBuffer`)
+  pub hand : ℕ
 
 -- the page that the block's lane holds, up to which position the block's entries are in it, and whether the block's last write failed
 abbrev pub stored : State → ℕ → Page
@@ -143,4 +149,5 @@ opening c store p = record {
   log_faults = store.log_faults;
   end = c.base;
   flushed = c.base;
+  hand = 0;
 }

@@ -22,7 +22,7 @@ use Rattle.page_core.specs.Kinds.{Kind, note_read, begin_write, note_write, make
 use Rattle.page_core.specs.Steps as page_steps
 use Rattle.page_core.specs.Steps.{logged_after}
 use Rattle.history_core.specs.Log.{Entry, record_size, record_bytes}
-use Rattle.history_core.specs.State.{State, last_position}
+use Rattle.history_core.specs.State.{State, last_position, next_hand}
 use Rattle.history_core.specs.Lanes.{LaneKind, read_block, fail_read, write_block, fail_write, lane_back, LaneAllowed, lane_after, lane_changed}
 use Rattle.history_core.specs.Device.{LogKind, append, fail_append, LogAllowed, device_after, view_logged}
 use Rattle.grid.specs.Shape.{put}
@@ -47,6 +47,9 @@ pub data Event : Type 0 where
   load_flushed : ℕ → Event
   -- the flushed position is raised to the log's end
   raise_flushed : ℕ → Event
+  -- the clock's hand moves on, or is loaded (`ClockSweepTick`)
+  add_hand : ℕ → Event
+  load_hand : ℕ → Event
 
 -- the kinds of `page_core` that stand there for what a lane gives and takes, and for a new entry, are part of a step of this crate's own
 abbrev pub IsPlain : Kind → Type 0
@@ -230,6 +233,8 @@ pub data Step : Event → State → State → Type 0 where
   loads_flushed : {s : State} (i : ℕ) (v : View) → get_elem? s.pool.core.views i ≡ some v → v.emptied ≡ false → Step (load_flushed i) s (record s { pool = aside s.pool i (looked (seen.Flushed s.flushed) (record v { flushed = s.flushed })) })
   -- under the log's latch, after a sync
   raises : {s : State} (i : ℕ) (v : View) → get_elem? s.pool.core.views i ≡ some v → v.emptied ≡ false → v.log.synced ≡ true → Step (raise_flushed i) s (record s { pool = aside s.pool i (stepped v); flushed = max s.flushed s.end })
+  adds_hand : {s : State} (i : ℕ) (v : View) → get_elem? s.pool.core.views i ≡ some v → v.emptied ≡ false → Step (add_hand i) s (record s { pool = aside s.pool i (stepped v); hand = next_hand s.hand })
+  loads_hand : {s : State} (i : ℕ) (v : View) → get_elem? s.pool.core.views i ≡ some v → v.emptied ≡ false → Step (load_hand i) s (record s { pool = aside s.pool i (looked (seen.Hand s.hand) v) })
 
 -- the events lead from one state to the other
 pub data Run : List Event → State → State → Type 0 where
