@@ -13,7 +13,9 @@ pub mod Counts
 pub mod LogCounting
 pub mod Counting
 pub mod Opening
+pub mod Rest
 pub mod Sample
 pub mod Miss
 pub mod Staying
+pub mod KeptFlushed
 pub mod Histories
