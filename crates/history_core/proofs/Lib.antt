@@ -16,6 +16,7 @@ pub mod Opening
 pub mod Rest
 pub mod Sample
 pub mod Miss
+pub mod Put
 pub mod Staying
 pub mod KeptFlushed
 pub mod Histories

@@ -11,3 +11,4 @@ pub mod Counts
 pub mod Histories
 pub mod Sample
 pub mod Miss
+pub mod Put

@@ -14,6 +14,7 @@ ghost use Rattle.history_core.specs.Rest.{RestLaw};
 ghost use Rattle.history_core.specs.Steps.{Event, Run};
 ghost use Rattle.history_core.specs.Sample.{SampleRuns};
 ghost use Rattle.history_core.specs.Miss.{MissRuns};
+ghost use Rattle.history_core.specs.Put.{PutRuns};
 ghost use Rattle.history_core.specs.Histories.{IsReached, CallsAreLegal, JoinedAreApart, CallsAreOwn, FrontsAreReached, CallsStay, CallsAreInOrder, LoadedIsFlushed, LanesGoOutFlushed, HoldsKeepFlushed, NotedWritesAreDone, LogIsHeld, WritesAreEntries, ReadsStand, WritesStand, LogBeforeData, LanesHoldFlushedPages, CleanBlocksAreStored, FramesAreSound, FramesHoldCells, LogWords, EntriesAreDurable, DeviceHoldsLog, LanesAreHeld};
 
 /// What every list of events keeps, whatever the backends do and in whatever order.
@@ -73,4 +74,9 @@ pub fn lane_read_and_log_flush()
 /// An example: a backend misses a block, reads it from its lane into a frame, copies the page and gives the read its place.
 pub fn miss_and_read()
     ensures { MissRuns }
+{}
+
+/// An example: a backend puts any sound page into a frame that it has read a block into, makes the log durable, and writes the page to the block's lane.
+pub fn put_and_flush()
+    ensures { PutRuns }
 {}
