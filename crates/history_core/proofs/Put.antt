@@ -4,7 +4,9 @@ use Rattle.std.specs.Prelude.{max}
 use Rattle.std.proofs.lemmas.Option.{same_Some}
 use mathlib.Core.Option.{some-ne-none}
 use Rattle.state_word.specs.declared.word.IoEnd.TheVariants.{WriteOk}
-use Rattle.page_layout.specs.Fields.{lsn_of}
+use lib.ListN.{length-replicate}
+use Rattle.page_layout.specs.Fields.{header_of, lsn_of}
+use Rattle.page_layout.specs.Soundness.{is_new_page, is_sound_page}
 use Rattle.pin_core.specs.declared.view.Io.TheVariants.{Quiet}
 use Rattle.pin_core.specs.declared.view.Link.{Link}
 use Rattle.pin_core.specs.declared.view.Seen.TheVariants as seen
@@ -22,7 +24,8 @@ use Rattle.history_core.specs.Device.{LogKind, take_log, leave_log, log_out, app
 use Rattle.history_core.specs.Steps.{aside, pool_after, stepped, looked, laned, new_entry, has_written, pools, lanes, writes, notes, logs, enters, loads_flushed, raises, Run, rests, goes}
 use Rattle.history_core.specs.Steps as steps
 use Rattle.history_core.specs.Sample.{sample_store, sample_lane, sample_log}
-use Rattle.history_core.specs.Put.{IsPut, put_entry, put_bytes, log_with, change, flush, write_out, PutRuns}
+use Rattle.history_core.specs.Miss.{miss_start, miss, fill}
+use Rattle.history_core.specs.Put.{IsPut, HasPut, some_page, put_entry, put_bytes, log_with, change, flush, write_out, PutRuns}
 use Rattle.history_core.proofs.Logs.{record_length}
 use Rattle.history_core.proofs.Miss.{view_of, pooled, paged, at_lane, noted, m23, filled, run_append, below, lane_one}
 use Rattle.grid.specs.Shape.{put}
@@ -200,9 +203,16 @@ one_record : (p : Page) → head_bytes 0 ++ put_bytes p ≡ log_bytes sample_sto
 unfolding records
 one_record p = ap (λ (l : List ℕ). head_bytes 0 ++ l) (sym (append-nil (put_bytes p)))
 
-pub puts : PutRuns
-puts p is = (
+may_put : IsPut some_page
+unfolding is_sound_page is_new_page header_of lsn_of
+may_put = record { sound = refl; used = refl; full = omega (arith, length-replicate {A = ℕ} 8168 0); ends = refl }
+
+every_put : (p : Page) → IsPut p → (t : State) × Run (miss ++ fill ++ change p ++ flush p ++ write_out p) miss_start t × HasPut p t
+every_put p is = (
   q32 p,
   run_append filled (run_append (changes p is) (run_append (flushes p is) (writes_out p is))),
   record { lane = refl; held = refl; clean = refl; logged = refl; bytes = one_record p; durable = refl; flushed = refl; called = (_, refl, refl, refl) },
 )
+
+pub puts : PutRuns
+puts = (may_put, every_put)

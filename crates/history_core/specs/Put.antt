@@ -1,5 +1,5 @@
 -- A put and a flush, for the definitions to be seen at work: a backend changes the page of a frame, whatever sound page of 8192 bytes it puts there, makes the log durable, and writes the page to its lane.
-use Rattle.std.specs.Prelude.{◌≡◌, ℕ, true, false, List, [], ◌∷◌, ◌++◌, length, Some}
+use Rattle.std.specs.Prelude.{◌≡◌, ℕ, true, false, List, [], ◌∷◌, ◌++◌, length, replicate, Some}
 use mathlib.Core.Option.{some}
 use lib.ListN.{get_elem?}
 use Rattle.state_word.specs.declared.word.IoEnd.TheVariants.{WriteOk}
@@ -25,6 +25,10 @@ pub record IsPut (p : Page) : Type 0 where
   pub used : is_new_page p ≡ false
   pub full : length p ≡ 8192
   pub ends : lsn_of p ≡ record_size
+
+-- such a page: an empty one, as far as its header goes, with this position
+abbrev pub some_page : Page
+some_page = (0 ∷ 0 ∷ 0 ∷ 0 ∷ 32 ∷ 32 ∷ 0 ∷ 0 ∷ 0 ∷ 0 ∷ 0 ∷ 0 ∷ 24 ∷ 0 ∷ 0 ∷ 32 ∷ 0 ∷ 32 ∷ 4 ∷ 32 ∷ 0 ∷ 0 ∷ 0 ∷ 0 ∷ []) ++ replicate 8168 0
 
 -- the entry of the page, the first of the log, and its bytes
 abbrev pub put_entry : Page → Entry
@@ -64,4 +68,4 @@ pub record HasPut (p : Page) (t : State) : Type 0 where
   pub called : (v : View) × (get_elem? t.pool.core.views 0 ≡ some v) × (v.calls ≡ Write 0 7 p record_size ∷ []) × (v.front ≡ record_size)
 
 abbrev pub PutRuns : Type 0
-PutRuns = (p : Page) → IsPut p → (t : State) × Run (miss ++ fill ++ change p ++ flush p ++ write_out p) miss_start t × HasPut p t
+PutRuns = IsPut some_page × ((p : Page) → IsPut p → (t : State) × Run (miss ++ fill ++ change p ++ flush p ++ write_out p) miss_start t × HasPut p t)
