@@ -13,6 +13,7 @@ pub mod Counts
 pub mod LogCounting
 pub mod Counting
 pub mod Opening
+pub mod Records
 pub mod Rest
 pub mod Sample
 pub mod Miss

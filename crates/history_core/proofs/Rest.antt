@@ -1,18 +1,19 @@
 -- Each step keeps the law of the bytes behind the log's, and so does each list of steps.
-use Rattle.std.proofs.Common.{◌≡◌, ◌≢◌, ℕ, ◌+◌, ◌≤◌, true, List, [], ◌∷◌, ◌++◌, length, length-append, append-nil, None, sym, refl, ap, ◌∙◌, arith, lit<}
+use Rattle.std.proofs.Common.{◌≡◌, ◌≢◌, ℕ, ◌+◌, ◌≤◌, true, List, [], ◌∷◌, ◌++◌, length, length-append, append-nil, replicate, None, sym, refl, ap, ◌∙◌, arith, lit<}
 use mathlib.Core.Option.{some}
-use lib.ListN.{get_elem?}
+use lib.ListN.{get_elem?, length-replicate}
 use Rattle.pin_core.specs.declared.view.LogHold.{LogHold}
 use Rattle.pin_core.specs.declared.view.View.{View}
 use Rattle.pin_core.specs.State.{Config, Page}
 use Rattle.pin_core.specs.Tallies.{some_weight}
-use Rattle.history_core.specs.Log.{Entry, log_bytes, record_bytes}
+use Rattle.history_core.specs.Log.{Entry, record_size, log_bytes, record_bytes}
 use Rattle.history_core.specs.State.{State, Store, Device, opening}
 use Rattle.history_core.specs.Device.{LogKind, take_log, leave_log, log_out, append, fail_append, sync_log, fail_sync, log_back, see_down, LogAllowed, device_after, view_logged, Written, DeviceLaw, LogLink, LogTally, holders, appenders, log_weigh, log_shape}
 use Rattle.history_core.specs.Invariant.{Invariant, written_of}
 use Rattle.history_core.specs.Steps.{Event, new_entry, AppendsRecord, aside, Step, pools, lanes, writes, notes, logs, enters, reads, loads_end, loads_flushed, raises, Run, rests, goes}
 use Rattle.history_core.specs.Rest.{NoneAppended, HasRest, RestLaw}
 use Rattle.history_core.proofs.Logs.{bytes_longer}
+use Rattle.history_core.proofs.Records.{whole_record}
 use Rattle.history_core.proofs.Opening.{head_only}
 use Rattle.history_core.proofs.Stepping.{step_keeps}
 use Rattle.grid.specs.Shape.{tallies}
@@ -37,7 +38,8 @@ nothing s e = record {
   rest = [];
   is_bytes = e ∙ sym (append-nil (log_bytes s.names s.log));
   number = 0;
-  begins = record { tag = 0; page = []; rest = record_bytes s.names (new_entry s 0 0 []); begins = refl };
+  begins = record { tag = 0; page = replicate 8192 0; rest = record_bytes s.names (new_entry s 0 0 (replicate 8192 0)); begins = refl };
+  full = length-replicate {A = ℕ} 8192 0;
   short = omega arith;
 }
 
@@ -48,6 +50,7 @@ same s t x bytes names log end = let b = x.begins in record {
   is_bytes = bytes ∙ x.is_bytes ∙ (λ j. log_bytes (sym names j) (sym log j) ++ x.rest);
   number = x.number;
   begins = record { tag = b.tag; page = b.page; rest = b.rest; begins = b.begins ∙ (λ j. record_bytes (sym names j) (record { start = sym end j; backend = x.number; tag = b.tag; image = b.page })) };
+  full = x.full;
   short = x.short;
 }
 
@@ -66,19 +69,21 @@ logged s h i fail_sync v there a r g x = same s _ x refl refl refl refl
 logged s h i (log_back noted) v there a r g x = same s _ x refl refl refl refl
 logged s h i see_down v there a r g x = same s _ x refl refl refl refl
 logged s h i (append f tag p bytes) v there a r g x = let w : View = view_logged (append f tag p bytes) v in
-    let y = (g.device.cells i w 0 (set_here s.pool.core.views i v w there) (lit< tt)).appended bytes refl in let full = y.full in record {
+    let y = (g.device.cells i w 0 (set_here s.pool.core.views i v w there) (lit< tt)).appended bytes refl in let long = y.full in let short : length bytes ≤ record_size = omega arith in let b = whole_record s.names (new_entry s v.number tag p) bytes [] (h.named tag) (append-nil bytes ∙ r) short in record {
       rest = bytes;
       is_bytes = y.is_bytes;
       number = v.number;
-      begins = record { tag = tag; page = p; rest = []; begins = append-nil bytes ∙ r };
-      short = omega arith;
+      begins = record { tag = tag; page = b.0; rest = b.1; begins = b.2 };
+      full = b.3;
+      short = short;
     }
 logged s h i (fail_append bytes) v there a r g x = let c = h.device.cells i v 0 there (lit< tt) in let q = h.device.columns 0 (lit< tt) in
-    let none = none_else (written_of s) s.device v.saw_down v.log (tallies log_shape s.pool.core.views 0) q c (λ k. term_le (λ (u : View). log_weigh k u.log) s.pool.core.views i v there) a.call.out a.entered in record {
+    let none = none_else (written_of s) s.device v.saw_down v.log (tallies log_shape s.pool.core.views 0) q c (λ k. term_le (λ (u : View). log_weigh k u.log) s.pool.core.views i v there) a.call.out a.entered in let b = whole_record s.names (new_entry s v.number r.tag r.page) bytes r.rest (h.named r.tag) r.begins a.part in record {
       rest = bytes;
       is_bytes = ap (λ (l : List ℕ). l ++ bytes) (q.bytes none a.call.up);
       number = v.number;
-      begins = record { tag = r.tag; page = r.page; rest = r.rest; begins = r.begins };
+      begins = record { tag = r.tag; page = b.0; rest = b.1; begins = b.2 };
+      full = b.3;
       short = a.part;
     }
 

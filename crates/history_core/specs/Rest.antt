@@ -11,13 +11,15 @@ use Rattle.history_core.specs.Steps.{BeginsRecord}
 abbrev pub NoneAppended : State → Type 0
 NoneAppended s = (i : ℕ) (v : View) → get_elem? s.pool.core.views i ≡ some v → v.log.appended ≡ None
 
--- Behind the log's bytes the device has the first bytes of the record of some entry that starts at the log's end, at most all of them
+-- Behind the log's bytes the device has the first bytes of the record of some entry that starts at the log's end, none, some or all of them
 pub record HasRest (s : State) : Type 0 where
   pub rest : List ℕ
   pub is_bytes : s.device.bytes ≡ log_bytes s.names s.log ++ rest
   -- the number of the backend that would make the entry
   pub number : ℕ
   pub begins : BeginsRecord s number rest
+  -- the entry's page is whole
+  pub full : length begins.page ≡ 8192
   pub short : length rest ≤ record_size
 
 -- The law of the device's bytes
