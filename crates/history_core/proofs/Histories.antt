@@ -26,6 +26,7 @@ use Rattle.history_core.specs.Homes.{IsUnframed}
 use Rattle.history_core.specs.Invariant.{Invariant}
 use Rattle.history_core.specs.Steps.{looked, stepped, laned, lanes, paged, has_read, has_written, new_entry, Writes, writes, enters, reads}
 use Rattle.history_core.specs.Histories.{IsReached, CallsAreLegal, JoinedAreApart, CallsAreOwn, FrontsAreReached, CallsAreInOrder, LoadedIsFlushed, LanesGoOutFlushed, NotedWritesAreDone, holds_log, LogIsHeld, WritesAreEntries, ReadsStand, WritesStand, LogBeforeData, LanesHoldFlushedPages, IsStored, CleanBlocksAreStored, FramesAreSound, FramesHoldCells, LogWords, holds_lane, LanesAreHeld, EntriesAreDurable, DeviceHoldsLog}
+use Rattle.history_core.specs.Rest.{RestLaw}
 use Rattle.history_core.proofs.Logs.{end_longer, cell_longer}
 use Rattle.history_core.proofs.Opening.{opens}
 use Rattle.history_core.proofs.Stepping.{step_keeps, run_keeps}
@@ -196,10 +197,10 @@ module _ (s : State) (h : Invariant s) where
   pub held : LanesAreHeld s
   held n below = sym (total-count (λ (v : View). flag_weight (lane_hold v n).held) (holds_lane n) (λ v. flag_cond (lane_hold v n).held) s.pool.core.views) ∙ sym (h.lanes.columns n below).taken ∙ flag_count (s.lane n).taken
 
-  pub device_holds : DeviceHoldsLog s
-  device_holds = let d = h.device.columns 0 (lit< tt) in record {
+  pub device_holds : RestLaw s → DeviceHoldsLog s
+  device_holds m = let d = h.device.columns 0 (lit< tt) in record {
     whole = λ up none. d.bytes (total-none (λ (v : View). log_weigh appenders v.log) s.pool.core.views (λ i v there. ap some_weight (none i v there))) up;
-    left = d.left;
+    left = λ e. m.behind;
     down = d.down;
     rose = d.rose;
     saw = λ i v there. (h.device.cells i v 0 there (lit< tt)).saw;

@@ -16,7 +16,11 @@ pub mod Counts
 pub mod LogCounting
 pub mod Counting
 pub mod Opening
+pub mod Records
+pub mod Rest
 pub mod Sample
 pub mod Miss
+pub mod Put
 pub mod Staying
+pub mod KeptFlushed
 pub mod Histories

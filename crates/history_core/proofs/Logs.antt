@@ -112,7 +112,7 @@ records_longer names (x ∷ es) e = ap (λ (l : List ℕ). record_bytes names x 
 pub bytes_longer : (names : ℕ → List ℕ) (log : Log) (e : Entry) → log_bytes names (record log { entries = log.entries ++ e ∷ [] }) ≡ log_bytes names log ++ record_bytes names e
 bytes_longer names log e = ap (λ (l : List ℕ). head_bytes log.base ++ l) (records_longer names log.entries e) ∙ sym (append_assoc (head_bytes log.base) (records names log.entries) (record_bytes names e))
 
-record_length : (names : ℕ → List ℕ) (e : Entry) → length (names e.tag) ≡ 20 → length e.image ≡ 8192 → length (record_bytes names e) ≡ record_size
+pub record_length : (names : ℕ → List ℕ) (e : Entry) → length (names e.tag) ≡ 20 → length e.image ≡ 8192 → length (record_bytes names e) ≡ record_size
 record_length names e a b = let kind : length (little_bytes 4 1) ≡ 4 = refl in let start : length (little_bytes 8 e.start) ≡ 8 = refl in
     omega (arith, length-append (little_bytes 4 1) (names e.tag ++ (little_bytes 8 e.start ++ e.image)), length-append (names e.tag) (little_bytes 8 e.start ++ e.image), length-append (little_bytes 8 e.start) e.image, a, b)
 

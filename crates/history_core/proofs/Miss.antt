@@ -1,5 +1,5 @@
 -- The events of the miss are steps.
-use Rattle.std.proofs.Common.{◌≡◌, ◌≢◌, ◌<◌, ℕ, zero, suc, true, false, [], ◌∷◌, List, slice_index_or, None, lit<, refl, sym, subst, arith}
+use Rattle.std.proofs.Common.{◌≡◌, ◌≢◌, ◌<◌, ℕ, zero, suc, true, false, [], ◌∷◌, ◌++◌, List, slice_index_or, None, lit<, refl, sym, subst, arith}
 use Rattle.state_word.specs.declared.word.IoEnd.TheVariants.{ReadOk}
 use Rattle.pin_core.specs.declared.view.Role.TheVariants.{Victim}
 use Rattle.pin_core.specs.declared.view.Io.TheVariants.{Quiet}
@@ -23,28 +23,28 @@ use Rattle.page_core.specs.Steps.{HasNoWriteOut, IsWriteOf}
 use Rattle.page_core.specs.Sample.{sample_page, sample_entry}
 use Rattle.history_core.specs.State.{State}
 use Rattle.history_core.specs.Lanes.{LaneKind, take_lane, leave_lane, lane_out, read_block, lane_back, CanTakeOut, lane_after}
-use Rattle.history_core.specs.Steps.{aside, pool_after, stepped, looked, laned, has_read, pools, lanes, notes, reads, rests, goes}
+use Rattle.history_core.specs.Steps.{Event, aside, pool_after, stepped, looked, laned, has_read, pools, lanes, notes, reads, Run, rests, goes}
 use Rattle.history_core.specs.Steps as steps
 use Rattle.history_core.specs.Sample.{sample_lane}
-use Rattle.history_core.specs.Miss.{miss_start, MissRuns}
+use Rattle.history_core.specs.Miss.{miss_start, miss, fill, MissRuns}
 use Rattle.grid.specs.Shape.{put}
 
-abbrev view_of : State → View
+abbrev pub view_of : State → View
 view_of s = slice_index_or s.pool.core.views 0 emptied_view
 
-abbrev pooled : pins.Kind → State → State
+abbrev pub pooled : pins.Kind → State → State
 pooled k s = record s { pool = record s.pool { core = pin_steps.state_after k s.pool.core 0 0 (view_of s) } }
 
 abbrev turned : TurnKind → State → State
 turned k s = record s { pool = record s.pool { core = pin_steps.state_turned k s.pool.core 0 0 (view_of s) } }
 
-abbrev paged : Kind → State → State
+abbrev pub paged : Kind → State → State
 paged k s = record s { pool = page_steps.state_after k s.pool 0 0 (view_of s) }
 
-abbrev at_lane : LaneKind → State → State
+abbrev pub at_lane : LaneKind → State → State
 at_lane k s = record s { pool = aside s.pool 0 (stepped (laned k 0 (view_of s) (view_of s))); lane = put s.lane 0 (lane_after k (s.lane 0)) }
 
-abbrev noted : Kind → State → State
+abbrev pub noted : Kind → State → State
 noted k s = record s { pool = pool_after k (steps.pool_noting k s 0) 0 0 (laned (lane_back false) 0 (view_of s) (steps.paged k (steps.pool_noting k s 0) 0 (view_of s))); lane = put s.lane 0 (lane_after (lane_back false) (s.lane 0)) }
 
 abbrev m0 : State
@@ -116,7 +116,7 @@ m21 = pooled pins.lock_header m20
 abbrev m22 : State
 m22 = paged (end_io ReadOk) m21
 
-abbrev m23 : State
+abbrev pub m23 : State
 m23 = pooled pins.load_state m22
 
 abbrev m24 : State
@@ -134,54 +134,62 @@ m27 = paged page_back m26
 abbrev m28 : State
 m28 = paged leave_copy m27
 
-lane_one : (l : List LaneHold) (a : LaneHold) → l ≡ a ∷ [] → a.out ≡ None → (n : ℕ) → (slice_index_or l n no_lane).out ≡ None
+pub lane_one : (l : List LaneHold) (a : LaneHold) → l ≡ a ∷ [] → a.out ≡ None → (n : ℕ) → (slice_index_or l n no_lane).out ≡ None
 lane_one l a e x n = subst (λ (y : List LaneHold). (slice_index_or y n no_lane).out ≡ None) (sym e) (cases n)
   where
     cases : (n : ℕ) → (slice_index_or (a ∷ []) n no_lane).out ≡ None
     cases zero = x
     cases (suc n) = refl
 
-no_write : HasNoWriteOut (view_of m21) 0
+pub no_write : HasNoWriteOut (view_of m21) 0
 no_write n out = absurd (out (lane_one (view_of m21).lanes _ refl refl n))
 
-goes_out : CanTakeOut sample_lane (m13.lane 0) (lane_hold (view_of m13) 0)
+pub goes_out : CanTakeOut sample_lane (m13.lane 0) (lane_hold (view_of m13) 0)
 goes_out = record { held = refl; home = refl; reads = refl; writes = refl; pages = λ blocks k b e at. absurd (cc); failed = λ tag e. absurd (cc); only_failed = λ k tag at. absurd (some-ne-none tag (sym at)) }
 
-below : (n : ℕ) → n < 0 → false ≡ true
+pub below : (n : ℕ) → n < 0 → false ≡ true
 below n z = absurd (omega arith)
+
+pub run_append : {es fs : List Event} {s t u : State} → Run es s t → Run fs t u → Run (es ++ fs) s u
+run_append rests r = r
+run_append (goes x r) q = goes x (run_append r q)
+
+-- the block's page is in the frame
+pub filled : Run (miss ++ fill) miss_start m23
+filled = goes (pools (page_steps.cores (pin_steps.turns 0 0 take_turn (view_of m0) refl refl (lit< tt) (record { free = refl }))) tt)
+    (goes (pools (page_steps.cores (pin_steps.touches 0 0 pins.lock_header (view_of m1) refl refl (lit< tt) (record { unlocked = refl }) (at_frame (λ (l : Link). l.header ≡ None) (view_of m1) _ refl refl refl))) tt)
+    (goes (pools (page_steps.cores (pin_steps.touches 0 0 pins.pin_victim (view_of m2) refl refl (lit< tt) (record { held = refl; absent = refl; room = λ e. refl }) (at_frame (λ (l : Link). l.role ≢ Victim) (view_of m2) _ refl (λ e. cc) (λ e. cc)))) tt)
+    (goes (pools (page_steps.cores (pin_steps.touches 0 0 pins.lock_header (view_of m3) refl refl (lit< tt) (record { unlocked = refl }) (at_frame (λ (l : Link). l.header ≡ None) (view_of m3) _ refl refl refl))) tt)
+    (goes (pools (page_steps.cores (pin_steps.touches 0 0 (pins.store_tag 7) (view_of m4) refl refl (lit< tt) (record { alone = record { held = refl; settled = refl; single = refl; victim = refl; no_content = refl; no_io = refl }; named = named; packed = packed; untagged = refl }) (record { naming = record { held = refl; unchanged = refl; settled = (at_partition (λ (h : PartitionHold). h.change ≡ Settled) (view_of m4) _ refl refl refl) }; lacking = refl }))) tt)
+    (goes (pools (page_steps.cores (pin_steps.touches 0 0 pins.assign (view_of m5) refl refl (lit< tt) (record { held = refl; stored = refl; named = named }) tt)) tt)
+    (goes (pools (page_steps.cores (pin_steps.turns 0 0 (map_out []) (view_of m6) refl refl (lit< tt) (record { held = refl; home = refl; entries_are = no_entries }))) tt)
+    (goes (pools (page_steps.cores (pin_steps.turns 0 0 change_map (view_of m7) refl refl (lit< tt) (record { out = λ e. cc; unchanged = refl; named = λ e. cc }))) tt)
+    (goes (pools (page_steps.cores (pin_steps.turns 0 0 (map_back (sample_entry ∷ [])) (view_of m8) refl refl (lit< tt) (record { out = λ e. cc; entries_are = one_entry }))) tt)
+    (goes (pools (page_steps.cores (pin_steps.turns 0 0 leave_turn (view_of m9) refl refl (lit< tt) (record { held = refl; home = refl; settled = refl }))) tt)
+    (goes (pools (page_steps.cores (pin_steps.touches 0 0 pins.lock_header (view_of m10) refl refl (lit< tt) (record { unlocked = refl }) (at_frame (λ (l : Link). l.header ≡ None) (view_of m10) _ refl refl refl))) tt)
+    (goes (pools (page_steps.touches 0 0 start_input (view_of m11) refl refl (lit< tt) (record { held = refl; settled = refl; pinned = λ e. cc; clear = refl; tagged = refl; invalid = refl }) (at_frame (λ (l : Link). l.io ≡ Quiet) (view_of m11) _ refl refl refl)) tt)
+    (goes (lanes 0 0 take_lane (view_of m12) refl refl (lit< tt) (record { free = refl }) tt)
+    (goes (lanes 0 0 (lane_out sample_lane) (view_of m13) refl refl (lit< tt) goes_out tt)
+    (goes (lanes 0 0 (read_block 7 sample_page) (view_of m14) refl refl (lit< tt) (record { call = record { out = λ e. cc; once = refl }; given = λ e. refl }) refl)
+    (goes (notes 0 0 0 false (note_read sample_page) (view_of m15) refl refl (lit< tt) (lit< tt) (record { out = λ e. cc; counts = λ taken e. record { failed = λ z. absurd (cc); read_rose = λ z. below taken.read_faults z; write_rose = λ z. below taken.write_faults z } }) (record { was_read = refl; lane = refl; right = refl; fresh = refl }))
+    (goes (lanes 0 0 leave_lane (view_of m16) refl refl (lit< tt) (record { held = refl; home = refl }) tt)
+    (goes (pools (page_steps.touches 0 0 page_out (view_of m17) refl refl (lit< tt) (record { page_home = refl; shared = λ e. absurd (cc); unlocked = λ e. refl }) tt) tt)
+    (goes (pools (page_steps.touches 0 0 (overwrite_read sample_page) (view_of m18) refl refl (lit< tt) (record { out = λ e. cc; once = refl; right = refl; read = refl }) tt) tt)
+    (goes (pools (page_steps.touches 0 0 page_back (view_of m19) refl refl (lit< tt) (record { out = λ e. cc }) tt) tt)
+    (goes (pools (page_steps.cores (pin_steps.touches 0 0 pins.lock_header (view_of m20) refl refl (lit< tt) (record { unlocked = refl }) (at_frame (λ (l : Link). l.header ≡ None) (view_of m20) _ refl refl refl))) tt)
+    (goes (pools (page_steps.touches 0 0 (end_io ReadOk) (view_of m21) refl refl (lit< tt) (record { held = refl; page_home = λ e. refl; ends = record { right = refl; read = λ e. cc; sound = sound_read; home = refl } }) no_write) tt)
+    (goes (pools (page_steps.cores (pin_steps.touches 0 0 pins.load_state (view_of m22) refl refl (lit< tt) tt tt)) tt)
+    rests))))))))))))))))))))))
 
 pub misses : MissRuns
 misses = (
   record m28 { pool = aside m28.pool 0 (looked (seen.LogEnd m28.end) (has_read m28.end 7 sample_page (view_of m28))) },
-  (goes (pools (page_steps.cores (pin_steps.turns 0 0 take_turn (view_of m0) refl refl (lit< tt) (record { free = refl }))) tt)
-      (goes (pools (page_steps.cores (pin_steps.touches 0 0 pins.lock_header (view_of m1) refl refl (lit< tt) (record { unlocked = refl }) (at_frame (λ (l : Link). l.header ≡ None) (view_of m1) _ refl refl refl))) tt)
-      (goes (pools (page_steps.cores (pin_steps.touches 0 0 pins.pin_victim (view_of m2) refl refl (lit< tt) (record { held = refl; absent = refl; room = λ e. refl }) (at_frame (λ (l : Link). l.role ≢ Victim) (view_of m2) _ refl (λ e. cc) (λ e. cc)))) tt)
-      (goes (pools (page_steps.cores (pin_steps.touches 0 0 pins.lock_header (view_of m3) refl refl (lit< tt) (record { unlocked = refl }) (at_frame (λ (l : Link). l.header ≡ None) (view_of m3) _ refl refl refl))) tt)
-      (goes (pools (page_steps.cores (pin_steps.touches 0 0 (pins.store_tag 7) (view_of m4) refl refl (lit< tt) (record { alone = record { held = refl; settled = refl; single = refl; victim = refl; no_content = refl; no_io = refl }; named = named; packed = packed; untagged = refl }) (record { naming = record { held = refl; unchanged = refl; settled = (at_partition (λ (h : PartitionHold). h.change ≡ Settled) (view_of m4) _ refl refl refl) }; lacking = refl }))) tt)
-      (goes (pools (page_steps.cores (pin_steps.touches 0 0 pins.assign (view_of m5) refl refl (lit< tt) (record { held = refl; stored = refl; named = named }) tt)) tt)
-      (goes (pools (page_steps.cores (pin_steps.turns 0 0 (map_out []) (view_of m6) refl refl (lit< tt) (record { held = refl; home = refl; entries_are = no_entries }))) tt)
-      (goes (pools (page_steps.cores (pin_steps.turns 0 0 change_map (view_of m7) refl refl (lit< tt) (record { out = λ e. cc; unchanged = refl; named = λ e. cc }))) tt)
-      (goes (pools (page_steps.cores (pin_steps.turns 0 0 (map_back (sample_entry ∷ [])) (view_of m8) refl refl (lit< tt) (record { out = λ e. cc; entries_are = one_entry }))) tt)
-      (goes (pools (page_steps.cores (pin_steps.turns 0 0 leave_turn (view_of m9) refl refl (lit< tt) (record { held = refl; home = refl; settled = refl }))) tt)
-      (goes (pools (page_steps.cores (pin_steps.touches 0 0 pins.lock_header (view_of m10) refl refl (lit< tt) (record { unlocked = refl }) (at_frame (λ (l : Link). l.header ≡ None) (view_of m10) _ refl refl refl))) tt)
-      (goes (pools (page_steps.touches 0 0 start_input (view_of m11) refl refl (lit< tt) (record { held = refl; settled = refl; pinned = λ e. cc; clear = refl; tagged = refl; invalid = refl }) (at_frame (λ (l : Link). l.io ≡ Quiet) (view_of m11) _ refl refl refl)) tt)
-      (goes (lanes 0 0 take_lane (view_of m12) refl refl (lit< tt) (record { free = refl }) tt)
-      (goes (lanes 0 0 (lane_out sample_lane) (view_of m13) refl refl (lit< tt) goes_out tt)
-      (goes (lanes 0 0 (read_block 7 sample_page) (view_of m14) refl refl (lit< tt) (record { call = record { out = λ e. cc; once = refl }; given = λ e. refl }) refl)
-      (goes (notes 0 0 0 false (note_read sample_page) (view_of m15) refl refl (lit< tt) (lit< tt) (record { out = λ e. cc; counts = λ taken e. record { failed = λ z. absurd (cc); read_rose = λ z. below taken.read_faults z; write_rose = λ z. below taken.write_faults z } }) (record { was_read = refl; lane = refl; right = refl; fresh = refl }))
-      (goes (lanes 0 0 leave_lane (view_of m16) refl refl (lit< tt) (record { held = refl; home = refl }) tt)
-      (goes (pools (page_steps.touches 0 0 page_out (view_of m17) refl refl (lit< tt) (record { page_home = refl; shared = λ e. absurd (cc); unlocked = λ e. refl }) tt) tt)
-      (goes (pools (page_steps.touches 0 0 (overwrite_read sample_page) (view_of m18) refl refl (lit< tt) (record { out = λ e. cc; once = refl; right = refl; read = refl }) tt) tt)
-      (goes (pools (page_steps.touches 0 0 page_back (view_of m19) refl refl (lit< tt) (record { out = λ e. cc }) tt) tt)
-      (goes (pools (page_steps.cores (pin_steps.touches 0 0 pins.lock_header (view_of m20) refl refl (lit< tt) (record { unlocked = refl }) (at_frame (λ (l : Link). l.header ≡ None) (view_of m20) _ refl refl refl))) tt)
-      (goes (pools (page_steps.touches 0 0 (end_io ReadOk) (view_of m21) refl refl (lit< tt) (record { held = refl; page_home = λ e. refl; ends = record { right = refl; read = λ e. cc; sound = sound_read; home = refl } }) no_write) tt)
-      (goes (pools (page_steps.cores (pin_steps.touches 0 0 pins.load_state (view_of m22) refl refl (lit< tt) tt tt)) tt)
-      (goes (pools (page_steps.touches 0 0 share (view_of m23) refl refl (lit< tt) (record { pinned = λ e. cc; seen = refl; none = refl; free = refl }) tt) tt)
+  run_append filled (goes (pools (page_steps.touches 0 0 share (view_of m23) refl refl (lit< tt) (record { pinned = λ e. cc; seen = refl; none = refl; free = refl }) tt) tt)
       (goes (pools (page_steps.touches 0 0 take_copy (view_of m24) refl refl (lit< tt) (record { right = refl; free = refl }) tt) tt)
       (goes (pools (page_steps.touches 0 0 page_out (view_of m25) refl refl (lit< tt) (record { page_home = refl; shared = λ e. refl; unlocked = λ e. absurd (cc) }) tt) tt)
       (goes (pools (page_steps.touches 0 0 page_back (view_of m26) refl refl (lit< tt) (record { out = λ e. cc }) tt) tt)
       (goes (pools (page_steps.touches 0 0 leave_copy (view_of m27) refl refl (lit< tt) (record { right = refl; page_home = refl }) tt) tt)
       (goes (reads 0 0 7 sample_page (view_of m28) refl refl (lit< tt) (record { right = λ e. cc; copied = refl; settled = refl; remembered = refl }))
-      rests))))))))))))))))))))))))))))),
+      rests)))))),
   record { held = refl; called = (_, refl, refl, refl) },
 )

@@ -32,7 +32,7 @@ cut_none : (p : ℕ) → cut p [] ≡ []
 unfolding cut
 cut_none p = refl
 
-head_only : (names : ℕ → List ℕ) (base : ℕ) → head_bytes base ≡ head_bytes base ++ records names []
+pub head_only : (names : ℕ → List ℕ) (base : ℕ) → head_bytes base ≡ head_bytes base ++ records names []
 unfolding records
 head_only names base = sym (append-nil (head_bytes base))
 

@@ -18,9 +18,10 @@ use Rattle.history_core.specs.Log.{Entry, log_end, end_of, cell, cut, head_size,
 use Rattle.history_core.specs.State.{State, Store, CanStore, stored, failed, last_position, opening}
 use Rattle.history_core.specs.Homes.{home_of, IsFlushedCell}
 use Rattle.history_core.specs.Lanes.{LaneKind, lane_out}
-use Rattle.history_core.specs.Device.{IsLeft, HasRisen}
-use Rattle.history_core.specs.Invariant.{HasNumber, KeptLaw, written_of}
+use Rattle.history_core.specs.Device.{HasRisen}
+use Rattle.history_core.specs.Invariant.{HasNumber, KeptLaw}
 use Rattle.history_core.specs.Steps.{Event, pool, lane, write, enter, read, new_entry, Step, Run}
+use Rattle.history_core.specs.Rest.{NoneAppended, HasRest}
 use Rattle.grid.specs.Shape.{total}
 
 -- a list of events leads to the state, from the start of a buffer pool over these lanes
@@ -55,6 +56,22 @@ LeavesCalls (read j f) i = i ≢ j
 LeavesCalls (enter j f p) i = i ≢ j
 LeavesCalls (pool (page_steps.pins_and_maps (pin_steps.join j))) i = (i ≢ 0) × (i ≢ j)
 LeavesCalls _ i = Unit {0}
+
+-- the event doesn't take the lane n out by backend i, nor join that backend into the first
+abbrev pub LeavesHold : Event → ℕ → ℕ → Type 0
+LeavesHold (lane j m (lane_out taken)) i n = ¬ ((i ≡ j) × (n ≡ m))
+LeavesHold (pool (page_steps.pins_and_maps (pin_steps.join j))) i n = i ≢ j
+LeavesHold _ i n = Unit {0}
+
+-- View i among these has kept the flushed position that v keeps with the lane n
+pub record HasKeptFlushed (views : List View) (i n : ℕ) (v : View) : Type 0 where
+  pub view : View
+  pub there : get_elem? views i ≡ some view
+  pub flushed : (lane_hold view n).flushed ≡ (lane_hold v n).flushed
+
+-- no other event changes the flushed position that a backend keeps with a lane
+abbrev pub HoldsKeepFlushed : State → Type 0
+HoldsKeepFlushed s = (e : Event) (t : State) → Step e s t → (i n : ℕ) (v : View) → get_elem? s.pool.core.views i ≡ some v → LeavesHold e i n → HasKeptFlushed t.pool.core.views i n v
 
 -- View i among these has the calls and the front of v
 pub record HasCallsOf (views : List View) (i : ℕ) (v : View) : Type 0 where
@@ -181,16 +198,12 @@ pub record LogWords (s : State) : Type 0 where
 abbrev pub EntriesAreDurable : State → Type 0
 EntriesAreDurable s = (k : ℕ) (e : Entry) → get_elem? s.log.entries k ≡ some e → end_of e ≤ s.flushed → head_size + end_of e ≤ s.log.base + s.device.synced
 
--- no view has appended a record that is not part of the log yet
-abbrev pub NoneAppended : State → Type 0
-NoneAppended s = (i : ℕ) (v : View) → get_elem? s.pool.core.views i ≡ some v → v.log.appended ≡ None
-
 -- What the log's device holds
 pub record DeviceHoldsLog (s : State) : Type 0 where
   -- the log's bytes, while it isn't down and no record is appended that is not part of it yet
   pub whole : s.device.down ≡ None → NoneAppended s → s.device.bytes ≡ log_bytes s.names s.log
-  -- once a call failed, these and behind them at most a record's bytes
-  pub left : s.device.down ≢ None → IsLeft (written_of s) s.device
+  -- once a call failed, these and behind them the first bytes of one record, that of an entry which starts at the log's end, or all of them, or none
+  pub left : s.device.down ≢ None → HasRest s
   -- the log is down at its end
   pub down : (p : ℕ) → s.device.down ≡ Some p → p ≡ s.end
   -- and only where a call of its device failed since the start

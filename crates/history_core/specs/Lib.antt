@@ -3,6 +3,7 @@ pub mod State
 pub mod Lanes
 pub mod Device
 pub mod Steps
+pub mod Rest
 pub mod Homes
 pub mod Invariant
 pub mod Causes
@@ -11,3 +12,4 @@ pub mod Counts
 pub mod Histories
 pub mod Sample
 pub mod Miss
+pub mod Put

@@ -10,10 +10,12 @@ ghost use Rattle.history_core.specs.State.{CanStore, State, Store, opening};
 ghost use Rattle.history_core.specs.Invariant.{Invariant};
 ghost use Rattle.history_core.specs.Causes.{MarksLaw};
 ghost use Rattle.history_core.specs.Counts.{CountsLaw};
+ghost use Rattle.history_core.specs.Rest.{RestLaw};
 ghost use Rattle.history_core.specs.Steps.{Event, Run};
 ghost use Rattle.history_core.specs.Sample.{SampleRuns};
 ghost use Rattle.history_core.specs.Miss.{MissRuns};
-ghost use Rattle.history_core.specs.Histories.{IsReached, CallsAreLegal, JoinedAreApart, CallsAreOwn, FrontsAreReached, CallsStay, CallsAreInOrder, LoadedIsFlushed, LanesGoOutFlushed, NotedWritesAreDone, LogIsHeld, WritesAreEntries, ReadsStand, WritesStand, LogBeforeData, LanesHoldFlushedPages, CleanBlocksAreStored, FramesAreSound, FramesHoldCells, LogWords, EntriesAreDurable, DeviceHoldsLog, LanesAreHeld};
+ghost use Rattle.history_core.specs.Put.{PutRuns};
+ghost use Rattle.history_core.specs.Histories.{IsReached, CallsAreLegal, JoinedAreApart, CallsAreOwn, FrontsAreReached, CallsStay, CallsAreInOrder, LoadedIsFlushed, LanesGoOutFlushed, HoldsKeepFlushed, NotedWritesAreDone, LogIsHeld, WritesAreEntries, ReadsStand, WritesStand, LogBeforeData, LanesHoldFlushedPages, CleanBlocksAreStored, FramesAreSound, FramesHoldCells, LogWords, EntriesAreDurable, DeviceHoldsLog, LanesAreHeld};
 
 /// What every list of events keeps, whatever the backends do and in whatever order.
 pub fn all_histories()
@@ -25,6 +27,8 @@ pub fn all_histories()
     ensures marks_open { (config : Config) (store : Store) (page : Page) → MarksLaw (opening config store page) }
     ensures counts_kept { (es : List Event) (s : State) (t : State) → Invariant s → CountsLaw s → Run es s t → CountsLaw t }
     ensures counts_open { (config : Config) (store : Store) (page : Page) → CountsLaw (opening config store page) }
+    ensures rest_kept { (es : List Event) (s : State) (t : State) → Invariant s → RestLaw s → Run es s t → RestLaw t }
+    ensures rest_open { (config : Config) (store : Store) (page : Page) → RestLaw (opening config store page) }
 
     // So in every state that events lead to, of what backends read and wrote:
     ensures legal { (s : State) → IsReached s → CallsAreLegal s }
@@ -40,12 +44,14 @@ pub fn all_histories()
     // of the log and the lanes:
     ensures log_first { (s : State) → IsReached s → LogBeforeData s }
     ensures go_out_flushed { (s : State) → IsReached s → LanesGoOutFlushed s }
+    ensures holds_keep { (s : State) → HoldsKeepFlushed s }
     ensures loaded { (s : State) → IsReached s → LoadedIsFlushed s }
     ensures lanes_hold { (s : State) → IsReached s → LanesHoldFlushedPages s }
     ensures noted_done { (s : State) → IsReached s → NotedWritesAreDone s }
     ensures clean_stored { (s : State) → IsReached s → CleanBlocksAreStored s }
     ensures words { (s : State) → IsReached s → LogWords s }
     ensures durable { (s : State) → IsReached s → EntriesAreDurable s }
+    ensures rests { (s : State) → IsReached s → RestLaw s }
     ensures device_holds { (s : State) → IsReached s → DeviceHoldsLog s }
     ensures held { (s : State) → IsReached s → LanesAreHeld s }
     ensures log_held { (s : State) → IsReached s → LogIsHeld s }
@@ -68,4 +74,9 @@ pub fn lane_read_and_log_flush()
 /// An example: a backend misses a block, reads it from its lane into a frame, copies the page and gives the read its place.
 pub fn miss_and_read()
     ensures { MissRuns }
+{}
+
+/// An example: a backend puts any sound page into a frame that it has read a block into, makes the log durable, and writes the page to the block's lane.
+pub fn put_and_flush()
+    ensures { PutRuns }
 {}

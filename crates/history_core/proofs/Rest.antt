@@ -1,0 +1,112 @@
+-- Each step keeps the law of the bytes behind the log's, and so does each list of steps.
+use Rattle.std.proofs.Common.{◌≡◌, ◌≢◌, ℕ, ◌+◌, ◌≤◌, true, List, [], ◌∷◌, ◌++◌, length, length-append, append-nil, replicate, None, sym, refl, ap, ◌∙◌, arith, lit<}
+use mathlib.Core.Option.{some}
+use lib.ListN.{get_elem?, length-replicate}
+use Rattle.pin_core.specs.declared.view.LogHold.{LogHold}
+use Rattle.pin_core.specs.declared.view.View.{View}
+use Rattle.pin_core.specs.State.{Config, Page}
+use Rattle.pin_core.specs.Tallies.{some_weight}
+use Rattle.history_core.specs.Log.{Entry, record_size, log_bytes, record_bytes}
+use Rattle.history_core.specs.State.{State, Store, Device, opening}
+use Rattle.history_core.specs.Device.{LogKind, take_log, leave_log, log_out, append, fail_append, sync_log, fail_sync, log_back, see_down, LogAllowed, device_after, view_logged, Written, DeviceLaw, LogLink, LogTally, holders, appenders, log_weigh, log_shape}
+use Rattle.history_core.specs.Invariant.{Invariant, written_of}
+use Rattle.history_core.specs.Steps.{Event, new_entry, AppendsRecord, aside, Step, pools, lanes, writes, notes, logs, enters, reads, loads_end, loads_flushed, raises, Run, rests, goes}
+use Rattle.history_core.specs.Rest.{NoneAppended, HasRest, RestLaw}
+use Rattle.history_core.proofs.Logs.{bytes_longer}
+use Rattle.history_core.proofs.Records.{whole_record}
+use Rattle.history_core.proofs.Opening.{head_only}
+use Rattle.history_core.proofs.Stepping.{step_keeps}
+use Rattle.grid.specs.Shape.{tallies}
+use Rattle.grid.proofs.Lists.{set_here}
+use Rattle.grid.proofs.Sums.{total-none, term_le}
+
+-- a list to which one is appended, and nothing comes of it
+none_behind : (a b : List ℕ) → a ≡ a ++ b → b ≡ []
+none_behind a [] e = refl
+none_behind a (x ∷ b) e = absurd (let y : length a ≡ length a + length (x ∷ b) = ap (λ (l : List ℕ). length l) e ∙ length-append a (x ∷ b) in omega arith)
+
+-- while no record is appended and the log isn't down the device has the log's bytes
+pub whole : (s : State) → Invariant s → NoneAppended s → s.device.down ≡ None → s.device.bytes ≡ log_bytes s.names s.log
+whole s h none up = (h.device.columns 0 (lit< tt)).bytes (total-none (λ (v : View). log_weigh appenders v.log) s.pool.core.views (λ i v there. ap some_weight (none i v there))) up
+
+law_of : (s : State) → Invariant s → HasRest s → RestLaw s
+law_of s h x = record { behind = x; none = λ none up. none_behind (log_bytes s.names s.log) x.rest (sym (whole s h none up) ∙ x.is_bytes) }
+
+-- nothing stands behind the log's bytes
+nothing : (s : State) → s.device.bytes ≡ log_bytes s.names s.log → HasRest s
+nothing s e = record {
+  rest = [];
+  is_bytes = e ∙ sym (append-nil (log_bytes s.names s.log));
+  number = 0;
+  begins = record { tag = 0; page = replicate 8192 0; rest = record_bytes s.names (new_entry s 0 0 (replicate 8192 0)); begins = refl };
+  full = length-replicate {A = ℕ} 8192 0;
+  short = omega arith;
+}
+
+-- the log and its device's bytes stay
+same : (s t : State) → HasRest s → t.device.bytes ≡ s.device.bytes → t.names ≡ s.names → t.log ≡ s.log → t.end ≡ s.end → HasRest t
+same s t x bytes names log end = let b = x.begins in record {
+  rest = x.rest;
+  is_bytes = bytes ∙ x.is_bytes ∙ (λ j. log_bytes (sym names j) (sym log j) ++ x.rest);
+  number = x.number;
+  begins = record { tag = b.tag; page = b.page; rest = b.rest; begins = b.begins ∙ (λ j. record_bytes (sym names j) (record { start = sym end j; backend = x.number; tag = b.tag; image = b.page })) };
+  full = x.full;
+  short = x.short;
+}
+
+-- the holder of the latch that has no record appended is alone in that
+none_else : (w : Written) (d : Device) (saw : _) (h : LogHold) (t : LogTally → ℕ) → DeviceLaw w d t → LogLink w d saw h → ((k : LogTally) → log_weigh k h ≤ t k) → h.out ≢ None → h.appended ≡ None → t appenders ≡ 0
+none_else w d saw h t q c le out none = let held : h.held ≡ true = grind (arith, c, out) in grind (arith, q, c, le holders, held, none)
+
+-- a step at the log
+logged : (s : State) (h : Invariant s) (i : ℕ) (k : LogKind) (v : View) → get_elem? s.pool.core.views i ≡ some v → LogAllowed k s.device v.log → AppendsRecord k s v.number → Invariant (record s { pool = aside s.pool i (view_logged k v); device = device_after k s.end s.device }) → HasRest s
+    → HasRest (record s { pool = aside s.pool i (view_logged k v); device = device_after k s.end s.device })
+logged s h i take_log v there a r g x = same s _ x refl refl refl refl
+logged s h i leave_log v there a r g x = same s _ x refl refl refl refl
+logged s h i (log_out taken) v there a r g x = same s _ x refl refl refl refl
+logged s h i sync_log v there a r g x = same s _ x refl refl refl refl
+logged s h i fail_sync v there a r g x = same s _ x refl refl refl refl
+logged s h i (log_back noted) v there a r g x = same s _ x refl refl refl refl
+logged s h i see_down v there a r g x = same s _ x refl refl refl refl
+logged s h i (append f tag p bytes) v there a r g x = let w : View = view_logged (append f tag p bytes) v in
+    let y = (g.device.cells i w 0 (set_here s.pool.core.views i v w there) (lit< tt)).appended bytes refl in let long = y.full in let short : length bytes ≤ record_size = omega arith in let b = whole_record s.names (new_entry s v.number tag p) bytes [] (h.named tag) (append-nil bytes ∙ r) short in record {
+      rest = bytes;
+      is_bytes = y.is_bytes;
+      number = v.number;
+      begins = record { tag = tag; page = b.0; rest = b.1; begins = b.2 };
+      full = b.3;
+      short = short;
+    }
+logged s h i (fail_append bytes) v there a r g x = let c = h.device.cells i v 0 there (lit< tt) in let q = h.device.columns 0 (lit< tt) in
+    let none = none_else (written_of s) s.device v.saw_down v.log (tallies log_shape s.pool.core.views 0) q c (λ k. term_le (λ (u : View). log_weigh k u.log) s.pool.core.views i v there) a.call.out a.entered in let b = whole_record s.names (new_entry s v.number r.tag r.page) bytes r.rest (h.named r.tag) r.begins a.part in record {
+      rest = bytes;
+      is_bytes = ap (λ (l : List ℕ). l ++ bytes) (q.bytes none a.call.up);
+      number = v.number;
+      begins = record { tag = r.tag; page = b.0; rest = b.1; begins = b.2 };
+      full = b.3;
+      short = a.part;
+    }
+
+behind_after : {e : Event} {s t : State} → Step e s t → Invariant s → Invariant t → HasRest s → HasRest t
+behind_after (pools {s = s} x a) h g m = same s _ m refl refl refl refl
+behind_after (lanes {s = s} i q k v there live low a alone) h g m = same s _ m refl refl refl refl
+behind_after (writes {s = s} i q f k v there live low inside a x) h g m = same s _ m refl refl refl refl
+behind_after (notes {s = s} i q f noted k v there live low inside a x) h g m = same s _ m refl refl refl refl
+behind_after (logs {s = s} i k v there live a record_is) h g m = logged s h i k v there a record_is g m
+behind_after (enters {s = s} i f p v there live inside x) h g m = let e : Entry = new_entry s v.number (s.pool.core.frame f).tag p in
+    nothing _ (((h.device.cells i v 0 there (lit< tt)).appended (record_bytes s.names e) x.appended).is_bytes ∙ sym (bytes_longer s.names s.log e))
+behind_after (reads {s = s} i f tag p v there live inside a) h g m = same s _ m refl refl refl refl
+behind_after (loads_end {s = s} i v there live) h g m = same s _ m refl refl refl refl
+behind_after (loads_flushed {s = s} i v there live) h g m = same s _ m refl refl refl refl
+behind_after (raises {s = s} i v there live synced) h g m = same s _ m refl refl refl refl
+
+pub rest_kept : {e : Event} {s t : State} → Step e s t → Invariant s → RestLaw s → RestLaw t
+rest_kept {t = t} x h m = let g = step_keeps x h in law_of t g (behind_after x h g m.behind)
+
+pub rest_after : {es : List Event} {s t : State} → Run es s t → Invariant s → RestLaw s → RestLaw t
+rest_after rests h m = m
+rest_after (goes x r) h m = rest_after r (step_keeps x h) (rest_kept x h m)
+
+pub rest_open : (c : Config) (store : Store) (page : Page) → RestLaw (opening c store page)
+unfolding nothing
+rest_open c store page = record { behind = nothing (opening c store page) (head_only store.names c.base); none = λ none up. refl }
