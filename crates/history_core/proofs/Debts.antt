@@ -199,6 +199,7 @@ module _ (t : Taken) (n : ℕ) (frame : ℕ → Frame) (end : ℕ) (f : ℕ) (fr
 
   pub debts_touched : (logged : ℕ → Option Page) (views : List View) → Debts t n frame end logged views → f < n → (fr.tag ≢ (frame f).tag → (frame f).word.dirty ≡ false) → (i : ℕ) (v w : View) (l : Link) → get_elem? views i ≡ some v → Touched v w f l → LinkDebt t fr v.upto l → Debts t n (put frame f fr) end logged (set views i w)
   debts_touched logged views h inside goes i v w l there x debt = record {
+    named = h.named;
     clean = λ g below. at_frame (λ k y. y.tag ≢ no_tag → y.word.dirty ≡ false → IsCurrent t y.tag) g (λ e. clean_moves t (frame f) fr moves (h.clean f inside)) (λ o. h.clean g below);
     unframed = unframed_put (IsCurrent t) n frame f fr inside h.unframed (h.clean f inside) goes;
     positioned = h.positioned;
@@ -210,6 +211,7 @@ module _ (t : Taken) (n : ℕ) (frame : ℕ → Frame) (end : ℕ) (f : ℕ) (fr
 module _ (t : Taken) (n : ℕ) (frame : ℕ → Frame) (end : ℕ) (logged : ℕ → Option Page) (views : List View) (h : Debts t n frame end logged views) where
   pub debts_set : (i : ℕ) (w : View) → ViewDebts t n frame end w → Debts t n frame end logged (set views i w)
   debts_set i w x = record {
+    named = h.named;
     clean = h.clean;
     unframed = h.unframed;
     positioned = h.positioned;
@@ -238,6 +240,7 @@ module _ (t t' : Taken) (same : t'.entries ≡ t.entries) (grows : (tag : ℕ) �
 
   pub debts_later : (n : ℕ) (frame : ℕ → Frame) (end : ℕ) (logged : ℕ → Option Page) (views : List View) → Debts t n frame end logged views → Debts t' n frame end logged views
   debts_later n frame end logged views h = record {
+    named = λ k e at. h.named k e (still_there k e at);
     clean = λ f below named clean. current_later (frame f).tag (h.clean f below named clean);
     unframed = λ tag named none. current_later tag (h.unframed tag named none);
     positioned = λ tag k p e is at tagged. h.positioned tag k p e is (still_there k e at) tagged;

@@ -47,7 +47,7 @@ weigh_split (Some x) true rests = refl
 weigh_split (Some x) false rests = let e = rests refl in absurd (cc)
 
 -- a frame below n has the tag, or none has
-framed : (n : ℕ) (frame : ℕ → Frame) (tag : ℕ) → ((f : ℕ) × (f < n) × ((frame f).tag ≡ tag)) ⊎ IsUnframed n frame tag
+pub framed : (n : ℕ) (frame : ℕ → Frame) (tag : ℕ) → ((f : ℕ) × (f < n) × ((frame f).tag ≡ tag)) ⊎ IsUnframed n frame tag
 framed zero frame tag = inr (λ f below. absurd (omega arith))
 framed (suc n) frame tag = ⊎_elim
     (λ (x : (f : ℕ) × (f < n) × ((frame f).tag ≡ tag)). inl (x.0, (let b = x.1 in omega arith), x.2))

@@ -24,3 +24,7 @@ pub mod Put
 pub mod Staying
 pub mod KeptFlushed
 pub mod Histories
+pub mod Spending
+pub mod PinsStay
+pub mod Promises
+pub mod Laws

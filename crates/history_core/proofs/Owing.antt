@@ -96,6 +96,7 @@ module _ (s : State) (h : Invariant s) (d : DebtsLaw s) where
       (touches_at i f v w (pin_kinds.link_after k fr l) there live inside refl refl refl) (pins_link t fr l v.upto k x a (d.clean f inside) ((d.each i v there).own f inside))
   pins_owe (pin_steps.turns i p k v there live below a) = debts_aside t n frame s.end s.pool.logged views d i v (view_turned k p (hold v p) v) there refl refl refl
   pins_owe (pin_steps.splits v there room) = let w : View = record v { next = v.next + 1 } in let b : View = new_view v.next s.pool.core.base (length v.links) (length v.partitions) (length v.lanes) in let x = debts_aside t n frame s.end s.pool.logged views d 0 v w there refl refl refl in record {
+    named = x.named;
     clean = x.clean;
     unframed = x.unframed;
     positioned = x.positioned;
@@ -185,6 +186,7 @@ module _ (s : State) (h : Invariant s) (d : DebtsLaw s) where
   forgotten_owe : (f : ℕ) → f < n → (frame f).tag ≢ no_tag → (frame f).word.dirty ≡ false → (b : Bool) (fs : ℕ → Frame) (vs : List View) → Debts t n fs s.end s.pool.logged vs → Debts t n fs s.end (cond b s.pool.logged (put s.pool.logged (frame f).tag None)) vs
   forgotten_owe f inside named clean true fs vs x = x
   forgotten_owe f inside named clean false fs vs x = let tag = (frame f).tag in record {
+    named = x.named;
     clean = x.clean;
     unframed = x.unframed;
     positioned = λ z k p e is. dite (ℕ_discrete z tag) (λ same. absurd (none_some (sym (put_at s.pool.logged tag None z same) ∙ is))) (λ o. x.positioned z k p e (sym (put_else s.pool.logged tag None z o) ∙ is));
@@ -277,6 +279,7 @@ module _ (s : State) (h : Invariant s) (d : DebtsLaw s) (i f : ℕ) (p : Page) (
 
   entries_longer : Debts longer s.pool.core.frames s.pool.core.frame (s.end + record_size) logged' s.pool.core.views
   entries_longer = record {
+    named = λ k e at. ⊎_elim (λ (y : get_elem? s.log.entries k ≡ some e). d.named k e y) (λ (y : (entry ≡ e) × (k ≡ length s.log.entries)). subst (λ (w : Entry). w.tag ≢ no_tag) y.0 named) (at_end s.log.entries entry e k at);
     clean = λ g below given clean. current_longer (s.pool.core.frame g).tag (λ e. apart (subst (λ (k : ℕ). (s.pool.core.frame k).word.dirty ≡ true) (only_frame g below e) is_dirty) clean) (d.clean g below given clean);
     unframed = λ z given none. current_longer z (λ e. none f inside (sym e)) (d.unframed z given none);
     positioned = λ z k q e is at tagged. dite (ℕ_discrete z tag_of)
@@ -329,6 +332,7 @@ debts_after (goes x r) h d = debts_after r (step_keeps x h) (debts_kept x h d)
 
 pub debts_open : (c : Config) (store : Store) (page : Page) → DebtsLaw (opening c store page)
 debts_open c store page = let w : View = first_view c.base c.frames c.partitions c.lanes in record {
+  named = λ k e at. absurd (some-ne-none e (sym at));
   clean = λ f below named. absurd (named refl);
   unframed = λ tag named none k e at. absurd (some-ne-none e (sym at));
   positioned = λ tag k p e is at. absurd (some-ne-none e (sym at));

@@ -10,7 +10,7 @@ use Rattle.history_core.specs.Log.{Entry, record_size, log_bytes, record_bytes}
 use Rattle.history_core.specs.State.{State, Store, Device, opening}
 use Rattle.history_core.specs.Device.{LogKind, take_log, leave_log, log_out, append, fail_append, sync_log, fail_sync, log_back, see_down, LogAllowed, device_after, view_logged, Written, DeviceLaw, LogLink, LogTally, holders, appenders, log_weigh, log_shape}
 use Rattle.history_core.specs.Invariant.{Invariant, written_of}
-use Rattle.history_core.specs.Steps.{Event, new_entry, AppendsRecord, aside, Step, pools, lanes, writes, notes, logs, enters, reads, loads_end, loads_flushed, raises, Run, rests, goes}
+use Rattle.history_core.specs.Steps.{Event, new_entry, AppendsRecord, aside, Step, pools, lanes, writes, notes, logs, enters, reads, loads_end, begins, loads_flushed, raises, adds_hand, loads_hand, Run, rests, goes}
 use Rattle.history_core.specs.Rest.{NoneAppended, HasRest, RestLaw}
 use Rattle.history_core.proofs.Logs.{bytes_longer}
 use Rattle.history_core.proofs.Records.{whole_record}
@@ -98,6 +98,9 @@ behind_after (enters {s = s} i f p v there live inside x) h g m = let e : Entry 
 behind_after (reads {s = s} i f tag p v there live inside a) h g m = same s _ m refl refl refl refl
 behind_after (loads_end {s = s} i v there live) h g m = same s _ m refl refl refl refl
 behind_after (loads_flushed {s = s} i v there live) h g m = same s _ m refl refl refl refl
+behind_after (begins {s = s} i v there live) h g m = same s _ m refl refl refl refl
+behind_after (adds_hand {s = s} i v there live) h g m = same s _ m refl refl refl refl
+behind_after (loads_hand {s = s} i v there live) h g m = same s _ m refl refl refl refl
 behind_after (raises {s = s} i v there live synced) h g m = same s _ m refl refl refl refl
 
 pub rest_kept : {e : Event} {s t : State} → Step e s t → Invariant s → RestLaw s → RestLaw t

@@ -51,6 +51,8 @@ pub record ViewDebts (t : Taken) (frames : ℕ) (frame : ℕ → Frame) (end : �
 
 -- The law of checkpoints, where `logged` is each block's page after the log, as far as it is known
 pub record Debts (t : Taken) (frames : ℕ) (frame : ℕ → Frame) (end : ℕ) (logged : ℕ → Option Page) (views : List View) : Type 0 where
+  -- an entry is of a block
+  pub named : (k : ℕ) (e : Entry) → get_elem? t.entries k ≡ some e → e.tag ≢ no_tag
   -- all entries of a block whose frame isn't dirty are in its lane, and of one that has no frame
   pub clean : (f : ℕ) → f < frames → (frame f).tag ≢ no_tag → (frame f).word.dirty ≡ false → IsCurrent t (frame f).tag
   pub unframed : (tag : ℕ) → tag ≢ no_tag → IsUnframed frames frame tag → IsCurrent t tag

@@ -13,3 +13,6 @@ pub mod Histories
 pub mod Sample
 pub mod Miss
 pub mod Put
+pub mod Spent
+pub mod Promises
+pub mod Laws

@@ -3,14 +3,13 @@
 //! Nothing here runs. The types are those of `pin_core`; the kinds of step, the law that they keep and the lists of steps are in `specs/`, and docs/PROTOCOL.md tells them in words.
 #![tactic(auto)]
 
-ghost use Rattle.std.specs.Prelude.{List};
+ghost use Rattle.std.specs.Prelude.{ℕ, ◌<◌, List};
 ghost use Rattle.pin_core.specs.State.{CanOpen, Config, Page};
 ghost use Rattle.pin_core.specs.Schedules.{TagsAreUnique, PinsRemember};
+ghost use Rattle.page_core.specs.Histories.{CleanupIsAlone};
 ghost use Rattle.history_core.specs.State.{CanStore, State, Store, opening};
-ghost use Rattle.history_core.specs.Invariant.{Invariant};
-ghost use Rattle.history_core.specs.Causes.{MarksLaw};
-ghost use Rattle.history_core.specs.Counts.{CountsLaw};
-ghost use Rattle.history_core.specs.Rest.{RestLaw};
+ghost use Rattle.history_core.specs.Laws.{Laws};
+ghost use Rattle.history_core.specs.Promises.{CheckpointsStore, PinnedTagsStay};
 ghost use Rattle.history_core.specs.Steps.{Event, Run};
 ghost use Rattle.history_core.specs.Sample.{SampleRuns};
 ghost use Rattle.history_core.specs.Miss.{MissRuns};
@@ -20,15 +19,9 @@ ghost use Rattle.history_core.specs.Histories.{IsReached, CallsAreLegal, JoinedA
 /// What every list of events keeps, whatever the backends do and in whatever order.
 pub fn all_histories()
     // From every state that has the law every list of events leads to one that has it, and the state at the start has it.
-    ensures kept { (es : List Event) (s : State) (t : State) → Invariant s → Run es s t → Invariant t }
-    ensures opens { (config : Config) (store : Store) (page : Page) → CanOpen config → CanStore config store → Invariant (opening config store page) }
-
-    ensures marks_kept { (es : List Event) (s : State) (t : State) → Invariant s → MarksLaw s → Run es s t → MarksLaw t }
-    ensures marks_open { (config : Config) (store : Store) (page : Page) → MarksLaw (opening config store page) }
-    ensures counts_kept { (es : List Event) (s : State) (t : State) → Invariant s → CountsLaw s → Run es s t → CountsLaw t }
-    ensures counts_open { (config : Config) (store : Store) (page : Page) → CountsLaw (opening config store page) }
-    ensures rest_kept { (es : List Event) (s : State) (t : State) → Invariant s → RestLaw s → Run es s t → RestLaw t }
-    ensures rest_open { (config : Config) (store : Store) (page : Page) → RestLaw (opening config store page) }
+    ensures kept { (es : List Event) (s : State) (t : State) → Laws s → Run es s t → Laws t }
+    ensures opens { (config : Config) (store : Store) (page : Page) → CanOpen config → CanStore config store → Laws (opening config store page) }
+    ensures laws { (s : State) → IsReached s → Laws s }
 
     // So in every state that events lead to, of what backends read and wrote:
     ensures legal { (s : State) → IsReached s → CallsAreLegal s }
@@ -51,19 +44,35 @@ pub fn all_histories()
     ensures clean_stored { (s : State) → IsReached s → CleanBlocksAreStored s }
     ensures words { (s : State) → IsReached s → LogWords s }
     ensures durable { (s : State) → IsReached s → EntriesAreDurable s }
-    ensures rests { (s : State) → IsReached s → RestLaw s }
     ensures device_holds { (s : State) → IsReached s → DeviceHoldsLog s }
     ensures held { (s : State) → IsReached s → LanesAreHeld s }
     ensures log_held { (s : State) → IsReached s → LogIsHeld s }
-
-    ensures marked { (s : State) → IsReached s → MarksLaw s }
-    ensures counted { (s : State) → IsReached s → CountsLaw s }
 
     // and of the frames:
     ensures sound { (s : State) → IsReached s → FramesAreSound s }
     ensures hold_cells { (s : State) → IsReached s → FramesHoldCells s }
     ensures unique { (s : State) → IsReached s → TagsAreUnique s.pool.core }
     ensures remembers { (s : State) → IsReached s → PinsRemember s.pool.core }
+{}
+
+/// No block has two frames.
+pub fn one_frame_for_a_block()
+    ensures unique { (s : State) → IsReached s → TagsAreUnique s.pool.core }
+{}
+
+/// While a backend holds a handed-out pin of it a frame keeps its tag, whatever the others do.
+pub fn pinned_tags_stay()
+    ensures stay { (s : State) → IsReached s → PinnedTagsStay s }
+{}
+
+/// The cleanup lock (`LockBufferForCleanup`): where the reference count is 1 and a backend pins the frame, no other backend does; and where the backend has the content lock exclusively, no other has one there.
+pub fn cleanup_is_alone()
+    ensures alone { (s : State) (f : ℕ) → IsReached s → f < s.pool.core.frames → CleanupIsAlone s.pool f }
+{}
+
+/// The end of a checkpoint (`CheckPointBuffers`): each entry of the log up to where it began is durable and in its block's lane, or that block's last write failed, and its frame is valid and dirty.
+pub fn checkpoints_store()
+    ensures store { (s : State) → IsReached s → CheckpointsStore s }
 {}
 
 /// An example: a backend reads a block from its lane, and makes the log durable.

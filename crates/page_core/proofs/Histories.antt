@@ -43,7 +43,7 @@ same_role s f g k b u r = dite (ℕ_discrete f g)
     (λ e. subst (λ (z : ℕ). (link (view_after k g b (s.core.frame g) (link u g) u) z).role ≡ (link u z).role) (sym e) (ap (λ (x : Link). x.role) r.here ∙ role_kept k b (s.core.frame g) (link u g)))
     (λ o. ap (λ (x : Link). x.role) (r.else f o))
 
-step_stays : {e : Event} {s t : State} (i f : ℕ) → Step e s t → Invariant s → IsHandedOut s.core i f → e ≢ pins_and_maps (pin_steps.at i f unpin) → Stays s.core t.core i f
+pub step_stays : {e : Event} {s t : State} (i f : ℕ) → Step e s t → Invariant s → IsHandedOut s.core i f → e ≢ pins_and_maps (pin_steps.at i f unpin) → Stays s.core t.core i f
 step_stays i f (cores {s = s} x) h out other = pin_schedules.step_stays i f x h.core out (λ q. other (ap pins_and_maps q))
 step_stays i f (touches {s = s} j g k u here live inside a around) h out other = let b = block_of s.logged (s.core.frame g).tag in
     let x = view_stays s.core.views i j f out.0 u (view_after k g b (s.core.frame g) (link u g) u) out.1 out.3 here (same_role s f g k b u (relinked s h j g u here live inside k a)) in

@@ -1,37 +1,21 @@
+use Rattle.history_core.proofs.Laws.{laws_after, laws_open, laws}
 use Rattle.pin_core.proofs.Schedules as pins
-use Rattle.history_core.proofs.Opening.{opens}
-use Rattle.history_core.proofs.Stepping.{run_keeps}
-use Rattle.history_core.proofs.Counting.{counts_open, counts_after}
-use Rattle.history_core.proofs.Causes.{marks_open, marks_after}
 use Rattle.history_core.proofs.Histories.{reached, legal, own, apart, fronts, in_order, go_out_flushed, loaded_flushed, noted_done, log_held, entries, reads_stand, writes_stand, log_first, lanes_hold, clean_stored, sound, hold_cells, words, held, durable, device_holds}
 use Rattle.history_core.proofs.Staying.{calls_stay}
 use Rattle.history_core.specs.State.{State}
 use Rattle.history_core.specs.Rest.{RestLaw}
 use Rattle.history_core.specs.Histories.{IsReached}
-use Rattle.history_core.proofs.Rest.{rest_open, rest_after}
 use Rattle.history_core.proofs.KeptFlushed.{holds_keep}
 use Rattle.history_core.proofs.all_histories.Goals as goal
-
-rests : {s : State} → IsReached s → RestLaw s
-rests r = rest_after r.run (opens r.config r.store r.page r.opens r.stores) (rest_open r.config r.store r.page)
-
-pub returns-clause-rest_kept : goal.returns-clause-rest_kept
-returns-clause-rest_kept c = λ es s t h m r. rest_after r h m
-
-pub returns-clause-rest_open : goal.returns-clause-rest_open
-returns-clause-rest_open c = rest_open
-
-pub returns-clause-rests : goal.returns-clause-rests
-returns-clause-rests c = λ s r. rests r
 
 pub returns-clause-holds_keep : goal.returns-clause-holds_keep
 returns-clause-holds_keep c = holds_keep
 
 pub returns-clause-kept : goal.returns-clause-kept
-returns-clause-kept c = λ es s t h r. run_keeps r h
+returns-clause-kept c = λ es s t h r. laws_after r h
 
 pub returns-clause-opens : goal.returns-clause-opens
-returns-clause-opens c = opens
+returns-clause-opens c = laws_open
 
 pub returns-clause-legal : goal.returns-clause-legal
 returns-clause-legal c = λ s r. legal s (reached s r)
@@ -79,25 +63,7 @@ pub returns-clause-durable : goal.returns-clause-durable
 returns-clause-durable c = λ s r. durable s (reached s r)
 
 pub returns-clause-device_holds : goal.returns-clause-device_holds
-returns-clause-device_holds c = λ s r. device_holds s (reached s r) (rests r)
-
-pub returns-clause-marks_kept : goal.returns-clause-marks_kept
-returns-clause-marks_kept c = λ es s t h m r. marks_after r h m
-
-pub returns-clause-marks_open : goal.returns-clause-marks_open
-returns-clause-marks_open c = marks_open
-
-pub returns-clause-marked : goal.returns-clause-marked
-returns-clause-marked c = λ s r. marks_after r.run (opens r.config r.store r.page r.opens r.stores) (marks_open r.config r.store r.page)
-
-pub returns-clause-counts_kept : goal.returns-clause-counts_kept
-returns-clause-counts_kept c = λ es s t h m r. counts_after r h m
-
-pub returns-clause-counts_open : goal.returns-clause-counts_open
-returns-clause-counts_open c = counts_open
-
-pub returns-clause-counted : goal.returns-clause-counted
-returns-clause-counted c = λ s r. counts_after r.run (opens r.config r.store r.page r.opens r.stores) (counts_open r.config r.store r.page)
+returns-clause-device_holds c = λ s r. device_holds s (reached s r) (laws s r).rest
 
 pub returns-clause-in_order : goal.returns-clause-in_order
 returns-clause-in_order c = λ s r. in_order s (reached s r)
@@ -122,3 +88,6 @@ returns-clause-own c = λ s r. own s (reached s r)
 
 pub returns-clause-apart : goal.returns-clause-apart
 returns-clause-apart c = λ s r. apart s (reached s r)
+
+pub returns-clause-laws : goal.returns-clause-laws
+returns-clause-laws c = laws

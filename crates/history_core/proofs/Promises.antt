@@ -1,0 +1,49 @@
+-- What a checkpoint says at its end.
+use Rattle.std.proofs.Common.{◌≡◌, ◌≢◌, ◌⊎◌, inl, inr, ℕ, ◌+◌, ◌<◌, ◌≤◌, Bool, true, false, sym, refl, ap, ◌∙◌, subst, ⊎_elim, arith}
+use Rattle.std.proofs.lemmas.Bool.{cases_lt}
+use mathlib.Core.Option.{some}
+use lib.ListN.{get_elem?}
+use Rattle.pin_core.specs.declared.view.View.{View}
+use Rattle.pin_core.specs.State.{Frame, no_tag, link}
+use Rattle.history_core.specs.Log.{Entry, end_of}
+use Rattle.history_core.specs.State.{State, stored_upto, failed}
+use Rattle.history_core.specs.Homes.{IsUnframed}
+use Rattle.history_core.specs.Invariant.{Invariant}
+use Rattle.history_core.specs.Debts.{has_passed, has_listed, IsSettled, taken_of, DebtsLaw}
+use Rattle.history_core.specs.Promises.{IsInLane, IsUnwritten, AreStored, CheckpointsStore}
+use Rattle.history_core.proofs.Histories.{framed, durable}
+
+either : {A : Type 0} (b : Bool) → (b ≡ true → A) → (b ≡ false → A) → A
+either true x y = x refl
+either false x y = y refl
+
+apart : {b : Bool} → b ≡ true → b ≡ false → ⊥
+apart y n = cc
+
+module _ (s : State) (h : Invariant s) (d : DebtsLaw s) where
+  in_lane : (k : ℕ) (e : Entry) → get_elem? s.log.entries k ≡ some e → failed s e.tag ≡ false → end_of e ≤ stored_upto s e.tag → IsInLane s e
+  in_lane k e at ok low = let x = h.flushed_cells e.tag in record { place = stored_upto s e.tag; later = low; flushed = x.within; durable = durable s h k e at (let y = x.within in omega arith); holds = λ known. x.is_cell known ok }
+
+  -- a block whose last write failed has a frame, which is dirty
+  unwritten : (e : Entry) → e.tag ≢ no_tag → failed s e.tag ≡ true → IsUnwritten s e
+  unwritten e named bad = ⊎_elim
+      (λ (x : (f : ℕ) × (f < s.pool.core.frames) × ((s.pool.core.frame f).tag ≡ e.tag)). let dirty = either (s.pool.core.frame x.0).word.dirty (λ y. y) (λ clean. absurd (apart bad (subst (λ (t : ℕ). failed s t ≡ false) x.2 ((h.homes.columns x.0 x.1).clean (λ z. named (sym x.2 ∙ z)) clean).done))) in
+      record { failed_write = bad; frame = x.0; inside = x.1; tagged = x.2; valid = (h.pool.core.grid.columns x.0 x.1).dirty dirty; dirty = dirty })
+      (λ (none : IsUnframed s.pool.core.frames s.pool.core.frame e.tag). absurd (apart bad (h.unframed e.tag named none).done))
+      (framed s.pool.core.frames s.pool.core.frame e.tag)
+
+  -- a checkpoint that has passed every frame, and has none left
+  all_stored : (upto : ℕ) (passed listed : ℕ → Bool) → ((f : ℕ) → f < s.pool.core.frames → IsSettled (taken_of s) (s.pool.core.frame f) upto (passed f) (listed f)) → ((f : ℕ) → f < s.pool.core.frames → (passed f ≡ true) × (listed f ≡ false)) → AreStored s upto
+  all_stored upto passed listed settled ended k e at low = let named = d.named k e at in either (failed s e.tag) (λ bad. inr (unwritten e named bad)) (λ ok. inl (in_lane k e at ok (⊎_elim
+      (λ (behind : stored_upto s e.tag < end_of e). ⊎_elim
+      (λ (x : (f : ℕ) × (f < s.pool.core.frames) × ((s.pool.core.frame f).tag ≡ e.tag)). let done = ended x.0 x.1 in
+      absurd (apart (settled x.0 x.1 done.0 (λ z. named (sym x.2 ∙ z)) (ap (failed s) x.2 ∙ ok) k e at (sym x.2) low (subst (λ (t : ℕ). stored_upto s t < end_of e) (sym x.2) behind)).1 done.1))
+      (λ (none : IsUnframed s.pool.core.frames s.pool.core.frame e.tag). d.unframed e.tag named none k e at refl)
+      (framed s.pool.core.frames s.pool.core.frame e.tag))
+      (λ (there : end_of e ≤ stored_upto s e.tag). there) (cases_lt (stored_upto s e.tag) (end_of e)))))
+
+  pub checkpoints_store : CheckpointsStore s
+  checkpoints_store = record {
+    own = λ i v there ended. all_stored v.upto (λ f. (link v f).passed) (λ f. (link v f).listed) (λ f below. ((d.each i v there).own f below).settled) ended;
+    kept = λ i k v c there at ended. all_stored c.upto (has_passed c) (has_listed c) (λ f below. (d.each i v there).kept k f c at below) ended;
+  }

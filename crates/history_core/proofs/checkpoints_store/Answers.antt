@@ -1,0 +1,6 @@
+use Rattle.history_core.proofs.Promises.{checkpoints_store}
+use Rattle.history_core.proofs.Laws.{laws}
+use Rattle.history_core.proofs.checkpoints_store.Goals as goal
+
+pub returns : goal.returns
+returns c = λ s r. checkpoints_store s (laws s r).invariant (laws s r).debts

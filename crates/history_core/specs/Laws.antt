@@ -1,0 +1,22 @@
+-- The whole law: what holds in every state that steps lead to.
+use Rattle.history_core.specs.State.{State}
+use Rattle.history_core.specs.Invariant.{Invariant}
+use Rattle.history_core.specs.Causes.{MarksLaw}
+use Rattle.history_core.specs.Counts.{CountsLaw}
+use Rattle.history_core.specs.Debts.{DebtsLaw}
+use Rattle.history_core.specs.Rest.{RestLaw}
+use Rattle.history_core.specs.Spent.{SpentLaw}
+
+pub record Laws (s : State) : Type 0 where
+  -- of pins, headers, tags, maps, content locks, pages, lanes, the log and the calls
+  pub invariant : Invariant s
+  -- of what must have happened before there can be a fault of writing
+  pub marks : MarksLaw s
+  -- of the faults that backends count, and the devices' counts
+  pub counts : CountsLaw s
+  -- of what checkpoints have still to write
+  pub debts : DebtsLaw s
+  -- of what stands behind the log on its device
+  pub rest : RestLaw s
+  -- of what is left of backends that were joined into the first
+  pub spent : SpentLaw s

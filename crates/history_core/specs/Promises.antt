@@ -1,0 +1,52 @@
+-- What the protocol promises to those that use a buffer pool, whatever the backends do.
+use Rattle.std.specs.Prelude.{◌≡◌, ◌≢◌, ◌⊎◌, ℕ, ◌+◌, ◌<◌, ◌≤◌, true, false, List, [], ◌∷◌}
+use mathlib.Core.Option.{some}
+use lib.ListN.{get_elem?}
+use Rattle.pin_core.specs.declared.view.Checkpoint.{Checkpoint}
+use Rattle.pin_core.specs.declared.view.View.{View}
+use Rattle.pin_core.specs.State.{link}
+use Rattle.pin_core.specs.Kinds.{unpin}
+use Rattle.pin_core.specs.Steps as pin_steps
+use Rattle.pin_core.specs.Schedules.{IsHandedOut, KeepsTag}
+use Rattle.page_core.specs.Steps as page_steps
+use Rattle.history_core.specs.Log.{Entry, end_of, cell, cut, head_size}
+use Rattle.history_core.specs.State.{State, stored, stored_upto, failed}
+use Rattle.history_core.specs.Debts.{has_passed, has_listed}
+use Rattle.history_core.specs.Steps.{Event, pool, Run}
+
+-- none of the events is the unpin of the frame f by backend i
+abbrev pub HasNoUnpin : ℕ → ℕ → List Event → Type 0
+HasNoUnpin i f [] = Unit {0}
+HasNoUnpin i f (e ∷ es) = (e ≢ pool (page_steps.pins_and_maps (pin_steps.at i f unpin))) × HasNoUnpin i f es
+
+-- while a handed-out pin of it is held a frame keeps its tag
+abbrev pub PinnedTagsStay : State → Type 0
+PinnedTagsStay s = (i f : ℕ) (es : List Event) (t : State) → IsHandedOut s.pool.core i f → HasNoUnpin i f es → Run es s t → KeepsTag s.pool.core t.pool.core f × IsHandedOut t.pool.core i f
+
+-- The lane of an entry's block holds the entry's page or a later one
+pub record IsInLane (s : State) (e : Entry) : Type 0 where
+  -- up to this position the block's entries are in the lane, and they are durable in the log
+  pub place : ℕ
+  pub later : end_of e ≤ place
+  pub flushed : place ≤ s.flushed
+  pub durable : head_size + end_of e ≤ s.log.base + s.device.synced
+  -- where the lane's contents are known it holds the block's page after the entries up to there
+  pub holds : s.known e.tag ≡ true → stored s e.tag ≡ cell s.origin (cut place s.log.entries) e.tag
+
+-- The last write of an entry's block failed, and the block's frame is valid and dirty
+pub record IsUnwritten (s : State) (e : Entry) : Type 0 where
+  pub failed_write : failed s e.tag ≡ true
+  pub frame : ℕ
+  pub inside : frame < s.pool.core.frames
+  pub tagged : (s.pool.core.frame frame).tag ≡ e.tag
+  pub valid : (s.pool.core.frame frame).word.valid ≡ true
+  pub dirty : (s.pool.core.frame frame).word.dirty ≡ true
+
+-- each entry that ends at the position `upto` or before it is in its block's lane, or its block's last write failed
+abbrev pub AreStored : State → ℕ → Type 0
+AreStored s upto = (k : ℕ) (e : Entry) → get_elem? s.log.entries k ≡ some e → end_of e ≤ upto → IsInLane s e ⊎ IsUnwritten s e
+
+-- What a checkpoint says at its end, when it has passed every frame and none is left that it has still to write: its own, or that of a backend that was joined into another
+pub record CheckpointsStore (s : State) : Type 0 where
+  pub own : (i : ℕ) (v : View) → get_elem? s.pool.core.views i ≡ some v → ((f : ℕ) → f < s.pool.core.frames → ((link v f).passed ≡ true) × ((link v f).listed ≡ false)) → AreStored s v.upto
+  pub kept : (i k : ℕ) (v : View) (c : Checkpoint) → get_elem? s.pool.core.views i ≡ some v → get_elem? v.kept k ≡ some c → ((f : ℕ) → f < s.pool.core.frames → (has_passed c f ≡ true) × (has_listed c f ≡ false)) → AreStored s c.upto
