@@ -1,5 +1,5 @@
 -- A checkpoint begins: the view's marks at all frames go, which no law of the buffer pool speaks of.
-use Rattle.std.proofs.Common.{◌≡◌, ℕ, zero, suc, List, [], ◌∷◌, length, map, set, Some, slice_index_or, sym, refl, ap, ◌∙◌, subst, arith}
+use Rattle.std.proofs.Common.{◌≡◌, ℕ, zero, suc, List, [], ◌∷◌, length, map, set, slice_index_or, sym, refl, ap, ◌∙◌, subst, arith}
 use mathlib.Core.Option.{some}
 use lib.ListN.{get_elem?}
 use Rattle.pin_core.specs.declared.view.Link.{Link}
@@ -21,7 +21,7 @@ use Rattle.page_core.specs.Invariant.{PageLink}
 use Rattle.page_core.specs.Invariant as page_law
 use Rattle.page_core.proofs.Waits.{waits_fewer}
 use Rattle.history_core.specs.Homes.{Home, HomeLink, home_shape, home_part}
-use Rattle.history_core.specs.Steps.{aside, unmarked, has_begun}
+use Rattle.history_core.specs.Steps.{aside, unmarked}
 use Rattle.grid.specs.Shape.{Grid}
 use Rattle.grid.proofs.Grids.{steady, steady_alike}
 

@@ -1,5 +1,5 @@
 -- What a change of a frame, of the lanes or of a view makes of the debts of checkpoints.
-use Rattle.std.proofs.Common.{◌≡◌, ◌≢◌, ◌⊎◌, inl, inr, ℕ, ◌+◌, ◌<◌, ◌≤◌, Bool, true, false, ◌||◌, ◌&&◌, not, List, [], ◌∷◌, ◌++◌, length, set, Option, Some, None, sym, refl, ap, ◌∙◌, subst, ⊎_elim, arith}
+use Rattle.std.proofs.Common.{◌≡◌, ◌≢◌, ◌⊎◌, ℕ, ◌<◌, ◌≤◌, Bool, true, false, ◌||◌, ◌&&◌, not, List, set, Option, sym, refl, ap, ◌∙◌, subst, ⊎_elim, arith}
 use mathlib.Core.Logic.{dite}
 use mathlib.Core.Option.{some}
 use native.Mathlib.Decide.{ℕ_discrete}
@@ -15,12 +15,11 @@ use Rattle.page_core.specs.State.{Block}
 use Rattle.page_core.specs.Kinds as kinds
 use Rattle.page_core.specs.Kinds.{Kind, Allowed, frame_after, link_after}
 use Rattle.history_core.specs.Log.{Entry, end_of}
-use Rattle.history_core.specs.Homes.{IsUnframed}
 use Rattle.history_core.specs.Steps.{IsPlain}
 use Rattle.history_core.specs.Debts.{Taken, IsCurrent, IsSettled, LinkDebt, ViewDebts, Debts, has_passed, has_listed}
 use Rattle.history_core.proofs.Blocks.{unframed_put}
 use Rattle.grid.specs.Shape.{put}
-use Rattle.grid.proofs.Lists.{at_set, put_at, put_else, put_here}
+use Rattle.grid.proofs.Lists.{at_set, put_at, put_else}
 
 apart : {b : Bool} → b ≡ true → b ≡ false → ⊥
 apart y n = cc

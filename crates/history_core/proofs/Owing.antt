@@ -10,7 +10,6 @@ use Rattle.page_layout.specs.Fields.{lsn_of}
 use Rattle.pin_core.specs.declared.view.Checkpoint.{Checkpoint}
 use Rattle.pin_core.specs.declared.view.Content.TheVariants.{Unlocked, Exclusive}
 use Rattle.pin_core.specs.declared.view.Io.TheVariants.{Output}
-use Rattle.pin_core.specs.declared.view.LaneHold.{LaneHold}
 use Rattle.pin_core.specs.declared.view.LastWrite.TheVariants.{Done}
 use Rattle.pin_core.specs.declared.view.Link.{Link}
 use Rattle.pin_core.specs.declared.view.Seen.TheVariants as seen
@@ -23,7 +22,6 @@ use Rattle.pin_core.specs.Turns.{view_turned}
 use Rattle.pin_core.specs.Steps as pin_steps
 use Rattle.pin_core.proofs.Stepping as pin_stepping
 use Rattle.pin_core.proofs.Views.{link_new}
-use Rattle.page_core.specs.State as page
 use Rattle.page_core.specs.State.{Block, block_of}
 use Rattle.page_core.specs.Tallies.{Tally, sharers, applied_locks, unapplied_locks, weigh, page_shape}
 use Rattle.page_core.specs.Invariant.{PageFrame, PageLink}
@@ -37,18 +35,17 @@ use Rattle.history_core.specs.State.{Lane, State, Store, stored_upto, failed, op
 use Rattle.history_core.specs.Lanes as lane_kinds
 use Rattle.history_core.specs.Lanes.{LaneKind, lane_after}
 use Rattle.history_core.specs.Device.{view_logged}
-use Rattle.history_core.specs.Homes.{IsUnframed}
 use Rattle.history_core.specs.Invariant.{Invariant}
 use Rattle.history_core.specs.Debts.{Taken, IsCurrent, IsSettled, LinkDebt, ViewDebts, Debts, has_passed, has_listed, taken_of, DebtsLaw}
-use Rattle.history_core.specs.Steps.{Event, IsPlain, LaneAlone, CanWrite, Writes, Notes, CanEnter, unmarked, has_begun, new_entry, logged_noting, pool_noting, stepped, looked, paged, laned, has_read, has_written, Step, pools, lanes, writes, notes, logs, enters, reads, loads_end, begins, loads_flushed, raises, adds_hand, loads_hand, Run, rests, goes}
+use Rattle.history_core.specs.Steps.{Event, IsPlain, Writes, Notes, CanEnter, has_begun, new_entry, logged_noting, pool_noting, stepped, looked, paged, laned, has_read, has_written, Step, pools, lanes, writes, notes, logs, enters, reads, loads_end, begins, loads_flushed, raises, adds_hand, loads_hand, Run, rests, goes}
 use Rattle.history_core.proofs.Beginning.{BegunHere, link_begun}
 use Rattle.history_core.proofs.Blocks.{plain_block, tag_goes, written_is_logged}
 use Rattle.history_core.proofs.Calls.{at_both}
-use Rattle.history_core.proofs.Debts.{Moves, settles, stays, Marks, link_moves, Fresh, pins_move, pins_link, pages_move, pages_link, Touched, debts_touched, debts_set, debts_aside, debts_later}
+use Rattle.history_core.proofs.Debts.{stays, Fresh, pins_move, pins_link, pages_move, pages_link, Touched, debts_touched, debts_set, debts_aside, debts_later}
 use Rattle.history_core.proofs.Logs.{ends_below}
 use Rattle.history_core.proofs.Stepping.{step_keeps, relinks, unframed_tag, logged_same, lane_put, lane_written, HoldsSame, no_write_holds, for_input}
 use Rattle.grid.specs.Shape.{put, tallies}
-use Rattle.grid.proofs.Lists.{at_end, at_only, put_at, put_else, put_here, put_same, set_else}
+use Rattle.grid.proofs.Lists.{at_end, at_only, put_at, put_else, put_same}
 use Rattle.grid.proofs.Sums.{term_le}
 
 apart : {b : Bool} → b ≡ true → b ≡ false → ⊥

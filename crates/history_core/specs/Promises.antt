@@ -10,7 +10,7 @@ use Rattle.pin_core.specs.Steps as pin_steps
 use Rattle.pin_core.specs.Schedules.{IsHandedOut, KeepsTag}
 use Rattle.page_core.specs.Steps as page_steps
 use Rattle.history_core.specs.Log.{Entry, end_of, cell, cut, head_size}
-use Rattle.history_core.specs.State.{State, stored, stored_upto, failed}
+use Rattle.history_core.specs.State.{State, stored, failed}
 use Rattle.history_core.specs.Debts.{has_passed, has_listed}
 use Rattle.history_core.specs.Steps.{Event, pool, Run}
 

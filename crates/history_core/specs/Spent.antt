@@ -1,5 +1,5 @@
 -- What is left of the backends that were joined into the first.
-use Rattle.std.specs.Prelude.{◌≡◌, ℕ, true, List}
+use Rattle.std.specs.Prelude.{◌≡◌, ℕ, true}
 use mathlib.Core.Option.{some}
 use lib.ListN.{get_elem?}
 use Rattle.pin_core.specs.declared.view.View.{View}

@@ -57,22 +57,22 @@ pub fn all_histories()
 
 /// No block has two frames.
 pub fn one_frame_for_a_block()
-    ensures unique { (s : State) → IsReached s → TagsAreUnique s.pool.core }
+    ensures { (s : State) → IsReached s → TagsAreUnique s.pool.core }
 {}
 
 /// While a backend holds a handed-out pin of it a frame keeps its tag, whatever the others do.
 pub fn pinned_tags_stay()
-    ensures stay { (s : State) → IsReached s → PinnedTagsStay s }
+    ensures { (s : State) → IsReached s → PinnedTagsStay s }
 {}
 
 /// The cleanup lock (`LockBufferForCleanup`): where the reference count is 1 and a backend pins the frame, no other backend does; and where the backend has the content lock exclusively, no other has one there.
 pub fn cleanup_is_alone()
-    ensures alone { (s : State) (f : ℕ) → IsReached s → f < s.pool.core.frames → CleanupIsAlone s.pool f }
+    ensures { (s : State) (f : ℕ) → IsReached s → f < s.pool.core.frames → CleanupIsAlone s.pool f }
 {}
 
 /// The end of a checkpoint (`CheckPointBuffers`): each entry of the log up to where it began is durable and in its block's lane, or that block's last write failed, and its frame is valid and dirty.
 pub fn checkpoints_store()
-    ensures store { (s : State) → IsReached s → CheckpointsStore s }
+    ensures { (s : State) → IsReached s → CheckpointsStore s }
 {}
 
 /// An example: a backend reads a block from its lane, and makes the log durable.

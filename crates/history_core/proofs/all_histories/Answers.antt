@@ -2,9 +2,6 @@ use Rattle.history_core.proofs.Laws.{laws_after, laws_open, laws}
 use Rattle.pin_core.proofs.Schedules as pins
 use Rattle.history_core.proofs.Histories.{reached, legal, own, apart, fronts, in_order, go_out_flushed, loaded_flushed, noted_done, log_held, entries, reads_stand, writes_stand, log_first, lanes_hold, clean_stored, sound, hold_cells, words, held, durable, device_holds}
 use Rattle.history_core.proofs.Staying.{calls_stay}
-use Rattle.history_core.specs.State.{State}
-use Rattle.history_core.specs.Rest.{RestLaw}
-use Rattle.history_core.specs.Histories.{IsReached}
 use Rattle.history_core.proofs.KeptFlushed.{holds_keep}
 use Rattle.history_core.proofs.all_histories.Goals as goal
 
