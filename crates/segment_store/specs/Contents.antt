@@ -49,3 +49,7 @@ pub record GainsPrefix (piece old new : List ℕ) : Type 0 where
 pub record Puts {E : Type 0} (piece : List ℕ) (old new : Option (List ℕ)) (result : Result Unit E) : Type 0 where
   pub ok : OnOk result (new ≡ option_map (λ bytes. bytes ++ piece) old)
   pub failed : OnErr result (IfSome old (λ bytes. IsSomeAnd new (GainsPrefix piece bytes)))
+
+-- after a sync: all bytes of a log are durable, or after a failed one as many as before
+abbrev pub Syncs : {E : Type 0} → List ℕ → ℕ → ℕ → Result Unit E → Type 0
+Syncs bytes old new result = MatchResult result (λ _. new ≡ length bytes) (λ _. new ≡ old)
