@@ -111,19 +111,19 @@ module _ {F : Type 0} (name : F → List ℕ) (path : List ℕ) where
           let here : Some k ≡ None = sym (ap (λ (b : Bool). cond b (Some k) (position_from has_path (k + 1) files)) is) ∙ found in
           absurd (cc here)
       | inr other_path ↦ elim (cases_Bool (bytes_eq (name file) p)) [
-          | inl same ↦
-              let not : bytes_eq p path ≡ false = elim (cases_Bool (bytes_eq p path)) [
-                | inl is ↦ absurd (other_text (name file) path (sym other_path) (same_text (name file) p (sym same) ∙ same_text p path (sym is)))
-                | inr is_not ↦ is_not
-              ] in
-              ap (λ (b : Bool). cond b (read file) (of_first name read none (files ++ other ∷ []) p)) same
-              ∙ ap (λ (b : Bool). cond b (read file) (of_first name read none files p)) (sym same)
-              ∙ ap (λ (b : Bool). cond b (read other) (of_first name read none (file ∷ files) p)) (sym not)
-          | inr not ↦
-              ap (λ (b : Bool). cond b (read file) (of_first name read none (files ++ other ∷ []) p)) not
-              ∙ read_pushed_from files (k + 1) other p (sym (ap (λ (b : Bool). cond b (Some k) (position_from has_path (k + 1) files)) other_path) ∙ found) named
-              ∙ ap (λ (b : Bool). cond (bytes_eq p path) (read other) (cond b (read file) (of_first name read none files p))) (sym not)
-        ]
+        | inl same ↦
+            let not : bytes_eq p path ≡ false = elim (cases_Bool (bytes_eq p path)) [
+              | inl is ↦ absurd (other_text (name file) path (sym other_path) (same_text (name file) p (sym same) ∙ same_text p path (sym is)))
+              | inr is_not ↦ is_not
+            ] in
+            ap (λ (b : Bool). cond b (read file) (of_first name read none (files ++ other ∷ []) p)) same
+            ∙ ap (λ (b : Bool). cond b (read file) (of_first name read none files p)) (sym same)
+            ∙ ap (λ (b : Bool). cond b (read other) (of_first name read none (file ∷ files) p)) (sym not)
+        | inr not ↦
+            ap (λ (b : Bool). cond b (read file) (of_first name read none (files ++ other ∷ []) p)) not
+            ∙ read_pushed_from files (k + 1) other p (sym (ap (λ (b : Bool). cond b (Some k) (position_from has_path (k + 1) files)) other_path) ∙ found) named
+            ∙ ap (λ (b : Bool). cond (bytes_eq p path) (read other) (cond b (read file) (of_first name read none files p))) (sym not)
+      ]
     ]
 
     -- a file that is added where none has the path is read at the path, and all other paths as before

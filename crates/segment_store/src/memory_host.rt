@@ -439,12 +439,11 @@ impl Host for MemHost {
 
     /// Fails where the plan says so.
     fn log(&mut self, alloc: Global, path: &str) -> Result<MemLog, LogOpen>
-        ensures opened { IfOk result (λ log. as_stored log ≡ empty_log) }
+        ensures opened { IfOk result (IsOpenedLog (λ l. Some l.sink.bytes) (λ l. l.synced) (λ l. l.faults.count) (Some (logs_at self.old.logs.files.items))) }
         ensures room { IfOk result (λ log. log.sink.room ≡ self.old.logs.room) }
         ensures appends { IfOk result (λ log. log.sink.puts ≡ fresh_plan self.old.logs.calls.appends) }
         ensures syncs { IfOk result (λ log. log.syncs ≡ fresh_plan self.old.logs.calls.syncs) }
-        ensures faultless { IfOk result (λ log. log.faults.count ≡ 0) }
-        ensures logs { MatchResult result (λ _. logs_at self.new.logs.files.items ≡ with_log path.now empty_log (logs_at self.old.logs.files.items)) (λ _. self.new.logs.files.items ≡ self.old.logs.files.items) }
+        ensures logs { MatchResult result (λ _. Some (logs_at self.new.logs.files.items) ≡ Some (with_log path.now empty_log (logs_at self.old.logs.files.items))) (λ _. Some (logs_at self.new.logs.files.items) ≡ Some (logs_at self.old.logs.files.items)) }
         ensures log_at { MatchResult result (λ _. opened_at self.new.logs ≡ path.now) (λ _. opened_at self.new.logs ≡ opened_at self.old.logs) }
         ensures fault { IsErrOf result LogOpen.Failed ↔ (fails_next self.old.logs.openings ≡ true) }
         ensures openings { self.new.logs.openings ≡ after_call self.old.logs.openings }
@@ -465,6 +464,8 @@ impl Host for MemHost {
         ensures log_faults { Added self.old.logs.faults.count (option_map_or (λ l. l.faults.count) log 0) self.new.logs.faults.count }
         ensures log_at { opened_at self.new.logs ≡ opened_at self.old.logs }
         ensures log_openings { self.new.logs.openings ≡ self.old.logs.openings }
+        ensures log_calls { self.new.logs.calls ≡ self.old.logs.calls }
+        ensures log_room { self.new.logs.room ≡ self.old.logs.room }
         ensures reads { Added self.old.read_faults.count (sum_by (λ lane. lane.read_faults.count) lanes.items) self.new.read_faults.count }
         ensures writes { Added self.old.write_faults.count (sum_by (λ lane. lane.write_faults.count) lanes.items) self.new.write_faults.count }
     {

@@ -92,7 +92,8 @@ impl MemLogs {
 
     /// Makes an empty log, and has one stand at the path.
     fn make_log(&mut self, alloc: Global, path: &str) -> Result<MemLog, AllocError>
-        ensures bytes { IfOk result (λ log. as_stored log ≡ empty_log) }
+        ensures bytes { IfOk result (λ log. log.sink.bytes ≡ []) }
+        ensures synced { IfOk result (λ log. log.synced ≡ 0) }
         ensures room { IfOk result (λ log. log.sink.room ≡ self.old.room) }
         ensures appends { IfOk result (λ log. log.sink.puts ≡ fresh_plan self.old.calls.appends) }
         ensures syncs { IfOk result (λ log. log.syncs ≡ fresh_plan self.old.calls.syncs) }
@@ -111,7 +112,8 @@ impl MemLogs {
 
     /// Opens an empty log at a path. Fails where the plan says so.
     pub fn open(&mut self, alloc: Global, path: &str) -> Result<MemLog, LogOpen>
-        ensures bytes { IfOk result (λ log. as_stored log ≡ empty_log) }
+        ensures bytes { IfOk result (λ log. log.sink.bytes ≡ []) }
+        ensures synced { IfOk result (λ log. log.synced ≡ 0) }
         ensures room { IfOk result (λ log. log.sink.room ≡ self.old.room) }
         ensures appends { IfOk result (λ log. log.sink.puts ≡ fresh_plan self.old.calls.appends) }
         ensures syncs { IfOk result (λ log. log.syncs ≡ fresh_plan self.old.calls.syncs) }

@@ -54,7 +54,10 @@ fn log_in_memory(rt: HostRuntime) -> Result<(), Fail> {
     assert_eq!(rt; (log.append(b"efg"), log.faults()), (Err(Failed), 1));
     assert_eq!(rt; (log.sync(), log.faults()), (Err(Failed), 2));
     assert_eq!(rt; (log.bytes(), log.synced()), (b"abcdef".as_slice(), 4));
-    assert_eq!(rt; (log.append(b"past its room"), log.faults()), (Err(Failed), 3));
+    assert_eq!(rt;
+        (log.append(b"past its room"), log.faults()),
+        (Err(Failed), 3)
+    );
     assert_eq!(rt; log.bytes(), b"abcdefpast".as_slice());
     assert_eq!(rt; (log.append(b""), log.faults()), (Ok(()), 3));
     Ok(())
@@ -186,7 +189,8 @@ fn lanes_are_given_back(rt: HostRuntime) -> Result<(), Fail> {
 
 /// The bytes of the log at the path `log`, and how many of them are durable.
 fn log_of(host: &MemHost) -> Option<(&[u8], usize)> {
-    host.stored_log("log").map(|log| (log.bytes(), log.synced()))
+    host.stored_log("log")
+        .map(|log| (log.bytes(), log.synced()))
 }
 
 #[test]
