@@ -6,8 +6,6 @@ pub mod Paths
 pub mod Restored
 pub mod Opening
 pub mod Logs
-pub mod Plan
-pub mod Memory
 pub mod MemoryLane
 pub mod MemoryLog
 pub mod MemoryHost

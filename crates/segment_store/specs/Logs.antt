@@ -2,7 +2,7 @@
 use Rattle.std.specs.Prelude.{◌≡◌, ℕ, ◌≤◌, List, [], length, Option, Some, None, Result, MatchResult, IfSome, option_map, if◌then◌else◌}
 use Rattle.std.specs.Option.{option_and_then}
 use Rattle.std.specs.Str.{bytes_eq}
-use Rattle.segment_store.specs.Faults.{Rose}
+use Rattle.log_device.specs.Faults.{Rose}
 use Rattle.segment_store.specs.declared.host.LogOpen.{LogOpen}
 use Rattle.segment_store.specs.declared.host.LogOpen.TheVariants.{Failed, Memory}
 
@@ -14,9 +14,6 @@ pub record StoredLog : Type 0 where
 -- paths to logs, None where there is none
 abbrev pub Logs : Type 0
 Logs = List ℕ → Option StoredLog
-
-abbrev pub no_logs : Logs
-no_logs = λ path. None
 
 abbrev pub empty_log : StoredLog
 empty_log = record { bytes = []; synced = 0 }

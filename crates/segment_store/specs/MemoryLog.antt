@@ -2,7 +2,7 @@
 use Rattle.std.specs.Prelude.{ℕ, List, Option, Some, None, string_bytes}
 use Rattle.segment_store.specs.Logs.{Logs, StoredLog}
 use Rattle.segment_store.specs.Paths.{of_first}
-use Rattle.segment_store.specs.declared.memory_log.MemLog.{MemLog}
+use Rattle.log_device.specs.declared.memory_log.MemLog.{MemLog}
 use Rattle.segment_store.specs.declared.memory_logs.LogFile.{LogFile}
 use Rattle.segment_store.specs.declared.memory_logs.MemLogs.{MemLogs}
 

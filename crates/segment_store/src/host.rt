@@ -1,13 +1,15 @@
 //! The host: relations and logs by their paths.
 ghost use Rattle.std.specs.Prelude.{◌≡◌, ◌≢◌, ℕ, ◌<◌, ◌≤◌, ◌^◌, List, [], Option, IfOk, IfSome, IsErrOf, MatchResult, map, option_map, sum_by};
 ghost use Rattle.std.specs.Option.{option_map_or};
-ghost use Rattle.segment_store.specs.Faults.{Added, HasOpeningCause};
+ghost use Rattle.log_device.specs.Faults.{Added};
+ghost use Rattle.segment_store.specs.Faults.{HasOpeningCause};
 ghost use Rattle.segment_store.specs.Logs.{HasLogCause, IsOpenedLog, Logs, empty_log, given_log, logs_after, with_log};
 ghost use Rattle.segment_store.specs.Opening.{IsOpened};
 ghost use Rattle.segment_store.specs.Paths.{OpenAt, PathMarks, Paths, fork_of};
 ghost use Rattle.segment_store.specs.Restored.{cleared, marks_after, paths_after};
 
-use crate::device::{BlockLane, LogDevice};
+use crate::device::BlockLane;
+use log_device::LogDevice;
 use std::alloc::Global;
 use thiserror::Error;
 

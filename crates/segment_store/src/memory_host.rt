@@ -1,14 +1,15 @@
 //! A host in memory.
 ghost use Rattle.std.specs.Option.{option_map_or};
-ghost use Rattle.std.specs.Prelude.{option_map, true, ◌↔◌, MatchResult, string_bytes, ◌≡◌, ◌≢◌, ◌+◌, ◌++◌, ◌==◌, ◌<◌, ◌≤◌, ◌*◌, ◌/◌, ◌^◌, ◌-◌, [], All, Some, IfOk, IfSome, IsErrOf, OnOk, OnErr, if◌then◌else◌, length, map, sum_by, vec_len};
-ghost use Rattle.segment_store.specs.Faults.{Added, HasOpeningCause};
+ghost use Rattle.std.specs.Prelude.{option_map, true, ◌↔◌, MatchResult, string_bytes, ◌≡◌, ◌≢◌, ◌+◌, ◌++◌, ◌==◌, ◌<◌, ◌≤◌, ◌*◌, ◌/◌, ◌^◌, ◌-◌, [], All, Some, IfOk, IfSome, IsErrOf, OnOk, if◌then◌else◌, length, map, sum_by, vec_len};
+ghost use Rattle.log_device.specs.Faults.{Added};
+ghost use Rattle.segment_store.specs.Faults.{HasOpeningCause};
 ghost use Rattle.segment_store.specs.Contents.{no_marks, with_page};
 ghost use Rattle.segment_store.specs.Lanes.{dealt, own_pages};
-ghost use Rattle.segment_store.specs.Logs.{HasLogCause, IsOpenedLog, empty_log, given_log, logs_after, no_logs, with_log};
+ghost use Rattle.segment_store.specs.Logs.{HasLogCause, IsOpenedLog, empty_log, logs_after, with_log};
 ghost use Rattle.segment_store.specs.MemoryHost.{bytes_of, lanes_of, marks_at, open_now, openings_of, segments_at};
 ghost use Rattle.segment_store.specs.MemoryLane.{fresh_lane_plan, marks_of, pages_of, plan_of};
 ghost use Rattle.segment_store.specs.MemoryLog.{as_stored, logs_at, opened_at};
-ghost use Rattle.segment_store.specs.Plan.{after_call, fails_next, fresh_plan};
+ghost use Rattle.log_device.specs.Plan.{after_call, fails_next, fresh_plan};
 ghost use Rattle.segment_store.specs.Relation.{block_at, segment_pages, first_blocks, relation_of};
 ghost use Rattle.segment_store.specs.Opening.{IsOpened};
 ghost use Rattle.segment_store.specs.Paths.{fork_of};
@@ -17,16 +18,14 @@ ghost use Rattle.block_tag.specs.Names.{lane_number};
 ghost use Rattle.std.specs.List.{position};
 ghost use Rattle.std.specs.Str.{bytes_eq};
 
-use crate::count::FaultCount;
 use crate::device::BlockLane;
 use crate::host::{Host, HostError, LogOpen, Opened};
 use crate::memory_lane::{LanePlan, MemLane};
-use crate::memory_log::MemLog;
 use crate::memory_logs::MemLogs;
 use crate::paths::fork_of_path;
-use crate::plan::FaultPlan;
 use crate::restore::give_blocks_back;
 use block_tag::{Fork, RelNo, Tag, lane_of};
+use log_device::{FaultCount, FaultPlan, LogDevice, MemLog};
 use page_layout::{PAGE_SIZE, Page};
 use std::alloc::{AllocError, Global};
 

@@ -1,16 +1,14 @@
 //! The logs of a host in memory.
-ghost use Rattle.std.specs.Prelude.{◌≡◌, ◌+◌, ◌-◌, ◌^◌, [], Some, IfOk, IsErrOf, MatchResult, OnErr, OnOk, option_map, string_bytes, true, ◌↔◌};
+ghost use Rattle.std.specs.Prelude.{◌≡◌, [], Some, IfOk, IsErrOf, MatchResult, option_map, string_bytes, true, ◌↔◌};
 ghost use Rattle.std.specs.List.{position};
 ghost use Rattle.std.specs.Str.{bytes_eq};
-ghost use Rattle.segment_store.specs.Faults.{Added};
-ghost use Rattle.segment_store.specs.Logs.{HasLogCause, empty_log, logs_after, no_logs, with_log};
+ghost use Rattle.log_device.specs.Faults.{Added};
+ghost use Rattle.segment_store.specs.Logs.{HasLogCause, empty_log, logs_after, with_log};
 ghost use Rattle.segment_store.specs.MemoryLog.{as_stored, logs_at, opened_at};
-ghost use Rattle.segment_store.specs.Plan.{after_call, fails_next, fresh_plan};
+ghost use Rattle.log_device.specs.Plan.{after_call, fails_next, fresh_plan};
 
-use crate::count::FaultCount;
 use crate::host::LogOpen;
-use crate::memory_log::{LogPlan, MemLog};
-use crate::plan::FaultPlan;
+use log_device::{FaultCount, FaultPlan, LogPlan, MemLog};
 use std::alloc::{AllocError, Global};
 
 /// A log's path, and the log as it was given back last: empty where none was since it was opened.

@@ -1,9 +1,9 @@
 //! Logs in memory.
 ghost use Rattle.std.specs.Prelude.{◌≡◌, ◌≤◌, ◌++◌, [], Some, IfOk, OnErr, is_ok, length, not};
-ghost use Rattle.segment_store.specs.Contents.{Puts, Syncs};
-ghost use Rattle.segment_store.specs.Faults.{HasCause};
-ghost use Rattle.segment_store.specs.Memory.{prefix_of, takes_piece};
-ghost use Rattle.segment_store.specs.Plan.{after_call, fails_next, fresh_plan};
+ghost use Rattle.log_device.specs.Bytes.{Puts, Syncs};
+ghost use Rattle.log_device.specs.Faults.{HasCause};
+ghost use Rattle.log_device.specs.Memory.{prefix_of, takes_piece};
+ghost use Rattle.log_device.specs.Plan.{after_call, fails_next, fresh_plan};
 
 use crate::count::FaultCount;
 use crate::device::{Failed, LogDevice, Sink};

@@ -1,0 +1,4 @@
+pub mod Faults
+pub mod Bytes
+pub mod Plan
+pub mod Memory
