@@ -2,3 +2,4 @@ pub mod Faults
 pub mod Bytes
 pub mod Plan
 pub mod Memory
+pub mod MemoryLog

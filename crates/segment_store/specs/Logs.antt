@@ -1,15 +1,11 @@
 -- Logs: their bytes, how many of them are durable, and what a host keeps of them.
-use Rattle.std.specs.Prelude.{◌≡◌, ℕ, ◌≤◌, List, [], length, Option, Some, None, Result, MatchResult, IfSome, option_map, if◌then◌else◌}
+use Rattle.std.specs.Prelude.{◌≡◌, ℕ, ◌≤◌, List, [], Option, Some, None, Result, MatchResult, IfSome, option_map, if◌then◌else◌}
 use Rattle.std.specs.Option.{option_and_then}
 use Rattle.std.specs.Str.{bytes_eq}
 use Rattle.log_device.specs.Faults.{Rose}
+use Rattle.log_device.specs.MemoryLog.{StoredLog}
 use Rattle.segment_store.specs.declared.host.LogOpen.{LogOpen}
 use Rattle.segment_store.specs.declared.host.LogOpen.TheVariants.{Failed, Memory}
-
--- a log's bytes, and how many of them are durable
-pub record StoredLog : Type 0 where
-  pub bytes : List ℕ
-  pub synced : ℕ
 
 -- paths to logs, None where there is none
 abbrev pub Logs : Type 0

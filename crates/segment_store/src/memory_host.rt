@@ -8,7 +8,8 @@ ghost use Rattle.segment_store.specs.Lanes.{dealt, own_pages};
 ghost use Rattle.segment_store.specs.Logs.{HasLogCause, IsOpenedLog, empty_log, logs_after, with_log};
 ghost use Rattle.segment_store.specs.MemoryHost.{bytes_of, lanes_of, marks_at, open_now, openings_of, segments_at};
 ghost use Rattle.segment_store.specs.MemoryLane.{fresh_lane_plan, marks_of, pages_of, plan_of};
-ghost use Rattle.segment_store.specs.MemoryLog.{as_stored, logs_at, opened_at};
+ghost use Rattle.segment_store.specs.MemoryLog.{logs_at, opened_at};
+ghost use Rattle.log_device.specs.MemoryLog.{appends_of, as_stored, room_of, syncs_of};
 ghost use Rattle.log_device.specs.Plan.{after_call, fails_next, fresh_plan};
 ghost use Rattle.segment_store.specs.Relation.{block_at, segment_pages, first_blocks, relation_of};
 ghost use Rattle.segment_store.specs.Opening.{IsOpened};
@@ -438,10 +439,10 @@ impl Host for MemHost {
 
     /// Fails where the plan says so.
     fn log(&mut self, alloc: Global, path: &str) -> Result<MemLog, LogOpen>
-        ensures opened { IfOk result (IsOpenedLog (λ l. Some l.sink.bytes) (λ l. l.synced) (λ l. l.faults.count) (Some (logs_at self.old.logs.files.items))) }
-        ensures room { IfOk result (λ log. log.sink.room ≡ self.old.logs.room) }
-        ensures appends { IfOk result (λ log. log.sink.puts ≡ fresh_plan self.old.logs.calls.appends) }
-        ensures syncs { IfOk result (λ log. log.syncs ≡ fresh_plan self.old.logs.calls.syncs) }
+        ensures opened { IfOk result (IsOpenedLog (λ l. Some (as_stored l).bytes) (λ l. (as_stored l).synced) (λ l. l.faults.count) (Some (logs_at self.old.logs.files.items))) }
+        ensures room { IfOk result (λ log. room_of log ≡ self.old.logs.room) }
+        ensures appends { IfOk result (λ log. appends_of log ≡ fresh_plan self.old.logs.calls.appends) }
+        ensures syncs { IfOk result (λ log. syncs_of log ≡ fresh_plan self.old.logs.calls.syncs) }
         ensures logs { MatchResult result (λ _. Some (logs_at self.new.logs.files.items) ≡ Some (with_log path.now empty_log (logs_at self.old.logs.files.items))) (λ _. Some (logs_at self.new.logs.files.items) ≡ Some (logs_at self.old.logs.files.items)) }
         ensures log_at { MatchResult result (λ _. opened_at self.new.logs ≡ path.now) (λ _. opened_at self.new.logs ≡ opened_at self.old.logs) }
         ensures fault { IsErrOf result LogOpen.Failed ↔ (fails_next self.old.logs.openings ≡ true) }

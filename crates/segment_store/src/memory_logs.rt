@@ -4,7 +4,8 @@ ghost use Rattle.std.specs.List.{position};
 ghost use Rattle.std.specs.Str.{bytes_eq};
 ghost use Rattle.log_device.specs.Faults.{Added};
 ghost use Rattle.segment_store.specs.Logs.{HasLogCause, empty_log, logs_after, with_log};
-ghost use Rattle.segment_store.specs.MemoryLog.{as_stored, logs_at, opened_at};
+ghost use Rattle.segment_store.specs.MemoryLog.{logs_at, opened_at};
+ghost use Rattle.log_device.specs.MemoryLog.{appends_of, as_stored, room_of, syncs_of};
 ghost use Rattle.log_device.specs.Plan.{after_call, fails_next, fresh_plan};
 
 use crate::host::LogOpen;
@@ -78,23 +79,23 @@ impl MemLogs {
         ensures files { MatchResult result (λ _. logs_at self.new.files.items ≡ with_log path.now empty_log (logs_at self.old.files.items)) (λ _. self.new.files.items ≡ self.old.files.items) }
         ensures same { self.new ≡ record self.old { files = self.new.files } }
     {
-        let log = MemLog::new(alloc, 0, LogPlan::none(alloc))?;
+        let empty = MemLog::new(alloc, 0, LogPlan::none(alloc))?;
         if let Some(index) = log_index(&self.files, path) {
-            self.files[index].log = log;
+            self.files[index].log = empty;
             return Ok(());
         }
         let path = String::from_str(alloc, path)?;
-        self.files.push(LogFile { path, log })?;
+        self.files.push(LogFile { path, log: empty })?;
         Ok(())
     }
 
     /// Makes an empty log, and has one stand at the path.
     fn make_log(&mut self, alloc: Global, path: &str) -> Result<MemLog, AllocError>
-        ensures bytes { IfOk result (λ log. log.sink.bytes ≡ []) }
-        ensures synced { IfOk result (λ log. log.synced ≡ 0) }
-        ensures room { IfOk result (λ log. log.sink.room ≡ self.old.room) }
-        ensures appends { IfOk result (λ log. log.sink.puts ≡ fresh_plan self.old.calls.appends) }
-        ensures syncs { IfOk result (λ log. log.syncs ≡ fresh_plan self.old.calls.syncs) }
+        ensures bytes { IfOk result (λ log. (as_stored log).bytes ≡ []) }
+        ensures synced { IfOk result (λ log. (as_stored log).synced ≡ 0) }
+        ensures room { IfOk result (λ log. room_of log ≡ self.old.room) }
+        ensures appends { IfOk result (λ log. appends_of log ≡ fresh_plan self.old.calls.appends) }
+        ensures syncs { IfOk result (λ log. syncs_of log ≡ fresh_plan self.old.calls.syncs) }
         ensures faults { IfOk result (λ log. log.faults.count ≡ 0) }
         ensures files { MatchResult result (λ _. logs_at self.new.files.items ≡ with_log path.now empty_log (logs_at self.old.files.items)) (λ _. self.new.files.items ≡ self.old.files.items) }
         ensures open_path { MatchResult result (λ _. opened_at self.new ≡ path.now) (λ _. opened_at self.new ≡ opened_at self.old) }
@@ -110,11 +111,11 @@ impl MemLogs {
 
     /// Opens an empty log at a path. Fails where the plan says so.
     pub fn open(&mut self, alloc: Global, path: &str) -> Result<MemLog, LogOpen>
-        ensures bytes { IfOk result (λ log. log.sink.bytes ≡ []) }
-        ensures synced { IfOk result (λ log. log.synced ≡ 0) }
-        ensures room { IfOk result (λ log. log.sink.room ≡ self.old.room) }
-        ensures appends { IfOk result (λ log. log.sink.puts ≡ fresh_plan self.old.calls.appends) }
-        ensures syncs { IfOk result (λ log. log.syncs ≡ fresh_plan self.old.calls.syncs) }
+        ensures bytes { IfOk result (λ log. (as_stored log).bytes ≡ []) }
+        ensures synced { IfOk result (λ log. (as_stored log).synced ≡ 0) }
+        ensures room { IfOk result (λ log. room_of log ≡ self.old.room) }
+        ensures appends { IfOk result (λ log. appends_of log ≡ fresh_plan self.old.calls.appends) }
+        ensures syncs { IfOk result (λ log. syncs_of log ≡ fresh_plan self.old.calls.syncs) }
         ensures faultless { IfOk result (λ log. log.faults.count ≡ 0) }
         ensures files { MatchResult result (λ _. logs_at self.new.files.items ≡ with_log path.now empty_log (logs_at self.old.files.items)) (λ _. self.new.files.items ≡ self.old.files.items) }
         ensures open_path { MatchResult result (λ _. opened_at self.new ≡ path.now) (λ _. opened_at self.new ≡ opened_at self.old) }

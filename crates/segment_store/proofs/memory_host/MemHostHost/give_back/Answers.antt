@@ -1,6 +1,7 @@
 use Rattle.std.proofs.Common.{Option, Some, option_map, sym, ap, ◌∙◌}
 use Rattle.segment_store.specs.Logs.{logs_after}
-use Rattle.segment_store.specs.MemoryLog.{as_stored, logs_at, opened_at}
+use Rattle.log_device.specs.MemoryLog.{as_stored}
+use Rattle.segment_store.specs.MemoryLog.{logs_at, opened_at}
 use Rattle.segment_store.specs.declared.memory_host.MemHost.{MemHost}
 use Rattle.log_device.specs.declared.memory_log.MemLog.{MemLog}
 use Rattle.segment_store.proofs.memory_host.MemHostHost.give_back.Goals as goal

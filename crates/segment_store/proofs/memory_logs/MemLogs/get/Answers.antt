@@ -1,14 +1,9 @@
-use Rattle.std.proofs.Common.{ℕ, List, Option, Some, None, sym, ap, ◌∙◌}
+use Rattle.std.proofs.Common.{List, None, sym, ap, ◌∙◌}
 use Rattle.std.specs.List.{position}
-use Rattle.segment_store.specs.Logs.{StoredLog}
-use Rattle.segment_store.specs.MemoryLog.{as_stored, log_path}
+use Rattle.segment_store.specs.MemoryLog.{log_in, log_path}
 use Rattle.segment_store.specs.declared.memory_logs.LogFile.{LogFile}
 use Rattle.segment_store.proofs.FilesByPath.{has_path, is_first, read_first, read_none}
 use Rattle.segment_store.proofs.memory_logs.MemLogs.get.Goals as goal
-
--- what a file has as its log
-abbrev log_in : LogFile → Option StoredLog
-log_in file = Some (as_stored file.log)
 
 pub returns-in-Some : goal.returns-in-Some
 returns-in-Some c =

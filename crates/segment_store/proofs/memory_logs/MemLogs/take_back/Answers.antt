@@ -1,14 +1,10 @@
 use Rattle.std.proofs.Common.{◌≡◌, ℕ, List, Option, Some, None, option_map, string_bytes, sym, ap, ap₂, ◌∙◌}
 use Rattle.std.specs.List.{position}
-use Rattle.segment_store.specs.Logs.{StoredLog}
-use Rattle.segment_store.specs.MemoryLog.{as_stored, log_path, logs_at}
+use Rattle.log_device.specs.MemoryLog.{StoredLog, as_stored}
+use Rattle.segment_store.specs.MemoryLog.{log_in, log_path, logs_at}
 use Rattle.segment_store.specs.declared.memory_logs.LogFile.{LogFile}
 use Rattle.segment_store.proofs.FilesByPath.{first_named, has_path, is_first, read_absent, read_becomes, read_first, read_none}
 use Rattle.segment_store.proofs.memory_logs.MemLogs.take_back.Goals as goal
-
--- what a file has as its log
-abbrev log_in : LogFile → Option StoredLog
-log_in file = Some (as_stored file.log)
 
 pub returns-in-Some-clause-files : goal.returns-in-Some-clause-files
 returns-in-Some-clause-files c =
