@@ -61,26 +61,26 @@ at_last (x ∷ l) a = at_last l a
 -- a write of a frame's page asks for the log to be flushed, and is made while the lane is out
 loaded : (k : LaneKind) (s : State) (n f : ℕ) (h : LaneHold) (l : Link) → Writes k s n f h l → lsn_of (s.pool.core.frame f).page ≤ h.flushed
 loaded (lane_kinds.write_block g tag p) s n f h l (at, x) = subst (λ (z : Page). lsn_of z ≤ h.flushed) (sym x.page) x.log_first
-loaded (lane_kinds.fail_write g tag p) s n f h l (at, x) = x.log_first
+loaded (lane_kinds.fail_write g tag p faults) s n f h l (at, x) = x.log_first
 loaded lane_kinds.take_lane s n f h l x = absurd x
 loaded lane_kinds.leave_lane s n f h l x = absurd x
 loaded (lane_kinds.lane_out taken) s n f h l x = absurd x
 loaded (lane_kinds.read_block tag p) s n f h l x = absurd x
-loaded (lane_kinds.fail_read tag) s n f h l x = absurd x
+loaded (lane_kinds.fail_read tag faults) s n f h l x = absurd x
 loaded lane_kinds.sync_lane s n f h l x = absurd x
-loaded lane_kinds.fail_sync s n f h l x = absurd x
+loaded (lane_kinds.fail_sync faults) s n f h l x = absurd x
 loaded (lane_kinds.lane_back noted) s n f h l x = absurd x
 
 is_out : (k : LaneKind) (s : State) (n f : ℕ) (h : LaneHold) (l : Link) → Writes k s n f h l → LaneAllowed k (s.lane n) h → h.out ≢ None
 is_out (lane_kinds.write_block g tag p) s n f h l x a = a.out
-is_out (lane_kinds.fail_write g tag p) s n f h l x a = a.out
+is_out (lane_kinds.fail_write g tag p faults) s n f h l x a = a.call.out
 is_out lane_kinds.take_lane s n f h l x a = absurd x
 is_out lane_kinds.leave_lane s n f h l x a = absurd x
 is_out (lane_kinds.lane_out taken) s n f h l x a = absurd x
 is_out (lane_kinds.read_block tag p) s n f h l x a = absurd x
-is_out (lane_kinds.fail_read tag) s n f h l x a = absurd x
+is_out (lane_kinds.fail_read tag faults) s n f h l x a = absurd x
 is_out lane_kinds.sync_lane s n f h l x a = absurd x
-is_out lane_kinds.fail_sync s n f h l x a = absurd x
+is_out (lane_kinds.fail_sync faults) s n f h l x a = absurd x
 is_out (lane_kinds.lane_back noted) s n f h l x a = absurd x
 
 module _ (s : State) (h : Invariant s) where

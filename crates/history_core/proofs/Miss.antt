@@ -145,7 +145,7 @@ pub no_write : HasNoWriteOut (view_of m21) 0
 no_write n out = absurd (out (lane_one (view_of m21).lanes _ refl refl n))
 
 pub goes_out : CanTakeOut sample_lane (m13.lane 0) (lane_hold (view_of m13) 0)
-goes_out = record { held = refl; home = refl; reads = refl; writes = refl; pages = λ blocks k b e at. absurd (cc); failed = λ tag e. absurd (cc); only_failed = λ k tag at. absurd (some-ne-none tag (sym at)) }
+goes_out = record { held = refl; home = refl; reads = refl; writes = refl; pages = λ blocks k b e at. absurd (cc) }
 
 pub below : (n : ℕ) → n < 0 → false ≡ true
 below n z = absurd (omega arith)

@@ -96,10 +96,11 @@ pub struct PartitionHold {
     pub changed: bool,
 }
 
-/// A block, by its tag, and its page.
+/// A block, by its tag, its page, and whether its last write failed.
 pub struct BlockPage {
     pub tag: u64,
     pub page: [u8; 0],
+    pub failed: bool,
 }
 
 /// The one call of a lane that a backend made while the lane was out.
@@ -115,10 +116,8 @@ pub enum LaneChange {
 
 /// What a lane was when it went out.
 pub struct TakenLane {
-    /// Its pages, where the contents are known.
+    /// Its blocks, where the contents are known.
     pub pages: Option<[BlockPage; 0]>,
-    /// The blocks whose last write had failed, by their tags.
-    pub failed: [u64; 0],
     /// How many reads, and how many writes and syncs, had failed.
     pub read_faults: u64,
     pub write_faults: u64,
@@ -149,8 +148,12 @@ pub enum LogChange {
 pub struct TakenLog {
     /// Its bytes, where the contents are known.
     pub bytes: Option<[u8; 0]>,
+    /// How many of the bytes were durable.
+    pub synced: u64,
     /// How many appends and syncs had failed.
     pub faults: u64,
+    /// Where the log was down, its end at the failure.
+    pub down: Option<u64>,
 }
 
 /// What a backend has of the log's latch.
@@ -221,13 +224,29 @@ pub struct Load {
     pub steps: u64,
 }
 
-/// One call of a device.
+/// One call of a device, and whether it was done.
 pub enum DeviceCall {
-    LaneRead { lane: u64, tag: u64 },
-    LaneWrite { lane: u64, tag: u64 },
-    LaneSync { lane: u64 },
-    LogAppend,
-    LogSync,
+    LaneRead {
+        lane: u64,
+        tag: u64,
+        done: bool,
+    },
+    LaneWrite {
+        lane: u64,
+        tag: u64,
+        page: [u8; 0],
+        done: bool,
+    },
+    LaneSync {
+        lane: u64,
+        done: bool,
+    },
+    LogAppend {
+        done: bool,
+    },
+    LogSync {
+        done: bool,
+    },
 }
 
 /// How many device calls failed, by the part that failed.
