@@ -4,7 +4,7 @@ use Rattle.std.proofs.lemmas.Option.{same_Some}
 use Rattle.pin_core.specs.declared.view.TakenLog.{TakenLog}
 use Rattle.pin_core.specs.declared.view.LogHold.{LogHold}
 use Rattle.pin_core.specs.State.{Page, no_log}
-use Rattle.history_core.specs.State.{Device, raised}
+use Rattle.history_core.specs.State.{Device}
 use Rattle.history_core.specs.Lanes.{Rises}
 use Rattle.history_core.specs.Device.{LogKind, take_log, leave_log, log_out, append, fail_append, sync_log, fail_sync, log_back, see_down, LogAllowed, device_after, log_hold_after, sees_down, Written, HasRisen, LogTally, holders, appenders, log_weigh, IsLeft, DeviceLaw, LogLink, log_shape, log_part}
 use Rattle.history_core.specs.Steps.{end_loaded}

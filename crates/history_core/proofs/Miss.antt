@@ -14,7 +14,6 @@ use Rattle.pin_core.specs.Steps as pin_steps
 use Rattle.pin_core.proofs.Sample.{at_partition, no_entries, one_entry, named, packed}
 use Rattle.page_core.proofs.Sample.{at_frame, sound_read}
 use Rattle.page_core.specs.Kinds.{Kind, start_input, note_read, page_out, overwrite_read, page_back, end_io, share, take_copy, leave_copy}
-use mathlib.Core.Option.{some-ne-none}
 use Rattle.pin_core.specs.declared.view.LaneHold.{LaneHold}
 use Rattle.pin_core.specs.declared.view.Seen.TheVariants as seen
 use Rattle.pin_core.specs.State.{lane_hold, no_lane}

@@ -1,5 +1,5 @@
 -- Each step keeps what is known of the log's device while it is out.
-use Rattle.std.proofs.Common.{◌≡◌, ◌≢◌, ℕ, ◌+◌, true, false, List, [], ◌∷◌, ◌++◌, length, set, Option, Some, None, sym, refl, ap, ◌∙◌, subst, ⊎_elim}
+use Rattle.std.proofs.Common.{◌≡◌, ℕ, ◌+◌, true, List, length, set, Some, sym, refl, ap, ◌∙◌, subst, ⊎_elim}
 use Rattle.std.proofs.lemmas.Option.{same_Some}
 use mathlib.Core.Option.{some}
 use lib.ListN.{get_elem?}

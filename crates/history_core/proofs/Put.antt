@@ -2,7 +2,6 @@
 use Rattle.std.proofs.Common.{◌≡◌, ◌≤◌, ◌+◌, ℕ, true, false, [], ◌∷◌, ◌++◌, List, None, lit<, refl, sym, ap, append-nil, arith}
 use Rattle.std.specs.Prelude.{max}
 use Rattle.std.proofs.lemmas.Option.{same_Some}
-use mathlib.Core.Option.{some-ne-none}
 use Rattle.state_word.specs.declared.word.IoEnd.TheVariants.{WriteOk}
 use lib.ListN.{length-replicate}
 use Rattle.page_layout.specs.Fields.{header_of, lsn_of}

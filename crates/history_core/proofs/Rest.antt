@@ -6,7 +6,7 @@ use Rattle.pin_core.specs.declared.view.LogHold.{LogHold}
 use Rattle.pin_core.specs.declared.view.View.{View}
 use Rattle.pin_core.specs.State.{Config, Page}
 use Rattle.pin_core.specs.Tallies.{some_weight}
-use Rattle.history_core.specs.Log.{Entry, IsImage, record_size, log_bytes, record_bytes}
+use Rattle.history_core.specs.Log.{Entry, IsImage, log_bytes, record_bytes}
 use Rattle.history_core.specs.State.{State, Store, Device, opening}
 use Rattle.history_core.specs.Device.{LogKind, take_log, leave_log, log_out, append, fail_append, sync_log, fail_sync, log_back, see_down, LogAllowed, device_after, view_logged, Written, DeviceLaw, LogLink, LogTally, holders, appenders, log_weigh, log_shape}
 use Rattle.history_core.specs.Invariant.{Invariant, written_of}

@@ -2,7 +2,6 @@
 use Rattle.std.proofs.Common.{false, slice_index_or, lit<, refl, sym, arith}
 use Rattle.std.specs.Prelude.{max}
 use Rattle.std.proofs.lemmas.Option.{same_Some}
-use mathlib.Core.Option.{some-ne-none}
 use Rattle.pin_core.specs.declared.view.Seen.TheVariants as seen
 use Rattle.pin_core.specs.declared.view.View.{View}
 use Rattle.pin_core.specs.State.{lane_hold, emptied_view}
