@@ -83,6 +83,7 @@ idle = record {
   copying = false;
   dirtied = false;
   unapplied = false;
+  image = None;
   copied = None;
   io = Quiet;
   read = None;

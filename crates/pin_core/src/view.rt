@@ -52,6 +52,8 @@ pub struct Link {
     pub dirtied: bool,
     /// The entry of the new page is in the log, and not yet applied to the page.
     pub unapplied: bool,
+    /// The image of that entry.
+    pub image: Option<[u8; 0]>,
     /// The page as the backend copied it under this content lock.
     pub copied: Option<[u8; 0]>,
     pub io: Io,
