@@ -123,7 +123,7 @@ FramesHoldPages s = (f : ℕ) (p : Page) → f < s.core.frames → HasTag (s.cor
 abbrev pub ValidPagesAreSound : State → Type 0
 ValidPagesAreSound s = (f : ℕ) → f < s.core.frames → (s.core.frame f).word.valid ≡ true → is_sound_page (s.core.frame f).page ≡ true
 
--- the block's page after the log is also a page that a view has copied under its content lock, and one that the lane gave under its input right
+-- A page that a view has copied under its content lock is the block's page after the log, where that is known, and so is one that the lane gave under its input right
 pub record CopiesArePages (s : State) : Type 0 where
   -- a copy is the frame's page still
   pub home : (i f : ℕ) (v : View) (p : Page) → get_elem? s.core.views i ≡ some v → f < s.core.frames → (link v f).copied ≡ Some p → (s.core.frame f).page ≡ p

@@ -104,6 +104,8 @@ pub record PageLink (b : Block) (fr : Frame) (l : Link) : Type 0 where
   pub dirtied : l.dirtied ≡ true → DirtiedLink fr l
   -- a view with an entry to apply to the page has the exclusive lock, marked the frame dirty, and notes no copy; the block's page after the log is the entry's image, which it notes, and sound
   pub unapplied : l.unapplied ≡ true → UnappliedLink b l
+  -- an image is noted only for an entry that isn't applied yet
+  pub imaged : l.unapplied ≡ false → l.image ≡ None
   -- a page noted as copied is the frame's page, and the block's page after the log, where that is known; and the content lock is held still
   pub copied : (p : Page) → l.copied ≡ Some p → CopiedLink b fr l p
   -- a page noted as read is the block's page after the log, where that is known, and the frame's once it is home; the input right is held still
