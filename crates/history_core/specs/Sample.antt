@@ -11,7 +11,7 @@ use Rattle.history_core.specs.Steps.{Event, lane, log, load_end, load_flushed, r
 
 -- one frame, one partition, one lane, one backend
 abbrev pub sample_config : Config
-sample_config = record { frames = 1; partitions = 1; partition_of = λ _. 0; lanes = 1; backends = 1; base = 0 }
+sample_config = record { frames = 1; partitions = 1; partition_of = λ _. 0; is_block = λ _. true; lanes = 1; backends = 1; base = 0 }
 
 -- the lane holds a page of three bytes for each block; nothing of the log's head is durable
 abbrev pub sample_page : Page

@@ -52,6 +52,8 @@ pub struct Link {
     pub dirtied: bool,
     /// The entry of the new page is in the log, and not yet applied to the page.
     pub unapplied: bool,
+    /// The image of that entry.
+    pub image: Option<[u8; 0]>,
     /// The page as the backend copied it under this content lock.
     pub copied: Option<[u8; 0]>,
     pub io: Io,
@@ -94,6 +96,8 @@ pub struct PartitionHold {
     pub out: Option<[MapEntry; 0]>,
     /// The one change of the map under this latch is made.
     pub changed: bool,
+    /// The map's entries, as the backend saw them last under this latch, with no change made since.
+    pub seen: Option<[MapEntry; 0]>,
 }
 
 /// A block, by its tag, its page, and whether its last write failed.
@@ -129,8 +133,6 @@ pub struct LaneHold {
     /// The lane is out with the backend, and this is what it was when it went out.
     pub out: Option<TakenLane>,
     pub change: LaneChange,
-    /// The one change of the lane under this latch is made.
-    pub changed: bool,
     /// The flushed position as the backend had loaded it when the lane went out.
     pub flushed: u64,
 }
@@ -162,8 +164,6 @@ pub struct LogHold {
     /// The device is out with the backend, and this is what it was when it went out.
     pub out: Option<TakenLog>,
     pub change: LogChange,
-    /// The one change of the log under this latch is made.
-    pub changed: bool,
     /// Under this latch a record was appended, and the log end not stored yet.
     pub appended: Option<[u8; 0]>,
     /// Under this latch a sync was done.
