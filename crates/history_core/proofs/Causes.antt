@@ -24,7 +24,7 @@ use Rattle.page_core.specs.Steps as page_steps
 use Rattle.history_core.specs.State.{Lane, State, Store, failed, opening}
 use Rattle.history_core.specs.Lanes as lane_kinds
 use Rattle.history_core.specs.Lanes.{LaneKind, LaneAllowed, lane_after, lane_hold_after, met_by, fault_of, syncs, is_failed_write}
-use Rattle.history_core.specs.Steps.{LaneAlone, Writes, Notes, Step, pools, lanes, writes, notes, logs, enters, reads, loads_end, begins, loads_flushed, raises, adds_hand, loads_hand, Event, Run, rests, goes, stepped, looked, aside, pool_after, logged_noting, pool_noting, paged, laned, has_read, has_begun, has_written}
+use Rattle.history_core.specs.Steps.{LaneAlone, Writes, Notes, Step, pools, lanes, writes, notes, logs, enters, reads, loads_end, begins, loads_flushed, raises, adds_hand, loads_hand, Event, Run, rests, goes, stepped, looked, aside, pool_after, logged_noting, pool_noting, paged, laned, has_loaded, has_read, has_begun, has_written}
 use Rattle.history_core.specs.Log.{record_size}
 use Rattle.history_core.specs.Device as log_kinds
 use Rattle.history_core.specs.Device.{LogKind, view_logged}
@@ -101,11 +101,11 @@ still_no_fault lane_kinds.take_lane s q loaded x a e h = (h, refl)
 still_no_fault lane_kinds.leave_lane s q loaded x a e h = (h, refl)
 still_no_fault (lane_kinds.lane_out taken) s q loaded x a e h = (h, refl)
 still_no_fault (lane_kinds.read_block tag p) s q loaded x a e h = (refl, refl)
-still_no_fault (lane_kinds.fail_read tag) s q loaded x a e h = (refl, refl)
+still_no_fault (lane_kinds.fail_read tag faults) s q loaded x a e h = (refl, refl)
 still_no_fault (lane_kinds.write_block f tag p) s q loaded x a e h = absurd a
-still_no_fault (lane_kinds.fail_write f tag p) s q loaded x a e h = absurd a
+still_no_fault (lane_kinds.fail_write f tag p faults) s q loaded x a e h = absurd a
 still_no_fault lane_kinds.sync_lane s q loaded x a e h = absurd (cc)
-still_no_fault lane_kinds.fail_sync s q loaded x a e h = absurd (cc)
+still_no_fault (lane_kinds.fail_sync faults) s q loaded x a e h = absurd (cc)
 still_no_fault (lane_kinds.lane_back noted) s q loaded x a e h = (refl, no_fault noted x.change h)
 
 either_false : (a b : Bool) → a ≡ false → b ≡ false → (a || b) ≡ false
@@ -237,14 +237,14 @@ module _ (s : State) (h : Invariant s) (m : MarksLaw s) where
     where
       output_of : (k : LaneKind) → Writes k s q f (lane_hold v q) (link v f) → (link v f).io ≡ Output
       output_of (lane_kinds.write_block g tag p) (at, x) = x.right.right
-      output_of (lane_kinds.fail_write g tag p) (at, x) = x.right.right
+      output_of (lane_kinds.fail_write g tag p faults) (at, x) = x.right.right
       output_of lane_kinds.take_lane x = absurd x
       output_of lane_kinds.leave_lane x = absurd x
       output_of (lane_kinds.lane_out taken) x = absurd x
       output_of (lane_kinds.read_block tag p) x = absurd x
-      output_of (lane_kinds.fail_read tag) x = absurd x
+      output_of (lane_kinds.fail_read tag faults) x = absurd x
       output_of lane_kinds.sync_lane x = absurd x
-      output_of lane_kinds.fail_sync x = absurd x
+      output_of (lane_kinds.fail_sync faults) x = absurd x
       output_of (lane_kinds.lane_back noted) x = absurd x
 
       dirty_now : {b : Bool} → b ≡ true → b ≡ false → ⊥
@@ -288,9 +288,9 @@ no_write_fault log_kinds.take_log v = omega arith
 no_write_fault log_kinds.leave_log v = omega arith
 no_write_fault (log_kinds.log_out taken) v = omega arith
 no_write_fault (log_kinds.append f tag p bytes) v = omega arith
-no_write_fault (log_kinds.fail_append bytes) v = omega arith
+no_write_fault (log_kinds.fail_append f tag p bytes faults) v = omega arith
 no_write_fault log_kinds.sync_log v = omega arith
-no_write_fault log_kinds.fail_sync v = omega arith
+no_write_fault (log_kinds.fail_sync synced faults) v = omega arith
 no_write_fault log_kinds.see_down v = omega arith
 
 pub marks_kept : {e : Event} {s t : State} → Step e s t → Invariant s → MarksLaw s → MarksLaw t
@@ -301,7 +301,7 @@ marks_kept (notes {s = s} i q f noted k v there live low inside a x) h m = notes
 marks_kept (logs {s = s} i k v there live a record_is) h m = λ none. let x = aside_marks s h m i v (view_logged k v) there (omega arith) refl (no_write_fault k v) refl none in record { frames = x.frames; blocks = x.blocks; views = x.views }
 marks_kept (enters {s = s} i f p v there live inside x) h m = entered_marks s h m i f p v there inside refl refl refl (λ tag. refl)
 marks_kept (reads {s = s} i f tag p v there live inside a) h m = aside_marks s h m i v (looked (seen.LogEnd s.end) (has_read s.end tag p v)) there (omega arith) refl refl refl
-marks_kept (loads_end {s = s} i v there live) h m = aside_marks s h m i v (looked (seen.LogEnd s.end) v) there (omega arith) refl refl refl
+marks_kept (loads_end {s = s} i v there live) h m = aside_marks s h m i v (has_loaded s.end v) there (omega arith) refl refl refl
 marks_kept (begins {s = s} i v there live) h m = aside_marks s h m i v (has_begun s.end (looked (seen.LogEnd s.end) v)) there (omega arith) refl refl refl
 marks_kept (loads_flushed {s = s} i v there live) h m = aside_marks s h m i v (looked (seen.Flushed s.flushed) (record v { flushed = s.flushed })) there (omega arith) refl refl refl
 marks_kept (adds_hand {s = s} i v there live) h m = λ none. let x = aside_marks s h m i v (stepped v) there (omega arith) refl refl refl none in record { frames = x.frames; blocks = x.blocks; views = x.views }

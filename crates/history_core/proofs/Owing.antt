@@ -37,7 +37,7 @@ use Rattle.history_core.specs.Lanes.{LaneKind, lane_after}
 use Rattle.history_core.specs.Device.{view_logged}
 use Rattle.history_core.specs.Invariant.{Invariant}
 use Rattle.history_core.specs.Debts.{Taken, IsCurrent, IsSettled, LinkDebt, ViewDebts, Debts, has_passed, has_listed, taken_of, DebtsLaw}
-use Rattle.history_core.specs.Steps.{Event, IsPlain, Writes, Notes, CanEnter, has_begun, new_entry, logged_noting, pool_noting, stepped, looked, paged, laned, has_read, has_written, Step, pools, lanes, writes, notes, logs, enters, reads, loads_end, begins, loads_flushed, raises, adds_hand, loads_hand, Run, rests, goes}
+use Rattle.history_core.specs.Steps.{Event, IsPlain, Writes, Notes, CanEnter, has_loaded, has_begun, new_entry, logged_noting, pool_noting, stepped, looked, paged, laned, has_read, has_written, Step, pools, lanes, writes, notes, logs, enters, reads, loads_end, begins, loads_flushed, raises, adds_hand, loads_hand, Run, rests, goes}
 use Rattle.history_core.proofs.Beginning.{BegunHere, link_begun}
 use Rattle.history_core.proofs.Blocks.{plain_block, tag_goes, written_is_logged}
 use Rattle.history_core.proofs.Calls.{at_both}
@@ -165,7 +165,7 @@ module _ (s : State) (h : Invariant s) (d : DebtsLaw s) where
           (output_position i f v there inside x.right.right m en at (tagged ∙ e ∙ sym x.tagged))))
           (λ (o : z ≢ tag). inl (sym (fails z ∙ put_else (failed s) tag false z o) ∙ ok)))
           n (put frame f (frame f)) s.end s.pool.logged vs y
-      by_kind (lane_kinds.fail_write g tag p) (_, x) {vs = vs} y = let ln : Lane = lane_after (lane_kinds.fail_write g tag p) (s.lane q) in let fails = lane_written s.lane_of s.lane q ln tag (λ (z : Lane). z.failed) true x.lane refl in
+      by_kind (lane_kinds.fail_write g tag p faults) (_, x) {vs = vs} y = let ln : Lane = lane_after (lane_kinds.fail_write g tag p faults) (s.lane q) in let fails = lane_written s.lane_of s.lane q ln tag (λ (z : Lane). z.failed) true x.lane refl in
           debts_later t (taken_of (record s { lane = put s.lane q ln })) refl
           (λ z. let a = lane_put (λ (m : Lane). m.stored_upto z) s.lane q ln refl (s.lane_of z) in omega arith)
           (λ z ok. dite (ℕ_discrete z tag) (λ (e : z ≡ tag). absurd (apart (fails z ∙ put_at (failed s) tag true z e) ok)) (λ (o : z ≢ tag). inl (sym (fails z ∙ put_else (failed s) tag true z o) ∙ ok)))
@@ -174,9 +174,9 @@ module _ (s : State) (h : Invariant s) (d : DebtsLaw s) where
       by_kind lane_kinds.leave_lane x y = absurd x
       by_kind (lane_kinds.lane_out taken) x y = absurd x
       by_kind (lane_kinds.read_block tag p) x y = absurd x
-      by_kind (lane_kinds.fail_read tag) x y = absurd x
+      by_kind (lane_kinds.fail_read tag faults) x y = absurd x
       by_kind lane_kinds.sync_lane x y = absurd x
-      by_kind lane_kinds.fail_sync x y = absurd x
+      by_kind (lane_kinds.fail_sync faults) x y = absurd x
       by_kind (lane_kinds.lane_back noted) x y = absurd x
 
   -- what a read from a lane whose contents aren't known gave is noted: the block's entries are in the lane
@@ -310,7 +310,7 @@ debts_kept (notes {s = s} i q f noted k v there live low inside a x) h d = same_
 debts_kept (logs {s = s} i k v there live a record_is) h d = aside_owe s h d i v (view_logged k v) there refl refl refl
 debts_kept (enters {s = s} i f p v there live inside x) h d = enters_owe s h d i f p v there live inside x
 debts_kept (reads {s = s} i f tag p v there live inside a) h d = aside_owe s h d i v (looked (seen.LogEnd s.end) (has_read s.end tag p v)) there refl refl refl
-debts_kept (loads_end {s = s} i v there live) h d = aside_owe s h d i v (looked (seen.LogEnd s.end) v) there refl refl refl
+debts_kept (loads_end {s = s} i v there live) h d = aside_owe s h d i v (has_loaded s.end v) there refl refl refl
 debts_kept (begins {s = s} i v there live) h d = let w : View = has_begun s.end (looked (seen.LogEnd s.end) v) in let x = d.each i v there in let begun : BegunHere v w = record { emptied = refl; number = refl; next = refl; joined = refl; links = refl; partitions = refl } in
     debts_set (taken_of s) s.pool.core.frames s.pool.core.frame s.end s.pool.logged s.pool.core.views d i w (record {
       begun = omega arith;

@@ -10,6 +10,7 @@ use Rattle.page_layout.specs.Fields.{lsn_of}
 use Rattle.pin_core.specs.declared.view.Content.TheVariants.{Unlocked, Exclusive}
 use Rattle.pin_core.specs.declared.view.Io.TheVariants.{Input}
 use Rattle.pin_core.specs.declared.view.LaneHold.{LaneHold}
+use Rattle.pin_core.specs.declared.view.LogHold.{LogHold}
 use Rattle.pin_core.specs.declared.view.Link.{Link}
 use Rattle.pin_core.specs.declared.view.View.{View}
 use Rattle.pin_core.specs.declared.view.Call.TheVariants.{Read}
@@ -42,9 +43,9 @@ use Rattle.history_core.specs.Lanes as lane_kinds
 use Rattle.history_core.specs.Lanes.{LaneKind, LaneAllowed, lane_after, lane_hold_after, LaneLink, lane_shape, lane_part}
 use Rattle.history_core.specs.Homes.{Home, home_of, IsClean, HomeLink, home_shape, home_part, IsUnframed, IsFlushedCell}
 use Rattle.history_core.specs.Invariant.{HistoryLaw, written_of, Invariant}
-use Rattle.history_core.specs.Steps.{Event, IsPlain, PoolAllowed, stepped, looked, aside, pool_after, pool_noting, CanNoteLaneRead, paged, laned, LaneAlone, CanWrite, Writes, Notes, new_entry, CanEnter, CanRead, has_read, has_begun, has_written, Step, pools, lanes, writes, notes, enters, reads, loads_end, begins, loads_flushed, raises, adds_hand, loads_hand, logs, Run, rests, goes}
+use Rattle.history_core.specs.Steps.{Event, IsPlain, PoolAllowed, stepped, looked, aside, pool_after, pool_noting, CanNoteLaneRead, paged, laned, LaneAlone, CanWrite, Writes, Notes, new_entry, CanEnter, CanRead, has_loaded, has_read, has_begun, has_written, Step, pools, lanes, writes, notes, enters, reads, loads_end, begins, loads_flushed, raises, adds_hand, loads_hand, logs, Run, rests, goes}
 use Rattle.history_core.specs.Device.{LogKind, take_log, leave_log, log_out, append, fail_append, sync_log, fail_sync, log_back, see_down, LogAllowed, device_after, view_logged, log_weigh, log_shape, log_part}
-use Rattle.history_core.proofs.Device.{log_keeps, enter_keeps, synced_all}
+use Rattle.history_core.proofs.Device.{log_keeps, enter_keeps, end_keeps, synced_all}
 use Rattle.history_core.proofs.Calls.{SameCalls, history_same, history_read, history_written, history_loaded, history_raised}
 use Rattle.history_core.proofs.Logs.{bytes_longer, bytes_length, cell_longer, cut_longer, cell_at_position, end_longer, log_longer}
 use Rattle.history_core.proofs.Lanes.{lane_later}
@@ -135,17 +136,17 @@ homes_same s logged q ln same = λ j tag. record {
 -- a kind at a lane that is no write leaves what the lane holds
 pub no_write_holds : (k : LaneKind) (s : State) (q : ℕ) (x : LaneHold) (ln : Lane) → LaneAlone k s q x → HoldsSame (lane_after k ln) ln
 no_write_holds (lane_kinds.write_block f tag p) s q x ln a = absurd a
-no_write_holds (lane_kinds.fail_write f tag p) s q x ln a = absurd a
+no_write_holds (lane_kinds.fail_write f tag p faults) s q x ln a = absurd a
 no_write_holds _ s q x ln a = record { stored = refl; upto = refl; failed = refl }
 
 -- whether a lane's contents are known stays
 still_known : (k : LaneKind) (ln : Lane) → (lane_after k ln).known ≡ ln.known
 still_known lane_kinds.take_lane ln = refl
 still_known lane_kinds.leave_lane ln = refl
-still_known (lane_kinds.fail_read tag) ln = refl
+still_known (lane_kinds.fail_read tag faults) ln = refl
 still_known (lane_kinds.write_block f tag p) ln = refl
-still_known (lane_kinds.fail_write f tag p) ln = refl
-still_known lane_kinds.fail_sync ln = refl
+still_known (lane_kinds.fail_write f tag p faults) ln = refl
+still_known (lane_kinds.fail_sync faults) ln = refl
 still_known _ ln = refl
 
 known_after : (s : State) → Invariant s → (k : LaneKind) (q tag : ℕ) → (put s.lane q (lane_after k (s.lane q)) (s.lane_of tag)).known ≡ s.known tag
@@ -456,15 +457,15 @@ writes_step : (s : State) → Invariant s → (i q f : ℕ) (k : LaneKind) (v : 
 writes_step s h i q f (lane_kinds.write_block g tag p) v there live low inside back (at, x) = let page = (s.pool.core.frame f).page in let upto_of = (λ (z : Page). max ((s.lane q).stored_upto tag) (lsn_of z)) in
     let y : CanWrite s q f tag page (lane_hold v q) (link v f) = record { tagged = x.tagged; lane = x.lane; page = refl; right = x.right; log_first = subst (λ (z : Page). lsn_of z ≤ (lane_hold v q).flushed) (sym x.page) x.log_first } in
     write_keeps s h i q f v there live low inside tag y (lane_kinds.write_block g tag p) p (upto_of p) false back refl refl refl (subst (λ (z : Page). IsFlushedCell s.origin s.log s.flushed tag (record (home_of s tag) { stored = z; stored_upto = upto_of z; failed = false })) x.page (is_flushed s h i q f v there live low inside tag y back.out))
-writes_step s h i q f (lane_kinds.fail_write g tag p) v there live low inside back (at, x) = let was = h.flushed_cells tag in let u = (s.lane q).stored_upto tag in let same : u ≡ stored_upto s tag = ap (λ (z : ℕ). (s.lane z).stored_upto tag) (sym x.lane) in
-    write_keeps s h i q f v there live low inside tag x (lane_kinds.fail_write g tag p) p u true back refl (λ j t. sym (put_same (s.lane q).stored_upto tag u t refl) j) refl (record { based = (let z = was.based in omega arith); within = (let z = was.within in omega arith); is_cell = λ known ok. absurd (cc) })
+writes_step s h i q f (lane_kinds.fail_write g tag p faults) v there live low inside back (at, x) = let was = h.flushed_cells tag in let u = (s.lane q).stored_upto tag in let same : u ≡ stored_upto s tag = ap (λ (z : ℕ). (s.lane z).stored_upto tag) (sym x.lane) in
+    write_keeps s h i q f v there live low inside tag x (lane_kinds.fail_write g tag p faults) p u true back refl (λ j t. sym (put_same (s.lane q).stored_upto tag u t refl) j) refl (record { based = (let z = was.based in omega arith); within = (let z = was.within in omega arith); is_cell = λ known ok. absurd (cc) })
 writes_step s h i q f lane_kinds.take_lane v there live low inside back x = absurd x
 writes_step s h i q f lane_kinds.leave_lane v there live low inside back x = absurd x
 writes_step s h i q f (lane_kinds.lane_out taken) v there live low inside back x = absurd x
 writes_step s h i q f (lane_kinds.read_block tag p) v there live low inside back x = absurd x
-writes_step s h i q f (lane_kinds.fail_read tag) v there live low inside back x = absurd x
+writes_step s h i q f (lane_kinds.fail_read tag faults) v there live low inside back x = absurd x
 writes_step s h i q f lane_kinds.sync_lane v there live low inside back x = absurd x
-writes_step s h i q f lane_kinds.fail_sync v there live low inside back x = absurd x
+writes_step s h i q f (lane_kinds.fail_sync faults) v there live low inside back x = absurd x
 writes_step s h i q f (lane_kinds.lane_back noted) v there live low inside back x = absurd x
 
 -- the note that a view makes of a page copied is that of the block
@@ -518,20 +519,20 @@ raises_step s h i v there synced = raised_state (record s { pool = aside s.pool 
     (synced_all (written_of s) s.device v.saw_down v.log (tallies log_shape s.pool.core.views 0) (h.device.columns 0 (lit< tt)) (h.device.cells i v 0 there (lit< tt)) (λ k. term_le (λ (u : View). log_weigh k u.log) s.pool.core.views i v there) synced)
 
 -- what is durable stays so
-durable_later : (k : LogKind) (end : ℕ) (d : Device) → d.synced ≤ length d.bytes → d.synced ≤ (device_after k end d).synced
-durable_later sync_log end d h = h
-durable_later take_log end d h = omega arith
-durable_later leave_log end d h = omega arith
-durable_later (log_out taken) end d h = omega arith
-durable_later (append f tag p bytes) end d h = omega arith
-durable_later (fail_append bytes) end d h = omega arith
-durable_later fail_sync end d h = omega arith
-durable_later (log_back noted) end d h = omega arith
-durable_later see_down end d h = omega arith
+durable_later : (k : LogKind) (end : ℕ) (d : Device) (h : LogHold) → LogAllowed k d h → d.synced ≤ length d.bytes → d.synced ≤ (device_after k end d).synced
+durable_later sync_log end d h a low = low
+durable_later take_log end d h a low = omega arith
+durable_later leave_log end d h a low = omega arith
+durable_later (log_out taken) end d h a low = omega arith
+durable_later (append f tag p bytes) end d h a low = omega arith
+durable_later (fail_append f tag p bytes faults) end d h a low = omega arith
+durable_later (fail_sync synced faults) end d h a low = a.later
+durable_later (log_back noted) end d h a low = omega arith
+durable_later see_down end d h a low = omega arith
 
 -- a step at the log
 logs_step : (s : State) → Invariant s → (i : ℕ) (k : LogKind) (v : View) → get_elem? s.pool.core.views i ≡ some v → LogAllowed k s.device v.log → Invariant (record s { pool = aside s.pool i (view_logged k v); device = device_after k s.end s.device })
-logs_step s h i k v there a = let w : View = view_logged k v in let views = s.pool.core.views in let later = durable_later k s.end s.device (h.device.columns 0 (lit< tt)).synced in
+logs_step s h i k v there a = let w : View = view_logged k v in let views = s.pool.core.views in let later = durable_later k s.end s.device v.log a (h.device.columns 0 (lit< tt)).synced in
     let same : SameHere v w = record { backend = record { emptied = refl; number = refl; next = refl; links = refl; partitions = refl }; joined = refl; links = refl; partitions = refl } in let blocks = blocks_aside s h i v w there refl in record {
       pool = pool_aside s.pool i v w h.pool there same;
       logged = h.logged;
@@ -625,6 +626,18 @@ module _ (s : State) (h : Invariant s) (i f : ℕ) (p : Page) (v : View) (there 
         };
       }
 
+-- who holds the log's latch keeps the log's end that it loads
+loads_end_step : (s : State) → Invariant s → (i : ℕ) (v : View) → get_elem? s.pool.core.views i ≡ some v → Invariant (record s { pool = aside s.pool i (has_loaded s.end v) })
+loads_end_step s h i v there = let w : View = has_loaded s.end v in let same : SameHere v w = record { backend = record { emptied = refl; number = refl; next = refl; links = refl; partitions = refl }; joined = refl; links = refl; partitions = refl } in
+    assemble_same s h (aside s.pool i w) s.lane (pool_aside s.pool i v w h.pool there same) refl h.known refl
+    (record {
+      device = sweep log_shape log_part log_part 1 (λ _. s.device) (λ _. s.device) (λ _. written_of s) (λ _. written_of s) s.pool.core.views i v w h.device there (λ g below. end_keeps (written_of s) s.device v.saw_down v.log);
+      history = history_same s.known s.origin s.log s.flushed s.pool.core.views h.history i v w there (record { calls = refl; front = refl; joined = refl; flushed = refl; emptied = refl; number = refl; kept = refl });
+      lanes = steady lane_shape lane_part s.lanes s.lane (λ _. s.flushed) s.pool.core.views h.lanes i v w there refl (λ q. refl);
+      wide = wide_set s.lanes s.pool.core.views h.wide i v w there refl refl;
+    })
+    (blocks_aside s h i v w there refl)
+
 -- no law speaks of the hand
 handed : {t : State} → Invariant t → (hand : ℕ) → Invariant (record t { hand = hand })
 handed k hand = record {
@@ -656,8 +669,7 @@ step_keeps (writes {s = s} i q f k v there live low inside a x) h = writes_step 
 step_keeps (notes {s = s} i q f noted k v there live low inside a x) h = notes_step s h i q f noted k v there live low inside a x
 step_keeps (enters {s = s} i f p v there live inside x) h = enters_step s h i f p v there live inside x
 step_keeps (reads {s = s} i f tag p v there live inside a) h = reads_step s h i f tag p v there inside a
-step_keeps (loads_end {s = s} i v there live) h = let w : View = looked (seen.LogEnd s.end) v in with_view s h i v w there (record { backend = record { emptied = refl; number = refl; next = refl; links = refl; partitions = refl }; joined = refl; links = refl; partitions = refl }) refl refl refl
-    (history_same s.known s.origin s.log s.flushed s.pool.core.views h.history i v w there (record { calls = refl; front = refl; joined = refl; flushed = refl; emptied = refl; number = refl; kept = refl }))
+step_keeps (loads_end {s = s} i v there live) h = loads_end_step s h i v there
 step_keeps (begins {s = s} i v there live) h = let w : View = has_begun s.end (looked (seen.LogEnd s.end) v) in let begun : BegunHere v w = record { emptied = refl; number = refl; next = refl; joined = refl; links = refl; partitions = refl } in
     assemble_same s h (aside s.pool i w) s.lane (pool_begun i v w begun s.pool h.pool there) refl h.known refl
     (outer_same s.known s.origin s.log s.lanes s.lane s.flushed (written_of s) s.device s.pool.core.views (outer_of s h) i v w there (record { calls = refl; front = refl; joined = refl; flushed = refl; emptied = refl; number = refl; kept = refl }) refl refl refl refl)
