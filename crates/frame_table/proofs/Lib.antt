@@ -1,0 +1,5 @@
+pub mod Kept
+pub mod Frames
+pub mod Acting
+pub mod Words
+pub mod Told

@@ -1,0 +1,1 @@
+-- What follows from a step that was told.

@@ -1,0 +1,5 @@
+pub mod Layout
+pub mod Kinds
+pub mod Shows
+pub mod Tells
+pub mod Sees
