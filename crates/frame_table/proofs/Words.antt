@@ -1,5 +1,5 @@
 -- Operations on state words, for each kind.
-use Rattle.std.proofs.Common.{◌≡◌, ◌≢◌, ℕ, ◌+◌, ◌*◌, ◌-◌, ◌<◌, ◌≤◌, ◌%◌, ◌^◌, eqb, nat_eq, cond, bit_or, Bool, true, false, List, Some, None, get_or, set, length, get_or-set_same, get_or-set_other, sym, refl, ap, ◌∙◌, subst, arith, eq-eqb, ne_eqb}
+use Rattle.std.proofs.Common.{◌≡◌, ◌≢◌, ℕ, ◌+◌, ◌*◌, ◌-◌, ◌<◌, ◌≤◌, ◌%◌, ◌^◌, eqb, nat_eq, cond, bit_or, bit_and, Option, Bool, true, false, List, Some, None, get_or, set, length, get_or-set_same, get_or-set_other, sym, refl, ap, ◌∙◌, subst, arith, eq-eqb, ne_eqb}
 use mathlib.Core.Logic.{dite}
 use mathlib.Core.Option.{none, some}
 use native.Mathlib.Decide.{ℕ_discrete}
@@ -10,6 +10,8 @@ use Rattle.atomic_table.specs.Table.{Me, step, Allows}
 use Rattle.atomic_table.specs.Table as table
 use Rattle.state_word.specs.declared.word.StateWord.{StateWord}
 use Rattle.state_word.specs.Fields.{fields, bit, pinned_fields, unpinned_fields, locked_fields, unlocked_fields}
+use Rattle.state_word.specs.declared.word.Flag.TheVariants.{Locked}
+use Rattle.state_word.proofs.Masks.{sets_flag, clears_flag}
 use Rattle.pin_core.specs.declared.view.View.{View}
 use Rattle.pin_core.specs.declared.view.Link.{Link}
 use Rattle.pin_core.specs.declared.view.Role.TheVariants.{Absent, HandedOut}
@@ -122,3 +124,42 @@ module _ {L G : Type 0} (d : Devices L G) (o : Opening L G) where
     rest = record { tag = refl; sharers = refl; exclusive = refl; copying = refl; page = refl };
     out = refl;
   })
+
+  -- locking a header: where it was locked, this is a load
+  pub locks_there : (slots id f : ℕ) (me : Me (Value L G) View) → f < o.config.frames → me.0.emptied ≡ false → HoldsNoHeader me.0
+      → Allows (Held d o) slots id me (state_place f) (λ n. bit_or n 4194304) (tells (if_unlocked (pins pin.lock_header)) (step slots (state_place f) 4194304 0 none) me)
+  locks_there slots id f me below live headless = acts d o (if_unlocked (pins pin.lock_header)) slots id f 4194304 0 (λ n. bit_or n 4194304) me below live (λ t s h laws there small. let n : ℕ = get_or t.words (3 * f) 0 in
+      of_lock t s n h (says t s f below h) (has_locked n) refl)
+    where
+      set_already : (n : ℕ) → has_locked n ≡ true → fields (bit_or n 4194304) ≡ fields n
+      set_already n e = sets_flag Locked n ∙ (λ i. record (fields n) { locked = sym e i })
+
+      of_lock : (t : table.State (Value L G) View) (s : State) (n : ℕ) → Shows d o t s → (s.pool.core.frame f).word ≡ fields n → (b : Bool) → has_locked n ≡ b
+          → Asks (cond b looking (pins pin.lock_header)) t s f (3 * f) (bit_or n 4194304) me.0
+      of_lock t s n h is true e = at_word looking t s f (bit_or n 4194304) me.0 below h record { allowed = tt; around = tt; word = is ∙ sym (set_already n e); rest = record { tag = refl; sharers = refl; exclusive = refl; copying = refl; page = refl }; out = refl }
+      of_lock t s n h is false e = at_word (pins pin.lock_header) t s f (bit_or n 4194304) me.0 below h record {
+        allowed = record { unlocked = ap (λ (w : StateWord). w.locked) is ∙ e };
+        around = headless;
+        word = ap locked_fields is ∙ sym (sets_flag Locked n);
+        rest = record { tag = refl; sharers = refl; exclusive = refl; copying = refl; page = refl };
+        out = refl;
+      }
+
+  -- a view that holds the header has the frame's word
+  pub held_word : (s : State) (id f : ℕ) (v : View) → Laws s → get_elem? s.pool.core.views id ≡ some v → f < s.pool.core.frames → (link v f).header ≢ None → (link v f).header ≡ Some (s.pool.core.frame f).word
+  held_word s id f v laws there inside held = of_header (link v f).header refl
+    where
+      of_header : (w : Option StateWord) → (link v f).header ≡ w → (link v f).header ≡ Some (s.pool.core.frame f).word
+      of_header None e = absurd (held e)
+      of_header (Some w) e = e ∙ ap (λ (x : StateWord). Some x) (sym ((laws.invariant.pool.core.grid.cells id v f there inside).header w e))
+
+  pub unlocks_there : (slots id f : ℕ) (me : Me (Value L G) View) → f < o.config.frames → me.0.emptied ≡ false → (link me.0 f).header ≢ None → (link me.0 f).pending ≡ false
+      → Allows (Held d o) slots id me (state_place f) (λ n. bit_and n 18446744073705357311) (tells (always (pins pin.unlock_header)) (step slots (state_place f) 18446744073705357311 0 none) me)
+  unlocks_there slots id f me below live held settled = acts d o (always (pins pin.unlock_header)) slots id f 18446744073705357311 0 (λ n. bit_and n 18446744073705357311) me below live (λ t s h laws there small. let n : ℕ = get_or t.words (3 * f) 0 in
+      at_word (pins pin.unlock_header) t s f (bit_and n 18446744073705357311) me.0 below h record {
+        allowed = record { held = held_word s id f me.0 laws there (let e = h.fixed.frames in omega arith) held; settled = settled };
+        around = tt;
+        word = ap unlocked_fields (says t s f below h) ∙ sym (clears_flag Locked n small);
+        rest = record { tag = refl; sharers = refl; exclusive = refl; copying = refl; page = refl };
+        out = refl;
+      })

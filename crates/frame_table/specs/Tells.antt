@@ -1,5 +1,5 @@
 -- What a step tells the seat that makes it.
-use Rattle.std.specs.Prelude.{◌≡◌, ◌≢◌, ℕ, ◌+◌, ◌<◌, ◌≤◌, ◌%◌, ◌^◌, cond, nat_eq, Bool, true, false}
+use Rattle.std.specs.Prelude.{◌≡◌, ◌≢◌, ℕ, ◌+◌, ◌<◌, ◌≤◌, ◌%◌, ◌^◌, cond, nat_eq, Bool, true, false, length}
 use mathlib.Core.Option.{some}
 use lib.ListN.{get_elem?}
 use Rattle.atomic_table.specs.Table.{Me, Step}
@@ -91,3 +91,10 @@ abbrev pub Refuses : ℕ → View → View → TryPin → Type 0
 Refuses f v w (Locked was) = Did looking f v w was × (has_locked was ≡ true)
 Refuses f v w (Untagged was) = Did looking f v w was × (has_locked was ≡ false) × (has_tag was ≡ false)
 Refuses f v w (Changed was now) = (was ≢ now) × ((u : View) × Did looking f v u was × Did looking f u w now)
+
+-- the first backend's view after it gave a new backend its number, and the new backend's, where the log begins at `base`
+abbrev pub kept_view : View → View
+kept_view v = record v { next = v.next + 1 }
+
+abbrev pub split_view : ℕ → View → View
+split_view base v = new_view v.next base (length v.links) (length v.partitions) (length v.lanes)

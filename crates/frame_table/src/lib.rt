@@ -3,7 +3,6 @@
 //! Each call is one step of the protocol, after loads where it tests or waits, and says which. docs/PROTOCOL.md tells the steps in words.
 #![tactic(auto)]
 
-
 mod calls;
 mod config;
 mod layout;
@@ -15,7 +14,6 @@ mod table;
 mod turn;
 mod value;
 
-
 pub use config::Config;
 pub use opening::Opening;
 pub use pin::{Pin, TryPin};
@@ -23,6 +21,3 @@ pub use rule::Rule;
 pub use table::{BuildRefused, FrameTable};
 pub use turn::{Place, Turn};
 pub use value::{Mapped, Value};
-
-
-
