@@ -11,10 +11,12 @@ use Rattle.state_word.specs.Fields.{fields, bit}
 use Rattle.pin_core.specs.declared.view.Link.{Link}
 use Rattle.pin_core.specs.declared.view.MapEntry.{MapEntry}
 use Rattle.pin_core.specs.declared.view.PartitionHold.{PartitionHold}
+use Rattle.pin_core.specs.declared.view.LaneHold.{LaneHold}
+use Rattle.pin_core.specs.declared.view.LogHold.{LogHold}
 use Rattle.pin_core.specs.declared.view.MapChange.{MapChange}
 use Rattle.pin_core.specs.declared.view.MapChange.TheVariants.{Settled, Entering, Leaving}
 use Rattle.pin_core.specs.declared.view.View.{View}
-use Rattle.pin_core.specs.State.{Frame, Partition, link, hold, idle, no_partition}
+use Rattle.pin_core.specs.State.{Frame, Partition, link, hold, idle, no_partition, no_lane}
 use Rattle.pin_core.specs.Kinds.{partitions_owing, holds_naming}
 use Rattle.pin_core.specs.Kinds as pin
 use Rattle.pin_core.specs.Tallies.{flag_weight}
@@ -108,6 +110,13 @@ out_same (pages k) s f v e (place.Page g) = ap (λ (z : Option (List ℕ)). is_s
 out_same (pages k) s f v e (place.Of (turn.Partition p)) = refl
 out_same (pages k) s f v e (place.Of (turn.Lane q)) = refl
 out_same (pages k) s f v e (place.Of turn.Log) = refl
+
+-- what a view has out is in its links and in what it has of the latches
+pub same_out : (v w : View) → w.links ≡ v.links → w.partitions ≡ v.partitions → w.lanes ≡ v.lanes → w.log ≡ v.log → (x : Place) → is_out x w ≡ is_out x v
+same_out v w links partitions lanes log (place.Page f) = ap (λ (l : List Link). is_some (get_or l f idle).out) links
+same_out v w links partitions lanes log (place.Of (turn.Partition p)) = ap (λ (l : List PartitionHold). is_some (get_or l p no_partition).out) partitions
+same_out v w links partitions lanes log (place.Of (turn.Lane q)) = ap (λ (l : List LaneHold). is_some (get_or l q no_lane).out) lanes
+same_out v w links partitions lanes log (place.Of turn.Log) = ap (λ (l : LogHold). is_some l.out) log
 
 -- what no view has out had none out before, where the stepping view's values stay where they are
 pub home_before : (views : List View) (i : ℕ) (v w : View) (x : Place) → get_elem? views i ≡ some v → (is_out x w ≡ false → is_out x v ≡ false) → IsHome x (set views i w) → IsHome x views

@@ -3,3 +3,4 @@ pub mod Frames
 pub mod Acting
 pub mod Words
 pub mod Told
+pub mod Splitting

@@ -10,6 +10,7 @@ mod opening;
 mod pin;
 mod plays;
 mod rule;
+mod seats;
 mod table;
 mod turn;
 mod value;
