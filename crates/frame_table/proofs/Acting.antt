@@ -1,20 +1,16 @@
 -- An operation on a word of a frame is a step of the state.
-use Rattle.std.proofs.Common.{◌≡◌, ◌≢◌, ℕ, ◌+◌, ◌*◌, ◌-◌, ◌<◌, ◌≤◌, eqb, nat_eq, cond, Bool, true, false, List, get_or, set, sym, refl, ap, ◌∙◌, subst, arith, eq-eqb, ne_eqb}
-use mathlib.Core.Logic.{dite}
+use Rattle.std.proofs.Common.{◌≡◌, ℕ, ◌+◌, ◌*◌, ◌-◌, ◌<◌, nat_eq, cond, Bool, true, false, List, get_or, sym, refl, ap, ◌∙◌, subst, arith}
 use mathlib.Core.Option.{none, some}
-use native.Mathlib.Decide.{ℕ_discrete}
 use lib.ListN.{get_elem?}
-use prog.Atomic.{either}
 use Rattle.atomic_table.specs.Table.{Me, step, keeps, stepped, Allows}
 use Rattle.atomic_table.specs.Table as table
 use Rattle.state_word.specs.Fields.{fields}
 use Rattle.pin_core.specs.declared.view.View.{View}
-use Rattle.pin_core.specs.State.{Frame, link}
-use Rattle.pin_core.specs.Kinds as pin
+use Rattle.pin_core.specs.State.{Frame}
 use Rattle.history_core.specs.State.{State}
 use Rattle.frame_table.specs.declared.value.Value.{Value}
 use Rattle.frame_table.specs.declared.opening.Opening.{Opening}
-use Rattle.frame_table.specs.Kinds.{Laws, Part, state_word, tag_word, content_word, FrameKind, pins, pages, part_of, load_of, frame_after, view_after, state_after}
+use Rattle.frame_table.specs.Kinds.{Laws, Part, state_word, tag_word, content_word, FrameKind, part_of, load_of, view_after, state_after}
 use Rattle.frame_table.specs.Shows.{ShowsFrame, Devices, Shows, Held}
 use Rattle.frame_table.specs.Tells.{part_place, SaysOf, Did, Choice, always, if_found, if_unlocked, chosen, choice_part, tells}
 use Rattle.frame_table.proofs.Kept.{laws_kept, frame_step}

@@ -1,8 +1,8 @@
 -- What the table shows after a step at a frame.
-use Rattle.std.proofs.Common.{◌≡◌, ◌≢◌, ℕ, zero, suc, ◌+◌, ◌*◌, ◌-◌, ◌<◌, ◌≤◌, ◌%◌, ◌^◌, Bool, true, false, List, [], ◌∷◌, Some, None, get_or, set, length, length-set, get_or-set_same, get_or-set_other, sym, refl, ap, ◌∙◌, subst, ⊎_elim, arith}
+use Rattle.std.proofs.Common.{◌≡◌, ℕ, zero, suc, ◌+◌, ◌*◌, ◌-◌, ◌<◌, ◌%◌, ◌^◌, false, List, [], ◌∷◌, get_or, set, length-set, get_or-set_other, sym, refl, ap, ◌∙◌, subst, arith}
 use Rattle.std.specs.Prelude.{is_some, Option}
 use mathlib.Core.Logic.{dite}
-use mathlib.Core.Option.{some, none, some-injective}
+use mathlib.Core.Option.{some, some-injective}
 use native.Mathlib.Decide.{ℕ_discrete}
 use lib.ListN.{get_elem?}
 use Rattle.atomic_table.specs.Table.{keeps, stepped}
@@ -22,19 +22,14 @@ use Rattle.pin_core.specs.Kinds as pin
 use Rattle.pin_core.specs.Tallies.{flag_weight}
 use Rattle.history_core.specs.State.{State}
 use Rattle.grid.specs.Shape.{put}
-use Rattle.grid.proofs.Lists.{at_set, set_here, set_else, put_at, put_else}
+use Rattle.grid.proofs.Lists.{set_here, set_else, put_at, put_else}
 use Rattle.frame_table.specs.declared.value.Value.{Value}
-use Rattle.frame_table.specs.declared.value.Value.TheVariants as value
 use Rattle.frame_table.specs.declared.opening.Opening.{Opening}
 use Rattle.frame_table.specs.declared.turn.Place.{Place}
 use Rattle.frame_table.specs.declared.turn.Place.TheVariants as place
 use Rattle.frame_table.specs.declared.turn.Turn.TheVariants as turn
-use Rattle.frame_table.specs.Layout.{state_place, tag_place, content_place, latch_place}
-use Rattle.frame_table.specs.Kinds.{Laws, FrameKind, pins, pages, block_at, IsAllowed, IsAllowedAround, frame_after, link_after, view_after, pool_after, state_after}
-use Rattle.frame_table.specs.Shows.{ShowsFrame, ShowsLatches, is_out, IsHome, Devices, Gives, GivesPage, GivesMap, GivesLane, IsOpened, HasPlace, HasValue, Shows, Held}
-use Rattle.frame_table.specs.Kinds.{Part, state_word, tag_word, content_word}
-use Rattle.frame_table.specs.Tells.{part_place}
-use Rattle.frame_table.proofs.Kept.{laws_kept, frame_step}
+use Rattle.frame_table.specs.Kinds.{FrameKind, pins, pages, IsAllowed, IsAllowedAround, frame_after, link_after, view_after, state_after}
+use Rattle.frame_table.specs.Shows.{ShowsFrame, ShowsLatches, is_out, IsHome, Devices, Gives, GivesPage, GivesMap, GivesLane, IsOpened, Shows}
 
 -- a word that none of the frame's three is leaves what they show
 pub frame_else : (words : List ℕ) (i n g : ℕ) (fr : Frame) → ¬ (i ≡ 3 * g) → ¬ (i ≡ 3 * g + 1) → ¬ (i ≡ 3 * g + 2) → ShowsFrame words g fr → ShowsFrame (set words i n) g fr

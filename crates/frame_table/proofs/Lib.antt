@@ -4,3 +4,5 @@ pub mod Acting
 pub mod Words
 pub mod Told
 pub mod Splitting
+pub mod Laying
+pub mod Opens

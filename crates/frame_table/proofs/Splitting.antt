@@ -1,11 +1,11 @@
 -- Seats come and go.
-use Rattle.std.proofs.Common.{◌≡◌, ◌≢◌, ℕ, ◌+◌, ◌<◌, ◌≤◌, Bool, true, false, List, [], ◌∷◌, ◌++◌, length, set, sym, refl, ap, ◌∙◌, subst, arith}
-use mathlib.Core.Option.{none, some}
+use Rattle.std.proofs.Common.{◌≡◌, ℕ, ◌<◌, List, [], ◌∷◌, ◌++◌, length, set, sym, refl, ap, ◌∙◌, subst, arith}
+use mathlib.Core.Option.{some}
 use lib.ListN.{get_elem?}
 use Rattle.atomic_table.specs.Table.{Splits}
 use Rattle.atomic_table.specs.Table as table
 use Rattle.pin_core.specs.declared.view.View.{View}
-use Rattle.pin_core.specs.State.{new_view, split_state}
+use Rattle.pin_core.specs.State.{new_view}
 use Rattle.pin_core.specs.Steps as pin_steps
 use Rattle.page_core.specs.Steps as page_steps
 use Rattle.history_core.specs.State.{State}
@@ -14,11 +14,10 @@ use Rattle.grid.proofs.Lists.{at_longer}
 use Rattle.frame_table.specs.declared.value.Value.{Value}
 use Rattle.frame_table.specs.declared.opening.Opening.{Opening}
 use Rattle.frame_table.specs.declared.turn.Place.{Place}
-use Rattle.frame_table.specs.Kinds.{Laws}
-use Rattle.frame_table.specs.Shows.{ShowsFrame, IsHome, Devices, IsOpened, Shows, Held}
+use Rattle.frame_table.specs.Shows.{IsHome, Devices, Shows, Held}
 use Rattle.frame_table.specs.Tells.{kept_view, split_view}
 use Rattle.frame_table.proofs.Kept.{laws_kept}
-use Rattle.frame_table.proofs.Frames.{SameValues, gives_same, same_out, home_before}
+use Rattle.frame_table.proofs.Frames.{gives_same, same_out, home_before}
 
 module _ {L G : Type 0} (d : Devices L G) (o : Opening L G) where
   -- the state where the views are others, and nothing else

@@ -1,5 +1,5 @@
 -- What follows from a step that was told.
-use Rattle.std.proofs.Common.{◌≡◌, ◌≢◌, ℕ, ◌+◌, ◌<◌, ◌≤◌, eqb, nat_eq, cond, Bool, true, false, Some, None, get_or, set, length, List, get_or-set_same, get_or-set_other, sym, refl, ap, ◌∙◌, subst, arith, eq-eqb, ne_eqb}
+use Rattle.std.proofs.Common.{◌≡◌, ◌≢◌, ℕ, ◌<◌, nat_eq, cond, Bool, true, false, Some, None, get_or, set, List, get_or-set_same, get_or-set_other, sym, refl, ap, ◌∙◌, subst, arith, eq-eqb, ne_eqb}
 use mathlib.Core.Logic.{dite}
 use native.Mathlib.Decide.{ℕ_discrete}
 use Rattle.state_word.specs.declared.word.StateWord.{StateWord}
@@ -14,7 +14,7 @@ use Rattle.pin_core.specs.Steps.{HoldsNoHeader}
 use Rattle.pin_core.proofs.Schedules.{few, own_pins}
 use Rattle.history_core.specs.State.{State}
 use Rattle.frame_table.specs.Kinds.{FrameKind, pins, pages, part_of, load_of, link_after, view_after}
-use Rattle.frame_table.specs.Sees.{SameSelf, Touches, Looked, CanUnpin, pinned_link, unpinned_link, locked_link, unlocked_link}
+use Rattle.frame_table.specs.Sees.{SameSelf, Touches, Looked, CanUnpin, pinned_link, unpinned_link, locked_link}
 use Rattle.frame_table.specs.Tells.{Choice, choice_part, part_place, Did, Looks, still, again, Tried, if_found, if_unlocked, chosen, has_locked, looking}
 
 self_after : (k : FrameKind) (s : State) (f : ℕ) (v : View) → SameSelf v (view_after k s f v)

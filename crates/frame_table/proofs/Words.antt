@@ -1,5 +1,5 @@
 -- Operations on state words, for each kind.
-use Rattle.std.proofs.Common.{◌≡◌, ◌≢◌, ℕ, ◌+◌, ◌*◌, ◌-◌, ◌<◌, ◌≤◌, ◌%◌, ◌^◌, eqb, nat_eq, cond, bit_or, bit_and, Option, Bool, true, false, List, Some, None, get_or, set, length, get_or-set_same, get_or-set_other, sym, refl, ap, ◌∙◌, subst, arith, eq-eqb, ne_eqb}
+use Rattle.std.proofs.Common.{◌≡◌, ◌≢◌, ℕ, ◌+◌, ◌*◌, ◌<◌, ◌%◌, ◌^◌, eqb, cond, bit_or, bit_and, Option, Bool, true, false, List, Some, None, get_or, set, length, get_or-set_same, get_or-set_other, sym, refl, ap, ◌∙◌, subst, arith, eq-eqb, ne_eqb}
 use mathlib.Core.Logic.{dite}
 use mathlib.Core.Option.{none, some}
 use native.Mathlib.Decide.{ℕ_discrete}
@@ -13,8 +13,7 @@ use Rattle.state_word.specs.Fields.{fields, bit, pinned_fields, unpinned_fields,
 use Rattle.state_word.specs.declared.word.Flag.TheVariants.{Locked}
 use Rattle.state_word.proofs.Masks.{sets_flag, clears_flag}
 use Rattle.pin_core.specs.declared.view.View.{View}
-use Rattle.pin_core.specs.declared.view.Link.{Link}
-use Rattle.pin_core.specs.declared.view.Role.TheVariants.{Absent, HandedOut}
+use Rattle.pin_core.specs.declared.view.Role.TheVariants.{Absent}
 use Rattle.pin_core.specs.declared.view.Content.TheVariants.{Unlocked}
 use Rattle.pin_core.specs.declared.view.Io.TheVariants.{Quiet}
 use Rattle.pin_core.specs.State.{Frame, link}
@@ -23,10 +22,10 @@ use Rattle.pin_core.specs.Steps.{HoldsNoHeader}
 use Rattle.history_core.specs.State.{State}
 use Rattle.frame_table.specs.declared.value.Value.{Value}
 use Rattle.frame_table.specs.declared.opening.Opening.{Opening}
-use Rattle.frame_table.specs.Layout.{state_place, word_count}
-use Rattle.frame_table.specs.Kinds.{Laws, FrameKind, pins, pages, part_of, load_of, frame_after, link_after, IsAllowed, IsAllowedAround}
+use Rattle.frame_table.specs.Layout.{state_place}
+use Rattle.frame_table.specs.Kinds.{Laws, FrameKind, pins, part_of, load_of, frame_after, link_after, IsAllowed, IsAllowedAround}
 use Rattle.frame_table.specs.Shows.{ShowsFrame, Devices, Shows, Held}
-use Rattle.frame_table.specs.Tells.{part_place, has_locked, has_tag, Choice, always, if_found, if_unlocked, chosen, choice_part, tells, looking}
+use Rattle.frame_table.specs.Tells.{part_place, has_locked, has_tag, always, if_found, if_unlocked, chosen, tells, looking}
 use Rattle.frame_table.proofs.Frames.{Asks}
 use Rattle.frame_table.proofs.Acting.{acts}
 

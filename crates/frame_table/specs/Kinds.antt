@@ -1,5 +1,5 @@
 -- The kinds of step at a frame, of pins and of pages, as one.
-use Rattle.std.specs.Prelude.{◌≡◌, ℕ, Option, List}
+use Rattle.std.specs.Prelude.{ℕ}
 use Rattle.pin_core.specs.declared.view.View.{View}
 use Rattle.pin_core.specs.declared.view.Link.{Link}
 use Rattle.pin_core.specs.State.{Frame, link}

@@ -1,5 +1,5 @@
 -- The rule of the table: what its words, slots and views show of a state that has the law.
-use Rattle.std.specs.Prelude.{◌≡◌, ℕ, ◌+◌, ◌<◌, ◌≤◌, ◌%◌, ◌^◌, Bool, true, false, List, length, map, slice_index, Option, Some, None, is_some, replicate}
+use Rattle.std.specs.Prelude.{◌≡◌, ℕ, ◌<◌, ◌≤◌, ◌%◌, ◌^◌, Bool, false, List, length, map, slice_index, Option, Some, is_some}
 use mathlib.Core.Option.{some}
 use mathlib.Core.Option as slot
 use lib.ListN.{get_elem?}
@@ -84,6 +84,10 @@ module _ {L G : Type 0} where
     pub failed : (known : Pages) (word : ℕ) (tag : Tag) → d.contents l ≡ Some known → unpacked_tag word ≡ Some tag → lane_number tag lanes ≡ q → ln.failed word ≡ d.failed_writes l tag
     pub reads : ln.read_faults ≡ d.read_faults l
     pub writes : ln.write_faults ≡ d.write_faults l
+
+  -- no block's last write has failed, where that is known
+  abbrev pub AreUnfailed : Devices L G → List L → Type 0
+  AreUnfailed d lanes = (q : ℕ) (l : L) (known : Pages) (tag : Tag) → get_elem? lanes q ≡ some l → d.contents l ≡ Some known → d.failed_writes l tag ≡ false
 
   -- a value is what the state says of a place
   abbrev pub GivesPage : Value L G → Page → Type 0

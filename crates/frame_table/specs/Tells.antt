@@ -5,7 +5,7 @@ use lib.ListN.{get_elem?}
 use Rattle.atomic_table.specs.Table.{Me, Step}
 use Rattle.state_word.specs.Fields.{fields, bit}
 use Rattle.pin_core.specs.declared.view.View.{View}
-use Rattle.pin_core.specs.State.{Frame, link, new_view}
+use Rattle.pin_core.specs.State.{Frame, new_view}
 use Rattle.pin_core.specs.Kinds as pin
 use Rattle.history_core.specs.State.{State}
 use Rattle.frame_table.specs.declared.value.Value.{Value}

@@ -3,6 +3,7 @@
 //! Each call is one step of the protocol, after loads where it tests or waits, and says which. docs/PROTOCOL.md tells the steps in words.
 #![tactic(auto)]
 
+mod build;
 mod calls;
 mod config;
 mod layout;

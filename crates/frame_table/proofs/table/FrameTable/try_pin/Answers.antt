@@ -1,4 +1,4 @@
-use Rattle.std.proofs.Common.{rules, arith, refl, sym, ◌∙◌}
+use Rattle.std.proofs.Common.{refl}
 use Rattle.pin_core.specs.Kinds.{pin}
 use Rattle.frame_table.specs.Kinds.{pins}
 use Rattle.frame_table.specs.Tells.{looking}

@@ -1,4 +1,4 @@
-use Rattle.std.proofs.Common.{rules, refl, sym, ◌∙◌}
+use Rattle.std.proofs.Common.{refl, sym, ◌∙◌}
 use Rattle.pin_core.specs.Kinds.{unpin}
 use Rattle.frame_table.specs.Kinds.{pins}
 use Rattle.frame_table.specs.Tells.{still, again}

@@ -1,4 +1,3 @@
-use Rattle.std.proofs.Common.{◌≡◌}
 use Rattle.frame_table.specs.Sees.{SameSeat}
 use Rattle.frame_table.specs.Tells.{Looks}
 use Rattle.frame_table.proofs.table.FrameTable.unpin.Given as goal
