@@ -1,0 +1,6 @@
+pub mod Layout
+pub mod Kinds
+pub mod Shows
+pub mod Laid
+pub mod Tells
+pub mod Sees

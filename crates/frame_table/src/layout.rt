@@ -1,0 +1,23 @@
+//! Where the words and the slots lie, as `specs/Layout.antt` has it.
+ghost use Rattle.std.specs.Prelude.{◌≡◌};
+ghost use Rattle.frame_table.specs.Layout as layout;
+
+/// How many words follow those of the frames.
+pub(crate) const OTHER_WORDS: usize = 148;
+
+/// How many slots follow those of the frames.
+pub(crate) const OTHER_SLOTS: usize = 145;
+
+/// The place of a frame's state word.
+pub(crate) fn state_place(frame: u32) -> usize
+    ensures { result ≡ layout.state_place frame }
+{
+    3 * frame as usize
+}
+
+/// The place of its tag word.
+pub(crate) fn tag_place(frame: u32) -> usize
+    ensures { result ≡ layout.tag_place frame }
+{
+    3 * frame as usize + 1
+}
