@@ -7,13 +7,15 @@ use Rattle.atomic_table.specs.Table as table
 use Rattle.state_word.specs.Fields.{fields}
 use Rattle.pin_core.specs.declared.view.View.{View}
 use Rattle.pin_core.specs.State.{Frame}
+use Rattle.history_core.specs.Laws.{Laws}
 use Rattle.history_core.specs.State.{State}
+use Rattle.history_core.proofs.Laws.{laws_kept}
 use Rattle.frame_table.specs.declared.value.Value.{Value}
 use Rattle.frame_table.specs.declared.opening.Opening.{Opening}
-use Rattle.frame_table.specs.Kinds.{Laws, Part, state_word, tag_word, content_word, FrameKind, part_of, load_of, view_after, state_after}
+use Rattle.frame_table.specs.Kinds.{Part, state_word, tag_word, content_word, FrameKind, part_of, load_of, view_after, state_after}
 use Rattle.frame_table.specs.Shows.{ShowsFrame, Devices, Shows, Held}
 use Rattle.frame_table.specs.Tells.{part_place, SaysOf, Did, Choice, always, if_found, if_unlocked, chosen, choice_part, tells}
-use Rattle.frame_table.proofs.Kept.{laws_kept, frame_step}
+use Rattle.frame_table.proofs.Kept.{frame_step}
 use Rattle.frame_table.proofs.Frames.{Asks, shows_after}
 
 -- the words of a frame lie beside one another

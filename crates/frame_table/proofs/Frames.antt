@@ -46,13 +46,14 @@ frame_else words i n g fr a b c h = let e0 : get_or (set words i n) (3 * g) 0 �
 
 -- A step leaves what is behind the words of the frames
 pub latches_else : (n : ℕ) (words : List ℕ) (i m : ℕ) (s s' : State) → i < 3 * n → ((p : ℕ) → (s'.pool.core.partition p).taken ≡ (s.pool.core.partition p).taken) → s'.lanes ≡ s.lanes
-    → ((q : ℕ) → (s'.lane q).taken ≡ (s.lane q).taken) → s'.device.taken ≡ s.device.taken → s'.end ≡ s.end → s'.flushed ≡ s.flushed → ShowsLatches n words s → ShowsLatches n (set words i m) s'
-latches_else n words i m s s' low parts count lanes log end flushed h = record {
+    → ((q : ℕ) → (s'.lane q).taken ≡ (s.lane q).taken) → s'.device.taken ≡ s.device.taken → s'.end ≡ s.end → s'.flushed ≡ s.flushed → s'.hand ≡ s.hand → ShowsLatches n words s → ShowsLatches n (set words i m) s'
+latches_else n words i m s s' low parts count lanes log end flushed hand h = record {
   partitions = λ p below. get_or-set_other words i (3 * n + p) m 0 (omega arith) ∙ h.partitions p below ∙ ap flag_weight (sym (parts p));
   lanes = λ q below. get_or-set_other words i (3 * n + 128 + q) m 0 (omega arith) ∙ h.lanes q (subst (λ (x : ℕ). q < x) count below) ∙ ap flag_weight (sym (lanes q));
   log = get_or-set_other words i (3 * n + 144) m 0 (omega arith) ∙ h.log ∙ ap flag_weight (sym log);
   end = get_or-set_other words i (3 * n + 145) m 0 (omega arith) ∙ h.end ∙ sym end;
   flushed = get_or-set_other words i (3 * n + 146) m 0 (omega arith) ∙ h.flushed ∙ sym flushed;
+  hand = get_or-set_other words i (3 * n + 147) m 0 (omega arith) ∙ h.hand ∙ sym hand;
 }
 
 -- a part of what stands at one place of a list, where another element with the same part is put at some place
@@ -168,7 +169,7 @@ module _ {L G : Type 0} (d : Devices L G) (o : Opening L G) where
     frame = λ g inside. subst (ShowsFrame (set t.words i n) g) (sym (frame_is k s id f v g)) (dite (ℕ_discrete g f)
         (λ e. subst (ShowsFrame (set t.words i n) g) (sym (put_at s.pool.core.frame f (frame_after k s f) g e)) (subst (λ (z : ℕ). ShowsFrame (set t.words i n) z (frame_after k s f)) (sym e) a.shows))
         (λ e. subst (ShowsFrame (set t.words i n) g) (sym (put_else s.pool.core.frame f (frame_after k s f) g e)) (frame_else t.words i n g (s.pool.core.frame g) (λ z. e (omega arith)) (λ z. e (omega arith)) (λ z. e (omega arith)) (h.frame g inside))));
-    latches = latches_else o.config.frames t.words i n s (state_after k s id f v) (omega arith) (taken_same k s id f v) refl (λ q. refl) refl refl refl h.latches;
+    latches = latches_else o.config.frames t.words i n s (state_after k s id f v) (omega arith) (taken_same k s id f v) refl (λ q. refl) refl refl refl refl h.latches;
     homes = λ x inside home. let old = h.homes x inside (home_before s.pool.core.views id v w x there (λ e. sym (out_same k s f v a.out x) ∙ e) (subst (IsHome x) (views_are k s id f v) home)) in
         record { value = old.value; home = old.home; gives = gives_same d o s (state_after k s id f v) (same_values k s id f v a.page) x old.value old.gives };
   }

@@ -1,4 +1,4 @@
--- The law of the state is kept by each step.
+-- Each kind at a frame is a step of the protocol.
 use Rattle.std.proofs.Common.{◌≡◌, ℕ, ◌<◌, false}
 use mathlib.Core.Option.{some}
 use lib.ListN.{get_elem?}
@@ -7,13 +7,7 @@ use Rattle.pin_core.specs.Steps as pin_steps
 use Rattle.page_core.specs.Steps as page_steps
 use Rattle.history_core.specs.State.{State}
 use Rattle.history_core.specs.Steps.{Event, Step, pools}
-use Rattle.history_core.proofs.Stepping.{step_keeps}
-use Rattle.history_core.proofs.Causes.{marks_kept}
-use Rattle.history_core.proofs.Counting.{counting}
-use Rattle.frame_table.specs.Kinds.{Laws, FrameKind, pins, pages, IsAllowed, IsAllowedAround, state_after, event_of}
-
-pub laws_kept : {e : Event} {s t : State} → Step e s t → Laws s → Laws t
-laws_kept x h = record { invariant = step_keeps x h.invariant; marks = marks_kept x h.invariant h.marks; counts = counting x h.invariant h.counts }
+use Rattle.frame_table.specs.Kinds.{FrameKind, pins, pages, IsAllowed, IsAllowedAround, state_after, event_of}
 
 -- a kind at a frame is a step
 pub frame_step : (k : FrameKind) (s : State) (i f : ℕ) (v : View) → get_elem? s.pool.core.views i ≡ some v → v.emptied ≡ false → f < s.pool.core.frames → IsAllowed k s f v → IsAllowedAround k s f v → Step (event_of k i f) s (state_after k s i f v)

@@ -1,5 +1,6 @@
 -- The table at the start shows the state at the start.
-use Rattle.std.proofs.Common.{◌≡◌, ℕ, zero, suc, ◌+◌, ◌*◌, ◌-◌, ◌<◌, ◌≤◌, ◌%◌, ◌^◌, Option, Some, None, List, [], ◌∷◌, ◌++◌, map, replicate, length, get_or, length-append, append_assoc, sym, refl, ap, ◌∙◌, subst, arith}
+use Rattle.std.proofs.Common.{◌≡◌, ℕ, zero, suc, ◌+◌, ◌*◌, ◌-◌, ◌<◌, ◌≤◌, ◌%◌, ◌^◌, Bool, false, Option, Some, None, List, [], ◌∷◌, ◌++◌, map, replicate, length, get_or, length-append, append_assoc, sym, refl, ap, ◌∙◌, subst, arith}
+use Rattle.std.specs.Option.{is_some}
 use Rattle.std.proofs.Math.Nat.{mod-lt}
 use Rattle.std.proofs.lemmas.List.{append-nil, length-map, get_or_append_left, get_or-append_right, length-replicate, get_or-replicate}
 use mathlib.Core.Option.{some, none, some-injective, some-ne-none}
@@ -15,9 +16,7 @@ use Rattle.pin_core.specs.State.{Frame, Page, zero_word, empty_frame}
 use Rattle.pin_core.specs.State as pin_state
 use Rattle.history_core.specs.State.{State, Store, CanStore}
 use Rattle.history_core.specs.State as history
-use Rattle.history_core.proofs.Opening.{opens}
-use Rattle.history_core.proofs.Causes.{marks_open}
-use Rattle.history_core.proofs.Counting.{counts_open}
+use Rattle.history_core.proofs.Laws.{laws_open}
 use Rattle.frame_table.specs.declared.value.Value.{Value}
 use Rattle.frame_table.specs.declared.value.Value.TheVariants as value
 use Rattle.frame_table.specs.declared.opening.Opening.{Opening}
@@ -118,6 +117,10 @@ module _ {L G : Type 0} (d : Devices L G) (lanes : List L) where
   origin_of None = zero_page
   origin_of (Some tag) = page_in (get_elem? lanes (lane_number tag (length lanes))) tag
 
+  abbrev known_in : slot.Option L → Bool
+  known_in none = false
+  known_in (some l) = is_some (d.contents l)
+
   abbrev faults_in : (L → ℕ) → slot.Option L → ℕ
   faults_in faults none = 0
   faults_in faults (some l) = faults l
@@ -128,6 +131,7 @@ module _ {L G : Type 0} (d : Devices L G) (lanes : List L) where
   abbrev store_of : Store
   store_of = record {
     lane_of = tag_lane (length lanes);
+    known = λ q. known_in (get_elem? lanes q);
     origin = λ word. origin_of (unpacked_tag word);
     names = λ tag. replicate 20 0;
     read_faults = λ q. faults_in d.read_faults (get_elem? lanes q);
@@ -136,8 +140,9 @@ module _ {L G : Type 0} (d : Devices L G) (lanes : List L) where
     log_faults = 0;
   }
 
-  fresh_is : (q : ℕ) (l : L) → get_elem? lanes q ≡ some l → AreUnfailed d lanes → IsLane d (length lanes) q l (history.fresh_lane store_of q)
-  fresh_is q l at unfailed = record {
+  fresh_is : (base q : ℕ) (l : L) → get_elem? lanes q ≡ some l → AreUnfailed d lanes → IsLane d (length lanes) q l (history.fresh_lane base store_of q)
+  fresh_is base q l at unfailed = record {
+    known = ap known_in at;
     pages = λ known word p told h. origin_is q l known word p at told h;
     failed = λ known word tag told named placed. sym (unfailed q l known tag at told);
     reads = ap (faults_in d.read_faults) at;
@@ -222,7 +227,7 @@ module _ {L G : Type 0} (d : Devices L G) (o : Opening L G) where
   homes ys h count unfailed (place.Of (turn.Lane q)) below out = let t = there_at lanes q (omega arith) in record {
     value = value.Lane t.0;
     home = at_map some ys (n + 128 + q) (value.Lane t.0) (lane_at d n lanes o.log.value ys h q t.0 t.1);
-    gives = subst (λ (m : ℕ). IsLane d m q t.0 (history.fresh_lane store q)) count (fresh_is d lanes q t.0 t.1 unfailed);
+    gives = subst (λ (m : ℕ). IsLane d m q t.0 (history.fresh_lane o.base store q)) count (fresh_is d lanes o.base q t.0 t.1 unfailed);
   }
   homes ys h count unfailed (place.Of turn.Log) below out = record { value = value.Log o.log.value; home = at_map some ys (n + 144) (value.Log o.log.value) (log_at d n lanes o.log.value ys h); gives = tt }
 
@@ -255,14 +260,11 @@ module _ {L G : Type 0} (d : Devices L G) (o : Opening L G) where
         log = in_latches words n o.base w (3 * n + 144) 144 refl (omega arith);
         end = in_rest words n o.base w (3 * n + 145) 145 refl;
         flushed = in_rest words n o.base w (3 * n + 146) 146 refl;
+        hand = in_rest words n o.base w (3 * n + 147) 147 refl;
       };
       homes = homes ys h count unfailed;
     };
-    laws = record {
-      invariant = opens config_of store zero_page (record { some_backend = some_backend; placed = λ word. partition_low (unpacked_tag word) }) (record { placed = λ word. subst (λ (m : ℕ). tag_lane m word < o.config.lanes) (sym count) (lane_low o.config.lanes some_lane (unpacked_tag word)); based = based; named = λ tag. length-replicate {A = ℕ} 20 0; synced = omega arith });
-      marks = marks_open config_of store zero_page;
-      counts = counts_open config_of store zero_page;
-    };
+    laws = laws_open config_of store zero_page (record { some_backend = some_backend; placed = λ word. partition_low (unpacked_tag word) }) (record { placed = λ word. subst (λ (m : ℕ). tag_lane m word < o.config.lanes) (sym count) (lane_low o.config.lanes some_lane (unpacked_tag word)); based = based; named = λ tag. length-replicate {A = ℕ} 20 0; synced = omega arith });
   }
 
   -- the same, where the devices are given beside the key

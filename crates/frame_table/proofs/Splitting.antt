@@ -11,12 +11,12 @@ use Rattle.page_core.specs.Steps as page_steps
 use Rattle.history_core.specs.State.{State}
 use Rattle.history_core.specs.Steps.{pools}
 use Rattle.grid.proofs.Lists.{at_longer}
+use Rattle.history_core.proofs.Laws.{laws_kept}
 use Rattle.frame_table.specs.declared.value.Value.{Value}
 use Rattle.frame_table.specs.declared.opening.Opening.{Opening}
 use Rattle.frame_table.specs.declared.turn.Place.{Place}
 use Rattle.frame_table.specs.Shows.{IsHome, Devices, Shows, Held}
 use Rattle.frame_table.specs.Tells.{kept_view, split_view}
-use Rattle.frame_table.proofs.Kept.{laws_kept}
 use Rattle.frame_table.proofs.Frames.{gives_same, same_out, home_before}
 
 module _ {L G : Type 0} (d : Devices L G) (o : Opening L G) where
@@ -32,7 +32,7 @@ module _ {L G : Type 0} (d : Devices L G) (o : Opening L G) where
     slots = h.slots;
     views = refl;
     frame = h.frame;
-    latches = let l = h.latches in record { partitions = l.partitions; lanes = l.lanes; log = l.log; end = l.end; flushed = l.flushed };
+    latches = let l = h.latches in record { partitions = l.partitions; lanes = l.lanes; log = l.log; end = l.end; flushed = l.flushed; hand = l.hand };
     homes = λ x inside none_out. let old = h.homes x inside (home x none_out) in
         record { value = old.value; home = old.home; gives = gives_same d o s (with_views s views) (record { page = λ f. refl; map = λ p. refl; count = refl; lane = λ q. refl }) x old.value old.gives };
   }

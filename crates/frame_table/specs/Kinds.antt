@@ -11,15 +11,6 @@ use Rattle.page_core.specs.Kinds as paged
 use Rattle.page_core.specs.Steps as page_steps
 use Rattle.history_core.specs.State.{State}
 use Rattle.history_core.specs.Steps.{Event, pool, IsPlain}
-use Rattle.history_core.specs.Invariant.{Invariant}
-use Rattle.history_core.specs.Causes.{MarksLaw}
-use Rattle.history_core.specs.Counts.{CountsLaw}
-
--- What `history_core` keeps
-pub record Laws (s : State) : Type 0 where
-  pub invariant : Invariant s
-  pub marks : MarksLaw s
-  pub counts : CountsLaw s
 
 -- which of a frame's words a step is at
 pub data Part : Type 0 where
@@ -43,6 +34,9 @@ page_part paged.start_input = state_word
 page_part paged.start_output = state_word
 page_part paged.clear_just_dirtied = state_word
 page_part (paged.end_io end) = state_word
+page_part (paged.set_waiter number) = state_word
+page_part paged.clear_waiter = state_word
+page_part paged.need_checkpoint = state_word
 page_part _ = content_word
 
 abbrev pub part_of : FrameKind → Part

@@ -14,6 +14,7 @@ use Rattle.pin_core.specs.State.{Frame, Page, link, hold, lane_hold, first_view}
 use Rattle.pin_core.specs.Turns.{found}
 use Rattle.pin_core.specs.Tallies.{flag_weight}
 use Rattle.history_core.specs.State.{State, Lane}
+use Rattle.history_core.specs.Laws.{Laws}
 use Rattle.frame_table.specs.declared.value.Mapped.{Mapped}
 use Rattle.frame_table.specs.declared.value.Value.{Value}
 use Rattle.frame_table.specs.declared.value.Value.TheVariants as value
@@ -21,8 +22,7 @@ use Rattle.frame_table.specs.declared.opening.Opening.{Opening}
 use Rattle.frame_table.specs.declared.turn.Place.{Place}
 use Rattle.frame_table.specs.declared.turn.Place.TheVariants as place
 use Rattle.frame_table.specs.declared.turn.Turn.TheVariants as turn
-use Rattle.frame_table.specs.Layout.{state_place, tag_place, content_place, latch_place, end_place, flushed_place, word_count, slot_of, slot_count, tag_partition, tag_lane}
-use Rattle.frame_table.specs.Kinds.{Laws}
+use Rattle.frame_table.specs.Layout.{state_place, tag_place, content_place, latch_place, end_place, flushed_place, hand_place, word_count, slot_of, slot_count, tag_partition, tag_lane}
 
 -- What the words say of the frame f
 pub record ShowsFrame (words : List ℕ) (f : ℕ) (fr : Frame) : Type 0 where
@@ -34,7 +34,7 @@ pub record ShowsFrame (words : List ℕ) (f : ℕ) (fr : Frame) : Type 0 where
   pub copying : fr.copying ≡ bit 19 (slice_index words (content_place f))
   pub small : slice_index words (content_place f) < 2 ^ 20
 
--- What the words say of the latches and of the log
+-- What the words say of the latches, of the log, and of the hand
 pub record ShowsLatches (n : ℕ) (words : List ℕ) (s : State) : Type 0 where
   -- a latch is taken where its word is 1, and else its word is 0
   pub partitions : (p : ℕ) → p < 128 → slice_index words (latch_place n (turn.Partition p)) ≡ flag_weight (s.pool.core.partition p).taken
@@ -42,6 +42,7 @@ pub record ShowsLatches (n : ℕ) (words : List ℕ) (s : State) : Type 0 where
   pub log : slice_index words (latch_place n turn.Log) ≡ flag_weight s.device.taken
   pub end : slice_index words (end_place n) ≡ s.end
   pub flushed : slice_index words (flushed_place n) ≡ s.flushed
+  pub hand : slice_index words (hand_place n) ≡ s.hand
 
 -- whether a view has the value of a place out
 abbrev pub is_out : Place → View → Bool
@@ -80,6 +81,7 @@ pub record HasPage (known : Pages) (lanes q word : ℕ) (p : Page) : Type 0 wher
 module _ {L G : Type 0} where
   -- The lane q of so many is the device l
   pub record IsLane (d : Devices L G) (lanes q : ℕ) (l : L) (ln : Lane) : Type 0 where
+    pub known : ln.known ≡ is_some (d.contents l)
     pub pages : (known : Pages) (word : ℕ) (p : Page) → d.contents l ≡ Some known → HasPage known lanes q word p → ln.stored word ≡ p
     pub failed : (known : Pages) (word : ℕ) (tag : Tag) → d.contents l ≡ Some known → unpacked_tag word ≡ Some tag → lane_number tag lanes ≡ q → ln.failed word ≡ d.failed_writes l tag
     pub reads : ln.read_faults ≡ d.read_faults l
