@@ -1,10 +1,12 @@
 -- Each kind of step at the log keeps the law of its device.
-use Rattle.std.proofs.Common.{◌≡◌, ◌≢◌, ℕ, ◌+◌, ◌≤◌, Bool, true, false, List, [], ◌++◌, length, length-append, append-nil, ◌||◌, Option, Some, None, refl, sym, ap, ◌∙◌, arith}
+use Rattle.std.proofs.Common.{◌≡◌, ◌≢◌, ℕ, ◌+◌, ◌≤◌, cond, Bool, true, false, List, [], ◌++◌, length, length-append, append-nil, ◌||◌, Option, Some, None, refl, sym, ap, ◌∙◌, arith}
+use Rattle.std.proofs.lemmas.Option.{same_Some}
 use Rattle.pin_core.specs.declared.view.TakenLog.{TakenLog}
 use Rattle.pin_core.specs.declared.view.LogHold.{LogHold}
 use Rattle.pin_core.specs.State.{Page, no_log}
 use Rattle.history_core.specs.State.{Device, raised}
 use Rattle.history_core.specs.Device.{LogKind, take_log, leave_log, log_out, append, fail_append, sync_log, fail_sync, log_back, see_down, LogAllowed, device_after, log_hold_after, sees_down, Written, HasRisen, LogTally, holders, appenders, log_weigh, IsLeft, DeviceLaw, LogLink, log_shape, log_part}
+use Rattle.history_core.specs.Steps.{end_loaded}
 use Rattle.grid.proofs.Grids.{Keeps}
 
 abbrev pub Keeps_by : LogKind → Written → Device → Bool → LogHold → Type 0
@@ -138,7 +140,7 @@ module _ (w : Written) (d : Device) (saw : Bool) (h : LogHold) where
   synced_all t q c le synced = let held : h.held ≡ true = grind (arith, c, synced) in let x = left_held t q c le held in let long : length d.bytes ≡ length w.bytes + length x.rest = ap (λ (y : List ℕ). length y) x.is_bytes ∙ length-append w.bytes x.rest in let all = c.synced synced in omega arith
 
   -- the record that is appended becomes part of the log
-  pub enter_keeps : (bytes : List ℕ) (end : ℕ) (all : List ℕ) → h.appended ≡ Some bytes → all ≡ w.bytes ++ bytes → Keeps log_shape log_part log_part w (record { bytes = all; end = end; faults = w.faults }) saw saw d h d (record h { appended = None })
+  pub enter_keeps : (bytes : List ℕ) (end : ℕ) (all : List ℕ) → h.appended ≡ Some bytes → all ≡ w.bytes ++ bytes → Keeps log_shape log_part log_part w (record { bytes = all; end = end; faults = w.faults }) saw saw d h d (record h { appended = None; end = Some end })
   enter_keeps bytes end all appended is = record {
     column = λ t t' q c sums le alone. let x = c.appended bytes appended in record {
       taken = grind (arith, q, c, appended, sums holders, sums appenders);
@@ -149,8 +151,8 @@ module _ (w : Written) (d : Device) (saw : Bool) (h : LogHold) where
       least = q.least;
       synced = q.synced;
     };
-    cell = λ t q le c. record { resting = (let r = c.resting in grind (arith, r)); home = c.home; appended = λ b e. absurd (cc); synced = c.synced; saw = c.saw };
-    others = λ t n m q c le e. let none : m.appended ≡ None = grind (arith, q, c, e, appended, le holders, le appenders) in record { resting = e.resting; home = e.home; appended = λ b f. absurd (cc); synced = e.synced; saw = e.saw };
+    cell = λ t q le c. record { resting = (let r = c.resting in grind (arith, r)); home = c.home; end = λ e z. (grind (arith, c, appended), sym (same_Some end e z)); appended = λ b e. absurd (cc); synced = c.synced; saw = c.saw };
+    others = λ t n m q c le e. let none : m.appended ≡ None = grind (arith, q, c, e, appended, le holders, le appenders) in record { resting = e.resting; home = e.home; end = λ x z. let held = (e.end x z).0 in absurd (grind (arith, q, c, e, appended, held, le holders, le appenders)); appended = λ b f. absurd (cc); synced = e.synced; saw = e.saw };
   }
 
   pub log_forgets : h.held ≡ false → Keeps log_shape log_part log_part w w saw false d h d no_log
@@ -164,6 +166,21 @@ module _ (w : Written) (d : Device) (saw : Bool) (h : LogHold) where
   pub down_keeps : (saw' : Bool) → (saw' ≡ true → d.down ≢ None) → Keeps log_shape log_part log_part w w saw saw' d h d h
   down_keeps saw' is = record {
     column = λ t t' q c sums le _. grind (arith, q, sums holders, sums appenders);
-    cell = λ t q le c. record { resting = c.resting; home = c.home; appended = c.appended; synced = c.synced; saw = is };
+    cell = λ t q le c. record { resting = c.resting; home = c.home; end = c.end; appended = c.appended; synced = c.synced; saw = is };
     others = λ t n m q c le e. e;
   }
+
+  -- the log's end is loaded
+  pub end_keeps : Keeps log_shape log_part log_part w w saw saw d h d (end_loaded w.end h)
+  end_keeps = record {
+    column = λ t t' q c sums le _. grind (arith, q, sums holders, sums appenders);
+    cell = λ t q le c. record { resting = unheld c; home = c.home; end = λ e z. by_held h.held refl e z c; appended = c.appended; synced = c.synced; saw = c.saw };
+    others = λ t n m q c le e. e;
+  }
+    where
+      unheld : LogLink w d saw h → h.held ≡ false → (h.out ≡ None) × (h.appended ≡ None) × (h.synced ≡ false)
+      unheld c e = c.resting e
+
+      by_held : (b : Bool) → h.held ≡ b → (e : ℕ) → cond h.held (Some w.end) h.end ≡ Some e → LogLink w d saw h → (h.held ≡ true) × (e ≡ w.end)
+      by_held true z e is c = (z, sym (same_Some w.end e (sym (ap (λ (b : Bool). cond b (Some w.end) h.end) z) ∙ is)))
+      by_held false z e is c = c.end e (sym (ap (λ (b : Bool). cond b (Some w.end) h.end) z) ∙ is)

@@ -37,7 +37,7 @@ use Rattle.history_core.specs.Lanes.{LaneKind, lane_after}
 use Rattle.history_core.specs.Device.{view_logged}
 use Rattle.history_core.specs.Invariant.{Invariant}
 use Rattle.history_core.specs.Debts.{Taken, IsCurrent, IsSettled, LinkDebt, ViewDebts, Debts, has_passed, has_listed, taken_of, DebtsLaw}
-use Rattle.history_core.specs.Steps.{Event, IsPlain, Writes, Notes, CanEnter, has_begun, new_entry, logged_noting, pool_noting, stepped, looked, paged, laned, has_read, has_written, Step, pools, lanes, writes, notes, logs, enters, reads, loads_end, begins, loads_flushed, raises, adds_hand, loads_hand, Run, rests, goes}
+use Rattle.history_core.specs.Steps.{Event, IsPlain, Writes, Notes, CanEnter, has_loaded, has_begun, new_entry, logged_noting, pool_noting, stepped, looked, paged, laned, has_read, has_written, Step, pools, lanes, writes, notes, logs, enters, reads, loads_end, begins, loads_flushed, raises, adds_hand, loads_hand, Run, rests, goes}
 use Rattle.history_core.proofs.Beginning.{BegunHere, link_begun}
 use Rattle.history_core.proofs.Blocks.{plain_block, tag_goes, written_is_logged}
 use Rattle.history_core.proofs.Calls.{at_both}
@@ -310,7 +310,7 @@ debts_kept (notes {s = s} i q f noted k v there live low inside a x) h d = same_
 debts_kept (logs {s = s} i k v there live a record_is) h d = aside_owe s h d i v (view_logged k v) there refl refl refl
 debts_kept (enters {s = s} i f p v there live inside x) h d = enters_owe s h d i f p v there live inside x
 debts_kept (reads {s = s} i f tag p v there live inside a) h d = aside_owe s h d i v (looked (seen.LogEnd s.end) (has_read s.end tag p v)) there refl refl refl
-debts_kept (loads_end {s = s} i v there live) h d = aside_owe s h d i v (looked (seen.LogEnd s.end) v) there refl refl refl
+debts_kept (loads_end {s = s} i v there live) h d = aside_owe s h d i v (has_loaded s.end v) there refl refl refl
 debts_kept (begins {s = s} i v there live) h d = let w : View = has_begun s.end (looked (seen.LogEnd s.end) v) in let x = d.each i v there in let begun : BegunHere v w = record { emptied = refl; number = refl; next = refl; joined = refl; links = refl; partitions = refl } in
     debts_set (taken_of s) s.pool.core.frames s.pool.core.frame s.end s.pool.logged s.pool.core.views d i w (record {
       begun = omega arith;

@@ -17,7 +17,7 @@ use Rattle.history_core.specs.Device.{view_logged}
 use Rattle.history_core.specs.State.{State, Store, opening}
 use Rattle.history_core.specs.Invariant.{Invariant}
 use Rattle.history_core.specs.Spent.{SpentLaw}
-use Rattle.history_core.specs.Steps.{Event, stepped, looked, pool_noting, paged, laned, has_begun, has_read, has_written, Step, pools, lanes, writes, notes, logs, enters, reads, loads_end, begins, loads_flushed, raises, adds_hand, loads_hand, Run, rests, goes}
+use Rattle.history_core.specs.Steps.{Event, stepped, looked, pool_noting, paged, laned, has_loaded, has_begun, has_read, has_written, Step, pools, lanes, writes, notes, logs, enters, reads, loads_end, begins, loads_flushed, raises, adds_hand, loads_hand, Run, rests, goes}
 use Rattle.history_core.proofs.Stepping.{step_keeps}
 use Rattle.grid.proofs.Lists.{at_set, at_end, at_only}
 
@@ -50,7 +50,7 @@ spent_kept (notes {s = s} i q f noted k v there live low inside a x) h m = spent
 spent_kept (logs {s = s} i k v there live a record_is) h m = spent_live s.pool.core.views m i (view_logged k v) live
 spent_kept (enters {s = s} i f p v there live inside x) h m = spent_live s.pool.core.views m i (has_written (s.end + record_size) (s.pool.core.frame f).tag p (paged (make_entry p) s.pool f v)) live
 spent_kept (reads {s = s} i f tag p v there live inside a) h m = spent_live s.pool.core.views m i (looked (seen.LogEnd s.end) (has_read s.end tag p v)) live
-spent_kept (loads_end {s = s} i v there live) h m = spent_live s.pool.core.views m i (looked (seen.LogEnd s.end) v) live
+spent_kept (loads_end {s = s} i v there live) h m = spent_live s.pool.core.views m i (has_loaded s.end v) live
 spent_kept (begins {s = s} i v there live) h m = spent_live s.pool.core.views m i (has_begun s.end (looked (seen.LogEnd s.end) v)) live
 spent_kept (loads_flushed {s = s} i v there live) h m = spent_live s.pool.core.views m i (looked (seen.Flushed s.flushed) (record v { flushed = s.flushed })) live
 spent_kept (raises {s = s} i v there live synced) h m = spent_live s.pool.core.views m i (stepped v) live

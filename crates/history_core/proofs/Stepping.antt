@@ -42,9 +42,9 @@ use Rattle.history_core.specs.Lanes as lane_kinds
 use Rattle.history_core.specs.Lanes.{LaneKind, LaneAllowed, lane_after, lane_hold_after, LaneLink, lane_shape, lane_part}
 use Rattle.history_core.specs.Homes.{Home, home_of, IsClean, HomeLink, home_shape, home_part, IsUnframed, IsFlushedCell}
 use Rattle.history_core.specs.Invariant.{HistoryLaw, written_of, Invariant}
-use Rattle.history_core.specs.Steps.{Event, IsPlain, PoolAllowed, stepped, looked, aside, pool_after, pool_noting, CanNoteLaneRead, paged, laned, LaneAlone, CanWrite, Writes, Notes, new_entry, CanEnter, CanRead, has_read, has_begun, has_written, Step, pools, lanes, writes, notes, enters, reads, loads_end, begins, loads_flushed, raises, adds_hand, loads_hand, logs, Run, rests, goes}
+use Rattle.history_core.specs.Steps.{Event, IsPlain, PoolAllowed, stepped, looked, aside, pool_after, pool_noting, CanNoteLaneRead, paged, laned, LaneAlone, CanWrite, Writes, Notes, new_entry, CanEnter, CanRead, has_loaded, has_read, has_begun, has_written, Step, pools, lanes, writes, notes, enters, reads, loads_end, begins, loads_flushed, raises, adds_hand, loads_hand, logs, Run, rests, goes}
 use Rattle.history_core.specs.Device.{LogKind, take_log, leave_log, log_out, append, fail_append, sync_log, fail_sync, log_back, see_down, LogAllowed, device_after, view_logged, log_weigh, log_shape, log_part}
-use Rattle.history_core.proofs.Device.{log_keeps, enter_keeps, synced_all}
+use Rattle.history_core.proofs.Device.{log_keeps, enter_keeps, end_keeps, synced_all}
 use Rattle.history_core.proofs.Calls.{SameCalls, history_same, history_read, history_written, history_loaded, history_raised}
 use Rattle.history_core.proofs.Logs.{bytes_longer, bytes_length, cell_longer, cut_longer, cell_at_position, end_longer, log_longer}
 use Rattle.history_core.proofs.Lanes.{lane_later}
@@ -625,6 +625,18 @@ module _ (s : State) (h : Invariant s) (i f : ℕ) (p : Page) (v : View) (there 
         };
       }
 
+-- who holds the log's latch keeps the log's end that it loads
+loads_end_step : (s : State) → Invariant s → (i : ℕ) (v : View) → get_elem? s.pool.core.views i ≡ some v → Invariant (record s { pool = aside s.pool i (has_loaded s.end v) })
+loads_end_step s h i v there = let w : View = has_loaded s.end v in let same : SameHere v w = record { backend = record { emptied = refl; number = refl; next = refl; links = refl; partitions = refl }; joined = refl; links = refl; partitions = refl } in
+    assemble_same s h (aside s.pool i w) s.lane (pool_aside s.pool i v w h.pool there same) refl h.known refl
+    (record {
+      device = sweep log_shape log_part log_part 1 (λ _. s.device) (λ _. s.device) (λ _. written_of s) (λ _. written_of s) s.pool.core.views i v w h.device there (λ g below. end_keeps (written_of s) s.device v.saw_down v.log);
+      history = history_same s.known s.origin s.log s.flushed s.pool.core.views h.history i v w there (record { calls = refl; front = refl; joined = refl; flushed = refl; emptied = refl; number = refl; kept = refl });
+      lanes = steady lane_shape lane_part s.lanes s.lane (λ _. s.flushed) s.pool.core.views h.lanes i v w there refl (λ q. refl);
+      wide = wide_set s.lanes s.pool.core.views h.wide i v w there refl refl;
+    })
+    (blocks_aside s h i v w there refl)
+
 -- no law speaks of the hand
 handed : {t : State} → Invariant t → (hand : ℕ) → Invariant (record t { hand = hand })
 handed k hand = record {
@@ -656,8 +668,7 @@ step_keeps (writes {s = s} i q f k v there live low inside a x) h = writes_step 
 step_keeps (notes {s = s} i q f noted k v there live low inside a x) h = notes_step s h i q f noted k v there live low inside a x
 step_keeps (enters {s = s} i f p v there live inside x) h = enters_step s h i f p v there live inside x
 step_keeps (reads {s = s} i f tag p v there live inside a) h = reads_step s h i f tag p v there inside a
-step_keeps (loads_end {s = s} i v there live) h = let w : View = looked (seen.LogEnd s.end) v in with_view s h i v w there (record { backend = record { emptied = refl; number = refl; next = refl; links = refl; partitions = refl }; joined = refl; links = refl; partitions = refl }) refl refl refl
-    (history_same s.known s.origin s.log s.flushed s.pool.core.views h.history i v w there (record { calls = refl; front = refl; joined = refl; flushed = refl; emptied = refl; number = refl; kept = refl }))
+step_keeps (loads_end {s = s} i v there live) h = loads_end_step s h i v there
 step_keeps (begins {s = s} i v there live) h = let w : View = has_begun s.end (looked (seen.LogEnd s.end) v) in let begun : BegunHere v w = record { emptied = refl; number = refl; next = refl; joined = refl; links = refl; partitions = refl } in
     assemble_same s h (aside s.pool i w) s.lane (pool_begun i v w begun s.pool h.pool there) refl h.known refl
     (outer_same s.known s.origin s.log s.lanes s.lane s.flushed (written_of s) s.device s.pool.core.views (outer_of s h) i v w there (record { calls = refl; front = refl; joined = refl; flushed = refl; emptied = refl; number = refl; kept = refl }) refl refl refl refl)

@@ -105,7 +105,7 @@ device_after _ end d = d
 -- What a kind makes of what the view has of the latch
 abbrev pub log_hold_after : LogKind → LogHold → LogHold
 log_hold_after take_log h = record h { held = true }
-log_hold_after leave_log h = record h { held = false; synced = false }
+log_hold_after leave_log h = record h { held = false; synced = false; end = None }
 log_hold_after (log_out taken) h = record h { out = Some taken }
 log_hold_after (append f tag p bytes) h = record h { change = change.Appended f tag p; appended = Some bytes }
 log_hold_after (fail_append bytes) h = record h { change = change.AppendFailed }
@@ -201,6 +201,8 @@ pub record AppendedLog (w : Written) (d : Device) (bytes : List ℕ) : Type 0 wh
 pub record LogLink (w : Written) (d : Device) (saw_down : Bool) (h : LogHold) : Type 0 where
   -- who doesn't hold the latch has neither the device nor a record nor a sync
   pub resting : h.held ≡ false → (h.out ≡ None) × (h.appended ≡ None) × (h.synced ≡ false)
+  -- the log's end that the holder has loaded or stored under the latch is the log's end
+  pub end : (e : ℕ) → h.end ≡ Some e → (h.held ≡ true) × (e ≡ w.end)
   -- a call is noted only while the device is out
   pub home : h.out ≡ None → h.change ≡ change.Untouched
   pub appended : (bytes : List ℕ) → h.appended ≡ Some bytes → AppendedLog w d bytes

@@ -8,6 +8,7 @@ use Rattle.pin_core.specs.declared.view.Io.TheVariants.{Input}
 use Rattle.pin_core.specs.declared.view.LaneChange.{LaneChange}
 use Rattle.pin_core.specs.declared.view.LaneChange.TheVariants as lane_change
 use Rattle.pin_core.specs.declared.view.LaneHold.{LaneHold}
+use Rattle.pin_core.specs.declared.view.LogHold.{LogHold}
 use Rattle.pin_core.specs.declared.view.Seen.{Seen}
 use Rattle.pin_core.specs.declared.view.Seen.TheVariants as seen
 use Rattle.pin_core.specs.declared.view.Link.{Link}
@@ -187,9 +188,16 @@ pub record CanRead (tag : ℕ) (p : Page) (l : Link) : Type 0 where
   pub settled : l.unapplied ≡ false
   pub remembered : l.tag ≡ Some tag
 
+-- who holds the log's latch keeps the log's end that it loads
+abbrev pub end_loaded : ℕ → LogHold → LogHold
+end_loaded end h = record h { end = if h.held then Some end else h.end }
+
+abbrev pub has_loaded : ℕ → View → View
+has_loaded end v = looked (seen.LogEnd end) (record v { log = end_loaded end v.log })
+
 -- a view that has written the page p of the block of a tag; its record is part of the log now
 abbrev pub has_written : ℕ → ℕ → Page → View → View
-has_written end tag p v = record v { calls = v.calls ++ Write v.number tag p end ∷ []; front = end; log = record v.log { appended = None } }
+has_written end tag p v = record v { calls = v.calls ++ Write v.number tag p end ∷ []; front = end; log = record v.log { appended = None; end = Some end } }
 
 -- a checkpoint that begins has passed no frame, and listed none
 abbrev pub unmarked : Link → Link
@@ -227,7 +235,7 @@ pub data Step : Event → State → State → Type 0 where
   -- backend i gives the read of the page p its place
   reads : {s : State} (i f tag : ℕ) (p : Page) (v : View) → get_elem? s.pool.core.views i ≡ some v → v.emptied ≡ false → f < s.pool.core.frames → CanRead tag p (link v f)
       → Step (read i f) s (record s { pool = aside s.pool i (looked (seen.LogEnd s.end) (has_read s.end tag p v)) })
-  loads_end : {s : State} (i : ℕ) (v : View) → get_elem? s.pool.core.views i ≡ some v → v.emptied ≡ false → Step (load_end i) s (record s { pool = aside s.pool i (looked (seen.LogEnd s.end) v) })
+  loads_end : {s : State} (i : ℕ) (v : View) → get_elem? s.pool.core.views i ≡ some v → v.emptied ≡ false → Step (load_end i) s (record s { pool = aside s.pool i (has_loaded s.end v) })
   -- the checkpoint of backend i begins
   begins : {s : State} (i : ℕ) (v : View) → get_elem? s.pool.core.views i ≡ some v → v.emptied ≡ false → Step (begin_checkpoint i) s (record s { pool = aside s.pool i (has_begun s.end (looked (seen.LogEnd s.end) v)) })
   loads_flushed : {s : State} (i : ℕ) (v : View) → get_elem? s.pool.core.views i ≡ some v → v.emptied ≡ false → Step (load_flushed i) s (record s { pool = aside s.pool i (looked (seen.Flushed s.flushed) (record v { flushed = s.flushed })) })

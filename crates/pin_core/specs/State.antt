@@ -100,7 +100,7 @@ abbrev pub no_lane : LaneHold
 no_lane = record { held = false; out = None; change = lane_change.Untouched; changed = false; flushed = 0 }
 
 abbrev pub no_log : LogHold
-no_log = record { held = false; out = None; change = log_change.Untouched; changed = false; appended = None; synced = false }
+no_log = record { held = false; out = None; change = log_change.Untouched; changed = false; appended = None; synced = false; end = None }
 
 -- what a view has of the latch of the partition p
 abbrev pub hold : View → ℕ → PartitionHold

@@ -165,6 +165,8 @@ pub struct LogHold {
     pub appended: Option<[u8; 0]>,
     /// Under this latch a sync was done.
     pub synced: bool,
+    /// The log's end as it was loaded or stored under this latch.
+    pub end: Option<u64>,
 }
 
 /// A page that a backend read or wrote, and its place in the log.
