@@ -4,3 +4,5 @@ pub mod Shows
 pub mod Laid
 pub mod Tells
 pub mod Sees
+pub mod Behind
+pub mod EndLoads

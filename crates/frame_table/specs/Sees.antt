@@ -92,6 +92,11 @@ module _ {L G : Type 0} where
   abbrev pub Fits : FrameTable L G → Seat (Value L G) View → Type 0
   Fits t s = s.table_id ≡ t.table.shared.table_id
 
+  -- and its backend is there
+  pub record IsSeat (t : FrameTable L G) (s : Seat (Value L G) View) : Type 0 where
+    pub fits : Fits t s
+    pub live : s.me.0.emptied ≡ false
+
   -- and can step at the frame f
   pub record CanStep (t : FrameTable L G) (s : Seat (Value L G) View) (f : ℕ) : Type 0 where
     pub fits : Fits t s

@@ -209,7 +209,13 @@ impl<L: BlockLane, G> FrameTable<L, G> {
         match Table::new(alloc, &words, slots, &opening) {
             Ok((table, seat)) => {
                 lanes.destroy_empty();
-                Ok((FrameTable { table }, seat))
+                Ok((
+                    FrameTable {
+                        table,
+                        frames: config.frames,
+                    },
+                    seat,
+                ))
             }
             Err(Refused { slots }) => {
                 let log = take_back(slots, &mut lanes);

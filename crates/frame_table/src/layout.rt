@@ -21,3 +21,24 @@ pub(crate) fn tag_place(frame: u32) -> usize
 {
     3 * frame as usize + 1
 }
+
+/// The place of the log's end, in a table of so many frames.
+pub(crate) fn end_place(frames: u32) -> usize
+    ensures { result ≡ layout.end_place frames }
+{
+    3 * frames as usize + 145
+}
+
+/// The place of the flushed position.
+pub(crate) fn flushed_place(frames: u32) -> usize
+    ensures { result ≡ layout.flushed_place frames }
+{
+    3 * frames as usize + 146
+}
+
+/// The place of the clock's hand.
+pub(crate) fn hand_place(frames: u32) -> usize
+    ensures { result ≡ layout.hand_place frames }
+{
+    3 * frames as usize + 147
+}

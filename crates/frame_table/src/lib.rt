@@ -7,6 +7,7 @@ mod build;
 mod calls;
 mod config;
 mod layout;
+mod log_words;
 mod opening;
 mod pin;
 mod plays;
@@ -15,8 +16,10 @@ mod seats;
 mod table;
 mod turn;
 mod value;
+mod word_plays;
 
 pub use config::Config;
+pub use log_words::EndLoad;
 pub use opening::Opening;
 pub use pin::{Pin, TryPin};
 pub use rule::Rule;

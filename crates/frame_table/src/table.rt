@@ -13,7 +13,18 @@ use std::alloc::Global;
 /// The table that the backends share. Each has a seat of it.
 pub struct FrameTable<L: BlockLane, G> {
     pub(crate) table: Table<Value<L, G>, View, Opening<L, G>, Rule, Global>,
+    pub(crate) frames: u32,
     ghost wide: { (table.shared.table_id.words ≡ layout.word_count table.shared.key.config.frames) × (table.shared.table_id.slots ≡ layout.slot_count table.shared.key.config.frames) },
+    ghost counted: { frames ≡ table.shared.key.config.frames },
+}
+
+impl<L: BlockLane, G> FrameTable<L, G> {
+    /// How many frames it has.
+    pub fn frames(&self) -> u32
+        ensures { result ≡ self.now.table.shared.key.config.frames }
+    {
+        self.frames
+    }
 }
 
 /// There was no memory. The devices come back.
