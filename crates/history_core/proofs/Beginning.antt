@@ -80,6 +80,7 @@ module _ (i : ℕ) (v w : View) (begun : BegunHere v w) where
     grid = steady_alike frame_shape pin_law.pin_part s.frames s.frame (λ _. tt) s.views h.grid i v w there refl (λ g k. ap (pin_tallies.weigh k) (link_begun v w begun g) ∙ pin_same k (link v g)) (λ g b c o x. subst (LinkLaw c) (sym (link_begun v w begun g)) (pin_link c (link v g) x));
     turns = steady turn_shape turn_part s.partitions s.partition (λ _. tt) s.views h.turns i v w there refl (λ p. ap (λ (x : List PartitionHold). hold (record w { partitions = x }) p) begun.partitions);
     apart = h.apart;
+    blocks = h.blocks;
     maps = h.maps;
     placed = h.placed;
     views = views_set s.frames s.partitions s.backends s.views h.views i v w there (record { emptied = begun.emptied; number = begun.number; next = begun.next; links = ap (λ (x : List Link). length x) begun.links ∙ map_length v.links; partitions = ap (λ (x : List PartitionHold). length x) begun.partitions });

@@ -101,11 +101,11 @@ still_no_fault lane_kinds.take_lane s q loaded x a e h = (h, refl)
 still_no_fault lane_kinds.leave_lane s q loaded x a e h = (h, refl)
 still_no_fault (lane_kinds.lane_out taken) s q loaded x a e h = (h, refl)
 still_no_fault (lane_kinds.read_block tag p) s q loaded x a e h = (refl, refl)
-still_no_fault (lane_kinds.fail_read tag) s q loaded x a e h = (refl, refl)
+still_no_fault (lane_kinds.fail_read tag faults) s q loaded x a e h = (refl, refl)
 still_no_fault (lane_kinds.write_block f tag p) s q loaded x a e h = absurd a
-still_no_fault (lane_kinds.fail_write f tag p) s q loaded x a e h = absurd a
+still_no_fault (lane_kinds.fail_write f tag p faults) s q loaded x a e h = absurd a
 still_no_fault lane_kinds.sync_lane s q loaded x a e h = absurd (cc)
-still_no_fault lane_kinds.fail_sync s q loaded x a e h = absurd (cc)
+still_no_fault (lane_kinds.fail_sync faults) s q loaded x a e h = absurd (cc)
 still_no_fault (lane_kinds.lane_back noted) s q loaded x a e h = (refl, no_fault noted x.change h)
 
 either_false : (a b : Bool) → a ≡ false → b ≡ false → (a || b) ≡ false
@@ -237,14 +237,14 @@ module _ (s : State) (h : Invariant s) (m : MarksLaw s) where
     where
       output_of : (k : LaneKind) → Writes k s q f (lane_hold v q) (link v f) → (link v f).io ≡ Output
       output_of (lane_kinds.write_block g tag p) (at, x) = x.right.right
-      output_of (lane_kinds.fail_write g tag p) (at, x) = x.right.right
+      output_of (lane_kinds.fail_write g tag p faults) (at, x) = x.right.right
       output_of lane_kinds.take_lane x = absurd x
       output_of lane_kinds.leave_lane x = absurd x
       output_of (lane_kinds.lane_out taken) x = absurd x
       output_of (lane_kinds.read_block tag p) x = absurd x
-      output_of (lane_kinds.fail_read tag) x = absurd x
+      output_of (lane_kinds.fail_read tag faults) x = absurd x
       output_of lane_kinds.sync_lane x = absurd x
-      output_of lane_kinds.fail_sync x = absurd x
+      output_of (lane_kinds.fail_sync faults) x = absurd x
       output_of (lane_kinds.lane_back noted) x = absurd x
 
       dirty_now : {b : Bool} → b ≡ true → b ≡ false → ⊥
@@ -288,9 +288,9 @@ no_write_fault log_kinds.take_log v = omega arith
 no_write_fault log_kinds.leave_log v = omega arith
 no_write_fault (log_kinds.log_out taken) v = omega arith
 no_write_fault (log_kinds.append f tag p bytes) v = omega arith
-no_write_fault (log_kinds.fail_append bytes) v = omega arith
+no_write_fault (log_kinds.fail_append f tag p bytes faults) v = omega arith
 no_write_fault log_kinds.sync_log v = omega arith
-no_write_fault log_kinds.fail_sync v = omega arith
+no_write_fault (log_kinds.fail_sync synced faults) v = omega arith
 no_write_fault log_kinds.see_down v = omega arith
 
 pub marks_kept : {e : Event} {s t : State} → Step e s t → Invariant s → MarksLaw s → MarksLaw t

@@ -27,7 +27,7 @@ use Rattle.history_core.specs.Device as log_kinds
 use Rattle.history_core.specs.Device.{LogKind, view_logged}
 use Rattle.history_core.specs.Steps.{Event, stepped, looked, pool_noting, paged, laned, has_loaded, has_read, has_begun, has_written, Step, pools, lanes, writes, notes, logs, enters, reads, loads_end, begins, loads_flushed, raises, adds_hand, loads_hand, Run, rests, goes}
 use Rattle.history_core.specs.Invariant.{Invariant}
-use Rattle.history_core.proofs.Counts.{known, more, counts_kept, count_stays, other_link, raised_later}
+use Rattle.history_core.proofs.Counts.{known, more, counts_kept, count_stays, other_link, risen_later}
 use Rattle.history_core.proofs.LogCounting.{log_counting, log_counts_open}
 use Rattle.history_core.proofs.Opening.{one_total}
 use Rattle.history_core.proofs.Outer.{lane_new}
@@ -64,6 +64,7 @@ stays_more k d ln h = record {
     reads = count_stays ln.read_faults_at_start ln.read_faults (t failed_reads) k.met.reads d.reads (t' failed_reads) (omega arith) q.1.reads;
     writes = count_stays ln.write_faults_at_start ln.write_faults (t failed_writes) k.met.writes d.writes (t' failed_writes) (omega arith) q.1.writes;
     split = omega arith;
+    failed_rose = q.1.failed_rose;
   };
   cell = λ t q le c. other_link k d ln ln h refl refl (λ x. x) (λ x. x) c.1;
   others = λ t u m q c le e. other_link k d ln ln m refl refl (λ x. x) (λ x. x) e.1;
@@ -120,17 +121,17 @@ abbrev WriteRose : Lane → Type 0
 WriteRose ln = HasRisen ln.write_faults_at_start ln.write_faults
 
 -- a count that rose stays so
-rose_later : (k : LaneKind) (ln : Lane) → (ReadRose ln → ReadRose (lane_after k ln)) × (WriteRose ln → WriteRose (lane_after k ln))
-rose_later (lane_kinds.fail_read tag) ln = (raised_later ln.read_faults_at_start ln.read_faults, λ x. x)
-rose_later (lane_kinds.fail_write f tag p) ln = ((λ x. x), raised_later ln.write_faults_at_start ln.write_faults)
-rose_later lane_kinds.fail_sync ln = ((λ x. x), raised_later ln.write_faults_at_start ln.write_faults)
-rose_later lane_kinds.take_lane ln = ((λ x. x), λ x. x)
-rose_later lane_kinds.leave_lane ln = ((λ x. x), λ x. x)
-rose_later (lane_kinds.lane_out taken) ln = ((λ x. x), λ x. x)
-rose_later (lane_kinds.read_block tag p) ln = ((λ x. x), λ x. x)
-rose_later (lane_kinds.write_block f tag p) ln = ((λ x. x), λ x. x)
-rose_later lane_kinds.sync_lane ln = ((λ x. x), λ x. x)
-rose_later (lane_kinds.lane_back noted) ln = ((λ x. x), λ x. x)
+rose_later : (k : LaneKind) (ln : Lane) (x : LaneHold) → LaneAllowed k ln x → (ReadRose ln → ReadRose (lane_after k ln)) × (WriteRose ln → WriteRose (lane_after k ln))
+rose_later (lane_kinds.fail_read tag faults) ln x a = (risen_later ln.read_faults_at_start ln.read_faults faults a.rises, λ y. y)
+rose_later (lane_kinds.fail_write f tag p faults) ln x a = ((λ y. y), risen_later ln.write_faults_at_start ln.write_faults faults a.rises)
+rose_later (lane_kinds.fail_sync faults) ln x a = ((λ y. y), risen_later ln.write_faults_at_start ln.write_faults faults a.rises)
+rose_later lane_kinds.take_lane ln x a = ((λ y. y), λ y. y)
+rose_later lane_kinds.leave_lane ln x a = ((λ y. y), λ y. y)
+rose_later (lane_kinds.lane_out taken) ln x a = ((λ y. y), λ y. y)
+rose_later (lane_kinds.read_block tag p) ln x a = ((λ y. y), λ y. y)
+rose_later (lane_kinds.write_block f tag p) ln x a = ((λ y. y), λ y. y)
+rose_later lane_kinds.sync_lane ln x a = ((λ y. y), λ y. y)
+rose_later (lane_kinds.lane_back noted) ln x a = ((λ y. y), λ y. y)
 
 -- a kind that counts a fault, and the count that rose before
 counts_by : (k : LaneKind) (h : LaneHold) → (0 < (met_by k h).reads → is_failed_read h.change ≡ true) × (0 < (met_by k h).writes → is_failed_write h.change ≡ true)
@@ -139,11 +140,11 @@ counts_by lane_kinds.take_lane h = ((λ e. absurd (omega arith)), λ e. absurd (
 counts_by lane_kinds.leave_lane h = ((λ e. absurd (omega arith)), λ e. absurd (omega arith))
 counts_by (lane_kinds.lane_out taken) h = ((λ e. absurd (omega arith)), λ e. absurd (omega arith))
 counts_by (lane_kinds.read_block tag p) h = ((λ e. absurd (omega arith)), λ e. absurd (omega arith))
-counts_by (lane_kinds.fail_read tag) h = ((λ e. absurd (omega arith)), λ e. absurd (omega arith))
+counts_by (lane_kinds.fail_read tag faults) h = ((λ e. absurd (omega arith)), λ e. absurd (omega arith))
 counts_by (lane_kinds.write_block f tag p) h = ((λ e. absurd (omega arith)), λ e. absurd (omega arith))
-counts_by (lane_kinds.fail_write f tag p) h = ((λ e. absurd (omega arith)), λ e. absurd (omega arith))
+counts_by (lane_kinds.fail_write f tag p faults) h = ((λ e. absurd (omega arith)), λ e. absurd (omega arith))
 counts_by lane_kinds.sync_lane h = ((λ e. absurd (omega arith)), λ e. absurd (omega arith))
-counts_by lane_kinds.fail_sync h = ((λ e. absurd (omega arith)), λ e. absurd (omega arith))
+counts_by (lane_kinds.fail_sync faults) h = ((λ e. absurd (omega arith)), λ e. absurd (omega arith))
 
 put_rose : (R : Lane → Type 0) (lane : ℕ → Lane) (q : ℕ) (ln : Lane) → (R (lane q) → R ln) → (g : ℕ) → R (lane g) → R (put lane q ln g)
 put_rose R lane q ln later g r = dite (ℕ_discrete g q) (λ e. subst R (sym (put_at lane q ln g e)) (later (subst (λ (z : ℕ). R (lane z)) e r))) (λ o. subst R (sym (put_else lane q ln g o)) r)
@@ -160,12 +161,12 @@ laned_counts s h m i q k v w there live low a holds met = let lane' : ℕ → La
     record {
       lanes = laned_grid s h m i q k v w there live low a holds met;
       reads_rose = λ e. ⊎_elim
-          (λ (z : d.reads ≡ 0). let x = m.reads_rose (let y = ap (λ (n : Met). n.reads) sums in omega arith) in (x.0, x.1, put_rose ReadRose s.lane q (lane_after k (s.lane q)) (rose_later k (s.lane q)).0 x.0 x.2))
-          (λ (z : 0 < d.reads). (q, low, put_rose ReadRose s.lane q (lane_after k (s.lane q)) (rose_later k (s.lane q)).0 q (cells.read_rose ((counts_by k (lane_hold v q)).0 z))))
+          (λ (z : d.reads ≡ 0). let x = m.reads_rose (let y = ap (λ (n : Met). n.reads) sums in omega arith) in (x.0, x.1, put_rose ReadRose s.lane q (lane_after k (s.lane q)) (rose_later k (s.lane q) (lane_hold v q) a).0 x.0 x.2))
+          (λ (z : 0 < d.reads). (q, low, put_rose ReadRose s.lane q (lane_after k (s.lane q)) (rose_later k (s.lane q) (lane_hold v q) a).0 q (cells.read_rose ((counts_by k (lane_hold v q)).0 z))))
           (zero_or_more d.reads);
       writes_rose = λ e. ⊎_elim
-          (λ (z : d.writes ≡ 0). let x = m.writes_rose (let y = ap (λ (n : Met). n.writes) sums in omega arith) in (x.0, x.1, put_rose WriteRose s.lane q (lane_after k (s.lane q)) (rose_later k (s.lane q)).1 x.0 x.2))
-          (λ (z : 0 < d.writes). (q, low, put_rose WriteRose s.lane q (lane_after k (s.lane q)) (rose_later k (s.lane q)).1 q (cells.write_rose ((counts_by k (lane_hold v q)).1 z))))
+          (λ (z : d.writes ≡ 0). let x = m.writes_rose (let y = ap (λ (n : Met). n.writes) sums in omega arith) in (x.0, x.1, put_rose WriteRose s.lane q (lane_after k (s.lane q)) (rose_later k (s.lane q) (lane_hold v q) a).1 x.0 x.2))
+          (λ (z : 0 < d.writes). (q, low, put_rose WriteRose s.lane q (lane_after k (s.lane q)) (rose_later k (s.lane q) (lane_hold v q) a).1 q (cells.write_rose ((counts_by k (lane_hold v q)).1 z))))
           (zero_or_more d.writes);
     }
 
@@ -185,6 +186,7 @@ forgets k ln h free = record {
         reads = record { least = q.1.reads.least; is_met = λ o. q.1.reads.is_met (omega arith) };
         writes = record { least = q.1.writes.least; is_met = λ o. q.1.writes.is_met (omega arith) };
         split = omega arith;
+        failed_rose = q.1.failed_rose;
       };
   cell = λ t q le c. no_counts k ln;
   others = λ t u m q c le e. e.1;
@@ -230,9 +232,9 @@ log_reads log_kinds.take_log = (refl, refl)
 log_reads log_kinds.leave_log = (refl, refl)
 log_reads (log_kinds.log_out taken) = (refl, refl)
 log_reads (log_kinds.append f tag p bytes) = (refl, refl)
-log_reads (log_kinds.fail_append bytes) = (refl, refl)
+log_reads (log_kinds.fail_append f tag p bytes faults) = (refl, refl)
 log_reads log_kinds.sync_log = (refl, refl)
-log_reads log_kinds.fail_sync = (refl, refl)
+log_reads (log_kinds.fail_sync synced faults) = (refl, refl)
 log_reads log_kinds.see_down = (refl, refl)
 
 -- a step at the log
@@ -274,6 +276,7 @@ lane_counts_open c store page = let w : View = first_view c.base c.frames c.part
       reads = record { least = omega arith; is_met = λ e lt. absurd (omega arith) };
       writes = record { least = omega arith; is_met = λ e lt. absurd (omega arith) };
       split = (let a = none_at q holders in let b = none_at q unfailed in let d = none_at q failed_reads in let e = none_at q failed_writes in omega arith);
+      failed_rose = λ tag e. absurd (cc);
     };
     cells = λ i v q there below. subst (λ (x : View). HoldCounts (all_met (w ∷ [])) (fresh_lane c.base store q) (lane_hold x q)) (at_only w v i there).0
         (subst (HoldCounts (all_met (w ∷ [])) (fresh_lane c.base store q)) (sym (lane_new c.frames c.partitions c.lanes 0 c.base q)) (no_counts (record { flushed = c.base; met = all_met (w ∷ []) }) (fresh_lane c.base store q)));

@@ -1,6 +1,8 @@
 -- Each kind of step at a lane keeps the law of the counts.
-use Rattle.std.proofs.Common.{◌≡◌, ◌⊎◌, inl, inr, ℕ, ◌+◌, ◌<◌, ◌≤◌, Bool, true, false, Option, Some, None, sym, refl, ap, arith}
+use Rattle.std.proofs.Common.{◌≡◌, ◌⊎◌, inl, inr, ℕ, ◌+◌, ◌<◌, ◌≤◌, Bool, true, false, Option, Some, None, sym, refl, ap, ◌∙◌, arith}
 use Rattle.std.proofs.lemmas.Bool.{cases_lt}
+use mathlib.Core.Logic.{dite}
+use native.Mathlib.Decide.{ℕ_discrete}
 use Rattle.pin_core.specs.declared.view.LaneChange.{LaneChange}
 use Rattle.pin_core.specs.declared.view.LaneChange.TheVariants as change
 use Rattle.pin_core.specs.declared.view.TakenLane.{TakenLane}
@@ -8,13 +10,14 @@ use Rattle.pin_core.specs.declared.view.LaneHold.{LaneHold}
 use Rattle.pin_core.specs.declared.view.Met.{Met}
 use Rattle.pin_core.specs.Tallies.{flag_weight, unless_flag}
 use Rattle.pin_core.specs.State.{Page, sum_of_met}
-use Rattle.history_core.specs.State.{Lane, raised}
+use Rattle.history_core.specs.State.{Lane}
 use Rattle.history_core.specs.Lanes as lanes
-use Rattle.history_core.specs.Lanes.{LaneKind, LaneAllowed, lane_after, lane_hold_after, met_by, fault_of, is_failed_read, is_failed_write, LaneLink, LaneColumn, CountsFault, CountsOut}
+use Rattle.history_core.specs.Lanes.{LaneKind, LaneAllowed, lane_after, lane_hold_after, met_by, fault_of, is_failed_read, is_failed_write, LaneLink, LaneColumn, Rises, CountsFault, CountsOut}
 use Rattle.history_core.specs.Device.{HasRisen}
 use Rattle.history_core.specs.Counts.{Known, CountTally, holders, failed_reads, failed_writes, unfailed, count_weigh, CountLaw, LaneCounts, HoldCounts, count_shape, lane_part, count_part}
-use Rattle.history_core.proofs.Device.{raised_least, raised_rises}
-use Rattle.grid.specs.Shape.{Part}
+use Rattle.history_core.proofs.Device.{risen_least, risen}
+use Rattle.grid.specs.Shape.{Part, put}
+use Rattle.grid.proofs.Lists.{put_at, put_else}
 use Rattle.grid.proofs.Grids.{Keeps, both}
 
 abbrev pub known : Part count_shape
@@ -28,8 +31,8 @@ abbrev pub Keeps_by : LaneKind → Known → Met → ℕ → Lane → LaneHold �
 Keeps_by kind k d loaded ln h = Keeps count_shape known count_part k (more k d) tt tt ln h (lane_after kind ln) (lane_hold_after kind loaded h)
 
 -- a count that a failed call makes rise
-count_fails : (start now out met d : ℕ) → CountLaw start now out met → CountLaw start (raised now) (out + 1) (met + d)
-count_fails start now out met d c = let x = raised_least start now c.least in record { least = x; is_met = λ e. absurd (omega arith) }
+count_fails : (start now later out met d : ℕ) → CountLaw start now out met → Rises now later → CountLaw start later (out + 1) (met + d)
+count_fails start now later out met d c rises = record { least = risen_least start now later c.least rises; is_met = λ e. absurd (omega arith) }
 
 -- a count that stays, where the failed calls out and the faults counted don't get fewer
 pub count_stays : (start now out met d out' : ℕ) → out ≤ out' → CountLaw start now out met → CountLaw start now out' (met + d)
@@ -52,8 +55,12 @@ other_link k d ln ln' m r0 w0 r w c = record {
   taken_writes = λ taken e lt. let x = c.taken_writes taken e (omega arith) in omega arith;
 }
 
-pub raised_later : (start now : ℕ) → HasRisen start now → HasRisen start (raised now)
-raised_later start now h = grind (arith, h)
+pub risen_later : (start now later : ℕ) → Rises now later → HasRisen start now → HasRisen start later
+risen_later start now later r h = grind (arith, r, h)
+
+-- a block that is written well isn't failed any more
+still_bad : (failed : ℕ → Bool) (tag t : ℕ) → put failed tag false t ≡ true → failed t ≡ true
+still_bad failed tag t e = dite (ℕ_discrete t tag) (λ same. let x = sym (put_at failed tag false t same) ∙ e in absurd (cc)) (λ o. sym (put_else failed tag false t o) ∙ e)
 
 -- who doesn't hold the latch has no call out
 abbrev IsSane : LaneHold → Type 0
@@ -123,31 +130,32 @@ module _ (k : Known) (loaded : ℕ) (ln : Lane) (h : LaneHold) where
 
   -- a kind that leaves the counts, and what failed of the view
   module _ (kind : LaneKind) (ln' : Lane) (h' : LaneHold) (is_lane : lane_after kind ln ≡ ln') (is_hold : lane_hold_after kind loaded h ≡ h') (r : ln'.read_faults ≡ ln.read_faults) (w : ln'.write_faults ≡ ln.write_faults) (r0 : ln'.read_faults_at_start ≡ ln.read_faults_at_start) (w0 : ln'.write_faults_at_start ≡ ln.write_faults_at_start)
-      (fr : is_failed_read h'.change ≡ is_failed_read h.change) (fw : is_failed_write h'.change ≡ is_failed_write h.change) (sane' : IsSane h → IsSane h') where
+      (fr : is_failed_read h'.change ≡ is_failed_read h.change) (fw : is_failed_write h'.change ≡ is_failed_write h.change) (bad : (tag : ℕ) → ln'.failed tag ≡ true → ln.failed tag ≡ true) (sane' : IsSane h → IsSane h') where
     column_same : (t t' : CountTally → ℕ) → LaneCounts k.met ln t → LaneLink k.flushed ln h → ((j : CountTally) → t' j + count_weigh j h ≡ t j + count_weigh j h') → LaneCounts (more k none).met ln' t'
     column_same t t' q c sums = record {
       reads = (let x = ap flag_weight fr in let y = sums failed_reads in let z = q.reads in record { least = (let a = z.least in omega arith); is_met = λ e lt. let a = z.is_met (omega arith) (omega arith) in omega arith });
       writes = (let x = ap flag_weight fw in let y = sums failed_writes in let z = q.writes in record { least = (let a = z.least in omega arith); is_met = λ e lt. let a = z.is_met (omega arith) (omega arith) in omega arith });
       split = split_kept t t' h h' q.split sums (sane k.flushed ln h c) (sane' (sane k.flushed ln h c));
+      failed_rose = λ tag e other. let x = q.failed_rose tag (bad tag e) (λ z. other (w ∙ z)) in omega (arith, w, w0, x);
     }
 
   take_lane_counts : LaneAllowed lanes.take_lane ln h → Keeps_by lanes.take_lane k none loaded ln h
   take_lane_counts a = record {
-    column = λ t t' q c sums le _. column_same lanes.take_lane (lane_after lanes.take_lane ln) (lane_hold_after lanes.take_lane loaded h) refl refl refl refl refl refl refl refl (λ x e. absurd (cc)) t t' q.1 c.0 sums;
+    column = λ t t' q c sums le _. column_same lanes.take_lane (lane_after lanes.take_lane ln) (lane_hold_after lanes.take_lane loaded h) refl refl refl refl refl refl refl refl (λ tag e. e) (λ x e. absurd (cc)) t t' q.1 c.0 sums;
     cell = λ t q le c. record { read_rose = c.1.read_rose; write_rose = c.1.write_rose; taken_reads = λ taken e lt. let x = c.1.taken_reads taken e lt in omega arith; taken_writes = λ taken e lt. let x = c.1.taken_writes taken e lt in omega arith };
     others = λ t u m q c le e. other_link k none ln (lane_after lanes.take_lane ln) m refl refl (λ x. x) (λ x. x) e.1;
   }
 
   leave_lane_counts : LaneAllowed lanes.leave_lane ln h → Keeps_by lanes.leave_lane k none loaded ln h
   leave_lane_counts a = record {
-    column = λ t t' q c sums le _. column_same lanes.leave_lane (lane_after lanes.leave_lane ln) (lane_hold_after lanes.leave_lane loaded h) refl refl refl refl refl refl refl refl (λ x e. c.0.hold.home a.home) t t' q.1 c.0 sums;
+    column = λ t t' q c sums le _. column_same lanes.leave_lane (lane_after lanes.leave_lane ln) (lane_hold_after lanes.leave_lane loaded h) refl refl refl refl refl refl refl refl (λ tag e. e) (λ x e. c.0.hold.home a.home) t t' q.1 c.0 sums;
     cell = λ t q le c. record { read_rose = c.1.read_rose; write_rose = c.1.write_rose; taken_reads = λ taken e lt. let x = c.1.taken_reads taken e lt in omega arith; taken_writes = λ taken e lt. let x = c.1.taken_writes taken e lt in omega arith };
     others = λ t u m q c le e. other_link k none ln (lane_after lanes.leave_lane ln) m refl refl (λ x. x) (λ x. x) e.1;
   }
 
   lane_out_counts : (taken : TakenLane) → LaneAllowed (lanes.lane_out taken) ln h → Keeps_by (lanes.lane_out taken) k none loaded ln h
   lane_out_counts taken a = record {
-    column = λ t t' q c sums le _. column_same (lanes.lane_out taken) (lane_after (lanes.lane_out taken) ln) (lane_hold_after (lanes.lane_out taken) loaded h) refl refl refl refl refl refl refl refl (λ x. x) t t' q.1 c.0 sums;
+    column = λ t t' q c sums le _. column_same (lanes.lane_out taken) (lane_after (lanes.lane_out taken) ln) (lane_hold_after (lanes.lane_out taken) loaded h) refl refl refl refl refl refl refl refl (λ tag e. e) (λ x. x) t t' q.1 c.0 sums;
     cell = λ t q le c. let still = c.0.hold.home a.home in let free = none_failed k.met ln t h q.0 q.1 le a.held (ap is_failed_read still) (ap is_failed_write still) in record {
       read_rose = c.1.read_rose;
       write_rose = c.1.write_rose;
@@ -159,56 +167,59 @@ module _ (k : Known) (loaded : ℕ) (ln : Lane) (h : LaneHold) where
 
   read_block_counts : (tag : ℕ) (p : Page) → LaneAllowed (lanes.read_block tag p) ln h → Keeps_by (lanes.read_block tag p) k none loaded ln h
   read_block_counts tag p a = record {
-    column = λ t t' q c sums le _. column_same (lanes.read_block tag p) (lane_after (lanes.read_block tag p) ln) (lane_hold_after (lanes.read_block tag p) loaded h) refl refl refl refl refl refl (sym (ap is_failed_read a.call.once)) (sym (ap is_failed_write a.call.once)) (λ x e. absurd (a.call.out (c.0.hold.resting e))) t t' q.1 c.0 sums;
+    column = λ t t' q c sums le _. column_same (lanes.read_block tag p) (lane_after (lanes.read_block tag p) ln) (lane_hold_after (lanes.read_block tag p) loaded h) refl refl refl refl refl refl (sym (ap is_failed_read a.call.once)) (sym (ap is_failed_write a.call.once)) (λ tag e. e) (λ x e. absurd (a.call.out (c.0.hold.resting e))) t t' q.1 c.0 sums;
     cell = λ t q le c. record { read_rose = λ e. absurd (cc); write_rose = λ e. absurd (cc); taken_reads = λ taken e lt. let x = c.1.taken_reads taken e lt in omega arith; taken_writes = λ taken e lt. let x = c.1.taken_writes taken e lt in omega arith };
     others = λ t u m q c le e. other_link k none ln (lane_after (lanes.read_block tag p) ln) m refl refl (λ x. x) (λ x. x) e.1;
   }
 
   write_block_counts : (f tag : ℕ) (p : Page) → LaneAllowed (lanes.write_block f tag p) ln h → Keeps_by (lanes.write_block f tag p) k none loaded ln h
   write_block_counts f tag p a = record {
-    column = λ t t' q c sums le _. column_same (lanes.write_block f tag p) (lane_after (lanes.write_block f tag p) ln) (lane_hold_after (lanes.write_block f tag p) loaded h) refl refl refl refl refl refl (sym (ap is_failed_read a.once)) (sym (ap is_failed_write a.once)) (λ x e. absurd (a.out (c.0.hold.resting e))) t t' q.1 c.0 sums;
+    column = λ t t' q c sums le _. column_same (lanes.write_block f tag p) (lane_after (lanes.write_block f tag p) ln) (lane_hold_after (lanes.write_block f tag p) loaded h) refl refl refl refl refl refl (sym (ap is_failed_read a.once)) (sym (ap is_failed_write a.once)) (λ t e. still_bad ln.failed tag t e) (λ x e. absurd (a.out (c.0.hold.resting e))) t t' q.1 c.0 sums;
     cell = λ t q le c. record { read_rose = λ e. absurd (cc); write_rose = λ e. absurd (cc); taken_reads = λ taken e lt. let x = c.1.taken_reads taken e lt in omega arith; taken_writes = λ taken e lt. let x = c.1.taken_writes taken e lt in omega arith };
     others = λ t u m q c le e. other_link k none ln (lane_after (lanes.write_block f tag p) ln) m refl refl (λ x. x) (λ x. x) e.1;
   }
 
   sync_lane_counts : LaneAllowed lanes.sync_lane ln h → Keeps_by lanes.sync_lane k none loaded ln h
   sync_lane_counts a = record {
-    column = λ t t' q c sums le _. column_same lanes.sync_lane (lane_after lanes.sync_lane ln) (lane_hold_after lanes.sync_lane loaded h) refl refl refl refl refl refl (sym (ap is_failed_read a.once)) (sym (ap is_failed_write a.once)) (λ x e. absurd (a.out (c.0.hold.resting e))) t t' q.1 c.0 sums;
+    column = λ t t' q c sums le _. column_same lanes.sync_lane (lane_after lanes.sync_lane ln) (lane_hold_after lanes.sync_lane loaded h) refl refl refl refl refl refl (sym (ap is_failed_read a.once)) (sym (ap is_failed_write a.once)) (λ tag e. e) (λ x e. absurd (a.out (c.0.hold.resting e))) t t' q.1 c.0 sums;
     cell = λ t q le c. record { read_rose = λ e. absurd (cc); write_rose = λ e. absurd (cc); taken_reads = λ taken e lt. let x = c.1.taken_reads taken e lt in omega arith; taken_writes = λ taken e lt. let x = c.1.taken_writes taken e lt in omega arith };
     others = λ t u m q c le e. other_link k none ln (lane_after lanes.sync_lane ln) m refl refl (λ x. x) (λ x. x) e.1;
   }
 
-  fail_read_counts : (tag : ℕ) → LaneAllowed (lanes.fail_read tag) ln h → Keeps_by (lanes.fail_read tag) k none loaded ln h
-  fail_read_counts tag a = record {
-    column = λ t t' q c sums le _. let x = ap flag_weight (ap is_failed_read a.once) in let y = ap flag_weight (ap is_failed_write a.once) in let z = sums failed_reads in let v = sums failed_writes in record {
-      reads = record { least = raised_least ln.read_faults_at_start ln.read_faults q.1.reads.least; is_met = λ e. absurd (omega arith) };
+  fail_read_counts : (tag faults : ℕ) → LaneAllowed (lanes.fail_read tag faults) ln h → Keeps_by (lanes.fail_read tag faults) k none loaded ln h
+  fail_read_counts tag faults a = record {
+    column = λ t t' q c sums le _. let x = ap flag_weight (ap is_failed_read a.call.once) in let y = ap flag_weight (ap is_failed_write a.call.once) in let z = sums failed_reads in let v = sums failed_writes in record {
+      reads = record { least = risen_least ln.read_faults_at_start ln.read_faults faults q.1.reads.least a.rises; is_met = λ e. absurd (omega arith) };
       writes = record { least = q.1.writes.least; is_met = λ e lt. let b = q.1.writes.is_met (omega arith) lt in omega arith };
-      split = split_kept t t' h (lane_hold_after (lanes.fail_read tag) loaded h) q.1.split sums (sane k.flushed ln h c.0) (λ e. absurd (a.out (c.0.hold.resting e)));
+      split = split_kept t t' h (lane_hold_after (lanes.fail_read tag faults) loaded h) q.1.split sums (sane k.flushed ln h c.0) (λ e. absurd (a.call.out (c.0.hold.resting e)));
+      failed_rose = q.1.failed_rose;
     };
-    cell = λ t q le c. record { read_rose = λ e. raised_rises ln.read_faults_at_start ln.read_faults q.1.reads.least; write_rose = λ e. absurd (cc); taken_reads = λ taken e lt. let x = c.1.taken_reads taken e lt in omega arith; taken_writes = λ taken e lt. let x = c.1.taken_writes taken e lt in omega arith };
-    others = λ t u m q c le e. other_link k none ln (lane_after (lanes.fail_read tag) ln) m refl refl (raised_later ln.read_faults_at_start ln.read_faults) (λ x. x) e.1;
+    cell = λ t q le c. record { read_rose = λ e. risen ln.read_faults_at_start ln.read_faults faults q.1.reads.least a.rises; write_rose = λ e. absurd (cc); taken_reads = λ taken e lt. let x = c.1.taken_reads taken e lt in omega arith; taken_writes = λ taken e lt. let x = c.1.taken_writes taken e lt in omega arith };
+    others = λ t u m q c le e. other_link k none ln (lane_after (lanes.fail_read tag faults) ln) m refl refl (risen_later ln.read_faults_at_start ln.read_faults faults a.rises) (λ x. x) e.1;
   }
 
-  fail_write_counts : (f tag : ℕ) (p : Page) → LaneAllowed (lanes.fail_write f tag p) ln h → Keeps_by (lanes.fail_write f tag p) k none loaded ln h
-  fail_write_counts f tag p a = record {
-    column = λ t t' q c sums le _. let x = ap flag_weight (ap is_failed_read a.once) in let y = ap flag_weight (ap is_failed_write a.once) in let z = sums failed_reads in let v = sums failed_writes in record {
-      writes = record { least = raised_least ln.write_faults_at_start ln.write_faults q.1.writes.least; is_met = λ e. absurd (omega arith) };
+  fail_write_counts : (f tag : ℕ) (p : Page) (faults : ℕ) → LaneAllowed (lanes.fail_write f tag p faults) ln h → Keeps_by (lanes.fail_write f tag p faults) k none loaded ln h
+  fail_write_counts f tag p faults a = record {
+    column = λ t t' q c sums le _. let x = ap flag_weight (ap is_failed_read a.call.once) in let y = ap flag_weight (ap is_failed_write a.call.once) in let z = sums failed_reads in let v = sums failed_writes in record {
+      writes = record { least = risen_least ln.write_faults_at_start ln.write_faults faults q.1.writes.least a.rises; is_met = λ e. absurd (omega arith) };
       reads = record { least = q.1.reads.least; is_met = λ e lt. let b = q.1.reads.is_met (omega arith) lt in omega arith };
-      split = split_kept t t' h (lane_hold_after (lanes.fail_write f tag p) loaded h) q.1.split sums (sane k.flushed ln h c.0) (λ e. absurd (a.out (c.0.hold.resting e)));
+      split = split_kept t t' h (lane_hold_after (lanes.fail_write f tag p faults) loaded h) q.1.split sums (sane k.flushed ln h c.0) (λ e. absurd (a.call.out (c.0.hold.resting e)));
+      failed_rose = λ t e. risen ln.write_faults_at_start ln.write_faults faults q.1.writes.least a.rises;
     };
-    cell = λ t q le c. record { write_rose = λ e. raised_rises ln.write_faults_at_start ln.write_faults q.1.writes.least; read_rose = λ e. absurd (cc); taken_reads = λ taken e lt. let x = c.1.taken_reads taken e lt in omega arith; taken_writes = λ taken e lt. let x = c.1.taken_writes taken e lt in omega arith };
-    others = λ t u m q c le e. other_link k none ln (lane_after (lanes.fail_write f tag p) ln) m refl refl (λ x. x) (raised_later ln.write_faults_at_start ln.write_faults) e.1;
+    cell = λ t q le c. record { write_rose = λ e. risen ln.write_faults_at_start ln.write_faults faults q.1.writes.least a.rises; read_rose = λ e. absurd (cc); taken_reads = λ taken e lt. let x = c.1.taken_reads taken e lt in omega arith; taken_writes = λ taken e lt. let x = c.1.taken_writes taken e lt in omega arith };
+    others = λ t u m q c le e. other_link k none ln (lane_after (lanes.fail_write f tag p faults) ln) m refl refl (λ x. x) (risen_later ln.write_faults_at_start ln.write_faults faults a.rises) e.1;
   }
 
-  fail_sync_counts : LaneAllowed lanes.fail_sync ln h → Keeps_by lanes.fail_sync k none loaded ln h
-  fail_sync_counts a = record {
-    column = λ t t' q c sums le _. let x = ap flag_weight (ap is_failed_read a.once) in let y = ap flag_weight (ap is_failed_write a.once) in let z = sums failed_reads in let v = sums failed_writes in record {
-      writes = record { least = raised_least ln.write_faults_at_start ln.write_faults q.1.writes.least; is_met = λ e. absurd (omega arith) };
+  fail_sync_counts : (faults : ℕ) → LaneAllowed (lanes.fail_sync faults) ln h → Keeps_by (lanes.fail_sync faults) k none loaded ln h
+  fail_sync_counts faults a = record {
+    column = λ t t' q c sums le _. let x = ap flag_weight (ap is_failed_read a.call.once) in let y = ap flag_weight (ap is_failed_write a.call.once) in let z = sums failed_reads in let v = sums failed_writes in record {
+      writes = record { least = risen_least ln.write_faults_at_start ln.write_faults faults q.1.writes.least a.rises; is_met = λ e. absurd (omega arith) };
       reads = record { least = q.1.reads.least; is_met = λ e lt. let b = q.1.reads.is_met (omega arith) lt in omega arith };
-      split = split_kept t t' h (lane_hold_after lanes.fail_sync loaded h) q.1.split sums (sane k.flushed ln h c.0) (λ e. absurd (a.out (c.0.hold.resting e)));
+      split = split_kept t t' h (lane_hold_after (lanes.fail_sync faults) loaded h) q.1.split sums (sane k.flushed ln h c.0) (λ e. absurd (a.call.out (c.0.hold.resting e)));
+      failed_rose = λ t e. risen ln.write_faults_at_start ln.write_faults faults q.1.writes.least a.rises;
     };
-    cell = λ t q le c. record { write_rose = λ e. raised_rises ln.write_faults_at_start ln.write_faults q.1.writes.least; read_rose = λ e. absurd (cc); taken_reads = λ taken e lt. let x = c.1.taken_reads taken e lt in omega arith; taken_writes = λ taken e lt. let x = c.1.taken_writes taken e lt in omega arith };
-    others = λ t u m q c le e. other_link k none ln (lane_after lanes.fail_sync ln) m refl refl (λ x. x) (raised_later ln.write_faults_at_start ln.write_faults) e.1;
+    cell = λ t q le c. record { write_rose = λ e. risen ln.write_faults_at_start ln.write_faults faults q.1.writes.least a.rises; read_rose = λ e. absurd (cc); taken_reads = λ taken e lt. let x = c.1.taken_reads taken e lt in omega arith; taken_writes = λ taken e lt. let x = c.1.taken_writes taken e lt in omega arith };
+    others = λ t u m q c le e. other_link k none ln (lane_after (lanes.fail_sync faults) ln) m refl refl (λ x. x) (risen_later ln.write_faults_at_start ln.write_faults faults a.rises) e.1;
   }
 
   lane_back_counts : (noted : Bool) → LaneAllowed (lanes.lane_back noted) ln h → Keeps_by (lanes.lane_back noted) k (fault_of noted h.change) loaded ln h
@@ -224,6 +235,7 @@ module _ (k : Known) (loaded : ℕ) (ln : Lane) (h : LaneHold) where
         reads = count_back ln.read_faults_at_start ln.read_faults (t failed_reads) k.met.reads taken.read_faults (fault_of noted h.change).reads (t' failed_reads) (is_failed_read h.change) q.reads counts.reads (l.taken_reads taken e) (λ lt. read_counted noted h.change (rule.read_rose lt) (failed_if (is_failed_read h.change) (λ z. counts.reads z) lt)) (omega arith);
         writes = count_back ln.write_faults_at_start ln.write_faults (t failed_writes) k.met.writes taken.write_faults (fault_of noted h.change).writes (t' failed_writes) (is_failed_write h.change) q.writes counts.writes (l.taken_writes taken e) (λ lt. write_counted noted h.change (rule.write_rose lt) (failed_if (is_failed_write h.change) (λ z. counts.writes z) lt)) (omega arith);
         split = split_kept t t' h (lane_hold_after (lanes.lane_back noted) loaded h) q.split sums (sane k.flushed ln h c) (λ w. refl);
+        failed_rose = q.failed_rose;
       }
 
   pub counts_kept : (kind : LaneKind) → LaneAllowed kind ln h → Keeps_by kind k (met_by kind h) loaded ln h
@@ -231,9 +243,9 @@ module _ (k : Known) (loaded : ℕ) (ln : Lane) (h : LaneHold) where
   counts_kept lanes.leave_lane a = leave_lane_counts a
   counts_kept (lanes.lane_out taken) a = lane_out_counts taken a
   counts_kept (lanes.read_block tag p) a = read_block_counts tag p a
-  counts_kept (lanes.fail_read tag) a = fail_read_counts tag a
+  counts_kept (lanes.fail_read tag faults) a = fail_read_counts tag faults a
   counts_kept (lanes.write_block f tag p) a = write_block_counts f tag p a
-  counts_kept (lanes.fail_write f tag p) a = fail_write_counts f tag p a
+  counts_kept (lanes.fail_write f tag p faults) a = fail_write_counts f tag p faults a
   counts_kept lanes.sync_lane a = sync_lane_counts a
-  counts_kept lanes.fail_sync a = fail_sync_counts a
+  counts_kept (lanes.fail_sync faults) a = fail_sync_counts faults a
   counts_kept (lanes.lane_back noted) a = lane_back_counts noted a

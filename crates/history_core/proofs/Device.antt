@@ -4,7 +4,8 @@ use Rattle.std.proofs.lemmas.Option.{same_Some}
 use Rattle.pin_core.specs.declared.view.TakenLog.{TakenLog}
 use Rattle.pin_core.specs.declared.view.LogHold.{LogHold}
 use Rattle.pin_core.specs.State.{Page, no_log}
-use Rattle.history_core.specs.State.{Device, raised}
+use Rattle.history_core.specs.State.{Device}
+use Rattle.history_core.specs.Lanes.{Rises}
 use Rattle.history_core.specs.Device.{LogKind, take_log, leave_log, log_out, append, fail_append, sync_log, fail_sync, log_back, see_down, LogAllowed, device_after, log_hold_after, sees_down, Written, HasRisen, LogTally, holders, appenders, log_weigh, IsLeft, DeviceLaw, LogLink, log_shape, log_part}
 use Rattle.history_core.specs.Steps.{end_loaded}
 use Rattle.grid.proofs.Grids.{Keeps}
@@ -12,11 +13,12 @@ use Rattle.grid.proofs.Grids.{Keeps}
 abbrev pub Keeps_by : LogKind → Written → Device → Bool → LogHold → Type 0
 Keeps_by k w d saw h = Keeps log_shape log_part log_part w w saw (saw || sees_down k) d h (device_after k w.end d) (log_hold_after k h)
 
-pub raised_least : (before n : ℕ) → before ≤ n → before ≤ raised n
-raised_least before n h = grind (arith, h)
+-- a count that rose from one that was at least what it was at the start
+pub risen_least : (start before now : ℕ) → start ≤ before → Rises before now → start ≤ now
+risen_least start before now h r = grind (arith, h, r)
 
-pub raised_rises : (before n : ℕ) → before ≤ n → HasRisen before (raised n)
-raised_rises before n h = grind (arith, h)
+pub risen : (start before now : ℕ) → start ≤ before → Rises before now → HasRisen start now
+risen start before now h r = grind (arith, h, r)
 
 module _ (w : Written) (d : Device) (saw : Bool) (h : LogHold) where
   -- the holder of the latch is the only one that may have appended a record
@@ -62,15 +64,15 @@ module _ (w : Written) (d : Device) (saw : Bool) (h : LogHold) where
     others = λ t n m q c le e. grind (arith, q, c, a, e, le holders, le appenders);
   }
 
-  fail_append_keeps : (bytes : List ℕ) → LogAllowed (fail_append bytes) d h → Keeps_by (fail_append bytes) w d saw h
-  fail_append_keeps bytes a = record {
+  fail_append_keeps : (f tag : ℕ) (p : Page) (bytes : List ℕ) (faults : ℕ) → LogAllowed (fail_append f tag p bytes faults) d h → Keeps_by (fail_append f tag p bytes faults) w d saw h
+  fail_append_keeps f tag p bytes faults a = record {
     column = λ t t' q c sums le alone. let is = q.bytes (none_else t q c le (holds c a.call.out) a.entered) a.call.up in record {
       taken = (let x = q.taken in let y = sums holders in let z = sums appenders in omega arith);
       bytes = λ e f. absurd (cc);
       down = λ p e. cc;
       left = λ e. record { rest = bytes; is_bytes = ap (λ (x : List ℕ). x ++ bytes) is; short = a.part };
-      rose = λ e. raised_rises w.faults d.faults q.least;
-      least = raised_least w.faults d.faults q.least;
+      rose = λ e. risen w.faults d.faults faults q.least a.rises;
+      least = risen_least w.faults d.faults faults q.least a.rises;
       synced = (let x = q.synced in omega (arith, length-append d.bytes bytes));
     };
     cell = λ t q le c. let x = a.call in grind (arith, c, x, a.entered, a.unsynced);
@@ -84,16 +86,16 @@ module _ (w : Written) (d : Device) (saw : Bool) (h : LogHold) where
     others = λ t n m q c le e. grind (arith, q, c, a, e, le holders, le appenders);
   }
 
-  fail_sync_keeps : LogAllowed fail_sync d h → Keeps_by fail_sync w d saw h
-  fail_sync_keeps a = record {
+  fail_sync_keeps : (synced faults : ℕ) → LogAllowed (fail_sync synced faults) d h → Keeps_by (fail_sync synced faults) w d saw h
+  fail_sync_keeps synced faults a = record {
     column = λ t t' q c sums le alone. record {
       taken = grind (arith, q, c, a, sums holders, sums appenders);
       bytes = λ e f. absurd (cc);
       down = λ p e. cc;
-      left = λ e. let x = left_now t q c le (holds c a.out) a.up in record { rest = x.rest; is_bytes = x.is_bytes; short = x.short };
-      rose = λ e. raised_rises w.faults d.faults q.least;
-      least = raised_least w.faults d.faults q.least;
-      synced = q.synced;
+      left = λ e. let x = left_now t q c le (holds c a.call.out) a.call.up in record { rest = x.rest; is_bytes = x.is_bytes; short = x.short };
+      rose = λ e. risen w.faults d.faults faults q.least a.rises;
+      least = risen_least w.faults d.faults faults q.least a.rises;
+      synced = a.within;
     };
     cell = λ t q le c. grind (arith, c, a);
     others = λ t n m q c le e. grind (arith, q, c, a, e, le holders, le appenders);
@@ -118,9 +120,9 @@ module _ (w : Written) (d : Device) (saw : Bool) (h : LogHold) where
   log_keeps leave_log a = leave_keeps a
   log_keeps (log_out taken) a = out_keeps taken a
   log_keeps (append f tag p bytes) a = append_keeps f tag p bytes a
-  log_keeps (fail_append bytes) a = fail_append_keeps bytes a
+  log_keeps (fail_append f tag p bytes faults) a = fail_append_keeps f tag p bytes faults a
   log_keeps sync_log a = sync_keeps a
-  log_keeps fail_sync a = fail_sync_keeps a
+  log_keeps (fail_sync synced faults) a = fail_sync_keeps synced faults a
   log_keeps (log_back noted) a = back_keeps noted a
   log_keeps see_down a = see_keeps a
 

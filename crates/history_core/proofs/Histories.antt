@@ -16,21 +16,21 @@ use Rattle.pin_core.specs.declared.view.Seen.TheVariants as seen
 use Rattle.page_core.specs.Kinds.{make_entry}
 use Rattle.page_core.proofs.Histories as pages
 use Rattle.page_core.proofs.Histories.{flag_count}
-use Rattle.history_core.specs.Log.{record_size, cell, cut}
-use Rattle.history_core.specs.State.{State, stored}
+use Rattle.history_core.specs.Log.{Entry, record_size, cell, cut}
+use Rattle.history_core.specs.State.{Lane, State, stored}
 use Rattle.history_core.specs.Lanes as lane_kinds
-use Rattle.history_core.specs.Lanes.{LaneKind, LaneAllowed, lane_hold_after}
+use Rattle.history_core.specs.Lanes.{LaneKind, LaneAllowed, lane_after, lane_hold_after}
 use Rattle.history_core.specs.Device.{appenders, log_weigh, resting_weight}
 use Rattle.history_core.specs.Device as log
 use Rattle.history_core.specs.Homes.{IsUnframed}
 use Rattle.history_core.specs.Invariant.{Invariant}
 use Rattle.history_core.specs.Steps.{looked, stepped, laned, lanes, paged, has_read, has_written, new_entry, Writes, writes, enters, reads}
-use Rattle.history_core.specs.Histories.{IsReached, CallsAreLegal, JoinedAreApart, CallsAreOwn, FrontsAreReached, CallsAreInOrder, LoadedIsFlushed, LanesGoOutFlushed, NotedWritesAreDone, holds_log, LogIsHeld, WritesAreEntries, ReadsStand, WritesStand, LogBeforeData, LanesHoldFlushedPages, IsStored, CleanBlocksAreStored, FramesAreSound, FramesHoldCells, LogWords, holds_lane, LanesAreHeld, EntriesAreDurable, DeviceHoldsLog}
+use Rattle.history_core.specs.Histories.{IsReached, CallsAreLegal, ReadsAtBase, SyncsMakeDurable, JoinedAreApart, CallsAreOwn, FrontsAreReached, CallsAreInOrder, LoadedIsFlushed, LanesGoOutFlushed, NotedWritesAreDone, holds_log, LogIsHeld, WritesAreEntries, ReadsStand, WritesStand, LogBeforeData, LanesHoldFlushedPages, IsStored, CleanBlocksAreStored, FramesAreSound, FramesHoldCells, LogWords, holds_lane, LanesAreHeld, EntriesAreDurable, DeviceHoldsLog}
 use Rattle.history_core.specs.Rest.{RestLaw}
-use Rattle.history_core.proofs.Logs.{end_longer, cell_longer}
-use Rattle.history_core.proofs.Opening.{opens}
+use Rattle.history_core.proofs.Logs.{cut_none_below, end_longer, cell_longer}
+use Rattle.history_core.proofs.Opening.{opens, cell_none}
 use Rattle.history_core.proofs.Stepping.{step_keeps, run_keeps}
-use Rattle.grid.proofs.Lists.{set_here, put_here}
+use Rattle.grid.proofs.Lists.{set_here, put_at, put_here}
 use Rattle.grid.proofs.Sums.{total-count, total-none, total-same, total-add}
 
 pub reached : (s : State) → IsReached s → Invariant s
@@ -61,27 +61,31 @@ at_last (x ∷ l) a = at_last l a
 -- a write of a frame's page asks for the log to be flushed, and is made while the lane is out
 loaded : (k : LaneKind) (s : State) (n f : ℕ) (h : LaneHold) (l : Link) → Writes k s n f h l → lsn_of (s.pool.core.frame f).page ≤ h.flushed
 loaded (lane_kinds.write_block g tag p) s n f h l (at, x) = subst (λ (z : Page). lsn_of z ≤ h.flushed) (sym x.page) x.log_first
-loaded (lane_kinds.fail_write g tag p) s n f h l (at, x) = x.log_first
+loaded (lane_kinds.fail_write g tag p faults) s n f h l (at, x) = x.log_first
 loaded lane_kinds.take_lane s n f h l x = absurd x
 loaded lane_kinds.leave_lane s n f h l x = absurd x
 loaded (lane_kinds.lane_out taken) s n f h l x = absurd x
 loaded (lane_kinds.read_block tag p) s n f h l x = absurd x
-loaded (lane_kinds.fail_read tag) s n f h l x = absurd x
+loaded (lane_kinds.fail_read tag faults) s n f h l x = absurd x
 loaded lane_kinds.sync_lane s n f h l x = absurd x
-loaded lane_kinds.fail_sync s n f h l x = absurd x
+loaded (lane_kinds.fail_sync faults) s n f h l x = absurd x
 loaded (lane_kinds.lane_back noted) s n f h l x = absurd x
 
 is_out : (k : LaneKind) (s : State) (n f : ℕ) (h : LaneHold) (l : Link) → Writes k s n f h l → LaneAllowed k (s.lane n) h → h.out ≢ None
 is_out (lane_kinds.write_block g tag p) s n f h l x a = a.out
-is_out (lane_kinds.fail_write g tag p) s n f h l x a = a.out
+is_out (lane_kinds.fail_write g tag p faults) s n f h l x a = a.call.out
 is_out lane_kinds.take_lane s n f h l x a = absurd x
 is_out lane_kinds.leave_lane s n f h l x a = absurd x
 is_out (lane_kinds.lane_out taken) s n f h l x a = absurd x
 is_out (lane_kinds.read_block tag p) s n f h l x a = absurd x
-is_out (lane_kinds.fail_read tag) s n f h l x a = absurd x
+is_out (lane_kinds.fail_read tag faults) s n f h l x a = absurd x
 is_out lane_kinds.sync_lane s n f h l x a = absurd x
-is_out lane_kinds.fail_sync s n f h l x a = absurd x
+is_out (lane_kinds.fail_sync faults) s n f h l x a = absurd x
 is_out (lane_kinds.lane_back noted) s n f h l x a = absurd x
+
+-- a lane's sync makes what it holds durable
+pub syncs : (s : State) → SyncsMakeDurable s
+syncs s _ _ tag t (lanes i n k v there live low a alone) same = ap (λ (y : Lane). y.synced_upto tag) (put_at s.lane n (lane_after k (s.lane n)) (s.lane_of tag) same) ∙ ap (λ (z : ℕ). (s.lane z).stored_upto tag) (sym same)
 
 module _ (s : State) (h : Invariant s) where
   pub legal : CallsAreLegal s
@@ -119,6 +123,13 @@ module _ (s : State) (h : Invariant s) where
           above = let z = c.within in omega arith;
         },
       )
+
+  -- no entry ends at the base
+  none_cut : cut s.log.base s.log.entries ≡ []
+  none_cut = cut_none_below s.log.base s.log.entries (λ k e at. let x = h.log.chained k e at in omega arith)
+
+  pub at_base : ReadsAtBase s
+  at_base i k backend tag page v there at known = ((h.history.calls i v there).legal k (Read backend tag page s.log.base) at).reads known ∙ ap (λ (es : List Entry). cell s.origin es tag) none_cut ∙ (λ j. cell_none s.origin j tag)
 
   pub writes_stand : WritesStand s
   writes_stand _ _ _ t (enters i f p v there live inside a) = let tag = (s.pool.core.frame f).tag in let w : View = has_written (s.end + record_size) tag p (paged (make_entry p) s.pool f v) in let here = set_here s.pool.core.views i v w there in

@@ -63,11 +63,11 @@ lane_keeps (lane_kinds.lane_out taken) i m j n u leaves e = ap (λ (x : LaneHold
 lane_keeps lane_kinds.take_lane i m j n u leaves e = set_keeps u.lanes m n (lane_hold_after lane_kinds.take_lane u.flushed (lane_hold u m)) refl
 lane_keeps lane_kinds.leave_lane i m j n u leaves e = set_keeps u.lanes m n (lane_hold_after lane_kinds.leave_lane u.flushed (lane_hold u m)) refl
 lane_keeps (lane_kinds.read_block tag p) i m j n u leaves e = set_keeps u.lanes m n (lane_hold_after (lane_kinds.read_block tag p) u.flushed (lane_hold u m)) refl
-lane_keeps (lane_kinds.fail_read tag) i m j n u leaves e = set_keeps u.lanes m n (lane_hold_after (lane_kinds.fail_read tag) u.flushed (lane_hold u m)) refl
+lane_keeps (lane_kinds.fail_read tag faults) i m j n u leaves e = set_keeps u.lanes m n (lane_hold_after (lane_kinds.fail_read tag faults) u.flushed (lane_hold u m)) refl
 lane_keeps (lane_kinds.write_block f tag p) i m j n u leaves e = set_keeps u.lanes m n (lane_hold_after (lane_kinds.write_block f tag p) u.flushed (lane_hold u m)) refl
-lane_keeps (lane_kinds.fail_write f tag p) i m j n u leaves e = set_keeps u.lanes m n (lane_hold_after (lane_kinds.fail_write f tag p) u.flushed (lane_hold u m)) refl
+lane_keeps (lane_kinds.fail_write f tag p faults) i m j n u leaves e = set_keeps u.lanes m n (lane_hold_after (lane_kinds.fail_write f tag p faults) u.flushed (lane_hold u m)) refl
 lane_keeps lane_kinds.sync_lane i m j n u leaves e = set_keeps u.lanes m n (lane_hold_after lane_kinds.sync_lane u.flushed (lane_hold u m)) refl
-lane_keeps lane_kinds.fail_sync i m j n u leaves e = set_keeps u.lanes m n (lane_hold_after lane_kinds.fail_sync u.flushed (lane_hold u m)) refl
+lane_keeps (lane_kinds.fail_sync faults) i m j n u leaves e = set_keeps u.lanes m n (lane_hold_after (lane_kinds.fail_sync faults) u.flushed (lane_hold u m)) refl
 lane_keeps (lane_kinds.lane_back noted) i m j n u leaves e = set_keeps u.lanes m n (lane_hold_after (lane_kinds.lane_back noted) u.flushed (lane_hold u m)) refl
 
 -- a write of a frame's page takes no lane out
@@ -76,11 +76,11 @@ write_leaves (lane_kinds.lane_out taken) s i m f j n h l x = absurd x
 write_leaves lane_kinds.take_lane s i m f j n h l x = tt
 write_leaves lane_kinds.leave_lane s i m f j n h l x = tt
 write_leaves (lane_kinds.read_block tag p) s i m f j n h l x = tt
-write_leaves (lane_kinds.fail_read tag) s i m f j n h l x = tt
+write_leaves (lane_kinds.fail_read tag faults) s i m f j n h l x = tt
 write_leaves (lane_kinds.write_block g tag p) s i m f j n h l x = tt
-write_leaves (lane_kinds.fail_write g tag p) s i m f j n h l x = tt
+write_leaves (lane_kinds.fail_write g tag p faults) s i m f j n h l x = tt
 write_leaves lane_kinds.sync_lane s i m f j n h l x = tt
-write_leaves lane_kinds.fail_sync s i m f j n h l x = tt
+write_leaves (lane_kinds.fail_sync faults) s i m f j n h l x = tt
 write_leaves (lane_kinds.lane_back noted) s i m f j n h l x = tt
 
 step_keeps : {e : Event} {s t : State} → Step e s t → (j n : ℕ) (v : View) → get_elem? s.pool.core.views j ≡ some v → LeavesHold e j n → HasKeptFlushed t.pool.core.views j n v

@@ -16,7 +16,6 @@ pub mod Counts
 pub mod LogCounting
 pub mod Counting
 pub mod Opening
-pub mod Records
 pub mod Rest
 pub mod Sample
 pub mod Miss
@@ -25,6 +24,7 @@ pub mod Staying
 pub mod KeptFlushed
 pub mod Histories
 pub mod Spending
+pub mod Outings
 pub mod PinsStay
 pub mod Promises
 pub mod Laws

@@ -21,15 +21,15 @@ use Rattle.pin_core.specs.Steps as pin_steps
 use Rattle.page_core.specs.Steps as page_steps
 use Rattle.page_core.specs.Kinds.{begin_write, make_entry}
 use Rattle.history_core.specs.Log.{record_size}
-use Rattle.history_core.specs.State.{Device, State, Store, raised, fresh_device}
+use Rattle.history_core.specs.State.{Device, State, Store, fresh_device}
 use Rattle.history_core.specs.Lanes as lane_kinds
-use Rattle.history_core.specs.Lanes.{LaneKind, met_by, fault_of}
+use Rattle.history_core.specs.Lanes.{LaneKind, Rises, met_by, fault_of}
 use Rattle.history_core.specs.Device as log_kinds
 use Rattle.history_core.specs.Device.{LogKind, LogAllowed, device_after, view_logged, is_failed, HasRisen, Written, DeviceLaw, LogLink, LogTally, holders, appenders, log_weigh, log_shape, log_part}
 use Rattle.history_core.specs.Counts.{all_met, NoneFailedOut, FaultsOut, LogCounted}
 use Rattle.history_core.specs.Invariant.{Invariant, written_of}
 use Rattle.history_core.specs.Steps.{Event, stepped, looked, pool_noting, paged, laned, has_loaded, has_read, has_begun, has_written, Step, pools, lanes, writes, notes, logs, enters, reads, loads_end, begins, loads_flushed, raises, adds_hand, loads_hand}
-use Rattle.history_core.proofs.Device.{raised_rises}
+use Rattle.history_core.proofs.Device.{risen}
 use Rattle.history_core.proofs.Opening.{one_total}
 use Rattle.grid.specs.Shape.{total}
 use Rattle.grid.proofs.Lists.{at_set, at_end, at_longer, at_only, set_else, set_here}
@@ -45,10 +45,10 @@ pub some_same : {A : Type 0} {a b : A} → some a ≡ some b → a ≡ b
 some_same e = cc
 
 -- the views where view i has become w: this one, and the others
-by_view : (views : List View) (i : ℕ) (v w : View) → get_elem? views i ≡ some v → (P : View → Type 0) → P w → ((j : ℕ) (u : View) → j ≢ i → get_elem? views j ≡ some u → P u) → (j : ℕ) (u : View) → get_elem? (set views i w) j ≡ some u → P u
+pub by_view : (views : List View) (i : ℕ) (v w : View) → get_elem? views i ≡ some v → (P : View → Type 0) → P w → ((j : ℕ) (u : View) → j ≢ i → get_elem? views j ≡ some u → P u) → (j : ℕ) (u : View) → get_elem? (set views i w) j ≡ some u → P u
 by_view views i v w there P here else j u e = ⊎_elim (λ (t : (j ≡ i) × (w ≡ u)). subst P t.1 here) (λ (t : (j ≢ i) × (get_elem? views j ≡ some u)). else j u t.0 t.1) (at_set views i j w u e)
 
-none_out : {o : Option TakenLog} {t : TakenLog} → o ≡ None → o ≡ Some t → ⊥
+pub none_out : {o : Option TakenLog} {t : TakenLog} → o ≡ None → o ≡ Some t → ⊥
 none_out a b = cc
 
 -- A view changes, and the device may
@@ -63,18 +63,18 @@ module _ (start : ℕ) (d d' : Device) (views : List View) (m : LogCounted start
     rose = λ e. subst (λ (n : ℕ). HasRisen start n) (sym faults) (m.rose (omega arith));
     is_met = λ none lt. let x = m.is_met (none_before none (sym change ∙ none i w (set_here views i v w there))) (omega arith) in omega arith;
     out_rose = λ j u e bad. subst (λ (n : ℕ). HasRisen start n) (sym faults) (by_view views i v w there (λ (x : View). is_failed x.log.change ≡ true → HasRisen start d.faults) (λ z. m.out_rose i v there (sym change ∙ z)) (λ k x o at z. m.out_rose k x at z) j u e bad);
-    counts = λ j u taken e is. let x = by_view views i v w there (λ (x : View). (taken : TakenLog) → x.log.out ≡ Some taken → FaultsOut taken d x.log.change) (λ t z. (out t z).0) (λ k x o at t z. m.counts k x t at z) j u e taken is in record { same = λ z. faults ∙ x.same z; failed = λ z. faults ∙ x.failed z };
+    counts = λ j u taken e is. let x = by_view views i v w there (λ (x : View). (taken : TakenLog) → x.log.out ≡ Some taken → FaultsOut taken d x.log.change) (λ t z. (out t z).0) (λ k x o at t z. m.counts k x t at z) j u e taken is in record { same = λ z. faults ∙ x.same z; failed = λ z. subst (λ (n : ℕ). Rises taken.faults n) (sym faults) (x.failed z) };
     taken = λ j u taken e is lt. let x = by_view views i v w there (λ (x : View). (taken : TakenLog) → x.log.out ≡ Some taken → start < taken.faults → 0 < (all_met views).logs) (λ t z. (out t z).1) (λ k x o at t z. m.taken k x t at z) j u e taken is lt in omega arith;
   }
 
   -- a call fails, and no other view has the device out
-  fails_counts : start ≤ d.faults → d'.faults ≡ raised d.faults → w.met.logs ≡ v.met.logs → is_failed v.log.change ≡ false → is_failed w.log.change ≡ true → w.log.out ≡ v.log.out → ((j : ℕ) (u : View) → j ≢ i → get_elem? views j ≡ some u → u.log.out ≡ None) → LogCounted start d' (set views i w)
-  fails_counts least faults met good bad out alone = let sums = total-set logs_of views i v w there in let same : (all_met (set views i w)).logs ≡ (all_met views).logs = omega arith in let later : HasRisen start d'.faults = subst (λ (n : ℕ). HasRisen start n) (sym faults) (raised_rises start d.faults least) in record {
+  fails_counts : start ≤ d.faults → Rises d.faults d'.faults → w.met.logs ≡ v.met.logs → is_failed v.log.change ≡ false → is_failed w.log.change ≡ true → w.log.out ≡ v.log.out → ((j : ℕ) (u : View) → j ≢ i → get_elem? views j ≡ some u → u.log.out ≡ None) → LogCounted start d' (set views i w)
+  fails_counts least rises met good bad out alone = let sums = total-set logs_of views i v w there in let same : (all_met (set views i w)).logs ≡ (all_met views).logs = omega arith in let later : HasRisen start d'.faults = risen start d.faults d'.faults least rises in record {
     rose = λ e. later;
     is_met = λ none lt. absurd (apart bad (none i w (set_here views i v w there)));
     out_rose = λ j u e z. later;
     counts = λ j u taken e is. by_view views i v w there (λ (x : View). (taken : TakenLog) → x.log.out ≡ Some taken → FaultsOut taken d' x.log.change)
-        (λ t z. let x = m.counts i v t there (sym out ∙ z) in record { same = λ y. absurd (apart bad y); failed = λ y. faults ∙ ap raised (x.same good) }) (λ k x o at t z. absurd (none_out (alone k x o at) z)) j u e taken is;
+        (λ t z. let x = m.counts i v t there (sym out ∙ z) in record { same = λ y. absurd (apart bad y); failed = λ y. subst (λ (n : ℕ). Rises n d'.faults) (x.same good) rises }) (λ k x o at t z. absurd (none_out (alone k x o at) z)) j u e taken is;
     taken = λ j u taken e is lt. let x = by_view views i v w there (λ (x : View). (taken : TakenLog) → x.log.out ≡ Some taken → start < taken.faults → 0 < (all_met views).logs) (λ t z. m.taken i v t there (sym out ∙ z)) (λ k x o at t z. m.taken k x t at z) j u e taken is lt in omega arith;
   }
 
@@ -84,7 +84,7 @@ module _ (start : ℕ) (d d' : Device) (views : List View) (m : LogCounted start
     rose = λ e. subst (λ (n : ℕ). HasRisen start n) (sym faults) (⊎_elim (λ (z : 0 < noted). m.out_rose i v there (failed z)) (λ (z : noted ≤ 0). m.rose (omega arith)) (cases_lt 0 noted));
     is_met = λ none lt. ⊎_elim (λ (z : taken.faults < d.faults). let x = rose z in omega arith) (λ (z : d.faults ≤ taken.faults). let x = m.taken i v taken there out (omega arith) in omega arith) (cases_lt taken.faults d.faults);
     out_rose = λ j u e bad. subst (λ (n : ℕ). HasRisen start n) (sym faults) (by_view views i v w there (λ (x : View). is_failed x.log.change ≡ true → HasRisen start d.faults) (λ z. absurd (apart z good)) (λ k x o at z. m.out_rose k x at z) j u e bad);
-    counts = λ j u t e is. let x = by_view views i v w there (λ (x : View). (taken : TakenLog) → x.log.out ≡ Some taken → FaultsOut taken d x.log.change) (λ y z. absurd (none_out home z)) (λ k x o at y z. m.counts k x y at z) j u e t is in record { same = λ z. faults ∙ x.same z; failed = λ z. faults ∙ x.failed z };
+    counts = λ j u t e is. let x = by_view views i v w there (λ (x : View). (taken : TakenLog) → x.log.out ≡ Some taken → FaultsOut taken d x.log.change) (λ y z. absurd (none_out home z)) (λ k x o at y z. m.counts k x y at z) j u e t is in record { same = λ z. faults ∙ x.same z; failed = λ z. subst (λ (n : ℕ). Rises t.faults n) (sym faults) (x.failed z) };
     taken = λ j u t e is lt. let x = by_view views i v w there (λ (x : View). (taken : TakenLog) → x.log.out ≡ Some taken → start < taken.faults → 0 < (all_met views).logs) (λ y z. absurd (none_out home z)) (λ k x o at y z. m.taken k x y at z) j u e t is lt in omega arith;
   }
 
@@ -96,7 +96,7 @@ module _ (s : State) (h : Invariant s) (i : ℕ) (v : View) (there : get_elem? s
   link_of : (j : ℕ) (u : View) → get_elem? s.pool.core.views j ≡ some u → LogLink (written_of s) s.device u.saw_down u.log
   link_of j u at = h.device.cells j u 0 at (lit< tt)
 
-  others_home : v.log.held ≡ true → (j : ℕ) (u : View) → j ≢ i → get_elem? s.pool.core.views j ≡ some u → u.log.out ≡ None
+  pub others_home : v.log.held ≡ true → (j : ℕ) (u : View) → j ≢ i → get_elem? s.pool.core.views j ≡ some u → u.log.out ≡ None
   others_home held j u other at = held_alone (written_of s) s.device (λ k. total (λ (x : View). log_weigh k x.log) s.pool.core.views) v.saw_down u.saw_down v.log u.log (h.device.columns 0 (lit< tt)) (link_of i v there) (link_of j u at)
       (λ k. terms_le (λ (x : View). log_weigh k x.log) s.pool.core.views i j v u other there at) held
 
@@ -105,7 +105,7 @@ module _ (s : State) (h : Invariant s) (i : ℕ) (v : View) (there : get_elem? s
   none_failed held good j u at = dite (ℕ_discrete j i) (λ same. ap (λ (x : View). is_failed x.log.change) (some_same (sym at ∙ ap (get_elem? s.pool.core.views) same ∙ there)) ∙ good)
       (λ other. ap is_failed ((link_of j u at).home (others_home held j u other at)))
 
-  is_held : v.log.out ≢ None → v.log.held ≡ true
+  pub is_held : v.log.out ≢ None → v.log.held ≡ true
   is_held out = let c = link_of i v there in grind (arith, c, out)
 
   logged : (k : LogKind) → LogCounted s.log_faults s.device s.pool.core.views → LogAllowed k s.device v.log → LogCounted s.log_faults (device_after k s.end s.device) (set s.pool.core.views i (view_logged k v))
@@ -119,8 +119,8 @@ module _ (s : State) (h : Invariant s) (i : ℕ) (v : View) (there : get_elem? s
       (λ t z. let x = m.counts i v t there z in (record { same = λ y. x.same (ap is_failed a.call.once); failed = λ y. absurd (cc) }, m.taken i v t there z))
   logged log_kinds.sync_log m a = keeps_counts s.log_faults s.device (device_after log_kinds.sync_log s.end s.device) s.pool.core.views m i v (view_logged log_kinds.sync_log v) there refl (omega arith) (sym (ap is_failed a.once))
       (λ t z. let x = m.counts i v t there z in (record { same = λ y. x.same (ap is_failed a.once); failed = λ y. absurd (cc) }, m.taken i v t there z))
-  logged (log_kinds.fail_append bytes) m a = fails_counts s.log_faults s.device (device_after (log_kinds.fail_append bytes) s.end s.device) s.pool.core.views m i v (view_logged (log_kinds.fail_append bytes) v) there (h.device.columns 0 (lit< tt)).least refl (omega arith) (ap is_failed a.call.once) refl refl (others_home (is_held a.call.out))
-  logged log_kinds.fail_sync m a = fails_counts s.log_faults s.device (device_after log_kinds.fail_sync s.end s.device) s.pool.core.views m i v (view_logged log_kinds.fail_sync v) there (h.device.columns 0 (lit< tt)).least refl (omega arith) (ap is_failed a.once) refl refl (others_home (is_held a.out))
+  logged (log_kinds.fail_append f tag p bytes faults) m a = fails_counts s.log_faults s.device (device_after (log_kinds.fail_append f tag p bytes faults) s.end s.device) s.pool.core.views m i v (view_logged (log_kinds.fail_append f tag p bytes faults) v) there (h.device.columns 0 (lit< tt)).least a.rises (omega arith) (ap is_failed a.call.once) refl refl (others_home (is_held a.call.out))
+  logged (log_kinds.fail_sync synced faults) m a = fails_counts s.log_faults s.device (device_after (log_kinds.fail_sync synced faults) s.end s.device) s.pool.core.views m i v (view_logged (log_kinds.fail_sync synced faults) v) there (h.device.columns 0 (lit< tt)).least a.rises (omega arith) (ap is_failed a.call.once) refl refl (others_home (is_held a.call.out))
   logged (log_kinds.log_back true) m a = by_out v.log.out refl
     where
       by_out : (o : Option TakenLog) → v.log.out ≡ o → LogCounted s.log_faults s.device (set s.pool.core.views i (view_logged (log_kinds.log_back true) v))
@@ -184,11 +184,11 @@ no_log_fault lane_kinds.take_lane h = refl
 no_log_fault lane_kinds.leave_lane h = refl
 no_log_fault (lane_kinds.lane_out taken) h = refl
 no_log_fault (lane_kinds.read_block tag p) h = refl
-no_log_fault (lane_kinds.fail_read tag) h = refl
+no_log_fault (lane_kinds.fail_read tag faults) h = refl
 no_log_fault (lane_kinds.write_block f tag p) h = refl
-no_log_fault (lane_kinds.fail_write f tag p) h = refl
+no_log_fault (lane_kinds.fail_write f tag p faults) h = refl
 no_log_fault lane_kinds.sync_lane h = refl
-no_log_fault lane_kinds.fail_sync h = refl
+no_log_fault (lane_kinds.fail_sync faults) h = refl
 
 same_logs : (k : LaneKind) (q : ℕ) (v : View) → v.met.logs + (met_by k (lane_hold v q)).logs ≡ v.met.logs
 same_logs k q v = let x = no_log_fault k (lane_hold v q) in omega arith

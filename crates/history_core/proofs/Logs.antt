@@ -45,6 +45,12 @@ unfolding cut
 cut_all p [] h = refl
 cut_all p (e ∷ es) h = cut_in p e es (h zero e refl) ∙ ap (λ (l : List Entry). e ∷ l) (cut_all p es (λ k x t. h (suc k) x t))
 
+-- where each entry ends behind the position all are cut away
+pub cut_none_below : (p : ℕ) (es : List Entry) → ((k : ℕ) (e : Entry) → get_elem? es k ≡ some e → p < end_of e) → cut p es ≡ []
+unfolding cut
+cut_none_below p [] h = refl
+cut_none_below p (e ∷ es) h = cut_out p e es (h zero e refl) ∙ cut_none_below p es (λ k x t. h (suc k) x t)
+
 -- What the entries make of the block of a tag: nothing, or the image of its last one
 data Last (es : List Entry) (tag p : ℕ) : Type 0 where
   untouched : ((origin : ℕ → Page) → (cell origin es tag ≡ origin tag) × (cell origin (cut p es) tag ≡ origin tag)) → Last es tag p

@@ -14,7 +14,6 @@ use Rattle.pin_core.specs.Steps as pin_steps
 use Rattle.pin_core.proofs.Sample.{at_partition, no_entries, one_entry, named, packed}
 use Rattle.page_core.proofs.Sample.{at_frame, sound_read}
 use Rattle.page_core.specs.Kinds.{Kind, start_input, note_read, page_out, overwrite_read, page_back, end_io, share, take_copy, leave_copy}
-use mathlib.Core.Option.{some-ne-none}
 use Rattle.pin_core.specs.declared.view.LaneHold.{LaneHold}
 use Rattle.pin_core.specs.declared.view.Seen.TheVariants as seen
 use Rattle.pin_core.specs.State.{lane_hold, no_lane}
@@ -145,7 +144,7 @@ pub no_write : HasNoWriteOut (view_of m21) 0
 no_write n out = absurd (out (lane_one (view_of m21).lanes _ refl refl n))
 
 pub goes_out : CanTakeOut sample_lane (m13.lane 0) (lane_hold (view_of m13) 0)
-goes_out = record { held = refl; home = refl; reads = refl; writes = refl; pages = λ blocks k b e at. absurd (cc); failed = λ tag e. absurd (cc); only_failed = λ k tag at. absurd (some-ne-none tag (sym at)) }
+goes_out = record { held = refl; home = refl; reads = refl; writes = refl; pages = λ blocks k b e at. absurd (cc) }
 
 pub below : (n : ℕ) → n < 0 → false ≡ true
 below n z = absurd (omega arith)
@@ -160,7 +159,7 @@ filled = goes (pools (page_steps.cores (pin_steps.turns 0 0 take_turn (view_of m
     (goes (pools (page_steps.cores (pin_steps.touches 0 0 pins.lock_header (view_of m1) refl refl (lit< tt) (record { unlocked = refl }) (at_frame (λ (l : Link). l.header ≡ None) (view_of m1) _ refl refl refl))) tt)
     (goes (pools (page_steps.cores (pin_steps.touches 0 0 pins.pin_victim (view_of m2) refl refl (lit< tt) (record { held = refl; absent = refl; room = λ e. refl }) (at_frame (λ (l : Link). l.role ≢ Victim) (view_of m2) _ refl (λ e. cc) (λ e. cc)))) tt)
     (goes (pools (page_steps.cores (pin_steps.touches 0 0 pins.lock_header (view_of m3) refl refl (lit< tt) (record { unlocked = refl }) (at_frame (λ (l : Link). l.header ≡ None) (view_of m3) _ refl refl refl))) tt)
-    (goes (pools (page_steps.cores (pin_steps.touches 0 0 (pins.store_tag 7) (view_of m4) refl refl (lit< tt) (record { alone = record { held = refl; settled = refl; single = refl; victim = refl; no_content = refl; no_io = refl }; named = named; packed = packed; untagged = refl }) (record { naming = record { held = refl; unchanged = refl; settled = (at_partition (λ (h : PartitionHold). h.change ≡ Settled) (view_of m4) _ refl refl refl) }; lacking = refl }))) tt)
+    (goes (pools (page_steps.cores (pin_steps.touches 0 0 (pins.store_tag 7) (view_of m4) refl refl (lit< tt) (record { alone = record { held = refl; settled = refl; single = refl; victim = refl; no_content = refl; no_io = refl }; named = named; packed = packed; untagged = refl }) (record { naming = record { held = refl; unchanged = refl; settled = (at_partition (λ (h : PartitionHold). h.change ≡ Settled) (view_of m4) _ refl refl refl) }; block = refl; lacking = refl }))) tt)
     (goes (pools (page_steps.cores (pin_steps.touches 0 0 pins.assign (view_of m5) refl refl (lit< tt) (record { held = refl; stored = refl; named = named }) tt)) tt)
     (goes (pools (page_steps.cores (pin_steps.turns 0 0 (map_out []) (view_of m6) refl refl (lit< tt) (record { held = refl; home = refl; entries_are = no_entries }))) tt)
     (goes (pools (page_steps.cores (pin_steps.turns 0 0 change_map (view_of m7) refl refl (lit< tt) (record { out = λ e. cc; unchanged = refl; named = λ e. cc }))) tt)

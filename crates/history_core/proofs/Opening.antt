@@ -24,7 +24,7 @@ pub one_total : (g : View → ℕ) (v : View) → g v ≡ 0 → total g (v ∷ [
 unfolding total
 one_total g v e = omega arith
 
-cell_none : (origin : ℕ → Page) → cell origin [] ≡ origin
+pub cell_none : (origin : ℕ → Page) → cell origin [] ≡ origin
 unfolding cell
 cell_none origin = refl
 

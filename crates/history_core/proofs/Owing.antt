@@ -165,7 +165,7 @@ module _ (s : State) (h : Invariant s) (d : DebtsLaw s) where
           (output_position i f v there inside x.right.right m en at (tagged ∙ e ∙ sym x.tagged))))
           (λ (o : z ≢ tag). inl (sym (fails z ∙ put_else (failed s) tag false z o) ∙ ok)))
           n (put frame f (frame f)) s.end s.pool.logged vs y
-      by_kind (lane_kinds.fail_write g tag p) (_, x) {vs = vs} y = let ln : Lane = lane_after (lane_kinds.fail_write g tag p) (s.lane q) in let fails = lane_written s.lane_of s.lane q ln tag (λ (z : Lane). z.failed) true x.lane refl in
+      by_kind (lane_kinds.fail_write g tag p faults) (_, x) {vs = vs} y = let ln : Lane = lane_after (lane_kinds.fail_write g tag p faults) (s.lane q) in let fails = lane_written s.lane_of s.lane q ln tag (λ (z : Lane). z.failed) true x.lane refl in
           debts_later t (taken_of (record s { lane = put s.lane q ln })) refl
           (λ z. let a = lane_put (λ (m : Lane). m.stored_upto z) s.lane q ln refl (s.lane_of z) in omega arith)
           (λ z ok. dite (ℕ_discrete z tag) (λ (e : z ≡ tag). absurd (apart (fails z ∙ put_at (failed s) tag true z e) ok)) (λ (o : z ≢ tag). inl (sym (fails z ∙ put_else (failed s) tag true z o) ∙ ok)))
@@ -174,9 +174,9 @@ module _ (s : State) (h : Invariant s) (d : DebtsLaw s) where
       by_kind lane_kinds.leave_lane x y = absurd x
       by_kind (lane_kinds.lane_out taken) x y = absurd x
       by_kind (lane_kinds.read_block tag p) x y = absurd x
-      by_kind (lane_kinds.fail_read tag) x y = absurd x
+      by_kind (lane_kinds.fail_read tag faults) x y = absurd x
       by_kind lane_kinds.sync_lane x y = absurd x
-      by_kind lane_kinds.fail_sync x y = absurd x
+      by_kind (lane_kinds.fail_sync faults) x y = absurd x
       by_kind (lane_kinds.lane_back noted) x y = absurd x
 
   -- what a read from a lane whose contents aren't known gave is noted: the block's entries are in the lane

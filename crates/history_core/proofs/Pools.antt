@@ -42,6 +42,7 @@ core_aside s i v w h there same = record {
   grid = steady frame_shape pin_law.pin_part s.frames s.frame (λ _. tt) s.views h.grid i v w there refl (link_same v w same.links);
   turns = steady turn_shape turn_part s.partitions s.partition (λ _. tt) s.views h.turns i v w there refl (hold_same v w same.partitions);
   apart = h.apart;
+  blocks = h.blocks;
   maps = h.maps;
   placed = h.placed;
   views = views_set s.frames s.partitions s.backends s.views h.views i v w there same.backend;

@@ -9,7 +9,11 @@ use Rattle.history_core.specs.State.{State, stored_upto, failed}
 use Rattle.history_core.specs.Homes.{IsUnframed}
 use Rattle.history_core.specs.Invariant.{Invariant}
 use Rattle.history_core.specs.Debts.{has_passed, has_listed, IsSettled, taken_of, DebtsLaw}
-use Rattle.history_core.specs.Promises.{IsInLane, IsUnwritten, AreStored, CheckpointsStore}
+use Rattle.history_core.specs.Promises.{GrantsAreAlone, IsInLane, IsUnwritten, AreStored, CheckpointsStore}
+use Rattle.pin_core.specs.Steps as pin_steps
+use Rattle.page_core.specs.Steps as page_steps
+use Rattle.page_core.proofs.Histories.{cleanup_alone}
+use Rattle.history_core.specs.Steps.{pools}
 use Rattle.history_core.proofs.Histories.{framed, durable}
 
 either : {A : Type 0} (b : Bool) → (b ≡ true → A) → (b ≡ false → A) → A
@@ -46,3 +50,7 @@ module _ (s : State) (h : Invariant s) (d : DebtsLaw s) where
     own = λ i v there ended. all_stored v.upto (λ f. (link v f).passed) (λ f. (link v f).listed) (λ f below. ((d.each i v there).own f below).settled) ended;
     kept = λ i k v c there at ended. all_stored c.upto (has_passed c) (has_listed c) (λ f below. (d.each i v there).kept k f c at below) ended;
   }
+
+-- the load is of a frame that is there
+pub grants_alone : (s : State) → Invariant s → GrantsAreAlone s
+grants_alone s h i f v t (pools (page_steps.cores (pin_steps.touches _ _ k w at live inside a around)) plain) there one pinned locked j u other here = let alone = cleanup_alone s.pool h.pool f inside in (alone.pins i j v u there here (λ e. other (sym e)) one pinned, alone.locks i j v u there here (λ e. other (sym e)) locked)

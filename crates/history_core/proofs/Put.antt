@@ -2,7 +2,6 @@
 use Rattle.std.proofs.Common.{◌≡◌, ◌≤◌, ◌+◌, ℕ, true, false, [], ◌∷◌, ◌++◌, List, None, lit<, refl, sym, ap, append-nil, arith}
 use Rattle.std.specs.Prelude.{max}
 use Rattle.std.proofs.lemmas.Option.{same_Some}
-use mathlib.Core.Option.{some-ne-none}
 use Rattle.state_word.specs.declared.word.IoEnd.TheVariants.{WriteOk}
 use lib.ListN.{length-replicate}
 use Rattle.page_layout.specs.Fields.{header_of, lsn_of}
@@ -21,7 +20,7 @@ use Rattle.history_core.specs.Log.{record_size, head_bytes, records, log_bytes}
 use Rattle.history_core.specs.State.{State, last_position}
 use Rattle.history_core.specs.Lanes.{take_lane, leave_lane, lane_out, write_block, CanTakeOut, lane_after}
 use Rattle.history_core.specs.Device.{LogKind, take_log, leave_log, log_out, append, sync_log, log_back, device_after, view_logged}
-use Rattle.history_core.specs.Steps.{aside, pool_after, stepped, looked, laned, new_entry, has_written, pools, lanes, writes, notes, logs, enters, loads_flushed, raises, Run, rests, goes}
+use Rattle.history_core.specs.Steps.{CanLog, aside, pool_after, stepped, looked, laned, new_entry, has_written, pools, lanes, writes, notes, logs, enters, loads_flushed, raises, Run, rests, goes}
 use Rattle.history_core.specs.Steps as steps
 use Rattle.history_core.specs.Sample.{sample_store, sample_lane, sample_log}
 use Rattle.history_core.specs.Miss.{miss_start, miss, fill}
@@ -152,17 +151,20 @@ abbrev q32 : Page → State
 q32 p = paged unshare (q31 p)
 
 takes_out : (p : Page) → CanTakeOut sample_lane ((q25 p).lane 0) (lane_hold (view_of (q25 p)) 0)
-takes_out p = record { held = refl; home = refl; reads = refl; writes = refl; pages = λ blocks k b e at. absurd (cc); failed = λ tag e. absurd (cc); only_failed = λ k tag at. absurd (some-ne-none tag (sym at)) }
+takes_out p = record { held = refl; home = refl; reads = refl; writes = refl; pages = λ blocks k b e at. absurd (cc) }
 
 none_out : (p : Page) → HasNoWriteOut (view_of (q30 p)) 0
 none_out p n out = absurd (out (lane_one (view_of (q30 p)).lanes _ refl refl n))
+
+may_log : (p : Page) → IsPut p → CanLog (q4 p) 0 7 p (view_of (q4 p))
+may_log p is = record { inside = lit< tt; tagged = refl; right = record { right = refl; dirtied = refl; settled = refl; sound = is.sound; used = is.used }; around = at_frame (λ (l : Link). l.unapplied ≡ false) (view_of (q4 p)) _ refl refl refl; full = is.full; ends = is.ends; room = has_room }
 
 changes : (p : Page) → IsPut p → Run (change p) m23 (q12 p)
 changes p is = goes (pools (page_steps.touches 0 0 exclude (view_of m23) refl refl (lit< tt) (record { pinned = λ e. cc; seen = refl; none = refl; free = refl; alone = refl; no_copy = refl }) tt) tt)
     (goes (pools (page_steps.touches 0 0 mark_dirty (view_of (q1 p)) refl refl (lit< tt) (record { unlocked = refl; right = refl }) tt) tt)
     (goes (logs 0 take_log (view_of (q2 p)) refl refl (record { free = refl }) tt)
-    (goes (logs 0 (log_out sample_log) (view_of (q3 p)) refl refl (record { held = refl; home = refl; faults = refl; bytes = λ bytes e. sym (same_Some (head_bytes 0) bytes e) }) tt)
-    (goes (logs 0 (append 0 7 p (put_bytes p)) (view_of (q4 p)) refl refl (record { call = record { out = λ e. cc; once = refl; up = refl }; entered = refl; unsynced = refl; full = record_length sample_store.names (put_entry p) refl is.full }) refl)
+    (goes (logs 0 (log_out sample_log) (view_of (q3 p)) refl refl (record { held = refl; home = refl; faults = refl; synced = refl; down = refl; bytes = λ bytes e. sym (same_Some (head_bytes 0) bytes e) }) tt)
+    (goes (logs 0 (append 0 7 p (put_bytes p)) (view_of (q4 p)) refl refl (record { call = record { out = λ e. cc; once = refl; up = refl }; entered = refl; unsynced = refl; full = record_length sample_store.names (put_entry p) refl is.full }) (may_log p is, refl))
     (goes (logs 0 (log_back false) (view_of (q5 p)) refl refl (record { out = λ e. cc; failed = λ z. absurd (cc); rose = λ taken e z. below taken.faults z }) tt)
     (goes (enters 0 0 p (view_of (q6 p)) refl refl (lit< tt) (record { right = record { right = refl; dirtied = refl; settled = refl; sound = is.sound; used = is.used }; around = at_frame (λ (l : Link). l.unapplied ≡ false) (view_of (q6 p)) _ refl refl refl; full = is.full; ends = is.ends; room = has_room; appended = refl }))
     (goes (logs 0 leave_log (view_of (q7 p)) refl refl (record { held = refl; home = refl; entered = refl }) tt)
@@ -174,7 +176,7 @@ changes p is = goes (pools (page_steps.touches 0 0 exclude (view_of m23) refl re
 
 flushes : (p : Page) → IsPut p → Run (flush p) (q12 p) (q19 p)
 flushes p is = goes (logs 0 take_log (view_of (q12 p)) refl refl (record { free = refl }) tt)
-    (goes (logs 0 (log_out (log_with p)) (view_of (q13 p)) refl refl (record { held = refl; home = refl; faults = refl; bytes = λ bytes e. sym (same_Some (head_bytes 0 ++ put_bytes p) bytes e) }) tt)
+    (goes (logs 0 (log_out (log_with p)) (view_of (q13 p)) refl refl (record { held = refl; home = refl; faults = refl; synced = refl; down = refl; bytes = λ bytes e. sym (same_Some (head_bytes 0 ++ put_bytes p) bytes e) }) tt)
     (goes (logs 0 sync_log (view_of (q14 p)) refl refl (record { out = λ e. cc; once = refl; up = refl }) tt)
     (goes (logs 0 (log_back false) (view_of (q15 p)) refl refl (record { out = λ e. cc; failed = λ z. absurd (cc); rose = λ taken e z. below taken.faults z }) tt)
     (goes (raises 0 (view_of (q16 p)) refl refl refl)

@@ -1,19 +1,18 @@
 -- Each step keeps the law of the bytes behind the log's, and so does each list of steps.
-use Rattle.std.proofs.Common.{◌≡◌, ◌≢◌, ℕ, ◌+◌, ◌≤◌, true, List, [], ◌∷◌, ◌++◌, length, length-append, append-nil, replicate, None, sym, refl, ap, ◌∙◌, arith, lit<}
+use Rattle.std.proofs.Common.{◌≡◌, ◌≢◌, ℕ, ◌+◌, ◌≤◌, true, List, [], ◌∷◌, ◌++◌, length, length-append, append-nil, None, sym, refl, ap, ◌∙◌, arith, lit<}
 use mathlib.Core.Option.{some}
-use lib.ListN.{get_elem?, length-replicate}
+use lib.ListN.{get_elem?}
 use Rattle.pin_core.specs.declared.view.LogHold.{LogHold}
 use Rattle.pin_core.specs.declared.view.View.{View}
 use Rattle.pin_core.specs.State.{Config, Page}
 use Rattle.pin_core.specs.Tallies.{some_weight}
-use Rattle.history_core.specs.Log.{Entry, record_size, log_bytes, record_bytes}
+use Rattle.history_core.specs.Log.{Entry, IsImage, log_bytes, record_bytes}
 use Rattle.history_core.specs.State.{State, Store, Device, opening}
 use Rattle.history_core.specs.Device.{LogKind, take_log, leave_log, log_out, append, fail_append, sync_log, fail_sync, log_back, see_down, LogAllowed, device_after, view_logged, Written, DeviceLaw, LogLink, LogTally, holders, appenders, log_weigh, log_shape}
 use Rattle.history_core.specs.Invariant.{Invariant, written_of}
-use Rattle.history_core.specs.Steps.{Event, new_entry, AppendsRecord, aside, Step, pools, lanes, writes, notes, logs, enters, reads, loads_end, begins, loads_flushed, raises, adds_hand, loads_hand, Run, rests, goes}
+use Rattle.history_core.specs.Steps.{Event, new_entry, CanLog, AppendsRecord, aside, Step, pools, lanes, writes, notes, logs, enters, reads, loads_end, begins, loads_flushed, raises, adds_hand, loads_hand, Run, rests, goes}
 use Rattle.history_core.specs.Rest.{NoneAppended, HasRest, RestLaw}
 use Rattle.history_core.proofs.Logs.{bytes_longer}
-use Rattle.history_core.proofs.Records.{whole_record}
 use Rattle.history_core.proofs.Opening.{head_only}
 use Rattle.history_core.proofs.Stepping.{step_keeps}
 use Rattle.grid.specs.Shape.{tallies}
@@ -34,56 +33,47 @@ law_of s h x = record { behind = x; none = λ none up. none_behind (log_bytes s.
 
 -- nothing stands behind the log's bytes
 nothing : (s : State) → s.device.bytes ≡ log_bytes s.names s.log → HasRest s
-nothing s e = record {
-  rest = [];
-  is_bytes = e ∙ sym (append-nil (log_bytes s.names s.log));
-  number = 0;
-  begins = record { tag = 0; page = replicate 8192 0; rest = record_bytes s.names (new_entry s 0 0 (replicate 8192 0)); begins = refl };
-  full = length-replicate {A = ℕ} 8192 0;
-  short = omega arith;
-}
+nothing s e = record { rest = []; is_bytes = e ∙ sym (append-nil (log_bytes s.names s.log)); begins = λ some. absurd (some refl); short = omega arith }
 
 -- the log and its device's bytes stay
 same : (s t : State) → HasRest s → t.device.bytes ≡ s.device.bytes → t.names ≡ s.names → t.log ≡ s.log → t.end ≡ s.end → HasRest t
-same s t x bytes names log end = let b = x.begins in record {
+same s t x bytes names log end = record {
   rest = x.rest;
   is_bytes = bytes ∙ x.is_bytes ∙ (λ j. log_bytes (sym names j) (sym log j) ++ x.rest);
-  number = x.number;
-  begins = record { tag = b.tag; page = b.page; rest = b.rest; begins = b.begins ∙ (λ j. record_bytes (sym names j) (record { start = sym end j; backend = x.number; tag = b.tag; image = b.page })) };
-  full = x.full;
+  begins = λ some. let b = x.begins some in record { entry = b.entry; starts = b.starts ∙ sym end; image = b.image; more = b.more; begins = b.begins ∙ (λ j. record_bytes (sym names j) b.entry) };
   short = x.short;
 }
+
+-- the image of the entry that a backend may make
+image_of : (s : State) (f tag : ℕ) (p : Page) (v : View) → CanLog s f tag p v → IsImage (new_entry s v.number tag p)
+image_of s f tag p v a = record { sound = a.right.sound; used = a.right.used; full = a.full; ends = a.ends }
 
 -- the holder of the latch that has no record appended is alone in that
 none_else : (w : Written) (d : Device) (saw : _) (h : LogHold) (t : LogTally → ℕ) → DeviceLaw w d t → LogLink w d saw h → ((k : LogTally) → log_weigh k h ≤ t k) → h.out ≢ None → h.appended ≡ None → t appenders ≡ 0
 none_else w d saw h t q c le out none = let held : h.held ≡ true = grind (arith, c, out) in grind (arith, q, c, le holders, held, none)
 
 -- a step at the log
-logged : (s : State) (h : Invariant s) (i : ℕ) (k : LogKind) (v : View) → get_elem? s.pool.core.views i ≡ some v → LogAllowed k s.device v.log → AppendsRecord k s v.number → Invariant (record s { pool = aside s.pool i (view_logged k v); device = device_after k s.end s.device }) → HasRest s
+logged : (s : State) (h : Invariant s) (i : ℕ) (k : LogKind) (v : View) → get_elem? s.pool.core.views i ≡ some v → LogAllowed k s.device v.log → AppendsRecord k s v → Invariant (record s { pool = aside s.pool i (view_logged k v); device = device_after k s.end s.device }) → HasRest s
     → HasRest (record s { pool = aside s.pool i (view_logged k v); device = device_after k s.end s.device })
 logged s h i take_log v there a r g x = same s _ x refl refl refl refl
 logged s h i leave_log v there a r g x = same s _ x refl refl refl refl
 logged s h i (log_out taken) v there a r g x = same s _ x refl refl refl refl
 logged s h i sync_log v there a r g x = same s _ x refl refl refl refl
-logged s h i fail_sync v there a r g x = same s _ x refl refl refl refl
+logged s h i (fail_sync synced faults) v there a r g x = same s _ x refl refl refl refl
 logged s h i (log_back noted) v there a r g x = same s _ x refl refl refl refl
 logged s h i see_down v there a r g x = same s _ x refl refl refl refl
 logged s h i (append f tag p bytes) v there a r g x = let w : View = view_logged (append f tag p bytes) v in
-    let y = (g.device.cells i w 0 (set_here s.pool.core.views i v w there) (lit< tt)).appended bytes refl in let long = y.full in let short : length bytes ≤ record_size = omega arith in let b = whole_record s.names (new_entry s v.number tag p) bytes [] (h.named tag) (append-nil bytes ∙ r) short in record {
+    let y = (g.device.cells i w 0 (set_here s.pool.core.views i v w there) (lit< tt)).appended bytes refl in let long = y.full in record {
       rest = bytes;
       is_bytes = y.is_bytes;
-      number = v.number;
-      begins = record { tag = tag; page = b.0; rest = b.1; begins = b.2 };
-      full = b.3;
-      short = short;
+      begins = λ some. record { entry = new_entry s v.number tag p; starts = refl; image = image_of s f tag p v r.0; more = []; begins = append-nil bytes ∙ r.1 };
+      short = omega arith;
     }
-logged s h i (fail_append bytes) v there a r g x = let c = h.device.cells i v 0 there (lit< tt) in let q = h.device.columns 0 (lit< tt) in
-    let none = none_else (written_of s) s.device v.saw_down v.log (tallies log_shape s.pool.core.views 0) q c (λ k. term_le (λ (u : View). log_weigh k u.log) s.pool.core.views i v there) a.call.out a.entered in let b = whole_record s.names (new_entry s v.number r.tag r.page) bytes r.rest (h.named r.tag) r.begins a.part in record {
+logged s h i (fail_append f tag p bytes faults) v there a r g x = let c = h.device.cells i v 0 there (lit< tt) in let q = h.device.columns 0 (lit< tt) in
+    let none = none_else (written_of s) s.device v.saw_down v.log (tallies log_shape s.pool.core.views 0) q c (λ k. term_le (λ (u : View). log_weigh k u.log) s.pool.core.views i v there) a.call.out a.entered in record {
       rest = bytes;
       is_bytes = ap (λ (l : List ℕ). l ++ bytes) (q.bytes none a.call.up);
-      number = v.number;
-      begins = record { tag = r.tag; page = b.0; rest = b.1; begins = b.2 };
-      full = b.3;
+      begins = λ some. record { entry = new_entry s v.number tag p; starts = refl; image = image_of s f tag p v r.0; more = r.1.rest; begins = r.1.begins };
       short = a.part;
     }
 

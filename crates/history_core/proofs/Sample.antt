@@ -2,7 +2,6 @@
 use Rattle.std.proofs.Common.{false, slice_index_or, lit<, refl, sym, arith}
 use Rattle.std.specs.Prelude.{max}
 use Rattle.std.proofs.lemmas.Option.{same_Some}
-use mathlib.Core.Option.{some-ne-none}
 use Rattle.pin_core.specs.declared.view.Seen.TheVariants as seen
 use Rattle.pin_core.specs.declared.view.View.{View}
 use Rattle.pin_core.specs.State.{lane_hold, emptied_view}
@@ -60,7 +59,7 @@ abbrev s12 : State
 s12 = record s11 { pool = aside s11.pool 0 (looked (seen.Flushed s11.flushed) (record (view_of s11) { flushed = s11.flushed })) }
 
 goes_out : CanTakeOut sample_lane (s1.lane 0) (lane_hold (view_of s1) 0)
-goes_out = record { held = refl; home = refl; reads = refl; writes = refl; pages = λ blocks k b e at. absurd (cc); failed = λ tag e. absurd (cc); only_failed = λ k tag at. absurd (some-ne-none tag (sym at)) }
+goes_out = record { held = refl; home = refl; reads = refl; writes = refl; pages = λ blocks k b e at. absurd (cc) }
 
 pub sample : SampleRuns
 sample = (
@@ -76,7 +75,7 @@ sample = (
         (goes (lanes 0 0 leave_lane (view_of s4) refl refl (lit< tt) (record { held = refl; home = refl }) tt)
         rests))))),
     (goes (logs 0 take_log (view_of s5) refl refl (record { free = refl }) tt)
-        (goes (logs 0 (log_out sample_log) (view_of s6) refl refl (record { held = refl; home = refl; faults = refl; bytes = λ bytes e. sym (same_Some (head_bytes 0) bytes e) }) tt)
+        (goes (logs 0 (log_out sample_log) (view_of s6) refl refl (record { held = refl; home = refl; faults = refl; synced = refl; down = refl; bytes = λ bytes e. sym (same_Some (head_bytes 0) bytes e) }) tt)
         (goes (logs 0 sync_log (view_of s7) refl refl (record { out = λ e. cc; once = refl; up = refl }) tt)
         (goes (logs 0 (log_back false) (view_of s8) refl refl (record { out = λ e. cc; failed = λ z. absurd (cc); rose = λ taken e z. absurd (grind (arith, e, z)) }) tt)
         (goes (raises 0 (view_of s9) refl refl refl)

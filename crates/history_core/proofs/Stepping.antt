@@ -10,6 +10,7 @@ use Rattle.page_layout.specs.Fields.{lsn_of}
 use Rattle.pin_core.specs.declared.view.Content.TheVariants.{Unlocked, Exclusive}
 use Rattle.pin_core.specs.declared.view.Io.TheVariants.{Input}
 use Rattle.pin_core.specs.declared.view.LaneHold.{LaneHold}
+use Rattle.pin_core.specs.declared.view.LogHold.{LogHold}
 use Rattle.pin_core.specs.declared.view.Link.{Link}
 use Rattle.pin_core.specs.declared.view.View.{View}
 use Rattle.pin_core.specs.declared.view.Call.TheVariants.{Read}
@@ -135,17 +136,17 @@ homes_same s logged q ln same = λ j tag. record {
 -- a kind at a lane that is no write leaves what the lane holds
 pub no_write_holds : (k : LaneKind) (s : State) (q : ℕ) (x : LaneHold) (ln : Lane) → LaneAlone k s q x → HoldsSame (lane_after k ln) ln
 no_write_holds (lane_kinds.write_block f tag p) s q x ln a = absurd a
-no_write_holds (lane_kinds.fail_write f tag p) s q x ln a = absurd a
+no_write_holds (lane_kinds.fail_write f tag p faults) s q x ln a = absurd a
 no_write_holds _ s q x ln a = record { stored = refl; upto = refl; failed = refl }
 
 -- whether a lane's contents are known stays
 still_known : (k : LaneKind) (ln : Lane) → (lane_after k ln).known ≡ ln.known
 still_known lane_kinds.take_lane ln = refl
 still_known lane_kinds.leave_lane ln = refl
-still_known (lane_kinds.fail_read tag) ln = refl
+still_known (lane_kinds.fail_read tag faults) ln = refl
 still_known (lane_kinds.write_block f tag p) ln = refl
-still_known (lane_kinds.fail_write f tag p) ln = refl
-still_known lane_kinds.fail_sync ln = refl
+still_known (lane_kinds.fail_write f tag p faults) ln = refl
+still_known (lane_kinds.fail_sync faults) ln = refl
 still_known _ ln = refl
 
 known_after : (s : State) → Invariant s → (k : LaneKind) (q tag : ℕ) → (put s.lane q (lane_after k (s.lane q)) (s.lane_of tag)).known ≡ s.known tag
@@ -456,15 +457,15 @@ writes_step : (s : State) → Invariant s → (i q f : ℕ) (k : LaneKind) (v : 
 writes_step s h i q f (lane_kinds.write_block g tag p) v there live low inside back (at, x) = let page = (s.pool.core.frame f).page in let upto_of = (λ (z : Page). max ((s.lane q).stored_upto tag) (lsn_of z)) in
     let y : CanWrite s q f tag page (lane_hold v q) (link v f) = record { tagged = x.tagged; lane = x.lane; page = refl; right = x.right; log_first = subst (λ (z : Page). lsn_of z ≤ (lane_hold v q).flushed) (sym x.page) x.log_first } in
     write_keeps s h i q f v there live low inside tag y (lane_kinds.write_block g tag p) p (upto_of p) false back refl refl refl (subst (λ (z : Page). IsFlushedCell s.origin s.log s.flushed tag (record (home_of s tag) { stored = z; stored_upto = upto_of z; failed = false })) x.page (is_flushed s h i q f v there live low inside tag y back.out))
-writes_step s h i q f (lane_kinds.fail_write g tag p) v there live low inside back (at, x) = let was = h.flushed_cells tag in let u = (s.lane q).stored_upto tag in let same : u ≡ stored_upto s tag = ap (λ (z : ℕ). (s.lane z).stored_upto tag) (sym x.lane) in
-    write_keeps s h i q f v there live low inside tag x (lane_kinds.fail_write g tag p) p u true back refl (λ j t. sym (put_same (s.lane q).stored_upto tag u t refl) j) refl (record { based = (let z = was.based in omega arith); within = (let z = was.within in omega arith); is_cell = λ known ok. absurd (cc) })
+writes_step s h i q f (lane_kinds.fail_write g tag p faults) v there live low inside back (at, x) = let was = h.flushed_cells tag in let u = (s.lane q).stored_upto tag in let same : u ≡ stored_upto s tag = ap (λ (z : ℕ). (s.lane z).stored_upto tag) (sym x.lane) in
+    write_keeps s h i q f v there live low inside tag x (lane_kinds.fail_write g tag p faults) p u true back refl (λ j t. sym (put_same (s.lane q).stored_upto tag u t refl) j) refl (record { based = (let z = was.based in omega arith); within = (let z = was.within in omega arith); is_cell = λ known ok. absurd (cc) })
 writes_step s h i q f lane_kinds.take_lane v there live low inside back x = absurd x
 writes_step s h i q f lane_kinds.leave_lane v there live low inside back x = absurd x
 writes_step s h i q f (lane_kinds.lane_out taken) v there live low inside back x = absurd x
 writes_step s h i q f (lane_kinds.read_block tag p) v there live low inside back x = absurd x
-writes_step s h i q f (lane_kinds.fail_read tag) v there live low inside back x = absurd x
+writes_step s h i q f (lane_kinds.fail_read tag faults) v there live low inside back x = absurd x
 writes_step s h i q f lane_kinds.sync_lane v there live low inside back x = absurd x
-writes_step s h i q f lane_kinds.fail_sync v there live low inside back x = absurd x
+writes_step s h i q f (lane_kinds.fail_sync faults) v there live low inside back x = absurd x
 writes_step s h i q f (lane_kinds.lane_back noted) v there live low inside back x = absurd x
 
 -- the note that a view makes of a page copied is that of the block
@@ -518,20 +519,20 @@ raises_step s h i v there synced = raised_state (record s { pool = aside s.pool 
     (synced_all (written_of s) s.device v.saw_down v.log (tallies log_shape s.pool.core.views 0) (h.device.columns 0 (lit< tt)) (h.device.cells i v 0 there (lit< tt)) (λ k. term_le (λ (u : View). log_weigh k u.log) s.pool.core.views i v there) synced)
 
 -- what is durable stays so
-durable_later : (k : LogKind) (end : ℕ) (d : Device) → d.synced ≤ length d.bytes → d.synced ≤ (device_after k end d).synced
-durable_later sync_log end d h = h
-durable_later take_log end d h = omega arith
-durable_later leave_log end d h = omega arith
-durable_later (log_out taken) end d h = omega arith
-durable_later (append f tag p bytes) end d h = omega arith
-durable_later (fail_append bytes) end d h = omega arith
-durable_later fail_sync end d h = omega arith
-durable_later (log_back noted) end d h = omega arith
-durable_later see_down end d h = omega arith
+durable_later : (k : LogKind) (end : ℕ) (d : Device) (h : LogHold) → LogAllowed k d h → d.synced ≤ length d.bytes → d.synced ≤ (device_after k end d).synced
+durable_later sync_log end d h a low = low
+durable_later take_log end d h a low = omega arith
+durable_later leave_log end d h a low = omega arith
+durable_later (log_out taken) end d h a low = omega arith
+durable_later (append f tag p bytes) end d h a low = omega arith
+durable_later (fail_append f tag p bytes faults) end d h a low = omega arith
+durable_later (fail_sync synced faults) end d h a low = a.later
+durable_later (log_back noted) end d h a low = omega arith
+durable_later see_down end d h a low = omega arith
 
 -- a step at the log
 logs_step : (s : State) → Invariant s → (i : ℕ) (k : LogKind) (v : View) → get_elem? s.pool.core.views i ≡ some v → LogAllowed k s.device v.log → Invariant (record s { pool = aside s.pool i (view_logged k v); device = device_after k s.end s.device })
-logs_step s h i k v there a = let w : View = view_logged k v in let views = s.pool.core.views in let later = durable_later k s.end s.device (h.device.columns 0 (lit< tt)).synced in
+logs_step s h i k v there a = let w : View = view_logged k v in let views = s.pool.core.views in let later = durable_later k s.end s.device v.log a (h.device.columns 0 (lit< tt)).synced in
     let same : SameHere v w = record { backend = record { emptied = refl; number = refl; next = refl; links = refl; partitions = refl }; joined = refl; links = refl; partitions = refl } in let blocks = blocks_aside s h i v w there refl in record {
       pool = pool_aside s.pool i v w h.pool there same;
       logged = h.logged;

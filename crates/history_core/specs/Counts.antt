@@ -10,8 +10,8 @@ use Rattle.pin_core.specs.declared.view.Met.{Met}
 use Rattle.pin_core.specs.declared.view.View.{View}
 use Rattle.pin_core.specs.State.{lane_hold}
 use Rattle.pin_core.specs.Tallies.{flag_weight, unless_flag}
-use Rattle.history_core.specs.State.{Lane, Device, State, raised}
-use Rattle.history_core.specs.Lanes.{LaneColumn, LaneLink, is_failed_read, is_failed_write}
+use Rattle.history_core.specs.State.{Lane, Device, State}
+use Rattle.history_core.specs.Lanes.{LaneColumn, LaneLink, Rises, is_failed_read, is_failed_write}
 use Rattle.history_core.specs.Device.{is_failed, HasRisen}
 use Rattle.grid.specs.Shape.{Shape, Part, Grid, total}
 
@@ -59,6 +59,8 @@ pub record LaneCounts (m : Met) (ln : Lane) (t : CountTally → ℕ) : Type 0 wh
   pub writes : CountLaw ln.write_faults_at_start ln.write_faults (t failed_writes) m.writes
   -- who has a failed call out holds the latch
   pub split : t holders ≡ t unfailed + t failed_reads + t failed_writes
+  -- where a block's last write failed, the count of failed writes rose
+  pub failed_rose : (tag : ℕ) → ln.failed tag ≡ true → HasRisen ln.write_faults_at_start ln.write_faults
 
 -- and of what a view has out
 pub record HoldCounts (m : Met) (ln : Lane) (h : LaneHold) : Type 0 where
@@ -91,7 +93,7 @@ NoneFailedOut views = (i : ℕ) (v : View) → get_elem? views i ≡ some v → 
 pub record FaultsOut (taken : TakenLog) (d : Device) (change : LogChange) : Type 0 where
   -- it is as it was when the device went out, but for the holder's call that failed
   pub same : is_failed change ≡ false → d.faults ≡ taken.faults
-  pub failed : is_failed change ≡ true → d.faults ≡ raised taken.faults
+  pub failed : is_failed change ≡ true → Rises taken.faults d.faults
 
 -- The law of the count of the log's faults, from `start` on
 pub record LogCounted (start : ℕ) (d : Device) (views : List View) : Type 0 where

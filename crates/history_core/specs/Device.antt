@@ -11,9 +11,11 @@ use Rattle.pin_core.specs.declared.view.View.{View}
 use Rattle.pin_core.specs.State.{Page, sum_of_met}
 use Rattle.pin_core.specs.Tallies.{flag_weight, some_weight}
 use Rattle.history_core.specs.Log.{record_size}
-use Rattle.history_core.specs.State.{Device, last_count, raised}
+use Rattle.history_core.specs.State.{Device, last_count}
+use Rattle.history_core.specs.Lanes.{Rises}
 use Rattle.grid.specs.Shape.{Shape, Part}
 
+-- a call that fails makes the count of faults rise to the number that is its last field; a sync that fails may make some of the bytes durable, up to the number before that
 pub data LogKind : Type 0 where
   -- the latch is taken (`WALWriteLock`)
   take_log : LogKind
@@ -23,10 +25,10 @@ pub data LogKind : Type 0 where
   log_out : TakenLog → LogKind
   -- the holder appends the bytes of a record, of a changed page of a frame's block; or fails to, and then the device has some of them
   append : ℕ → ℕ → Page → List ℕ → LogKind
-  fail_append : List ℕ → LogKind
+  fail_append : ℕ → ℕ → Page → List ℕ → ℕ → LogKind
   -- it makes the bytes durable (`XLogFlush`), or fails to
   sync_log : LogKind
-  fail_sync : LogKind
+  fail_sync : ℕ → ℕ → LogKind
   -- the device comes back; the backend counts a fault, or none
   log_back : Bool → LogKind
   -- the holder sees that the log is down
@@ -50,6 +52,8 @@ pub record CanTakeDevice (taken : TakenLog) (d : Device) (h : LogHold) : Type 0 
   pub held : h.held ≡ true
   pub home : h.out ≡ None
   pub faults : taken.faults ≡ d.faults
+  pub synced : taken.synced ≡ d.synced
+  pub down : taken.down ≡ d.down
   pub bytes : (bytes : List ℕ) → taken.bytes ≡ Some bytes → bytes ≡ d.bytes
 
 -- one call each time that the device is out, and none once the log is down
@@ -65,11 +69,19 @@ pub record CanAppend (bytes : List ℕ) (d : Device) (h : LogHold) : Type 0 wher
   pub unsynced : h.synced ≡ false
   pub full : length bytes ≡ record_size
 
-pub record CanFailAppend (bytes : List ℕ) (d : Device) (h : LogHold) : Type 0 where
+pub record CanFailAppend (bytes : List ℕ) (n : ℕ) (d : Device) (h : LogHold) : Type 0 where
   pub call : CanCallLog d h
+  pub rises : Rises d.faults n
   pub entered : h.appended ≡ None
   pub unsynced : h.synced ≡ false
   pub part : length bytes ≤ record_size
+
+-- the bytes that are durable stay so
+pub record CanFailSync (synced n : ℕ) (d : Device) (h : LogHold) : Type 0 where
+  pub call : CanCallLog d h
+  pub rises : Rises d.faults n
+  pub later : d.synced ≤ synced
+  pub within : synced ≤ length d.bytes
 
 -- a fault is counted only for a call that failed, and is where the count rose
 pub record CanReturnLog (noted : Bool) (d : Device) (h : LogHold) : Type 0 where
@@ -86,9 +98,9 @@ LogAllowed take_log d h = CanTakeLog d h
 LogAllowed leave_log d h = CanLeaveLog d h
 LogAllowed (log_out taken) d h = CanTakeDevice taken d h
 LogAllowed (append f tag p bytes) d h = CanAppend bytes d h
-LogAllowed (fail_append bytes) d h = CanFailAppend bytes d h
+LogAllowed (fail_append f tag p bytes n) d h = CanFailAppend bytes n d h
 LogAllowed sync_log d h = CanCallLog d h
-LogAllowed fail_sync d h = CanCallLog d h
+LogAllowed (fail_sync synced n) d h = CanFailSync synced n d h
 LogAllowed (log_back noted) d h = CanReturnLog noted d h
 LogAllowed see_down d h = CanSeeDown d h
 
@@ -97,9 +109,9 @@ abbrev pub device_after : LogKind → ℕ → Device → Device
 device_after take_log end d = record d { taken = true }
 device_after leave_log end d = record d { taken = false }
 device_after (append f tag p bytes) end d = record d { bytes = d.bytes ++ bytes }
-device_after (fail_append bytes) end d = record d { bytes = d.bytes ++ bytes; faults = raised d.faults; down = Some end }
+device_after (fail_append f tag p bytes n) end d = record d { bytes = d.bytes ++ bytes; faults = n; down = Some end }
 device_after sync_log end d = record d { synced = length d.bytes }
-device_after fail_sync end d = record d { faults = raised d.faults; down = Some end }
+device_after (fail_sync synced n) end d = record d { synced = synced; faults = n; down = Some end }
 device_after _ end d = d
 
 -- What a kind makes of what the view has of the latch
@@ -108,17 +120,17 @@ log_hold_after take_log h = record h { held = true }
 log_hold_after leave_log h = record h { held = false; synced = false; end = None }
 log_hold_after (log_out taken) h = record h { out = Some taken }
 log_hold_after (append f tag p bytes) h = record h { change = change.Appended f tag p; appended = Some bytes }
-log_hold_after (fail_append bytes) h = record h { change = change.AppendFailed }
+log_hold_after (fail_append f tag p bytes n) h = record h { change = change.AppendFailed }
 log_hold_after sync_log h = record h { change = change.Synced; synced = true }
-log_hold_after fail_sync h = record h { change = change.SyncFailed; appended = None }
+log_hold_after (fail_sync synced n) h = record h { change = change.SyncFailed; appended = None }
 log_hold_after (log_back noted) h = record h { out = None; change = change.Untouched }
 log_hold_after see_down h = h
 
 abbrev pub calls_by : LogKind → List DeviceCall
-calls_by (append f tag p bytes) = LogAppend ∷ []
-calls_by (fail_append bytes) = LogAppend ∷ []
-calls_by sync_log = LogSync ∷ []
-calls_by fail_sync = LogSync ∷ []
+calls_by (append f tag p bytes) = LogAppend true ∷ []
+calls_by (fail_append f tag p bytes n) = LogAppend false ∷ []
+calls_by sync_log = LogSync true ∷ []
+calls_by (fail_sync synced n) = LogSync false ∷ []
 calls_by _ = []
 
 abbrev pub met_by : LogKind → Met
@@ -127,8 +139,8 @@ met_by _ = record { reads = 0; writes = 0; logs = 0 }
 
 -- the holder's own failure shows it that the log is down
 abbrev pub sees_down : LogKind → Bool
-sees_down (fail_append bytes) = true
-sees_down fail_sync = true
+sees_down (fail_append f tag p bytes n) = true
+sees_down (fail_sync synced n) = true
 sees_down see_down = true
 sees_down _ = false
 

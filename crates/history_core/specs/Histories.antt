@@ -15,9 +15,9 @@ use Rattle.pin_core.specs.Steps as pin_steps
 use Rattle.page_core.specs.Steps as page_steps
 use Rattle.page_core.specs.Histories.{NoneUnapplied}
 use Rattle.history_core.specs.Log.{Entry, log_end, end_of, cell, cut, head_size, log_bytes, record_size, IsLegal, IsFront, place_of, backend_of, writes_in, writes_at, AreInOrder}
-use Rattle.history_core.specs.State.{State, Store, CanStore, stored, failed, last_position, opening}
+use Rattle.history_core.specs.State.{State, Store, CanStore, stored, stored_upto, synced_upto, failed, last_position, opening}
 use Rattle.history_core.specs.Homes.{home_of, IsFlushedCell}
-use Rattle.history_core.specs.Lanes.{LaneKind, lane_out}
+use Rattle.history_core.specs.Lanes.{LaneKind, lane_out, sync_lane}
 use Rattle.history_core.specs.Device.{HasRisen}
 use Rattle.history_core.specs.Invariant.{HasNumber, KeptLaw}
 use Rattle.history_core.specs.Steps.{Event, pool, lane, write, enter, read, new_entry, Step, Run}
@@ -132,6 +132,14 @@ pub record WriteStands (s t : State) (f : ℕ) (p : Page) (v w : View) : Type 0 
 
 abbrev pub ReadsStand : State → Type 0
 ReadsStand s = (i f : ℕ) (t : State) → Step (read i f) s t → (v : View) × (w : View) × (get_elem? s.pool.core.views i ≡ some v) × (get_elem? t.pool.core.views i ≡ some w) × ReadStands s f v w
+
+-- the page of a read whose place is the log's base is what its lane held at the start, where the lane's contents are known
+abbrev pub ReadsAtBase : State → Type 0
+ReadsAtBase s = (i k backend tag : ℕ) (page : Page) (v : View) → get_elem? s.pool.core.views i ≡ some v → get_elem? v.calls k ≡ some (Read backend tag page s.log.base) → s.known tag ≡ true → page ≡ s.origin tag
+
+-- a lane's sync makes durable what the lane holds: the entries of its blocks that are in it
+abbrev pub SyncsMakeDurable : State → Type 0
+SyncsMakeDurable s = (i n tag : ℕ) (t : State) → Step (lane i n sync_lane) s t → s.lane_of tag ≡ n → synced_upto t tag ≡ stored_upto s tag
 
 abbrev pub WritesStand : State → Type 0
 WritesStand s = (i f : ℕ) (p : Page) (t : State) → Step (enter i f p) s t → (v : View) × (w : View) × (get_elem? s.pool.core.views i ≡ some v) × (get_elem? t.pool.core.views i ≡ some w) × WriteStands s t f p v w

@@ -14,9 +14,10 @@ use Rattle.pin_core.specs.declared.view.Met.{Met}
 use Rattle.pin_core.specs.declared.view.View.{View}
 use Rattle.pin_core.specs.State.{Page, lane_hold, sum_of_met}
 use Rattle.pin_core.specs.Tallies.{flag_weight}
-use Rattle.history_core.specs.State.{Lane, raised}
+use Rattle.history_core.specs.State.{Lane, last_count, raised}
 use Rattle.grid.specs.Shape.{Shape, Part, put}
 
+-- a call that fails makes a count of faults rise to the number that is its last field
 pub data LaneKind : Type 0 where
   -- the latch is taken
   take_lane : LaneKind
@@ -26,13 +27,13 @@ pub data LaneKind : Type 0 where
   lane_out : TakenLane → LaneKind
   -- the holder reads the page of the block of a tag (`smgrread`), or fails to
   read_block : ℕ → Page → LaneKind
-  fail_read : ℕ → LaneKind
+  fail_read : ℕ → ℕ → LaneKind
   -- it writes the page of a frame to the block of the frame's tag (`smgrwrite`), or fails to: then the lane holds any page for the block
   write_block : ℕ → ℕ → Page → LaneKind
-  fail_write : ℕ → ℕ → Page → LaneKind
+  fail_write : ℕ → ℕ → Page → ℕ → LaneKind
   -- it makes the lane's writes durable (`smgrimmedsync`), or fails to
   sync_lane : LaneKind
-  fail_sync : LaneKind
+  fail_sync : ℕ → LaneKind
   -- the lane comes back; the backend counts a fault, or none
   lane_back : Bool → LaneKind
 
@@ -45,6 +46,11 @@ is_failed_write (WriteFailed f tag) = true
 is_failed_write SyncFailed = true
 is_failed_write _ = false
 
+-- the lane holds the block
+pub record IsBlockPage (ln : Lane) (b : BlockPage) : Type 0 where
+  pub stored : ln.stored b.tag ≡ b.page
+  pub failed : ln.failed b.tag ≡ b.failed
+
 pub record CanTakeLane (ln : Lane) (h : LaneHold) : Type 0 where
   pub free : ln.taken ≡ false
 
@@ -52,20 +58,27 @@ pub record CanLeaveLane (ln : Lane) (h : LaneHold) : Type 0 where
   pub held : h.held ≡ true
   pub home : h.out ≡ None
 
--- what is noted of a lane that goes out is what it is: its pages, where they are noted, and its failed blocks
+-- what is noted of a lane that goes out is what it is: its counts, and its blocks, where they are noted
 pub record CanTakeOut (taken : TakenLane) (ln : Lane) (h : LaneHold) : Type 0 where
   pub held : h.held ≡ true
   pub home : h.out ≡ None
   pub reads : taken.read_faults ≡ ln.read_faults
   pub writes : taken.write_faults ≡ ln.write_faults
-  pub pages : (blocks : List BlockPage) (k : ℕ) (b : BlockPage) → taken.pages ≡ Some blocks → get_elem? blocks k ≡ some b → ln.stored b.tag ≡ b.page
-  pub failed : (tag : ℕ) → ln.failed tag ≡ true → (k : ℕ) × (get_elem? taken.failed k ≡ some tag)
-  pub only_failed : (k : ℕ) (tag : ℕ) → get_elem? taken.failed k ≡ some tag → ln.failed tag ≡ true
+  pub pages : (blocks : List BlockPage) (k : ℕ) (b : BlockPage) → taken.pages ≡ Some blocks → get_elem? blocks k ≡ some b → IsBlockPage ln b
 
 -- one call of the lane each time that it is out
 pub record CanCall (ln : Lane) (h : LaneHold) : Type 0 where
   pub out : h.out ≢ None
   pub once : h.change ≡ Untouched
+
+-- a call that failed made a count rise, or the count stands at its last value
+pub record Rises (before now : ℕ) : Type 0 where
+  pub least : raised before ≤ now
+  pub within : now ≤ last_count
+
+pub record CanFail (before now : ℕ) (ln : Lane) (h : LaneHold) : Type 0 where
+  pub call : CanCall ln h
+  pub rises : Rises before now
 
 -- where the lane's contents are known the page that is read is the one that it holds
 pub record CanReadBlock (tag : ℕ) (page : Page) (ln : Lane) (h : LaneHold) : Type 0 where
@@ -87,6 +100,9 @@ LaneAllowed take_lane ln h = CanTakeLane ln h
 LaneAllowed leave_lane ln h = CanLeaveLane ln h
 LaneAllowed (lane_out taken) ln h = CanTakeOut taken ln h
 LaneAllowed (read_block tag page) ln h = CanReadBlock tag page ln h
+LaneAllowed (fail_read tag n) ln h = CanFail ln.read_faults n ln h
+LaneAllowed (fail_write f tag p n) ln h = CanFail ln.write_faults n ln h
+LaneAllowed (fail_sync n) ln h = CanFail ln.write_faults n ln h
 LaneAllowed (lane_back noted) ln h = CanReturnLane noted ln h
 LaneAllowed _ ln h = CanCall ln h
 
@@ -94,10 +110,11 @@ LaneAllowed _ ln h = CanCall ln h
 abbrev pub lane_after : LaneKind → Lane → Lane
 lane_after take_lane ln = record ln { taken = true }
 lane_after leave_lane ln = record ln { taken = false }
-lane_after (fail_read tag) ln = record ln { read_faults = raised ln.read_faults }
+lane_after (fail_read tag n) ln = record ln { read_faults = n }
 lane_after (write_block f tag p) ln = record ln { stored = put ln.stored tag p; stored_upto = put ln.stored_upto tag (max (ln.stored_upto tag) (lsn_of p)); failed = put ln.failed tag false }
-lane_after (fail_write f tag p) ln = record ln { stored = put ln.stored tag p; failed = put ln.failed tag true; write_faults = raised ln.write_faults }
-lane_after fail_sync ln = record ln { write_faults = raised ln.write_faults }
+lane_after (fail_write f tag p n) ln = record ln { stored = put ln.stored tag p; failed = put ln.failed tag true; write_faults = n }
+lane_after sync_lane ln = record ln { synced_upto = ln.stored_upto }
+lane_after (fail_sync n) ln = record ln { write_faults = n }
 lane_after _ ln = ln
 
 -- What a kind makes of what the view has of the latch, where `flushed` is the flushed position as the view had loaded it
@@ -106,21 +123,21 @@ lane_hold_after take_lane flushed h = record h { held = true }
 lane_hold_after leave_lane flushed h = record h { held = false }
 lane_hold_after (lane_out taken) flushed h = record h { out = Some taken; flushed = flushed }
 lane_hold_after (read_block tag page) flushed h = record h { change = Read tag page }
-lane_hold_after (fail_read tag) flushed h = record h { change = ReadFailed tag }
+lane_hold_after (fail_read tag n) flushed h = record h { change = ReadFailed tag }
 lane_hold_after (write_block f tag p) flushed h = record h { change = Written f tag p }
-lane_hold_after (fail_write f tag p) flushed h = record h { change = WriteFailed f tag }
+lane_hold_after (fail_write f tag p n) flushed h = record h { change = WriteFailed f tag }
 lane_hold_after sync_lane flushed h = record h { change = Synced }
-lane_hold_after fail_sync flushed h = record h { change = SyncFailed }
+lane_hold_after (fail_sync n) flushed h = record h { change = SyncFailed }
 lane_hold_after (lane_back noted) flushed h = record h { out = None; change = Untouched }
 
 -- the device call that a kind is, at the lane n
 abbrev pub calls_by : LaneKind → ℕ → List DeviceCall
-calls_by (read_block tag page) n = device.LaneRead n tag ∷ []
-calls_by (fail_read tag) n = device.LaneRead n tag ∷ []
-calls_by (write_block f tag p) n = device.LaneWrite n tag ∷ []
-calls_by (fail_write f tag p) n = device.LaneWrite n tag ∷ []
-calls_by sync_lane n = device.LaneSync n ∷ []
-calls_by fail_sync n = device.LaneSync n ∷ []
+calls_by (read_block tag page) n = device.LaneRead n tag true ∷ []
+calls_by (fail_read tag m) n = device.LaneRead n tag false ∷ []
+calls_by (write_block f tag p) n = device.LaneWrite n tag p true ∷ []
+calls_by (fail_write f tag p m) n = device.LaneWrite n tag p false ∷ []
+calls_by sync_lane n = device.LaneSync n true ∷ []
+calls_by (fail_sync m) n = device.LaneSync n false ∷ []
 calls_by _ n = []
 
 -- the fault that a backend counts as the lane comes back
@@ -136,7 +153,7 @@ met_by _ h = record { reads = 0; writes = 0; logs = 0 }
 
 abbrev pub syncs : LaneKind → Bool
 syncs sync_lane = true
-syncs fail_sync = true
+syncs (fail_sync n) = true
 syncs _ = false
 
 -- What a kind at the lane n makes of the view, beside the number of its steps
@@ -172,9 +189,9 @@ pub record WrittenLane (ln : Lane) (tag : ℕ) (page : Page) : Type 0 where
 pub record CountsOut (taken : TakenLane) (ln : Lane) (change : LaneChange) : Type 0 where
   -- they are as they were when it went out, but for the holder's call that failed
   pub reads : is_failed_read change ≡ false → ln.read_faults ≡ taken.read_faults
-  pub read_failed : is_failed_read change ≡ true → ln.read_faults ≡ raised taken.read_faults
+  pub read_failed : is_failed_read change ≡ true → Rises taken.read_faults ln.read_faults
   pub writes : is_failed_write change ≡ false → ln.write_faults ≡ taken.write_faults
-  pub write_failed : is_failed_write change ≡ true → ln.write_faults ≡ raised taken.write_faults
+  pub write_failed : is_failed_write change ≡ true → Rises taken.write_faults ln.write_faults
 
 -- What holds of a lane's pages and of what a view has of its latch, where the log is flushed up to `flushed`
 pub record HoldLaw (flushed : ℕ) (ln : Lane) (h : LaneHold) : Type 0 where
@@ -194,6 +211,8 @@ pub record HoldLaw (flushed : ℕ) (ln : Lane) (h : LaneHold) : Type 0 where
 pub record LaneLink (flushed : ℕ) (ln : Lane) (h : LaneHold) : Type 0 where
   pub hold : HoldLaw flushed ln h
   pub counts : (taken : TakenLane) → h.out ≡ Some taken → CountsOut taken ln h.change
+  -- until the holder's call its blocks are as they were when it went out
+  pub blocks : (taken : TakenLane) (blocks : List BlockPage) (k : ℕ) (b : BlockPage) → h.out ≡ Some taken → h.change ≡ Untouched → taken.pages ≡ Some blocks → get_elem? blocks k ≡ some b → IsBlockPage ln b
 
 abbrev pub lane_part : Part lane_shape
 lane_part = record { column = λ _ ln t. LaneColumn ln t; cell = λ flushed ln _ h. LaneLink flushed ln h }

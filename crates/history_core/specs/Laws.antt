@@ -5,6 +5,7 @@ use Rattle.history_core.specs.Causes.{MarksLaw}
 use Rattle.history_core.specs.Counts.{CountsLaw}
 use Rattle.history_core.specs.Debts.{DebtsLaw}
 use Rattle.history_core.specs.Rest.{RestLaw}
+use Rattle.history_core.specs.Outings.{OutingsLaw}
 use Rattle.history_core.specs.Spent.{SpentLaw}
 
 pub record Laws (s : State) : Type 0 where
@@ -18,5 +19,7 @@ pub record Laws (s : State) : Type 0 where
   pub debts : DebtsLaw s
   -- of what stands behind the log on its device
   pub rest : RestLaw s
+  -- of the log's device while it is out
+  pub outings : OutingsLaw s
   -- of what is left of backends that were joined into the first
   pub spent : SpentLaw s

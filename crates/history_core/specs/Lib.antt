@@ -14,5 +14,6 @@ pub mod Sample
 pub mod Miss
 pub mod Put
 pub mod Spent
+pub mod Outings
 pub mod Promises
 pub mod Laws

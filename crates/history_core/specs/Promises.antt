@@ -5,14 +5,16 @@ use lib.ListN.{get_elem?}
 use Rattle.pin_core.specs.declared.view.Checkpoint.{Checkpoint}
 use Rattle.pin_core.specs.declared.view.View.{View}
 use Rattle.pin_core.specs.State.{link}
-use Rattle.pin_core.specs.Kinds.{unpin}
+use Rattle.pin_core.specs.declared.view.Role.TheVariants.{Absent}
+use Rattle.pin_core.specs.declared.view.Content.TheVariants.{Unlocked, Exclusive}
+use Rattle.pin_core.specs.Kinds.{unpin, load_state}
 use Rattle.pin_core.specs.Steps as pin_steps
 use Rattle.pin_core.specs.Schedules.{IsHandedOut, KeepsTag}
 use Rattle.page_core.specs.Steps as page_steps
 use Rattle.history_core.specs.Log.{Entry, end_of, cell, cut, head_size}
 use Rattle.history_core.specs.State.{State, stored, failed}
 use Rattle.history_core.specs.Debts.{has_passed, has_listed}
-use Rattle.history_core.specs.Steps.{Event, pool, Run}
+use Rattle.history_core.specs.Steps.{Event, pool, Step, Run}
 
 -- none of the events is the unpin of the frame f by backend i
 abbrev pub HasNoUnpin : ℕ → ℕ → List Event → Type 0
@@ -22,6 +24,11 @@ HasNoUnpin i f (e ∷ es) = (e ≢ pool (page_steps.pins_and_maps (pin_steps.at 
 -- while a handed-out pin of it is held a frame keeps its tag
 abbrev pub PinnedTagsStay : State → Type 0
 PinnedTagsStay s = (i f : ℕ) (es : List Event) (t : State) → IsHandedOut s.pool.core i f → HasNoUnpin i f es → Run es s t → KeepsTag s.pool.core t.pool.core f × IsHandedOut t.pool.core i f
+
+-- at such a load no other backend pins the frame, and none has its content lock
+abbrev pub GrantsAreAlone : State → Type 0
+GrantsAreAlone s = (i f : ℕ) (v : View) (t : State) → Step (pool (page_steps.pins_and_maps (pin_steps.at i f load_state))) s t → get_elem? s.pool.core.views i ≡ some v → (s.pool.core.frame f).word.pins ≡ 1 → (link v f).role ≢ Absent → (link v f).content ≡ Exclusive
+    → (j : ℕ) (u : View) → j ≢ i → get_elem? s.pool.core.views j ≡ some u → ((link u f).role ≡ Absent) × ((link u f).content ≡ Unlocked)
 
 -- The lane of an entry's block holds the entry's page or a later one
 pub record IsInLane (s : State) (e : Entry) : Type 0 where

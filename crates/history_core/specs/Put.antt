@@ -1,5 +1,5 @@
 -- A put and a flush, for the definitions to be seen at work: a backend changes the page of a frame, whatever sound page of 8192 bytes it puts there, makes the log durable, and writes the page to its lane.
-use Rattle.std.specs.Prelude.{◌≡◌, ℕ, true, false, List, [], ◌∷◌, ◌++◌, length, replicate, Some}
+use Rattle.std.specs.Prelude.{◌≡◌, ℕ, true, false, List, [], ◌∷◌, ◌++◌, length, replicate, Some, None}
 use mathlib.Core.Option.{some}
 use lib.ListN.{get_elem?}
 use Rattle.state_word.specs.declared.word.IoEnd.TheVariants.{WriteOk}
@@ -39,7 +39,7 @@ put_bytes p = record_bytes sample_store.names (put_entry p)
 
 -- the log's device with these bytes
 abbrev pub log_with : Page → TakenLog
-log_with p = record { bytes = Some (head_bytes 0 ++ put_bytes p); faults = 0 }
+log_with p = record { bytes = Some (head_bytes 0 ++ put_bytes p); synced = 0; faults = 0; down = None }
 
 -- under the exclusive lock the page is marked dirty, its record is appended to the log and made an entry, and the frame's page is overwritten by it
 abbrev pub change : Page → List Event

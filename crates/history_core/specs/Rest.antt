@@ -1,25 +1,28 @@
 -- What stands behind the log's bytes on its device: the first bytes of a record that is not part of the log, or nothing.
-use Rattle.std.specs.Prelude.{◌≡◌, ℕ, ◌≤◌, List, [], ◌++◌, length, None}
+use Rattle.std.specs.Prelude.{◌≡◌, ◌≢◌, ℕ, ◌≤◌, List, [], ◌++◌, length, None}
 use mathlib.Core.Option.{some}
 use lib.ListN.{get_elem?}
 use Rattle.pin_core.specs.declared.view.View.{View}
-use Rattle.history_core.specs.Log.{record_size, log_bytes}
+use Rattle.history_core.specs.Log.{Entry, IsImage, record_size, record_bytes, log_bytes}
 use Rattle.history_core.specs.State.{State}
-use Rattle.history_core.specs.Steps.{BeginsRecord}
 
 -- no view has appended a record that is not part of the log yet
 abbrev pub NoneAppended : State → Type 0
 NoneAppended s = (i : ℕ) (v : View) → get_elem? s.pool.core.views i ≡ some v → v.log.appended ≡ None
 
--- Behind the log's bytes the device has the first bytes of the record of some entry that starts at the log's end, none, some or all of them
+-- the bytes are the first of the record of an entry that starts at the log's end, none, some or all of them
+pub record BeginsRecord (s : State) (bytes : List ℕ) : Type 0 where
+  pub entry : Entry
+  pub starts : entry.start ≡ s.end
+  pub image : IsImage entry
+  pub more : List ℕ
+  pub begins : bytes ++ more ≡ record_bytes s.names entry
+
+-- Behind the log's bytes the device has nothing, or the first bytes of such a record
 pub record HasRest (s : State) : Type 0 where
   pub rest : List ℕ
   pub is_bytes : s.device.bytes ≡ log_bytes s.names s.log ++ rest
-  -- the number of the backend that would make the entry
-  pub number : ℕ
-  pub begins : BeginsRecord s number rest
-  -- the entry's page is whole
-  pub full : length begins.page ≡ 8192
+  pub begins : rest ≢ [] → BeginsRecord s rest
   pub short : length rest ≤ record_size
 
 -- The law of the device's bytes

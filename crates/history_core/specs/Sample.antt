@@ -11,7 +11,7 @@ use Rattle.history_core.specs.Steps.{Event, lane, log, load_end, load_flushed, r
 
 -- one frame, one partition, one lane, one backend
 abbrev pub sample_config : Config
-sample_config = record { frames = 1; partitions = 1; partition_of = λ _. 0; lanes = 1; backends = 1; base = 0 }
+sample_config = record { frames = 1; partitions = 1; partition_of = λ _. 0; is_block = λ _. true; lanes = 1; backends = 1; base = 0 }
 
 -- the lane holds a page of three bytes for each block; nothing of the log's head is durable
 abbrev pub sample_page : Page
@@ -33,10 +33,10 @@ abbrev pub sample_start : State
 sample_start = opening sample_config sample_store []
 
 abbrev pub sample_lane : TakenLane
-sample_lane = record { pages = None; failed = []; read_faults = 0; write_faults = 0 }
+sample_lane = record { pages = None; read_faults = 0; write_faults = 0 }
 
 abbrev pub sample_log : TakenLog
-sample_log = record { bytes = Some (head_bytes 0); faults = 0 }
+sample_log = record { bytes = Some (head_bytes 0); synced = 0; faults = 0; down = None }
 
 -- the block 7 is read from the lane
 abbrev pub read_lane : List Event

@@ -14,6 +14,8 @@ pub record Lane : Type 0 where
   pub stored : ℕ → Page
   -- the position in the log up to which the block's entries are in that page
   pub stored_upto : ℕ → ℕ
+  -- what that position was at the lane's last sync: up to it the block's entries are durable in the lane
+  pub synced_upto : ℕ → ℕ
   -- the blocks whose last write failed
   pub failed : ℕ → Bool
   -- how many reads, and how many writes and syncs, have failed
@@ -83,6 +85,9 @@ stored s tag = (s.lane (s.lane_of tag)).stored tag
 abbrev pub stored_upto : State → ℕ → ℕ
 stored_upto s tag = (s.lane (s.lane_of tag)).stored_upto tag
 
+abbrev pub synced_upto : State → ℕ → ℕ
+synced_upto s tag = (s.lane (s.lane_of tag)).synced_upto tag
+
 abbrev pub failed : State → ℕ → Bool
 failed s tag = (s.lane (s.lane_of tag)).failed tag
 
@@ -115,6 +120,7 @@ fresh_lane base store n = record {
   known = store.known n;
   stored = store.origin;
   stored_upto = λ _. base;
+  synced_upto = λ _. base;
   failed = λ _. false;
   read_faults = store.read_faults n;
   write_faults = store.write_faults n;

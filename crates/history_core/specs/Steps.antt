@@ -100,9 +100,9 @@ NoWrite _ = Unit {0}
 
 abbrev pub LaneAlone : LaneKind → State → ℕ → LaneHold → Type 0
 LaneAlone (read_block tag p) s n h = s.lane_of tag ≡ n
-LaneAlone (fail_read tag) s n h = s.lane_of tag ≡ n
+LaneAlone (fail_read tag m) s n h = s.lane_of tag ≡ n
 LaneAlone (write_block f tag p) s n h = ⊥
-LaneAlone (fail_write f tag p) s n h = ⊥
+LaneAlone (fail_write f tag p m) s n h = ⊥
 LaneAlone (lane_back noted) s n h = NoWrite h.change
 LaneAlone _ s n h = Unit {0}
 
@@ -117,7 +117,7 @@ pub record CanWrite (s : State) (n f tag : ℕ) (p : Page) (h : LaneHold) (l : L
 -- a write that fails leaves any page in the lane
 abbrev pub Writes : LaneKind → State → ℕ → ℕ → LaneHold → Link → Type 0
 Writes (write_block g tag p) s n f h l = (g ≡ f) × CanWrite s n f tag p h l
-Writes (fail_write g tag p) s n f h l = (g ≡ f) × CanWrite s n f tag (s.pool.core.frame f).page h l
+Writes (fail_write g tag p m) s n f h l = (g ≡ f) × CanWrite s n f tag (s.pool.core.frame f).page h l
 Writes _ s n f h l = ⊥
 
 -- the page that was read is of the frame's block; the backend has the input right there, and isn't just putting an earlier read into the frame
@@ -159,18 +159,25 @@ pool_noting k s f = record s.pool { logged = logged_noting k s f }
 abbrev pub new_entry : State → ℕ → ℕ → Page → Entry
 new_entry s number tag p = record { start = s.end; backend = number; tag = tag; image = p }
 
--- the bytes are the first of the record of some entry that the backend would make now
-pub record BeginsRecord (s : State) (number : ℕ) (bytes : List ℕ) : Type 0 where
-  pub tag : ℕ
-  pub page : Page
-  pub rest : List ℕ
-  pub begins : bytes ++ rest ≡ record_bytes s.names (new_entry s number tag page)
+-- the page p is a whole page that the backend may enter for the block of the frame f, whose tag is this, and has the position of the entry's end, which is at most the last one
+pub record CanLog (s : State) (f tag : ℕ) (p : Page) (v : View) : Type 0 where
+  pub inside : f < s.pool.core.frames
+  pub tagged : (s.pool.core.frame f).tag ≡ tag
+  pub right : pages.Allowed (make_entry p) (block_of s.pool.logged (s.pool.core.frame f).tag) (s.pool.core.frame f) (link v f)
+  pub around : page_steps.AllowedAround (make_entry p) v f
+  pub full : length p ≡ 8192
+  pub ends : lsn_of p ≡ s.end + record_size
+  pub room : s.end + record_size ≤ last_position
 
--- what is appended is the record of the entry that the backend would make of the page now; an append that fails leaves the first bytes of one
-abbrev pub AppendsRecord : LogKind → State → ℕ → Type 0
-AppendsRecord (append f tag p bytes) s number = bytes ≡ record_bytes s.names (new_entry s number tag p)
-AppendsRecord (fail_append bytes) s number = BeginsRecord s number bytes
-AppendsRecord _ s number = Unit {0}
+-- what is appended is the record of the entry that the backend would make of the page now; an append that fails leaves the first bytes of it
+pub record AppendsFirst (s : State) (tag : ℕ) (p : Page) (v : View) (bytes : List ℕ) : Type 0 where
+  pub rest : List ℕ
+  pub begins : bytes ++ rest ≡ record_bytes s.names (new_entry s v.number tag p)
+
+abbrev pub AppendsRecord : LogKind → State → View → Type 0
+AppendsRecord (append f tag p bytes) s v = CanLog s f tag p v × (bytes ≡ record_bytes s.names (new_entry s v.number tag p))
+AppendsRecord (fail_append f tag p bytes n) s v = CanLog s f tag p v × AppendsFirst s tag p v bytes
+AppendsRecord _ s v = Unit {0}
 
 -- The page is a whole page that the content lock lets the backend enter, and has the position of the entry's end, which is at most the last one; under the log's latch the entry's bytes are appended
 pub record CanEnter (s : State) (f : ℕ) (p : Page) (v : View) : Type 0 where
@@ -224,7 +231,7 @@ pub data Step : Event → State → State → Type 0 where
   notes : {s : State} (i n f : ℕ) (noted : Bool) (k : Kind) (v : View) → get_elem? s.pool.core.views i ≡ some v → v.emptied ≡ false → n < s.lanes → f < s.pool.core.frames → LaneAllowed (lane_back noted) (s.lane n) (lane_hold v n) → Notes k s n f (lane_hold v n) (link v f)
       → Step (note i n f (lane_back noted) k) s (record s { pool = pool_after k (pool_noting k s f) i f (laned (lane_back noted) n v (paged k (pool_noting k s f) f v)); lane = put s.lane n (lane_after (lane_back noted) (s.lane n)) })
   -- a step at the log by backend i, whose view is v
-  logs : {s : State} (i : ℕ) (k : LogKind) (v : View) → get_elem? s.pool.core.views i ≡ some v → v.emptied ≡ false → LogAllowed k s.device v.log → AppendsRecord k s v.number → Step (log i k) s (record s { pool = aside s.pool i (view_logged k v); device = device_after k s.end s.device })
+  logs : {s : State} (i : ℕ) (k : LogKind) (v : View) → get_elem? s.pool.core.views i ≡ some v → v.emptied ≡ false → LogAllowed k s.device v.log → AppendsRecord k s v → Step (log i k) s (record s { pool = aside s.pool i (view_logged k v); device = device_after k s.end s.device })
   -- backend i makes an entry of the page p of the frame f
   enters : {s : State} (i f : ℕ) (p : Page) (v : View) → get_elem? s.pool.core.views i ≡ some v → v.emptied ≡ false → f < s.pool.core.frames → CanEnter s f p v
       → Step (enter i f p) s (let tag = (s.pool.core.frame f).tag in let end = s.end + record_size in record s {

@@ -1,8 +1,8 @@
 -- What the law says in the field's words.
-use Rattle.std.proofs.Common.{◌≡◌, ◌≢◌, ℕ, ◌+◌, ◌<◌, ◌≤◌, Bool, true, false, cond, List, Some, None, sym, refl, ap, subst, ◌∙◌, arith}
+use Rattle.std.proofs.Common.{◌≡◌, ◌≢◌, ℕ, ◌+◌, ◌<◌, ◌≤◌, Bool, true, false, cond, List, Option, Some, None, sym, refl, ap, subst, ◌∙◌, arith}
 use Rattle.std.specs.Prelude.{count_by, if◌then◌else◌}
 use mathlib.Core.Logic.{dite}
-use mathlib.Core.Option.{some}
+use mathlib.Core.Option.{some, some-injective}
 use native.Mathlib.Decide.{ℕ_discrete}
 use lib.ListN.{get_elem?}
 use Rattle.pin_core.specs.declared.view.Content.{Content}
@@ -11,15 +11,15 @@ use Rattle.pin_core.specs.declared.view.Io.{Io}
 use Rattle.pin_core.specs.declared.view.Io.TheVariants.{Quiet, Input, Output}
 use Rattle.pin_core.specs.declared.view.Link.{Link}
 use Rattle.pin_core.specs.declared.view.View.{View}
-use Rattle.pin_core.specs.State.{Frame, link}
-use Rattle.pin_core.specs.Tallies.{flag_weight}
+use Rattle.pin_core.specs.State.{Frame, Page, link}
+use Rattle.pin_core.specs.Tallies.{flag_weight, some_weight}
 use Rattle.pin_core.specs.Tallies as pins
 use Rattle.page_core.specs.State.{Block, State, block_of}
 use Rattle.page_core.specs.Tallies.{Tally, pin, sharers, applied_locks, unapplied_locks, copies, works, outs, weigh, share_weight, exclusive_weight, work_weight, page_shape}
 use Rattle.page_core.specs.Invariant.{PageLink, Invariant}
-use Rattle.page_core.specs.Histories.{IsReached, HasNoUnpin, PinnedTagsStay, is_shared, is_exclusive, is_working, shares, excludes, works_on, ContentLocks, OneIo, copies_at, CopyLatches, DirtiedFramesAreDirty, RightsNeedPins, OnePageOut, FramesHoldPages, ValidPagesAreSound, CopiesArePages, IsAwaitedBy, WaitersAreNamed, BackendsWaitOnce, CleanupIsAlone}
+use Rattle.page_core.specs.Histories.{IsReached, HasNoUnpin, PinnedTagsStay, is_shared, is_exclusive, is_working, shares, excludes, works_on, ContentLocks, SharersAreFew, OneIo, copies_at, CopyLatches, DirtiedFramesAreDirty, RightsNeedPins, OnePageOut, PagesAreHome, ImagesAreLogged, FramesHoldPages, ValidPagesAreSound, CopiesArePages, IsAwaitedBy, WaitersAreNamed, BackendsWaitOnce, CleanupIsAlone}
 use Rattle.grid.specs.Shape.{tallies, total}
-use Rattle.grid.proofs.Sums.{total-count, total-add, total-same, total-none, terms_le}
+use Rattle.grid.proofs.Sums.{total-count, total-few, total-add, total-same, total-none, term_le, terms_le}
 use Rattle.grid.proofs.Grids.{Relinks}
 use Rattle.pin_core.specs.Kinds.{unpin}
 use Rattle.pin_core.specs.Steps as pin_steps
@@ -27,10 +27,10 @@ use Rattle.pin_core.specs.Schedules.{IsHandedOut}
 use Rattle.pin_core.proofs.Stepping.{tags_stay}
 use Rattle.pin_core.proofs.Schedules as pin_schedules
 use Rattle.pin_core.proofs.Schedules.{Stays, view_stays, tag_there}
-use Rattle.page_core.specs.Kinds.{Kind, frame_after, link_after, view_after}
+use Rattle.page_core.specs.Kinds.{CanTakePage, Kind, frame_after, link_after, view_after}
 use Rattle.page_core.specs.Steps.{Event, pins_and_maps, Step, cores, touches, Run, rests, goes}
 use Rattle.page_core.proofs.Cases.{tag_kept, role_kept}
-use Rattle.page_core.proofs.Others.{others_absent, others_unlocked}
+use Rattle.page_core.proofs.Others.{takes_alone, others_absent, others_unlocked}
 use Rattle.page_core.proofs.Waits.{waiter}
 use Rattle.page_core.proofs.Opening.{opens}
 use Rattle.page_core.proofs.Stepping.{relinked, step_keeps, run_keeps}
@@ -83,6 +83,30 @@ applied_or_not b fr l h = grind (arith, h)
 both_out : (l m : Link) (n : ℕ) → n ≤ 1 → weigh outs l + weigh outs m ≤ n → l.out ≢ None → m.out ≢ None → ⊥
 both_out l m n few le o a = grind (arith, few, le, o, a)
 
+one_share : (c : Content) → share_weight c ≤ 1
+one_share Unlocked = omega arith
+one_share Shared = omega arith
+one_share Exclusive = omega arith
+
+not_out : (o : Option Page) → some_weight o ≡ 0 → o ≡ None
+not_out None e = refl
+not_out (Some p) e = absurd (omega arith)
+
+-- a page that is noted, and known to be another
+noted_image : (o known : Option Page) → o ≢ None → ((p : Page) → o ≡ Some p → known ≡ Some p) → (p : Page) × (o ≡ Some p) × (known ≡ Some p)
+noted_image None known n h = absurd (n refl)
+noted_image (Some p) known n h = (p, refl, h p refl)
+
+-- the exclusive lock, the copy latch and the input right let a view take the page out
+exclusive_takes : (b : Block) (fr : Frame) (l : Link) → PageLink b fr l → l.out ≡ None → l.content ≡ Exclusive → CanTakePage fr l
+exclusive_takes b fr l h home e = record { page_home = home; shared = λ x. absurd (cc); unlocked = λ x. absurd (cc) }
+
+copying_takes : (b : Block) (fr : Frame) (l : Link) → PageLink b fr l → l.out ≡ None → l.copying ≡ true → CanTakePage fr l
+copying_takes b fr l h home e = let right = h.copying e in record { page_home = home; shared = λ x. e; unlocked = λ x. absurd (cc) }
+
+input_takes : (b : Block) (fr : Frame) (l : Link) → PageLink b fr l → l.out ≡ None → l.io ≡ Input → CanTakePage fr l
+input_takes b fr l h home e = let invalid = (h.input e).1 in record { page_home = home; shared = λ x. (let valid = (h.content (λ z. absurd (cc))).1 in absurd (cc)); unlocked = λ x. e }
+
 module _ (s : State) (h : Invariant s) where
   pub locks : (f : ℕ) → f < s.core.frames → ContentLocks s f
   locks f below = let c = h.pages.columns f below in let shared : total (λ (v : View). weigh sharers (link v f)) s.core.views ≡ count_by (shares f) s.core.views = total-count (λ (v : View). weigh sharers (link v f)) (shares f) (λ v. one_sharer (link v f).content) s.core.views in record {
@@ -91,6 +115,12 @@ module _ (s : State) (h : Invariant s) where
         ∙ total-same (λ (v : View). exclusive_weight (link v f).content) (λ (v : View). weigh applied_locks (link v f) + weigh unapplied_locks (link v f)) s.core.views (λ j v there. applied_or_not (block_of s.logged (s.core.frame f).tag) (s.core.frame f) (link v f) (h.pages.cells j v f there below))
         ∙ total-add (λ (v : View). weigh applied_locks (link v f) + weigh unapplied_locks (link v f)) (λ (v : View). weigh applied_locks (link v f)) (λ (v : View). weigh unapplied_locks (link v f)) (λ v. refl) s.core.views ∙ sym c.exclusive ∙ flag_count (s.core.frame f).exclusive;
     apart = λ e. sym shared ∙ sym c.shared ∙ c.excludes e;
+  }
+
+  pub sharers_few : SharersAreFew s
+  sharers_few = record {
+    counted = λ i f v there below e. let c = h.pages.columns f below in omega (arith, c.shared, term_le (λ (u : View). weigh sharers (link u f)) s.core.views i v there, ap share_weight e);
+    few = λ f below. let c = h.pages.columns f below in omega (arith, c.shared, h.core.views.few, total-few (λ (v : View). weigh sharers (link v f)) s.core.views (λ v. one_share (link v f).content));
   }
 
   pub one_io : (f : ℕ) → f < s.core.frames → OneIo s f
@@ -116,6 +146,23 @@ module _ (s : State) (h : Invariant s) where
   one_out i j f v u there here below a e = dite (ℕ_discrete i j) (λ same. same)
       (λ o. absurd (both_out (link u f) (link v f) (tallies page_shape s.core.views f outs) (h.pages.columns f below).one_out (terms_le (λ (x : View). weigh outs (link x f)) s.core.views j i u v o here there) e a))
 
+  -- where view i may take the page out, and hasn't
+  home_beside : (i j f : ℕ) (v u : View) → get_elem? s.core.views i ≡ some v → get_elem? s.core.views j ≡ some u → f < s.core.frames → CanTakePage (s.core.frame f) (link v f) → (link u f).out ≡ None
+  home_beside i j f v u there here below a = dite (ℕ_discrete i j)
+      (λ e. ap (λ (x : View). (link x f).out) (some-injective u v (sym here ∙ ap (λ (z : ℕ). get_elem? s.core.views z) (sym e) ∙ there)) ∙ a.page_home)
+      (λ o. not_out (link u f).out (takes_alone (block_of s.logged (s.core.frame f).tag) (s.core.frame f) (link v f) (link u f) (tallies page_shape s.core.views f) (h.pages.columns f below) (h.pages.cells i v f there below) (h.pages.cells j u f here below)
+      (λ k. terms_le (λ (x : View). weigh k (link x f)) s.core.views i j v u (λ e. o (sym e)) there here) a))
+
+  pub pages_home : PagesAreHome s
+  pages_home = record {
+    exclusive = λ i j f v u there here below home e. home_beside i j f v u there here below (exclusive_takes (block_of s.logged (s.core.frame f).tag) (s.core.frame f) (link v f) (h.pages.cells i v f there below) home e);
+    copying = λ i j f v u there here below home e. home_beside i j f v u there here below (copying_takes (block_of s.logged (s.core.frame f).tag) (s.core.frame f) (link v f) (h.pages.cells i v f there below) home e);
+    input = λ i j f v u there here below home e. home_beside i j f v u there here below (input_takes (block_of s.logged (s.core.frame f).tag) (s.core.frame f) (link v f) (h.pages.cells i v f there below) home e);
+  }
+
+  pub applies : ImagesAreLogged s
+  applies i f v there below e = let x = (h.pages.cells i v f there below).unapplied e in noted_image (link v f).image (s.logged (s.core.frame f).tag) x.noted x.image
+
   pub frames_hold : FramesHoldPages s
   frames_hold f p below tag valid none is = sym ((h.pages.columns f below).page p valid tag.named (total-none (λ (v : View). weigh unapplied_locks (link v f)) s.core.views (λ i v there. ap flag_weight (none i v there))) is)
 
@@ -124,6 +171,7 @@ module _ (s : State) (h : Invariant s) where
 
   pub copies_are : CopiesArePages s
   copies_are = record {
+    home = λ i f v p there below e. ((h.pages.cells i v f there below).copied p e).home;
     copied = λ i f v p q there below e is. ((h.pages.cells i v f there below).copied p e).is_logged q is;
     read = λ i f v p q there below e is. ((h.pages.cells i v f there below).read p e).is_logged q is;
   }

@@ -7,7 +7,7 @@ use Rattle.pin_core.specs.Kinds as pin_kinds
 use Rattle.page_core.specs.State.{Block}
 use Rattle.page_core.specs.Tallies.{sharers, applied_locks, unapplied_locks, copies, works, outs, waits_as, page_shape}
 use Rattle.page_core.specs.Invariant.{page_part, pin_part}
-use Rattle.page_core.proofs.Others.{link_same, mark_dirty_link, header_goes, page_changes, locked_is_logged, page_back_link, end_badly_link, image_sound, takes_alone, exclusive_alone, input_alone}
+use Rattle.page_core.proofs.Others.{link_same, mark_dirty_link, header_goes, page_changes, locked_is_logged, page_back_link, end_badly_link, image_sound, takes_alone, exclusive_alone, input_alone, output_alone, just_goes}
 use Rattle.page_core.specs.Kinds as kinds
 use Rattle.page_core.specs.Kinds.{Kind, image_over, Allowed, frame_after, block_after, link_after}
 use Rattle.grid.specs.Shape.{Part}
@@ -44,7 +44,7 @@ module _ (b : Block) (fr : Frame) (l : Link) where
   share_keeps a = record {
     column = λ t t' q c sums le _. grind (arith, q, c, a, sums sharers, sums applied_locks, sums unapplied_locks, sums copies, sums works, sums outs, sums (waits_as fr.word.waiter));
     cell = λ t q le c. grind (arith, q, c, a);
-    others = λ t n m q c le d. grind (arith, q, c, d, a);
+    others = λ t n m q c le d. link_same b fr (kinds.frame_after kinds.share b fr) m (record { valid = refl; dirty = refl; just = refl; flagged = refl; tag = refl; page = refl }) d.1;
   }
 
   pub exclude_keeps : Allowed kinds.exclude b fr l → Keeps_by page_part kinds.exclude b fr l
@@ -58,21 +58,21 @@ module _ (b : Block) (fr : Frame) (l : Link) where
   unshare_keeps a = record {
     column = λ t t' q c sums le _. grind (arith, q, c, a, sums sharers, sums applied_locks, sums unapplied_locks, sums copies, sums works, sums outs, sums (waits_as fr.word.waiter));
     cell = λ t q le c. grind (arith, q, c, a);
-    others = λ t n m q c le d. grind (arith, q, c, d, a);
+    others = λ t n m q c le d. link_same b fr (kinds.frame_after kinds.unshare b fr) m (record { valid = refl; dirty = refl; just = refl; flagged = refl; tag = refl; page = refl }) d.1;
   }
 
   pub unexclude_keeps : Allowed kinds.unexclude b fr l → Keeps_by page_part kinds.unexclude b fr l
   unexclude_keeps a = record {
     column = λ t t' q c sums le _. grind (arith, q, c, a, sums sharers, sums applied_locks, sums unapplied_locks, sums copies, sums works, sums outs, sums (waits_as fr.word.waiter));
     cell = λ t q le c. grind (arith, q, c, a);
-    others = λ t n m q c le d. grind (arith, q, c, d, a);
+    others = λ t n m q c le d. link_same b fr (kinds.frame_after kinds.unexclude b fr) m (record { valid = refl; dirty = refl; just = refl; flagged = refl; tag = refl; page = refl }) d.1;
   }
 
   pub take_copy_keeps : Allowed kinds.take_copy b fr l → Keeps_by page_part kinds.take_copy b fr l
   take_copy_keeps a = record {
     column = λ t t' q c sums le _. grind (arith, q, c, a, sums sharers, sums applied_locks, sums unapplied_locks, sums copies, sums works, sums outs, sums (waits_as fr.word.waiter));
     cell = λ t q le c. grind (arith, q, c, a);
-    others = λ t n m q c le d. grind (arith, q, c, d, a);
+    others = λ t n m q c le d. link_same b fr (kinds.frame_after kinds.take_copy b fr) m (record { valid = refl; dirty = refl; just = refl; flagged = refl; tag = refl; page = refl }) d.1;
   }
 
   pub leave_copy_keeps : Allowed kinds.leave_copy b fr l → Keeps_by page_part kinds.leave_copy b fr l
@@ -93,14 +93,14 @@ module _ (b : Block) (fr : Frame) (l : Link) where
   overwrite_logged_keeps a = record {
     column = λ t t' q c sums le _. let own = c.1.unapplied a.unapplied in let image = image_sound b.logged fr.page own.is_sound (q.1.sound (c.1.content (λ e. absurd (cc))).1) in grind (arith, q, c, a, image, sums sharers, sums applied_locks, sums unapplied_locks, sums copies, sums works, sums outs, sums (waits_as fr.word.waiter));
     cell = λ t q le c. grind (arith, q, c, a);
-    others = λ t n m q c le d. let x = exclusive_alone b fr l m t q.1 c.1 d.1 (le applied_locks) (le unapplied_locks) (le sharers) (c.1.unapplied a.unapplied).right in page_changes b fr m (image_over b.logged fr.page) x.0 x.1 d.1;
+    others = λ t n m q c le d. let x = exclusive_alone b fr l m t q.1 c.1 d.1 (le applied_locks) (le unapplied_locks) (le sharers) (c.1.unapplied a.unapplied).right in page_changes b fr m (image_over b.logged fr.page) x.0 x.1 x.2 d.1;
   }
 
   pub overwrite_read_keeps : (p : Page) → Allowed (kinds.overwrite_read p) b fr l → Keeps_by page_part (kinds.overwrite_read p) b fr l
   overwrite_read_keeps p a = record {
     column = λ t t' q c sums le _. grind (arith, q, c, a, sums sharers, sums applied_locks, sums unapplied_locks, sums copies, sums works, sums outs, sums (waits_as fr.word.waiter));
     cell = λ t q le c. grind (arith, q, c, a);
-    others = λ t n m q c le d. let x = input_alone b fr l m t q.1 c.1 d.1 (le works) a.right in page_changes b fr m p x.0 x.1 d.1;
+    others = λ t n m q c le d. let x = input_alone b fr l m t q.1 c.1 d.1 (le works) a.right in page_changes b fr m p x.0 x.1 x.2 d.1;
   }
 
   pub page_back_keeps : Allowed kinds.page_back b fr l → Keeps_by page_part kinds.page_back b fr l
@@ -156,7 +156,7 @@ module _ (b : Block) (fr : Frame) (l : Link) where
   clear_just_dirtied_keeps a = record {
     column = λ t t' q c sums le _. grind (arith, q, c, a, sums sharers, sums applied_locks, sums unapplied_locks, sums copies, sums works, sums outs, sums (waits_as fr.word.waiter));
     cell = λ t q le c. grind (arith, q, c, a);
-    others = λ t n m q c le d. grind (arith, q, c, d, a);
+    others = λ t n m q c le d. just_goes b fr m (output_alone b fr l m t q.1 c.1 d.1 (le sharers) (le applied_locks) (le unapplied_locks) a.right) d.1;
   }
 
   pub end_read_keeps : Allowed (kinds.end_io ReadOk) b fr l → Keeps_by page_part (kinds.end_io ReadOk) b fr l

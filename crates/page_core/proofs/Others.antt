@@ -3,7 +3,7 @@ use Rattle.std.proofs.Common.{◌≡◌, ◌≢◌, ℕ, ◌+◌, ◌≤◌, tru
 use Rattle.state_word.specs.declared.word.IoEnd.TheVariants.{Bad}
 use Rattle.pin_core.specs.declared.view.Role.TheVariants.{Absent}
 use Rattle.pin_core.specs.declared.view.Content.TheVariants.{Unlocked, Exclusive}
-use Rattle.pin_core.specs.declared.view.Io.TheVariants.{Input}
+use Rattle.pin_core.specs.declared.view.Io.TheVariants.{Input, Output}
 use Rattle.pin_core.specs.declared.view.Link.{Link}
 use Rattle.pin_core.specs.State.{Frame, Page}
 use Rattle.pin_core.specs.Tallies as pins
@@ -28,22 +28,30 @@ pub record SameFor (fr fr' : Frame) : Type 0 where
 pub link_same : (b : Block) (fr fr' : Frame) (m : Link) → SameFor fr fr' → PageLink b fr m → PageLink b fr' m
 link_same b fr fr' m e h = grind (arith, e, h)
 
--- the page of a frame changes, which another view has neither out nor read
-pub page_changes : (b : Block) (fr : Frame) (m : Link) (p : Page) → m.out ≡ None → m.io ≢ Input → PageLink b fr m → PageLink b (record fr { page = p }) m
-page_changes b fr m p home quiet h = grind (arith, home, quiet, h)
+-- the page of a frame changes, which another view has neither out nor read nor locked
+pub page_changes : (b : Block) (fr : Frame) (m : Link) (p : Page) → m.out ≡ None → m.io ≢ Input → m.content ≡ Unlocked → PageLink b fr m → PageLink b (record fr { page = p }) m
+page_changes b fr m p home quiet free h = grind (arith, home, quiet, free, h)
 
 -- the image of an entry is sound
 pub image_sound : (o : Option Page) (p : Page) → ((q : Page) → o ≡ Some q → is_sound_page q ≡ true) → is_sound_page p ≡ true → is_sound_page (image_over o p) ≡ true
 image_sound None p h e = e
 image_sound (Some q) p h e = h q refl
 
--- beside the exclusive lock no other view has the page out, or an input right
-pub exclusive_alone : (b : Block) (fr : Frame) (l m : Link) (t : Tally → ℕ) → PageFrame b fr t → PageLink b fr l → PageLink b fr m → weigh applied_locks l + weigh applied_locks m ≤ t applied_locks → weigh unapplied_locks l + weigh unapplied_locks m ≤ t unapplied_locks → weigh sharers l + weigh sharers m ≤ t sharers → l.content ≡ Exclusive → (m.out ≡ None) × (m.io ≢ Input)
+-- beside the exclusive lock no other view has the page out, or an input right, or a content lock
+pub exclusive_alone : (b : Block) (fr : Frame) (l m : Link) (t : Tally → ℕ) → PageFrame b fr t → PageLink b fr l → PageLink b fr m → weigh applied_locks l + weigh applied_locks m ≤ t applied_locks → weigh unapplied_locks l + weigh unapplied_locks m ≤ t unapplied_locks → weigh sharers l + weigh sharers m ≤ t sharers → l.content ≡ Exclusive → (m.out ≡ None) × (m.io ≢ Input) × (m.content ≡ Unlocked)
 exclusive_alone b fr l m t q c d x y z e = grind (arith, q, c, d, x, y, z, e)
 
--- beside an input right no other view has the page out, or an input right
-pub input_alone : (b : Block) (fr : Frame) (l m : Link) (t : Tally → ℕ) → PageFrame b fr t → PageLink b fr l → PageLink b fr m → weigh works l + weigh works m ≤ t works → l.io ≡ Input → (m.out ≡ None) × (m.io ≢ Input)
+-- beside an input right no other view has the page out, or an input right, or a content lock
+pub input_alone : (b : Block) (fr : Frame) (l m : Link) (t : Tally → ℕ) → PageFrame b fr t → PageLink b fr l → PageLink b fr m → weigh works l + weigh works m ≤ t works → l.io ≡ Input → (m.out ≡ None) × (m.io ≢ Input) × (m.content ≡ Unlocked)
 input_alone b fr l m t q c d x e = grind (arith, q, c, d, x, e)
+
+-- beside an output right no other view has marked the frame dirty under an exclusive lock
+pub output_alone : (b : Block) (fr : Frame) (l m : Link) (t : Tally → ℕ) → PageFrame b fr t → PageLink b fr l → PageLink b fr m → weigh sharers l + weigh sharers m ≤ t sharers → weigh applied_locks l + weigh applied_locks m ≤ t applied_locks → weigh unapplied_locks l + weigh unapplied_locks m ≤ t unapplied_locks → l.io ≡ Output → m.dirtied ≡ false
+output_alone b fr l m t q c d x y z e = grind (arith, q, c, d, x, y, z, e)
+
+-- BM_JUST_DIRTIED goes, which is nothing to a view that hasn't marked the frame dirty
+pub just_goes : (b : Block) (fr : Frame) (m : Link) → m.dirtied ≡ false → PageLink b fr m → PageLink b (page_kinds.frame_after page_kinds.clear_just_dirtied b fr) m
+just_goes b fr m e h = grind (arith, e, h)
 
 -- where a view may take the page out no other view has it out
 pub takes_alone : (b : Block) (fr : Frame) (l m : Link) (t : Tally → ℕ) → PageFrame b fr t → PageLink b fr l → PageLink b fr m → ((k : Tally) → weigh k l + weigh k m ≤ t k) → CanTakePage fr l → weigh outs m ≡ 0

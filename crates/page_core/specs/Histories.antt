@@ -1,5 +1,5 @@
 -- What every list of events keeps of content locks, pages, input and output, and of waits, in the field's words.
-use Rattle.std.specs.Prelude.{◌≡◌, ◌≢◌, ℕ, ◌<◌, Bool, true, false, List, [], ◌∷◌, Option, Some, None, count_by, if◌then◌else◌}
+use Rattle.std.specs.Prelude.{◌≡◌, ◌≢◌, ℕ, ◌<◌, ◌≤◌, Bool, true, false, List, [], ◌∷◌, Option, Some, None, count_by, if◌then◌else◌}
 use mathlib.Core.Option.{some}
 use lib.ListN.{get_elem?}
 use Rattle.pin_core.specs.declared.view.Content.{Content}
@@ -66,6 +66,11 @@ pub record ContentLocks (s : State) (f : ℕ) : Type 0 where
   pub exclusive : count_by (excludes f) s.core.views ≡ (if (s.core.frame f).exclusive then 1 else 0)
   pub apart : (s.core.frame f).exclusive ≡ true → count_by (shares f) s.core.views ≡ 0
 
+-- a content lock that a view shares is counted, and each backend is counted once at most
+pub record SharersAreFew (s : State) : Type 0 where
+  pub counted : (i f : ℕ) (v : View) → get_elem? s.core.views i ≡ some v → f < s.core.frames → (link v f).content ≡ Shared → 0 < (s.core.frame f).sharers
+  pub few : (f : ℕ) → f < s.core.frames → (s.core.frame f).sharers ≤ s.core.backends
+
 -- one view has the input or output right where BM_IO_IN_PROGRESS stands, and none where it doesn't
 abbrev pub OneIo : State → ℕ → Type 0
 OneIo s f = count_by (works_on f) s.core.views ≡ (if (s.core.frame f).word.in_progress then 1 else 0)
@@ -96,6 +101,16 @@ pub record RightsNeedPins (s : State) : Type 0 where
 abbrev pub OnePageOut : State → Type 0
 OnePageOut s = (i j f : ℕ) (v u : View) → get_elem? s.core.views i ≡ some v → get_elem? s.core.views j ≡ some u → f < s.core.frames → (link v f).out ≢ None → (link u f).out ≢ None → i ≡ j
 
+-- Where a view may take the page of a frame out, and hasn't, no view has it out
+pub record PagesAreHome (s : State) : Type 0 where
+  pub exclusive : (i j f : ℕ) (v u : View) → get_elem? s.core.views i ≡ some v → get_elem? s.core.views j ≡ some u → f < s.core.frames → (link v f).out ≡ None → (link v f).content ≡ Exclusive → (link u f).out ≡ None
+  pub copying : (i j f : ℕ) (v u : View) → get_elem? s.core.views i ≡ some v → get_elem? s.core.views j ≡ some u → f < s.core.frames → (link v f).out ≡ None → (link v f).copying ≡ true → (link u f).out ≡ None
+  pub input : (i j f : ℕ) (v u : View) → get_elem? s.core.views i ≡ some v → get_elem? s.core.views j ≡ some u → f < s.core.frames → (link v f).out ≡ None → (link v f).io ≡ Input → (link u f).out ≡ None
+
+-- where a view has an entry to apply it notes the entry's image, which is the block's page after the log
+abbrev pub ImagesAreLogged : State → Type 0
+ImagesAreLogged s = (i f : ℕ) (v : View) → get_elem? s.core.views i ≡ some v → f < s.core.frames → (link v f).unapplied ≡ true → (p : Page) × ((link v f).image ≡ Some p) × (s.logged (s.core.frame f).tag ≡ Some p)
+
 -- no view has an entry to apply to the frame's page
 abbrev pub NoneUnapplied : State → ℕ → Type 0
 NoneUnapplied s f = (i : ℕ) (v : View) → get_elem? s.core.views i ≡ some v → (link v f).unapplied ≡ false
@@ -108,8 +123,10 @@ FramesHoldPages s = (f : ℕ) (p : Page) → f < s.core.frames → HasTag (s.cor
 abbrev pub ValidPagesAreSound : State → Type 0
 ValidPagesAreSound s = (f : ℕ) → f < s.core.frames → (s.core.frame f).word.valid ≡ true → is_sound_page (s.core.frame f).page ≡ true
 
--- the block's page after the log is also a page that a view has copied under its content lock, and one that the lane gave under its input right
+-- A page that a view has copied under its content lock is the block's page after the log, where that is known, and so is one that the lane gave under its input right
 pub record CopiesArePages (s : State) : Type 0 where
+  -- a copy is the frame's page still
+  pub home : (i f : ℕ) (v : View) (p : Page) → get_elem? s.core.views i ≡ some v → f < s.core.frames → (link v f).copied ≡ Some p → (s.core.frame f).page ≡ p
   pub copied : (i f : ℕ) (v : View) (p q : Page) → get_elem? s.core.views i ≡ some v → f < s.core.frames → (link v f).copied ≡ Some p → s.logged (s.core.frame f).tag ≡ Some q → q ≡ p
   pub read : (i f : ℕ) (v : View) (p q : Page) → get_elem? s.core.views i ≡ some v → f < s.core.frames → (link v f).read ≡ Some p → s.logged (s.core.frame f).tag ≡ Some q → q ≡ p
 

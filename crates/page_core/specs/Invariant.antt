@@ -55,13 +55,18 @@ pub record UnappliedLink (b : Block) (l : Link) : Type 0 where
   -- the block's page after the log is known: it is the entry's image, and sound
   pub is_known : b.logged ≢ None
   pub is_sound : (p : Page) → b.logged ≡ Some p → is_sound_page p ≡ true
+  -- and that is the image that it notes
+  pub noted : l.image ≢ None
+  pub image : (p : Page) → l.image ≡ Some p → b.logged ≡ Some p
   -- it notes no copy
   pub uncopied : l.copied ≡ None
 
 -- What holds where a view has copied the page p under its content lock
-pub record CopiedLink (b : Block) (l : Link) (p : Page) : Type 0 where
+pub record CopiedLink (b : Block) (fr : Frame) (l : Link) (p : Page) : Type 0 where
   pub right : l.content ≢ Unlocked
-  -- the copy is the block's page after the log, where that is known
+  -- the copy is the frame's page
+  pub home : fr.page ≡ p
+  -- and the block's page after the log, where that is known
   pub is_logged : (q : Page) → b.logged ≡ Some q → q ≡ p
 
 -- What holds where the lane gave the page p to a view with the input right
@@ -97,10 +102,12 @@ pub record PageLink (b : Block) (fr : Frame) (l : Link) : Type 0 where
   pub pending : l.pending ≡ true → (l.content ≡ Unlocked) × (l.io ≡ Quiet)
   -- a view that marked the frame dirty under its exclusive lock has that lock still, and BM_DIRTY and BM_JUST_DIRTIED stand
   pub dirtied : l.dirtied ≡ true → DirtiedLink fr l
-  -- a view with an entry to apply to the page has the exclusive lock, marked the frame dirty, and notes no copy; the entry's image is known and sound
+  -- a view with an entry to apply to the page has the exclusive lock, marked the frame dirty, and notes no copy; the block's page after the log is the entry's image, which it notes, and sound
   pub unapplied : l.unapplied ≡ true → UnappliedLink b l
-  -- a page noted as copied is the block's page after the log, where that is known, and the content lock is held still
-  pub copied : (p : Page) → l.copied ≡ Some p → CopiedLink b l p
+  -- an image is noted only for an entry that isn't applied yet
+  pub imaged : l.unapplied ≡ false → l.image ≡ None
+  -- a page noted as copied is the frame's page, and the block's page after the log, where that is known; and the content lock is held still
+  pub copied : (p : Page) → l.copied ≡ Some p → CopiedLink b fr l p
   -- a page noted as read is the block's page after the log, where that is known, and the frame's once it is home; the input right is held still
   pub read : (p : Page) → l.read ≡ Some p → ReadLink b fr l p
   -- the page is out only under the exclusive lock, the copy latch or the input right

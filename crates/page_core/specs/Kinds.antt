@@ -288,13 +288,13 @@ link_after unexclude b fr l = record l { content = Unlocked; copied = None; dirt
 link_after take_copy b fr l = record l { copying = true }
 link_after leave_copy b fr l = record l { copying = false }
 link_after page_out b fr l = record l { out = Some fr.page }
-link_after overwrite_logged b fr l = record l { overwritten = Some (image_over b.logged fr.page); unapplied = false }
+link_after overwrite_logged b fr l = record l { overwritten = Some (image_over b.logged fr.page); unapplied = false; image = None }
 link_after (overwrite_read p) b fr l = record l { overwritten = Some p }
 link_after page_back b fr l = record l { out = None; overwritten = None; copied = copied_after l.content l.unapplied fr.page l.copied; read_is_home = home_after l.io l.overwritten l.read_is_home }
 link_after (note_read p) b fr l = record l { read = Some p; read_is_home = false }
 link_after begin_write b fr l = record l { last_write = Unwritten }
 link_after (note_write done) b fr l = record l { last_write = write_noted done }
-link_after (make_entry p) b fr l = record l { unapplied = true; copied = None }
+link_after (make_entry p) b fr l = record l { unapplied = true; image = Some p; copied = None }
 link_after start_input b fr l = record l { header = None; io = Input; read = None; read_is_home = false }
 link_after start_output b fr l = record l { header = None; io = Output }
 link_after clear_just_dirtied b fr l = record l { header = None }

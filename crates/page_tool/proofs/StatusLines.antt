@@ -2,7 +2,7 @@
 use Rattle.std.proofs.Common.{◌≡◌, ℕ, List, [], ◌++◌, Result, Ok, Err, Option, Some, None, refl, sym, ◌∙◌, ap, subst, arith}
 use Rattle.std.specs.Prelude.{option_map}
 use Rattle.std.proofs.lemmas.List.{append-nil}
-use Rattle.segment_store.specs.declared.device.Failed.{Failed}
+use Rattle.log_device.specs.declared.device.Failed.{Failed}
 use Rattle.segment_store.specs.Paths.{Paths}
 use Rattle.page_tool.specs.declared.error.ToolError.{ToolError}
 use Rattle.page_tool.specs.declared.error.ToolError.TheVariants.{Usage, Crowded, Missing, ReadFault, OutFault, Memory}

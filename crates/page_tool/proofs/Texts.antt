@@ -2,7 +2,7 @@
 use Rattle.std.proofs.Common.{◌≡◌, ℕ, List, [], ◌++◌, Option, Some, None, Err, refl, sym, ◌∙◌, ap, subst, append_assoc}
 use Rattle.std.specs.Prelude.{option_map, IsSomeAnd}
 use Rattle.std.proofs.lemmas.List.{append-nil}
-use Rattle.segment_store.specs.Contents.{GainsPrefix, Puts}
+use Rattle.log_device.specs.Bytes.{GainsPrefix, Puts}
 use Rattle.page_tool.specs.Progress.{Advances, HasAdvanced, HasMoved}
 
 -- two parts put one after the other

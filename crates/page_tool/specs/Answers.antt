@@ -2,9 +2,9 @@
 use Rattle.std.specs.Prelude.{◌≡◌, ◌≢◌, ◌<◌, ◌⊎◌, ℕ, ◌-◌, ◌^◌, ◌==◌, List, [], ◌++◌, Option, Some, None, Result, Ok, Err, IfSome, IsSomeAnd, option_map, if◌then◌else◌, codes}
 use Rattle.command_line.specs.declared.numbers.Options.{Options}
 use Rattle.page_layout.specs.Scan.{scan_text}
-use Rattle.segment_store.specs.declared.device.Failed.{Failed}
-use Rattle.segment_store.specs.Contents.{GainsPrefix, Puts}
-use Rattle.segment_store.specs.Faults.{HasCause, Rose}
+use Rattle.log_device.specs.declared.device.Failed.{Failed}
+use Rattle.log_device.specs.Bytes.{GainsPrefix, Puts}
+use Rattle.log_device.specs.Faults.{HasCause, Rose}
 use Rattle.segment_store.specs.Paths.{Paths}
 use Rattle.segment_store.specs.Relation.{relation_of}
 use Rattle.page_tool.specs.declared.error.Crowding.{Crowding}

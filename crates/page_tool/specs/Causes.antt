@@ -1,6 +1,6 @@
 -- When a scan of blocks ends before its end.
 use Rattle.std.specs.Prelude.{◌≡◌, ℕ, ◌≤◌, Result, MatchResult}
-use Rattle.segment_store.specs.Faults.{Rose}
+use Rattle.log_device.specs.Faults.{Rose}
 use Rattle.page_tool.specs.declared.scan.ScanError.{ScanError}
 use Rattle.page_tool.specs.declared.scan.ScanError.TheVariants.{ReadFault, OutFault, Memory}
 

@@ -10,7 +10,8 @@ mod tests;
 
 use crate::run::{MEMORY_LINE, run};
 use crate::scan::Gate;
-use segment_store::{FileHost, Sink, StdSink};
+use log_device::{Sink, StdSink};
+use segment_store::FileHost;
 use std::alloc::AllocError;
 use std::env;
 use std::io::ErrorKind;

@@ -1,8 +1,8 @@
 //! Runs a command line.
 ghost use Rattle.std.specs.Prelude.{◌≡◌, ◌≤◌, ◌<◌, ◌⊎◌, [], ◌↔◌, None, IsTrue, IfErr, IfSome, IsErrOf, map, string_bytes, sum_by};
 ghost use Rattle.command_line.specs.Numbers.{HasOptionsInRange};
-ghost use Rattle.segment_store.specs.Contents.{Puts};
-ghost use Rattle.segment_store.specs.Faults.{Rose};
+ghost use Rattle.log_device.specs.Bytes.{Puts};
+ghost use Rattle.log_device.specs.Faults.{Rose};
 ghost use Rattle.segment_store.specs.Opening.{IsOpened};
 ghost use Rattle.segment_store.specs.Paths.{fork_of};
 ghost use Rattle.page_tool.specs.Answers.{CrowdedIf, Ends, EndsScan, IsComplete, IsStatus, MissingIf, Said, SaysAs, UsageIf, Wrote, crowding_of, status_line, text_at};
@@ -14,7 +14,8 @@ use crate::error::{Crowding, ToolError};
 use crate::request::read_request;
 use crate::scan::{Gate, ScanError, scan_fork};
 use command_line::Options;
-use segment_store::{Host, Opened, Sink, fork_of_path};
+use log_device::Sink;
+use segment_store::{Host, Opened, fork_of_path};
 use std::alloc::Global;
 
 /// What is said where there is no memory for a line.
@@ -44,6 +45,8 @@ fn scan_opened<H: Host, O: Sink, G: Gate>(
     requires opened { IsOpened H.Lane.contents H.Lane.failed_writes H.Lane.read_faults H.Lane.write_faults (H.contents host.old) path.now (fork_of path.now) options.now.seg_blocks options.now.lanes opened }
     ensures contents { H.contents host.new ≡ H.contents host.old }
     ensures writes { H.write_faults host.new ≡ H.write_faults host.old }
+    ensures logs { H.logs host.new ≡ H.logs host.old }
+    ensures log_faults { H.log_faults host.new ≡ H.log_faults host.old }
     ensures cause { HasScanCause (H.read_faults host.old) (H.read_faults host.new) (O.faults out.old) (O.faults out.new) result }
     ensures text { IfSome (H.contents host.old) (λ paths. Puts (text_at options.now.seg_blocks paths path.now) (O.bytes out.old) (O.bytes out.new) result) }
 {
@@ -55,7 +58,7 @@ fn scan_opened<H: Host, O: Sink, G: Gate>(
         out,
         gate,
     );
-    host.give_back(opened.lanes);
+    host.give_back(opened.lanes, None);
     scanned
 }
 
@@ -71,6 +74,8 @@ fn scan<'a, H: Host, O: Sink, G: Gate>(
     requires { HasOptionsInRange options.now }
     ensures contents { H.contents host.new ≡ H.contents host.old }
     ensures writes { H.write_faults host.new ≡ H.write_faults host.old }
+    ensures logs { H.logs host.new ≡ H.logs host.old }
+    ensures log_faults { H.log_faults host.new ≡ H.log_faults host.old }
     ensures later { (H.read_faults host.old ≤ H.read_faults host.new) × (O.faults out.old ≤ O.faults out.new) }
     ensures ends { EndsScan (record { path = path.entry.now; options = options.now }) (H.contents host.old) (H.read_faults host.old) (H.read_faults host.new) (O.faults out.old) (O.faults out.new) result }
     ensures text { IfSome (H.contents host.old) (λ paths. Puts (text_at options.now.seg_blocks paths path.entry.now) (O.bytes out.old) (O.bytes out.new) result) }
@@ -116,6 +121,8 @@ fn perform<'a, H: Host, O: Sink, G: Gate>(
 ) -> Result<(), ToolError<'a>>
     ensures contents { H.contents host.new ≡ H.contents host.old }
     ensures writes { H.write_faults host.new ≡ H.write_faults host.old }
+    ensures logs { H.logs host.new ≡ H.logs host.old }
+    ensures log_faults { H.log_faults host.new ≡ H.log_faults host.old }
     ensures later { (H.read_faults host.old ≤ H.read_faults host.new) × (O.faults out.old ≤ O.faults out.new) }
     ensures ends { Ends (request_of (map string_bytes words.now)) (H.contents host.old) (H.read_faults host.old) (H.read_faults host.new) (O.faults out.old) (O.faults out.new) result }
     ensures text { IfSome (request_of (map string_bytes words.now)) (λ r. IfSome (H.contents host.old) (λ paths.
@@ -160,9 +167,11 @@ pub fn run<H: Host, O: Sink, E: Sink, G: Gate>(
     ensures quiet { result ≡ 0 → (E.bytes err.new ≡ E.bytes err.old) × (E.faults err.new ≡ E.faults err.old) }
     ensures says { Said (status_line (request_of (map string_bytes words.now)) result) (E.bytes err.old) (E.bytes err.new) (E.faults err.old) (E.faults err.new) }
 
-    // No path changes, and no count rises where all went well.
+    // No path and no log changes, and no count rises where all went well; no fault of writing or of a log is counted.
     ensures contents { H.contents host.new ≡ H.contents host.old }
     ensures writes { H.write_faults host.new ≡ H.write_faults host.old }
+    ensures logs { H.logs host.new ≡ H.logs host.old }
+    ensures log_faults { H.log_faults host.new ≡ H.log_faults host.old }
     ensures later { (H.read_faults host.old ≤ H.read_faults host.new) × (O.faults out.old ≤ O.faults out.new) }
     ensures done { result ≡ 0 → (H.read_faults host.new ≡ H.read_faults host.old) × (O.faults out.new ≡ O.faults out.old) }
     ensures complete { IfSome (request_of (map string_bytes words.now)) (λ r.

@@ -4,15 +4,16 @@ ghost use Rattle.std.specs.Option.{ForSome};
 ghost use Rattle.page_layout.specs.Scan.{IsWithin, counted, no_totals, scan_text, totals_text};
 ghost use Rattle.page_layout.specs.Summary.{summary_of};
 ghost use Rattle.page_layout.specs.Text.{scan_line_of};
-ghost use Rattle.segment_store.specs.Faults.{HasCause};
+ghost use Rattle.log_device.specs.Faults.{HasCause};
 ghost use Rattle.segment_store.specs.Lanes.{HasBlocks, HasPage, HoldPages, lane_at};
-ghost use Rattle.segment_store.specs.Contents.{Puts};
+ghost use Rattle.log_device.specs.Bytes.{Puts};
 ghost use Rattle.page_tool.specs.Causes.{HasScanCause};
 ghost use Rattle.page_tool.specs.Progress.{HasAdvanced, Moves, Scans};
 
 use block_tag::{Fork, RelNo, Tag, lane_of};
+use log_device::{Failed, Sink};
 use page_layout::{Memory, Page, ScanTotals, append_line};
-use segment_store::{BlockLane, Failed, Sink};
+use segment_store::BlockLane;
 use std::alloc::Global;
 
 /// Text goes out in pieces of about this many bytes.

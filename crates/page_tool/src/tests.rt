@@ -1,7 +1,8 @@
 //! The tool on hosts in memory.
 use crate::run::run;
 use crate::scan::Gate;
-use segment_store::{FaultPlan, LanePlan, MemFile, MemHost, MemSink};
+use log_device::{FaultPlan, LogPlan, MemSink};
+use segment_store::{LanePlan, MemFile, MemHost, MemLogs};
 use std::alloc::Global;
 use std::cell::Cell;
 use std::test::Fail;
@@ -99,7 +100,9 @@ fn host_of(alloc: Global, segments: &[&[u8]], failing: Failing) -> Result<MemHos
         writes: plan(alloc, &[])?,
         syncs: plan(alloc, &[])?,
     };
-    Ok(MemHost::new(alloc, files, plan(alloc, failing.openings)?, lanes))
+    let openings = plan(alloc, failing.openings)?;
+    let logs = MemLogs::new(alloc, 0, plan(alloc, &[])?, LogPlan::none(alloc));
+    Ok(MemHost::new(alloc, files, openings, lanes, logs))
 }
 
 /// Runs a command line, whose words stand apart by blanks, on that host.

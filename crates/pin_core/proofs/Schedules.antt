@@ -9,17 +9,19 @@ use Rattle.state_word.specs.declared.word.StateWord.{StateWord}
 use Rattle.pin_core.specs.declared.view.Role.{Role}
 use Rattle.pin_core.specs.declared.view.Role.TheVariants.{Absent, HandedOut, Victim}
 use Rattle.pin_core.specs.declared.view.Link.{Link}
+use Rattle.pin_core.specs.declared.view.PartitionHold.{PartitionHold}
 use Rattle.pin_core.specs.declared.view.View.{View}
-use Rattle.pin_core.specs.State.{Frame, State, no_tag, link, hold, is_pin, pins_frame, new_view, joined_view, emptied_view}
+use Rattle.pin_core.specs.State.{Frame, Partition, State, no_tag, link, hold, is_pin, pins_frame, new_view, joined_view, emptied_view}
 use Rattle.pin_core.specs.Tallies.{Tally, pins, headers, weigh, pin_weight, some_weight, flag_weight, frame_shape}
 use Rattle.pin_core.specs.Invariant.{FrameLaw, HasTag, TagsAgree, Invariant}
 use Rattle.pin_core.specs.Kinds.{Kind, load_state, pin, pin_mapped, unpin, lock_header, unlock_header, store_tag, erase_tag, load_tag, pin_victim, lower_usage, assign, clear, Allowed, frame_after, link_after, view_after}
 use Rattle.pin_core.specs.Steps.{HoldsNothing, state_after, Event, at, Step, touches, turns, splits, joins, Run, rests, goes}
-use Rattle.pin_core.specs.Turns.{view_turned}
+use Rattle.pin_core.specs.Turns.{TurnTally, view_turned, TurnLaw, HoldLaw, turn_shape}
+use Rattle.pin_core.specs.Turns.{holders as turn_holders}
 use Rattle.pin_core.specs.Maps.{PairLaw}
 use Rattle.pin_core.specs.declared.view.MapChange.{MapChange}
 use Rattle.pin_core.specs.declared.view.MapChange.TheVariants.{Entering, Leaving}
-use Rattle.pin_core.specs.Schedules.{IsReached, UsagesAreLow, TagWordsAreTags, UntaggedFramesHaveOnePin, FlagsMatchTags, SeenFramesAreValid, TagsAreUnique, PinsAreFew, PinsAreCounted, HeadersAreHeld, is_held, holds_header, holds_turn, HoldersHaveTheWord, PinsRemember, MapsAreExact, TurnsAreHeld, IsHandedOut, HasNoUnpin, PinnedTagsStay}
+use Rattle.pin_core.specs.Schedules.{IsReached, UsagesAreLow, TagWordsAreTags, TagWordsAreBlocks, UntaggedFramesHaveOnePin, FlagsMatchTags, SeenFramesAreValid, TagsAreUnique, PinnedFramesHavePins, PinsAreFew, PinsAreCounted, HeadersAreHeld, is_held, holds_header, holds_turn, HoldersHaveTheWord, PinsRemember, MapsAreExact, TurnsAreHeld, MapsAreAsSeen, MapsAreHome, IsHandedOut, HasNoUnpin, PinnedTagsStay}
 use Rattle.grid.specs.Shape.{tallies}
 use Rattle.grid.proofs.Lists.{set_here, set_else, at_longer, put_at, put_else}
 use Rattle.grid.proofs.Sums.{total-count, total-few, term_le, terms_le}
@@ -56,8 +58,7 @@ module _ (s : State) (h : Invariant s) where
   pub few : PinsAreFew s
   few f below = let c = h.grid.columns f below in omega (arith, c.counted, h.views.few, total-few (λ (v : View). weigh pins (link v f)) s.views (λ v. one_pin (link v f).role))
 
-  -- a frame that a view pins has a pin
-  pub own_pins : (i f : ℕ) (v : View) → get_elem? s.views i ≡ some v → f < s.frames → (link v f).role ≢ Absent → 0 < (s.frame f).word.pins
+  pub own_pins : PinnedFramesHavePins s
   own_pins i f v there below pinned = let c = h.grid.columns f below in omega (arith, c.counted, term_le (λ (u : View). weigh pins (link u f)) s.views i v there, some_pin (link v f).role pinned)
 
   pub held : HeadersAreHeld s
@@ -86,6 +87,9 @@ module _ (s : State) (h : Invariant s) where
 
   pub packed : TagWordsAreTags s
   packed f below = (h.grid.columns f below).packed
+
+  pub blocks : TagWordsAreBlocks s
+  blocks = h.blocks
 
   pub untagged : UntaggedFramesHaveOnePin s
   untagged f below = (h.grid.columns f below).untagged_few
@@ -121,6 +125,18 @@ module _ (s : State) (h : Invariant s) where
       one : (b : Bool) → flag_weight b ≡ (if b then 1 else 0)
       one true = refl
       one false = refl
+
+  pub maps_seen : MapsAreAsSeen s
+  maps_seen i p v entries there below = (h.turns.cells i v p there below).seen entries
+
+  -- beside the holder of a latch no view has the map out
+  out_alone : (pt : Partition) (x y : PartitionHold) (t : TurnTally → ℕ) → TurnLaw pt t → HoldLaw pt y → flag_weight x.held + flag_weight y.held ≤ t turn_holders → x.held ≡ true → y.out ≡ None
+  out_alone pt x y t q c le held = grind (arith, q, c, le, held)
+
+  pub maps_home : MapsAreHome s
+  maps_home i j p v u there here below held home = dite (ℕ_discrete i j)
+      (λ e. ap (λ (x : View). (hold x p).out) (some-injective u v (sym here ∙ ap (λ (z : ℕ). get_elem? s.views z) (sym e) ∙ there)) ∙ home)
+      (λ o. out_alone (s.partition p) (hold v p) (hold u p) (tallies turn_shape s.views p) (h.turns.columns p below) (h.turns.cells j u p here below) (terms_le (λ (x : View). flag_weight (hold x p).held) s.views i j v u (λ e. o (sym e)) there here) held)
 
   pub remembers : PinsRemember s
   remembers i f v tag there below e = (h.grid.cells i v f there below).remembers tag e

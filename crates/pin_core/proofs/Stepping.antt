@@ -1,5 +1,5 @@
 -- Each step keeps the law, and so does each list of steps.
-use Rattle.std.proofs.Common.{◌≡◌, ◌≢◌, ℕ, ◌+◌, ◌<◌, ◌≤◌, true, false, List, Option, Some, length, set, length-set, get_or-set_same, get_or-set_other, sym, refl, ap, ◌∙◌, subst, arith}
+use Rattle.std.proofs.Common.{◌≡◌, ◌≢◌, ℕ, ◌+◌, ◌<◌, ◌≤◌, Bool, true, false, List, Option, Some, length, set, length-set, get_or-set_same, get_or-set_other, sym, refl, ap, ◌∙◌, subst, arith}
 use mathlib.Core.Logic.{dite}
 use mathlib.Core.Option.{some}
 use native.Mathlib.Decide.{ℕ_discrete}
@@ -11,7 +11,7 @@ use Rattle.pin_core.specs.declared.view.MapChange.TheVariants.{Settled, Entering
 use Rattle.pin_core.specs.declared.view.View.{View}
 use Rattle.pin_core.specs.State.{Frame, Partition, State, no_tag, idle, link, no_partition, hold, local, new_view, emptied_view, joined_view, split_state, joined_state}
 use Rattle.pin_core.specs.Tallies.{Tally, pins, headers, pendings, settled_pins, settled_headers, weigh, flag_weight, frame_shape}
-use Rattle.pin_core.specs.Invariant.{FrameLaw, LinkLaw, pin_part, Invariant}
+use Rattle.pin_core.specs.Invariant.{FrameLaw, LinkLaw, TagsAreBlocks, pin_part, Invariant}
 use Rattle.pin_core.specs.Maps.{PairLaw, MapLaw}
 use Rattle.pin_core.specs.Turns.{TurnKind, change_map, take_turn, leave_turn, map_out, map_back, TurnAllowed, partition_after, hold_after, view_turned, HoldLaw, turn_shape, turn_part}
 use Rattle.pin_core.specs.Kinds.{Kind, store_tag, erase_tag, pin_mapped, CanStoreTag, Allowed, frame_after, link_after, view_after}
@@ -29,6 +29,12 @@ use Rattle.pin_core.proofs.Views.{SameBackend, views_set, views_emptied, views_s
 pub tags_stay : (frame : ℕ → Frame) (f : ℕ) (fr : Frame) → fr.tag ≡ (frame f).tag → (g : ℕ) → (put frame f fr g).tag ≡ (frame g).tag
 tags_stay frame f fr e g = dite (ℕ_discrete g f) (λ same. ap (λ (x : Frame). x.tag) ((puts frame f fr g).same same) ∙ e ∙ ap (λ (z : ℕ). (frame z).tag) (sym same)) (λ o. ap (λ (x : Frame). x.tag) ((puts frame f fr g).other o))
 
+-- a frame that stays a block's, or is given no tag
+blocks_put : (is_block : ℕ → Bool) (n : ℕ) (frame : ℕ → Frame) (f : ℕ) (fr : Frame) → TagsAreBlocks is_block n frame → (fr.tag ≢ no_tag → is_block fr.tag ≡ true) → TagsAreBlocks is_block n (put frame f fr)
+blocks_put is_block n frame f fr h here g below = dite (ℕ_discrete g f)
+    (λ same. subst (λ (x : Frame). x.tag ≢ no_tag → is_block x.tag ≡ true) (sym ((puts frame f fr g).same same)) here)
+    (λ o. subst (λ (x : Frame). x.tag ≢ no_tag → is_block x.tag ≡ true) (sym ((puts frame f fr g).other o)) (h g below))
+
 -- One frame and one view change, and no tag word: what a crate above has to show of a kind of its own
 pub local_keeps : (s : State) (i f : ℕ) (v w : View) (fr : Frame) → Invariant s → get_elem? s.views i ≡ some v → SameBackend v w → w.joined ≡ v.joined → w.partitions ≡ v.partitions → fr.tag ≡ (s.frame f).tag
     → Grid frame_shape pin_part s.frames (put s.frame f fr) (λ _. tt) (set s.views i w) → Invariant (local s i f fr w)
@@ -36,6 +42,7 @@ local_keeps s i f v w fr h there same joined holds tag grid = let maps = maps_sa
   grid = grid;
   turns = steady turn_shape turn_part s.partitions s.partition (λ _. tt) s.views h.turns i v w there refl (λ p. ap (λ (x : List PartitionHold). hold (record w { partitions = x }) p) holds);
   apart = maps_apart s.frames s.partition_of (λ p. (s.partition p).map) (λ p. (s.partition p).owed) (λ g. (put s.frame f fr g).tag) maps;
+  blocks = λ g below. subst (λ (x : ℕ). x ≢ no_tag → s.is_block x ≡ true) (sym (tags_stay s.frame f fr tag g)) (h.blocks g below);
   maps = maps;
   placed = h.placed;
   views = views_set s.frames s.partitions s.backends s.views h.views i v w there same;
@@ -100,13 +107,15 @@ module _ (s : State) (h : Invariant s) (i f : ℕ) (v : View) (there : get_elem?
   -- a kind that names the pair c of the partition p, after which the maps are exact
   naming : (k : Kind) (p : ℕ) (c : MapChange) → Allowed k (s.frame f) (link v f) → TagKnown k (s.frame f) → p < s.partitions → (hold v p).held ≡ true → (hold v p).changed ≡ false → (hold v p).change ≡ Settled → (after k s f v).partitions ≡ set v.partitions p (record (hold v p) { change = c })
       → MapLaw s.frames s.partition_of gives (λ q. (put s.partition p (record (s.partition p) { owed = c }) q).owed) (λ g. (put s.frame f (frame_after k (s.frame f)) g).tag)
+      → ((frame_after k (s.frame f)).tag ≢ no_tag → s.is_block (frame_after k (s.frame f)).tag ≡ true)
       → Invariant (record s { frame = put s.frame f (frame_after k (s.frame f)); partition = put s.partition p (record (s.partition p) { owed = c }); views = set s.views i (after k s f v) })
-  naming k p c a known below held unchanged settled names maps = let part : ℕ → Partition = put s.partition p (record (s.partition p) { owed = c }) in let tag_words : ℕ → ℕ = λ g. (put s.frame f (frame_after k (s.frame f)) g).tag in
+  naming k p c a known below held unchanged settled names maps block = let part : ℕ → Partition = put s.partition p (record (s.partition p) { owed = c }) in let tag_words : ℕ → ℕ = λ g. (put s.frame f (frame_after k (s.frame f)) g).tag in
       let exact : MapLaw s.frames s.partition_of (λ q. (part q).map) (λ q. (part q).owed) tag_words = maps_same s.frames s.partition_of gives (λ q. (part q).owed) tag_words maps (λ q. (part q).map) (λ q. (part q).owed) tag_words
       (λ q. dite (ℕ_discrete q p) (λ e. ap (λ (x : Partition). x.map) ((puts s.partition p (record (s.partition p) { owed = c }) q).same e) ∙ ap gives (sym e)) (λ o. ap (λ (x : Partition). x.map) ((puts s.partition p (record (s.partition p) { owed = c }) q).other o))) (λ q. refl) (λ g. refl) in record {
         grid = grid_after k a known;
         turns = turns_after k p c below held unchanged settled names;
         apart = maps_apart s.frames s.partition_of (λ q. (part q).map) (λ q. (part q).owed) tag_words exact;
+        blocks = blocks_put s.is_block s.frames s.frame f (frame_after k (s.frame f)) h.blocks block;
         maps = exact;
         placed = h.placed;
         views = views_set s.frames s.partitions s.backends s.views h.views i v (after k s f v) there (named_backend k p c below held unchanged settled names);
@@ -129,12 +138,14 @@ kind_step_keeps s i f (store_tag tag) v h there live inside a around = let p = s
     (maps_entering s.frames s.partition_of (λ q. (s.partition q).map) (λ q. (s.partition q).owed) (λ g. (s.frame g).tag) h.maps tag f (λ q. (put s.partition p x q).owed) (λ g. (put s.frame f fr g).tag) a.named inside free around.lacking bare
     (λ q e. ap (λ (y : Partition). y.owed) ((puts s.partition p x q).same e)) (λ q o. ap (λ (y : Partition). y.owed) ((puts s.partition p x q).other o))
     (λ g e. ap (λ (y : Frame). y.tag) ((puts s.frame f fr g).same e)) (λ g o. ap (λ (y : Frame). y.tag) ((puts s.frame f fr g).other o)))
+    (λ _. around.block)
 kind_step_keeps s i f erase_tag v h there live inside a m = let tag = (s.frame f).tag in let p = s.partition_of tag in let c : MapChange = Leaving tag f in let x : Partition = record (s.partition p) { owed = c } in let fr : Frame = record (s.frame f) { tag = no_tag } in
     let free = unowed s h i f v there live inside p (h.placed tag) m.held (m.settled p) in
     naming s h i f v there live inside erase_tag p c a tt (h.placed tag) m.held m.unchanged (m.settled p) refl
     (maps_leaving s.frames s.partition_of (λ q. (s.partition q).map) (λ q. (s.partition q).owed) (λ g. (s.frame g).tag) h.maps tag f (λ q. (put s.partition p x q).owed) (λ g. (put s.frame f fr g).tag) a.named inside free refl
     (λ q e. ap (λ (y : Partition). y.owed) ((puts s.partition p x q).same e)) (λ q o. ap (λ (y : Partition). y.owed) ((puts s.partition p x q).other o))
     (λ g e. ap (λ (y : Frame). y.tag) ((puts s.frame f fr g).same e)) (λ g o. ap (λ (y : Frame). y.tag) ((puts s.frame f fr g).other o)))
+    (λ named. absurd (named refl))
 kind_step_keeps s i f (pin_mapped tag ring) v h there live inside a m = let p = s.partition_of tag in let pair = h.maps.mapped p tag f m.given in
     plain s h i f v there live inside (pin_mapped tag ring) a (has_tag ((s.partition p).map tag) (s.partition p).owed (s.frame f).tag tag f (h.maps.pairs tag f pair.named inside) m.given (unowed s h i f v there live inside p (h.placed tag) m.held m.settled), pair.named) refl refl
 kind_step_keeps s i f k v h there live inside a around = plain s h i f v there live inside k a tt refl refl
@@ -169,6 +180,7 @@ module _ (s : State) (h : Invariant s) (i p : ℕ) (v : View) (there : get_elem?
     turns = touch turn_shape turn_part turn_part s.partitions s.partition (λ _. tt) (λ _. tt) s.views i p v w (partition_after k (s.partition p) (hold v p)) y h.turns h.turns there below
         (record { own = refl; here = get_or-set_same v.partitions p y no_partition (subst (λ (n : ℕ). p < n) (sym (h.views.wide i v there live).1) below); else = λ q other. get_or-set_other v.partitions p q y no_partition other }) (λ g _ other. refl) (turn_keeps k (s.partition p) (hold v p) a);
     apart = h.apart;
+    blocks = h.blocks;
     maps = maps_after k a;
     placed = h.placed;
     views = views_set s.frames s.partitions s.backends s.views h.views i v w there (record { emptied = refl; number = refl; next = refl; links = refl; partitions = length-set v.partitions p y });
@@ -213,6 +225,7 @@ split_keeps s v h there room = let w : View = record v { next = v.next + 1 } in 
   grid = grows frame_shape pin_part s.frames s.frame (λ _. tt) (set s.views 0 w) (steady frame_shape pin_part s.frames s.frame (λ _. tt) s.views h.grid 0 v w there refl (λ g. refl)) (new_view v.next s.base n p m) (new_none v.next s.base n p m) (λ g below. new_link v.next s.base n p m g (s.frame g));
   turns = grows turn_shape turn_part s.partitions s.partition (λ _. tt) (set s.views 0 w) (steady turn_shape turn_part s.partitions s.partition (λ _. tt) s.views h.turns 0 v w there refl (λ g. refl)) (new_view v.next s.base n p m) (λ q _. new_unheld v.next s.base n p m q) (λ q below. new_hold v.next s.base n p m q (s.partition q));
   apart = h.apart;
+  blocks = h.blocks;
   maps = h.maps;
   placed = h.placed;
   views = views_split s.frames s.partitions s.backends s.views h.views s.base v there room;
@@ -224,8 +237,9 @@ join_keeps s j v u h there other here live free = let w : View = joined_view v u
   grid = sweep frame_shape pin_part pin_part s.frames s.frame s.frame (λ _. tt) (λ _. tt) vs j u emptied_view (steady frame_shape pin_part s.frames s.frame (λ _. tt) s.views h.grid 0 v w there refl (λ g. refl)) (set_else s.views 0 j w other ∙ here)
       (λ g below. forgets (s.frame g) (link u g) (free.frames g));
   turns = sweep turn_shape turn_part turn_part s.partitions s.partition s.partition (λ _. tt) (λ _. tt) vs j u emptied_view (steady turn_shape turn_part s.partitions s.partition (λ _. tt) s.views h.turns 0 v w there refl (λ g. refl)) (set_else s.views 0 j w other ∙ here)
-      (λ q below. turn_forgets (s.partition q) (hold u q) no_partition (free.partitions q) refl refl refl refl);
+      (λ q below. turn_forgets (s.partition q) (hold u q) no_partition (free.partitions q) refl refl refl refl refl);
   apart = h.apart;
+  blocks = h.blocks;
   maps = h.maps;
   placed = h.placed;
   views = views_emptied s.frames s.partitions s.backends vs (views_set s.frames s.partitions s.backends s.views h.views 0 v w there (joined_same v u)) j other;

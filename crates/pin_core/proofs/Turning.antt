@@ -46,9 +46,9 @@ naming_keeps pt h new a b e = record {
 }
 
 -- who doesn't hold a latch may be forgotten there
-pub turn_forgets : (pt : Partition) (h h' : PartitionHold) → h.held ≡ false → h'.held ≡ false → h'.out ≡ None → h'.change ≡ Settled → h'.changed ≡ false → TurnKeeps pt h pt h'
-turn_forgets pt h h' a b out settled unchanged = record {
+pub turn_forgets : (pt : Partition) (h h' : PartitionHold) → h.held ≡ false → h'.held ≡ false → h'.out ≡ None → h'.change ≡ Settled → h'.changed ≡ false → h'.seen ≡ None → TurnKeeps pt h pt h'
+turn_forgets pt h h' a b out settled unchanged unseen = record {
   column = λ t t' q c sums le _. grind (arith, q, c, a, b, sums holders, le holders);
-  cell = λ t q le c. grind (arith, b, out, settled, unchanged);
+  cell = λ t q le c. grind (arith, b, out, settled, unchanged, unseen);
   others = λ t n m q c le d. d;
 }

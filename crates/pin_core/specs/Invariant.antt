@@ -109,11 +109,16 @@ AllAccounted views = (v : View) → get_elem? views 0 ≡ some v → total (λ (
 abbrev pub TagsApart : ℕ → (ℕ → Frame) → Type 0
 TagsApart frames frame = (f g : ℕ) → f < frames → g < frames → (frame f).tag ≢ no_tag → (frame f).tag ≡ (frame g).tag → f ≡ g
 
+-- a tag word that isn't all ones is a block of the relations
+abbrev pub TagsAreBlocks : (ℕ → Bool) → ℕ → (ℕ → Frame) → Type 0
+TagsAreBlocks is_block frames frame = (f : ℕ) → f < frames → (frame f).tag ≢ no_tag → is_block (frame f).tag ≡ true
+
 -- What holds of pins, headers, tags and maps
 pub record Invariant (s : State) : Type 0 where
   pub grid : Grid frame_shape pin_part s.frames s.frame (λ _. tt) s.views
   pub turns : Grid turn_shape turn_part s.partitions s.partition (λ _. tt) s.views
   pub apart : TagsApart s.frames s.frame
+  pub blocks : TagsAreBlocks s.is_block s.frames s.frame
   pub maps : MapLaw s.frames s.partition_of (λ p. (s.partition p).map) (λ p. (s.partition p).owed) (λ f. (s.frame f).tag)
   -- each tag has a partition
   pub placed : (tag : ℕ) → s.partition_of tag < s.partitions

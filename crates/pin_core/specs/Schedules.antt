@@ -3,12 +3,14 @@ use Rattle.std.specs.Prelude.{◌≡◌, ◌≢◌, ℕ, ◌<◌, ◌≤◌, Boo
 use mathlib.Core.Option.{some}
 use lib.ListN.{get_elem?}
 use Rattle.state_word.specs.declared.word.StateWord.{StateWord}
-use Rattle.pin_core.specs.declared.view.Role.TheVariants.{HandedOut}
+use Rattle.pin_core.specs.declared.view.Role.TheVariants.{Absent, HandedOut}
 use Rattle.pin_core.specs.declared.view.MapChange.TheVariants.{Settled, Entering, Leaving}
+use Rattle.pin_core.specs.declared.view.MapEntry.{MapEntry}
 use Rattle.pin_core.specs.declared.view.View.{View}
 use Rattle.pin_core.specs.State.{Page, State, Config, CanOpen, no_tag, is_tag, link, hold, pins_frame, opening}
 use Rattle.pin_core.specs.Invariant.{HasTag}
 use Rattle.pin_core.specs.Maps.{IsPair}
+use Rattle.pin_core.specs.Turns.{found}
 use Rattle.pin_core.specs.Kinds.{unpin}
 use Rattle.pin_core.specs.Steps.{Event, at, Run}
 
@@ -27,6 +29,10 @@ TagsAreUnique s = (f g : ℕ) → f < s.frames → g < s.frames → HasTag (s.fr
 -- a frame has at most one pin for each backend
 abbrev pub PinsAreFew : State → Type 0
 PinsAreFew s = (f : ℕ) → f < s.frames → (s.frame f).word.pins ≤ s.backends
+
+-- a frame that a view pins has a pin
+abbrev pub PinnedFramesHavePins : State → Type 0
+PinnedFramesHavePins s = (i f : ℕ) (v : View) → get_elem? s.views i ≡ some v → f < s.frames → (link v f).role ≢ Absent → 0 < (s.frame f).word.pins
 
 -- the reference count is the number of views that pin the frame
 abbrev pub PinsAreCounted : State → Type 0
@@ -83,6 +89,10 @@ UntaggedFramesHaveOnePin s = (f : ℕ) → f < s.frames → (s.frame f).tag ≡ 
 abbrev pub TagWordsAreTags : State → Type 0
 TagWordsAreTags s = (f : ℕ) → f < s.frames → (s.frame f).tag ≢ no_tag → is_tag (s.frame f).tag ≡ true
 
+-- and is a block of the relations
+abbrev pub TagWordsAreBlocks : State → Type 0
+TagWordsAreBlocks s = (f : ℕ) → f < s.frames → (s.frame f).tag ≢ no_tag → s.is_block (s.frame f).tag ≡ true
+
 -- where the header isn't locked BM_TAG_VALID stands exactly where the tag word isn't all ones
 abbrev pub FlagsMatchTags : State → Type 0
 FlagsMatchTags s = (f : ℕ) → f < s.frames → (s.frame f).word.locked ≡ false → ((s.frame f).word.tag_valid ≡ true) ↔ ((s.frame f).tag ≢ no_tag)
@@ -107,3 +117,11 @@ holds_turn p v = (hold v p).held
 -- one view holds a latch that is taken, and none one that is free, where no pair is in change
 abbrev pub TurnsAreHeld : State → Type 0
 TurnsAreHeld s = (p : ℕ) → p < s.partitions → (count_by (holds_turn p) s.views ≡ (if (s.partition p).taken then 1 else 0)) × ((s.partition p).taken ≡ false → (s.partition p).owed ≡ Settled)
+
+-- a map that isn't out has the entries that the holder of its latch saw last
+abbrev pub MapsAreAsSeen : State → Type 0
+MapsAreAsSeen s = (i p : ℕ) (v : View) (entries : List MapEntry) → get_elem? s.views i ≡ some v → p < s.partitions → (hold v p).seen ≡ Some entries → (hold v p).out ≡ None → (s.partition p).map ≡ found entries
+
+-- where a view holds the latch of a partition, and hasn't its map out, no view has it out
+abbrev pub MapsAreHome : State → Type 0
+MapsAreHome s = (i j p : ℕ) (v u : View) → get_elem? s.views i ≡ some v → get_elem? s.views j ≡ some u → p < s.partitions → (hold v p).held ≡ true → (hold v p).out ≡ None → (hold u p).out ≡ None

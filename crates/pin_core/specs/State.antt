@@ -56,6 +56,8 @@ pub record State : Type 0 where
   -- how many partitions there are, and the partition of each tag (`BufTableHashPartition`)
   pub partitions : ℕ
   pub partition_of : ℕ → ℕ
+  -- whether a tag word is a block of the relations
+  pub is_block : ℕ → Bool
   pub frame : ℕ → Frame
   pub partition : ℕ → Partition
   pub views : List View
@@ -81,6 +83,7 @@ idle = record {
   copying = false;
   dirtied = false;
   unapplied = false;
+  image = None;
   copied = None;
   io = Quiet;
   read = None;
@@ -94,13 +97,13 @@ idle = record {
 }
 
 abbrev pub no_partition : PartitionHold
-no_partition = record { held = false; change = Settled; out = None; changed = false }
+no_partition = record { held = false; change = Settled; out = None; changed = false; seen = None }
 
 abbrev pub no_lane : LaneHold
-no_lane = record { held = false; out = None; change = lane_change.Untouched; changed = false; flushed = 0 }
+no_lane = record { held = false; out = None; change = lane_change.Untouched; flushed = 0 }
 
 abbrev pub no_log : LogHold
-no_log = record { held = false; out = None; change = log_change.Untouched; changed = false; appended = None; synced = false; end = None }
+no_log = record { held = false; out = None; change = log_change.Untouched; appended = None; synced = false; end = None }
 
 -- what a view has of the latch of the partition p
 abbrev pub hold : View → ℕ → PartitionHold
@@ -208,6 +211,8 @@ pub record Config : Type 0 where
   pub frames : ℕ
   pub partitions : ℕ
   pub partition_of : ℕ → ℕ
+  -- whether a tag word is a block of the relations
+  pub is_block : ℕ → Bool
   pub lanes : ℕ
   pub backends : ℕ
   -- where the log begins
@@ -226,6 +231,7 @@ opening c page = record {
   base = c.base;
   partitions = c.partitions;
   partition_of = c.partition_of;
+  is_block = c.is_block;
   frame = λ _. empty_frame page;
   partition = λ _. empty_partition;
   views = first_view c.base c.frames c.partitions c.lanes ∷ [];

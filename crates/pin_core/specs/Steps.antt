@@ -27,9 +27,10 @@ pub record MayName (s : State) (v : View) (tag : ℕ) : Type 0 where
   pub unchanged : (hold v (s.partition_of tag)).changed ≡ false
   pub settled : (p : ℕ) → (hold v p).change ≡ Settled
 
--- and the map lacks the tag
+-- and the map lacks the tag, which is a block's
 pub record MayEnter (s : State) (v : View) (tag : ℕ) : Type 0 where
   pub naming : MayName s v tag
+  pub block : s.is_block tag ≡ true
   pub lacking : (s.partition (s.partition_of tag)).map tag ≡ None
 
 -- the view has the latch of the tag's partition, whose map gives the frame, and names no pair in change there

@@ -83,10 +83,10 @@ partition_after (map_back entries) pt h = pt
 -- What a kind makes of what the view has of the latch
 abbrev pub hold_after : TurnKind → PartitionHold → PartitionHold
 hold_after take_turn h = record h { held = true }
-hold_after leave_turn h = record h { held = false; changed = false }
-hold_after (map_out entries) h = record h { out = Some entries }
-hold_after change_map h = record h { changed = true }
-hold_after (map_back entries) h = record h { out = None; change = owed_by h.changed h.change }
+hold_after leave_turn h = record h { held = false; changed = false; seen = None }
+hold_after (map_out entries) h = record h { out = Some entries; seen = Some entries }
+hold_after change_map h = record h { changed = true; seen = None }
+hold_after (map_back entries) h = record h { out = None; change = owed_by h.changed h.change; seen = Some entries }
 
 -- What a kind at the partition p makes of the view
 abbrev pub view_turned : TurnKind → ℕ → PartitionHold → View → View
@@ -117,6 +117,10 @@ pub record HoldLaw (pt : Partition) (h : PartitionHold) : Type 0 where
   pub out : (entries : List MapEntry) → h.out ≡ Some entries → pt.map ≡ map_now h.changed h.change (found entries)
   -- a pair is named with the change made only while the map is out
   pub made : h.changed ≡ true → h.out ≡ None → h.change ≡ Settled
+  -- a map that isn't out is as the holder saw it last
+  pub seen : (entries : List MapEntry) → h.seen ≡ Some entries → h.out ≡ None → pt.map ≡ found entries
+  -- who doesn't hold the latch knows nothing of the map
+  pub unseen : h.held ≡ false → h.seen ≡ None
 
 abbrev pub turn_part : Part turn_shape
 turn_part = record { column = λ _ pt t. TurnLaw pt t; cell = λ _ pt _ h. HoldLaw pt h }

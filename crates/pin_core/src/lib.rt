@@ -8,7 +8,7 @@ ghost use Rattle.pin_core.specs.State.{CanOpen, Config, Page, State, opening};
 ghost use Rattle.pin_core.specs.Invariant.{AllAccounted, Invariant};
 ghost use Rattle.pin_core.specs.Steps.{Event, Run};
 ghost use Rattle.pin_core.specs.Sample.{SampleRuns};
-ghost use Rattle.pin_core.specs.Schedules.{IsReached, UsagesAreLow, TagWordsAreTags, UntaggedFramesHaveOnePin, FlagsMatchTags, SeenFramesAreValid, TagsAreUnique, PinsAreCounted, PinsAreFew, HeadersAreHeld, HoldersHaveTheWord, PinsRemember, PinnedTagsStay, MapsAreExact, TurnsAreHeld};
+ghost use Rattle.pin_core.specs.Schedules.{IsReached, UsagesAreLow, TagWordsAreTags, TagWordsAreBlocks, UntaggedFramesHaveOnePin, FlagsMatchTags, SeenFramesAreValid, TagsAreUnique, PinsAreCounted, PinnedFramesHavePins, PinsAreFew, HeadersAreHeld, HoldersHaveTheWord, PinsRemember, PinnedTagsStay, MapsAreExact, TurnsAreHeld, MapsAreAsSeen, MapsAreHome};
 
 mod view;
 
@@ -19,26 +19,31 @@ pub use view::{
 
 /// What every list of events keeps, whatever the backends do and in whatever order.
 pub fn all_schedules()
-    // Where the invariant holds it holds after every list of events, and it holds at the start.
+    // Where the invariant holds it holds after every list of events, and it holds at the start: so in every state that events lead to.
     ensures kept { (es : List Event) (s : State) (t : State) → Invariant s → Run es s t → Invariant t }
     ensures opens { (config : Config) (page : Page) → CanOpen config → Invariant (opening config page) }
+    ensures reached { (s : State) → IsReached s → Invariant s }
 
-    // So in every state that events lead to:
-    ensures unique { (s : State) → IsReached s → TagsAreUnique s }
-    ensures stay { (s : State) → IsReached s → PinnedTagsStay s }
-    ensures counted { (s : State) → IsReached s → PinsAreCounted s }
-    ensures accounted { (s : State) → IsReached s → AllAccounted s.views }
-    ensures few { (s : State) → IsReached s → PinsAreFew s }
-    ensures held { (s : State) → IsReached s → HeadersAreHeld s }
-    ensures holders { (s : State) → IsReached s → HoldersHaveTheWord s }
-    ensures usages { (s : State) → IsReached s → UsagesAreLow s }
-    ensures packed { (s : State) → IsReached s → TagWordsAreTags s }
-    ensures untagged { (s : State) → IsReached s → UntaggedFramesHaveOnePin s }
-    ensures flags { (s : State) → IsReached s → FlagsMatchTags s }
-    ensures seen { (s : State) → IsReached s → SeenFramesAreValid s }
-    ensures remembers { (s : State) → IsReached s → PinsRemember s }
-    ensures exact { (s : State) → IsReached s → MapsAreExact s }
-    ensures taken { (s : State) → IsReached s → TurnsAreHeld s }
+    // And where it holds:
+    ensures unique { (s : State) → Invariant s → TagsAreUnique s }
+    ensures stay { (s : State) → Invariant s → PinnedTagsStay s }
+    ensures counted { (s : State) → Invariant s → PinsAreCounted s }
+    ensures accounted { (s : State) → Invariant s → AllAccounted s.views }
+    ensures pinned { (s : State) → Invariant s → PinnedFramesHavePins s }
+    ensures few { (s : State) → Invariant s → PinsAreFew s }
+    ensures held { (s : State) → Invariant s → HeadersAreHeld s }
+    ensures holders { (s : State) → Invariant s → HoldersHaveTheWord s }
+    ensures usages { (s : State) → Invariant s → UsagesAreLow s }
+    ensures packed { (s : State) → Invariant s → TagWordsAreTags s }
+    ensures blocks { (s : State) → Invariant s → TagWordsAreBlocks s }
+    ensures untagged { (s : State) → Invariant s → UntaggedFramesHaveOnePin s }
+    ensures flags { (s : State) → Invariant s → FlagsMatchTags s }
+    ensures seen { (s : State) → Invariant s → SeenFramesAreValid s }
+    ensures remembers { (s : State) → Invariant s → PinsRemember s }
+    ensures exact { (s : State) → Invariant s → MapsAreExact s }
+    ensures taken { (s : State) → Invariant s → TurnsAreHeld s }
+    ensures maps_seen { (s : State) → Invariant s → MapsAreAsSeen s }
+    ensures maps_home { (s : State) → Invariant s → MapsAreHome s }
 {}
 
 /// An example: a backend misses a block and gives it a frame, another one hits it there, and the first one's pin goes.

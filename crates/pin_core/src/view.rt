@@ -52,6 +52,8 @@ pub struct Link {
     pub dirtied: bool,
     /// The entry of the new page is in the log, and not yet applied to the page.
     pub unapplied: bool,
+    /// The image of that entry.
+    pub image: Option<[u8; 0]>,
     /// The page as the backend copied it under this content lock.
     pub copied: Option<[u8; 0]>,
     pub io: Io,
@@ -94,12 +96,15 @@ pub struct PartitionHold {
     pub out: Option<[MapEntry; 0]>,
     /// The one change of the map under this latch is made.
     pub changed: bool,
+    /// The map's entries, as the backend saw them last under this latch, with no change made since.
+    pub seen: Option<[MapEntry; 0]>,
 }
 
-/// A block, by its tag, and its page.
+/// A block, by its tag, its page, and whether its last write failed.
 pub struct BlockPage {
     pub tag: u64,
     pub page: [u8; 0],
+    pub failed: bool,
 }
 
 /// The one call of a lane that a backend made while the lane was out.
@@ -115,10 +120,8 @@ pub enum LaneChange {
 
 /// What a lane was when it went out.
 pub struct TakenLane {
-    /// Its pages, where the contents are known.
+    /// Its blocks, where the contents are known.
     pub pages: Option<[BlockPage; 0]>,
-    /// The blocks whose last write had failed, by their tags.
-    pub failed: [u64; 0],
     /// How many reads, and how many writes and syncs, had failed.
     pub read_faults: u64,
     pub write_faults: u64,
@@ -130,8 +133,6 @@ pub struct LaneHold {
     /// The lane is out with the backend, and this is what it was when it went out.
     pub out: Option<TakenLane>,
     pub change: LaneChange,
-    /// The one change of the lane under this latch is made.
-    pub changed: bool,
     /// The flushed position as the backend had loaded it when the lane went out.
     pub flushed: u64,
 }
@@ -149,8 +150,12 @@ pub enum LogChange {
 pub struct TakenLog {
     /// Its bytes, where the contents are known.
     pub bytes: Option<[u8; 0]>,
+    /// How many of the bytes were durable.
+    pub synced: u64,
     /// How many appends and syncs had failed.
     pub faults: u64,
+    /// Where the log was down, its end at the failure.
+    pub down: Option<u64>,
 }
 
 /// What a backend has of the log's latch.
@@ -159,8 +164,6 @@ pub struct LogHold {
     /// The device is out with the backend, and this is what it was when it went out.
     pub out: Option<TakenLog>,
     pub change: LogChange,
-    /// The one change of the log under this latch is made.
-    pub changed: bool,
     /// Under this latch a record was appended, and the log end not stored yet.
     pub appended: Option<[u8; 0]>,
     /// Under this latch a sync was done.
@@ -221,13 +224,29 @@ pub struct Load {
     pub steps: u64,
 }
 
-/// One call of a device.
+/// One call of a device, and whether it was done.
 pub enum DeviceCall {
-    LaneRead { lane: u64, tag: u64 },
-    LaneWrite { lane: u64, tag: u64 },
-    LaneSync { lane: u64 },
-    LogAppend,
-    LogSync,
+    LaneRead {
+        lane: u64,
+        tag: u64,
+        done: bool,
+    },
+    LaneWrite {
+        lane: u64,
+        tag: u64,
+        page: [u8; 0],
+        done: bool,
+    },
+    LaneSync {
+        lane: u64,
+        done: bool,
+    },
+    LogAppend {
+        done: bool,
+    },
+    LogSync {
+        done: bool,
+    },
 }
 
 /// How many device calls failed, by the part that failed.

@@ -1,5 +1,5 @@
--- What lanes and sinks hold, where it is known: None where it isn't.
-use Rattle.std.specs.Prelude.{◌≡◌, ℕ, List, ◌++◌, length, Option, Some, None, Bool, false, Result, OnOk, OnErr, IfSome, IsSomeAnd, MatchResult, option_map, if◌then◌else◌}
+-- What lanes hold, where it is known: None where it isn't.
+use Rattle.std.specs.Prelude.{◌≡◌, ℕ, List, length, Option, Some, None, Bool, false, Result, IsSomeAnd, MatchResult, if◌then◌else◌}
 use Rattle.block_tag.specs.Names.{tag_eq}
 use Rattle.block_tag.specs.declared.tag.Tag.{Tag}
 
@@ -37,15 +37,3 @@ pub record IsTorn (tag : Tag) (pages after : Pages) : Type 0 where
 abbrev pub Writes : {E : Type 0} → Tag → List ℕ → Option Pages → Option Pages → Result Unit E → Type 0
 Writes tag page None new result = new ≡ None
 Writes tag page (Some pages) new result = MatchResult result (λ _. new ≡ Some (with_page tag page pages)) (λ _. IsSomeAnd new (IsTorn tag pages))
-
--- the bytes have become longer by a prefix of the piece
-pub record GainsPrefix (piece old new : List ℕ) : Type 0 where
-  pub prefix : List ℕ
-  pub rest : List ℕ
-  pub whole : piece ≡ prefix ++ rest
-  pub is : new ≡ old ++ prefix
-
--- after a put: the whole piece was added, or after a failed one a prefix of it
-pub record Puts {E : Type 0} (piece : List ℕ) (old new : Option (List ℕ)) (result : Result Unit E) : Type 0 where
-  pub ok : OnOk result (new ≡ option_map (λ bytes. bytes ++ piece) old)
-  pub failed : OnErr result (IfSome old (λ bytes. IsSomeAnd new (GainsPrefix piece bytes)))

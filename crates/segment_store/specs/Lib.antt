@@ -5,7 +5,7 @@ pub mod Lanes
 pub mod Paths
 pub mod Restored
 pub mod Opening
-pub mod Plan
-pub mod Memory
+pub mod Logs
 pub mod MemoryLane
+pub mod MemoryLog
 pub mod MemoryHost

@@ -1,10 +1,10 @@
 -- Lanes in memory.
-use Rattle.std.specs.Prelude.{false, option_map}
+use Rattle.std.specs.Prelude.{ℕ, ◌+◌, ◌%◌, List, false, get_or, option_map, slice_set}
 use Rattle.std.specs.Option.{option_map_or}
 use Rattle.std.specs.BTreeMap as tree
 use Rattle.block_tag.specs.contracts.tag.TagOrd.TheImpl as tags
 use Rattle.segment_store.specs.Contents.{Marks, Pages}
-use Rattle.segment_store.specs.Plan.{fresh_plan}
+use Rattle.log_device.specs.Plan.{fresh_plan}
 use Rattle.segment_store.specs.declared.memory_lane.LanePlan.{LanePlan}
 use Rattle.segment_store.specs.declared.memory_lane.MemLane.{MemLane}
 
@@ -23,3 +23,7 @@ plan_of lane = lane.plan
 -- the same calls to fail, with no call made
 abbrev pub fresh_lane_plan : LanePlan → LanePlan
 fresh_lane_plan plan = record { reads = fresh_plan plan.reads; writes = fresh_plan plan.writes; syncs = fresh_plan plan.syncs }
+
+-- what a failed write leaves: the page as it was to be, but for its last byte, which is one more than it was
+abbrev pub torn_page : List ℕ → List ℕ → List ℕ
+torn_page old new = slice_set new 8191 ((get_or old 8191 0 + 1) % 256)

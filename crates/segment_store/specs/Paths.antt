@@ -1,6 +1,7 @@
 -- The paths of a host, and the fork that a path names by its end.
-use Rattle.std.specs.Prelude.{ℕ, List, Bool, codes, nat_eq, if◌then◌else◌}
+use Rattle.std.specs.Prelude.{ℕ, List, [], ◌∷◌, Bool, codes, nat_eq, if◌then◌else◌}
 use Rattle.std.specs.List.{ends_with}
+use Rattle.std.specs.Str.{bytes_eq}
 use Rattle.block_tag.specs.declared.tag.Fork.{Fork}
 use Rattle.block_tag.specs.declared.tag.Fork.TheVariants.{Main, Fsm, Vm, Init}
 
@@ -11,6 +12,11 @@ Paths = List ℕ → List (List ℕ)
 -- paths to their blocks' marks
 abbrev pub PathMarks : Type 0
 PathMarks = List ℕ → ℕ → Bool
+
+-- what is read of the first file with a path
+abbrev pub of_first : {F X : Type 0} → (F → List ℕ) → (F → X) → X → List F → List ℕ → X
+of_first name read none [] path = none
+of_first name read none (file ∷ files) path = if bytes_eq (name file) path then read file else of_first name read none files path
 
 -- the relation that was opened last: its path, and how many blocks its segments have
 pub record OpenAt : Type 0 where

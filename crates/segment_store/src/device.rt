@@ -1,17 +1,12 @@
-//! Lanes of blocks, and sinks of bytes.
-ghost use Rattle.std.specs.Prelude.{◌≡◌, ◌<◌, ◌^◌, ℕ, List, Option, Some, OnOk, IfSome, IsSome, MatchResult, true, false};
+//! Lanes of blocks.
+ghost use Rattle.std.specs.Prelude.{◌≡◌, ◌<◌, ◌^◌, ℕ, Option, Some, OnOk, IfSome, IsSome, MatchResult, true, false};
 ghost use Rattle.std.specs.Option.{ForSome};
-ghost use Rattle.segment_store.specs.Faults.{HasCause};
-ghost use Rattle.segment_store.specs.Contents.{Marks, Pages, Puts, Writes, with_mark};
+ghost use Rattle.log_device.specs.Faults.{HasCause};
+ghost use Rattle.segment_store.specs.Contents.{Marks, Pages, Writes, with_mark};
 
 use block_tag::Tag;
+use log_device::Failed;
 use page_layout::Page;
-use thiserror::Error;
-
-/// A call failed, and a count of faults rose.
-#[derive(Clone, Copy, PartialEq, Eq, Debug, Error)]
-#[error("the device failed")]
-pub struct Failed;
 
 /// Blocks by their tags, as a storage manager keeps them for one backend at a time.
 ///
@@ -56,20 +51,4 @@ pub trait BlockLane {
     ghost read_faults_fit: { (lane : Self) → read_faults lane < 2 ^ 64 };
 
     ghost write_faults_fit: { (lane : Self) → write_faults lane < 2 ^ 64 };
-}
-
-/// Bytes that are written one piece after another.
-pub trait Sink {
-    /// The bytes so far, where the contents are known.
-    ghost bytes: { Self → Option (List ℕ) };
-
-    /// How many calls failed.
-    ghost faults: { Self → ℕ };
-
-    /// Adds the piece; a failed call adds a prefix of it.
-    fn put(&mut self, piece: &[u8]) -> Result<(), Failed>
-        ensures bytes { Puts piece.now (bytes self.old) (bytes self.new) result }
-        ensures faults { HasCause (faults self.old) (faults self.new) result };
-
-    ghost faults_fit: { (sink : Self) → faults sink < 2 ^ 64 };
 }

@@ -1,19 +1,19 @@
-//! Adapters over real files and streams: lanes, a host and a sink, whose contents aren't known.
-ghost use Rattle.std.specs.Prelude.{[], ◌≡◌, ◌≤◌, All, false, None, IfOk, OnOk, length, sum_by};
-ghost use Rattle.std.specs.Io.KnownBytes.{Appends};
-ghost use Rattle.segment_store.specs.Contents.{Puts, no_marks};
-ghost use Rattle.segment_store.specs.Faults.{Added, HasCause};
+//! Adapters over real files: lanes and a host, whose contents aren't known.
+ghost use Rattle.std.specs.Prelude.{[], ◌≡◌, ◌≤◌, false, None, IfOk, length, sum_by};
+ghost use Rattle.std.specs.Option.{option_map_or};
+ghost use Rattle.segment_store.specs.Contents.{no_marks};
+ghost use Rattle.log_device.specs.Faults.{Added};
 
-use crate::count::FaultCount;
-use crate::device::{BlockLane, Failed, Sink};
-use crate::host::{Host, HostError, Opened};
+use crate::device::BlockLane;
+use crate::host::{Host, HostError, LogOpen, Opened};
 use crate::paths::fork_of_path;
 use block_tag::{Fork, RelNo, Tag, segment_place};
+use log_device::{Failed, FaultCount, FileLog};
 use page_layout::{PAGE_SIZE, Page};
 use std::alloc::{AllocError, Global};
 use std::fs::{OpenFile, OpenOptions};
 use std::io;
-use std::io::{ErrorKind, Write};
+use std::io::ErrorKind;
 use std::os::unix::fs::FileExt;
 use std::rt::Files;
 use std::sync::Arc;
@@ -99,51 +99,6 @@ impl<F: FileExt + OpenFile + Drop> BlockLane for FileLane<F> {
     ghost write_faults_fit = { λ l. l.write_faults.fits };
 }
 
-/// A sink over a writer.
-#[derive(Drop)]
-pub struct StdSink<W: Write + Drop> {
-    writer: W,
-    faults: FaultCount,
-}
-
-impl<W: Write + Drop> StdSink<W> {
-    pub fn new(writer: W) -> StdSink<W>
-        ensures { ⟦<StdSink<W> as Sink>⟧.faults result ≡ 0 }
-    {
-        StdSink {
-            writer,
-            faults: FaultCount::new(),
-        }
-    }
-
-    /// How many puts failed.
-    pub fn faults(&self) -> u64
-        ensures { result ≡ ⟦<StdSink<W> as Sink>⟧.faults self.now }
-    {
-        self.faults.get()
-    }
-}
-
-impl<W: Write + Drop> Sink for StdSink<W> {
-    ghost bytes = { λ s. None };
-
-    ghost faults = { λ s. s.faults.count };
-
-    fn put(&mut self, piece: &[u8]) -> Result<(), Failed>
-        ensures bytes { Puts piece.now None None result }
-        ensures faults { HasCause self.old.faults.count self.new.faults.count result }
-        ensures written { OnOk result (Appends (W.contents self.old.writer) (W.contents self.new.writer) piece.now) }
-    {
-        if self.writer.write_all(piece).is_ok() {
-            return Ok(());
-        }
-        self.faults.raise();
-        Err(Failed)
-    }
-
-    ghost faults_fit = { λ s. s.faults.fits };
-}
-
 /// The files of a relation's segments, and how many blocks they have.
 #[derive(Drop)]
 struct Segments<F: Drop> {
@@ -166,6 +121,15 @@ fn open_file<R: Files>(rt: &R, path: &str) -> io::Result<R::File> {
         Err(error) if error.kind() == ErrorKind::NotFound => Err(error),
         Err(_) => OpenOptions::new().read(true).open(rt, path),
     }
+}
+
+/// Opens a file for writing: it is created, or emptied where it exists.
+fn open_empty<R: Files>(rt: &R, path: &str) -> io::Result<R::File> {
+    OpenOptions::new()
+        .write(true)
+        .create(true)
+        .truncate(true)
+        .open(rt, path)
 }
 
 /// How many whole blocks a file has. A directory, or what else is no file, is an error.
@@ -216,21 +180,24 @@ pub struct FileHost<'a, R: Files> {
     rt: &'a R,
     read_faults: FaultCount,
     write_faults: FaultCount,
+    log_faults: FaultCount,
 }
 
 impl<'a, R: Files> FileHost<'a, R> {
     pub fn new(rt: &'a R) -> FileHost<'a, R>
         ensures reads { result.read_faults.count ≡ 0 }
         ensures writes { result.write_faults.count ≡ 0 }
+        ensures logs { result.log_faults.count ≡ 0 }
     {
         FileHost {
             rt,
             read_faults: FaultCount::new(),
             write_faults: FaultCount::new(),
+            log_faults: FaultCount::new(),
         }
     }
 
-    /// How many openings failed, and reads of lanes that were given back.
+    /// How many openings of relations failed, and reads of lanes that were given back.
     pub fn read_faults(&self) -> u64
         ensures { result ≡ self.now.read_faults.count }
     {
@@ -242,6 +209,13 @@ impl<'a, R: Files> FileHost<'a, R> {
         ensures { result ≡ self.now.write_faults.count }
     {
         self.write_faults.get()
+    }
+
+    /// How many openings of logs failed, and calls of logs that were given back.
+    pub fn log_faults(&self) -> u64
+        ensures { result ≡ self.now.log_faults.count }
+    {
+        self.log_faults.get()
     }
 }
 
@@ -288,15 +262,23 @@ where
 {
     type Lane = FileLane<R::File>;
 
+    type Log = FileLog<R::File>;
+
     ghost contents = { λ h. None };
 
     ghost failed_writes = { λ h path block. false };
 
     ghost open_at = { λ h. record { path = []; seg_blocks = 0 } };
 
+    ghost logs = { λ h. None };
+
+    ghost log_at = { λ h. [] };
+
     ghost read_faults = { λ h. h.read_faults.count };
 
     ghost write_faults = { λ h. h.write_faults.count };
+
+    ghost log_faults = { λ h. h.log_faults.count };
 
     fn relation(
         &mut self,
@@ -316,17 +298,31 @@ where
         }
     }
 
-    fn give_back(&mut self, lanes: Vec<FileLane<R::File>>)
+    fn log(&mut self, _alloc: Global, path: &str) -> Result<FileLog<R::File>, LogOpen> {
+        if let Ok(file) = open_empty(self.rt, path) {
+            return Ok(FileLog::new(file));
+        }
+        self.log_faults.raise();
+        Err(LogOpen::Failed)
+    }
+
+    fn give_back(&mut self, lanes: Vec<FileLane<R::File>>, log: Option<FileLog<R::File>>)
         ensures reads { Added self.old.read_faults.count (sum_by (λ lane. lane.read_faults.count) lanes.items) self.new.read_faults.count }
         ensures writes { Added self.old.write_faults.count (sum_by (λ lane. lane.write_faults.count) lanes.items) self.new.write_faults.count }
+        ensures log_faults { Added self.old.log_faults.count (option_map_or (λ l. l.faults.count) log 0) self.new.log_faults.count }
     {
         for lane in &lanes {
             self.read_faults.add(lane.read_faults.get());
             self.write_faults.add(lane.write_faults.get());
+        }
+        if let Some(log) = log {
+            self.log_faults.add(log.faults());
         }
     }
 
     ghost read_faults_fit = { λ h. h.read_faults.fits };
 
     ghost write_faults_fit = { λ h. h.write_faults.fits };
+
+    ghost log_faults_fit = { λ h. h.log_faults.fits };
 }

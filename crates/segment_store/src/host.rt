@@ -1,11 +1,15 @@
-//! The host: relations by their paths.
-ghost use Rattle.std.specs.Prelude.{◌≡◌, ◌≢◌, ℕ, ◌<◌, ◌≤◌, ◌^◌, [], Option, IfOk, IfSome, IsErrOf, MatchResult, map, option_map, sum_by};
-ghost use Rattle.segment_store.specs.Faults.{Added, HasOpeningCause};
+//! The host: relations and logs by their paths.
+ghost use Rattle.std.specs.Prelude.{◌≡◌, ◌≢◌, ℕ, ◌<◌, ◌≤◌, ◌^◌, List, [], Option, IfOk, IfSome, IsErrOf, MatchResult, map, option_map, sum_by};
+ghost use Rattle.std.specs.Option.{option_map_or};
+ghost use Rattle.log_device.specs.Faults.{Added};
+ghost use Rattle.segment_store.specs.Faults.{HasOpeningCause};
+ghost use Rattle.segment_store.specs.Logs.{HasLogCause, IsOpenedLog, Logs, empty_log, given_log, logs_after, with_log};
 ghost use Rattle.segment_store.specs.Opening.{IsOpened};
 ghost use Rattle.segment_store.specs.Paths.{OpenAt, PathMarks, Paths, fork_of};
 ghost use Rattle.segment_store.specs.Restored.{cleared, marks_after, paths_after};
 
 use crate::device::BlockLane;
+use log_device::LogDevice;
 use std::alloc::Global;
 use thiserror::Error;
 
@@ -27,11 +31,22 @@ pub enum HostError {
     Memory,
 }
 
-/// Relations by their paths, each a list of segments, as PostgreSQL's `md.c` keeps them.
+/// Why a log isn't open.
+#[derive(Clone, Copy, PartialEq, Eq, Debug, Error)]
+pub enum LogOpen {
+    #[error("the host failed")]
+    Failed,
+    #[error("out of memory")]
+    Memory,
+}
+
+/// Relations by their paths, each a list of segments, as PostgreSQL's `md.c` keeps them, and logs by theirs.
 ///
-/// A count of faults never falls, and rises only in an opening that fails, or in `give_back` by those of the lanes.
+/// A count of faults never falls, and rises only in an opening that fails, or in `give_back` by those of the lanes and of the log.
 pub trait Host {
     type Lane: BlockLane + Send;
+
+    type Log: LogDevice + Send;
 
     /// The bytes of the segments at each path, where the contents are known; none where the relation isn't there.
     ghost contents: { Self → Option Paths };
@@ -42,11 +57,20 @@ pub trait Host {
     /// The relation that was opened last; it says something only where the contents are known.
     ghost open_at: { Self → OpenAt };
 
-    /// How many openings failed, and reads of lanes that were given back.
+    /// The logs at their paths, where they are known.
+    ghost logs: { Self → Option Logs };
+
+    /// The path of the log that was opened last; it says something only where the logs are known.
+    ghost log_at: { Self → List ℕ };
+
+    /// How many openings of relations failed, and reads of lanes that were given back.
     ghost read_faults: { Self → ℕ };
 
     /// How many writes and syncs failed of lanes that were given back.
     ghost write_faults: { Self → ℕ };
+
+    /// How many openings of logs failed, and calls of logs that were given back.
+    ghost log_faults: { Self → ℕ };
 
     /// Opens the relation at a path, whose segments have up to `seg_blocks` blocks, as so many lanes.
     /// `Missing` comes only where the first segment isn't there, and `Ok` never does then.
@@ -64,18 +88,39 @@ pub trait Host {
         ensures contents { contents self.new ≡ contents self.old }
         ensures failed { IfSome (contents self.old) (λ _. MatchResult result (λ _. failed_writes self.new ≡ cleared path.now (failed_writes self.old)) (λ _. failed_writes self.new ≡ failed_writes self.old)) }
         ensures open_at { IfSome (contents self.old) (λ _. MatchResult result (λ _. open_at self.new ≡ record { path = path.now; seg_blocks = seg_blocks }) (λ _. open_at self.new ≡ open_at self.old)) }
+        ensures logs { logs self.new ≡ logs self.old }
+        ensures log_at { IfSome (logs self.old) (λ _. log_at self.new ≡ log_at self.old) }
         ensures reads { HasOpeningCause (read_faults self.old) (read_faults self.new) result }
+        ensures writes { write_faults self.new ≡ write_faults self.old }
+        ensures log_faults { log_faults self.new ≡ log_faults self.old };
+
+    /// Opens an empty log at a path: it is created, or emptied where it exists. A refusal leaves the logs as they were.
+    fn log(&mut self, alloc: Global, path: &str) -> Result<Self::Log, LogOpen>
+        ensures opened { IfOk result (IsOpenedLog Self.Log.bytes Self.Log.synced Self.Log.faults (logs self.old)) }
+        ensures logs { MatchResult result (λ _. logs self.new ≡ option_map (with_log path.now empty_log) (logs self.old)) (λ _. logs self.new ≡ logs self.old) }
+        ensures log_at { IfSome (logs self.old) (λ _. MatchResult result (λ _. log_at self.new ≡ path.now) (λ _. log_at self.new ≡ log_at self.old)) }
+        ensures log_faults { HasLogCause (log_faults self.old) (log_faults self.new) result }
+        ensures contents { contents self.new ≡ contents self.old }
+        ensures failed { IfSome (contents self.old) (λ _. failed_writes self.new ≡ failed_writes self.old) }
+        ensures open_at { IfSome (contents self.old) (λ _. open_at self.new ≡ open_at self.old) }
+        ensures reads { read_faults self.new ≡ read_faults self.old }
         ensures writes { write_faults self.new ≡ write_faults self.old };
 
     /// Takes the lanes of the relation that was opened last back: their blocks go to their places in its segments.
-    fn give_back(&mut self, lanes: Vec<Self::Lane>)
+    /// Takes the log that was opened last back too, if one is given: it stands at its path as it is now.
+    fn give_back(&mut self, lanes: Vec<Self::Lane>, log: Option<Self::Log>)
         ensures contents { contents self.new ≡ option_map (paths_after (open_at self.old) (map Self.Lane.contents lanes.items)) (contents self.old) }
         ensures failed { IfSome (contents self.old) (λ paths. paths (open_at self.old).path ≢ [] → failed_writes self.new ≡ marks_after (open_at self.old) (map Self.Lane.failed_writes lanes.items) (failed_writes self.old)) }
         ensures open_at { IfSome (contents self.old) (λ _. open_at self.new ≡ open_at self.old) }
+        ensures logs { logs self.new ≡ option_map (logs_after (log_at self.old) (given_log Self.Log.bytes Self.Log.synced log)) (logs self.old) }
+        ensures log_at { IfSome (logs self.old) (λ _. log_at self.new ≡ log_at self.old) }
+        ensures log_faults { Added (log_faults self.old) (option_map_or Self.Log.faults log 0) (log_faults self.new) }
         ensures reads { Added (read_faults self.old) (sum_by Self.Lane.read_faults lanes.items) (read_faults self.new) }
         ensures writes { Added (write_faults self.old) (sum_by Self.Lane.write_faults lanes.items) (write_faults self.new) };
 
     ghost read_faults_fit: { (host : Self) → read_faults host < 2 ^ 64 };
 
     ghost write_faults_fit: { (host : Self) → write_faults host < 2 ^ 64 };
+
+    ghost log_faults_fit: { (host : Self) → log_faults host < 2 ^ 64 };
 }

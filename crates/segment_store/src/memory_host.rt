@@ -1,11 +1,16 @@
 //! A host in memory.
-ghost use Rattle.std.specs.Prelude.{true, ◌↔◌, MatchResult, string_bytes, ◌≡◌, ◌≢◌, ◌+◌, ◌++◌, ◌==◌, ◌<◌, ◌≤◌, ◌*◌, ◌/◌, ◌^◌, ◌-◌, [], All, Some, IfOk, IfSome, IsErrOf, OnOk, OnErr, if◌then◌else◌, length, map, sum_by, vec_len};
-ghost use Rattle.segment_store.specs.Faults.{Added, HasOpeningCause};
+ghost use Rattle.std.specs.Option.{option_map_or};
+ghost use Rattle.std.specs.Prelude.{option_map, true, ◌↔◌, MatchResult, string_bytes, ◌≡◌, ◌≢◌, ◌+◌, ◌++◌, ◌==◌, ◌<◌, ◌≤◌, ◌*◌, ◌/◌, ◌^◌, ◌-◌, [], All, Some, IfOk, IfSome, IsErrOf, OnOk, if◌then◌else◌, length, map, sum_by, vec_len};
+ghost use Rattle.log_device.specs.Faults.{Added};
+ghost use Rattle.segment_store.specs.Faults.{HasOpeningCause};
 ghost use Rattle.segment_store.specs.Contents.{no_marks, with_page};
 ghost use Rattle.segment_store.specs.Lanes.{dealt, own_pages};
+ghost use Rattle.segment_store.specs.Logs.{HasLogCause, IsOpenedLog, empty_log, logs_after, with_log};
 ghost use Rattle.segment_store.specs.MemoryHost.{bytes_of, lanes_of, marks_at, open_now, openings_of, segments_at};
 ghost use Rattle.segment_store.specs.MemoryLane.{fresh_lane_plan, marks_of, pages_of, plan_of};
-ghost use Rattle.segment_store.specs.Plan.{after_call, fails_next};
+ghost use Rattle.segment_store.specs.MemoryLog.{logs_at, opened_at};
+ghost use Rattle.log_device.specs.MemoryLog.{appends_of, as_stored, room_of, syncs_of};
+ghost use Rattle.log_device.specs.Plan.{after_call, fails_next, fresh_plan};
 ghost use Rattle.segment_store.specs.Relation.{block_at, segment_pages, first_blocks, relation_of};
 ghost use Rattle.segment_store.specs.Opening.{IsOpened};
 ghost use Rattle.segment_store.specs.Paths.{fork_of};
@@ -14,14 +19,14 @@ ghost use Rattle.block_tag.specs.Names.{lane_number};
 ghost use Rattle.std.specs.List.{position};
 ghost use Rattle.std.specs.Str.{bytes_eq};
 
-use crate::count::FaultCount;
 use crate::device::BlockLane;
-use crate::host::{Host, HostError, Opened};
+use crate::host::{Host, HostError, LogOpen, Opened};
 use crate::memory_lane::{LanePlan, MemLane};
+use crate::memory_logs::MemLogs;
 use crate::paths::fork_of_path;
-use crate::plan::FaultPlan;
 use crate::restore::give_blocks_back;
 use block_tag::{Fork, RelNo, Tag, lane_of};
+use log_device::{FaultCount, FaultPlan, LogDevice, MemLog};
 use page_layout::{PAGE_SIZE, Page};
 use std::alloc::{AllocError, Global};
 
@@ -246,6 +251,7 @@ pub struct MemHost {
     files: Vec<MemFile>,
     openings: FaultPlan,
     lanes: LanePlan,
+    logs: MemLogs,
     open_path: String,
     open_seg_blocks: u32,
     read_faults: FaultCount,
@@ -253,12 +259,19 @@ pub struct MemHost {
 }
 
 impl MemHost {
-    /// A host with these files, in which these openings and these calls of each lane are to fail.
-    pub fn new(alloc: Global, files: Vec<MemFile>, openings: FaultPlan, lanes: LanePlan) -> MemHost
+    /// A host with these files and logs, in which these openings and these calls of each lane are to fail.
+    pub fn new(
+        alloc: Global,
+        files: Vec<MemFile>,
+        openings: FaultPlan,
+        lanes: LanePlan,
+        logs: MemLogs,
+    ) -> MemHost
         ensures contents { ⟦<MemHost as Host>⟧.contents result ≡ Some (segments_at files.items) }
         ensures failed { ⟦<MemHost as Host>⟧.failed_writes result ≡ marks_at files.items }
         ensures openings { openings_of result ≡ openings }
         ensures lanes { lanes_of result ≡ lanes }
+        ensures logs { result.logs ≡ logs }
         ensures reads { ⟦<MemHost as Host>⟧.read_faults result ≡ 0 }
         ensures writes { ⟦<MemHost as Host>⟧.write_faults result ≡ 0 }
     {
@@ -266,6 +279,7 @@ impl MemHost {
             files,
             openings,
             lanes,
+            logs,
             open_path: String::new(alloc),
             open_seg_blocks: 0,
             read_faults: FaultCount::new(),
@@ -283,7 +297,14 @@ impl MemHost {
         }
     }
 
-    /// How many openings failed, and reads of lanes that were given back.
+    /// The log at a path, as it was given back last: empty where none was since it was opened.
+    pub fn stored_log(&self, path: &str) -> Option<&MemLog>
+        ensures { IfSome (⟦<MemHost as Host>⟧.logs self.now) (λ logs. option_map (λ log. as_stored log.now) result ≡ logs path.now) }
+    {
+        self.logs.get(path)
+    }
+
+    /// How many openings of relations failed, and reads of lanes that were given back.
     pub fn read_faults(&self) -> u64
         ensures { result ≡ ⟦<MemHost as Host>⟧.read_faults self.now }
     {
@@ -295,6 +316,13 @@ impl MemHost {
         ensures { result ≡ ⟦<MemHost as Host>⟧.write_faults self.now }
     {
         self.write_faults.get()
+    }
+
+    /// How many openings of logs failed, and calls of logs that were given back.
+    pub fn log_faults(&self) -> u64
+        ensures { result ≡ ⟦<MemHost as Host>⟧.log_faults self.now }
+    {
+        self.logs.faults()
     }
 
     /// Opens the relation at a path as lanes.
@@ -356,15 +384,23 @@ impl MemHost {
 impl Host for MemHost {
     type Lane = MemLane;
 
+    type Log = MemLog;
+
     ghost contents = { λ h. Some (segments_at h.files.items) };
 
     ghost failed_writes = { λ h. marks_at h.files.items };
 
     ghost open_at = { open_now };
 
+    ghost logs = { λ h. Some (logs_at h.logs.files.items) };
+
+    ghost log_at = { λ h. opened_at h.logs };
+
     ghost read_faults = { λ h. h.read_faults.count };
 
     ghost write_faults = { λ h. h.write_faults.count };
+
+    ghost log_faults = { λ h. h.logs.faults.count };
 
     fn relation(
         &mut self,
@@ -382,6 +418,7 @@ impl Host for MemHost {
         ensures open_at { MatchResult result (λ _. open_now self.new ≡ record { path = path.now; seg_blocks = seg_blocks }) (λ _. open_now self.new ≡ open_now self.old) }
         ensures reads { HasOpeningCause self.old.read_faults.count self.new.read_faults.count result }
         ensures writes { self.new.write_faults ≡ self.old.write_faults }
+        ensures logs { self.new.logs ≡ self.old.logs }
         ensures fault { IsErrOf result HostError.Failed ↔ (fails_next (openings_of self.old) ≡ true) }
         ensures openings { openings_of self.new ≡ after_call (openings_of self.old) }
         ensures plan { IfOk result (λ opened. All (λ lane. plan_of lane ≡ fresh_lane_plan (lanes_of self.old)) opened.lanes.items) }
@@ -400,20 +437,49 @@ impl Host for MemHost {
         Ok(opened)
     }
 
-    fn give_back(&mut self, lanes: Vec<MemLane>)
+    /// Fails where the plan says so.
+    fn log(&mut self, alloc: Global, path: &str) -> Result<MemLog, LogOpen>
+        ensures opened { IfOk result (IsOpenedLog (λ l. Some (as_stored l).bytes) (λ l. (as_stored l).synced) (λ l. l.faults.count) (Some (logs_at self.old.logs.files.items))) }
+        ensures room { IfOk result (λ log. room_of log ≡ self.old.logs.room) }
+        ensures appends { IfOk result (λ log. appends_of log ≡ fresh_plan self.old.logs.calls.appends) }
+        ensures syncs { IfOk result (λ log. syncs_of log ≡ fresh_plan self.old.logs.calls.syncs) }
+        ensures logs { MatchResult result (λ _. Some (logs_at self.new.logs.files.items) ≡ Some (with_log path.now empty_log (logs_at self.old.logs.files.items))) (λ _. Some (logs_at self.new.logs.files.items) ≡ Some (logs_at self.old.logs.files.items)) }
+        ensures log_at { MatchResult result (λ _. opened_at self.new.logs ≡ path.now) (λ _. opened_at self.new.logs ≡ opened_at self.old.logs) }
+        ensures fault { IsErrOf result LogOpen.Failed ↔ (fails_next self.old.logs.openings ≡ true) }
+        ensures openings { self.new.logs.openings ≡ after_call self.old.logs.openings }
+        ensures log_faults { HasLogCause self.old.logs.faults.count self.new.logs.faults.count result }
+        ensures log_room { self.new.logs.room ≡ self.old.logs.room }
+        ensures log_calls { self.new.logs.calls ≡ self.old.logs.calls }
+        ensures same { self.new ≡ record self.old { logs = self.new.logs } }
+    {
+        self.logs.open(alloc, path)
+    }
+
+    fn give_back(&mut self, lanes: Vec<MemLane>, log: Option<MemLog>)
         ensures contents { Some (segments_at self.new.files.items) ≡ Some (paths_after (open_now self.old) (map (λ lane. Some (pages_of lane)) lanes.items) (segments_at self.old.files.items)) }
         ensures failed { segments_at self.old.files.items (string_bytes self.old.open_path) ≢ [] → marks_at self.new.files.items ≡ marks_after (open_now self.old) (map marks_of lanes.items) (marks_at self.old.files.items) }
         ensures open_at { open_now self.new ≡ open_now self.old }
         ensures openings { openings_of self.new ≡ openings_of self.old }
+        ensures logs { logs_at self.new.logs.files.items ≡ logs_after (opened_at self.old.logs) (option_map as_stored log) (logs_at self.old.logs.files.items) }
+        ensures log_faults { Added self.old.logs.faults.count (option_map_or (λ l. l.faults.count) log 0) self.new.logs.faults.count }
+        ensures log_at { opened_at self.new.logs ≡ opened_at self.old.logs }
+        ensures log_openings { self.new.logs.openings ≡ self.old.logs.openings }
+        ensures log_calls { self.new.logs.calls ≡ self.old.logs.calls }
+        ensures log_room { self.new.logs.room ≡ self.old.logs.room }
         ensures reads { Added self.old.read_faults.count (sum_by (λ lane. lane.read_faults.count) lanes.items) self.new.read_faults.count }
         ensures writes { Added self.old.write_faults.count (sum_by (λ lane. lane.write_faults.count) lanes.items) self.new.write_faults.count }
     {
         count_reads(&mut self.read_faults, &lanes);
         count_writes(&mut self.write_faults, &lanes);
         self.take_lanes(lanes);
+        if let Some(log) = log {
+            self.logs.take_back(log);
+        }
     }
 
     ghost read_faults_fit = { λ h. h.read_faults.fits };
 
     ghost write_faults_fit = { λ h. h.write_faults.fits };
+
+    ghost log_faults_fit = { λ h. h.logs.faults.fits };
 }

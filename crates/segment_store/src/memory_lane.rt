@@ -1,16 +1,14 @@
 //! A lane in memory.
-ghost use Rattle.std.specs.Prelude.{IsSome, option_map, length, ◌≡◌, ◌+◌, ◌&&◌, Some, IfOk, IfSome, MatchResult, OnOk, OnErr, is_ok, is_some, not, nat_lt, true, false};
+ghost use Rattle.std.specs.Prelude.{IsSome, option_map, length, ◌≡◌, Some, IfOk, OnOk, OnErr, is_ok, not, true, false};
 ghost use Rattle.std.specs.Option.{ForSome};
-ghost use Rattle.segment_store.specs.Faults.{HasCause};
+ghost use Rattle.log_device.specs.Faults.{HasCause};
 ghost use Rattle.segment_store.specs.Contents.{Writes, no_marks, no_pages, with_mark, with_page};
-ghost use Rattle.segment_store.specs.Memory.{torn_page};
-ghost use Rattle.segment_store.specs.MemoryLane.{fresh_lane_plan, marks_of, pages_of, plan_of};
-ghost use Rattle.segment_store.specs.Plan.{after_call, fails_next};
+ghost use Rattle.segment_store.specs.MemoryLane.{fresh_lane_plan, marks_of, pages_of, plan_of, torn_page};
+ghost use Rattle.log_device.specs.Plan.{after_call, fails_next};
 
-use crate::count::FaultCount;
-use crate::device::{BlockLane, Failed};
-use crate::plan::FaultPlan;
+use crate::device::BlockLane;
 use block_tag::Tag;
+use log_device::{Failed, FaultCount, FaultPlan};
 use page_layout::{PAGE_SIZE, Page};
 use std::alloc::{AllocError, Global};
 use std::collections::BTreeMap;

@@ -1,15 +1,14 @@
 //! Failures that leave a part, and real files and streams.
 use crate::{
-    BlockLane, Failed, FaultPlan, FileHost, Host, HostError, LanePlan, MemFile, MemHost, MemLane,
-    MemSink, Sink, StdSink,
+    BlockLane, FileHost, Host, HostError, LanePlan, LogOpen, MemFile, MemHost, MemLane, MemLogs,
 };
 use block_tag::{Fork, RelNo, Tag};
+use log_device::{Failed, FaultPlan, LogDevice, LogPlan};
 use page_layout::Page;
 use std::alloc::{AllocError, Global};
-use std::io::Write;
 use std::process::Abort;
 use std::test::Fail;
-use std::{fs, io, process};
+use std::{fs, process};
 
 fn tag(block: u32) -> Tag {
     Tag {
@@ -24,46 +23,6 @@ fn page_of(alloc: Global, byte: u8) -> Result<Page, AllocError> {
     let mut page = Page::zeroed(alloc)?;
     page.fill(&[byte; 8192]);
     Ok(page)
-}
-
-#[test]
-fn sink_in_memory(rt: HostRuntime) -> Result<(), Fail> {
-    let alloc = rt.alloc();
-    let puts = FaultPlan::new(vec![in alloc; 2u64; 1]?);
-    let mut sink = MemSink::new(alloc, 10, puts)?;
-    assert!(rt; sink.put(b"abc").is_ok());
-    assert!(rt; sink.put(b"defg").is_err());
-    assert!(rt; sink.put(b"hijklmnop").is_err());
-    assert!(rt; sink.put(b"").is_ok());
-    assert_eq!(rt; sink.bytes(), b"abcdehijkl".as_slice());
-    assert_eq!(rt; sink.faults(), 2);
-    Ok(())
-}
-
-/// A writer that takes at most three bytes a call, and no more than so many in all.
-#[derive(Drop)]
-struct Narrow {
-    left: usize,
-}
-
-impl Write for Narrow {
-    fn write(&mut self, buf: &[u8]) -> io::Result<usize> {
-        let taken = buf.len().min(3).min(self.left);
-        self.left -= taken;
-        Ok(taken)
-    }
-
-    fn flush(&mut self) -> io::Result<()> {
-        Ok(())
-    }
-}
-
-#[test]
-fn sink_over_a_writer(rt: HostRuntime) {
-    let mut sink = StdSink::new(Narrow { left: 8 });
-    assert!(rt; sink.put(b"7 bytes").is_ok());
-    assert!(rt; sink.put(b"more").is_err());
-    assert_eq!(rt; sink.faults(), 1);
 }
 
 fn write_own(lane: &mut MemLane, tag: Tag, page: &Page) -> Option<Result<(), Failed>> {
@@ -98,7 +57,9 @@ fn host_with(alloc: Global, segments: Vec<Vec<u8>>) -> Result<MemHost, AllocErro
         writes: FaultPlan::new(vec![in alloc; 2u64; 1]?),
         syncs: FaultPlan::new(vec![in alloc; 1u64; 1]?),
     };
-    Ok(MemHost::new(alloc, files, openings, lanes))
+    let log_openings = FaultPlan::new(vec![in alloc; 2u64; 1]?);
+    let logs = MemLogs::new(alloc, 8, log_openings, LogPlan::none(alloc));
+    Ok(MemHost::new(alloc, files, openings, lanes, logs))
 }
 
 #[test]
@@ -143,7 +104,7 @@ fn lanes_are_given_back(rt: HostRuntime) -> Result<(), Fail> {
     if let Some(lane) = opened.lanes.first_mut() {
         use_lane(&rt, alloc, lane)?;
     }
-    host.give_back(opened.lanes);
+    host.give_back(opened.lanes, None);
     assert_eq!(rt; (host.read_faults(), host.write_faults()), (1, 2));
     let segments = host.segments("base/5/16384");
     assert_eq!(rt; segments.len(), 2);
@@ -159,6 +120,32 @@ fn lanes_are_given_back(rt: HostRuntime) -> Result<(), Fail> {
         [8, 8, 3, 2]
     );
     assert_eq!(rt; (full.len(), short.len()), (16384, 8292));
+    Ok(())
+}
+
+/// The bytes of the log at the path `log`, and how many of them are durable.
+fn log_of(host: &MemHost) -> Option<(&[u8], usize)> {
+    host.stored_log("log")
+        .map(|log| (log.bytes(), log.synced()))
+}
+
+#[test]
+fn logs_are_given_back(rt: HostRuntime) -> Result<(), Fail> {
+    let alloc = rt.alloc();
+    let mut host = host_with(alloc, two_segments(alloc)?)?;
+    assert_eq!(rt; log_of(&host), None);
+    let mut log = host.log(alloc, "log")?;
+    assert_eq!(rt; (log.append(b"one"), log.sync()), (Ok(()), Ok(())));
+    assert_eq!(rt; log.append(b"of nine"), Err(Failed));
+    assert_eq!(rt; log_of(&host), Some((b"".as_slice(), 0)));
+    host.give_back(Vec::new(alloc), Some(log));
+    assert_eq!(rt; log_of(&host), Some((b"oneof n".as_slice(), 3)));
+    assert_eq!(rt; host.log(alloc, "log").err(), Some(LogOpen::Failed));
+    assert_eq!(rt; log_of(&host), Some((b"oneof n".as_slice(), 3)));
+    assert_eq!(rt; host.log_faults(), 2);
+    let again = host.log(alloc, "log")?;
+    assert_eq!(rt; (again.bytes(), again.synced()), (b"".as_slice(), 0));
+    assert_eq!(rt; log_of(&host), Some((b"".as_slice(), 0)));
     Ok(())
 }
 
@@ -191,12 +178,30 @@ fn host_over_files(rt: HostRuntime) -> Result<(), Fail> {
     for lane in opened.lanes.as_mut_slice() {
         assert_eq!(rt; lane.read(tag(2), &mut page), Err(Failed));
     }
-    host.give_back(opened.lanes);
+    host.give_back(opened.lanes, None);
     assert_eq!(rt; (host.read_faults(), host.write_faults()), (6, 0));
     let stored = fs::read(&rt, path.as_str())?;
     assert_eq!(rt; bytes_at(&stored, [8191, 8192, 16383, 16384]), [1, 2, 2, 0]);
     fs::remove_file(&rt, path.as_str())?;
     fs::remove_file(&rt, second.as_str())?;
+    Ok(())
+}
+
+#[test]
+fn log_over_a_file(rt: HostRuntime) -> Result<(), Fail> {
+    let id = process::id(rt.process());
+    let path = format!(in rt.alloc(); "/tmp/segment-store-log-{id}")?;
+    fs::write(&rt, path.as_str(), "what was there before")?;
+    let mut host = FileHost::new(&rt);
+    assert_eq!(rt; host.log(rt.alloc(), "/tmp").err(), Some(LogOpen::Failed));
+    let mut log = host.log(rt.alloc(), path.as_str())?;
+    assert_eq!(rt; (log.append(b"one"), log.append(b" two")), (Ok(()), Ok(())));
+    assert_eq!(rt; (log.sync(), log.faults()), (Ok(()), 0));
+    host.give_back(Vec::new(rt.alloc()), Some(log));
+    assert_eq!(rt; host.log_faults(), 1);
+    let stored = fs::read(&rt, path.as_str())?;
+    assert_eq!(rt; stored.as_slice(), b"one two".as_slice());
+    fs::remove_file(&rt, path.as_str())?;
     Ok(())
 }
 

@@ -1,6 +1,6 @@
 use Rattle.history_core.proofs.Laws.{laws_after, laws_open, laws}
 use Rattle.pin_core.proofs.Schedules as pins
-use Rattle.history_core.proofs.Histories.{reached, legal, own, apart, fronts, in_order, go_out_flushed, loaded_flushed, noted_done, log_held, entries, reads_stand, writes_stand, log_first, lanes_hold, clean_stored, sound, hold_cells, words, held, durable, device_holds}
+use Rattle.history_core.proofs.Histories.{legal, at_base, syncs, own, apart, fronts, in_order, go_out_flushed, loaded_flushed, noted_done, log_held, entries, reads_stand, writes_stand, log_first, lanes_hold, clean_stored, sound, hold_cells, words, held, durable, device_holds}
 use Rattle.history_core.proofs.Staying.{calls_stay}
 use Rattle.history_core.proofs.KeptFlushed.{holds_keep}
 use Rattle.history_core.proofs.all_histories.Goals as goal
@@ -15,76 +15,82 @@ pub returns-clause-opens : goal.returns-clause-opens
 returns-clause-opens c = laws_open
 
 pub returns-clause-legal : goal.returns-clause-legal
-returns-clause-legal c = λ s r. legal s (reached s r)
+returns-clause-legal c = λ s r. legal s r.invariant
 
 pub returns-clause-fronts : goal.returns-clause-fronts
-returns-clause-fronts c = λ s r. fronts s (reached s r)
+returns-clause-fronts c = λ s r. fronts s r.invariant
 
 pub returns-clause-entries : goal.returns-clause-entries
-returns-clause-entries c = λ s r. entries s (reached s r)
+returns-clause-entries c = λ s r. entries s r.invariant
 
 pub returns-clause-reads_stand : goal.returns-clause-reads_stand
-returns-clause-reads_stand c = λ s r. reads_stand s (reached s r)
+returns-clause-reads_stand c = λ s r. reads_stand s r.invariant
 
 pub returns-clause-writes_stand : goal.returns-clause-writes_stand
-returns-clause-writes_stand c = λ s r. writes_stand s (reached s r)
+returns-clause-writes_stand c = λ s r. writes_stand s r.invariant
 
 pub returns-clause-log_first : goal.returns-clause-log_first
-returns-clause-log_first c = λ s r. log_first s (reached s r)
+returns-clause-log_first c = λ s r. log_first s r.invariant
 
 pub returns-clause-lanes_hold : goal.returns-clause-lanes_hold
-returns-clause-lanes_hold c = λ s r. lanes_hold s (reached s r)
+returns-clause-lanes_hold c = λ s r. lanes_hold s r.invariant
 
 pub returns-clause-clean_stored : goal.returns-clause-clean_stored
-returns-clause-clean_stored c = λ s r. clean_stored s (reached s r)
+returns-clause-clean_stored c = λ s r. clean_stored s r.invariant
 
 pub returns-clause-words : goal.returns-clause-words
-returns-clause-words c = λ s r. words s (reached s r)
+returns-clause-words c = λ s r. words s r.invariant
 
 pub returns-clause-held : goal.returns-clause-held
-returns-clause-held c = λ s r. held s (reached s r)
+returns-clause-held c = λ s r. held s r.invariant
 
 pub returns-clause-sound : goal.returns-clause-sound
-returns-clause-sound c = λ s r. sound s (reached s r)
+returns-clause-sound c = λ s r. sound s r.invariant
 
 pub returns-clause-hold_cells : goal.returns-clause-hold_cells
-returns-clause-hold_cells c = λ s r. hold_cells s (reached s r)
+returns-clause-hold_cells c = λ s r. hold_cells s r.invariant
 
 pub returns-clause-unique : goal.returns-clause-unique
-returns-clause-unique c = λ s r. pins.unique s.pool.core (reached s r).pool.core
+returns-clause-unique c = λ s r. pins.unique s.pool.core r.invariant.pool.core
 
 pub returns-clause-remembers : goal.returns-clause-remembers
-returns-clause-remembers c = λ s r. pins.remembers s.pool.core (reached s r).pool.core
+returns-clause-remembers c = λ s r. pins.remembers s.pool.core r.invariant.pool.core
 
 pub returns-clause-durable : goal.returns-clause-durable
-returns-clause-durable c = λ s r. durable s (reached s r)
+returns-clause-durable c = λ s r. durable s r.invariant
 
 pub returns-clause-device_holds : goal.returns-clause-device_holds
-returns-clause-device_holds c = λ s r. device_holds s (reached s r) (laws s r).rest
+returns-clause-device_holds c = λ s r. device_holds s r.invariant r.rest
 
 pub returns-clause-in_order : goal.returns-clause-in_order
-returns-clause-in_order c = λ s r. in_order s (reached s r)
+returns-clause-in_order c = λ s r. in_order s r.invariant
 
 pub returns-clause-go_out_flushed : goal.returns-clause-go_out_flushed
-returns-clause-go_out_flushed c = λ s r. go_out_flushed s (reached s r)
+returns-clause-go_out_flushed c = λ s r. go_out_flushed s r.invariant
 
 pub returns-clause-loaded : goal.returns-clause-loaded
-returns-clause-loaded c = λ s r. loaded_flushed s (reached s r)
+returns-clause-loaded c = λ s r. loaded_flushed s r.invariant
 
 pub returns-clause-noted_done : goal.returns-clause-noted_done
-returns-clause-noted_done c = λ s r. noted_done s (reached s r)
+returns-clause-noted_done c = λ s r. noted_done s r.invariant
 
 pub returns-clause-log_held : goal.returns-clause-log_held
-returns-clause-log_held c = λ s r. log_held s (reached s r)
+returns-clause-log_held c = λ s r. log_held s r.invariant
 
 pub returns-clause-calls_stay : goal.returns-clause-calls_stay
 returns-clause-calls_stay c = calls_stay
 
 pub returns-clause-own : goal.returns-clause-own
-returns-clause-own c = λ s r. own s (reached s r)
+returns-clause-own c = λ s r. own s r.invariant
 
 pub returns-clause-apart : goal.returns-clause-apart
-returns-clause-apart c = λ s r. apart s (reached s r)
+returns-clause-apart c = λ s r. apart s r.invariant
 
 pub returns-clause-laws : goal.returns-clause-laws
 returns-clause-laws c = laws
+
+pub returns-clause-at_base : goal.returns-clause-at_base
+returns-clause-at_base c = λ s r. at_base s r.invariant
+
+pub returns-clause-syncs : goal.returns-clause-syncs
+returns-clause-syncs c = syncs

@@ -1,6 +1,5 @@
 use Rattle.history_core.proofs.Promises.{checkpoints_store}
-use Rattle.history_core.proofs.Laws.{laws}
 use Rattle.history_core.proofs.checkpoints_store.Goals as goal
 
 pub returns : goal.returns
-returns c = λ s r. checkpoints_store s (laws s r).invariant (laws s r).debts
+returns c = λ s r. checkpoints_store s r.invariant r.debts

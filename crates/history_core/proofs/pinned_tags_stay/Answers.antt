@@ -1,6 +1,5 @@
 use Rattle.history_core.proofs.PinsStay.{pinned_stay}
-use Rattle.history_core.proofs.Laws.{laws}
 use Rattle.history_core.proofs.pinned_tags_stay.Goals as goal
 
 pub returns : goal.returns
-returns c = λ s r. pinned_stay s (laws s r).invariant
+returns c = λ s r. pinned_stay s r.invariant

@@ -3,7 +3,7 @@ use Rattle.std.specs.List.{position}
 use Rattle.std.specs.Vec.{with_items}
 use Rattle.block_tag.specs.declared.tag.Fork.{Fork}
 use Rattle.segment_store.specs.Lanes.{mark_in, tag_at}
-use Rattle.segment_store.specs.MemoryHost.{bytes_of, segments_at}
+use Rattle.segment_store.specs.MemoryHost.{bytes_of, file_path, segments_at}
 use Rattle.segment_store.specs.MemoryLane.{marks_of, pages_of}
 use Rattle.segment_store.specs.Paths.{fork_of}
 use Rattle.segment_store.specs.Restored.{given_back}
@@ -23,10 +23,10 @@ returns-in-Some-clause-contents c =
     let was = c.index_mut-file.result.now in
     let new = c.give_blocks_back.new.segments in
     let other : MemFile = record { path = was.path; segments = with_items was.segments new; returned = c.args.lanes } in
-    let found : Some c.in-Some.index ≡ position (has_path path) files =
-    c.in-Some.ensures ∙ ap₂ (λ (p : List ℕ) (l : List MemFile). position (has_path p) l) c.deref-3.ensures c.deref-2.ensures.value in
-    let first = is_first path files c.in-Some.index found in
-    let named : string_bytes other.path ≡ path = ap (λ (f : MemFile). string_bytes f.path) c.index_mut-file.ensures.value ∙ first_named path files c.in-Some.index was first in
+    let found : Some c.in-Some.index ≡ position (has_path file_path path) files =
+    c.in-Some.ensures ∙ ap₂ (λ (p : List ℕ) (l : List MemFile). position (has_path file_path p) l) c.deref-3.ensures c.deref-2.ensures.value in
+    let first = is_first file_path path files c.in-Some.index found in
+    let named : string_bytes other.path ≡ path = ap (λ (f : MemFile). string_bytes f.path) c.index_mut-file.ensures.value ∙ first_named file_path path files c.in-Some.index was first in
     let put : bytes_of other.segments.items ≡ given_back (fork_of path) seg_blocks lanes (segments_at files path) =
     ap (λ (l : List (Vec ℕ Global)). bytes_of l) (take_prefix new (drop (length new) was.segments.items) was.segments.len (c.give_blocks_back.auto.segments ∙ c.as_mut_slice.ensures.len))
     ∙ c.give_blocks_back.ensures
@@ -34,8 +34,8 @@ returns-in-Some-clause-contents c =
     (c.fork_of_path-fork.ensures ∙ ap (λ (p : List ℕ). fork_of p) c.deref.ensures) c.deref-in-Some.ensures.value
     ∙ ap (λ (l : List (List ℕ)). given_back (fork_of path) seg_blocks lanes l)
     (ap (λ (l : List (Vec ℕ Global)). bytes_of l) (c.as_mut_slice.ensures.value ∙ ap (λ (f : MemFile). f.segments.items) c.index_mut-file.ensures.value)
-    ∙ sym (read_first path (λ file. bytes_of file.segments.items) [] files c.in-Some.index was first)) in
-    λ i p. read_becomes path (λ file. bytes_of file.segments.items) [] files c.in-Some.index other p (given_back (fork_of path) seg_blocks lanes (segments_at files p)) first named
+    ∙ sym (read_first file_path path (λ file. bytes_of file.segments.items) [] files c.in-Some.index was first)) in
+    λ i p. read_becomes file_path path (λ file. bytes_of file.segments.items) [] files c.in-Some.index other p (given_back (fork_of path) seg_blocks lanes (segments_at files p)) first named
     (λ same. put ∙ ap (λ (q : List ℕ). given_back (fork_of path) seg_blocks lanes (segments_at files q)) (sym same)) i
 
 pub returns-in-Some-clause-failed : goal.returns-in-Some-clause-failed
@@ -44,11 +44,11 @@ returns-in-Some-clause-failed c there =
     let path = string_bytes c.args.self.now.open_path in
     let was = c.index_mut-file.result.now in
     let other : MemFile = record { path = was.path; segments = with_items was.segments c.give_blocks_back.new.segments; returned = c.args.lanes } in
-    let found : Some c.in-Some.index ≡ position (has_path path) files =
-    c.in-Some.ensures ∙ ap₂ (λ (p : List ℕ) (l : List MemFile). position (has_path p) l) c.deref-3.ensures c.deref-2.ensures.value in
-    let first = is_first path files c.in-Some.index found in
-    let named : string_bytes other.path ≡ path = ap (λ (f : MemFile). string_bytes f.path) c.index_mut-file.ensures.value ∙ first_named path files c.in-Some.index was first in
-    λ i p. read_becomes path (λ file. λ block. mark_in (map marks_of file.returned.items) (tag_at (fork_of p) block)) (λ block. false) files c.in-Some.index other p
+    let found : Some c.in-Some.index ≡ position (has_path file_path path) files =
+    c.in-Some.ensures ∙ ap₂ (λ (p : List ℕ) (l : List MemFile). position (has_path file_path p) l) c.deref-3.ensures c.deref-2.ensures.value in
+    let first = is_first file_path path files c.in-Some.index found in
+    let named : string_bytes other.path ≡ path = ap (λ (f : MemFile). string_bytes f.path) c.index_mut-file.ensures.value ∙ first_named file_path path files c.in-Some.index was first in
+    λ i p. read_becomes file_path path (λ file. λ block. mark_in (map marks_of file.returned.items) (tag_at (fork_of p) block)) (λ block. false) files c.in-Some.index other p
     (λ block. mark_in (map marks_of c.args.lanes.items) (tag_at (fork_of path) block)) first named
     (λ same. ap (λ (q : List ℕ). λ (block : ℕ). mark_in (map marks_of c.args.lanes.items) (tag_at (fork_of q) block)) same) i
 
@@ -58,17 +58,17 @@ returns-in_default-clause-contents c =
     let path = string_bytes c.args.self.now.open_path in
     let seg_blocks = c.args.self.now.open_seg_blocks in
     let lanes = map (λ lane. Some (pages_of lane)) c.args.lanes.items in
-    let none : None ≡ position (has_path path) files =
-    c.in_default.ensures ∙ ap₂ (λ (p : List ℕ) (l : List MemFile). position (has_path p) l) c.deref-3.ensures c.deref-2.ensures.value in
-    λ i p. read_absent path (λ file. bytes_of file.segments.items) [] files p (given_back (fork_of path) seg_blocks lanes (segments_at files p)) none
+    let none : None ≡ position (has_path file_path path) files =
+    c.in_default.ensures ∙ ap₂ (λ (p : List ℕ) (l : List MemFile). position (has_path file_path p) l) c.deref-3.ensures c.deref-2.ensures.value in
+    λ i p. read_absent file_path path (λ file. bytes_of file.segments.items) [] files p (given_back (fork_of path) seg_blocks lanes (segments_at files p)) none
     (λ same. sym (ap (λ (q : List ℕ). given_back (fork_of path) seg_blocks lanes (segments_at files q)) same
-    ∙ ap (λ (l : List (List ℕ)). given_back (fork_of path) seg_blocks lanes l) (read_none path (λ file. bytes_of file.segments.items) [] files none)
+    ∙ ap (λ (l : List (List ℕ)). given_back (fork_of path) seg_blocks lanes l) (read_none file_path path (λ file. bytes_of file.segments.items) [] files none)
     ∙ given_back_none (fork_of path) seg_blocks lanes)) i
 
 pub returns-in_default-clause-failed : goal.returns-in_default-clause-failed
 returns-in_default-clause-failed c there =
     let files = c.args.self.now.files.items in
     let path = string_bytes c.args.self.now.open_path in
-    let none : None ≡ position (has_path path) files =
-    c.in_default.ensures ∙ ap₂ (λ (p : List ℕ) (l : List MemFile). position (has_path p) l) c.deref-3.ensures c.deref-2.ensures.value in
-    absurd (there (read_none path (λ file. bytes_of file.segments.items) [] files none))
+    let none : None ≡ position (has_path file_path path) files =
+    c.in_default.ensures ∙ ap₂ (λ (p : List ℕ) (l : List MemFile). position (has_path file_path p) l) c.deref-3.ensures c.deref-2.ensures.value in
+    absurd (there (read_none file_path path (λ file. bytes_of file.segments.items) [] files none))

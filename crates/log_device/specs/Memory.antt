@@ -1,7 +1,7 @@
--- Lanes and sinks in memory.
-use Rattle.std.specs.Prelude.{ℕ, ◌+◌, ◌-◌, ◌/◌, ◌%◌, Bool, ◌&&◌, not, nat_le, List, length, take, min, get_or, slice_set}
-use Rattle.segment_store.specs.declared.count.FaultCount.{FaultCount}
-use Rattle.segment_store.specs.Plan.{Plan, fails_next}
+-- Sinks in memory.
+use Rattle.std.specs.Prelude.{ℕ, ◌+◌, ◌-◌, ◌/◌, Bool, ◌&&◌, not, nat_le, List, length, take, min}
+use Rattle.log_device.specs.declared.count.FaultCount.{FaultCount}
+use Rattle.log_device.specs.Plan.{Plan, fails_next}
 
 -- the bytes of a sink, how many it has room for in all, which puts are to fail, and its count of faults
 pub record SinkState : Type 0 where
@@ -17,7 +17,3 @@ takes_piece sink piece = not (fails_next sink.puts) && nat_le (length sink.bytes
 -- what a failed put adds of its piece: the first half, rounded up, as far as there is room
 abbrev pub prefix_of : SinkState → List ℕ → List ℕ
 prefix_of sink piece = take (min (sink.room - length sink.bytes) ((length piece + 1) / 2)) piece
-
--- what a failed write leaves: the page as it was to be, but for its last byte, which is one more than it was
-abbrev pub torn_page : List ℕ → List ℕ → List ℕ
-torn_page old new = slice_set new 8191 ((get_or old 8191 0 + 1) % 256)

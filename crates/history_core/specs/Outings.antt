@@ -1,0 +1,18 @@
+-- What a backend that has the log's device out knows of it.
+use Rattle.std.specs.Prelude.{◌≡◌, ℕ, List, Some}
+use mathlib.Core.Option.{some}
+use lib.ListN.{get_elem?}
+use Rattle.pin_core.specs.declared.view.LogChange.TheVariants.{Untouched}
+use Rattle.pin_core.specs.declared.view.TakenLog.{TakenLog}
+use Rattle.pin_core.specs.declared.view.View.{View}
+use Rattle.history_core.specs.State.{Device, State}
+
+-- The device is as it was when it went out
+pub record IsAsTaken (taken : TakenLog) (d : Device) : Type 0 where
+  pub bytes : (bytes : List ℕ) → taken.bytes ≡ Some bytes → bytes ≡ d.bytes
+  pub synced : d.synced ≡ taken.synced
+  pub down : d.down ≡ taken.down
+
+-- until the holder's call it is so
+abbrev pub OutingsLaw : State → Type 0
+OutingsLaw s = (i : ℕ) (v : View) (taken : TakenLog) → get_elem? s.pool.core.views i ≡ some v → v.log.out ≡ Some taken → v.log.change ≡ Untouched → IsAsTaken taken s.device

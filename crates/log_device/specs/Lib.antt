@@ -1,0 +1,5 @@
+pub mod Faults
+pub mod Bytes
+pub mod Plan
+pub mod Memory
+pub mod MemoryLog

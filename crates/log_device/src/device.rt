@@ -1,0 +1,57 @@
+//! Logs, and sinks of bytes.
+ghost use Rattle.std.specs.Prelude.{◌≡◌, ◌<◌, ◌≤◌, ◌^◌, ℕ, List, Option, IfSome, length};
+ghost use Rattle.log_device.specs.Bytes.{Puts, Syncs};
+ghost use Rattle.log_device.specs.Faults.{HasCause};
+
+use thiserror::Error;
+
+/// A call failed, and a count of faults rose.
+#[derive(Clone, Copy, PartialEq, Eq, Debug, Error)]
+#[error("the device failed")]
+pub struct Failed;
+
+/// A log: bytes that are appended one piece after another, the first of which are durable.
+///
+/// A call leaves what its clauses don't name as it was. The count never falls, and rises only in a call that fails.
+pub trait LogDevice {
+    /// The bytes so far, where the contents are known.
+    ghost bytes: { Self → Option (List ℕ) };
+
+    /// How many of the bytes a sync has made durable; it says something only where the contents are known.
+    ghost synced: { Self → ℕ };
+
+    /// How many calls failed.
+    ghost faults: { Self → ℕ };
+
+    /// Adds the piece; a failed call adds a prefix of it. What is added isn't durable before a sync.
+    fn append(&mut self, piece: &[u8]) -> Result<(), Failed>
+        ensures bytes { Puts piece.now (bytes self.old) (bytes self.new) result }
+        ensures synced { IfSome (bytes self.old) (λ _. synced self.new ≡ synced self.old) }
+        ensures faults { HasCause (faults self.old) (faults self.new) result };
+
+    /// Makes all bytes so far durable. After a failed call no more of them are taken as durable than before.
+    fn sync(&mut self) -> Result<(), Failed>
+        ensures bytes { bytes self.new ≡ bytes self.old }
+        ensures synced { IfSome (bytes self.old) (λ known. Syncs known (synced self.old) (synced self.new) result) }
+        ensures faults { HasCause (faults self.old) (faults self.new) result };
+
+    ghost faults_fit: { (log : Self) → faults log < 2 ^ 64 };
+
+    ghost synced_within: { (log : Self) → IfSome (bytes log) (λ known. synced log ≤ length known) };
+}
+
+/// Bytes that are written one piece after another.
+pub trait Sink {
+    /// The bytes so far, where the contents are known.
+    ghost bytes: { Self → Option (List ℕ) };
+
+    /// How many calls failed.
+    ghost faults: { Self → ℕ };
+
+    /// Adds the piece; a failed call adds a prefix of it.
+    fn put(&mut self, piece: &[u8]) -> Result<(), Failed>
+        ensures bytes { Puts piece.now (bytes self.old) (bytes self.new) result }
+        ensures faults { HasCause (faults self.old) (faults self.new) result };
+
+    ghost faults_fit: { (sink : Self) → faults sink < 2 ^ 64 };
+}

@@ -1,0 +1,113 @@
+//! A log over a file, and a sink over a writer, whose contents aren't known.
+ghost use Rattle.std.specs.Prelude.{◌≡◌, None, OnOk};
+ghost use Rattle.std.specs.Io.KnownBytes.{Appends};
+ghost use Rattle.log_device.specs.Bytes.{Puts};
+ghost use Rattle.log_device.specs.Faults.{HasCause};
+
+use crate::count::FaultCount;
+use crate::device::{Failed, LogDevice, Sink};
+use std::fs::OpenFile;
+use std::io::Write;
+
+/// A log over a file.
+#[derive(Drop)]
+pub struct FileLog<F: Drop> {
+    file: F,
+    faults: FaultCount,
+}
+
+impl<F: Write + OpenFile + Drop> FileLog<F> {
+    /// A log over an empty file that is open for writing.
+    pub fn new(file: F) -> FileLog<F>
+        ensures { ⟦<FileLog<F> as LogDevice>⟧.faults result ≡ 0 }
+    {
+        FileLog {
+            file,
+            faults: FaultCount::new(),
+        }
+    }
+
+    /// How many calls failed.
+    pub fn faults(&self) -> u64
+        ensures { result ≡ ⟦<FileLog<F> as LogDevice>⟧.faults self.now }
+    {
+        self.faults.get()
+    }
+}
+
+impl<F: Write + OpenFile + Drop> LogDevice for FileLog<F> {
+    ghost bytes = { λ l. None };
+
+    ghost synced = { λ l. 0 };
+
+    ghost faults = { λ l. l.faults.count };
+
+    fn append(&mut self, piece: &[u8]) -> Result<(), Failed>
+        ensures bytes { Puts piece.now None None result }
+        ensures faults { HasCause self.old.faults.count self.new.faults.count result }
+        ensures written { OnOk result (Appends (F.contents self.old.file) (F.contents self.new.file) piece.now) }
+    {
+        if self.file.write_all(piece).is_ok() {
+            return Ok(());
+        }
+        self.faults.raise();
+        Err(Failed)
+    }
+
+    fn sync(&mut self) -> Result<(), Failed> {
+        if self.file.sync_all().is_ok() {
+            return Ok(());
+        }
+        self.faults.raise();
+        Err(Failed)
+    }
+
+    ghost faults_fit = { λ l. l.faults.fits };
+
+    ghost synced_within = { λ l. tt };
+}
+
+/// A sink over a writer.
+#[derive(Drop)]
+pub struct StdSink<W: Write + Drop> {
+    writer: W,
+    faults: FaultCount,
+}
+
+impl<W: Write + Drop> StdSink<W> {
+    pub fn new(writer: W) -> StdSink<W>
+        ensures { ⟦<StdSink<W> as Sink>⟧.faults result ≡ 0 }
+    {
+        StdSink {
+            writer,
+            faults: FaultCount::new(),
+        }
+    }
+
+    /// How many puts failed.
+    pub fn faults(&self) -> u64
+        ensures { result ≡ ⟦<StdSink<W> as Sink>⟧.faults self.now }
+    {
+        self.faults.get()
+    }
+}
+
+impl<W: Write + Drop> Sink for StdSink<W> {
+    ghost bytes = { λ s. None };
+
+    ghost faults = { λ s. s.faults.count };
+
+    fn put(&mut self, piece: &[u8]) -> Result<(), Failed>
+        ensures bytes { Puts piece.now None None result }
+        ensures faults { HasCause self.old.faults.count self.new.faults.count result }
+        ensures written { OnOk result (Appends (W.contents self.old.writer) (W.contents self.new.writer) piece.now) }
+    {
+        if self.writer.write_all(piece).is_ok() {
+            return Ok(());
+        }
+        self.faults.raise();
+        Err(Failed)
+    }
+
+    ghost faults_fit = { λ s. s.faults.fits };
+}
