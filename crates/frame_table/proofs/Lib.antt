@@ -2,6 +2,7 @@ pub mod Kept
 pub mod Frames
 pub mod Acting
 pub mod Words
+pub mod Contents
 pub mod Told
 pub mod Splitting
 pub mod Laying

@@ -21,3 +21,10 @@ pub(crate) fn tag_place(frame: u32) -> usize
 {
     3 * frame as usize + 1
 }
+
+/// The place of its content word.
+pub(crate) fn content_place(frame: u32) -> usize
+    ensures { result ≡ layout.content_place frame }
+{
+    3 * frame as usize + 2
+}

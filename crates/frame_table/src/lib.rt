@@ -6,6 +6,8 @@
 mod build;
 mod calls;
 mod config;
+mod content;
+mod content_plays;
 mod layout;
 mod opening;
 mod pin;
