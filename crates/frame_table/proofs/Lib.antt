@@ -3,6 +3,7 @@ pub mod Frames
 pub mod Acting
 pub mod Words
 pub mod Contents
+pub mod Headers
 pub mod Told
 pub mod Splitting
 pub mod Laying

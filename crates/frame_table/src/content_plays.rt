@@ -1,4 +1,4 @@
-//! What each step at a content word tells its seat.
+//! What each step of content locks, of input and output, and of waits tells its seat.
 ghost use Rattle.frame_table.specs.Tells.{always, if_found};
 ghost use Rattle.frame_table.specs.Kinds.{pages};
 ghost use Rattle.frame_table.specs.Content.{looking_content};
@@ -46,4 +46,28 @@ pub(crate) struct LeaveCopy;
 
 impl Does for LeaveCopy {
     ghost choice = { always (pages page.leave_copy) };
+}
+
+pub(crate) struct MarkDirty;
+
+impl Does for MarkDirty {
+    ghost choice = { if_found (pages page.mark_dirty) };
+}
+
+pub(crate) struct ClearJustDirtied;
+
+impl Does for ClearJustDirtied {
+    ghost choice = { always (pages page.clear_just_dirtied) };
+}
+
+pub(crate) struct NeedCheckpoint;
+
+impl Does for NeedCheckpoint {
+    ghost choice = { always (pages page.need_checkpoint) };
+}
+
+pub(crate) struct ClearWaiter;
+
+impl Does for ClearWaiter {
+    ghost choice = { always (pages page.clear_waiter) };
 }
