@@ -4,6 +4,7 @@ pub mod Acting
 pub mod Words
 pub mod Contents
 pub mod Headers
+pub mod Seeing
 pub mod Told
 pub mod Splitting
 pub mod Laying

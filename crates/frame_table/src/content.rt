@@ -9,6 +9,7 @@ ghost use Rattle.frame_table.specs.Tells.{Did};
 ghost use Rattle.frame_table.specs.Content.{CanDropCopy, CanDropExclusive, CanDropShare, CanLock, copying_link, exclusive_link, has_copying, has_exclusive, looking_content, shared_link, unexclusive_link, unshared_link};
 
 use crate::content_plays::{Exclude, LeaveCopy, LookContent, Share, TakeCopy, Unexclude, Unshare};
+use crate::content_word::{COPYING, EXCLUSIVE};
 use crate::layout::content_place;
 use crate::plays::Step;
 use crate::table::FrameTable;
@@ -16,12 +17,6 @@ use crate::value::Value;
 use atomic_table::Seat;
 use pin_core::View;
 use segment_store::BlockLane;
-
-/// The bit of an exclusive lock.
-const EXCLUSIVE: u64 = 1 << 18;
-
-/// The bit of a copy latch that is taken.
-const COPYING: u64 = 1 << 19;
 
 impl<L: BlockLane, G> FrameTable<L, G> {
     /// The content word of a frame.

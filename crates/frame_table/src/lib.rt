@@ -8,6 +8,7 @@ mod calls;
 mod config;
 mod content;
 mod content_plays;
+mod content_word;
 mod io_right;
 mod layout;
 mod opening;
@@ -21,6 +22,7 @@ mod turn;
 mod value;
 
 pub use config::Config;
+pub use content_word::{is_copying, is_exclusive, sharers};
 pub use io_right::IoRight;
 pub use opening::Opening;
 pub use pin::{Pin, TryPin};
