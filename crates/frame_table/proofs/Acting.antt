@@ -32,7 +32,7 @@ same_place content_word f g e = omega arith
 part_says : (p : Part) (words : List ℕ) (f : ℕ) (fr : Frame) → ShowsFrame words f fr → SaysOf p (get_or words (part_place p f) 0) fr
 part_says state_word words f fr h = h.word
 part_says tag_word words f fr h = h.tag
-part_says content_word words f fr h = (h.sharers, h.exclusive, h.copying)
+part_says content_word words f fr h = (h.sharers, h.exclusive, h.copying, h.small)
 
 -- a load is at the same word
 part_load : (p : Part) → part_of (load_of p) ≡ p

@@ -59,7 +59,7 @@ pub record AsksWord (k : FrameKind) (s : State) (f n : ℕ) (v : View) : Type 0 
   pub out : (link_after k s f v).out ≡ (link v f).out
 
 module _ {L G : Type 0} (d : Devices L G) (o : Opening L G) where
-  at_word : (k : FrameKind) (t : table.State (Value L G) View) (s : State) (f n : ℕ) (v : View) → f < o.config.frames → Shows d o t s → AsksWord k s f n v → Asks k t s f (3 * f) n v
+  pub at_word : (k : FrameKind) (t : table.State (Value L G) View) (s : State) (f n : ℕ) (v : View) → f < o.config.frames → Shows d o t s → AsksWord k s f n v → Asks k t s f (3 * f) n v
   at_word k t s f n v below h a = record {
     allowed = a.allowed;
     around = a.around;

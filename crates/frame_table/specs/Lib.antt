@@ -6,3 +6,4 @@ pub mod Tells
 pub mod Sees
 pub mod Behind
 pub mod EndLoads
+pub mod Content

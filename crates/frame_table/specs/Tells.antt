@@ -31,7 +31,7 @@ part_place content_word f = content_place f
 abbrev pub SaysOf : Part → ℕ → Frame → Type 0
 SaysOf state_word n fr = fr.word ≡ fields n
 SaysOf tag_word n fr = fr.tag ≡ n
-SaysOf content_word n fr = (fr.sharers ≡ n % 2 ^ 18) × (fr.exclusive ≡ bit 18 n) × (fr.copying ≡ bit 19 n)
+SaysOf content_word n fr = (fr.sharers ≡ n % 2 ^ 18) × (fr.exclusive ≡ bit 18 n) × (fr.copying ≡ bit 19 n) × (n < 2 ^ 20)
 
 -- The view v became w by a step of the kind k at the frame f, where the kind's word was `found`
 pub record Did (k : FrameKind) (f : ℕ) (v w : View) (found : ℕ) : Type 0 where

@@ -22,6 +22,13 @@ pub(crate) fn tag_place(frame: u32) -> usize
     3 * frame as usize + 1
 }
 
+/// The place of its content word.
+pub(crate) fn content_place(frame: u32) -> usize
+    ensures { result ≡ layout.content_place frame }
+{
+    3 * frame as usize + 2
+}
+
 /// The place of the log's end, in a table of so many frames.
 pub(crate) fn end_place(frames: u32) -> usize
     ensures { result ≡ layout.end_place frames }

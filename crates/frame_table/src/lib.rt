@@ -6,11 +6,16 @@
 mod build;
 mod calls;
 mod config;
+mod content;
+mod content_plays;
+mod content_word;
+mod io_right;
 mod layout;
 mod log_words;
 mod opening;
 mod pin;
 mod plays;
+mod rights;
 mod rule;
 mod seats;
 mod table;
@@ -20,6 +25,8 @@ mod word_plays;
 
 pub use config::Config;
 pub use log_words::EndLoad;
+pub use content_word::{is_copying, is_exclusive, sharers};
+pub use io_right::IoRight;
 pub use opening::Opening;
 pub use pin::{Pin, TryPin};
 pub use rule::Rule;
