@@ -1,8 +1,11 @@
 -- An operation on a word behind those of the frames is a step of the state.
-use Rattle.std.proofs.Common.{◌≡◌, ◌≢◌, ℕ, zero, suc, ◌+◌, ◌*◌, ◌<◌, ◌≤◌, Bool, true, false, List, Option, Some, None, map, set, get_or, length, length-set, get_or-set_same, get_or-set_other, sym, refl, ap, ◌∙◌, subst, arith}
+use Rattle.std.proofs.Common.{◌≡◌, ◌≢◌, ℕ, zero, suc, ◌+◌, ◌*◌, ◌<◌, ◌≤◌, ◌%◌, ◌^◌, cond, eq-eqb, ne_eqb, lit<, Bool, true, false, List, Option, Some, None, map, set, get_or, length, length-set, get_or-set_same, get_or-set_other, sym, refl, ap, ◌∙◌, subst, arith}
 use Rattle.std.specs.Prelude.{max}
 use Rattle.std.specs.Option.{is_some}
+use Rattle.std.proofs.Math.Nat.{mod-eq_of_lt}
+use mathlib.Core.Logic.{dite}
 use mathlib.Core.Option.{none, some}
+use native.Mathlib.Decide.{ℕ_discrete}
 use lib.ListN.{get_elem?}
 use Rattle.atomic_table.specs.Table.{Me, step, keeps, stepped, Allows}
 use Rattle.atomic_table.specs.Table as table
@@ -23,6 +26,10 @@ use Rattle.frame_table.specs.declared.turn.Place.TheVariants as place
 use Rattle.frame_table.specs.declared.turn.Turn.TheVariants as turn
 use Rattle.frame_table.specs.Shows.{ShowsFrame, ShowsLatches, Devices, IsOpened, Shows, Held, is_out}
 use Rattle.frame_table.specs.Behind.{WordKind, load_end, read_end, begin_checkpoint, load_flushed, raise_flushed, load_hand, add_hand, word_place, word_of, word_after, word_event, IsCopied, IsWordAllowed, read_of, view_of, flushed_of, hand_of, next_of, DidWord, tells_word}
+use Rattle.frame_table.specs.declared.log_words.EndLoad.{EndLoad}
+use Rattle.frame_table.specs.declared.log_words.EndLoad.TheVariants.{Plain, Read, Checkpoint}
+use Rattle.frame_table.specs.EndLoads.{IsEndAllowed, end_kind}
+use Rattle.frame_table.specs.Layout.{end_place, flushed_place, hand_place}
 use Rattle.frame_table.proofs.Frames.{frame_else, same_out, home_before, gives_same}
 
 -- each kind is a step of the protocol
@@ -130,7 +137,7 @@ module _ {L G : Type 0} (d : Devices L G) (o : Opening L G) where
   -- the table shows the state after it
   shows_behind : (k : WordKind) (t : table.State (Value L G) View) (s : State) (id m : ℕ) (c : List (ℕ × Value L G)) (v : View) → Shows d o t s → get_elem? s.pool.core.views id ≡ some v → m ≡ word_after k s → Shows d o (stepped t (word_place k o.config.frames) m id c (view_of k (word_of k s) v) keeps) (next_of k s id v)
   shows_behind k t s id m c v h there is = let w : View = view_of k (word_of k s) v in let n : ℕ = o.config.frames in let x = word_behind k n in let long = h.words in record {
-    fixed = let f = h.fixed in record { frames = f.frames; backends = f.backends; base = f.base; partitions = f.partitions; partition_of = f.partition_of; lanes = f.lanes; lane_of = f.lane_of; few_backends = f.few_backends; few_lanes = f.few_lanes; origin = f.origin; reads = f.reads; writes = f.writes };
+    fixed = let f = h.fixed in record { frames = f.frames; backends = f.backends; base = f.base; partitions = f.partitions; partition_of = f.partition_of; is_block = f.is_block; lanes = f.lanes; lane_of = f.lane_of; few_backends = f.few_backends; few_lanes = f.few_lanes; origin = f.origin; reads = f.reads; writes = f.writes };
     words = length-set t.words (word_place k n) m ∙ h.words;
     slots = h.slots;
     views = ap (λ (l : List View). set l id w) h.views;
@@ -169,3 +176,36 @@ module _ {L G : Type 0} (d : Devices L G) (o : Opening L G) where
           record { state = s; laws = h.laws; seat = id; there = here; live = live; says = says; allowed = ok.0; after = ap (λ (x : ℕ). view_of k x me.0) says },
         ),
       )
+
+-- the hand moves on as the sum of its word and 1 does
+hand_moves : (n : ℕ) → n < 18446744073709551616 → (n + 1) % 2 ^ 64 ≡ next_hand n
+hand_moves n small = dite (ℕ_discrete n 18446744073709551615)
+    (λ (e : n ≡ 18446744073709551615). ap (λ (m : ℕ). (m + 1) % 2 ^ 64) e ∙ sym (ap (λ (b : Bool). cond b 0 (n + 1)) (eq-eqb n 18446744073709551615 e)))
+    (λ (o : n ≢ 18446744073709551615). mod-eq_of_lt (omega arith) ∙ sym (ap (λ (b : Bool). cond b 0 (n + 1)) (ne_eqb n 18446744073709551615 o)))
+
+module _ {L G : Type 0} (d : Devices L G) (o : Opening L G) (slots id : ℕ) (me : Me (Value L G) View) (live : me.0.emptied ≡ false) where
+  pub loads_end_there : (what : EndLoad) → IsEndAllowed o.config.frames what me.0 → Allows (Held d o) slots id me (end_place o.config.frames) (λ n. n) (tells_word (end_kind what) (step slots (end_place o.config.frames) 0 0 none) me)
+  loads_end_there Plain a = acts_behind d o load_end slots id 0 0 (λ n. n) me live (λ s l f there small. (tt, refl))
+  loads_end_there (Read f) a = acts_behind d o (read_end f) slots id 0 0 (λ n. n) me live (λ s l e there small. ((subst (λ (n : ℕ). f < n) (sym e) a.0, a.1), refl))
+  loads_end_there Checkpoint a = acts_behind d o begin_checkpoint slots id 0 0 (λ n. n) me live (λ s l f there small. (tt, refl))
+
+  pub loads_flushed_there : Allows (Held d o) slots id me (flushed_place o.config.frames) (λ n. n) (tells_word load_flushed (step slots (flushed_place o.config.frames) 0 0 none) me)
+  loads_flushed_there = acts_behind d o load_flushed slots id 0 0 (λ n. n) me live (λ s l f there small. (tt, refl))
+
+  pub raises_there : (end : ℕ) → me.0.log.synced ≡ true → me.0.log.end ≡ Some end → Allows (Held d o) slots id me (flushed_place o.config.frames) (λ _. end) (tells_word raise_flushed (step slots (flushed_place o.config.frames) end 0 none) me)
+  raises_there end synced noted = acts_behind d o raise_flushed slots id end 0 (λ _. end) me live (λ s l f there small. (synced, (let e = ((l.invariant.device.cells id me.0 0 there (lit< tt)).end end noted).1 in let low = l.invariant.flushed_to in omega arith)))
+
+  pub loads_hand_there : Allows (Held d o) slots id me (hand_place o.config.frames) (λ n. n) (tells_word load_hand (step slots (hand_place o.config.frames) 0 0 none) me)
+  loads_hand_there = acts_behind d o load_hand slots id 0 0 (λ n. n) me live (λ s l f there small. (tt, refl))
+
+  pub adds_hand_there : Allows (Held d o) slots id me (hand_place o.config.frames) (λ n. (n + 1) % 2 ^ 64) (tells_word add_hand (step slots (hand_place o.config.frames) 1 0 none) me)
+  adds_hand_there = acts_behind d o add_hand slots id 1 0 (λ n. (n + 1) % 2 ^ 64) me live (λ s l f there small. (tt, hand_moves s.hand small))
+
+-- the place of a read is at least all that the backend had seen
+pub front_below : (k : WordKind) (v w : View) (found : ℕ) → ((s : State) → word_of k s ≡ s.end) → DidWord k v w found → v.front ≤ found
+front_below k v w found ends d = let a = (d.laws.invariant.history.calls d.seat v d.there).within in let b = d.laws.invariant.ends in let c = ends d.state in let e = d.says in omega arith
+
+pub end_words : (what : EndLoad) (s : State) → word_of (end_kind what) s ≡ s.end
+end_words Plain s = refl
+end_words (Read f) s = refl
+end_words Checkpoint s = refl

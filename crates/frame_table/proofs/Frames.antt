@@ -147,8 +147,8 @@ module _ {L G : Type 0} where
 
 module _ {L G : Type 0} (d : Devices L G) (o : Opening L G) where
   fixed_after : (k : FrameKind) (s : State) (i f : ℕ) (v : View) → IsOpened d o s → IsOpened d o (state_after k s i f v)
-  fixed_after (pins k) s i f v h = record { frames = h.frames; backends = h.backends; base = h.base; partitions = h.partitions; partition_of = h.partition_of; lanes = h.lanes; lane_of = h.lane_of; few_backends = h.few_backends; few_lanes = h.few_lanes; origin = h.origin; reads = h.reads; writes = h.writes }
-  fixed_after (pages k) s i f v h = record { frames = h.frames; backends = h.backends; base = h.base; partitions = h.partitions; partition_of = h.partition_of; lanes = h.lanes; lane_of = h.lane_of; few_backends = h.few_backends; few_lanes = h.few_lanes; origin = h.origin; reads = h.reads; writes = h.writes }
+  fixed_after (pins k) s i f v h = record { frames = h.frames; backends = h.backends; base = h.base; partitions = h.partitions; partition_of = h.partition_of; is_block = h.is_block; lanes = h.lanes; lane_of = h.lane_of; few_backends = h.few_backends; few_lanes = h.few_lanes; origin = h.origin; reads = h.reads; writes = h.writes }
+  fixed_after (pages k) s i f v h = record { frames = h.frames; backends = h.backends; base = h.base; partitions = h.partitions; partition_of = h.partition_of; is_block = h.is_block; lanes = h.lanes; lane_of = h.lane_of; few_backends = h.few_backends; few_lanes = h.few_lanes; origin = h.origin; reads = h.reads; writes = h.writes }
 
   same_values : (k : FrameKind) (s : State) (i f : ℕ) (v : View) → (frame_after k s f).page ≡ (s.pool.core.frame f).page → SameValues d o s (state_after k s i f v)
   same_values k s i f v e = record {

@@ -12,7 +12,7 @@ use Rattle.state_word.specs.Fields.{fields, bit}
 use Rattle.block_tag.specs.declared.tag.Tag.{Tag}
 use Rattle.block_tag.specs.Names.{unpacked_tag, lane_number, hash_of}
 use Rattle.segment_store.specs.Contents.{Pages}
-use Rattle.pin_core.specs.State.{Frame, Page, zero_word, empty_frame}
+use Rattle.pin_core.specs.State.{Frame, Page, is_tag, zero_word, empty_frame}
 use Rattle.pin_core.specs.State as pin_state
 use Rattle.history_core.specs.State.{State, Store, CanStore}
 use Rattle.history_core.specs.State as history
@@ -207,7 +207,7 @@ module _ {L G : Type 0} (d : Devices L G) (n : ℕ) (lanes : List L) (log : G) (
 
 module _ {L G : Type 0} (d : Devices L G) (o : Opening L G) where
   abbrev config_of : pin_state.Config
-  config_of = record { frames = o.config.frames; partitions = 128; partition_of = tag_partition; lanes = o.config.lanes; backends = o.config.backends; base = o.base }
+  config_of = record { frames = o.config.frames; partitions = 128; partition_of = tag_partition; is_block = is_tag; lanes = o.config.lanes; backends = o.config.backends; base = o.base }
 
   abbrev start : State
   start = history.opening config_of (store_of d o.lanes.value.items) zero_page
@@ -242,6 +242,7 @@ module _ {L G : Type 0} (d : Devices L G) (o : Opening L G) where
         base = refl;
         partitions = refl;
         partition_of = refl;
+        is_block = refl;
         lanes = refl;
         lane_of = ap tag_lane count;
         few_backends = few_backends;

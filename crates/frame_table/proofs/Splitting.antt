@@ -27,7 +27,7 @@ module _ {L G : Type 0} (d : Devices L G) (o : Opening L G) where
   -- The table shows it, where no value comes home by it
   shows_views : (t : table.State (Value L G) View) (s : State) (views : List View) → Shows d o t s → ((x : Place) → IsHome x views → IsHome x s.pool.core.views) → Shows d o (record t { views = views }) (with_views s views)
   shows_views t s views h home = record {
-    fixed = let f = h.fixed in record { frames = f.frames; backends = f.backends; base = f.base; partitions = f.partitions; partition_of = f.partition_of; lanes = f.lanes; lane_of = f.lane_of; few_backends = f.few_backends; few_lanes = f.few_lanes; origin = f.origin; reads = f.reads; writes = f.writes };
+    fixed = let f = h.fixed in record { frames = f.frames; backends = f.backends; base = f.base; partitions = f.partitions; partition_of = f.partition_of; is_block = f.is_block; lanes = f.lanes; lane_of = f.lane_of; few_backends = f.few_backends; few_lanes = f.few_lanes; origin = f.origin; reads = f.reads; writes = f.writes };
     words = h.words;
     slots = h.slots;
     views = refl;

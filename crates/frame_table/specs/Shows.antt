@@ -10,7 +10,7 @@ use Rattle.block_tag.specs.Names.{unpacked_tag, lane_number}
 use Rattle.segment_store.specs.Contents.{Pages, Marks}
 use Rattle.pin_core.specs.declared.view.View.{View}
 use Rattle.pin_core.specs.declared.view.MapEntry.{MapEntry}
-use Rattle.pin_core.specs.State.{Frame, Page, link, hold, lane_hold, first_view}
+use Rattle.pin_core.specs.State.{Frame, Page, is_tag, link, hold, lane_hold, first_view}
 use Rattle.pin_core.specs.Turns.{found}
 use Rattle.pin_core.specs.Tallies.{flag_weight}
 use Rattle.history_core.specs.State.{State, Lane}
@@ -128,6 +128,8 @@ module _ {L G : Type 0} where
     pub base : s.log.base ≡ o.base
     pub partitions : s.pool.core.partitions ≡ 128
     pub partition_of : s.pool.core.partition_of ≡ tag_partition
+    -- each tag is a block
+    pub is_block : s.pool.core.is_block ≡ is_tag
     pub lanes : s.lanes ≡ o.config.lanes
     pub lane_of : s.lane_of ≡ tag_lane o.config.lanes
     -- there are at most 64 backends, and 16 lanes
