@@ -1,0 +1,175 @@
+-- What the table shows after a step at a frame.
+use Rattle.std.proofs.Common.{◌≡◌, ℕ, zero, suc, ◌+◌, ◌*◌, ◌-◌, ◌<◌, ◌%◌, ◌^◌, false, List, [], ◌∷◌, get_or, set, length-set, get_or-set_other, sym, refl, ap, ◌∙◌, subst, arith}
+use Rattle.std.specs.Prelude.{is_some, Option}
+use mathlib.Core.Logic.{dite}
+use mathlib.Core.Option.{some, some-injective}
+use native.Mathlib.Decide.{ℕ_discrete}
+use lib.ListN.{get_elem?}
+use Rattle.atomic_table.specs.Table.{keeps, stepped}
+use Rattle.atomic_table.specs.Table as table
+use Rattle.state_word.specs.Fields.{fields, bit}
+use Rattle.pin_core.specs.declared.view.Link.{Link}
+use Rattle.pin_core.specs.declared.view.MapEntry.{MapEntry}
+use Rattle.pin_core.specs.declared.view.PartitionHold.{PartitionHold}
+use Rattle.pin_core.specs.declared.view.LaneHold.{LaneHold}
+use Rattle.pin_core.specs.declared.view.LogHold.{LogHold}
+use Rattle.pin_core.specs.declared.view.MapChange.{MapChange}
+use Rattle.pin_core.specs.declared.view.MapChange.TheVariants.{Settled, Entering, Leaving}
+use Rattle.pin_core.specs.declared.view.View.{View}
+use Rattle.pin_core.specs.State.{Frame, Partition, link, hold, idle, no_partition, no_lane}
+use Rattle.pin_core.specs.Kinds.{partitions_owing, holds_naming}
+use Rattle.pin_core.specs.Kinds as pin
+use Rattle.pin_core.specs.Tallies.{flag_weight}
+use Rattle.history_core.specs.State.{State}
+use Rattle.grid.specs.Shape.{put}
+use Rattle.grid.proofs.Lists.{set_here, set_else, put_at, put_else}
+use Rattle.frame_table.specs.declared.value.Value.{Value}
+use Rattle.frame_table.specs.declared.opening.Opening.{Opening}
+use Rattle.frame_table.specs.declared.turn.Place.{Place}
+use Rattle.frame_table.specs.declared.turn.Place.TheVariants as place
+use Rattle.frame_table.specs.declared.turn.Turn.TheVariants as turn
+use Rattle.frame_table.specs.Kinds.{FrameKind, pins, pages, IsAllowed, IsAllowedAround, frame_after, link_after, view_after, state_after}
+use Rattle.frame_table.specs.Shows.{ShowsFrame, ShowsLatches, is_out, IsHome, Devices, Gives, GivesPage, GivesMap, GivesLane, IsOpened, Shows}
+
+-- a word that none of the frame's three is leaves what they show
+pub frame_else : (words : List ℕ) (i n g : ℕ) (fr : Frame) → ¬ (i ≡ 3 * g) → ¬ (i ≡ 3 * g + 1) → ¬ (i ≡ 3 * g + 2) → ShowsFrame words g fr → ShowsFrame (set words i n) g fr
+frame_else words i n g fr a b c h = let e0 : get_or (set words i n) (3 * g) 0 ≡ get_or words (3 * g) 0 = get_or-set_other words i (3 * g) n 0 (λ e. a (sym e)) in
+    let e1 : get_or (set words i n) (3 * g + 1) 0 ≡ get_or words (3 * g + 1) 0 = get_or-set_other words i (3 * g + 1) n 0 (λ e. b (sym e)) in
+    let e2 : get_or (set words i n) (3 * g + 2) 0 ≡ get_or words (3 * g + 2) 0 = get_or-set_other words i (3 * g + 2) n 0 (λ e. c (sym e)) in record {
+      word = h.word ∙ ap fields (sym e0);
+      tag = h.tag ∙ sym e1;
+      sharers = h.sharers ∙ ap (λ (x : ℕ). x % 2 ^ 18) (sym e2);
+      exclusive = h.exclusive ∙ ap (bit 18) (sym e2);
+      copying = h.copying ∙ ap (bit 19) (sym e2);
+      small = subst (λ (x : ℕ). x < 2 ^ 20) (sym e2) h.small;
+    }
+
+-- A step leaves what is behind the words of the frames
+pub latches_else : (n : ℕ) (words : List ℕ) (i m : ℕ) (s s' : State) → i < 3 * n → ((p : ℕ) → (s'.pool.core.partition p).taken ≡ (s.pool.core.partition p).taken) → s'.lanes ≡ s.lanes
+    → ((q : ℕ) → (s'.lane q).taken ≡ (s.lane q).taken) → s'.device.taken ≡ s.device.taken → s'.end ≡ s.end → s'.flushed ≡ s.flushed → s'.hand ≡ s.hand → ShowsLatches n words s → ShowsLatches n (set words i m) s'
+latches_else n words i m s s' low parts count lanes log end flushed hand h = record {
+  partitions = λ p below. get_or-set_other words i (3 * n + p) m 0 (omega arith) ∙ h.partitions p below ∙ ap flag_weight (sym (parts p));
+  lanes = λ q below. get_or-set_other words i (3 * n + 128 + q) m 0 (omega arith) ∙ h.lanes q (subst (λ (x : ℕ). q < x) count below) ∙ ap flag_weight (sym (lanes q));
+  log = get_or-set_other words i (3 * n + 144) m 0 (omega arith) ∙ h.log ∙ ap flag_weight (sym log);
+  end = get_or-set_other words i (3 * n + 145) m 0 (omega arith) ∙ h.end ∙ sym end;
+  flushed = get_or-set_other words i (3 * n + 146) m 0 (omega arith) ∙ h.flushed ∙ sym flushed;
+  hand = get_or-set_other words i (3 * n + 147) m 0 (omega arith) ∙ h.hand ∙ sym hand;
+}
+
+-- a part of what stands at one place of a list, where another element with the same part is put at some place
+pub same_at : {A B : Type 0} (g : A → B) (l : List A) (q p : ℕ) (x d : A) → g x ≡ g (get_or l q d) → g (get_or (set l q x) p d) ≡ g (get_or l p d)
+same_at g [] q p x d e = refl
+same_at g (y ∷ l) zero zero x d e = e
+same_at g (y ∷ l) zero (suc p) x d e = refl
+same_at g (y ∷ l) (suc q) zero x d e = refl
+same_at g (y ∷ l) (suc q) (suc p) x d e = same_at g l q p x d e
+
+-- a function with x at f has at k what it had, as far as g tells, where x has
+pub put_keeps : {A B : Type 0} (g : A → B) (h : ℕ → A) (f : ℕ) (x : A) (k : ℕ) → g x ≡ g (h f) → g (put h f x k) ≡ g (h k)
+put_keeps g h f x k e = dite (ℕ_discrete k f) (λ is. ap g (put_at h f x k is) ∙ e ∙ ap (λ (z : ℕ). g (h z)) (sym is)) (λ n. ap g (put_else h f x k n))
+
+-- naming a pair leaves a partition's latch and its map, and what is out
+owing_same : {B : Type 0} (g : Partition → B) (c : MapChange) (partition_of : ℕ → ℕ) (parts : ℕ → Partition) (p : ℕ) → ((x : Partition) (d : MapChange) → g (record x { owed = d }) ≡ g x) → g (partitions_owing c partition_of parts p) ≡ g (parts p)
+owing_same g Settled partition_of parts p e = refl
+owing_same g (Entering tag f) partition_of parts p e = put_keeps g parts (partition_of tag) (record (parts (partition_of tag)) { owed = Entering tag f }) p (e (parts (partition_of tag)) (Entering tag f))
+owing_same g (Leaving tag f) partition_of parts p e = put_keeps g parts (partition_of tag) (record (parts (partition_of tag)) { owed = Leaving tag f }) p (e (parts (partition_of tag)) (Leaving tag f))
+
+naming_out : (c : MapChange) (partition_of : ℕ → ℕ) (v : View) (p : ℕ) → (hold (record v { partitions = holds_naming c partition_of v }) p).out ≡ (hold v p).out
+naming_out Settled partition_of v p = refl
+naming_out (Entering tag f) partition_of v p = same_at (λ (h : PartitionHold). h.out) v.partitions (partition_of tag) p (record (hold v (partition_of tag)) { change = Entering tag f }) no_partition refl
+naming_out (Leaving tag f) partition_of v p = same_at (λ (h : PartitionHold). h.out) v.partitions (partition_of tag) p (record (hold v (partition_of tag)) { change = Leaving tag f }) no_partition refl
+
+-- What a step at a frame leaves as it was
+taken_same : (k : FrameKind) (s : State) (i f : ℕ) (v : View) (p : ℕ) → ((state_after k s i f v).pool.core.partition p).taken ≡ (s.pool.core.partition p).taken
+taken_same (pins k) s i f v p = owing_same (λ (x : Partition). x.taken) (pin.named_by k f (s.pool.core.frame f)) s.pool.core.partition_of s.pool.core.partition p (λ x d. refl)
+taken_same (pages k) s i f v p = refl
+
+map_same : (k : FrameKind) (s : State) (i f : ℕ) (v : View) (p : ℕ) → ((state_after k s i f v).pool.core.partition p).map ≡ (s.pool.core.partition p).map
+map_same (pins k) s i f v p = owing_same (λ (x : Partition). x.map) (pin.named_by k f (s.pool.core.frame f)) s.pool.core.partition_of s.pool.core.partition p (λ x d. refl)
+map_same (pages k) s i f v p = refl
+
+views_are : (k : FrameKind) (s : State) (i f : ℕ) (v : View) → (state_after k s i f v).pool.core.views ≡ set s.pool.core.views i (view_after k s f v)
+views_are (pins k) s i f v = refl
+views_are (pages k) s i f v = refl
+
+frame_is : (k : FrameKind) (s : State) (i f : ℕ) (v : View) (g : ℕ) → (state_after k s i f v).pool.core.frame g ≡ put s.pool.core.frame f (frame_after k s f) g
+frame_is (pins k) s i f v g = refl
+frame_is (pages k) s i f v g = refl
+
+-- the view's own values stay out or home, where the page's does
+out_same : (k : FrameKind) (s : State) (f : ℕ) (v : View) → (link_after k s f v).out ≡ (link v f).out → (x : Place) → is_out x (view_after k s f v) ≡ is_out x v
+out_same (pins k) s f v e (place.Page g) = ap (λ (z : Option (List ℕ)). is_some z) (same_at (λ (l : Link). l.out) v.links f g (link_after (pins k) s f v) idle e)
+out_same (pins k) s f v e (place.Of (turn.Partition p)) = ap (λ (z : Option (List MapEntry)). is_some z) (naming_out (pin.named_by k f (s.pool.core.frame f)) s.pool.core.partition_of v p)
+out_same (pins k) s f v e (place.Of (turn.Lane q)) = refl
+out_same (pins k) s f v e (place.Of turn.Log) = refl
+out_same (pages k) s f v e (place.Page g) = ap (λ (z : Option (List ℕ)). is_some z) (same_at (λ (l : Link). l.out) v.links f g (link_after (pages k) s f v) idle e)
+out_same (pages k) s f v e (place.Of (turn.Partition p)) = refl
+out_same (pages k) s f v e (place.Of (turn.Lane q)) = refl
+out_same (pages k) s f v e (place.Of turn.Log) = refl
+
+-- what a view has out is in its links and in what it has of the latches
+pub same_out : (v w : View) → w.links ≡ v.links → w.partitions ≡ v.partitions → w.lanes ≡ v.lanes → w.log ≡ v.log → (x : Place) → is_out x w ≡ is_out x v
+same_out v w links partitions lanes log (place.Page f) = ap (λ (l : List Link). is_some (get_or l f idle).out) links
+same_out v w links partitions lanes log (place.Of (turn.Partition p)) = ap (λ (l : List PartitionHold). is_some (get_or l p no_partition).out) partitions
+same_out v w links partitions lanes log (place.Of (turn.Lane q)) = ap (λ (l : List LaneHold). is_some (get_or l q no_lane).out) lanes
+same_out v w links partitions lanes log (place.Of turn.Log) = ap (λ (l : LogHold). is_some l.out) log
+
+-- what no view has out had none out before, where the stepping view's values stay where they are
+pub home_before : (views : List View) (i : ℕ) (v w : View) (x : Place) → get_elem? views i ≡ some v → (is_out x w ≡ false → is_out x v ≡ false) → IsHome x (set views i w) → IsHome x views
+home_before views i v w x there e home j u at = dite (ℕ_discrete j i)
+    (λ is. let same : v ≡ u = some-injective v u (sym there ∙ ap (get_elem? views) (sym is) ∙ at) in subst (λ (z : View). is_out x z ≡ false) same (e (home i w (set_here views i v w there))))
+    (λ n. home j u (set_else views i j w n ∙ at))
+
+module _ {L G : Type 0} (d : Devices L G) (o : Opening L G) where
+  -- What the states s and s' say of values is the same
+  pub record SameValues (s s' : State) : Type 0 where
+    pub page : (f : ℕ) → (s'.pool.core.frame f).page ≡ (s.pool.core.frame f).page
+    pub map : (p : ℕ) → (s'.pool.core.partition p).map ≡ (s.pool.core.partition p).map
+    pub count : s'.lanes ≡ s.lanes
+    pub lane : (q : ℕ) → s'.lane q ≡ s.lane q
+
+  pub gives_same : (s s' : State) → SameValues s s' → (x : Place) (y : Value L G) → Gives d s x y → Gives d s' x y
+  gives_same s s' e (place.Page f) y h = subst (GivesPage y) (sym (e.page f)) h
+  gives_same s s' e (place.Of (turn.Partition p)) y h = subst (GivesMap y) (sym (e.map p)) h
+  gives_same s s' e (place.Of (turn.Lane q)) y h = subst (λ (n : ℕ). GivesLane d n q y (s'.lane q)) (sym e.count) (subst (GivesLane d s.lanes q y) (sym (e.lane q)) h)
+  gives_same s s' e (place.Of turn.Log) y h = h
+
+-- What a step of the kind k at the frame f asks, where its word i becomes n
+module _ {L G : Type 0} where
+  pub record Asks (k : FrameKind) (t : table.State (Value L G) View) (s : State) (f i n : ℕ) (v : View) : Type 0 where
+    pub allowed : IsAllowed k s f v
+    pub around : IsAllowedAround k s f v
+    -- the words show the frame after it
+    pub shows : ShowsFrame (set t.words i n) f (frame_after k s f)
+    -- the page stays, and stays out or home
+    pub page : (frame_after k s f).page ≡ (s.pool.core.frame f).page
+    pub out : (link_after k s f v).out ≡ (link v f).out
+
+module _ {L G : Type 0} (d : Devices L G) (o : Opening L G) where
+  fixed_after : (k : FrameKind) (s : State) (i f : ℕ) (v : View) → IsOpened d o s → IsOpened d o (state_after k s i f v)
+  fixed_after (pins k) s i f v h = record { frames = h.frames; backends = h.backends; base = h.base; partitions = h.partitions; partition_of = h.partition_of; is_block = h.is_block; lanes = h.lanes; lane_of = h.lane_of; few_backends = h.few_backends; few_lanes = h.few_lanes; origin = h.origin; reads = h.reads; writes = h.writes }
+  fixed_after (pages k) s i f v h = record { frames = h.frames; backends = h.backends; base = h.base; partitions = h.partitions; partition_of = h.partition_of; is_block = h.is_block; lanes = h.lanes; lane_of = h.lane_of; few_backends = h.few_backends; few_lanes = h.few_lanes; origin = h.origin; reads = h.reads; writes = h.writes }
+
+  same_values : (k : FrameKind) (s : State) (i f : ℕ) (v : View) → (frame_after k s f).page ≡ (s.pool.core.frame f).page → SameValues d o s (state_after k s i f v)
+  same_values k s i f v e = record {
+    page = λ g. ap (λ (x : Frame). x.page) (frame_is k s i f v g) ∙ put_keeps (λ (x : Frame). x.page) s.pool.core.frame f (frame_after k s f) g e;
+    map = map_same k s i f v;
+    count = refl;
+    lane = λ q. refl;
+  }
+
+  -- A table shows the state after a step at a frame, if its word shows the frame
+  pub shows_after : (k : FrameKind) (t : table.State (Value L G) View) (s : State) (id f i n : ℕ) (c : List (ℕ × Value L G)) (v : View) → Shows d o t s → get_elem? s.pool.core.views id ≡ some v → f < o.config.frames → i ≡ 3 * f + (i - 3 * f) → i - 3 * f < 3
+      → Asks k t s f i n v → Shows d o (stepped t i n id c (view_after k s f v) keeps) (state_after k s id f v)
+  shows_after k t s id f i n c v h there below is low a = let w : View = view_after k s f v in record {
+    fixed = fixed_after k s id f v h.fixed;
+    words = length-set t.words i n ∙ h.words;
+    slots = h.slots;
+    views = ap (λ (l : List View). set l id w) h.views ∙ sym (views_are k s id f v);
+    frame = λ g inside. subst (ShowsFrame (set t.words i n) g) (sym (frame_is k s id f v g)) (dite (ℕ_discrete g f)
+        (λ e. subst (ShowsFrame (set t.words i n) g) (sym (put_at s.pool.core.frame f (frame_after k s f) g e)) (subst (λ (z : ℕ). ShowsFrame (set t.words i n) z (frame_after k s f)) (sym e) a.shows))
+        (λ e. subst (ShowsFrame (set t.words i n) g) (sym (put_else s.pool.core.frame f (frame_after k s f) g e)) (frame_else t.words i n g (s.pool.core.frame g) (λ z. e (omega arith)) (λ z. e (omega arith)) (λ z. e (omega arith)) (h.frame g inside))));
+    latches = latches_else o.config.frames t.words i n s (state_after k s id f v) (omega arith) (taken_same k s id f v) refl (λ q. refl) refl refl refl refl h.latches;
+    homes = λ x inside home. let old = h.homes x inside (home_before s.pool.core.views id v w x there (λ e. sym (out_same k s f v a.out x) ∙ e) (subst (IsHome x) (views_are k s id f v) home)) in
+        record { value = old.value; home = old.home; gives = gives_same d o s (state_after k s id f v) (same_values k s id f v a.page) x old.value old.gives };
+  }

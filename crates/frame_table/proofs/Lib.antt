@@ -1,0 +1,12 @@
+pub mod Kept
+pub mod Frames
+pub mod Acting
+pub mod Words
+pub mod Contents
+pub mod Headers
+pub mod Seeing
+pub mod Told
+pub mod Splitting
+pub mod Laying
+pub mod Opens
+pub mod Behind

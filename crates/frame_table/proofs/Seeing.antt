@@ -1,0 +1,92 @@
+-- What callers know after loads.
+use Rattle.std.proofs.Common.{◌≡◌, ◌≢◌, ℕ, ◌/◌, ◌<◌, ◌%◌, ◌^◌, ◌==◌, Bool, true, false, sym, refl, ap, ◌∙◌, arith}
+use mathlib.Core.Logic.{dite}
+use mathlib.Core.Option.{some}
+use native.Mathlib.Decide.{ℕ_discrete}
+use lib.ListN.{get_elem?}
+use Rattle.state_word.specs.declared.word.StateWord.{StateWord}
+use Rattle.state_word.specs.Fields.{fields, bit}
+use Rattle.pin_core.specs.declared.view.View.{View}
+use Rattle.pin_core.specs.declared.view.Link.{Link}
+use Rattle.pin_core.specs.declared.view.Role.{Role}
+use Rattle.pin_core.specs.declared.view.Role.TheVariants.{Absent, HandedOut, Victim}
+use Rattle.pin_core.specs.declared.view.Content.{Content}
+use Rattle.pin_core.specs.declared.view.Content.TheVariants.{Shared}
+use Rattle.pin_core.specs.State.{link}
+use Rattle.pin_core.specs.Tallies.{flag_weight}
+use Rattle.pin_core.specs.Kinds.{seen_valid_after}
+use Rattle.page_core.specs.Tallies.{sharers, copies, weigh, share_weight}
+use Rattle.grid.proofs.Sums.{term_le, total-none}
+use Rattle.history_core.specs.Laws.{Laws}
+use Rattle.history_core.specs.State.{State}
+use Rattle.frame_table.specs.Kinds.{FrameKind}
+use Rattle.frame_table.specs.Tells.{Did, looking}
+use Rattle.frame_table.specs.Content.{looking_content, has_exclusive}
+use Rattle.frame_table.proofs.Told.{link_is}
+
+-- no tag word is stored where a view's pin is handed out
+pub handed_settled : (k : FrameKind) (f found : ℕ) (v w : View) → Did k f v w found → (link v f).role ≡ HandedOut → (link v f).pending ≡ false
+handed_settled k f found v w d handed = of_pending (link v f).pending refl
+  where
+    not_victim : (r : Role) → r ≡ HandedOut → r ≡ Victim → ⊥
+    not_victim r a b = cc (a, b)
+
+    of_pending : (b : Bool) → (link v f).pending ≡ b → b ≡ false
+    of_pending false e = refl
+    of_pending true e = absurd (not_victim (link v f).role handed ((d.laws.invariant.pool.core.grid.cells d.seat v f d.there d.inside).pending e).victim)
+
+seen_after : (pending saw valid : Bool) (r : Role) → pending ≡ false → r ≢ Absent → valid ≡ true → seen_valid_after pending r valid saw ≡ true
+seen_after true saw valid r e pinned on = absurd (cc e)
+seen_after false saw valid Absent e pinned on = absurd (pinned refl)
+seen_after false saw true HandedOut e pinned on = refl
+seen_after false saw true Victim e pinned on = refl
+seen_after false saw false HandedOut e pinned on = absurd (cc on)
+seen_after false saw false Victim e pinned on = absurd (cc on)
+
+seen_still : (pending valid : Bool) (r : Role) → seen_valid_after pending r valid true ≡ true
+seen_still true valid r = refl
+seen_still false valid Absent = refl
+seen_still false true HandedOut = refl
+seen_still false false HandedOut = refl
+seen_still false true Victim = refl
+seen_still false false Victim = refl
+
+-- a pin sees BM_VALID
+pub sees_valid : (f found : ℕ) (v w : View) → Did looking f v w found → (link v f).pending ≡ false → (link v f).role ≢ Absent → (fields found).valid ≡ true → (link w f).seen_valid ≡ true
+sees_valid f found v w d settled pinned on = ap (λ (l : Link). l.seen_valid) (link_is looking f found v w d)
+    ∙ seen_after (link v f).pending (link v f).seen_valid (d.state.pool.core.frame f).word.valid (link v f).role settled pinned (ap (λ (x : StateWord). x.valid) d.says ∙ on)
+
+-- and has seen it for good
+pub keeps_seen : (f found : ℕ) (v w : View) → Did looking f v w found → (link v f).seen_valid ≡ true → (link w f).seen_valid ≡ true
+keeps_seen f found v w d saw = ap (λ (l : Link). l.seen_valid) (link_is looking f found v w d)
+    ∙ ap (λ (b : Bool). seen_valid_after (link v f).pending (link v f).role (d.state.pool.core.frame f).word.valid b) saw
+    ∙ seen_still (link v f).pending (d.state.pool.core.frame f).word.valid (link v f).role
+
+shared_one : (c : Content) → c ≡ Shared → share_weight c ≡ 1
+shared_one c e = ap share_weight e
+
+-- where none shares the lock, the copy latch is free
+module _ (s : State) (laws : Laws s) (f : ℕ) (below : f < s.pool.core.frames) where
+  no_copies : (s.pool.core.frame f).sharers ≡ 0 → (s.pool.core.frame f).copying ≡ false
+  no_copies none = of_weight (s.pool.core.frame f).copying ((laws.invariant.pool.pages.columns f below).copying ∙ total-none (λ (u : View). weigh copies (link u f)) s.pool.core.views (λ j u at. of_copy j u at (link u f).copying refl))
+    where
+      of_weight : (b : Bool) → flag_weight b ≡ 0 → b ≡ false
+      of_weight false e = refl
+      of_weight true e = absurd (omega (arith, e))
+
+      of_copy : (j : ℕ) (u : View) → get_elem? s.pool.core.views j ≡ some u → (b : Bool) → (link u f).copying ≡ b → flag_weight b ≡ 0
+      of_copy j u at false e = refl
+      of_copy j u at true e = let c = laws.invariant.pool.pages.columns f below in
+          absurd (omega (arith, none, c.shared, term_le (λ (x : View). weigh sharers (link x f)) s.pool.core.views j u at, shared_one (link u f).content ((laws.invariant.pool.pages.cells j u f at below).copying e)))
+
+zero_bits : (n : ℕ) → n < 2 ^ 20 → n % 2 ^ 18 ≡ 0 → bit 18 n ≡ false → bit 19 n ≡ false → n ≡ 0
+zero_bits n small low free home = let a = clear (n / 2 ^ 18 % 2) free (omega arith) in let b = clear (n / 2 ^ 19 % 2) home (omega arith) in omega arith
+  where
+    clear : (x : ℕ) → (x == 1) ≡ false → x < 2 → x ≡ 0
+    clear x e h = grind arith
+
+-- a content word that isn't 0 shows who has the lock: one has it exclusively, or some share it
+pub shows_holder : (f found : ℕ) (v w : View) → Did looking_content f v w found → found ≢ 0 → has_exclusive found ≡ false → 0 < found % 2 ^ 18
+shows_holder f found v w d nonzero free = dite (ℕ_discrete (found % 2 ^ 18) 0)
+    (λ none. absurd (nonzero (zero_bits found d.says.3 none free (sym d.says.2 ∙ no_copies d.state d.laws f d.inside (d.says.0 ∙ none)))))
+    (λ n. omega (arith, n))

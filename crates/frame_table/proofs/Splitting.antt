@@ -1,0 +1,50 @@
+-- Seats come and go.
+use Rattle.std.proofs.Common.{◌≡◌, ℕ, ◌<◌, List, [], ◌∷◌, ◌++◌, length, set, sym, refl, ap, ◌∙◌, subst, arith}
+use mathlib.Core.Option.{some}
+use lib.ListN.{get_elem?}
+use Rattle.atomic_table.specs.Table.{Splits}
+use Rattle.atomic_table.specs.Table as table
+use Rattle.pin_core.specs.declared.view.View.{View}
+use Rattle.pin_core.specs.State.{new_view}
+use Rattle.pin_core.specs.Steps as pin_steps
+use Rattle.page_core.specs.Steps as page_steps
+use Rattle.history_core.specs.State.{State}
+use Rattle.history_core.specs.Steps.{pools}
+use Rattle.grid.proofs.Lists.{at_longer}
+use Rattle.history_core.proofs.Laws.{laws_kept}
+use Rattle.frame_table.specs.declared.value.Value.{Value}
+use Rattle.frame_table.specs.declared.opening.Opening.{Opening}
+use Rattle.frame_table.specs.declared.turn.Place.{Place}
+use Rattle.frame_table.specs.Shows.{IsHome, Devices, Shows, Held}
+use Rattle.frame_table.specs.Tells.{kept_view, split_view}
+use Rattle.frame_table.proofs.Frames.{gives_same, same_out, home_before}
+
+module _ {L G : Type 0} (d : Devices L G) (o : Opening L G) where
+  -- the state where the views are others, and nothing else
+  abbrev with_views : State → List View → State
+  with_views s views = record s { pool = record s.pool { core = record s.pool.core { views = views } } }
+
+  -- The table shows it, where no value comes home by it
+  shows_views : (t : table.State (Value L G) View) (s : State) (views : List View) → Shows d o t s → ((x : Place) → IsHome x views → IsHome x s.pool.core.views) → Shows d o (record t { views = views }) (with_views s views)
+  shows_views t s views h home = record {
+    fixed = let f = h.fixed in record { frames = f.frames; backends = f.backends; base = f.base; partitions = f.partitions; partition_of = f.partition_of; is_block = f.is_block; lanes = f.lanes; lane_of = f.lane_of; few_backends = f.few_backends; few_lanes = f.few_lanes; origin = f.origin; reads = f.reads; writes = f.writes };
+    words = h.words;
+    slots = h.slots;
+    views = refl;
+    frame = h.frame;
+    latches = let l = h.latches in record { partitions = l.partitions; lanes = l.lanes; log = l.log; end = l.end; flushed = l.flushed; hand = l.hand };
+    homes = λ x inside none_out. let old = h.homes x inside (home x none_out) in
+        record { value = old.value; home = old.home; gives = gives_same d o s (with_views s views) (record { page = λ f. refl; map = λ p. refl; count = refl; lane = λ q. refl }) x old.value old.gives };
+  }
+
+  pub splits_there : (base id : ℕ) (v : View) → base ≡ o.base → id ≡ 0 → v.next < o.config.backends → Splits (Held d o) id v (kept_view v) (split_view base v)
+  splits_there base id v based first room t h there = let s = h.state in let core = s.pool.core in
+      let here : get_elem? core.views 0 ≡ some v = ap (λ (l : List View). get_elem? l 0) (sym h.shows.views) ∙ ap (get_elem? t.views) (sym first) ∙ there in
+      let base_is : base ≡ core.base = based ∙ sym h.shows.fixed.base ∙ sym h.laws.invariant.based in
+      let views : List View = set core.views 0 (kept_view v) ++ new_view v.next core.base (length v.links) (length v.partitions) (length v.lanes) ∷ [] in
+      let same : set t.views id (kept_view v) ++ split_view base v ∷ [] ≡ views = (λ i. set (h.shows.views i) (first i) (kept_view v) ++ split_view (base_is i) v ∷ []) in
+      subst (λ (l : List View). Held d o record { words = t.words; homes = t.homes; views = l }) (sym same) record {
+        state = with_views s views;
+        shows = shows_views t s views h.shows (λ x none_out. home_before core.views 0 v (kept_view v) x here (λ e. sym (same_out v (kept_view v) refl refl refl refl x) ∙ e) (λ i u at. none_out i u (at_longer (set core.views 0 (kept_view v)) (new_view v.next core.base (length v.links) (length v.partitions) (length v.lanes) ∷ []) i u at)));
+        laws = laws_kept (pools (page_steps.cores (pin_steps.splits v here (let e = h.shows.fixed.backends in omega arith))) tt) h.laws;
+      }

@@ -1,0 +1,187 @@
+-- What follows from a step that was told.
+use Rattle.std.proofs.Common.{◌≡◌, ◌≢◌, ℕ, ◌<◌, nat_eq, cond, Bool, true, false, Some, None, get_or, set, List, get_or-set_same, get_or-set_other, sym, refl, ap, ◌∙◌, subst, arith, eq-eqb, ne_eqb}
+use mathlib.Core.Logic.{dite}
+use native.Mathlib.Decide.{ℕ_discrete}
+use Rattle.state_word.specs.declared.word.StateWord.{StateWord}
+use Rattle.state_word.specs.Fields.{fields, locked_fields}
+use Rattle.pin_core.specs.declared.view.View.{View}
+use Rattle.pin_core.specs.declared.view.Link.{Link}
+use Rattle.pin_core.specs.declared.view.Role.TheVariants.{Absent}
+use Rattle.pin_core.specs.State.{link, idle}
+use Rattle.pin_core.specs.Kinds.{wait_after}
+use Rattle.pin_core.specs.Kinds as pin
+use Rattle.pin_core.specs.Steps.{HoldsNoHeader}
+use Rattle.pin_core.proofs.Schedules.{few, own_pins}
+use Rattle.history_core.specs.State.{State}
+use Rattle.frame_table.specs.Kinds.{FrameKind, pins, pages, part_of, load_of, link_after, view_after}
+use Rattle.frame_table.specs.Sees.{SameSelf, Touches, Looked, CanUnpin, pinned_link, unpinned_link, locked_link}
+use Rattle.frame_table.specs.Tells.{Choice, choice_part, part_place, Did, Looks, still, again, Tried, if_found, if_unlocked, chosen, has_locked, looking}
+
+self_after : (k : FrameKind) (s : State) (f : ℕ) (v : View) → SameSelf v (view_after k s f v)
+self_after (pins k) s f v = record { number = refl; next = refl; joined = refl; emptied = refl; lanes = refl; log = refl; flushed = refl; calls = refl; front = refl; place_loads = refl; upto = refl; kept = refl; device_calls = refl; met = refl; saw_down = refl }
+self_after (pages k) s f v = record { number = refl; next = refl; joined = refl; emptied = refl; lanes = refl; log = refl; flushed = refl; calls = refl; front = refl; place_loads = refl; upto = refl; kept = refl; device_calls = refl; met = refl; saw_down = refl }
+
+links_after : (k : FrameKind) (s : State) (f : ℕ) (v : View) → (view_after k s f v).links ≡ set v.links f (link_after k s f v)
+links_after (pins k) s f v = refl
+links_after (pages k) s f v = refl
+
+-- a step at a frame touches no other one; the kind names no pair
+pub touches : (k : FrameKind) → ((s : State) (f : ℕ) (v : View) → (view_after k s f v).partitions ≡ v.partitions) → (f found : ℕ) (v w : View) → Did k f v w found → Touches f v w
+touches k none f found v w d = record {
+  self = subst (SameSelf v) (sym d.after) (self_after k d.state f v);
+  partitions = ap (λ (x : View). x.partitions) d.after ∙ none d.state f v;
+  others = λ g n. ap (λ (x : View). link x g) d.after ∙ ap (λ (l : List Link). get_or l g idle) (links_after k d.state f v) ∙ get_or-set_other v.links f g (link_after k d.state f v) idle n;
+}
+
+-- what the view has there after it
+pub link_is : (k : FrameKind) (f found : ℕ) (v w : View) (d : Did k f v w found) → link w f ≡ link_after k d.state f v
+link_is k f found v w d = ap (λ (x : View). link x f) d.after ∙ ap (λ (l : List Link). get_or l f idle) (links_after k d.state f v)
+    ∙ get_or-set_same v.links f (link_after k d.state f v) idle (let wide = d.laws.invariant.pool.core.views.wide d.seat v d.there d.live in let inside = d.inside in omega (arith, wide.0))
+
+pub touches_on : (f : ℕ) (v u w : View) → Touches f v u → Touches f u w → Touches f v w
+touches_on f v u w a b = record {
+  self = record {
+    number = b.self.number ∙ a.self.number;
+    next = b.self.next ∙ a.self.next;
+    joined = b.self.joined ∙ a.self.joined;
+    emptied = b.self.emptied ∙ a.self.emptied;
+    lanes = b.self.lanes ∙ a.self.lanes;
+    log = b.self.log ∙ a.self.log;
+    flushed = b.self.flushed ∙ a.self.flushed;
+    calls = b.self.calls ∙ a.self.calls;
+    front = b.self.front ∙ a.self.front;
+    place_loads = b.self.place_loads ∙ a.self.place_loads;
+    upto = b.self.upto ∙ a.self.upto;
+    kept = b.self.kept ∙ a.self.kept;
+    device_calls = b.self.device_calls ∙ a.self.device_calls;
+    met = b.self.met ∙ a.self.met;
+    saw_down = b.self.saw_down ∙ a.self.saw_down;
+  };
+  partitions = b.partitions ∙ a.partitions;
+  others = λ g n. b.others g n ∙ a.others g n;
+}
+
+pub touches_none : (f : ℕ) (v : View) → Touches f v v
+touches_none f v = record {
+  self = record { number = refl; next = refl; joined = refl; emptied = refl; lanes = refl; log = refl; flushed = refl; calls = refl; front = refl; place_loads = refl; upto = refl; kept = refl; device_calls = refl; met = refl; saw_down = refl };
+  partitions = refl;
+  others = λ g n. refl;
+}
+
+pub looked_on : (l m n : Link) → Looked l m → Looked m n → Looked l n
+looked_on l m n a b = record {
+  role = b.role ∙ a.role;
+  tag = b.tag ∙ a.tag;
+  ring = b.ring ∙ a.ring;
+  header = b.header ∙ a.header;
+  pending = b.pending ∙ a.pending;
+  content = b.content ∙ a.content;
+  copying = b.copying ∙ a.copying;
+  dirtied = b.dirtied ∙ a.dirtied;
+  unapplied = b.unapplied ∙ a.unapplied;
+  copied = b.copied ∙ a.copied;
+  io = b.io ∙ a.io;
+  read = b.read ∙ a.read;
+  read_is_home = b.read_is_home ∙ a.read_is_home;
+  last_write = b.last_write ∙ a.last_write;
+  out = b.out ∙ a.out;
+  overwritten = b.overwritten ∙ a.overwritten;
+  waits = λ none. b.waits (a.waits none);
+}
+
+pub looked_same : (l m : Link) → m ≡ l → Looked l m
+looked_same l m e = subst (Looked l) (sym e) record { role = refl; tag = refl; ring = refl; header = refl; pending = refl; content = refl; copying = refl; dirtied = refl; unapplied = refl; copied = refl; io = refl; read = refl; read_is_home = refl; last_write = refl; out = refl; overwritten = refl; waits = λ none. none }
+
+loaded_link : (s : State) (f : ℕ) (v : View) → Looked (link v f) (link_after looking s f v)
+loaded_link s f v = record { role = refl; tag = refl; ring = refl; header = refl; pending = refl; content = refl; copying = refl; dirtied = refl; unapplied = refl; copied = refl; io = refl; read = refl; read_is_home = refl; last_write = refl; out = refl; overwritten = refl; waits = λ none. ap (wait_after (s.pool.core.frame f).word) none }
+
+pub looked : (f found : ℕ) (v w : View) → Did looking f v w found → Looked (link v f) (link w f)
+looked f found v w d = subst (Looked (link v f)) (sym (link_is looking f found v w d)) (loaded_link d.state f v)
+
+-- changes of a link after a load
+pub pinned_looked : (ring : Bool) (l m : Link) → Looked l m → Looked (pinned_link ring l) (pinned_link ring m)
+pinned_looked ring l m a = record { role = refl; tag = a.tag; ring = refl; header = a.header; pending = a.pending; content = a.content; copying = a.copying; dirtied = a.dirtied; unapplied = a.unapplied; copied = a.copied; io = a.io; read = a.read; read_is_home = a.read_is_home; last_write = a.last_write; out = a.out; overwritten = a.overwritten; waits = a.waits }
+
+pub unpinned_looked : (l m : Link) → Looked l m → Looked (unpinned_link l) (unpinned_link m)
+unpinned_looked l m a = record { role = refl; tag = refl; ring = refl; header = a.header; pending = a.pending; content = a.content; copying = a.copying; dirtied = a.dirtied; unapplied = a.unapplied; copied = a.copied; io = a.io; read = a.read; read_is_home = a.read_is_home; last_write = a.last_write; out = a.out; overwritten = a.overwritten; waits = a.waits }
+
+pub locked_looked : (word : ℕ) (l m : Link) → Looked l m → Looked (locked_link word l) (locked_link word m)
+locked_looked word l m a = record { role = a.role; tag = a.tag; ring = a.ring; header = refl; pending = a.pending; content = a.content; copying = a.copying; dirtied = a.dirtied; unapplied = a.unapplied; copied = a.copied; io = a.io; read = a.read; read_is_home = a.read_is_home; last_write = a.last_write; out = a.out; overwritten = a.overwritten; waits = a.waits }
+
+-- what was loaded has few pins
+pub few_pins : (f found : ℕ) (v w : View) → Did looking f v w found → (fields found).pins < 262143
+few_pins f found v w d = let a = few d.state.pool.core d.laws.invariant.pool.core f d.inside in let b = ap (λ (x : StateWord). x.pins) d.says in let c = d.few in omega arith
+
+-- and at least one where the view pins the frame
+pub some_pins : (f found : ℕ) (v w : View) → Did looking f v w found → (link v f).role ≢ Absent → 0 < (fields found).pins
+some_pins f found v w d pinned = let a = own_pins d.state.pool.core d.laws.invariant.pool.core d.seat f v d.there d.inside pinned in let b = ap (λ (x : StateWord). x.pins) d.says in omega arith
+
+-- the two ends of a compare-exchange, and of locking a header
+pub on_hit : (k : FrameKind) (f was now : ℕ) (v w : View) → Did (chosen (if_found k) was now) f v w now → now ≡ was → Did k f v w was
+on_hit k f was now v w d e = subst (λ (n : ℕ). Did k f v w n) e (subst (λ (b : Bool). Did (cond b k (load_of (part_of k))) f v w now) (eq-eqb now was e) d)
+
+pub on_miss : (k : FrameKind) (f was now : ℕ) (v w : View) → Did (chosen (if_found k) was now) f v w now → now ≢ was → Did (load_of (part_of k)) f v w now
+on_miss k f was now v w d n = subst (λ (b : Bool). Did (cond b k (load_of (part_of k))) f v w now) (ne_eqb now was n) d
+
+pub on_unlocked : (k : FrameKind) (f first found : ℕ) (v w : View) → Did (chosen (if_unlocked k) first found) f v w found → has_locked found ≡ false → Did k f v w found
+on_unlocked k f first found v w d e = subst (λ (b : Bool). Did (cond b (load_of (part_of k)) k) f v w found) e d
+
+pub on_locked : (k : FrameKind) (f first found : ℕ) (v w : View) → Did (chosen (if_unlocked k) first found) f v w found → has_locked found ≡ true → Did (load_of (part_of k)) f v w found
+on_locked k f first found v w d e = subst (λ (b : Bool). Did (cond b (load_of (part_of k)) k) f v w found) e d
+
+-- loads, one after the other
+pub looks_touch : (f : ℕ) (v w : View) → Looks f v w → Touches f v w
+looks_touch f v w still = touches_none f v
+looks_touch f v w (again {u = u} found l d) = touches_on f v u w (looks_touch f v u l) (touches looking (λ s g x. refl) f found u w d)
+
+pub looks_link : (f : ℕ) (v w : View) → Looks f v w → Looked (link v f) (link w f)
+looks_link f v w still = looked_same (link v f) (link v f) refl
+looks_link f v w (again {u = u} found l d) = looked_on (link v f) (link u f) (link w f) (looks_link f v u l) (looked f found u w d)
+
+-- a load changes no header
+pub looks_headless : (f : ℕ) (v w : View) → Looks f v w → HoldsNoHeader v → HoldsNoHeader w
+looks_headless f v w l h g = dite (ℕ_discrete g f)
+    (λ e. subst (λ (z : ℕ). (link w z).header ≡ None) (sym e) ((looks_link f v w l).header ∙ h f))
+    (λ n. ap (λ (x : Link). x.header) ((looks_touch f v w l).others g n) ∙ h g)
+
+pub looks_on : (f : ℕ) (v u w : View) → Looks f v u → Looks f u w → Looks f v w
+looks_on f v u w first still = first
+looks_on f v u w first (again {u = x} found l d) = again found (looks_on f v u x first l) d
+
+-- what may be unpinned still may after loads
+pub looks_unpin : (f : ℕ) (v w : View) → Looks f v w → CanUnpin (link v f) → CanUnpin (link w f)
+looks_unpin f v w l a = let e = looks_link f v w l in record { pinned = λ r. a.pinned (sym e.role ∙ r); no_content = e.content ∙ a.no_content; no_io = e.io ∙ a.no_io; no_wait = e.waits a.no_wait }
+
+-- after a load, a compare-exchange of the state word
+pub tried : (k : FrameKind) → part_of k ≡ part_of looking → (f was now : ℕ) (v u w : View) → Did looking f v u was → Did (chosen (if_found k) was now) f u w now → Tried k f v w (nat_eq now was)
+tried k part f was now v u w first second = dite (ℕ_discrete now was)
+    (λ e. subst (Tried k f v w) (sym (eq-eqb now was e)) (u, was, again was still first, on_hit k f was now u w second e))
+    (λ n. subst (Tried k f v w) (sym (ne_eqb now was n)) (again now (again was still first) (subst (λ p. Did (load_of p) f u w now) part (on_miss k f was now u w second n))))
+
+pub tried_after : (k : FrameKind) (f : ℕ) (v u w : View) (b : Bool) → Looks f v u → Tried k f u w b → Tried k f v w b
+tried_after k f v u w true first t = (t.0, t.1, looks_on f v u t.0 first t.2, t.3)
+tried_after k f v u w false first t = looks_on f v u w first t
+
+pub not_yet : (k : FrameKind) (f : ℕ) (v u w : View) (b : Bool) → b ≡ false → Looks f v u → Tried k f u w b → Looks f v w
+not_yet k f v u w b e first t = looks_on f v u w first (subst (Tried k f u w) e t)
+
+pub at_last : (k : FrameKind) (f : ℕ) (v u w : View) (b : Bool) → b ≡ true → Looks f v u → Tried k f u w b → Tried k f v w true
+at_last k f v u w b e first t = tried_after k f v u w true first (subst (Tried k f u w) e t)
+
+-- a kind was done after loads
+pub tried_touches : (k : FrameKind) → ((s : State) (f : ℕ) (v : View) → (view_after k s f v).partitions ≡ v.partitions) → (f : ℕ) (v w : View) → Tried k f v w true → Touches f v w
+tried_touches k none f v w t = touches_on f v t.0 w (looks_touch f v t.0 t.2) (touches k none f t.1 t.0 w t.3)
+
+pub unpinned_after : (f : ℕ) (v w : View) → Tried (pins pin.unpin) f v w true → Looked (unpinned_link (link v f)) (link w f)
+unpinned_after f v w t = subst (Looked (unpinned_link (link v f))) (sym (link_is (pins pin.unpin) f t.1 t.0 w t.3)) (unpinned_looked (link v f) (link t.0 f) (looks_link f v t.0 t.2))
+
+pub pinned_after : (ring : Bool) (f was : ℕ) (v u w : View) → Did looking f v u was → Did (pins (pin.pin ring)) f u w was → Looked (pinned_link ring (link v f)) (link w f)
+pinned_after ring f was v u w a b = subst (Looked (pinned_link ring (link v f))) (sym (link_is (pins (pin.pin ring)) f was u w b)) (pinned_looked ring (link v f) (link u f) (looked f was v u a))
+
+pub locked_after : (f was word : ℕ) (v u w : View) → Looks f v u → Did (pins pin.lock_header) f u w was → fields word ≡ locked_fields (fields was) → Looked (locked_link word (link v f)) (link w f)
+locked_after f was word v u w a b e = subst (Looked (locked_link word (link v f))) (sym (link_is (pins pin.lock_header) f was u w b ∙ (λ i. record (link u f) { header = Some ((ap locked_fields b.says ∙ sym e) i) })))
+    (locked_looked word (link v f) (link u f) (looks_link f v u a))
+
+-- what was told of a choice holds of the same choice
+pub of_choice : (a b : Choice) → a ≡ b → (i f first found : ℕ) (v w : View) → ((g : ℕ) → i ≡ part_place (choice_part a) g → Did (chosen a first found) g v w found) → i ≡ part_place (choice_part b) f → Did (chosen b first found) f v w found
+of_choice a b e i f first found v w told at = subst (λ (x : Choice). ((g : ℕ) → i ≡ part_place (choice_part x) g → Did (chosen x first found) g v w found)) e told f at

@@ -1,0 +1,14 @@
+use Rattle.std.proofs.Common.{rules, arith, refl}
+use Rattle.frame_table.specs.Tells.{looking}
+use Rattle.frame_table.proofs.Words.{looks}
+use Rattle.frame_table.proofs.Told.{touches, looked}
+use Rattle.frame_table.proofs.table.FrameTable.look.Goals as goal
+
+pub load-requires : goal.load-requires
+load-requires g c = (search rules, (let e = c.state_place.ensures in omega arith), rw c.state_place.ensures (looks _ c.args.self.now.table.shared.key _ _ _ _ c.requires.inside c.requires.live))
+
+pub returns-clause-touches : goal.returns-clause-touches
+returns-clause-touches g c = touches looking (λ s f v. refl) _ _ _ _ (c.load.ensures.2.1 c.args.frame c.state_place.ensures)
+
+pub returns-clause-link : goal.returns-clause-link
+returns-clause-link g c = looked _ _ _ _ (c.load.ensures.2.1 c.args.frame c.state_place.ensures)

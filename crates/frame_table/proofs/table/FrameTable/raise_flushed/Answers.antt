@@ -1,0 +1,6 @@
+use Rattle.std.proofs.Common.{rules, arith}
+use Rattle.frame_table.proofs.Behind.{raises_there}
+use Rattle.frame_table.proofs.table.FrameTable.raise_flushed.Goals as goal
+
+pub swap-requires : goal.swap-requires
+swap-requires g c = (search rules, (let e = c.flushed_place-at.ensures in let f = c.frames.ensures in omega arith), rw c.flushed_place-at.ensures (rw c.frames.ensures (raises_there _ c.args.self.now.table.shared.key _ _ _ c.requires.seat.live _ c.requires.synced c.requires.end)))

@@ -1,0 +1,137 @@
+-- What the calls at content words, and the calls that give a header up with a new word, ask of a view, and what they leave of it.
+use Rattle.std.specs.Prelude.{◌≡◌, ◌≢◌, ℕ, Bool, true, false, None, Some}
+use Rattle.state_word.specs.declared.word.IoEnd.{IoEnd}
+use Rattle.state_word.specs.Fields.{fields, bit}
+use Rattle.pin_core.specs.declared.view.Link.{Link}
+use Rattle.pin_core.specs.declared.view.Role.TheVariants.{Absent}
+use Rattle.pin_core.specs.declared.view.Content.TheVariants.{Unlocked, Shared, Exclusive}
+use Rattle.pin_core.specs.declared.view.Io.TheVariants.{Quiet, Input, Output}
+use Rattle.pin_core.specs.declared.view.LastWrite.TheVariants.{Unwritten}
+use Rattle.page_core.specs.Kinds.{EndsAs}
+use Rattle.page_core.specs.Kinds as paged
+use Rattle.frame_table.specs.Kinds.{FrameKind, pages}
+
+-- the load of the content word
+abbrev pub looking_content : FrameKind
+looking_content = pages paged.load_content
+
+-- whether a content word shows an exclusive lock, and whether its copy latch is taken
+abbrev pub has_exclusive : ℕ → Bool
+has_exclusive w = bit 18 w
+
+abbrev pub has_copying : ℕ → Bool
+has_copying w = bit 19 w
+
+-- What a view has at a frame whose content lock it takes
+pub record CanLock (l : Link) : Type 0 where
+  pub pinned : l.role ≢ Absent
+  pub seen : l.seen_valid ≡ true
+  pub none : l.content ≡ Unlocked
+
+-- whose shared lock it gives up
+pub record CanDropShare (l : Link) : Type 0 where
+  pub right : l.content ≡ Shared
+  pub no_copy : l.copying ≡ false
+  pub no_output : l.io ≢ Output
+  pub page_home : l.out ≡ None
+
+-- whose exclusive lock it gives up
+pub record CanDropExclusive (l : Link) : Type 0 where
+  pub right : l.content ≡ Exclusive
+  pub settled : l.unapplied ≡ false
+  pub page_home : l.out ≡ None
+
+-- and whose copy latch it gives up
+pub record CanDropCopy (l : Link) : Type 0 where
+  pub right : l.copying ≡ true
+  pub page_home : l.out ≡ None
+
+-- the link with the content lock, shared
+abbrev pub shared_link : Link → Link
+shared_link l = record l { content = Shared }
+
+-- and exclusive
+abbrev pub exclusive_link : Link → Link
+exclusive_link l = record l { content = Exclusive }
+
+-- without the shared lock, and so without what was copied under it
+abbrev pub unshared_link : Link → Link
+unshared_link l = record l { content = Unlocked; copied = None }
+
+-- without the exclusive lock, likewise
+abbrev pub unexclusive_link : Link → Link
+unexclusive_link l = record l { content = Unlocked; copied = None; dirtied = false }
+
+-- with the copy latch, and without it
+abbrev pub copying_link : Bool → Link → Link
+copying_link taken l = record l { copying = taken }
+
+-- the link of a view that marked the frame dirty
+abbrev pub dirtied_link : Link → Link
+dirtied_link l = record l { dirtied = true }
+
+-- What a view has at a frame where it begins input or output under the header, whose word is the number
+pub record CanBeginIo (input : Bool) (word : ℕ) (l : Link) : Type 0 where
+  pub held : l.header ≡ Some (fields word)
+  pub settled : l.pending ≡ false
+  pub pinned : l.role ≢ Absent
+  pub clear : (fields word).in_progress ≡ false
+  -- for input the frame has a tag and isn't valid
+  pub to_read : input ≡ true → ((fields word).tag_valid ≡ true) × ((fields word).valid ≡ false)
+  -- for output it is dirty, and the view shares the content lock
+  pub to_write : input ≡ false → ((fields word).dirty ≡ true) × (l.content ≡ Shared)
+
+-- where it ends them
+pub record CanFinishIo (end : IoEnd) (word : ℕ) (l : Link) : Type 0 where
+  pub held : l.header ≡ Some (fields word)
+  pub page_home : l.io ≡ Input → l.out ≡ None
+  pub ends : EndsAs end l
+
+-- where under its output right it clears BM_JUST_DIRTIED
+pub record CanClearJust (word : ℕ) (l : Link) : Type 0 where
+  pub held : l.header ≡ Some (fields word)
+  pub right : l.io ≡ Output
+
+-- where its checkpoint passes a frame that it has to write
+pub record CanNeed (word : ℕ) (l : Link) : Type 0 where
+  pub held : l.header ≡ Some (fields word)
+  pub settled : l.pending ≡ false
+  pub dirty : (fields word).dirty ≡ true
+  pub ahead : l.passed ≡ false
+
+-- where it begins to wait until its pin is the only one
+pub record CanAwait (word : ℕ) (l : Link) : Type 0 where
+  pub held : l.header ≡ Some (fields word)
+  pub settled : l.pending ≡ false
+  pub pinned : l.role ≢ Absent
+  pub right : l.content ≡ Exclusive
+  pub free : (fields word).awaited ≡ false
+
+-- and where it wakes the one who waits
+pub record CanWake (word : ℕ) (l : Link) : Type 0 where
+  pub held : l.header ≡ Some (fields word)
+  pub settled : l.pending ≡ false
+  pub awaited : (fields word).awaited ≡ true
+  pub single : (fields word).pins ≡ 1
+
+-- the kind with which input begins, or output
+abbrev pub start_of : Bool → paged.Kind
+start_of true = paged.start_input
+start_of false = paged.start_output
+
+-- the link with the input right, and with the output right, the header given up
+abbrev pub begun_link : Bool → Link → Link
+begun_link true l = record l { header = None; io = Input; read = None; read_is_home = false }
+begun_link false l = record l { header = None; io = Output }
+
+-- without the right
+abbrev pub finished_link : Link → Link
+finished_link l = record l { header = None; io = Quiet; read = None; read_is_home = false; last_write = Unwritten }
+
+-- at a frame that the checkpoint has passed and listed
+abbrev pub listed_link : Link → Link
+listed_link l = record l { header = None; passed = true; listed = true }
+
+-- with a wait under the number
+abbrev pub waiting_link : ℕ → Link → Link
+waiting_link number l = record l { header = None; waits = Some number }

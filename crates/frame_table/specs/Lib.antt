@@ -1,0 +1,9 @@
+pub mod Layout
+pub mod Kinds
+pub mod Shows
+pub mod Laid
+pub mod Tells
+pub mod Sees
+pub mod Behind
+pub mod EndLoads
+pub mod Content

@@ -1,0 +1,184 @@
+//! Calls at state words.
+ghost use Rattle.std.specs.Prelude.{◌≡◌, ◌≢◌, ℕ, ◌<◌, true, false, Some, IfOk, IfErr, MatchResult};
+ghost use Rattle.state_word.specs.Fields.{fields, locked_fields, pinned_fields, unpinned_fields};
+ghost use Rattle.pin_core.specs.declared.view.View.{View};
+ghost use Rattle.pin_core.specs.declared.view.Role.TheVariants.{Absent};
+ghost use Rattle.pin_core.specs.State.{link};
+ghost use Rattle.pin_core.specs.Kinds as kinds;
+ghost use Rattle.pin_core.specs.Steps.{HoldsNoHeader};
+ghost use Rattle.frame_table.specs.Kinds.{pins};
+ghost use Rattle.frame_table.specs.Sees.{CanStep, CanUnpin, Holds, Looked, SameSeat, Touches, locked_link, pinned_link, unlocked_link, unpinned_link};
+ghost use Rattle.frame_table.specs.Tells.{Did, Looks, Refuses, Tried, chosen, has_locked, has_tag, if_found, if_unlocked, looking};
+
+use crate::layout::state_place;
+use crate::pin::{Pin, TryPin};
+use crate::plays::{Does, LockHeader, Look, Step, UnlockHeader, Unpin};
+use crate::table::FrameTable;
+use crate::value::Value;
+use atomic_table::Seat;
+use pin_core::View;
+use segment_store::BlockLane;
+use state_word::{Flag, has, locked, pinned, unpinned};
+use std::marker::Brand;
+use std::sync::Wait;
+
+/// The bit of a locked header.
+const LOCKED: u64 = 1 << 22;
+
+impl<L: BlockLane, G> FrameTable<L, G> {
+    /// The state word of a frame.
+    pub fn look(&self, seat: &mut Seat<Value<L, G>, View>, frame: u32) -> u64
+        requires { CanStep self.now seat.old frame }
+        ensures seat { SameSeat seat.old seat.new }
+        ensures touches { Touches frame seat.old.me.0 seat.new.me.0 }
+        ensures link { Looked (link seat.old.me.0 frame) (link seat.new.me.0 frame) }
+        ensures did { Did looking frame seat.old.me.0 seat.new.me.0 result }
+    {
+        self.table
+            .shared
+            .load::<Step<Look>>(seat, state_place(frame))
+    }
+
+    fn swap_pin<D: Does>(
+        &self,
+        seat: &mut Seat<Value<L, G>, View>,
+        frame: u32,
+        _ring: bool,
+        was: u64,
+        new: u64,
+    ) -> u64
+        requires kind { D.choice ≡ if_found (pins (kinds.pin _ring)) }
+        requires seat { CanStep self.now seat.old frame }
+        requires absent { (link seat.old.me.0 frame).role ≡ Absent }
+        requires was { (has_locked was ≡ false) × (has_tag was ≡ true) }
+        requires new { fields new ≡ pinned_fields _ring (fields was) }
+        ensures seat { SameSeat seat.old seat.new }
+        ensures did { Did (chosen (if_found (pins (kinds.pin _ring))) was result) frame seat.old.me.0 seat.new.me.0 result }
+    {
+        self.table
+            .shared
+            .compare_exchange::<Step<D>>(seat, state_place(frame), was, new)
+    }
+
+    /// Pins a frame that has a tag, where its word does not change meanwhile (`PinBuffer`).
+    pub fn try_pin(
+        &self,
+        seat: &mut Seat<Value<L, G>, View>,
+        frame: u32,
+        ring: bool,
+    ) -> Result<Pin, TryPin>
+        requires seat { CanStep self.now seat.old frame }
+        requires absent { (link seat.old.me.0 frame).role ≡ Absent }
+        ensures seat { SameSeat seat.old seat.new }
+        ensures touches { Touches frame seat.old.me.0 seat.new.me.0 }
+        ensures pin { IfOk result (λ p. p.frame ≡ frame) }
+        ensures pinned { IfOk result (λ _. Looked (pinned_link ring (link seat.old.me.0 frame)) (link seat.new.me.0 frame)) }
+        ensures left { IfErr result (λ _. Looked (link seat.old.me.0 frame) (link seat.new.me.0 frame)) }
+        ensures did { MatchResult result (λ _. (v : View) × (was : ℕ) × Did looking frame seat.old.me.0 v was × Did (pins (kinds.pin ring)) frame v seat.new.me.0 was) (Refuses frame seat.old.me.0 seat.new.me.0) }
+    {
+        let was = self.look(seat, frame);
+        if has(was, Flag::Locked) {
+            return Err(TryPin::Locked { word: was });
+        }
+        if !has(was, Flag::TagValid) {
+            return Err(TryPin::Untagged { word: was });
+        }
+        let now = self.swap_pin::<Brand>(seat, frame, ring, was, pinned(was, ring));
+        if now == was {
+            Ok(Pin { frame })
+        } else {
+            Err(TryPin::Changed { was, now })
+        }
+    }
+
+    /// Gives up a pin, once the header is not locked (`UnpinBuffer`).
+    pub fn unpin<R: Wait>(&self, rt: &R, seat: &mut Seat<Value<L, G>, View>, pin: Pin)
+        requires seat { CanStep self.now seat.old pin.frame }
+        requires pinned { CanUnpin (link seat.old.me.0 pin.frame) }
+        ensures seat { SameSeat seat.old seat.new }
+        ensures touches { Touches pin.frame seat.old.me.0 seat.new.me.0 }
+        ensures unpinned { Looked (unpinned_link (link seat.old.me.0 pin.frame)) (link seat.new.me.0 pin.frame) }
+        ensures did { Tried (pins kinds.unpin) pin.frame seat.old.me.0 seat.new.me.0 true }
+    {
+        let Pin { frame } = pin;
+        for _ in rt.forever() {
+            if self.try_unpin(seat, frame) {
+                return;
+            }
+        }
+        unreachable!()
+    }
+
+    fn try_unpin(&self, seat: &mut Seat<Value<L, G>, View>, frame: u32) -> bool
+        requires seat { CanStep self.now seat.old frame }
+        requires pinned { CanUnpin (link seat.old.me.0 frame) }
+        ensures seat { SameSeat seat.old seat.new }
+        ensures did { Tried (pins kinds.unpin) frame seat.old.me.0 seat.new.me.0 result }
+    {
+        let was = self.look(seat, frame);
+        if has(was, Flag::Locked) {
+            return false;
+        }
+        self.swap_unpin(seat, frame, was) == was
+    }
+
+    fn swap_unpin(&self, seat: &mut Seat<Value<L, G>, View>, frame: u32, was: u64) -> u64
+        requires seat { CanStep self.now seat.old frame }
+        requires pinned { CanUnpin (link seat.old.me.0 frame) }
+        requires was { (has_locked was ≡ false) × (0 < (fields was).pins) }
+        ensures seat { SameSeat seat.old seat.new }
+        ensures did { Did (chosen (if_found (pins kinds.unpin)) was result) frame seat.old.me.0 seat.new.me.0 result }
+    {
+        self.table
+            .shared
+            .compare_exchange::<Step<Unpin>>(seat, state_place(frame), was, unpinned(was))
+    }
+
+    /// Waits until the header is not locked, and locks it (`LockBufHdr`). The word that is held.
+    pub fn lock_header<R: Wait>(
+        &self,
+        rt: &R,
+        seat: &mut Seat<Value<L, G>, View>,
+        frame: u32,
+    ) -> u64
+        requires seat { CanStep self.now seat.old frame }
+        requires headless { HoldsNoHeader seat.old.me.0 }
+        ensures seat { SameSeat seat.old seat.new }
+        ensures touches { Touches frame seat.old.me.0 seat.new.me.0 }
+        ensures locked { Looked (locked_link result (link seat.old.me.0 frame)) (link seat.new.me.0 frame) }
+        ensures did { (v : View) × (was : ℕ) × Looks frame seat.old.me.0 v × Did (pins kinds.lock_header) frame v seat.new.me.0 was × (fields result ≡ locked_fields (fields was)) }
+    {
+        for _ in rt.forever() {
+            let found = self.or_lock(seat, frame);
+            if !has(found, Flag::Locked) {
+                return locked(found);
+            }
+        }
+        unreachable!()
+    }
+
+    fn or_lock(&self, seat: &mut Seat<Value<L, G>, View>, frame: u32) -> u64
+        requires seat { CanStep self.now seat.old frame }
+        requires headless { HoldsNoHeader seat.old.me.0 }
+        ensures seat { SameSeat seat.old seat.new }
+        ensures did { Did (chosen (if_unlocked (pins kinds.lock_header)) LOCKED result) frame seat.old.me.0 seat.new.me.0 result }
+    {
+        self.table
+            .shared
+            .fetch_or::<Step<LockHeader>>(seat, state_place(frame), LOCKED)
+    }
+
+    /// Unlocks the header that the backend holds, the word as it was (`UnlockBufHdr`).
+    pub fn unlock_header(&self, seat: &mut Seat<Value<L, G>, View>, frame: u32)
+        requires seat { CanStep self.now seat.old frame }
+        requires held { Holds (link seat.old.me.0 frame) }
+        ensures seat { SameSeat seat.old seat.new }
+        ensures touches { Touches frame seat.old.me.0 seat.new.me.0 }
+        ensures unlocked { link seat.new.me.0 frame ≡ unlocked_link (link seat.old.me.0 frame) }
+        ensures did { (was : ℕ) × Did (pins kinds.unlock_header) frame seat.old.me.0 seat.new.me.0 was }
+    {
+        self.table
+            .shared
+            .fetch_and::<Step<UnlockHeader>>(seat, state_place(frame), !LOCKED);
+    }
+}

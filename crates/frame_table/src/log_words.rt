@@ -1,0 +1,99 @@
+//! Calls at the words of the log, and at the clock's hand.
+ghost use Rattle.std.specs.Prelude.{◌≡◌, ℕ, ◌≤◌, true, Some};
+ghost use Rattle.frame_table.specs.Behind.{DidWord, add_hand, load_flushed, load_hand, raise_flushed, view_of};
+ghost use Rattle.frame_table.specs.EndLoads.{IsEndAllowed, end_kind};
+ghost use Rattle.frame_table.specs.Sees.{IsSeat, SameSeat, frames_of};
+
+use crate::layout::{end_place, flushed_place, hand_place};
+use crate::table::FrameTable;
+use crate::value::Value;
+use crate::word_plays::{AddHand, LoadFlushed, LoadHand, RaiseFlushed, StepAt, StepsAt};
+use atomic_table::Seat;
+use pin_core::View;
+use segment_store::BlockLane;
+use std::marker::Brand;
+
+/// What the log's end is loaded for.
+#[derive(Clone, Copy, PartialEq, Eq, Debug)]
+pub enum EndLoad {
+    Plain,
+    /// As the place of a read of the page that was copied from a frame.
+    Read(u32),
+    /// As the start of a checkpoint.
+    Checkpoint,
+}
+
+impl<L: BlockLane, G> FrameTable<L, G> {
+    fn end_at<D: StepsAt>(&self, seat: &mut Seat<Value<L, G>, View>, _what: EndLoad) -> u64
+        requires kind { D.kind ≡ end_kind _what }
+        requires seat { IsSeat self.now seat.old }
+        requires allowed { IsEndAllowed (frames_of self.now) _what seat.old.me.0 }
+        ensures seat { SameSeat seat.old seat.new }
+        ensures did { DidWord (end_kind _what) seat.old.me.0 seat.new.me.0 result }
+    {
+        let at = end_place(self.frames());
+        self.table.shared.load::<StepAt<D>>(seat, at)
+    }
+
+    /// The log's end, and what it is loaded for: as the place of a read it joins the backend's calls, and is its front then.
+    pub fn load_log_end(&self, seat: &mut Seat<Value<L, G>, View>, what: EndLoad) -> u64
+        requires seat { IsSeat self.now seat.old }
+        requires allowed { IsEndAllowed (frames_of self.now) what seat.old.me.0 }
+        ensures seat { SameSeat seat.old seat.new }
+        ensures view { seat.new.me.0 ≡ view_of (end_kind what) result seat.old.me.0 }
+        ensures front { seat.old.me.0.front ≤ result }
+        ensures did { DidWord (end_kind what) seat.old.me.0 seat.new.me.0 result }
+    {
+        self.end_at::<Brand>(seat, what)
+    }
+
+    /// The position up to which the log is flushed.
+    pub fn load_flushed(&self, seat: &mut Seat<Value<L, G>, View>) -> u64
+        requires { IsSeat self.now seat.old }
+        ensures seat { SameSeat seat.old seat.new }
+        ensures view { seat.new.me.0 ≡ view_of load_flushed result seat.old.me.0 }
+        ensures did { DidWord load_flushed seat.old.me.0 seat.new.me.0 result }
+    {
+        let at = flushed_place(self.frames());
+        self.table.shared.load::<StepAt<LoadFlushed>>(seat, at)
+    }
+
+    /// Raises the flushed position to the log's end, which the backend has loaded under the log's latch, after a sync under it (`XLogFlush`).
+    pub fn raise_flushed(&self, seat: &mut Seat<Value<L, G>, View>, end: u64)
+        requires seat { IsSeat self.now seat.old }
+        requires synced { seat.old.me.0.log.synced ≡ true }
+        requires end { seat.old.me.0.log.end ≡ Some end }
+        ensures seat { SameSeat seat.old seat.new }
+        ensures view { seat.new.me.0 ≡ view_of raise_flushed end seat.old.me.0 }
+        ensures did { (found : ℕ) × DidWord raise_flushed seat.old.me.0 seat.new.me.0 found }
+    {
+        let at = flushed_place(self.frames());
+        self.table
+            .shared
+            .swap::<StepAt<RaiseFlushed>>(seat, at, end);
+    }
+
+    /// The clock's hand.
+    pub fn load_hand(&self, seat: &mut Seat<Value<L, G>, View>) -> u64
+        requires { IsSeat self.now seat.old }
+        ensures seat { SameSeat seat.old seat.new }
+        ensures view { seat.new.me.0 ≡ view_of load_hand result seat.old.me.0 }
+        ensures did { DidWord load_hand seat.old.me.0 seat.new.me.0 result }
+    {
+        let at = hand_place(self.frames());
+        self.table.shared.load::<StepAt<LoadHand>>(seat, at)
+    }
+
+    /// Moves the clock's hand on by one, from its last value to 0, and answers where it stood (`ClockSweepTick`).
+    pub fn add_hand(&self, seat: &mut Seat<Value<L, G>, View>) -> u64
+        requires { IsSeat self.now seat.old }
+        ensures seat { SameSeat seat.old seat.new }
+        ensures view { seat.new.me.0 ≡ view_of add_hand result seat.old.me.0 }
+        ensures did { DidWord add_hand seat.old.me.0 seat.new.me.0 result }
+    {
+        let at = hand_place(self.frames());
+        self.table
+            .shared
+            .fetch_add::<StepAt<AddHand>>(seat, at, 1)
+    }
+}

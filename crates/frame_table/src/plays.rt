@@ -1,0 +1,74 @@
+//! What each step tells its seat.
+ghost use Rattle.std.specs.Prelude.{ℕ};
+ghost use Rattle.frame_table.specs.Tells.{tells, Choice, always, if_found, if_unlocked, looking};
+ghost use Rattle.frame_table.specs.Kinds.{pins};
+ghost use Rattle.pin_core.specs.Kinds as pin;
+
+use crate::value::Value;
+use atomic_table::{Play, Split};
+use pin_core::View;
+use std::marker::{Brand, PhantomData};
+
+/// Which kind a step at a frame is.
+pub(crate) trait Does {
+    ghost choice: { Choice };
+}
+
+pub(crate) struct Step<D> {
+    kind: PhantomData<D>,
+}
+
+impl<L, G, D: Does> Play<Value<L, G>, View> for Step<D> {
+    ghost then = { tells D.choice };
+}
+
+// The call picks the kind.
+impl Does for Brand {
+    ghost choice = { always looking };
+}
+
+pub(crate) struct Look;
+
+impl Does for Look {
+    ghost choice = { always looking };
+}
+
+pub(crate) struct Unpin;
+
+impl Does for Unpin {
+    ghost choice = { if_found (pins pin.unpin) };
+}
+
+pub(crate) struct LockHeader;
+
+impl Does for LockHeader {
+    ghost choice = { if_unlocked (pins pin.lock_header) };
+}
+
+pub(crate) struct UnlockHeader;
+
+impl Does for UnlockHeader {
+    ghost choice = { always (pins pin.unlock_header) };
+}
+
+/// What a call knows of the table beside its seat. Each call picks it.
+pub(crate) trait Known {
+    // Where the log begins.
+    ghost base: { ℕ };
+}
+
+impl Known for Brand {
+    ghost base = { 0 };
+}
+
+pub(crate) struct NewSeat<J> {
+    known: PhantomData<J>,
+}
+
+impl<J: Known> Split<View> for NewSeat<J> {
+    ghost use Rattle.frame_table.specs.Tells.{kept_view, split_view};
+
+    ghost left = { kept_view };
+
+    ghost right = { split_view J.base };
+}

@@ -1,0 +1,17 @@
+//! The rule of the table.
+use crate::opening::Opening;
+use crate::value::Value;
+use atomic_table::TableRule;
+use pin_core::View;
+use segment_store::BlockLane;
+
+/// Its words, slots and views show a state that has the law of `history_core`.
+pub struct Rule;
+
+impl<L: BlockLane, G> TableRule<Value<L, G>, View, Opening<L, G>> for Rule {
+    ghost use Rattle.frame_table.specs.Shows.{Held, devices, starting};
+
+    ghost holds = { Held (devices L.contents L.failed_writes L.read_faults L.write_faults) };
+
+    ghost first = { starting };
+}

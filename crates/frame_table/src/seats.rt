@@ -1,0 +1,41 @@
+//! New seats.
+ghost use Rattle.std.specs.Prelude.{◌≡◌, ℕ, ◌<◌, []};
+ghost use Rattle.pin_core.specs.State.{hold, idle, link, no_partition};
+ghost use Rattle.frame_table.specs.Sees.{Fits, SameSeat};
+ghost use Rattle.frame_table.specs.Tells.{kept_view, split_view};
+
+use crate::plays::{Known, NewSeat};
+use crate::table::FrameTable;
+use crate::value::Value;
+use atomic_table::Seat;
+use pin_core::View;
+use segment_store::BlockLane;
+use std::marker::Brand;
+
+impl<L: BlockLane, G> FrameTable<L, G> {
+    fn split_at<J: Known>(&self, seat: &mut Seat<Value<L, G>, View>) -> Seat<Value<L, G>, View>
+        requires known { J.base ≡ self.now.table.shared.key.base }
+        requires seat { Fits self.now seat.old × (seat.old.id ≡ 0) }
+        requires room { seat.old.me.0.next < self.now.table.shared.key.config.backends }
+        ensures seat { SameSeat seat.old seat.new }
+        ensures kept { seat.new.me.0 ≡ kept_view seat.old.me.0 }
+        ensures fits { Fits self.now result }
+        ensures new { result.me ≡ (split_view J.base seat.old.me.0, []) }
+    {
+        self.table.shared.split_seat::<NewSeat<J>>(seat)
+    }
+
+    /// A seat for a new backend, by the first one: it has the first one's next number, and holds nothing.
+    pub fn split(&self, seat: &mut Seat<Value<L, G>, View>) -> Seat<Value<L, G>, View>
+        requires seat { Fits self.now seat.old × (seat.old.id ≡ 0) }
+        requires room { seat.old.me.0.next < self.now.table.shared.key.config.backends }
+        ensures seat { SameSeat seat.old seat.new }
+        ensures kept { seat.new.me.0 ≡ kept_view seat.old.me.0 }
+        ensures fits { Fits self.now result }
+        ensures new { result.me ≡ (split_view self.now.table.shared.key.base seat.old.me.0, []) }
+        ensures links { (f : ℕ) → link result.me.0 f ≡ idle }
+        ensures holds { (p : ℕ) → hold result.me.0 p ≡ no_partition }
+    {
+        self.split_at::<Brand>(seat)
+    }
+}
