@@ -6,3 +6,4 @@ pub mod Told
 pub mod Splitting
 pub mod Laying
 pub mod Opens
+pub mod Holding

@@ -79,10 +79,10 @@ module _ {L G : Type 0} (d : Devices L G) (o : Opening L G) where
 
   -- a step of the kind k at a state word, whatever the word was
   pub stores : (k : FrameKind) → part_of k ≡ part_of looking → (slots id f a b new : ℕ) (me : Me (Value L G) View) → f < o.config.frames → me.0.emptied ≡ false
-      → ((s : State) → Laws s → get_elem? s.pool.core.views id ≡ some me.0 → AsksWord k s f new me.0)
+      → ((s : State) → Laws s → get_elem? s.pool.core.views id ≡ some me.0 → f < s.pool.core.frames → AsksWord k s f new me.0)
       → Allows (Held d o) slots id me (state_place f) (λ _. new) (tells (always k) (step slots (state_place f) a b none) me)
   stores k part slots id f a b new me below live asked = subst (λ (i : ℕ). Allows (Held d o) slots id me i (λ _. new) (tells (always k) (step slots i a b none) me)) at (acts d o (always k) slots id f a b (λ _. new) me below live
-      (λ t s h laws there small. subst (λ (i : ℕ). Asks k t s f i new me.0) (sym at) (at_word k t s f new me.0 below h (asked s laws there))))
+      (λ t s h laws there small. subst (λ (i : ℕ). Asks k t s f i new me.0) (sym at) (at_word k t s f new me.0 below h (asked s laws there (let e = h.fixed.frames in omega arith)))))
     where
       at : part_place (part_of k) f ≡ state_place f
       at = ap (λ p. part_place p f) part

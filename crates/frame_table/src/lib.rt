@@ -6,6 +6,7 @@
 mod build;
 mod calls;
 mod config;
+mod headers;
 mod layout;
 mod opening;
 mod pin;

@@ -51,6 +51,42 @@ impl Does for UnlockHeader {
     ghost choice = { always (pins pin.unlock_header) };
 }
 
+pub(crate) struct LoadTag;
+
+impl Does for LoadTag {
+    ghost choice = { always (pins pin.load_tag) };
+}
+
+pub(crate) struct EraseTag;
+
+impl Does for EraseTag {
+    ghost choice = { always (pins pin.erase_tag) };
+}
+
+pub(crate) struct VictimPin;
+
+impl Does for VictimPin {
+    ghost choice = { always (pins pin.pin_victim) };
+}
+
+pub(crate) struct LowerUsage;
+
+impl Does for LowerUsage {
+    ghost choice = { always (pins pin.lower_usage) };
+}
+
+pub(crate) struct Assign;
+
+impl Does for Assign {
+    ghost choice = { always (pins pin.assign) };
+}
+
+pub(crate) struct Clear;
+
+impl Does for Clear {
+    ghost choice = { always (pins pin.clear) };
+}
+
 /// What a call knows of the table beside its seat. Each call picks it.
 pub(crate) trait Known {
     // Where the log begins.
