@@ -7,3 +7,4 @@ pub mod Splitting
 pub mod Laying
 pub mod Opens
 pub mod Holding
+pub mod Taking

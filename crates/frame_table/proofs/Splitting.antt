@@ -6,6 +6,7 @@ use Rattle.atomic_table.specs.Table.{Splits}
 use Rattle.atomic_table.specs.Table as table
 use Rattle.pin_core.specs.declared.view.View.{View}
 use Rattle.pin_core.specs.State.{new_view}
+use Rattle.pin_core.specs.Tallies.{flag_weight}
 use Rattle.pin_core.specs.Steps as pin_steps
 use Rattle.page_core.specs.Steps as page_steps
 use Rattle.history_core.specs.State.{State}
@@ -14,15 +15,22 @@ use Rattle.grid.proofs.Lists.{at_longer}
 use Rattle.frame_table.specs.declared.value.Value.{Value}
 use Rattle.frame_table.specs.declared.opening.Opening.{Opening}
 use Rattle.frame_table.specs.declared.turn.Place.{Place}
-use Rattle.frame_table.specs.Shows.{IsHome, Devices, Shows, Held}
+use Rattle.frame_table.specs.declared.turn.Turn.{Turn}
+use Rattle.frame_table.specs.declared.turn.Turn.TheVariants as turn
+use Rattle.frame_table.specs.Shows.{is_taken, IsHome, Devices, Shows, Held}
 use Rattle.frame_table.specs.Tells.{kept_view, split_view}
 use Rattle.frame_table.proofs.Kept.{laws_kept}
-use Rattle.frame_table.proofs.Frames.{gives_same, same_out, home_before}
+use Rattle.frame_table.proofs.Frames.{lane_none, gives_same, same_out, home_before}
 
 module _ {L G : Type 0} (d : Devices L G) (o : Opening L G) where
   -- the state where the views are others, and nothing else
   abbrev with_views : State → List View → State
   with_views s views = record s { pool = record s.pool { core = record s.pool.core { views = views } } }
+
+  taken_stays : (s : State) (views : List View) (x : Turn) → is_taken x s ≡ is_taken x (with_views s views)
+  taken_stays s views (turn.Partition p) = refl
+  taken_stays s views (turn.Lane q) = refl
+  taken_stays s views turn.Log = refl
 
   -- The table shows it, where no value comes home by it
   shows_views : (t : table.State (Value L G) View) (s : State) (views : List View) → Shows d o t s → ((x : Place) → IsHome x views → IsHome x s.pool.core.views) → Shows d o (record t { views = views }) (with_views s views)
@@ -32,9 +40,9 @@ module _ {L G : Type 0} (d : Devices L G) (o : Opening L G) where
     slots = h.slots;
     views = refl;
     frame = h.frame;
-    latches = let l = h.latches in record { partitions = l.partitions; lanes = l.lanes; log = l.log; end = l.end; flushed = l.flushed };
+    latches = let l = h.latches in record { latch = λ x has. l.latch x has ∙ ap flag_weight (taken_stays s views x); end = l.end; flushed = l.flushed };
     homes = λ x inside none_out. let old = h.homes x inside (home x none_out) in
-        record { value = old.value; home = old.home; gives = gives_same d o s (with_views s views) (record { page = λ f. refl; map = λ p. refl; count = refl; lane = λ q. refl }) x old.value old.gives };
+        record { value = old.value; home = old.home; gives = gives_same d o s (with_views s views) (record { page = λ f. refl; map = λ p. refl; count = refl; lane = λ q. lane_none (s.lane q) }) x old.value old.gives };
   }
 
   pub splits_there : (base id : ℕ) (v : View) → base ≡ o.base → id ≡ 0 → v.next < o.config.backends → Splits (Held d o) id v (kept_view v) (split_view base v)

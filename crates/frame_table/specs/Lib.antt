@@ -4,3 +4,4 @@ pub mod Shows
 pub mod Laid
 pub mod Tells
 pub mod Sees
+pub mod Turning

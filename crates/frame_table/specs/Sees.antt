@@ -18,7 +18,9 @@ use Rattle.pin_core.specs.Kinds.{tag_after, holds_naming}
 use Rattle.pin_core.specs.Turns.{found}
 use Rattle.frame_table.specs.declared.value.Value.{Value}
 use Rattle.frame_table.specs.declared.table.FrameTable.{FrameTable}
+use Rattle.frame_table.specs.declared.turn.Turn.{Turn}
 use Rattle.frame_table.specs.Layout.{tag_partition}
+use Rattle.frame_table.specs.Shows.{HasTurn}
 
 -- What a view keeps of itself over a step at a frame
 pub record SameSelf (v w : View) : Type 0 where
@@ -201,6 +203,12 @@ module _ {L G : Type 0} where
     pub fits : Fits t s
     pub live : s.me.0.emptied ≡ false
     pub inside : f < frames_of t
+
+  -- the seat can step at a latch
+  pub record CanTurn (t : FrameTable L G) (s : Seat (Value L G) View) (x : Turn) : Type 0 where
+    pub fits : Fits t s
+    pub live : s.me.0.emptied ≡ false
+    pub inside : HasTurn t.table.shared.key.config.lanes x
 
   -- the seat after a call is the one before it, with the same slots in hand
   pub record SameSeat (s s' : Seat (Value L G) View) : Type 0 where

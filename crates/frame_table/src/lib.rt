@@ -15,6 +15,7 @@ mod rule;
 mod seats;
 mod table;
 mod turn;
+mod turns;
 mod value;
 
 pub use config::Config;

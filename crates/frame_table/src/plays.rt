@@ -2,6 +2,9 @@
 ghost use Rattle.std.specs.Prelude.{ℕ};
 ghost use Rattle.frame_table.specs.Tells.{tells, Choice, always, if_found, if_unlocked, looking};
 ghost use Rattle.frame_table.specs.Kinds.{pins};
+ghost use Rattle.frame_table.specs.Turning.{left, took};
+ghost use Rattle.frame_table.specs.declared.turn.Turn.{Turn};
+ghost use Rattle.frame_table.specs.declared.turn.Turn.TheVariants.{Log};
 ghost use Rattle.pin_core.specs.Kinds as pin;
 
 use crate::value::Value;
@@ -85,6 +88,31 @@ pub(crate) struct Clear;
 
 impl Does for Clear {
     ghost choice = { always (pins pin.clear) };
+}
+
+/// Which latch a step is at. Each call picks it.
+pub(crate) trait AtTurn {
+    ghost turn: { Turn };
+}
+
+impl AtTurn for Brand {
+    ghost turn = { Log };
+}
+
+pub(crate) struct TakeTurn<D> {
+    turn: PhantomData<D>,
+}
+
+impl<L, G, D: AtTurn> Play<Value<L, G>, View> for TakeTurn<D> {
+    ghost then = { took D.turn };
+}
+
+pub(crate) struct LeaveTurn<D> {
+    turn: PhantomData<D>,
+}
+
+impl<L, G, D: AtTurn> Play<Value<L, G>, View> for LeaveTurn<D> {
+    ghost then = { left D.turn };
 }
 
 /// What a call knows of the table beside its seat. Each call picks it.
