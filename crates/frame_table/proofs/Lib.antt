@@ -8,3 +8,4 @@ pub mod Laying
 pub mod Opens
 pub mod Holding
 pub mod Taking
+pub mod Mapping

@@ -1,9 +1,11 @@
 -- The steps at latches: where they are allowed, and what they make of the state.
-use Rattle.std.specs.Prelude.{◌≡◌, ◌≢◌, ℕ, ◌<◌, Bool, true, false, None}
+use Rattle.std.specs.Prelude.{◌≡◌, ◌≢◌, ℕ, ◌<◌, Bool, true, false, List, ◌∷◌, map, Some, None}
 use mathlib.Core.Option.{some}
 use lib.ListN.{get_elem?}
-use Rattle.atomic_table.specs.Table.{Me, Step}
-use Rattle.pin_core.specs.declared.view.MapChange.TheVariants.{Settled}
+use Rattle.atomic_table.specs.Table.{Me, Step, rest}
+use Rattle.pin_core.specs.declared.view.MapEntry.{MapEntry}
+use Rattle.pin_core.specs.declared.view.MapChange.{MapChange}
+use Rattle.pin_core.specs.declared.view.MapChange.TheVariants.{Settled, Entering, Leaving}
 use Rattle.pin_core.specs.declared.view.PartitionHold.{PartitionHold}
 use Rattle.pin_core.specs.declared.view.View.{View}
 use Rattle.pin_core.specs.State.{hold, lane_hold}
@@ -17,10 +19,12 @@ use Rattle.history_core.specs.Steps.{Event, aside, stepped, laned}
 use Rattle.history_core.specs.Steps as steps
 use Rattle.grid.specs.Shape.{put}
 use Rattle.frame_table.specs.declared.value.Value.{Value}
+use Rattle.frame_table.specs.declared.value.Value.TheVariants as value
+use Rattle.frame_table.specs.Layout.{tag_partition}
 use Rattle.frame_table.specs.declared.turn.Turn.{Turn}
 use Rattle.frame_table.specs.declared.turn.Turn.TheVariants.{Partition, Lane, Log}
 use Rattle.frame_table.specs.Kinds.{Laws}
-use Rattle.frame_table.specs.Shows.{is_taken}
+use Rattle.frame_table.specs.Shows.{is_taken, entry_of}
 
 -- whether a view has the latch
 abbrev pub has_turn : Turn → View → Bool
@@ -118,3 +122,60 @@ abbrev pub IsTurned : Bool → Turn → View → View → Type 0
 IsTurned takes (Partition p) v w = (hold w p ≡ held_part takes (hold v p)) × ((q : ℕ) → q ≢ p → hold w q ≡ hold v q) × (w.lanes ≡ v.lanes) × (w.log ≡ v.log)
 IsTurned takes (Lane q) v w = (lane_hold w q ≡ record (lane_hold v q) { held = takes }) × ((r : ℕ) → r ≢ q → lane_hold w r ≡ lane_hold v r) × (w.partitions ≡ v.partitions) × (w.log ≡ v.log)
 IsTurned takes Log v w = (w.log ≡ logs.log_hold_after (log_kind takes) v.log) × (w.partitions ≡ v.partitions) × (w.lanes ≡ v.lanes)
+
+-- The view v became w by a step of the kind k at the partition p
+pub record DidMap (k : parts.TurnKind) (p : ℕ) (v w : View) : Type 0 where
+  pub state : State
+  pub laws : Laws state
+  pub spread : state.pool.core.partition_of ≡ tag_partition
+  pub seat : ℕ
+  pub there : get_elem? state.pool.core.views seat ≡ some v
+  pub live : v.emptied ≡ false
+  pub inside : p < state.pool.core.partitions
+  pub allowed : parts.TurnAllowed k (state.pool.core.partition p) (hold v p)
+  pub after : w ≡ parts.view_turned k p (hold v p) v
+
+-- the map of a partition comes back with these entries: where the view has named a pair that isn't entered or left out yet, this is done
+pub data ComesBack (entries : List MapEntry) (p : ℕ) (v w : View) : MapChange → Type 0 where
+  as_it_was : DidMap (parts.map_back entries) p v w → ComesBack entries p v w Settled
+  entered : {tag f : ℕ} (u : View) → DidMap parts.change_map p v u → DidMap (parts.map_back entries) p u w → ComesBack entries p v w (Entering tag f)
+  left_out : {tag f : ℕ} (u : View) → DidMap parts.change_map p v u → DidMap (parts.map_back entries) p u w → ComesBack entries p v w (Leaving tag f)
+
+-- What a map may be when it comes back: it was out, as these entries, and has the change that the view named
+pub record MayComeBack (entries : List MapEntry) (p : ℕ) (v : View) : Type 0 where
+  pub out : (hold v p).out ≢ None
+  pub unchanged : (hold v p).changed ≡ false
+  pub changed : (was : List MapEntry) → (hold v p).out ≡ Some was → parts.found entries ≡ parts.map_after (hold v p).change (parts.found was)
+
+module _ {L G : Type 0} where
+  -- the value is a map with these entries
+  abbrev pub IsMap : Value L G → List MapEntry → Type 0
+  IsMap (value.Map m) entries = map entry_of m.items ≡ entries
+  IsMap _ entries = ⊥
+
+  -- the map went out with the seat, from this slot
+  abbrev pub map_went : ℕ → ℕ → Step (Value L G) → Me (Value L G) View → ℕ → Me (Value L G) View → Type 0
+  map_went p slot st m found m' = (y : Value L G) × (entries : List MapEntry) × (m'.1 ≡ (slot, y) ∷ m.1) × IsMap y entries × DidMap (parts.map_out entries) p m.0 m'.0
+
+  abbrev pub map_came : ℕ → List MapEntry → Step (Value L G) → Me (Value L G) View → ℕ → Me (Value L G) View → Type 0
+  map_came p entries st m found m' = (m'.1 ≡ rest m.1) × ComesBack entries p m.0 m'.0 (hold m.0 p).change
+
+-- whether a change was made, that the view had named
+abbrev pub is_named : MapChange → Bool
+is_named Settled = false
+is_named (Entering tag f) = true
+is_named (Leaving tag f) = true
+
+-- what the view has of the latch while the map is out, and once it is back
+abbrev pub out_hold : List MapEntry → PartitionHold → PartitionHold
+out_hold entries h = record h { out = Some entries }
+
+abbrev pub back_hold : PartitionHold → PartitionHold
+back_hold h = record h { out = None; change = Settled; changed = is_named h.change }
+
+-- The view has at the partition p what is said, and at all others, and at lanes and the log, what it had
+pub record MapStep (p : ℕ) (h : PartitionHold) (v w : View) : Type 0 where
+  pub here : hold w p ≡ h
+  pub others : (q : ℕ) → q ≢ p → hold w q ≡ hold v q
+  pub lanes : w.lanes ≡ v.lanes
+  pub log : w.log ≡ v.log

@@ -8,6 +8,7 @@ mod calls;
 mod config;
 mod headers;
 mod layout;
+mod maps;
 mod opening;
 mod pin;
 mod plays;

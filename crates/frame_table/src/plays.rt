@@ -1,8 +1,9 @@
 //! What each step tells its seat.
-ghost use Rattle.std.specs.Prelude.{ℕ};
+ghost use Rattle.std.specs.Prelude.{ℕ, List, []};
+ghost use Rattle.pin_core.specs.declared.view.MapEntry.{MapEntry};
 ghost use Rattle.frame_table.specs.Tells.{tells, Choice, always, if_found, if_unlocked, looking};
 ghost use Rattle.frame_table.specs.Kinds.{pins};
-ghost use Rattle.frame_table.specs.Turning.{left, took};
+ghost use Rattle.frame_table.specs.Turning.{left, map_came, map_went, took};
 ghost use Rattle.frame_table.specs.declared.turn.Turn.{Turn};
 ghost use Rattle.frame_table.specs.declared.turn.Turn.TheVariants.{Log};
 ghost use Rattle.pin_core.specs.Kinds as pin;
@@ -113,6 +114,39 @@ pub(crate) struct LeaveTurn<D> {
 
 impl<L, G, D: AtTurn> Play<Value<L, G>, View> for LeaveTurn<D> {
     ghost then = { left D.turn };
+}
+
+/// Which partition's map a step is at, the slot of the map, and its entries. Each call picks it.
+pub(crate) trait AtMap {
+    ghost partition: { ℕ };
+
+    ghost slot: { ℕ };
+
+    ghost entries: { List MapEntry };
+}
+
+impl AtMap for Brand {
+    ghost partition = { 0 };
+
+    ghost slot = { 0 };
+
+    ghost entries = { [] };
+}
+
+pub(crate) struct MapOut<D> {
+    partition: PhantomData<D>,
+}
+
+impl<L, G, D: AtMap> Play<Value<L, G>, View> for MapOut<D> {
+    ghost then = { map_went D.partition D.slot };
+}
+
+pub(crate) struct MapBack<D> {
+    partition: PhantomData<D>,
+}
+
+impl<L, G, D: AtMap> Play<Value<L, G>, View> for MapBack<D> {
+    ghost then = { map_came D.partition D.entries };
 }
 
 /// What a call knows of the table beside its seat. Each call picks it.

@@ -17,7 +17,7 @@ use std::sync::Wait;
 
 impl<L: BlockLane, G> FrameTable<L, G> {
     /// The place of a latch's word.
-    fn latch(&self, turn: Turn) -> usize
+    pub(crate) fn latch(&self, turn: Turn) -> usize
         ensures place { result ≡ latch_place (frames_of self.now) turn }
     {
         let frames = 3 * self.config.frames as usize;
