@@ -9,7 +9,7 @@ ghost use Rattle.frame_table.specs.declared.turn.Turn.TheVariants.{Log};
 ghost use Rattle.pin_core.specs.Kinds as pin;
 
 use crate::value::Value;
-use atomic_table::{Play, Split};
+use atomic_table::{Join, Play, Split};
 use pin_core::View;
 use std::marker::{Brand, PhantomData};
 
@@ -169,4 +169,14 @@ impl<J: Known> Split<View> for NewSeat<J> {
     ghost left = { kept_view };
 
     ghost right = { split_view J.base };
+}
+
+pub(crate) struct Joined;
+
+impl Join<View> for Joined {
+    ghost use Rattle.pin_core.specs.State.{emptied_view, joined_view};
+
+    ghost both = { joined_view };
+
+    ghost spent = { emptied_view };
 }
