@@ -1,16 +1,17 @@
 -- Steps under a header, and at tag words.
-use Rattle.std.proofs.Common.{◌≡◌, ◌≢◌, ℕ, ◌+◌, ◌*◌, ◌<◌, ◌/◌, ◌%◌, ◌^◌, Bool, true, false, Option, Some, None, List, get_or, set, length, get_or-set_same, get_or-set_other, sym, refl, ap, ◌∙◌, subst, arith}
+use Rattle.std.proofs.Common.{eqb, ◌≡◌, ◌≢◌, ℕ, ◌+◌, ◌*◌, ◌<◌, ◌/◌, ◌%◌, ◌^◌, Bool, true, false, Option, Some, None, List, get_or, set, length, get_or-set_same, get_or-set_other, sym, refl, ap, ◌∙◌, subst, arith}
 use Rattle.std.specs.Prelude.{is_some, IfSome, nat_eq}
 use Rattle.std.proofs.lemmas.List.{get_or_past}
 use mathlib.Core.Logic.{dite}
 use mathlib.Core.Option.{none, some}
 use native.Mathlib.Decide.{ℕ_discrete, dec_lt}
 use lib.ListN.{get_elem?}
+use prog.Atomic.{either}
 use lib.Seq.{set-get_or}
 use Rattle.atomic_table.specs.Table.{Me, step, Allows}
 use Rattle.atomic_table.specs.Table as table
 use Rattle.state_word.specs.declared.word.StateWord.{StateWord}
-use Rattle.state_word.specs.Fields.{fields, bit, unlocked_fields, assigned_fields, cleared_fields, usage_down_fields}
+use Rattle.state_word.specs.Fields.{pinned_fields, fields, bit, unlocked_fields, assigned_fields, cleared_fields, usage_down_fields}
 use Rattle.state_word.proofs.Words.{same_record}
 use Rattle.block_tag.specs.declared.tag.Tag.{Tag}
 use Rattle.block_tag.specs.Names.{unpacked_tag, packed_tag}
@@ -35,12 +36,12 @@ use Rattle.frame_table.specs.declared.opening.Opening.{Opening}
 use Rattle.frame_table.specs.Layout.{state_place, tag_place, tag_partition, partition_of_tag}
 use Rattle.frame_table.specs.Kinds.{Laws, FrameKind, pins, part_of, link_after, view_after}
 use Rattle.frame_table.specs.Shows.{ShowsFrame, Devices, Shows, Held}
-use Rattle.frame_table.specs.Sees.{SameSelf, Looked, Touches, Stores, HoldsWord, HasRoom, IsUsed, HasFlag, IsAlone, MayChange, Lacks, CanStore, CanErase, CanStoreAs, partitions_erased, partitions_stored, stored_link, victim_link, unlocked_link, assigned_link, cleared_link, tag_word, read_link}
-use Rattle.frame_table.specs.Tells.{Did, DidHeld, always, looking, storing, tells}
+use Rattle.frame_table.specs.Sees.{Finds, mapped_link, SameSelf, Looked, Touches, Stores, HoldsWord, HasRoom, IsUsed, HasFlag, IsAlone, MayChange, Lacks, CanStore, CanErase, CanStoreAs, partitions_erased, partitions_stored, stored_link, victim_link, unlocked_link, assigned_link, cleared_link, tag_word, read_link}
+use Rattle.frame_table.specs.Tells.{Tried, if_found, Did, DidHeld, always, looking, storing, tells}
 use Rattle.frame_table.proofs.Frames.{Asks}
 use Rattle.frame_table.proofs.Acting.{acts}
-use Rattle.frame_table.proofs.Words.{AsksWord, stores}
-use Rattle.frame_table.proofs.Told.{self_after, links_after, touches, touches_on, link_is, looked}
+use Rattle.frame_table.proofs.Words.{swaps, AsksWord, stores}
+use Rattle.frame_table.proofs.Told.{looks_link, self_after, links_after, touches, touches_on, link_is, looked}
 
 -- numbers that are alike at a place have the same bit there
 same_bit : (place v w : ℕ) → v / 2 ^ place % 2 ≡ w / 2 ^ place % 2 → bit place v ≡ bit place w
@@ -161,6 +162,27 @@ module _ {L G : Type 0} (d : Devices L G) (o : Opening L G) where
   -- the map that is out with a view, as it is
   map_there : (s : State) (id p : ℕ) (v : View) → Laws s → get_elem? s.pool.core.views id ≡ some v → p < s.pool.core.partitions → (hold v p).changed ≡ false → (entries : List MapEntry) → (hold v p).out ≡ Some entries → (s.pool.core.partition p).map ≡ found entries
   map_there s id p v laws there low unchanged entries out = (laws.invariant.pool.core.turns.cells id v p there low).out entries out ∙ ap (λ (b : Bool). map_now b (hold v p).change (found entries)) unchanged
+
+  finds_there : (s : State) (id f : ℕ) (v : View) (tag : ℕ) → s.pool.core.partition_of ≡ tag_partition → Laws s → get_elem? s.pool.core.views id ≡ some v → Finds v tag f → (s.pool.core.partition (tag_partition tag)).map tag ≡ Some f
+  finds_there s id f v tag parts laws there finds = of_out (hold v (tag_partition tag)).out refl
+    where
+      of_out : (x : Option (List MapEntry)) → (hold v (tag_partition tag)).out ≡ x → (s.pool.core.partition (tag_partition tag)).map tag ≡ Some f
+      of_out None e = absurd (finds.out e)
+      of_out (Some entries) e = ap (λ (m : ℕ → Option ℕ). m tag) (map_there s id (tag_partition tag) v laws there (subst (λ (p : ℕ). p < s.pool.core.partitions) (ap (λ (g : ℕ → ℕ). g tag) parts) (laws.invariant.pool.core.placed tag)) finds.unchanged entries e) ∙ finds.finds entries e
+
+  pub maps_there : (tag : ℕ) (ring : Bool) (slots id f was new : ℕ) (me : Me (Value L G) View) → f < o.config.frames → me.0.emptied ≡ false → (link me.0 f).role ≡ Absent → Finds me.0 tag f → (fields was).locked ≡ false → fields new ≡ pinned_fields ring (fields was)
+      → Allows (Held d o) slots id me (state_place f) (λ n. either (eqb n was) new n) (tells (if_found (pins (pin.pin_mapped tag ring))) (step slots (state_place f) was new none) me)
+  maps_there tag ring slots id f was new me below live absent finds unlocked made = swaps d o (pins (pin.pin_mapped tag ring)) refl slots id f was new me below live (λ s laws there spread inside is. let at : tag_partition tag ≡ s.pool.core.partition_of tag = ap (λ (g : ℕ → ℕ). g tag) (sym spread) in record {
+    allowed = record { unlocked = ap (λ (w : StateWord). w.locked) is ∙ unlocked; absent = absent };
+    around = record {
+      held = subst (λ (p : ℕ). (hold me.0 p).held ≡ true) at finds.held;
+      settled = subst (λ (p : ℕ). (hold me.0 p).change ≡ Settled) at finds.settled;
+      given = subst (λ (p : ℕ). (s.pool.core.partition p).map tag ≡ Some f) at (finds_there s id f me.0 tag spread laws there finds);
+    };
+    word = ap (pinned_fields ring) is ∙ sym made;
+    rest = record { tag = refl; sharers = refl; exclusive = refl; copying = refl; page = refl };
+    out = refl;
+  })
 
   lacks_there : (s : State) (id : ℕ) (v : View) (tag : ℕ) → s.pool.core.partition_of ≡ tag_partition → Laws s → get_elem? s.pool.core.views id ≡ some v → (hold v (tag_partition tag)).changed ≡ false → Lacks v tag → (s.pool.core.partition (tag_partition tag)).map tag ≡ None
   lacks_there s id v tag parts laws there unchanged lacks = of_out (hold v (tag_partition tag)).out refl
@@ -305,3 +327,19 @@ module _ {L G : Type 0} (d : Devices L G) (o : Opening L G) where
       → Allows (Held d o) slots id me (tag_place f) (λ _. packed_tag tag) (tells (always (storing (Some tag))) (step slots (tag_place f) (packed_tag tag) 0 none) me)
   stores_as slots id f tag me below live alone packed can =
       stores_there d o slots id f (packed_tag tag) tag me below live packed alone can.word (subst (MayChange me.0) (ap partition_of_tag (sym packed)) can.latch) can.map
+
+-- a pin of the frame that a map gives, after loads
+pub finds_on : (f tag g : ℕ) (v w : View) → Touches f v w → Finds v tag g → Finds w tag g
+finds_on f tag g v w t h = let same : hold w (tag_partition tag) ≡ hold v (tag_partition tag) = ap (λ (l : List PartitionHold). get_or l (tag_partition tag) no_partition) t.partitions in record {
+  held = ap (λ (x : PartitionHold). x.held) same ∙ h.held;
+  settled = ap (λ (x : PartitionHold). x.change) same ∙ h.settled;
+  unchanged = ap (λ (x : PartitionHold). x.changed) same ∙ h.unchanged;
+  out = λ e. h.out (sym (ap (λ (x : PartitionHold). x.out) same) ∙ e);
+  finds = λ entries e. h.finds entries (sym (ap (λ (x : PartitionHold). x.out) same) ∙ e);
+}
+
+mapped_looked : (tag : ℕ) (ring : Bool) (l m : Link) → Looked l m → Looked (mapped_link tag ring l) (mapped_link tag ring m)
+mapped_looked tag ring l m a = record { role = refl; tag = refl; ring = refl; header = a.header; pending = a.pending; content = a.content; copying = a.copying; dirtied = a.dirtied; unapplied = a.unapplied; copied = a.copied; io = a.io; read = a.read; read_is_home = a.read_is_home; last_write = a.last_write; out = a.out; overwritten = a.overwritten; waits = a.waits }
+
+pub mapped_after : (tag : ℕ) (ring : Bool) (f : ℕ) (v w : View) → Tried (pins (pin.pin_mapped tag ring)) f v w true → Looked (mapped_link tag ring (link v f)) (link w f)
+mapped_after tag ring f v w t = subst (Looked (mapped_link tag ring (link v f))) (sym (link_is (pins (pin.pin_mapped tag ring)) f t.1 t.0 w t.3)) (mapped_looked tag ring (link v f) (link t.0 f) (looks_link f v t.0 t.2))

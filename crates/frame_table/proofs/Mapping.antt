@@ -37,12 +37,12 @@ use Rattle.frame_table.specs.declared.turn.Place.{Place}
 use Rattle.frame_table.specs.declared.turn.Place.TheVariants as place
 use Rattle.frame_table.specs.declared.turn.Turn.{Turn}
 use Rattle.frame_table.specs.declared.turn.Turn.TheVariants.{Partition, Lane, Log}
-use Rattle.frame_table.specs.Layout.{latch_place, slot_of, slot_count, tag_partition}
+use Rattle.frame_table.specs.Layout.{latch_place, slot_of, slot_count}
 use Rattle.frame_table.specs.Kinds.{Laws}
-use Rattle.frame_table.specs.Shows.{ShowsFrame, ShowsLatches, is_taken, HasTurn, is_out, IsHome, entry_of, Devices, Gives, GivesMap, HasPlace, HasValue, IsOpened, Shows, Held}
+use Rattle.frame_table.specs.Shows.{ShowsFrame, ShowsLatches, is_taken, is_out, IsHome, entry_of, Devices, Gives, GivesMap, HasPlace, HasValue, Shows, Held}
 use Rattle.frame_table.specs.Turning.{DidMap, ComesBack, as_it_was, entered, left_out, MayComeBack, IsMap, map_went, map_came, MapStep, SameWork, is_named, back_hold}
 use Rattle.frame_table.proofs.Kept.{laws_kept}
-use Rattle.frame_table.proofs.Frames.{put_keeps, same_at, home_before, lane_none, SameValues, gives_same}
+use Rattle.frame_table.proofs.Frames.{put_keeps, home_before}
 
 -- two places with one slot are one
 same_slot : {L G : Type 0} (o : Opening L G) (x y : Place) → o.config.lanes ≤ 16 → HasPlace o x → HasPlace o y → slot_of o.config.frames x ≡ slot_of o.config.frames y → x ≡ y

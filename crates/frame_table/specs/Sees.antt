@@ -65,6 +65,10 @@ pub record Looked (l m : Link) : Type 0 where
 abbrev pub pinned_link : Bool → Link → Link
 pinned_link ring l = record l { role = HandedOut; ring = ring }
 
+-- after a pin of the frame that a map gives for the tag
+abbrev pub mapped_link : ℕ → Bool → Link → Link
+mapped_link tag ring l = record l { role = HandedOut; tag = Some tag; ring = ring }
+
 -- and without a pin
 abbrev pub unpinned_link : Link → Link
 unpinned_link l = record l { role = Absent; tag = None; seen_valid = false; ring = false }
@@ -125,6 +129,14 @@ pub record MayChange (v : View) (p : ℕ) : Type 0 where
 pub record Lacks (v : View) (tag : ℕ) : Type 0 where
   pub out : (hold v (tag_partition tag)).out ≢ None
   pub lacks : (entries : List MapEntry) → (hold v (tag_partition tag)).out ≡ Some entries → found entries tag ≡ None
+
+-- The map of the tag's partition is out with the view, as it is, and gives the frame for the tag
+pub record Finds (v : View) (tag f : ℕ) : Type 0 where
+  pub held : (hold v (tag_partition tag)).held ≡ true
+  pub settled : (hold v (tag_partition tag)).change ≡ Settled
+  pub unchanged : (hold v (tag_partition tag)).changed ≡ false
+  pub out : (hold v (tag_partition tag)).out ≢ None
+  pub finds : (entries : List MapEntry) → (hold v (tag_partition tag)).out ≡ Some entries → found entries tag ≡ Some f
 
 -- A tag may be stored: it names a block, the frame has none, and the map of its partition lacks it
 pub record CanStore (tag : Tag) (v : View) (f : ℕ) : Type 0 where

@@ -8,6 +8,7 @@ mod calls;
 mod config;
 mod headers;
 mod layout;
+mod mapped;
 mod maps;
 mod opening;
 mod pin;

@@ -1,5 +1,5 @@
-use Rattle.std.proofs.Common.{rules, arith, ap, ◌∙◌, sym, ◌≡◌}
-use Rattle.frame_table.proofs.Mapping.{comes_from, came_from}
+use Rattle.std.proofs.Common.{rules, arith}
+use Rattle.frame_table.proofs.Mapping.{comes_from}
 use Rattle.frame_table.proofs.table.FrameTable.back_at.Goals as goal
 
 pub load-requires : goal.load-requires
