@@ -78,6 +78,7 @@ module _ {L G : Type 0} (d : Devices L G) (o : Opening L G) where
             state = s;
             laws = h.laws;
             few = (let e = h.shows.fixed.backends in let q = h.shows.fixed.few_backends in omega arith);
+            spread = h.shows.fixed.partition_of;
             seat = id;
             there = here;
             live = live;

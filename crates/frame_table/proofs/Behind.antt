@@ -23,14 +23,15 @@ use Rattle.frame_table.specs.declared.value.Value.{Value}
 use Rattle.frame_table.specs.declared.opening.Opening.{Opening}
 use Rattle.frame_table.specs.declared.turn.Place.{Place}
 use Rattle.frame_table.specs.declared.turn.Place.TheVariants as place
+use Rattle.frame_table.specs.declared.turn.Turn.{Turn}
 use Rattle.frame_table.specs.declared.turn.Turn.TheVariants as turn
-use Rattle.frame_table.specs.Shows.{ShowsFrame, ShowsLatches, Devices, IsOpened, Shows, Held, is_out}
+use Rattle.frame_table.specs.Shows.{ShowsFrame, HasTurn, is_taken, ShowsLatches, Devices, IsOpened, Shows, Held, is_out}
 use Rattle.frame_table.specs.Behind.{WordKind, load_end, read_end, begin_checkpoint, load_flushed, raise_flushed, load_hand, add_hand, word_place, word_of, word_after, word_event, IsCopied, IsWordAllowed, read_of, view_of, flushed_of, hand_of, next_of, DidWord, tells_word}
 use Rattle.frame_table.specs.declared.log_words.EndLoad.{EndLoad}
 use Rattle.frame_table.specs.declared.log_words.EndLoad.TheVariants.{Plain, Read, Checkpoint}
 use Rattle.frame_table.specs.EndLoads.{IsEndAllowed, end_kind}
-use Rattle.frame_table.specs.Layout.{end_place, flushed_place, hand_place}
-use Rattle.frame_table.proofs.Frames.{frame_else, same_out, home_before, gives_same}
+use Rattle.frame_table.specs.Layout.{latch_place, end_place, flushed_place, hand_place}
+use Rattle.frame_table.proofs.Frames.{frame_else, lane_none, same_out, home_before, gives_same}
 
 -- each kind is a step of the protocol
 word_step : (k : WordKind) (s : State) (i : ℕ) (v : View) → get_elem? s.pool.core.views i ≡ some v → v.emptied ≡ false → IsWordAllowed k s v → Step (word_event k i) s (next_of k s i v)
@@ -95,7 +96,7 @@ view_out load_hand found v x = same_out v (view_of load_hand found v) refl refl 
 view_out add_hand found v x = same_out v (view_of add_hand found v) refl refl refl refl x
 
 -- the words of the log and of the hand after it
-module _ (n : ℕ) (words : List ℕ) (s : State) (i m : ℕ) (v : View) (wide : 3 * n + 148 ≤ length words) (few : s.lanes ≤ 16) (h : ShowsLatches n words s) where
+module _ (n lanes : ℕ) (words : List ℕ) (s : State) (i m : ℕ) (v : View) (wide : 3 * n + 148 ≤ length words) (few : lanes ≤ 16) (h : ShowsLatches n lanes words s) where
   at_end : (k : WordKind) → m ≡ word_after k s → get_or (set words (word_place k n) m) (3 * n + 145) 0 ≡ s.end
   at_end load_end is = get_or-set_same words (3 * n + 145) m 0 (omega arith) ∙ is
   at_end (read_end f) is = get_or-set_same words (3 * n + 145) m 0 (omega arith) ∙ is
@@ -123,11 +124,14 @@ module _ (n : ℕ) (words : List ℕ) (s : State) (i m : ℕ) (v : View) (wide :
   at_hand load_hand is = get_or-set_same words (3 * n + 147) m 0 (omega arith) ∙ is
   at_hand add_hand is = get_or-set_same words (3 * n + 147) m 0 (omega arith) ∙ is
 
-  latches_behind : (k : WordKind) → m ≡ word_after k s → ShowsLatches n (set words (word_place k n) m) (next_of k s i v)
-  latches_behind k is = let x = word_behind k n in record {
-    partitions = λ p below. get_or-set_other words (word_place k n) (3 * n + p) m 0 (omega arith) ∙ h.partitions p below;
-    lanes = λ q below. get_or-set_other words (word_place k n) (3 * n + 128 + q) m 0 (omega arith) ∙ h.lanes q below;
-    log = get_or-set_other words (word_place k n) (3 * n + 144) m 0 (omega arith) ∙ h.log;
+  latch_behind : (k : WordKind) (x : Turn) → HasTurn lanes x → get_or (set words (word_place k n) m) (latch_place n x) 0 ≡ flag_weight (is_taken x (next_of k s i v))
+  latch_behind k (turn.Partition p) has = let low = word_behind k n in get_or-set_other words (word_place k n) (3 * n + p) m 0 (omega arith) ∙ h.latch (turn.Partition p) has
+  latch_behind k (turn.Lane q) has = let low = word_behind k n in get_or-set_other words (word_place k n) (3 * n + 128 + q) m 0 (omega arith) ∙ h.latch (turn.Lane q) has
+  latch_behind k turn.Log has = let low = word_behind k n in get_or-set_other words (word_place k n) (3 * n + 144) m 0 (omega arith) ∙ h.latch turn.Log has
+
+  latches_behind : (k : WordKind) → m ≡ word_after k s → ShowsLatches n lanes (set words (word_place k n) m) (next_of k s i v)
+  latches_behind k is = record {
+    latch = latch_behind k;
     end = at_end k is;
     flushed = at_flushed k is;
     hand = at_hand k is;
@@ -142,9 +146,9 @@ module _ {L G : Type 0} (d : Devices L G) (o : Opening L G) where
     slots = h.slots;
     views = ap (λ (l : List View). set l id w) h.views;
     frame = λ g inside. frame_else t.words (word_place k n) m g (s.pool.core.frame g) (λ e. absurd (omega arith)) (λ e. absurd (omega arith)) (λ e. absurd (omega arith)) (h.frame g inside);
-    latches = latches_behind n t.words s id m v (omega arith) (let a = h.fixed.lanes in let b = h.fixed.few_lanes in omega arith) h.latches k is;
+    latches = latches_behind n o.config.lanes t.words s id m v (omega arith) h.fixed.few_lanes h.latches k is;
     homes = λ y inside home. let old = h.homes y inside (home_before s.pool.core.views id v w y there (λ e. sym (view_out k (word_of k s) v y) ∙ e) home) in
-        record { value = old.value; home = old.home; gives = gives_same d o s (next_of k s id v) (record { page = λ f. refl; map = λ p. refl; count = refl; lane = λ q. refl }) y old.value old.gives };
+        record { value = old.value; home = old.home; gives = gives_same d o s (next_of k s id v) (record { page = λ f. refl; map = λ p. refl; count = refl; lane = λ q. lane_none (s.lane q) }) y old.value old.gives };
   }
 
   word_says : (k : WordKind) (t : table.State (Value L G) View) (s : State) → Shows d o t s → word_of k s ≡ get_or t.words (word_place k o.config.frames) 0

@@ -1,5 +1,5 @@
 -- What the table shows after a step at a frame.
-use Rattle.std.proofs.Common.{◌≡◌, ℕ, zero, suc, ◌+◌, ◌*◌, ◌-◌, ◌<◌, ◌%◌, ◌^◌, false, List, [], ◌∷◌, get_or, set, length-set, get_or-set_other, sym, refl, ap, ◌∙◌, subst, arith}
+use Rattle.std.proofs.Common.{Bool, ◌≡◌, ℕ, zero, suc, ◌+◌, ◌*◌, ◌-◌, ◌<◌, ◌%◌, ◌^◌, false, List, [], ◌∷◌, get_or, set, length-set, get_or-set_other, sym, refl, ap, ◌∙◌, subst, arith}
 use Rattle.std.specs.Prelude.{is_some, Option}
 use mathlib.Core.Logic.{dite}
 use mathlib.Core.Option.{some, some-injective}
@@ -16,20 +16,23 @@ use Rattle.pin_core.specs.declared.view.LogHold.{LogHold}
 use Rattle.pin_core.specs.declared.view.MapChange.{MapChange}
 use Rattle.pin_core.specs.declared.view.MapChange.TheVariants.{Settled, Entering, Leaving}
 use Rattle.pin_core.specs.declared.view.View.{View}
-use Rattle.pin_core.specs.State.{Frame, Partition, link, hold, idle, no_partition, no_lane}
+use Rattle.pin_core.specs.State.{Frame, Partition, Page, link, hold, idle, no_partition, no_lane}
 use Rattle.pin_core.specs.Kinds.{partitions_owing, holds_naming}
 use Rattle.pin_core.specs.Kinds as pin
 use Rattle.pin_core.specs.Tallies.{flag_weight}
-use Rattle.history_core.specs.State.{State}
+use Rattle.history_core.specs.State.{State, Lane}
 use Rattle.grid.specs.Shape.{put}
 use Rattle.grid.proofs.Lists.{set_here, set_else, put_at, put_else}
 use Rattle.frame_table.specs.declared.value.Value.{Value}
+use Rattle.frame_table.specs.declared.value.Value.TheVariants as value
 use Rattle.frame_table.specs.declared.opening.Opening.{Opening}
 use Rattle.frame_table.specs.declared.turn.Place.{Place}
 use Rattle.frame_table.specs.declared.turn.Place.TheVariants as place
+use Rattle.frame_table.specs.declared.turn.Turn.{Turn}
 use Rattle.frame_table.specs.declared.turn.Turn.TheVariants as turn
+use Rattle.frame_table.specs.Layout.{latch_place}
 use Rattle.frame_table.specs.Kinds.{FrameKind, pins, pages, IsAllowed, IsAllowedAround, frame_after, link_after, view_after, state_after}
-use Rattle.frame_table.specs.Shows.{ShowsFrame, ShowsLatches, is_out, IsHome, Devices, Gives, GivesPage, GivesMap, GivesLane, IsOpened, Shows}
+use Rattle.frame_table.specs.Shows.{ShowsFrame, ShowsLatches, is_taken, is_out, IsHome, Devices, Gives, GivesPage, GivesMap, GivesLane, IsOpened, Shows}
 
 -- a word that none of the frame's three is leaves what they show
 pub frame_else : (words : List ℕ) (i n g : ℕ) (fr : Frame) → ¬ (i ≡ 3 * g) → ¬ (i ≡ 3 * g + 1) → ¬ (i ≡ 3 * g + 2) → ShowsFrame words g fr → ShowsFrame (set words i n) g fr
@@ -45,16 +48,18 @@ frame_else words i n g fr a b c h = let e0 : get_or (set words i n) (3 * g) 0 �
     }
 
 -- A step leaves what is behind the words of the frames
-pub latches_else : (n : ℕ) (words : List ℕ) (i m : ℕ) (s s' : State) → i < 3 * n → ((p : ℕ) → (s'.pool.core.partition p).taken ≡ (s.pool.core.partition p).taken) → s'.lanes ≡ s.lanes
-    → ((q : ℕ) → (s'.lane q).taken ≡ (s.lane q).taken) → s'.device.taken ≡ s.device.taken → s'.end ≡ s.end → s'.flushed ≡ s.flushed → s'.hand ≡ s.hand → ShowsLatches n words s → ShowsLatches n (set words i m) s'
-latches_else n words i m s s' low parts count lanes log end flushed hand h = record {
-  partitions = λ p below. get_or-set_other words i (3 * n + p) m 0 (omega arith) ∙ h.partitions p below ∙ ap flag_weight (sym (parts p));
-  lanes = λ q below. get_or-set_other words i (3 * n + 128 + q) m 0 (omega arith) ∙ h.lanes q (subst (λ (x : ℕ). q < x) count below) ∙ ap flag_weight (sym (lanes q));
-  log = get_or-set_other words i (3 * n + 144) m 0 (omega arith) ∙ h.log ∙ ap flag_weight (sym log);
+pub latches_else : (n lanes : ℕ) (words : List ℕ) (i m : ℕ) (s s' : State) → i < 3 * n → ((x : Turn) → is_taken x s' ≡ is_taken x s) → s'.end ≡ s.end → s'.flushed ≡ s.flushed → s'.hand ≡ s.hand → ShowsLatches n lanes words s → ShowsLatches n lanes (set words i m) s'
+latches_else n lanes words i m s s' low same end flushed hand h = record {
+  latch = λ x has. get_or-set_other words i (latch_place n x) m 0 (behind x) ∙ h.latch x has ∙ ap flag_weight (sym (same x));
   end = get_or-set_other words i (3 * n + 145) m 0 (omega arith) ∙ h.end ∙ sym end;
   flushed = get_or-set_other words i (3 * n + 146) m 0 (omega arith) ∙ h.flushed ∙ sym flushed;
   hand = get_or-set_other words i (3 * n + 147) m 0 (omega arith) ∙ h.hand ∙ sym hand;
 }
+  where
+    behind : (x : Turn) → ¬ (latch_place n x ≡ i)
+    behind (turn.Partition p) e = omega arith
+    behind (turn.Lane q) e = omega arith
+    behind turn.Log e = omega arith
 
 -- a part of what stands at one place of a list, where another element with the same part is put at some place
 pub same_at : {A B : Type 0} (g : A → B) (l : List A) (q p : ℕ) (x d : A) → g x ≡ g (get_or l q d) → g (get_or (set l q x) p d) ≡ g (get_or l p d)
@@ -80,9 +85,11 @@ naming_out (Entering tag f) partition_of v p = same_at (λ (h : PartitionHold). 
 naming_out (Leaving tag f) partition_of v p = same_at (λ (h : PartitionHold). h.out) v.partitions (partition_of tag) p (record (hold v (partition_of tag)) { change = Leaving tag f }) no_partition refl
 
 -- What a step at a frame leaves as it was
-taken_same : (k : FrameKind) (s : State) (i f : ℕ) (v : View) (p : ℕ) → ((state_after k s i f v).pool.core.partition p).taken ≡ (s.pool.core.partition p).taken
-taken_same (pins k) s i f v p = owing_same (λ (x : Partition). x.taken) (pin.named_by k f (s.pool.core.frame f)) s.pool.core.partition_of s.pool.core.partition p (λ x d. refl)
-taken_same (pages k) s i f v p = refl
+taken_same : (k : FrameKind) (s : State) (i f : ℕ) (v : View) (x : Turn) → is_taken x (state_after k s i f v) ≡ is_taken x s
+taken_same k s i f v (turn.Lane q) = refl
+taken_same k s i f v turn.Log = refl
+taken_same (pins k) s i f v (turn.Partition p) = owing_same (λ (x : Partition). x.taken) (pin.named_by k f (s.pool.core.frame f)) s.pool.core.partition_of s.pool.core.partition p (λ x d. refl)
+taken_same (pages k) s i f v (turn.Partition p) = refl
 
 map_same : (k : FrameKind) (s : State) (i f : ℕ) (v : View) (p : ℕ) → ((state_after k s i f v).pool.core.partition p).map ≡ (s.pool.core.partition p).map
 map_same (pins k) s i f v p = owing_same (λ (x : Partition). x.map) (pin.named_by k f (s.pool.core.frame f)) s.pool.core.partition_of s.pool.core.partition p (λ x d. refl)
@@ -120,18 +127,44 @@ home_before views i v w x there e home j u at = dite (ℕ_discrete j i)
     (λ is. let same : v ≡ u = some-injective v u (sym there ∙ ap (get_elem? views) (sym is) ∙ at) in subst (λ (z : View). is_out x z ≡ false) same (e (home i w (set_here views i v w there))))
     (λ n. home j u (set_else views i j w n ∙ at))
 
+-- What a lane holds and has counted is the same
+pub record SameLane (ln ln' : Lane) : Type 0 where
+  pub known : ln'.known ≡ ln.known
+  pub stored : ln'.stored ≡ ln.stored
+  pub failed : ln'.failed ≡ ln.failed
+  pub reads : ln'.read_faults ≡ ln.read_faults
+  pub writes : ln'.write_faults ≡ ln.write_faults
+  pub reads_at_start : ln'.read_faults_at_start ≡ ln.read_faults_at_start
+  pub writes_at_start : ln'.write_faults_at_start ≡ ln.write_faults_at_start
+
+pub lane_none : (ln : Lane) → SameLane ln ln
+lane_none ln = record { known = refl; stored = refl; failed = refl; reads = refl; writes = refl; reads_at_start = refl; writes_at_start = refl }
+
+gives_lane : {L G : Type 0} (d : Devices L G) (lanes q : ℕ) (y : Value L G) (ln ln' : Lane) → SameLane ln ln' → GivesLane d lanes q y ln → GivesLane d lanes q y ln'
+gives_lane d lanes q (value.Lane l) ln ln' e h = record {
+  known = e.known ∙ h.known;
+  pages = λ known word p told has. ap (λ (f : ℕ → Page). f word) e.stored ∙ h.pages known word p told has;
+  failed = λ known word tag told named placed. ap (λ (f : ℕ → Bool). f word) e.failed ∙ h.failed known word tag told named placed;
+  reads = e.reads ∙ h.reads;
+  writes = e.writes ∙ h.writes;
+}
+gives_lane d lanes q (value.Page p) ln ln' e h = h
+gives_lane d lanes q (value.Map m) ln ln' e h = h
+gives_lane d lanes q (value.Log g) ln ln' e h = h
+gives_lane d lanes q value.Away ln ln' e h = h
+
 module _ {L G : Type 0} (d : Devices L G) (o : Opening L G) where
   -- What the states s and s' say of values is the same
   pub record SameValues (s s' : State) : Type 0 where
     pub page : (f : ℕ) → (s'.pool.core.frame f).page ≡ (s.pool.core.frame f).page
     pub map : (p : ℕ) → (s'.pool.core.partition p).map ≡ (s.pool.core.partition p).map
     pub count : s'.lanes ≡ s.lanes
-    pub lane : (q : ℕ) → s'.lane q ≡ s.lane q
+    pub lane : (q : ℕ) → SameLane (s.lane q) (s'.lane q)
 
   pub gives_same : (s s' : State) → SameValues s s' → (x : Place) (y : Value L G) → Gives d s x y → Gives d s' x y
   gives_same s s' e (place.Page f) y h = subst (GivesPage y) (sym (e.page f)) h
   gives_same s s' e (place.Of (turn.Partition p)) y h = subst (GivesMap y) (sym (e.map p)) h
-  gives_same s s' e (place.Of (turn.Lane q)) y h = subst (λ (n : ℕ). GivesLane d n q y (s'.lane q)) (sym e.count) (subst (GivesLane d s.lanes q y) (sym (e.lane q)) h)
+  gives_same s s' e (place.Of (turn.Lane q)) y h = subst (λ (n : ℕ). GivesLane d n q y (s'.lane q)) (sym e.count) (gives_lane d s.lanes q y (s.lane q) (s'.lane q) (e.lane q) h)
   gives_same s s' e (place.Of turn.Log) y h = h
 
 -- What a step of the kind k at the frame f asks, where its word i becomes n
@@ -155,7 +188,7 @@ module _ {L G : Type 0} (d : Devices L G) (o : Opening L G) where
     page = λ g. ap (λ (x : Frame). x.page) (frame_is k s i f v g) ∙ put_keeps (λ (x : Frame). x.page) s.pool.core.frame f (frame_after k s f) g e;
     map = map_same k s i f v;
     count = refl;
-    lane = λ q. refl;
+    lane = λ q. lane_none (s.lane q);
   }
 
   -- A table shows the state after a step at a frame, if its word shows the frame
@@ -169,7 +202,7 @@ module _ {L G : Type 0} (d : Devices L G) (o : Opening L G) where
     frame = λ g inside. subst (ShowsFrame (set t.words i n) g) (sym (frame_is k s id f v g)) (dite (ℕ_discrete g f)
         (λ e. subst (ShowsFrame (set t.words i n) g) (sym (put_at s.pool.core.frame f (frame_after k s f) g e)) (subst (λ (z : ℕ). ShowsFrame (set t.words i n) z (frame_after k s f)) (sym e) a.shows))
         (λ e. subst (ShowsFrame (set t.words i n) g) (sym (put_else s.pool.core.frame f (frame_after k s f) g e)) (frame_else t.words i n g (s.pool.core.frame g) (λ z. e (omega arith)) (λ z. e (omega arith)) (λ z. e (omega arith)) (h.frame g inside))));
-    latches = latches_else o.config.frames t.words i n s (state_after k s id f v) (omega arith) (taken_same k s id f v) refl (λ q. refl) refl refl refl refl h.latches;
+    latches = latches_else o.config.frames o.config.lanes t.words i n s (state_after k s id f v) (omega arith) (taken_same k s id f v) refl refl refl h.latches;
     homes = λ x inside home. let old = h.homes x inside (home_before s.pool.core.views id v w x there (λ e. sym (out_same k s f v a.out x) ∙ e) (subst (IsHome x) (views_are k s id f v) home)) in
         record { value = old.value; home = old.home; gives = gives_same d o s (state_after k s id f v) (same_values k s id f v a.page) x old.value old.gives };
   }

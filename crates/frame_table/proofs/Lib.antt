@@ -3,10 +3,13 @@ pub mod Frames
 pub mod Acting
 pub mod Words
 pub mod Contents
-pub mod Headers
+pub mod HeldWords
 pub mod Seeing
 pub mod Told
 pub mod Splitting
 pub mod Laying
 pub mod Opens
 pub mod Behind
+pub mod Holding
+pub mod Taking
+pub mod Mapping

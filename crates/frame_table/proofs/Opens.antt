@@ -22,9 +22,11 @@ use Rattle.frame_table.specs.declared.value.Value.TheVariants as value
 use Rattle.frame_table.specs.declared.opening.Opening.{Opening}
 use Rattle.frame_table.specs.declared.turn.Place.{Place}
 use Rattle.frame_table.specs.declared.turn.Place.TheVariants as place
+use Rattle.frame_table.specs.declared.turn.Turn.{Turn}
 use Rattle.frame_table.specs.declared.turn.Turn.TheVariants as turn
-use Rattle.frame_table.specs.Layout.{word_count, tag_partition, partition_of_tag, tag_lane, lane_of_tag}
-use Rattle.frame_table.specs.Shows.{ShowsFrame, IsHome, Devices, HasPage, IsLane, AreUnfailed, GivesMap, HasPlace, HasValue, Held, starting}
+use Rattle.pin_core.specs.Tallies.{flag_weight}
+use Rattle.frame_table.specs.Layout.{latch_place, word_count, tag_partition, partition_of_tag, tag_lane, lane_of_tag}
+use Rattle.frame_table.specs.Shows.{is_taken, HasTurn, ShowsFrame, IsHome, Devices, HasPage, IsLane, AreUnfailed, GivesMap, HasPlace, HasValue, Held, starting}
 use Rattle.frame_table.specs.Laid.{AreOpening, AreSlots, zero_page, lanes_in, HasNoLog}
 use Rattle.frame_table.proofs.Laying.{lanes_append, logs_both, lanes_pages, logs_pages, lanes_aways, logs_aways, lanes_lanes, logs_lanes, lanes_maps, logs_maps, snoc_same}
 
@@ -231,6 +233,12 @@ module _ {L G : Type 0} (d : Devices L G) (o : Opening L G) where
   }
   homes ys h count unfailed (place.Of turn.Log) below out = record { value = value.Log o.log.value; home = at_map some ys (n + 144) (value.Log o.log.value) (log_at d n lanes o.log.value ys h); gives = tt }
 
+  -- each latch is free
+  free : (words : List ℕ) {ys : List (Value L G)} → AreSlots o.config.frames o.lanes.value.items o.log.value ys → AreOpening words o.config.frames o.base → length o.lanes.value.items ≡ o.config.lanes → (x : Turn) → HasTurn o.config.lanes x → get_or words (latch_place n x) 0 ≡ flag_weight (is_taken x start)
+  free words h w count (turn.Partition p) low = in_latches words n o.base w (3 * n + p) p refl (omega arith)
+  free words h w count (turn.Lane q) low = in_latches words n o.base w (3 * n + 128 + q) (128 + q) (omega arith) (let a = h.few in omega arith)
+  free words h w count turn.Log low = in_latches words n o.base w (3 * n + 144) 144 refl (omega arith)
+
   pub opens_there : (words : List ℕ) (ys : List (Value L G)) → AreOpening words o.config.frames o.base → AreSlots o.config.frames o.lanes.value.items o.log.value ys → 0 < o.config.backends → o.config.backends ≤ 64 → 0 < o.config.lanes → length o.lanes.value.items ≡ o.config.lanes
       → o.base ≤ 4611686018427387904 → AreUnfailed d o.lanes.value.items → Held d o (opening words ys (starting o))
   opens_there words ys w h some_backend few_backends some_lane count based unfailed = record {
@@ -256,9 +264,7 @@ module _ {L G : Type 0} (d : Devices L G) (o : Opening L G) where
       views = refl;
       frame = λ f below. shows_blank words n o.base w f zero_page below;
       latches = record {
-        partitions = λ p low. in_latches words n o.base w (3 * n + p) p refl (omega arith);
-        lanes = λ q low. in_latches words n o.base w (3 * n + 128 + q) (128 + q) (omega arith) (let a = h.few in omega arith);
-        log = in_latches words n o.base w (3 * n + 144) 144 refl (omega arith);
+        latch = free words h w count;
         end = in_rest words n o.base w (3 * n + 145) 145 refl;
         flushed = in_rest words n o.base w (3 * n + 146) 146 refl;
         hand = in_rest words n o.base w (3 * n + 147) 147 refl;

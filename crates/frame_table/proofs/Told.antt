@@ -17,11 +17,11 @@ use Rattle.frame_table.specs.Kinds.{FrameKind, pins, pages, part_of, load_of, li
 use Rattle.frame_table.specs.Sees.{SameSelf, Touches, Looked, CanUnpin, pinned_link, unpinned_link, locked_link}
 use Rattle.frame_table.specs.Tells.{Choice, choice_part, part_place, Did, Looks, still, again, Tried, if_found, if_unlocked, chosen, has_locked, looking}
 
-self_after : (k : FrameKind) (s : State) (f : ℕ) (v : View) → SameSelf v (view_after k s f v)
+pub self_after : (k : FrameKind) (s : State) (f : ℕ) (v : View) → SameSelf v (view_after k s f v)
 self_after (pins k) s f v = record { number = refl; next = refl; joined = refl; emptied = refl; lanes = refl; log = refl; flushed = refl; calls = refl; front = refl; place_loads = refl; upto = refl; kept = refl; device_calls = refl; met = refl; saw_down = refl }
 self_after (pages k) s f v = record { number = refl; next = refl; joined = refl; emptied = refl; lanes = refl; log = refl; flushed = refl; calls = refl; front = refl; place_loads = refl; upto = refl; kept = refl; device_calls = refl; met = refl; saw_down = refl }
 
-links_after : (k : FrameKind) (s : State) (f : ℕ) (v : View) → (view_after k s f v).links ≡ set v.links f (link_after k s f v)
+pub links_after : (k : FrameKind) (s : State) (f : ℕ) (v : View) → (view_after k s f v).links ≡ set v.links f (link_after k s f v)
 links_after (pins k) s f v = refl
 links_after (pages k) s f v = refl
 

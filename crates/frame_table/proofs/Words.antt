@@ -23,7 +23,7 @@ use Rattle.history_core.specs.Laws.{Laws}
 use Rattle.history_core.specs.State.{State}
 use Rattle.frame_table.specs.declared.value.Value.{Value}
 use Rattle.frame_table.specs.declared.opening.Opening.{Opening}
-use Rattle.frame_table.specs.Layout.{state_place}
+use Rattle.frame_table.specs.Layout.{tag_partition, state_place}
 use Rattle.frame_table.specs.Kinds.{FrameKind, pins, part_of, load_of, frame_after, link_after, IsAllowed, IsAllowedAround}
 use Rattle.frame_table.specs.Shows.{ShowsFrame, Devices, Shows, Held}
 use Rattle.frame_table.specs.Tells.{part_place, has_locked, has_tag, always, if_found, if_unlocked, chosen, tells, looking}
@@ -80,17 +80,17 @@ module _ {L G : Type 0} (d : Devices L G) (o : Opening L G) where
 
   -- a step of the kind k at a state word, whatever the word was
   pub stores : (k : FrameKind) → part_of k ≡ part_of looking → (slots id f a b new : ℕ) (me : Me (Value L G) View) → f < o.config.frames → me.0.emptied ≡ false
-      → ((s : State) → Laws s → get_elem? s.pool.core.views id ≡ some me.0 → AsksWord k s f new me.0)
+      → ((s : State) → Laws s → get_elem? s.pool.core.views id ≡ some me.0 → f < s.pool.core.frames → AsksWord k s f new me.0)
       → Allows (Held d o) slots id me (state_place f) (λ _. new) (tells (always k) (step slots (state_place f) a b none) me)
   stores k part slots id f a b new me below live asked = subst (λ (i : ℕ). Allows (Held d o) slots id me i (λ _. new) (tells (always k) (step slots i a b none) me)) at (acts d o (always k) slots id f a b (λ _. new) me below live
-      (λ t s h laws there small. subst (λ (i : ℕ). Asks k t s f i new me.0) (sym at) (at_word k t s f new me.0 below h (asked s laws there))))
+      (λ t s h laws there small. subst (λ (i : ℕ). Asks k t s f i new me.0) (sym at) (at_word k t s f new me.0 below h (asked s laws there (let e = h.fixed.frames in omega arith)))))
     where
       at : part_place (part_of k) f ≡ state_place f
       at = ap (λ p. part_place p f) part
 
   -- a compare-exchange of the state word from `was` to `new`
   pub swaps : (k : FrameKind) → part_of k ≡ part_of looking → (slots id f was new : ℕ) (me : Me (Value L G) View) → f < o.config.frames → me.0.emptied ≡ false
-      → ((s : State) → Laws s → get_elem? s.pool.core.views id ≡ some me.0 → (s.pool.core.frame f).word ≡ fields was → AsksWord k s f new me.0)
+      → ((s : State) → Laws s → get_elem? s.pool.core.views id ≡ some me.0 → s.pool.core.partition_of ≡ tag_partition → f < s.pool.core.frames → (s.pool.core.frame f).word ≡ fields was → AsksWord k s f new me.0)
       → Allows (Held d o) slots id me (state_place f) (λ n. either (eqb n was) new n) (tells (if_found k) (step slots (state_place f) was new none) me)
   swaps k part slots id f was new me below live asked = subst (λ (i : ℕ). Allows (Held d o) slots id me i (λ n. either (eqb n was) new n) (tells (if_found k) (step slots i was new none) me)) at
       (acts d o (if_found k) slots id f was new (λ n. either (eqb n was) new n) me below live
@@ -102,12 +102,12 @@ module _ {L G : Type 0} (d : Devices L G) (o : Opening L G) where
       of_test : (t : table.State (Value L G) View) (s : State) → Shows d o t s → Laws s → get_elem? s.pool.core.views id ≡ some me.0
           → Asks (chosen (if_found k) was (get_or t.words (3 * f) 0)) t s f (3 * f) (either (eqb (get_or t.words (3 * f) 0) was) new (get_or t.words (3 * f) 0)) me.0
       of_test t s h laws there = let n : ℕ = get_or t.words (3 * f) 0 in dite (ℕ_discrete n was)
-          (λ hit. subst (λ (b : Bool). Asks (cond b k (load_of (part_of k))) t s f (3 * f) (either b new n) me.0) (sym (eq-eqb n was hit)) (at_word k t s f new me.0 below h (asked s laws there (says t s f below h ∙ ap fields hit))))
+          (λ hit. subst (λ (b : Bool). Asks (cond b k (load_of (part_of k))) t s f (3 * f) (either b new n) me.0) (sym (eq-eqb n was hit)) (at_word k t s f new me.0 below h (asked s laws there h.fixed.partition_of (let e = h.fixed.frames in omega arith) (says t s f below h ∙ ap fields hit))))
           (λ miss. subst (λ (b : Bool). Asks (cond b k (load_of (part_of k))) t s f (3 * f) (either b new n) me.0) (sym (ne_eqb n was miss)) (subst (λ p. Asks (load_of p) t s f (3 * f) n me.0) (sym part) (looks_at t s f me.0 below h)))
 
   pub pins_there : (ring : Bool) (slots id f was new : ℕ) (me : Me (Value L G) View) → f < o.config.frames → me.0.emptied ≡ false → (link me.0 f).role ≡ Absent → has_locked was ≡ false → has_tag was ≡ true → fields new ≡ pinned_fields ring (fields was)
       → Allows (Held d o) slots id me (state_place f) (λ n. either (eqb n was) new n) (tells (if_found (pins (pin.pin ring))) (step slots (state_place f) was new none) me)
-  pins_there ring slots id f was new me below live absent unlocked tagged made = swaps (pins (pin.pin ring)) refl slots id f was new me below live (λ s laws there is. record {
+  pins_there ring slots id f was new me below live absent unlocked tagged made = swaps (pins (pin.pin ring)) refl slots id f was new me below live (λ s laws there spread inside is. record {
     allowed = record { unlocked = ap (λ (w : StateWord). w.locked) is ∙ unlocked; absent = absent; tagged = ap (λ (w : StateWord). w.tag_valid) is ∙ tagged };
     around = tt;
     word = ap (pinned_fields ring) is ∙ sym made;
@@ -117,7 +117,7 @@ module _ {L G : Type 0} (d : Devices L G) (o : Opening L G) where
 
   pub unpins_there : (slots id f was new : ℕ) (me : Me (Value L G) View) → f < o.config.frames → me.0.emptied ≡ false → (link me.0 f).role ≢ Absent → (link me.0 f).content ≡ Unlocked → (link me.0 f).io ≡ Quiet → (link me.0 f).waits ≡ None → has_locked was ≡ false → fields new ≡ unpinned_fields (fields was)
       → Allows (Held d o) slots id me (state_place f) (λ n. either (eqb n was) new n) (tells (if_found (pins pin.unpin)) (step slots (state_place f) was new none) me)
-  unpins_there slots id f was new me below live pinned content io waits unlocked made = swaps (pins pin.unpin) refl slots id f was new me below live (λ s laws there is. record {
+  unpins_there slots id f was new me below live pinned content io waits unlocked made = swaps (pins pin.unpin) refl slots id f was new me below live (λ s laws there spread inside is. record {
     allowed = record { unlocked = ap (λ (w : StateWord). w.locked) is ∙ unlocked; pinned = pinned; no_content = content; no_io = io; no_wait = waits };
     around = tt;
     word = ap unpinned_fields is ∙ sym made;

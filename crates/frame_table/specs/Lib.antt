@@ -7,3 +7,4 @@ pub mod Sees
 pub mod Behind
 pub mod EndLoads
 pub mod Content
+pub mod Turning

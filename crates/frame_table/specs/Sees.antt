@@ -1,15 +1,26 @@
 -- What callers see of a table and of a seat.
-use Rattle.std.specs.Prelude.{◌≡◌, ◌≢◌, ℕ, ◌<◌, Bool, false, Some, None}
+use Rattle.std.specs.Prelude.{◌≡◌, ◌≢◌, ℕ, ◌<◌, Bool, true, false, List, Option, Some, None}
+use Rattle.state_word.specs.declared.word.StateWord.{StateWord}
 use Rattle.state_word.specs.Fields.{fields}
+use Rattle.block_tag.specs.declared.tag.Tag.{Tag}
+use Rattle.block_tag.specs.Names.{names_block, packed_tag, partition_number}
 use Rattle.atomic_table.specs.declared.shared.Seat.{Seat}
 use Rattle.pin_core.specs.declared.view.View.{View}
 use Rattle.pin_core.specs.declared.view.Link.{Link}
-use Rattle.pin_core.specs.declared.view.Role.TheVariants.{Absent, HandedOut}
+use Rattle.pin_core.specs.declared.view.Role.TheVariants.{Absent, HandedOut, Victim}
 use Rattle.pin_core.specs.declared.view.Content.TheVariants.{Unlocked}
 use Rattle.pin_core.specs.declared.view.Io.TheVariants.{Quiet}
-use Rattle.pin_core.specs.State.{link}
+use Rattle.pin_core.specs.declared.view.MapEntry.{MapEntry}
+use Rattle.pin_core.specs.declared.view.MapChange.TheVariants.{Settled, Entering, Leaving}
+use Rattle.pin_core.specs.State.{link, hold, no_tag}
+use Rattle.pin_core.specs.declared.view.PartitionHold.{PartitionHold}
+use Rattle.pin_core.specs.Kinds.{tag_after, holds_naming}
+use Rattle.pin_core.specs.Turns.{found}
 use Rattle.frame_table.specs.declared.value.Value.{Value}
 use Rattle.frame_table.specs.declared.table.FrameTable.{FrameTable}
+use Rattle.frame_table.specs.declared.turn.Turn.{Turn}
+use Rattle.frame_table.specs.Layout.{tag_partition}
+use Rattle.frame_table.specs.Shows.{HasTurn}
 
 -- What a view keeps of itself over a step at a frame
 pub record SameSelf (v w : View) : Type 0 where
@@ -54,6 +65,10 @@ pub record Looked (l m : Link) : Type 0 where
 abbrev pub pinned_link : Bool → Link → Link
 pinned_link ring l = record l { role = HandedOut; ring = ring }
 
+-- after a pin of the frame that a map gives for the tag
+abbrev pub mapped_link : ℕ → Bool → Link → Link
+mapped_link tag ring l = record l { role = HandedOut; tag = Some tag; ring = ring }
+
 -- and without a pin
 abbrev pub unpinned_link : Link → Link
 unpinned_link l = record l { role = Absent; tag = None; seen_valid = false; ring = false }
@@ -78,7 +93,110 @@ pub record Holds (l : Link) : Type 0 where
   pub held : l.header ≢ None
   pub settled : l.pending ≡ false
 
--- A step at the frame f: the view has at other frames what it had
+-- The view holds the header of a frame, and what it knows of its word
+pub record HoldsWord (P : StateWord → Type 0) (l : Link) : Type 0 where
+  pub held : l.header ≢ None
+  pub knows : (w : StateWord) → l.header ≡ Some w → P w
+
+-- the frame has no pin, or a tag
+abbrev pub HasRoom : StateWord → Type 0
+HasRoom w = w.tag_valid ≡ false → w.pins ≡ 0
+
+-- the frame has no pin, and a usage count above 0
+abbrev pub IsUsed : StateWord → Type 0
+IsUsed w = (w.pins ≡ 0) × (0 < w.usage)
+
+-- the frame has BM_TAG_VALID, or hasn't
+abbrev pub HasFlag : Bool → StateWord → Type 0
+HasFlag flag w = w.tag_valid ≡ flag
+
+-- The view's victim pin is the frame's only pin, and it does nothing else there
+pub record IsAlone (l : Link) : Type 0 where
+  pub word : HoldsWord (λ w. w.pins ≡ 1) l
+  pub settled : l.pending ≡ false
+  pub victim : l.role ≡ Victim
+  pub no_content : l.content ≡ Unlocked
+  pub no_io : l.io ≡ Quiet
+
+-- The view has the latch of a partition, whose map it may change: no change is named or made yet
+pub record MayChange (v : View) (p : ℕ) : Type 0 where
+  pub held : (hold v p).held ≡ true
+  pub unchanged : (hold v p).changed ≡ false
+  -- it names no pair, in any partition
+  pub settled : (q : ℕ) → (hold v q).change ≡ Settled
+
+-- The map of the tag's partition is out with the view, and lacks the tag
+pub record Lacks (v : View) (tag : ℕ) : Type 0 where
+  pub out : (hold v (tag_partition tag)).out ≢ None
+  pub lacks : (entries : List MapEntry) → (hold v (tag_partition tag)).out ≡ Some entries → found entries tag ≡ None
+
+-- The map of the tag's partition is out with the view, as it is, and gives the frame for the tag
+pub record Finds (v : View) (tag f : ℕ) : Type 0 where
+  pub held : (hold v (tag_partition tag)).held ≡ true
+  pub settled : (hold v (tag_partition tag)).change ≡ Settled
+  pub unchanged : (hold v (tag_partition tag)).changed ≡ false
+  pub out : (hold v (tag_partition tag)).out ≢ None
+  pub finds : (entries : List MapEntry) → (hold v (tag_partition tag)).out ≡ Some entries → found entries tag ≡ Some f
+
+-- A tag may be stored: it names a block, the frame has none, and the map of its partition lacks it
+pub record CanStore (tag : Tag) (v : View) (f : ℕ) : Type 0 where
+  pub named : names_block tag ≡ true
+  pub word : HoldsWord (HasFlag false) (link v f)
+  pub latch : MayChange v (partition_number tag)
+  pub map : Lacks v (packed_tag tag)
+
+-- The frame's tag may be taken away: the view knows it, and the frame isn't dirty
+pub record CanErase (v : View) (f : ℕ) : Type 0 where
+  pub read : (link v f).tag ≢ None
+  pub latch : (tag : ℕ) → (link v f).tag ≡ Some tag → MayChange v (tag_partition tag)
+  pub word : HoldsWord (λ w. w.dirty ≡ false) (link v f)
+
+abbrev pub CanStoreAs : Option Tag → View → ℕ → Type 0
+CanStoreAs None v f = CanErase v f
+CanStoreAs (Some tag) v f = CanStore tag v f
+
+-- The view has stored the tag word under the header, and the frame has BM_TAG_VALID or hasn't
+pub record HasStored (flag : Bool) (l : Link) : Type 0 where
+  pub word : HoldsWord (HasFlag flag) l
+  pub stored : l.pending ≡ true
+
+-- the links after the steps under a header
+abbrev pub victim_link : Link → Link
+victim_link l = record l { role = Victim; ring = false; header = None }
+
+abbrev pub stored_link : Link → Link
+stored_link l = record l { tag = None; seen_valid = false; pending = true }
+
+abbrev pub assigned_link : Option ℕ → Link → Link
+assigned_link tag l = record l { role = HandedOut; tag = tag; header = None; pending = false }
+
+abbrev pub cleared_link : Link → Link
+cleared_link l = record l { header = None; pending = false }
+
+-- the number of a tag word
+abbrev pub tag_word : Option Tag → ℕ
+tag_word None = no_tag
+tag_word (Some tag) = packed_tag tag
+
+-- what the view has of the latches after it stored a tag, or took away the one that it knows: the pair is named in change
+abbrev pub partitions_erased : Option ℕ → ℕ → View → List PartitionHold
+partitions_erased None f v = v.partitions
+partitions_erased (Some tag) f v = holds_naming (Leaving tag f) tag_partition v
+
+abbrev pub partitions_stored : Option Tag → ℕ → View → List PartitionHold
+partitions_stored None f v = partitions_erased (link v f).tag f v
+partitions_stored (Some tag) f v = holds_naming (Entering (packed_tag tag) f) tag_partition v
+
+-- what a pin remembers after a load of the tag word
+abbrev pub read_link : Option Tag → Link → Link
+read_link tag l = record l { tag = tag_after l.pending l.role (tag_word tag) l.tag }
+
+-- A step at the frame f that may name a pair: the view has at other frames what it had
+pub record Stores (f : ℕ) (v w : View) : Type 0 where
+  pub self : SameSelf v w
+  pub others : (g : ℕ) → g ≢ f → link w g ≡ link v g
+
+-- A step at the frame f: the view has at other frames, and at the partitions, what it had
 pub record Touches (f : ℕ) (v w : View) : Type 0 where
   pub self : SameSelf v w
   pub partitions : w.partitions ≡ v.partitions
@@ -102,6 +220,12 @@ module _ {L G : Type 0} where
     pub fits : Fits t s
     pub live : s.me.0.emptied ≡ false
     pub inside : f < frames_of t
+
+  -- the seat can step at a latch
+  pub record CanTurn (t : FrameTable L G) (s : Seat (Value L G) View) (x : Turn) : Type 0 where
+    pub fits : Fits t s
+    pub live : s.me.0.emptied ≡ false
+    pub inside : HasTurn t.table.shared.key.config.lanes x
 
   -- the seat after a call is the one before it, with the same slots in hand
   pub record SameSeat (s s' : Seat (Value L G) View) : Type 0 where

@@ -21,6 +21,7 @@ use Rattle.frame_table.specs.declared.value.Value.TheVariants as value
 use Rattle.frame_table.specs.declared.opening.Opening.{Opening}
 use Rattle.frame_table.specs.declared.turn.Place.{Place}
 use Rattle.frame_table.specs.declared.turn.Place.TheVariants as place
+use Rattle.frame_table.specs.declared.turn.Turn.{Turn}
 use Rattle.frame_table.specs.declared.turn.Turn.TheVariants as turn
 use Rattle.frame_table.specs.Layout.{state_place, tag_place, content_place, latch_place, end_place, flushed_place, hand_place, word_count, slot_of, slot_count, tag_partition, tag_lane}
 
@@ -34,12 +35,22 @@ pub record ShowsFrame (words : List ℕ) (f : ℕ) (fr : Frame) : Type 0 where
   pub copying : fr.copying ≡ bit 19 (slice_index words (content_place f))
   pub small : slice_index words (content_place f) < 2 ^ 20
 
+-- whether a backend has the latch
+abbrev pub is_taken : Turn → State → Bool
+is_taken (turn.Partition p) s = (s.pool.core.partition p).taken
+is_taken (turn.Lane q) s = (s.lane q).taken
+is_taken turn.Log s = s.device.taken
+
+-- whether a table of so many lanes has the latch
+abbrev pub HasTurn : ℕ → Turn → Type 0
+HasTurn lanes (turn.Partition p) = p < 128
+HasTurn lanes (turn.Lane q) = q < lanes
+HasTurn lanes turn.Log = Unit {0}
+
 -- What the words say of the latches, of the log, and of the hand
-pub record ShowsLatches (n : ℕ) (words : List ℕ) (s : State) : Type 0 where
+pub record ShowsLatches (n lanes : ℕ) (words : List ℕ) (s : State) : Type 0 where
   -- a latch is taken where its word is 1, and else its word is 0
-  pub partitions : (p : ℕ) → p < 128 → slice_index words (latch_place n (turn.Partition p)) ≡ flag_weight (s.pool.core.partition p).taken
-  pub lanes : (q : ℕ) → q < s.lanes → slice_index words (latch_place n (turn.Lane q)) ≡ flag_weight (s.lane q).taken
-  pub log : slice_index words (latch_place n turn.Log) ≡ flag_weight s.device.taken
+  pub latch : (x : Turn) → HasTurn lanes x → slice_index words (latch_place n x) ≡ flag_weight (is_taken x s)
   pub end : slice_index words (end_place n) ≡ s.end
   pub flushed : slice_index words (flushed_place n) ≡ s.flushed
   pub hand : slice_index words (hand_place n) ≡ s.hand
@@ -117,9 +128,7 @@ module _ {L G : Type 0} where
   -- whether a table has the place
   abbrev pub HasPlace : Opening L G → Place → Type 0
   HasPlace o (place.Page f) = f < o.config.frames
-  HasPlace o (place.Of (turn.Partition p)) = p < 128
-  HasPlace o (place.Of (turn.Lane q)) = q < o.config.lanes
-  HasPlace o (place.Of turn.Log) = Unit {0}
+  HasPlace o (place.Of x) = HasTurn o.config.lanes x
 
   -- What was fixed when the table was opened
   pub record IsOpened (d : Devices L G) (o : Opening L G) (s : State) : Type 0 where
@@ -153,7 +162,7 @@ module _ {L G : Type 0} where
     pub slots : length t.homes ≡ slot_count o.config.frames
     pub views : t.views ≡ s.pool.core.views
     pub frame : (f : ℕ) → f < o.config.frames → ShowsFrame t.words f (s.pool.core.frame f)
-    pub latches : ShowsLatches o.config.frames t.words s
+    pub latches : ShowsLatches o.config.frames o.config.lanes t.words s
     -- a value that no view has out is in its slot
     pub homes : (x : Place) → HasPlace o x → IsHome x s.pool.core.views → HasValue d o.config.frames t.homes s x
 

@@ -1,9 +1,11 @@
 -- What a step tells the seat that makes it.
-use Rattle.std.specs.Prelude.{◌≡◌, ◌≢◌, ℕ, ◌+◌, ◌<◌, ◌≤◌, ◌%◌, ◌^◌, cond, nat_eq, Bool, true, false, length}
+use Rattle.std.specs.Prelude.{◌≡◌, ◌≢◌, ℕ, ◌+◌, ◌<◌, ◌≤◌, ◌%◌, ◌^◌, cond, nat_eq, Bool, true, false, length, Option, Some, None}
 use mathlib.Core.Option.{some}
 use lib.ListN.{get_elem?}
 use Rattle.atomic_table.specs.Table.{Me, Step}
 use Rattle.state_word.specs.Fields.{fields, bit}
+use Rattle.block_tag.specs.declared.tag.Tag.{Tag}
+use Rattle.block_tag.specs.Names.{packed_tag}
 use Rattle.pin_core.specs.declared.view.View.{View}
 use Rattle.pin_core.specs.State.{Frame, new_view}
 use Rattle.pin_core.specs.Kinds as pin
@@ -12,7 +14,7 @@ use Rattle.history_core.specs.Laws.{Laws}
 use Rattle.frame_table.specs.declared.value.Value.{Value}
 use Rattle.frame_table.specs.declared.pin.TryPin.{TryPin}
 use Rattle.frame_table.specs.declared.pin.TryPin.TheVariants.{Locked, Untagged, Changed}
-use Rattle.frame_table.specs.Layout.{state_place, tag_place, content_place}
+use Rattle.frame_table.specs.Layout.{state_place, tag_place, content_place, tag_partition}
 use Rattle.frame_table.specs.Kinds.{Part, state_word, tag_word, content_word, FrameKind, pins, part_of, load_of, IsAllowed, IsAllowedAround, view_after}
 
 abbrev pub has_locked : ℕ → Bool
@@ -39,6 +41,7 @@ pub record Did (k : FrameKind) (f : ℕ) (v w : View) (found : ℕ) : Type 0 whe
   pub state : State
   pub laws : Laws state
   pub few : state.pool.core.backends ≤ 64
+  pub spread : state.pool.core.partition_of ≡ tag_partition
   -- the view's place there
   pub seat : ℕ
   pub there : get_elem? state.pool.core.views seat ≡ some v
@@ -99,3 +102,16 @@ kept_view v = record v { next = v.next + 1 }
 
 abbrev pub split_view : ℕ → View → View
 split_view base v = new_view v.next base (length v.links) (length v.partitions) (length v.lanes)
+
+-- the kind that stores a tag word
+abbrev pub storing : Option Tag → FrameKind
+storing None = pins pin.erase_tag
+storing (Some tag) = pins (pin.store_tag (packed_tag tag))
+
+-- A step of the kind k under the header, after a load of the state word
+pub record DidHeld (k : FrameKind) (f : ℕ) (v w : View) : Type 0 where
+  pub between : View
+  pub word : ℕ
+  pub now : ℕ
+  pub looked : Did looking f v between word
+  pub did : Did k f between w now

@@ -209,13 +209,7 @@ impl<L: BlockLane, G> FrameTable<L, G> {
         match Table::new(alloc, &words, slots, &opening) {
             Ok((table, seat)) => {
                 lanes.destroy_empty();
-                Ok((
-                    FrameTable {
-                        table,
-                        frames: config.frames,
-                    },
-                    seat,
-                ))
+                Ok((FrameTable { table, config }, seat))
             }
             Err(Refused { slots }) => {
                 let log = take_back(slots, &mut lanes);

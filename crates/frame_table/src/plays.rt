@@ -1,11 +1,15 @@
 //! What each step tells its seat.
-ghost use Rattle.std.specs.Prelude.{ℕ};
+ghost use Rattle.std.specs.Prelude.{ℕ, List, []};
+ghost use Rattle.pin_core.specs.declared.view.MapEntry.{MapEntry};
 ghost use Rattle.frame_table.specs.Tells.{tells, Choice, always, if_found, if_unlocked, looking};
 ghost use Rattle.frame_table.specs.Kinds.{pins};
+ghost use Rattle.frame_table.specs.Turning.{left, map_came, map_went, took};
+ghost use Rattle.frame_table.specs.declared.turn.Turn.{Turn};
+ghost use Rattle.frame_table.specs.declared.turn.Turn.TheVariants.{Log};
 ghost use Rattle.pin_core.specs.Kinds as pin;
 
 use crate::value::Value;
-use atomic_table::{Play, Split};
+use atomic_table::{Join, Play, Split};
 use pin_core::View;
 use std::marker::{Brand, PhantomData};
 
@@ -51,6 +55,100 @@ impl Does for UnlockHeader {
     ghost choice = { always (pins pin.unlock_header) };
 }
 
+pub(crate) struct LoadTag;
+
+impl Does for LoadTag {
+    ghost choice = { always (pins pin.load_tag) };
+}
+
+pub(crate) struct EraseTag;
+
+impl Does for EraseTag {
+    ghost choice = { always (pins pin.erase_tag) };
+}
+
+pub(crate) struct VictimPin;
+
+impl Does for VictimPin {
+    ghost choice = { always (pins pin.pin_victim) };
+}
+
+pub(crate) struct LowerUsage;
+
+impl Does for LowerUsage {
+    ghost choice = { always (pins pin.lower_usage) };
+}
+
+pub(crate) struct Assign;
+
+impl Does for Assign {
+    ghost choice = { always (pins pin.assign) };
+}
+
+pub(crate) struct Clear;
+
+impl Does for Clear {
+    ghost choice = { always (pins pin.clear) };
+}
+
+/// Which latch a step is at. Each call picks it.
+pub(crate) trait AtTurn {
+    ghost turn: { Turn };
+}
+
+impl AtTurn for Brand {
+    ghost turn = { Log };
+}
+
+pub(crate) struct TakeTurn<D> {
+    turn: PhantomData<D>,
+}
+
+impl<L, G, D: AtTurn> Play<Value<L, G>, View> for TakeTurn<D> {
+    ghost then = { took D.turn };
+}
+
+pub(crate) struct LeaveTurn<D> {
+    turn: PhantomData<D>,
+}
+
+impl<L, G, D: AtTurn> Play<Value<L, G>, View> for LeaveTurn<D> {
+    ghost then = { left D.turn };
+}
+
+/// Which partition's map a step is at, the slot of the map, and its entries. Each call picks it.
+pub(crate) trait AtMap {
+    ghost partition: { ℕ };
+
+    ghost slot: { ℕ };
+
+    ghost entries: { List MapEntry };
+}
+
+impl AtMap for Brand {
+    ghost partition = { 0 };
+
+    ghost slot = { 0 };
+
+    ghost entries = { [] };
+}
+
+pub(crate) struct MapOut<D> {
+    partition: PhantomData<D>,
+}
+
+impl<L, G, D: AtMap> Play<Value<L, G>, View> for MapOut<D> {
+    ghost then = { map_went D.partition D.slot };
+}
+
+pub(crate) struct MapBack<D> {
+    partition: PhantomData<D>,
+}
+
+impl<L, G, D: AtMap> Play<Value<L, G>, View> for MapBack<D> {
+    ghost then = { map_came D.partition D.entries };
+}
+
 /// What a call knows of the table beside its seat. Each call picks it.
 pub(crate) trait Known {
     // Where the log begins.
@@ -71,4 +169,14 @@ impl<J: Known> Split<View> for NewSeat<J> {
     ghost left = { kept_view };
 
     ghost right = { split_view J.base };
+}
+
+pub(crate) struct Joined;
+
+impl Join<View> for Joined {
+    ghost use Rattle.pin_core.specs.State.{emptied_view, joined_view};
+
+    ghost both = { joined_view };
+
+    ghost spent = { emptied_view };
 }

@@ -1,10 +1,11 @@
-//! New seats.
-ghost use Rattle.std.specs.Prelude.{◌≡◌, ℕ, ◌<◌, []};
-ghost use Rattle.pin_core.specs.State.{hold, idle, link, no_partition};
+//! Seats come, and go.
+ghost use Rattle.std.specs.Prelude.{◌≡◌, ℕ, ◌<◌, false, []};
+ghost use Rattle.pin_core.specs.State.{hold, idle, joined_view, link, no_partition};
+ghost use Rattle.pin_core.specs.Steps.{HoldsNothing};
 ghost use Rattle.frame_table.specs.Sees.{Fits, SameSeat};
 ghost use Rattle.frame_table.specs.Tells.{kept_view, split_view};
 
-use crate::plays::{Known, NewSeat};
+use crate::plays::{Joined, Known, NewSeat};
 use crate::table::FrameTable;
 use crate::value::Value;
 use atomic_table::Seat;
@@ -37,5 +38,16 @@ impl<L: BlockLane, G> FrameTable<L, G> {
         ensures holds { (p : ℕ) → hold result.me.0 p ≡ no_partition }
     {
         self.split_at::<Brand>(seat)
+    }
+
+    /// The first seat takes in what another one, which holds nothing, knows.
+    pub fn join(&self, seat: &mut Seat<Value<L, G>, View>, other: Seat<Value<L, G>, View>)
+        requires seat { Fits self.now seat.old × (seat.old.id ≡ 0) }
+        requires other { Fits self.now other × (other.me.1 ≡ []) × (other.me.0.emptied ≡ false) }
+        requires free { HoldsNothing other.me.0 }
+        ensures seat { SameSeat seat.old seat.new }
+        ensures joined { seat.new.me.0 ≡ joined_view seat.old.me.0 other.me.0 }
+    {
+        self.table.shared.join_seat::<Joined>(seat, other);
     }
 }

@@ -1,7 +1,8 @@
 //! The table.
-ghost use Rattle.std.specs.Prelude.{◌≡◌};
+ghost use Rattle.std.specs.Prelude.{◌≡◌, ◌≤◌};
 ghost use Rattle.frame_table.specs.Layout as layout;
 
+use crate::config::Config;
 use crate::opening::Opening;
 use crate::rule::Rule;
 use crate::value::Value;
@@ -13,9 +14,10 @@ use std::alloc::Global;
 /// The table that the backends share. Each has a seat of it.
 pub struct FrameTable<L: BlockLane, G> {
     pub(crate) table: Table<Value<L, G>, View, Opening<L, G>, Rule, Global>,
-    pub(crate) frames: u32,
+    pub(crate) config: Config,
+    ghost known: { config ≡ table.shared.key.config },
+    ghost few: { table.shared.key.config.lanes ≤ 16 },
     ghost wide: { (table.shared.table_id.words ≡ layout.word_count table.shared.key.config.frames) × (table.shared.table_id.slots ≡ layout.slot_count table.shared.key.config.frames) },
-    ghost counted: { frames ≡ table.shared.key.config.frames },
 }
 
 impl<L: BlockLane, G> FrameTable<L, G> {
@@ -23,7 +25,7 @@ impl<L: BlockLane, G> FrameTable<L, G> {
     pub fn frames(&self) -> u32
         ensures { result ≡ self.now.table.shared.key.config.frames }
     {
-        self.frames
+        self.config.frames
     }
 }
 

@@ -3,7 +3,7 @@ use Rattle.state_word.specs.Fields.{unlocked_fields}
 use Rattle.frame_table.specs.Kinds.{pages}
 use Rattle.frame_table.specs.Content.{start_of}
 use Rattle.frame_table.proofs.Told.{touches}
-use Rattle.frame_table.proofs.Headers.{begun_after}
+use Rattle.frame_table.proofs.HeldWords.{begun_after}
 use Rattle.frame_table.proofs.table.FrameTable.begin_io.Goals as goal
 
 pub swap_begun-requires-clause-new : goal.swap_begun-requires-clause-new

@@ -3,7 +3,7 @@ use Rattle.state_word.specs.Fields.{unlocked_fields}
 use Rattle.page_core.specs.Kinds.{clear_just_dirtied}
 use Rattle.frame_table.specs.Kinds.{pages}
 use Rattle.frame_table.proofs.Told.{touches, link_is}
-use Rattle.frame_table.proofs.Headers.{clears_just_there, as_held}
+use Rattle.frame_table.proofs.HeldWords.{clears_just_there, as_held}
 use Rattle.frame_table.proofs.table.FrameTable.clear_just_dirtied.Goals as goal
 
 pub swap-requires : goal.swap-requires

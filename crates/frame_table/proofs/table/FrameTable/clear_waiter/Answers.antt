@@ -3,7 +3,7 @@ use Rattle.state_word.specs.Fields.{unlocked_fields}
 use Rattle.page_core.specs.Kinds.{clear_waiter}
 use Rattle.frame_table.specs.Kinds.{pages}
 use Rattle.frame_table.proofs.Told.{touches, link_is}
-use Rattle.frame_table.proofs.Headers.{wakes_there, as_held}
+use Rattle.frame_table.proofs.HeldWords.{wakes_there, as_held}
 use Rattle.frame_table.proofs.table.FrameTable.clear_waiter.Goals as goal
 
 pub swap-requires : goal.swap-requires

@@ -3,7 +3,7 @@ use Rattle.state_word.specs.Fields.{unlocked_fields}
 use Rattle.page_core.specs.Kinds.{need_checkpoint}
 use Rattle.frame_table.specs.Kinds.{pages}
 use Rattle.frame_table.proofs.Told.{touches, link_is}
-use Rattle.frame_table.proofs.Headers.{needs_there, as_held}
+use Rattle.frame_table.proofs.HeldWords.{needs_there, as_held}
 use Rattle.frame_table.proofs.table.FrameTable.need_checkpoint.Goals as goal
 
 pub swap-requires : goal.swap-requires

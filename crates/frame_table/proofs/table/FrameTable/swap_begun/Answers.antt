@@ -3,7 +3,7 @@ use Rattle.frame_table.specs.Content.{start_of}
 use Rattle.frame_table.specs.Kinds.{Part, pages}
 use Rattle.frame_table.specs.Tells.{always, part_place}
 use Rattle.frame_table.proofs.Told.{of_choice}
-use Rattle.frame_table.proofs.Headers.{begins_there, as_held, start_part}
+use Rattle.frame_table.proofs.HeldWords.{begins_there, as_held, start_part}
 use Rattle.frame_table.proofs.table.FrameTable.swap_begun.Goals as goal
 
 pub swap-requires : goal.swap-requires

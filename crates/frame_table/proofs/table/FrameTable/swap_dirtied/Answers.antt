@@ -1,5 +1,5 @@
 use Rattle.std.proofs.Common.{rules, arith}
-use Rattle.frame_table.proofs.Headers.{marks_there}
+use Rattle.frame_table.proofs.HeldWords.{marks_there}
 use Rattle.frame_table.proofs.table.FrameTable.swap_dirtied.Goals as goal
 
 pub compare_exchange-requires : goal.compare_exchange-requires

@@ -38,6 +38,7 @@ as_held k part f found word v w held d = record {
   state = d.state;
   laws = d.laws;
   few = d.few;
+  spread = d.spread;
   seat = d.seat;
   there = d.there;
   live = d.live;
@@ -66,7 +67,7 @@ module _ {L G : Type 0} (d : Devices L G) (o : Opening L G) where
 
   pub marks_there : (slots id f was new : ℕ) (me : Me (Value L G) View) → f < o.config.frames → me.0.emptied ≡ false → (link me.0 f).content ≡ Exclusive → has_locked was ≡ false → fields new ≡ dirtied_fields (fields was)
       → Allows (Held d o) slots id me (state_place f) (λ n. either (eqb n was) new n) (tells (if_found (pages paged.mark_dirty)) (step slots (state_place f) was new none) me)
-  marks_there slots id f was new me below live right unlocked made = swaps d o (pages paged.mark_dirty) refl slots id f was new me below live (λ s laws there is. record {
+  marks_there slots id f was new me below live right unlocked made = swaps d o (pages paged.mark_dirty) refl slots id f was new me below live (λ s laws there spread inside is. record {
     allowed = (tt, record { unlocked = ap (λ (w : StateWord). w.locked) is ∙ unlocked; right = right });
     around = tt;
     word = ap dirtied_fields is ∙ sym made;

@@ -1,0 +1,347 @@
+-- Steps under a header, and at tag words.
+use Rattle.std.proofs.Common.{eqb, ◌≡◌, ◌≢◌, ℕ, ◌+◌, ◌*◌, ◌<◌, ◌/◌, ◌%◌, ◌^◌, Bool, true, false, Option, Some, None, List, get_or, set, length, get_or-set_same, get_or-set_other, sym, refl, ap, ◌∙◌, subst, arith}
+use Rattle.std.specs.Prelude.{is_some, IfSome, nat_eq}
+use Rattle.std.proofs.lemmas.List.{get_or_past}
+use mathlib.Core.Logic.{dite}
+use mathlib.Core.Option.{none, some}
+use native.Mathlib.Decide.{ℕ_discrete, dec_lt}
+use lib.ListN.{get_elem?}
+use prog.Atomic.{either}
+use lib.Seq.{set-get_or}
+use Rattle.atomic_table.specs.Table.{Me, step, Allows}
+use Rattle.atomic_table.specs.Table as table
+use Rattle.state_word.specs.declared.word.StateWord.{StateWord}
+use Rattle.state_word.specs.Fields.{pinned_fields, fields, bit, unlocked_fields, assigned_fields, cleared_fields, usage_down_fields}
+use Rattle.state_word.proofs.Words.{same_record}
+use Rattle.block_tag.specs.declared.tag.Tag.{Tag}
+use Rattle.block_tag.specs.Names.{unpacked_tag, packed_tag}
+use Rattle.pin_core.specs.declared.view.View.{View}
+use Rattle.pin_core.specs.declared.view.Link.{Link}
+use Rattle.pin_core.specs.declared.view.MapEntry.{MapEntry}
+use Rattle.pin_core.specs.declared.view.MapChange.TheVariants.{Settled, Entering, Leaving}
+use Rattle.pin_core.specs.declared.view.PartitionHold.{PartitionHold}
+use Rattle.pin_core.specs.declared.view.Role.TheVariants.{Absent, Victim}
+use Rattle.pin_core.specs.State.{Frame, link, hold, idle, no_partition, no_tag, is_tag}
+use Rattle.pin_core.specs.Tallies.{pendings, flag_weight, weigh}
+use Rattle.pin_core.specs.Turns.{found, map_now, owed_by}
+use Rattle.pin_core.specs.Maps.{OwedLaw}
+use Rattle.pin_core.specs.Kinds.{holds_naming}
+use Rattle.pin_core.specs.Invariant.{PendingFrame}
+use Rattle.pin_core.specs.Kinds as pin
+use Rattle.pin_core.specs.Steps.{HasNoVictim}
+use Rattle.grid.proofs.Sums.{term_le}
+use Rattle.history_core.specs.State.{State}
+use Rattle.frame_table.specs.declared.value.Value.{Value}
+use Rattle.frame_table.specs.declared.opening.Opening.{Opening}
+use Rattle.frame_table.specs.Layout.{state_place, tag_place, tag_partition, partition_of_tag}
+use Rattle.history_core.specs.Laws.{Laws}
+use Rattle.frame_table.specs.Kinds.{FrameKind, pins, part_of, link_after, view_after}
+use Rattle.frame_table.specs.Shows.{ShowsFrame, Devices, Shows, Held}
+use Rattle.frame_table.specs.Sees.{Finds, mapped_link, SameSelf, Looked, Touches, Stores, HoldsWord, HasRoom, IsUsed, HasFlag, IsAlone, MayChange, Lacks, CanStore, CanErase, CanStoreAs, partitions_erased, partitions_stored, stored_link, victim_link, unlocked_link, assigned_link, cleared_link, tag_word, read_link}
+use Rattle.frame_table.specs.Tells.{Tried, if_found, Did, DidHeld, always, looking, storing, tells}
+use Rattle.frame_table.proofs.Frames.{Asks}
+use Rattle.frame_table.proofs.Acting.{acts}
+use Rattle.frame_table.proofs.Words.{swaps, AsksWord, stores}
+use Rattle.frame_table.proofs.Told.{looks_link, self_after, links_after, touches, touches_on, link_is, looked}
+
+-- numbers that are alike at a place have the same bit there
+same_bit : (place v w : ℕ) → v / 2 ^ place % 2 ≡ w / 2 ^ place % 2 → bit place v ≡ bit place w
+same_bit place v w e = ap (λ (n : ℕ). nat_eq n 1) e
+
+-- one more pin, the usage count as it was
+pub pin_added : (w : ℕ) → (fields w).pins + 1 < 262144 → fields (w + 1) ≡ record (fields w) { pins = (fields w).pins + 1 }
+unfolding fields
+pin_added w room = same_record (fields (w + 1)) (record (fields w) { pins = (fields w).pins + 1 }) (omega arith) (omega arith) (same_bit 22 (w + 1) w (omega arith)) (same_bit 23 (w + 1) w (omega arith)) (same_bit 24 (w + 1) w (omega arith)) (same_bit 25 (w + 1) w (omega arith)) (same_bit 26 (w + 1) w (omega arith)) (same_bit 27 (w + 1) w (omega arith))
+    (same_bit 28 (w + 1) w (omega arith)) (same_bit 29 (w + 1) w (omega arith)) (same_bit 30 (w + 1) w (omega arith)) (same_bit 31 (w + 1) w (omega arith)) (omega arith)
+
+-- such a word has room for one more
+pub word_room : (w : ℕ) → w < 18446744073709551616 → (fields w).pins + 1 < 262144 → w + 1 < 18446744073709551616
+unfolding fields
+word_room w low room = omega arith
+
+-- a view that holds the header has the frame's word
+pub held_word : (s : State) (id f : ℕ) (v : View) → Laws s → get_elem? s.pool.core.views id ≡ some v → f < s.pool.core.frames → (link v f).header ≢ None → (link v f).header ≡ Some (s.pool.core.frame f).word
+held_word s id f v laws there inside held = of_header (link v f).header refl
+  where
+    of_header : (w : Option StateWord) → (link v f).header ≡ w → (link v f).header ≡ Some (s.pool.core.frame f).word
+    of_header None e = absurd (held e)
+    of_header (Some w) e = e ∙ ap (λ (x : StateWord). Some x) (sym ((laws.invariant.pool.core.grid.cells id v f there inside).header w e))
+
+some_same : (a b : StateWord) → Some a ≡ Some b → a ≡ b
+some_same a b e = cc
+
+-- after a load the header's word is the number that was loaded
+pub word_loaded : (f n : ℕ) (v u : View) → Did looking f v u n → (link v f).header ≢ None → (link u f).header ≡ Some (fields n)
+word_loaded f n v u d held = (looked f n v u d).header ∙ held_word d.state d.seat f v d.laws d.there d.inside held ∙ ap (λ (w : StateWord). Some w) d.says
+
+-- and what the view knew of it holds of the number
+pub knows_loaded : (P : StateWord → Type 0) (f n : ℕ) (v u : View) → Did looking f v u n → HoldsWord P (link v f) → P (fields n)
+knows_loaded P f n v u d h = subst P d.says (h.knows (d.state.pool.core.frame f).word (held_word d.state d.seat f v d.laws d.there d.inside h.held))
+
+module _ {L G : Type 0} (d : Devices L G) (o : Opening L G) where
+  -- a store of the state word under the header, which holds the number `was`
+  held_stores : (k : FrameKind) → part_of k ≡ part_of looking → (slots id f was new : ℕ) (me : Me (Value L G) View) → f < o.config.frames → me.0.emptied ≡ false → (link me.0 f).header ≡ Some (fields was)
+      → ((s : State) → Laws s → get_elem? s.pool.core.views id ≡ some me.0 → f < s.pool.core.frames → (s.pool.core.frame f).word ≡ fields was → (link me.0 f).header ≡ Some (s.pool.core.frame f).word → AsksWord k s f new me.0)
+      → Allows (Held d o) slots id me (state_place f) (λ _. new) (tells (always k) (step slots (state_place f) new 0 none) me)
+  held_stores k part slots id f was new me below live held asked = stores d o k part slots id f new 0 new me below live (λ s laws there inside. let is : (s.pool.core.frame f).word ≡ fields was = (laws.invariant.pool.core.grid.cells id me.0 f there inside).header (fields was) held in
+      asked s laws there inside is (held ∙ ap (λ (w : StateWord). Some w) (sym is)))
+
+  pub victims_there : (slots id f was new : ℕ) (me : Me (Value L G) View) → f < o.config.frames → me.0.emptied ≡ false → (link me.0 f).header ≡ Some (fields was) → (link me.0 f).role ≡ Absent → HasNoVictim me.0 → HasRoom (fields was) → fields new ≡ unlocked_fields (record (fields was) { pins = (fields was).pins + 1 })
+      → Allows (Held d o) slots id me (state_place f) (λ _. new) (tells (always (pins pin.pin_victim)) (step slots (state_place f) new 0 none) me)
+  victims_there slots id f was new me below live held absent only room made = held_stores (pins pin.pin_victim) refl slots id f was new me below live held (λ s laws there inside is mine. record {
+    allowed = record { held = mine; absent = absent; room = subst HasRoom (sym is) room };
+    around = only;
+    word = ap (λ (w : StateWord). unlocked_fields (record w { pins = w.pins + 1 })) is ∙ sym made;
+    rest = record { tag = refl; sharers = refl; exclusive = refl; copying = refl; page = refl };
+    out = refl;
+  })
+
+  pub lowers_there : (slots id f was new : ℕ) (me : Me (Value L G) View) → f < o.config.frames → me.0.emptied ≡ false → (link me.0 f).header ≡ Some (fields was) → IsUsed (fields was) → fields new ≡ unlocked_fields (usage_down_fields (fields was))
+      → Allows (Held d o) slots id me (state_place f) (λ _. new) (tells (always (pins pin.lower_usage)) (step slots (state_place f) new 0 none) me)
+  lowers_there slots id f was new me below live held used made = held_stores (pins pin.lower_usage) refl slots id f was new me below live held (λ s laws there inside is mine. let u = subst IsUsed (sym is) used in record {
+    allowed = record { held = mine; free = u.0; used = u.1 };
+    around = tt;
+    word = ap (λ (w : StateWord). unlocked_fields (usage_down_fields w)) is ∙ sym made;
+    rest = record { tag = refl; sharers = refl; exclusive = refl; copying = refl; page = refl };
+    out = refl;
+  })
+
+  -- between a store of the tag word and assigning or clearing
+  pending_frame : (s : State) (id f : ℕ) (v : View) → Laws s → get_elem? s.pool.core.views id ≡ some v → f < s.pool.core.frames → (link v f).pending ≡ true → PendingFrame (s.pool.core.frame f)
+  pending_frame s id f v laws there inside stored = (laws.invariant.pool.core.grid.columns f inside).pending (let a = term_le (λ (u : View). weigh pendings (link u f)) s.pool.core.views id v there in let b = ap flag_weight stored in omega arith)
+
+  pub assigns_there : (slots id f was new : ℕ) (me : Me (Value L G) View) → f < o.config.frames → me.0.emptied ≡ false → (link me.0 f).header ≡ Some (fields was) → (link me.0 f).pending ≡ true → HasFlag false (fields was) → fields new ≡ unlocked_fields (assigned_fields (fields was))
+      → Allows (Held d o) slots id me (state_place f) (λ _. new) (tells (always (pins pin.assign)) (step slots (state_place f) new 0 none) me)
+  assigns_there slots id f was new me below live held stored flag made = held_stores (pins pin.assign) refl slots id f was new me below live held (λ s laws there inside is mine. record {
+    allowed = record { held = mine; stored = stored; named = λ none. let t = (pending_frame s id f me.0 laws there inside stored).leaving none in let g = subst (HasFlag false) (sym is) flag in absurd (cc) };
+    around = tt;
+    word = ap (λ (w : StateWord). unlocked_fields (assigned_fields w)) is ∙ sym made;
+    rest = record { tag = refl; sharers = refl; exclusive = refl; copying = refl; page = refl };
+    out = refl;
+  })
+
+  pub clears_there : (slots id f was new : ℕ) (me : Me (Value L G) View) → f < o.config.frames → me.0.emptied ≡ false → (link me.0 f).header ≡ Some (fields was) → (link me.0 f).pending ≡ true → HasFlag true (fields was) → fields new ≡ unlocked_fields (cleared_fields (fields was))
+      → Allows (Held d o) slots id me (state_place f) (λ _. new) (tells (always (pins pin.clear)) (step slots (state_place f) new 0 none) me)
+  clears_there slots id f was new me below live held stored flag made = held_stores (pins pin.clear) refl slots id f was new me below live held (λ s laws there inside is mine. record {
+    allowed = record {
+      held = mine;
+      erased = stored;
+      unnamed = dite (ℕ_discrete (s.pool.core.frame f).tag no_tag) (λ e. e) (λ n. let t = (pending_frame s id f me.0 laws there inside stored).entering n in let g = subst (HasFlag true) (sym is) flag in absurd (cc));
+    };
+    around = tt;
+    word = ap (λ (w : StateWord). unlocked_fields (cleared_fields w)) is ∙ sym made;
+    rest = record { tag = refl; sharers = refl; exclusive = refl; copying = refl; page = refl };
+    out = refl;
+  })
+
+  -- another tag word shows a frame with this tag
+  tag_shows : (words : List ℕ) (f n : ℕ) (fr : Frame) → 3 * f + 1 < length words → ShowsFrame words f fr → ShowsFrame (set words (3 * f + 1) n) f (record fr { tag = n })
+  tag_shows words f n fr low h = let e0 : get_or (set words (3 * f + 1) n) (3 * f) 0 ≡ get_or words (3 * f) 0 = get_or-set_other words (3 * f + 1) (3 * f) n 0 (omega arith) in
+      let e2 : get_or (set words (3 * f + 1) n) (3 * f + 2) 0 ≡ get_or words (3 * f + 2) 0 = get_or-set_other words (3 * f + 1) (3 * f + 2) n 0 (omega arith) in record {
+        word = h.word ∙ ap fields (sym e0);
+        tag = sym (get_or-set_same words (3 * f + 1) n 0 low);
+        sharers = h.sharers ∙ ap (λ (x : ℕ). x % 2 ^ 18) (sym e2);
+        exclusive = h.exclusive ∙ ap (bit 18) (sym e2);
+        copying = h.copying ∙ ap (bit 19) (sym e2);
+        small = subst (λ (x : ℕ). x < 2 ^ 20) (sym e2) h.small;
+      }
+
+  pub tag_loads : (slots id f : ℕ) (me : Me (Value L G) View) → f < o.config.frames → me.0.emptied ≡ false → pin.CanLoadTag (link me.0 f).role (link me.0 f).header
+      → Allows (Held d o) slots id me (tag_place f) (λ n. n) (tells (always (pins pin.load_tag)) (step slots (tag_place f) 0 0 none) me)
+  tag_loads slots id f me below live right = acts d o (always (pins pin.load_tag)) slots id f 0 0 (λ n. n) me below live (λ t s h laws there small. record {
+    allowed = right;
+    around = tt;
+    shows = subst (λ (ws : List ℕ). ShowsFrame ws f (s.pool.core.frame f)) (sym (set-get_or t.words (3 * f + 1) 0)) (h.frame f below);
+    page = refl;
+    out = refl;
+  })
+
+  -- who is alone at a frame is so in the state
+  alone_there : (s : State) (id f : ℕ) (v : View) → Laws s → get_elem? s.pool.core.views id ≡ some v → f < s.pool.core.frames → IsAlone (link v f) → pin.IsAlone (s.pool.core.frame f) (link v f)
+  alone_there s id f v laws there inside a = let held = held_word s id f v laws there inside a.word.held in record { held = held; settled = a.settled; single = a.word.knows (s.pool.core.frame f).word held; victim = a.victim; no_content = a.no_content; no_io = a.no_io }
+
+  -- the map that is out with a view, as it is
+  map_there : (s : State) (id p : ℕ) (v : View) → Laws s → get_elem? s.pool.core.views id ≡ some v → p < s.pool.core.partitions → (hold v p).changed ≡ false → (entries : List MapEntry) → (hold v p).out ≡ Some entries → (s.pool.core.partition p).map ≡ found entries
+  map_there s id p v laws there low unchanged entries out = (laws.invariant.pool.core.turns.cells id v p there low).out entries out ∙ ap (λ (b : Bool). map_now b (hold v p).change (found entries)) unchanged
+
+  finds_there : (s : State) (id f : ℕ) (v : View) (tag : ℕ) → s.pool.core.partition_of ≡ tag_partition → Laws s → get_elem? s.pool.core.views id ≡ some v → Finds v tag f → (s.pool.core.partition (tag_partition tag)).map tag ≡ Some f
+  finds_there s id f v tag parts laws there finds = of_out (hold v (tag_partition tag)).out refl
+    where
+      of_out : (x : Option (List MapEntry)) → (hold v (tag_partition tag)).out ≡ x → (s.pool.core.partition (tag_partition tag)).map tag ≡ Some f
+      of_out None e = absurd (finds.out e)
+      of_out (Some entries) e = ap (λ (m : ℕ → Option ℕ). m tag) (map_there s id (tag_partition tag) v laws there (subst (λ (p : ℕ). p < s.pool.core.partitions) (ap (λ (g : ℕ → ℕ). g tag) parts) (laws.invariant.pool.core.placed tag)) finds.unchanged entries e) ∙ finds.finds entries e
+
+  pub maps_there : (tag : ℕ) (ring : Bool) (slots id f was new : ℕ) (me : Me (Value L G) View) → f < o.config.frames → me.0.emptied ≡ false → (link me.0 f).role ≡ Absent → Finds me.0 tag f → (fields was).locked ≡ false → fields new ≡ pinned_fields ring (fields was)
+      → Allows (Held d o) slots id me (state_place f) (λ n. either (eqb n was) new n) (tells (if_found (pins (pin.pin_mapped tag ring))) (step slots (state_place f) was new none) me)
+  maps_there tag ring slots id f was new me below live absent finds unlocked made = swaps d o (pins (pin.pin_mapped tag ring)) refl slots id f was new me below live (λ s laws there spread inside is. let at : tag_partition tag ≡ s.pool.core.partition_of tag = ap (λ (g : ℕ → ℕ). g tag) (sym spread) in record {
+    allowed = record { unlocked = ap (λ (w : StateWord). w.locked) is ∙ unlocked; absent = absent };
+    around = record {
+      held = subst (λ (p : ℕ). (hold me.0 p).held ≡ true) at finds.held;
+      settled = subst (λ (p : ℕ). (hold me.0 p).change ≡ Settled) at finds.settled;
+      given = subst (λ (p : ℕ). (s.pool.core.partition p).map tag ≡ Some f) at (finds_there s id f me.0 tag spread laws there finds);
+    };
+    word = ap (pinned_fields ring) is ∙ sym made;
+    rest = record { tag = refl; sharers = refl; exclusive = refl; copying = refl; page = refl };
+    out = refl;
+  })
+
+  lacks_there : (s : State) (id : ℕ) (v : View) (tag : ℕ) → s.pool.core.partition_of ≡ tag_partition → Laws s → get_elem? s.pool.core.views id ≡ some v → (hold v (tag_partition tag)).changed ≡ false → Lacks v tag → (s.pool.core.partition (tag_partition tag)).map tag ≡ None
+  lacks_there s id v tag parts laws there unchanged lacks = of_out (hold v (tag_partition tag)).out refl
+    where
+      of_out : (x : Option (List MapEntry)) → (hold v (tag_partition tag)).out ≡ x → (s.pool.core.partition (tag_partition tag)).map tag ≡ None
+      of_out None e = absurd (lacks.out e)
+      of_out (Some entries) e = ap (λ (m : ℕ → Option ℕ). m tag) (map_there s id (tag_partition tag) v laws there (subst (λ (p : ℕ). p < s.pool.core.partitions) (ap (λ (g : ℕ → ℕ). g tag) parts) (laws.invariant.pool.core.placed tag)) unchanged entries e) ∙ lacks.lacks entries e
+
+  no_tag_none : unpacked_tag no_tag ≡ None
+  unfolding unpacked_tag
+  no_tag_none = refl
+
+  named_there : (tag : ℕ) → is_tag tag ≡ true → tag ≢ no_tag
+  unfolding is_tag
+  named_there tag is e = let x : is_some (unpacked_tag tag) ≡ false = ap (λ (n : ℕ). is_some (unpacked_tag n)) e ∙ ap (λ (t : Option Tag). is_some t) no_tag_none in absurd (cc)
+
+  is_tag_of : (tag : ℕ) (t : Tag) → unpacked_tag tag ≡ Some t → is_tag tag ≡ true
+  unfolding is_tag
+  is_tag_of tag t e = ap (λ (x : Option Tag). is_some x) e
+
+  pub stores_there : (slots id f tag : ℕ) (t : Tag) (me : Me (Value L G) View) → f < o.config.frames → me.0.emptied ≡ false → unpacked_tag tag ≡ Some t → IsAlone (link me.0 f) → HoldsWord (HasFlag false) (link me.0 f) → MayChange me.0 (tag_partition tag) → Lacks me.0 tag
+      → Allows (Held d o) slots id me (tag_place f) (λ _. tag) (tells (always (pins (pin.store_tag tag))) (step slots (tag_place f) tag 0 none) me)
+  stores_there slots id f tag t me below live packed alone untagged may lacks = acts d o (always (pins (pin.store_tag tag))) slots id f tag 0 (λ _. tag) me below live (λ u s h laws there small.
+      let inside : f < s.pool.core.frames = (let e = h.fixed.frames in omega arith) in let mine = alone_there s id f me.0 laws there inside alone in let at : tag_partition tag ≡ s.pool.core.partition_of tag = ap (λ (g : ℕ → ℕ). g tag) (sym h.fixed.partition_of) in record {
+        allowed = record { alone = mine; named = named_there tag (is_tag_of tag t packed); packed = is_tag_of tag t packed; untagged = untagged.knows (s.pool.core.frame f).word mine.held };
+        around = record {
+          naming = record { held = subst (λ (p : ℕ). (hold me.0 p).held ≡ true) at may.held; unchanged = subst (λ (p : ℕ). (hold me.0 p).changed ≡ false) at may.unchanged; settled = may.settled };
+          block = ap (λ (g : ℕ → Bool). g tag) h.fixed.is_block ∙ is_tag_of tag t packed;
+          lacking = subst (λ (p : ℕ). (s.pool.core.partition p).map tag ≡ None) at (lacks_there s id me.0 tag h.fixed.partition_of laws there may.unchanged lacks);
+        };
+        shows = tag_shows u.words f tag (s.pool.core.frame f) (let wide = h.words in omega arith) (h.frame f below);
+        page = refl;
+        out = refl;
+      })
+
+  -- the tag that a pin knows is the frame's
+  known_there : (s : State) (id f tag : ℕ) (v : View) → Laws s → get_elem? s.pool.core.views id ≡ some v → f < s.pool.core.frames → (link v f).tag ≡ Some tag → ((s.pool.core.frame f).tag ≢ no_tag) × ((s.pool.core.frame f).tag ≡ tag)
+  known_there s id f tag v laws there inside known = let r = (laws.invariant.pool.core.grid.cells id v f there inside).remembers tag known in (r.0.named, r.1)
+
+  pub erases_there : (slots id f : ℕ) (me : Me (Value L G) View) → f < o.config.frames → me.0.emptied ≡ false → IsAlone (link me.0 f) → CanErase me.0 f
+      → Allows (Held d o) slots id me (tag_place f) (λ _. 18446744073709551615) (tells (always (pins pin.erase_tag)) (step slots (tag_place f) 18446744073709551615 0 none) me)
+  erases_there slots id f me below live alone can = acts d o (always (pins pin.erase_tag)) slots id f 18446744073709551615 0 (λ _. 18446744073709551615) me below live (λ u s h laws there small.
+      let inside : f < s.pool.core.frames = (let e = h.fixed.frames in omega arith) in of_tag u s h laws there inside (link me.0 f).tag refl)
+    where
+      of_tag : (u : table.State (Value L G) View) (s : State) → Shows d o u s → Laws s → get_elem? s.pool.core.views id ≡ some me.0 → f < s.pool.core.frames → (x : Option ℕ) → (link me.0 f).tag ≡ x → Asks (pins pin.erase_tag) u s f (3 * f + 1) 18446744073709551615 me.0
+      of_tag u s h laws there inside None e = absurd (can.read e)
+      of_tag u s h laws there inside (Some tag) e = let mine = alone_there s id f me.0 laws there inside alone in let known = known_there s id f tag me.0 laws there inside e in let may = can.latch tag e in
+          let at : tag_partition tag ≡ s.pool.core.partition_of (s.pool.core.frame f).tag = ap (λ (g : ℕ → ℕ). g tag) (sym h.fixed.partition_of) ∙ ap s.pool.core.partition_of (sym known.1) in record {
+            allowed = record { alone = mine; named = known.0; clean = can.word.knows (s.pool.core.frame f).word mine.held };
+            around = record { held = subst (λ (p : ℕ). (hold me.0 p).held ≡ true) at may.held; unchanged = subst (λ (p : ℕ). (hold me.0 p).changed ≡ false) at may.unchanged; settled = may.settled };
+            shows = tag_shows u.words f 18446744073709551615 (s.pool.core.frame f) (let wide = h.words in omega arith) (h.frame f below);
+            page = refl;
+            out = refl;
+          }
+
+-- What follows from such steps
+pub held_touches : (k : FrameKind) → ((s : State) (f : ℕ) (v : View) → (view_after k s f v).partitions ≡ v.partitions) → (f : ℕ) (v w : View) → DidHeld k f v w → Touches f v w
+held_touches k aside f v w d = touches_on f v d.between w (touches looking (λ s g x. refl) f d.word v d.between d.looked) (touches k aside f d.now d.between w d.did)
+
+victim_looked : (l m : Link) → Looked l m → Looked (victim_link l) (victim_link m)
+victim_looked l m a = record { role = refl; tag = a.tag; ring = refl; header = refl; pending = a.pending; content = a.content; copying = a.copying; dirtied = a.dirtied; unapplied = a.unapplied; copied = a.copied; io = a.io; read = a.read; read_is_home = a.read_is_home; last_write = a.last_write; out = a.out; overwritten = a.overwritten; waits = a.waits }
+
+unlocked_looked : (l m : Link) → Looked l m → Looked (unlocked_link l) (unlocked_link m)
+unlocked_looked l m a = record { role = a.role; tag = a.tag; ring = a.ring; header = refl; pending = a.pending; content = a.content; copying = a.copying; dirtied = a.dirtied; unapplied = a.unapplied; copied = a.copied; io = a.io; read = a.read; read_is_home = a.read_is_home; last_write = a.last_write; out = a.out; overwritten = a.overwritten; waits = a.waits }
+
+assigned_looked : (tag : Option ℕ) (l m : Link) → Looked l m → Looked (assigned_link tag l) (assigned_link tag m)
+assigned_looked tag l m a = record { role = refl; tag = refl; ring = a.ring; header = refl; pending = refl; content = a.content; copying = a.copying; dirtied = a.dirtied; unapplied = a.unapplied; copied = a.copied; io = a.io; read = a.read; read_is_home = a.read_is_home; last_write = a.last_write; out = a.out; overwritten = a.overwritten; waits = a.waits }
+
+cleared_looked : (l m : Link) → Looked l m → Looked (cleared_link l) (cleared_link m)
+cleared_looked l m a = record { role = a.role; tag = a.tag; ring = a.ring; header = refl; pending = refl; content = a.content; copying = a.copying; dirtied = a.dirtied; unapplied = a.unapplied; copied = a.copied; io = a.io; read = a.read; read_is_home = a.read_is_home; last_write = a.last_write; out = a.out; overwritten = a.overwritten; waits = a.waits }
+
+pub victim_after : (f : ℕ) (v w : View) → DidHeld (pins pin.pin_victim) f v w → Looked (victim_link (link v f)) (link w f)
+victim_after f v w d = subst (Looked (victim_link (link v f))) (sym (link_is (pins pin.pin_victim) f d.now d.between w d.did)) (victim_looked (link v f) (link d.between f) (looked f d.word v d.between d.looked))
+
+pub lowered_after : (f : ℕ) (v w : View) → DidHeld (pins pin.lower_usage) f v w → Looked (unlocked_link (link v f)) (link w f)
+lowered_after f v w d = subst (Looked (unlocked_link (link v f))) (sym (link_is (pins pin.lower_usage) f d.now d.between w d.did)) (unlocked_looked (link v f) (link d.between f) (looked f d.word v d.between d.looked))
+
+pub assigned_after : (f : ℕ) (v w : View) → DidHeld (pins pin.assign) f v w → Looked (assigned_link (link w f).tag (link v f)) (link w f)
+assigned_after f v w d = let tag : Option ℕ = Some (d.did.state.pool.core.frame f).tag in subst (λ (m : Link). Looked (assigned_link m.tag (link v f)) m) (sym (link_is (pins pin.assign) f d.now d.between w d.did)) (assigned_looked tag (link v f) (link d.between f) (looked f d.word v d.between d.looked))
+
+pub cleared_after : (f : ℕ) (v w : View) → DidHeld (pins pin.clear) f v w → Looked (cleared_link (link v f)) (link w f)
+cleared_after f v w d = subst (Looked (cleared_link (link v f))) (sym (link_is (pins pin.clear) f d.now d.between w d.did)) (cleared_looked (link v f) (link d.between f) (looked f d.word v d.between d.looked))
+
+-- the frame of a pair that a view is entering has the tag
+entering_there : (s : State) (id f p tag : ℕ) (v : View) → Laws s → get_elem? s.pool.core.views id ≡ some v → v.emptied ≡ false → f < s.pool.core.frames → (hold v p).change ≡ Entering tag f → (hold v p).changed ≡ false → (s.pool.core.frame f).tag ≡ tag
+entering_there s id f p tag v laws there live inside enters unchanged = dite (dec_lt p (length v.partitions))
+    (λ low. let in_range : p < s.pool.core.partitions = (let w = (laws.invariant.pool.core.views.wide id v there live).1 in omega arith) in let law = laws.invariant.pool.core.turns.cells id v p there in_range in of_held law.owed law.resting in_range (hold v p).held refl)
+    (λ high. let none : (hold v p).change ≡ Settled = ap (λ (h : PartitionHold). h.change) (get_or_past v.partitions p no_partition (omega arith)) in let no : Entering tag f ≡ Settled = sym enters ∙ none in absurd (cc))
+  where
+    of_owed : p < s.pool.core.partitions → (s.pool.core.partition p).owed ≡ Entering tag f → (s.pool.core.frame f).tag ≡ tag
+    of_owed low owed = let maps = laws.invariant.pool.core.maps in let pair = subst (OwedLaw s.pool.core.frames s.pool.core.partition_of p) owed (maps.changing p) in
+        ((maps.pairs tag f pair.named inside).entering (ap (λ (q : ℕ). (s.pool.core.partition q).owed) pair.placed ∙ owed)).0
+
+    of_held : ((hold v p).held ≡ true → owed_by (hold v p).changed (hold v p).change ≡ (s.pool.core.partition p).owed) → ((hold v p).held ≡ false → ((hold v p).out ≡ None) × ((hold v p).change ≡ Settled) × ((hold v p).changed ≡ false)) → p < s.pool.core.partitions → (b : Bool) → (hold v p).held ≡ b → (s.pool.core.frame f).tag ≡ tag
+    of_held owed resting low true e = of_owed low (sym (owed e) ∙ ap (λ (c : Bool). owed_by c (hold v p).change) unchanged ∙ enters)
+    of_held owed resting low false e = let no : Entering tag f ≡ Settled = sym enters ∙ (resting e).1 in absurd (cc)
+
+pub assigned_tag : (f : ℕ) (v w : View) → DidHeld (pins pin.assign) f v w → (p tag : ℕ) → (hold v p).change ≡ Entering tag f → (hold v p).changed ≡ false → (link w f).tag ≡ Some tag
+assigned_tag f v w d p tag enters unchanged = let e : d.between.partitions ≡ v.partitions = (touches looking (λ s g x. refl) f d.word v d.between d.looked).partitions in let same : hold d.between p ≡ hold v p = ap (λ (l : List PartitionHold). get_or l p no_partition) e in
+    ap (λ (l : Link). l.tag) (link_is (pins pin.assign) f d.now d.between w d.did)
+    ∙ ap (λ (t : ℕ). Some t) (entering_there d.did.state d.did.seat f p tag d.between d.did.laws d.did.there d.did.live d.did.inside (ap (λ (h : PartitionHold). h.change) same ∙ enters) (ap (λ (h : PartitionHold). h.changed) same ∙ unchanged))
+
+-- after a store of a tag word
+pub stored_self : (tag : Option Tag) (f now : ℕ) (v w : View) → Did (storing tag) f v w now → Stores f v w
+stored_self tag f now v w d = record {
+  self = subst (SameSelf v) (sym d.after) (self_after (storing tag) d.state f v);
+  others = λ g n. ap (λ (x : View). link x g) d.after ∙ ap (λ (l : List Link). get_or l g idle) (links_after (storing tag) d.state f v) ∙ get_or-set_other v.links f g (link_after (storing tag) d.state f v) idle n;
+}
+
+pub stored_after : (tag : Option Tag) (f now : ℕ) (v w : View) → Did (storing tag) f v w now → link w f ≡ stored_link (link v f)
+stored_after None f now v w d = link_is (storing None) f now v w d
+stored_after (Some tag) f now v w d = link_is (storing (Some tag)) f now v w d
+
+pub stored_partitions : (tag : Option Tag) (f now : ℕ) (v w : View) → Did (storing tag) f v w now → CanStoreAs tag v f → w.partitions ≡ partitions_stored tag f v
+stored_partitions None f now v w d can = ap (λ (x : View). x.partitions) d.after ∙ ap (λ (g : ℕ → ℕ). holds_naming (Leaving (d.state.pool.core.frame f).tag f) g v) d.spread ∙ of_tag (link v f).tag refl
+  where
+    of_tag : (x : Option ℕ) → (link v f).tag ≡ x → holds_naming (Leaving (d.state.pool.core.frame f).tag f) tag_partition v ≡ partitions_erased (link v f).tag f v
+    of_tag None e = absurd (can.read e)
+    of_tag (Some tag) e = let known = (d.laws.invariant.pool.core.grid.cells d.seat v f d.there d.inside).remembers tag e in
+        ap (λ (t : ℕ). holds_naming (Leaving t f) tag_partition v) known.1 ∙ ap (λ (x : Option ℕ). partitions_erased x f v) (sym e)
+stored_partitions (Some tag) f now v w d can = ap (λ (x : View). x.partitions) d.after ∙ ap (λ (g : ℕ → ℕ). holds_naming (Entering (packed_tag tag) f) g v) d.spread
+
+-- the number that a load of a tag word found, by the tag that it is
+tag_number : (word : ℕ) (r : Option Tag) → r ≡ unpacked_tag word → IfSome r (λ t. packed_tag t ≡ word) → (word ≢ no_tag → is_tag word ≡ true) → word ≡ tag_word r
+unfolding is_tag
+tag_number word None e back packed = dite (ℕ_discrete word no_tag) (λ is. is) (λ n. let x : is_some (unpacked_tag word) ≡ false = ap (λ (o : Option Tag). is_some o) (sym e) in let y = packed n in absurd (cc))
+tag_number word (Some t) e back packed = sym back
+
+pub tag_read : (f found : ℕ) (v w : View) (r : Option Tag) → Did (pins pin.load_tag) f v w found → r ≡ unpacked_tag found → IfSome r (λ t. packed_tag t ≡ found) → Did (pins pin.load_tag) f v w (tag_word r)
+tag_read f found v w r d e back = subst (Did (pins pin.load_tag) f v w) (tag_number found r e back (subst (λ (n : ℕ). n ≢ no_tag → is_tag n ≡ true) d.says (d.laws.invariant.pool.core.grid.columns f d.inside).packed)) d
+
+pub read_after : (f : ℕ) (v w : View) (r : Option Tag) → Did (pins pin.load_tag) f v w (tag_word r) → link w f ≡ read_link r (link v f)
+read_after f v w r d = link_is (pins pin.load_tag) f (tag_word r) v w d ∙ (λ i. record (link v f) { tag = pin.tag_after (link v f).pending (link v f).role (d.says i) (link v f).tag })
+
+-- a load leaves a view without a victim pin
+pub victimless : (f : ℕ) (v w : View) → Touches f v w → Looked (link v f) (link w f) → HasNoVictim v → HasNoVictim w
+victimless f v w t l h g = dite (ℕ_discrete g f)
+    (λ e. subst (λ (z : ℕ). (link w z).role ≢ Victim) (sym e) (λ r. h f (sym l.role ∙ r)))
+    (λ n r. h g (sym (ap (λ (x : Link). x.role) (t.others g n)) ∙ r))
+
+module _ {L G : Type 0} (d : Devices L G) (o : Opening L G) where
+  pub stores_as : (slots id f : ℕ) (tag : Tag) (me : Me (Value L G) View) → f < o.config.frames → me.0.emptied ≡ false → IsAlone (link me.0 f) → unpacked_tag (packed_tag tag) ≡ Some tag → CanStore tag me.0 f
+      → Allows (Held d o) slots id me (tag_place f) (λ _. packed_tag tag) (tells (always (storing (Some tag))) (step slots (tag_place f) (packed_tag tag) 0 none) me)
+  stores_as slots id f tag me below live alone packed can =
+      stores_there d o slots id f (packed_tag tag) tag me below live packed alone can.word (subst (MayChange me.0) (ap partition_of_tag (sym packed)) can.latch) can.map
+
+-- a pin of the frame that a map gives, after loads
+pub finds_on : (f tag g : ℕ) (v w : View) → Touches f v w → Finds v tag g → Finds w tag g
+finds_on f tag g v w t h = let same : hold w (tag_partition tag) ≡ hold v (tag_partition tag) = ap (λ (l : List PartitionHold). get_or l (tag_partition tag) no_partition) t.partitions in record {
+  held = ap (λ (x : PartitionHold). x.held) same ∙ h.held;
+  settled = ap (λ (x : PartitionHold). x.change) same ∙ h.settled;
+  unchanged = ap (λ (x : PartitionHold). x.changed) same ∙ h.unchanged;
+  out = λ e. h.out (sym (ap (λ (x : PartitionHold). x.out) same) ∙ e);
+  finds = λ entries e. h.finds entries (sym (ap (λ (x : PartitionHold). x.out) same) ∙ e);
+}
+
+mapped_looked : (tag : ℕ) (ring : Bool) (l m : Link) → Looked l m → Looked (mapped_link tag ring l) (mapped_link tag ring m)
+mapped_looked tag ring l m a = record { role = refl; tag = refl; ring = refl; header = a.header; pending = a.pending; content = a.content; copying = a.copying; dirtied = a.dirtied; unapplied = a.unapplied; copied = a.copied; io = a.io; read = a.read; read_is_home = a.read_is_home; last_write = a.last_write; out = a.out; overwritten = a.overwritten; waits = a.waits }
+
+pub mapped_after : (tag : ℕ) (ring : Bool) (f : ℕ) (v w : View) → Tried (pins (pin.pin_mapped tag ring)) f v w true → Looked (mapped_link tag ring (link v f)) (link w f)
+mapped_after tag ring f v w t = subst (Looked (mapped_link tag ring (link v f))) (sym (link_is (pins (pin.pin_mapped tag ring)) f t.1 t.0 w t.3)) (mapped_looked tag ring (link v f) (link t.0 f) (looks_link f v t.0 t.2))

@@ -1,0 +1,349 @@
+-- The map of a partition goes out with its holder, and comes back.
+use Rattle.std.proofs.Common.{Vec, Global, ◌≡◌, ◌≢◌, ℕ, ◌+◌, ◌*◌, ◌<◌, ◌≤◌, Bool, true, false, Some, None, List, [], ◌∷◌, map, get_or, set, length, length-set, get_or-set_same, get_or-set_other, sym, refl, ap, ◌∙◌, subst, arith}
+use mathlib.Core.Logic.{dite}
+use mathlib.Core.Option.{none, some, some-injective}
+use mathlib.Core.Option as slot
+use native.Mathlib.Decide.{ℕ_discrete}
+use lib.ListN.{get_elem?}
+use lib.Seq.{set-get_or}
+use Rattle.std.specs.Prelude.{is_some, Option}
+use Rattle.atomic_table.specs.Table.{Me, step, takes, gives, stepped, Allows, rest}
+use Rattle.atomic_table.specs.Table as table
+use Rattle.atomic_table.proofs.Lists.{set_here, set_else}
+use Rattle.pin_core.specs.declared.view.View.{View}
+use Rattle.pin_core.specs.declared.view.MapEntry.{MapEntry}
+use Rattle.pin_core.specs.declared.view.MapChange.{MapChange}
+use Rattle.pin_core.specs.declared.view.MapChange.TheVariants.{Settled, Entering, Leaving}
+use Rattle.pin_core.specs.declared.view.PartitionHold.{PartitionHold}
+use Rattle.pin_core.specs.State.{Frame, link, hold, no_partition}
+use Rattle.pin_core.specs.State as pool
+use Rattle.pin_core.specs.Tallies.{flag_weight}
+use Rattle.pin_core.specs.Turns as parts
+use Rattle.pin_core.specs.Turns.{found, map_after, map_now, owed_by}
+use Rattle.pin_core.specs.Steps as pin_steps
+use Rattle.page_core.specs.Steps as page_steps
+use Rattle.history_core.specs.State.{State}
+use Rattle.history_core.specs.Steps.{Step, Event, pools}
+use Rattle.history_core.specs.Steps as steps
+use Rattle.grid.specs.Shape.{put}
+use Rattle.grid.proofs.Lists.{put_here, put_else, put_at, at_set}
+use Rattle.grid.proofs.Lists as grid
+use Rattle.grid.proofs.Sums.{terms_le}
+use Rattle.frame_table.specs.declared.value.Mapped.{Mapped}
+use Rattle.frame_table.specs.declared.value.Value.{Value}
+use Rattle.frame_table.specs.declared.value.Value.TheVariants as value
+use Rattle.frame_table.specs.declared.opening.Opening.{Opening}
+use Rattle.frame_table.specs.declared.turn.Place.{Place}
+use Rattle.frame_table.specs.declared.turn.Place.TheVariants as place
+use Rattle.frame_table.specs.declared.turn.Turn.{Turn}
+use Rattle.frame_table.specs.declared.turn.Turn.TheVariants.{Partition, Lane, Log}
+use Rattle.frame_table.specs.Layout.{latch_place, slot_of, slot_count}
+use Rattle.history_core.specs.Laws.{Laws}
+use Rattle.frame_table.specs.Shows.{ShowsFrame, ShowsLatches, is_taken, is_out, IsHome, entry_of, Devices, Gives, GivesMap, HasPlace, HasValue, Shows, Held}
+use Rattle.frame_table.specs.Turning.{DidMap, ComesBack, as_it_was, entered, left_out, MayComeBack, IsMap, map_went, map_came, MapStep, SameWork, is_named, back_hold}
+use Rattle.history_core.proofs.Laws.{laws_kept}
+use Rattle.frame_table.proofs.Frames.{put_keeps, home_before}
+
+-- two places with one slot are one
+same_slot : {L G : Type 0} (o : Opening L G) (x y : Place) → o.config.lanes ≤ 16 → HasPlace o x → HasPlace o y → slot_of o.config.frames x ≡ slot_of o.config.frames y → x ≡ y
+same_slot o (place.Page f) (place.Page g) few a b e = ap (λ (k : ℕ). place.Page k) e
+same_slot o (place.Page f) (place.Of (Partition q)) few a b e = absurd (omega arith)
+same_slot o (place.Page f) (place.Of (Lane q)) few a b e = absurd (omega arith)
+same_slot o (place.Page f) (place.Of Log) few a b e = absurd (omega arith)
+same_slot o (place.Of (Partition p)) (place.Page g) few a b e = absurd (omega arith)
+same_slot o (place.Of (Partition p)) (place.Of (Partition q)) few a b e = ap (λ (k : ℕ). place.Of (Partition k)) {x = p} {y = q} (omega arith)
+same_slot o (place.Of (Partition p)) (place.Of (Lane q)) few a b e = absurd (omega arith)
+same_slot o (place.Of (Partition p)) (place.Of Log) few a b e = absurd (omega arith)
+same_slot o (place.Of (Lane p)) (place.Page g) few a b e = absurd (omega arith)
+same_slot o (place.Of (Lane p)) (place.Of (Partition q)) few a b e = absurd (omega arith)
+same_slot o (place.Of (Lane p)) (place.Of (Lane q)) few a b e = ap (λ (k : ℕ). place.Of (Lane k)) {x = p} {y = q} (omega arith)
+same_slot o (place.Of (Lane p)) (place.Of Log) few a b e = absurd (omega arith)
+same_slot o (place.Of Log) (place.Page g) few a b e = absurd (omega arith)
+same_slot o (place.Of Log) (place.Of (Partition q)) few a b e = absurd (omega arith)
+same_slot o (place.Of Log) (place.Of (Lane q)) few a b e = absurd (omega arith)
+same_slot o (place.Of Log) (place.Of Log) few a b e = refl
+
+-- the state after a step of a kind at a partition
+abbrev mapped : parts.TurnKind → State → ℕ → ℕ → View → State
+mapped k s i p v = record s { pool = record s.pool { core = pin_steps.state_turned k s.pool.core i p v } }
+
+abbrev view_mapped : parts.TurnKind → ℕ → View → View
+view_mapped k p v = parts.view_turned k p (hold v p) v
+
+map_step : (k : parts.TurnKind) (s : State) (i p : ℕ) (v : View) → get_elem? s.pool.core.views i ≡ some v → v.emptied ≡ false → p < s.pool.core.partitions → parts.TurnAllowed k (s.pool.core.partition p) (hold v p) → Step (steps.pool (page_steps.pins_and_maps (pin_steps.turn i p k))) s (mapped k s i p v)
+map_step k s i p v there live low a = pools (page_steps.cores (pin_steps.turns i p k v there live low a)) tt
+
+-- the other places stay out or home
+mapped_out : (k : parts.TurnKind) (p : ℕ) (v : View) (y : Place) → y ≢ place.Of (Partition p) → is_out y (view_mapped k p v) ≡ is_out y v
+mapped_out k p v (place.Page f) n = refl
+mapped_out k p v (place.Of (Partition q)) n = ap (λ (h : PartitionHold). is_some h.out) (get_or-set_other v.partitions p q (parts.hold_after k (hold v p)) no_partition (λ e. n (ap (λ (z : ℕ). place.Of (Partition z)) e)))
+mapped_out k p v (place.Of (Lane q)) n = refl
+mapped_out k p v (place.Of Log) n = refl
+
+-- and so do their values
+mapped_gives : {L G : Type 0} (d : Devices L G) (k : parts.TurnKind) (s : State) (i p : ℕ) (v : View) (y : Place) (z : Value L G) → y ≢ place.Of (Partition p) → Gives d s y z → Gives d (mapped k s i p v) y z
+mapped_gives d k s i p v (place.Page f) z n h = h
+mapped_gives d k s i p v (place.Of (Partition q)) z n h = subst (λ (pt : pool.Partition). GivesMap z pt.map) (sym (put_else s.pool.core.partition p (parts.partition_after k (s.pool.core.partition p) (hold v p)) q (λ e. n (ap (λ (x : ℕ). place.Of (Partition x)) e)))) h
+mapped_gives d k s i p v (place.Of (Lane q)) z n h = h
+mapped_gives d k s i p v (place.Of Log) z n h = h
+
+mapped_taken : (k : parts.TurnKind) (s : State) (i p : ℕ) (v : View) → (parts.partition_after k (s.pool.core.partition p) (hold v p)).taken ≡ (s.pool.core.partition p).taken → (x : Turn) → is_taken x (mapped k s i p v) ≡ is_taken x s
+mapped_taken k s i p v kept (Partition q) = put_keeps (λ (pt : pool.Partition). pt.taken) s.pool.core.partition p (parts.partition_after k (s.pool.core.partition p) (hold v p)) q kept
+mapped_taken k s i p v kept (Lane q) = refl
+mapped_taken k s i p v kept Log = refl
+
+module _ {L G : Type 0} (d : Devices L G) (o : Opening L G) where
+  -- The table shows the state after such a step, where its slots do
+  shows_mapped : (k : parts.TurnKind) (words : List ℕ) (t : table.State (Value L G) View) (s : State) (id p : ℕ) (v : View) (homes : List (slot.Option (Value L G))) → words ≡ t.words → Shows d o t s → (parts.partition_after k (s.pool.core.partition p) (hold v p)).taken ≡ (s.pool.core.partition p).taken
+      → length homes ≡ slot_count o.config.frames → ((x : Place) → HasPlace o x → IsHome x (set s.pool.core.views id (view_mapped k p v)) → HasValue d o.config.frames homes (mapped k s id p v) x)
+      → Shows d o record { words = words; homes = homes; views = set t.views id (view_mapped k p v) } (mapped k s id p v)
+  shows_mapped k words t s id p v homes same h kept long values = record {
+    fixed = let f = h.fixed in record { frames = f.frames; backends = f.backends; base = f.base; partitions = f.partitions; partition_of = f.partition_of; is_block = f.is_block; lanes = f.lanes; lane_of = f.lane_of; few_backends = f.few_backends; few_lanes = f.few_lanes; origin = f.origin; reads = f.reads; writes = f.writes };
+    words = ap (λ (l : List ℕ). length l) same ∙ h.words;
+    slots = long;
+    views = ap (λ (l : List View). set l id (view_mapped k p v)) h.views;
+    frame = λ g inside. subst (λ (l : List ℕ). ShowsFrame l g (s.pool.core.frame g)) (sym same) (h.frame g inside);
+    latches = subst (λ (l : List ℕ). ShowsLatches o.config.frames o.config.lanes l (mapped k s id p v)) (sym same) (let l = h.latches in record { latch = λ x has. l.latch x has ∙ ap flag_weight (sym (mapped_taken k s id p v kept x)); end = l.end; flushed = l.flushed; hand = l.hand });
+    homes = values;
+  }
+
+  -- no other view has the map of a partition out, where one holds its latch
+  map_home : (s : State) (id p : ℕ) (v : View) → Laws s → get_elem? s.pool.core.views id ≡ some v → p < s.pool.core.partitions → (hold v p).held ≡ true → (i : ℕ) (u : View) → i ≢ id → get_elem? s.pool.core.views i ≡ some u → (hold u p).out ≡ None
+  map_home s id p v laws there low held i u other at = ((laws.invariant.pool.core.turns.cells i u p at low).resting (unheld (hold u p).held refl)).0
+    where
+      one : flag_weight (s.pool.core.partition p).taken ≤ 1
+      one = flag_low (s.pool.core.partition p).taken
+        where
+          flag_low : (b : Bool) → flag_weight b ≤ 1
+          flag_low true = omega arith
+          flag_low false = omega arith
+
+      unheld : (b : Bool) → (hold u p).held ≡ b → (hold u p).held ≡ false
+      unheld false e = e
+      unheld true e = let both = terms_le (λ (x : View). flag_weight (hold x p).held) s.pool.core.views id i v u other there at in let sum = (laws.invariant.pool.core.turns.columns p low).taken in
+          absurd (let a = ap flag_weight held in let b = ap flag_weight e in omega (arith, one, sum))
+
+  pub goes_out : (slots id p : ℕ) (me : Me (Value L G) View) → p < 128 → me.0.emptied ≡ false → (hold me.0 p).held ≡ true → (hold me.0 p).out ≡ None
+      → Allows (Held d o) slots id me (latch_place o.config.frames (Partition p)) (λ n. n) (map_went p (slot_of o.config.frames (place.Of (Partition p))) (step slots (latch_place o.config.frames (Partition p)) 0 0 none) me)
+  goes_out slots id p me below live held out t h deep there small = of_value value_there.value value_there.home value_there.gives
+    where
+      here : get_elem? h.state.pool.core.views id ≡ some me.0
+      here = ap (λ (l : List View). get_elem? l id) (sym h.shows.views) ∙ there
+
+      low : p < h.state.pool.core.partitions
+      low = let e = h.shows.fixed.partitions in omega arith
+
+      none_out : IsHome (place.Of (Partition p)) h.state.pool.core.views
+      none_out i u at = dite (ℕ_discrete i id)
+          (λ e. let same : me.0 ≡ u = some-injective me.0 u (sym here ∙ ap (get_elem? h.state.pool.core.views) (sym e) ∙ at) in ap (λ (x : View). is_some (hold x p).out) (sym same) ∙ ap (λ (x : Option (List MapEntry)). is_some x) out)
+          (λ n. ap (λ (x : Option (List MapEntry)). is_some x) (map_home h.state id p me.0 h.laws here low held i u n at))
+
+      value_there : HasValue d o.config.frames t.homes h.state (place.Of (Partition p))
+      value_there = h.shows.homes (place.Of (Partition p)) below none_out
+
+      of_value : (y : Value L G) → get_elem? t.homes (o.config.frames + p) ≡ some (some y) → GivesMap y (h.state.pool.core.partition p).map
+          → (w : View) × (a : table.Act (Value L G)) × table.Valid t.homes me.1 a × Held d o (stepped t (latch_place o.config.frames (Partition p)) (get_or t.words (latch_place o.config.frames (Partition p)) 0) id me.1 w a)
+          × map_went p (o.config.frames + p) (step slots (latch_place o.config.frames (Partition p)) 0 0 none) me (get_or t.words (latch_place o.config.frames (Partition p)) 0) (w, table.carried_after me.1 a)
+      of_value (value.Map m) home gives_it = let entries : List MapEntry = map entry_of m.items in let k : parts.TurnKind = parts.map_out entries in let w : View = view_mapped k p me.0 in
+          let a : parts.TurnAllowed k (h.state.pool.core.partition p) (hold me.0 p) = record { held = held; home = out; entries_are = gives_it } in (
+            w,
+            takes (o.config.frames + p) (value.Map m),
+            home,
+            record {
+              state = mapped k h.state id p me.0;
+              shows = shows_mapped k (set t.words (latch_place o.config.frames (Partition p)) (get_or t.words (latch_place o.config.frames (Partition p)) 0)) t h.state id p me.0 (set t.homes (o.config.frames + p) none) (set-get_or t.words (latch_place o.config.frames (Partition p)) 0) h.shows refl (length-set t.homes (o.config.frames + p) none ∙ h.shows.slots)
+                  (λ x has home_x. dite (ℕ_discrete (slot_of o.config.frames x) (o.config.frames + p))
+                  (λ e. let is : x ≡ place.Of (Partition p) = same_slot o x (place.Of (Partition p)) h.shows.fixed.few_lanes has below e in absurd (is_away (subst (λ (z : Place). is_out z w ≡ false) is (home_x id w (grid.set_here h.state.pool.core.views id me.0 w here))) entries))
+                  (λ n. let other : x ≢ place.Of (Partition p) = (λ e. n (ap (slot_of o.config.frames) e)) in let old = h.shows.homes x has (home_before h.state.pool.core.views id me.0 w x here (λ e. sym (mapped_out k p me.0 x other) ∙ e) home_x) in
+                  record { value = old.value; home = set_else t.homes (o.config.frames + p) (slot_of o.config.frames x) none n ∙ old.home; gives = mapped_gives d k h.state id p me.0 x old.value other old.gives }));
+              laws = laws_kept (map_step k h.state id p me.0 here live low a) h.laws;
+            },
+            (value.Map m, entries, refl, refl, record { state = h.state; laws = h.laws; spread = h.shows.fixed.partition_of; seat = id; there = here; live = live; inside = low; allowed = a; after = refl }),
+          )
+        where
+          is_away : is_out (place.Of (Partition p)) (view_mapped (parts.map_out (map entry_of m.items)) p me.0) ≡ false → List MapEntry → ⊥
+          is_away e l = let wide = (h.laws.invariant.pool.core.views.wide id me.0 here live).1 in let there_now = get_or-set_same me.0.partitions p (parts.hold_after (parts.map_out (map entry_of m.items)) (hold me.0 p)) no_partition (let z = low in omega arith) in
+              let yes : true ≡ false = sym (ap (λ (x : PartitionHold). is_some x.out) there_now) ∙ e in absurd (cc)
+      of_value (value.Page q) home gives_it = absurd gives_it
+      of_value (value.Lane l) home gives_it = absurd gives_it
+      of_value (value.Log g) home gives_it = absurd gives_it
+      of_value value.Away home gives_it = absurd gives_it
+
+  -- a step while the map is out
+  shows_away : (k : parts.TurnKind) (words : List ℕ) (t : table.State (Value L G) View) (s : State) (id p : ℕ) (v : View) → words ≡ t.words → p < 128 → Shows d o t s → (parts.partition_after k (s.pool.core.partition p) (hold v p)).taken ≡ (s.pool.core.partition p).taken
+      → get_elem? s.pool.core.views id ≡ some v → is_out (place.Of (Partition p)) (view_mapped k p v) ≡ true → Shows d o record { words = words; homes = t.homes; views = set t.views id (view_mapped k p v) } (mapped k s id p v)
+  shows_away k words t s id p v same below h kept there away = shows_mapped k words t s id p v t.homes same h kept h.slots (λ x has home_x. dite (ℕ_discrete (slot_of o.config.frames x) (o.config.frames + p))
+      (λ e. let is : x ≡ place.Of (Partition p) = same_slot o x (place.Of (Partition p)) h.fixed.few_lanes has below e in let no : true ≡ false = sym away ∙ subst (λ (z : Place). is_out z (view_mapped k p v) ≡ false) is (home_x id (view_mapped k p v) (grid.set_here s.pool.core.views id v (view_mapped k p v) there)) in absurd (cc))
+      (λ n. let other : x ≢ place.Of (Partition p) = (λ e. n (ap (slot_of o.config.frames) e)) in let old = h.homes x has (home_before s.pool.core.views id v (view_mapped k p v) x there (λ e. sym (mapped_out k p v x other) ∙ e) home_x) in
+      record { value = old.value; home = old.home; gives = mapped_gives d k s id p v x old.value other old.gives }))
+
+  -- the step by which it is home again
+  shows_home : (entries : List MapEntry) (words : List ℕ) (t : table.State (Value L G) View) (s : State) (id p : ℕ) (v : View) (y : Value L G) → words ≡ t.words → p < 128 → Shows d o t s → get_elem? s.pool.core.views id ≡ some v → GivesMap y (s.pool.core.partition p).map
+      → Shows d o record { words = words; homes = set t.homes (o.config.frames + p) (some y); views = set t.views id (view_mapped (parts.map_back entries) p v) } (mapped (parts.map_back entries) s id p v)
+  shows_home entries words t s id p v y same below h there gives_it = let k : parts.TurnKind = parts.map_back entries in shows_mapped k words t s id p v (set t.homes (o.config.frames + p) (some y)) same h refl (length-set t.homes (o.config.frames + p) (some y) ∙ h.slots)
+      (λ x has home_x. dite (ℕ_discrete (slot_of o.config.frames x) (o.config.frames + p))
+      (λ e. subst (λ (z : Place). HasValue d o.config.frames (set t.homes (o.config.frames + p) (some y)) (mapped k s id p v) z) (sym (same_slot o x (place.Of (Partition p)) h.fixed.few_lanes has below e)) record {
+        value = y;
+        home = set_here t.homes (o.config.frames + p) (some y) (let long = h.slots in omega arith);
+        gives = subst (λ (pt : pool.Partition). GivesMap y pt.map) (sym (put_here s.pool.core.partition p (s.pool.core.partition p))) gives_it;
+      })
+      (λ n. let other : x ≢ place.Of (Partition p) = (λ e. n (ap (slot_of o.config.frames) e)) in let old = h.homes x has (home_before s.pool.core.views id v (view_mapped k p v) x there (λ e. sym (mapped_out k p v x other) ∙ e) home_x) in
+      record { value = old.value; home = set_else t.homes (o.config.frames + p) (slot_of o.config.frames x) (some y) n ∙ old.home; gives = mapped_gives d k s id p v x old.value other old.gives }))
+
+set_twice : {A : Type 0} (l : List A) (i : ℕ) (a b : A) → set (set l i a) i b ≡ set l i b
+set_twice [] i a b = refl
+set_twice (x ∷ l) Rattle.std.proofs.Common.zero a b = refl
+set_twice (x ∷ l) (Rattle.std.proofs.Common.suc i) a b = ap (λ (m : List _). x ∷ m) (set_twice l i a b)
+
+some_out : (x : Option (List MapEntry)) → x ≢ None → is_some x ≡ true
+some_out None n = absurd (n refl)
+some_out (Some e) n = refl
+
+module _ {L G : Type 0} (d : Devices L G) (o : Opening L G) where
+  pub comes_back : (slots id p : ℕ) (me : Me (Value L G) View) (y : Value L G) (entries : List MapEntry) → p < 128 → me.0.emptied ≡ false → me.1 ≡ (slot_of o.config.frames (place.Of (Partition p)), y) ∷ rest me.1 → IsMap y entries → MayComeBack entries p me.0
+      → Allows (Held d o) slots id me (latch_place o.config.frames (Partition p)) (λ n. n) (map_came p entries (step slots (latch_place o.config.frames (Partition p)) 0 0 none) me)
+  comes_back slots id p me y entries below live hand is may t h deep there small = of_change (hold me.0 p).change refl
+    where
+      here : get_elem? h.state.pool.core.views id ≡ some me.0
+      here = ap (λ (l : List View). get_elem? l id) (sym h.shows.views) ∙ there
+
+      low : p < h.state.pool.core.partitions
+      low = let e = h.shows.fixed.partitions in omega arith
+
+      in_view : p < length me.0.partitions
+      in_view = let wide = (h.laws.invariant.pool.core.views.wide id me.0 here live).1 in let z = low in omega arith
+
+      -- the map as it is with the change
+      map_is : found entries ≡ map_after (hold me.0 p).change (h.state.pool.core.partition p).map
+      map_is = of_out (hold me.0 p).out refl
+        where
+          of_out : (x : Option (List MapEntry)) → (hold me.0 p).out ≡ x → found entries ≡ map_after (hold me.0 p).change (h.state.pool.core.partition p).map
+          of_out None e = absurd (may.out e)
+          of_out (Some was) e = may.changed was e ∙ ap (map_after (hold me.0 p).change) (sym ((h.laws.invariant.pool.core.turns.cells id me.0 p here low).out was e ∙ ap (λ (b : Bool). map_now b (hold me.0 p).change (found was)) may.unchanged))
+
+      gives_of : (z : Value L G) (m : ℕ → Option ℕ) → IsMap z entries → found entries ≡ m → GivesMap z m
+      gives_of (value.Map l) m e f = ap found e ∙ f
+      gives_of (value.Page q) m e f = e
+      gives_of (value.Lane l) m e f = e
+      gives_of (value.Log g) m e f = e
+      gives_of value.Away m e f = e
+
+      -- the view, the state and the table after the change
+      u_is : hold (view_mapped parts.change_map p me.0) p ≡ record (hold me.0 p) { changed = true; seen = None }
+      u_is = get_or-set_same me.0.partitions p (parts.hold_after parts.change_map (hold me.0 p)) no_partition in_view
+
+      record_of : (hold me.0 p).change ≢ Settled → parts.TurnAllowed parts.change_map (h.state.pool.core.partition p) (hold me.0 p)
+      record_of named = record { out = may.out; unchanged = may.unchanged; named = named }
+
+      changed_step : (hold me.0 p).change ≢ Settled → DidMap parts.change_map p me.0 (view_mapped parts.change_map p me.0)
+      changed_step named = record { state = h.state; laws = h.laws; spread = h.shows.fixed.partition_of; seat = id; there = here; live = live; inside = low; allowed = record_of named; after = refl }
+
+      changed_laws : (hold me.0 p).change ≢ Settled → Laws (mapped parts.change_map h.state id p me.0)
+      changed_laws named = laws_kept (map_step parts.change_map h.state id p me.0 here live low (record_of named)) h.laws
+
+      changed_shows : Shows d o record { words = t.words; homes = t.homes; views = set t.views id (view_mapped parts.change_map p me.0) } (mapped parts.change_map h.state id p me.0)
+      changed_shows = shows_away d o parts.change_map t.words t h.state id p me.0 refl below h.shows refl here (ap (λ (x : PartitionHold). is_some x.out) u_is ∙ some_out (hold me.0 p).out may.out)
+
+      changed_here : get_elem? (set h.state.pool.core.views id (view_mapped parts.change_map p me.0)) id ≡ some (view_mapped parts.change_map p me.0)
+      changed_here = grid.set_here h.state.pool.core.views id me.0 (view_mapped parts.change_map p me.0) here
+
+      changed_map : found entries ≡ (put h.state.pool.core.partition p (parts.partition_after parts.change_map (h.state.pool.core.partition p) (hold me.0 p)) p).map
+      changed_map = map_is ∙ ap (λ (pt : pool.Partition). pt.map) (sym (put_here h.state.pool.core.partition p (parts.partition_after parts.change_map (h.state.pool.core.partition p) (hold me.0 p))))
+
+      can_return : parts.TurnAllowed (parts.map_back entries) ((mapped parts.change_map h.state id p me.0).pool.core.partition p) (hold (view_mapped parts.change_map p me.0) p)
+      can_return = record { out = λ e. may.out (sym (ap (λ (x : PartitionHold). x.out) u_is) ∙ e); entries_are = changed_map }
+
+      back_step : (hold me.0 p).change ≢ Settled → DidMap (parts.map_back entries) p (view_mapped parts.change_map p me.0) (view_mapped (parts.map_back entries) p (view_mapped parts.change_map p me.0))
+      back_step named = record { state = mapped parts.change_map h.state id p me.0; laws = changed_laws named; spread = h.shows.fixed.partition_of; seat = id; there = changed_here; live = live; inside = low; allowed = can_return; after = refl }
+
+      abbrev_words : set t.words (latch_place o.config.frames (Partition p)) (get_or t.words (latch_place o.config.frames (Partition p)) 0) ≡ t.words
+      abbrev_words = set-get_or t.words (latch_place o.config.frames (Partition p)) 0
+
+      held_changed : (hold me.0 p).change ≢ Settled → Held d o (stepped t (latch_place o.config.frames (Partition p)) (get_or t.words (latch_place o.config.frames (Partition p)) 0) id me.1 (view_mapped (parts.map_back entries) p (view_mapped parts.change_map p me.0)) gives)
+      held_changed named = subst (λ (x : List (ℕ × Value L G)). Held d o (stepped t (latch_place o.config.frames (Partition p)) (get_or t.words (latch_place o.config.frames (Partition p)) 0) id x (view_mapped (parts.map_back entries) p (view_mapped parts.change_map p me.0)) gives)) (sym hand) record {
+        state = mapped (parts.map_back entries) (mapped parts.change_map h.state id p me.0) id p (view_mapped parts.change_map p me.0);
+        shows = subst (λ (l : List View). Shows d o record { words = set t.words (latch_place o.config.frames (Partition p)) (get_or t.words (latch_place o.config.frames (Partition p)) 0); homes = set t.homes (o.config.frames + p) (some y); views = l } (mapped (parts.map_back entries) (mapped parts.change_map h.state id p me.0) id p (view_mapped parts.change_map p me.0)))
+            (set_twice t.views id (view_mapped parts.change_map p me.0) (view_mapped (parts.map_back entries) p (view_mapped parts.change_map p me.0)))
+            (shows_home d o entries (set t.words (latch_place o.config.frames (Partition p)) (get_or t.words (latch_place o.config.frames (Partition p)) 0)) record { words = t.words; homes = t.homes; views = set t.views id (view_mapped parts.change_map p me.0) } (mapped parts.change_map h.state id p me.0) id p (view_mapped parts.change_map p me.0) y abbrev_words below changed_shows changed_here
+            (gives_of y ((mapped parts.change_map h.state id p me.0).pool.core.partition p).map is changed_map));
+        laws = laws_kept (map_step (parts.map_back entries) (mapped parts.change_map h.state id p me.0) id p (view_mapped parts.change_map p me.0) changed_here live low can_return) (changed_laws named);
+      }
+
+      of_change : (c : MapChange) → (hold me.0 p).change ≡ c
+          → (w : View) × (a : table.Act (Value L G)) × table.Valid t.homes me.1 a × Held d o (stepped t (latch_place o.config.frames (Partition p)) (get_or t.words (latch_place o.config.frames (Partition p)) 0) id me.1 w a)
+          × map_came p entries (step slots (latch_place o.config.frames (Partition p)) 0 0 none) me (get_or t.words (latch_place o.config.frames (Partition p)) 0) (w, table.carried_after me.1 a)
+      of_change Settled e = let same : found entries ≡ (h.state.pool.core.partition p).map = map_is ∙ ap (λ (c : MapChange). map_after c (h.state.pool.core.partition p).map) e in
+          let a : parts.TurnAllowed (parts.map_back entries) (h.state.pool.core.partition p) (hold me.0 p) = record { out = may.out; entries_are = same } in (
+            view_mapped (parts.map_back entries) p me.0,
+            gives,
+            tt,
+            subst (λ (x : List (ℕ × Value L G)). Held d o (stepped t (latch_place o.config.frames (Partition p)) (get_or t.words (latch_place o.config.frames (Partition p)) 0) id x (view_mapped (parts.map_back entries) p me.0) gives)) (sym hand) record {
+              state = mapped (parts.map_back entries) h.state id p me.0;
+              shows = shows_home d o entries (set t.words (latch_place o.config.frames (Partition p)) (get_or t.words (latch_place o.config.frames (Partition p)) 0)) t h.state id p me.0 y abbrev_words below h.shows here (gives_of y (h.state.pool.core.partition p).map is same);
+              laws = laws_kept (map_step (parts.map_back entries) h.state id p me.0 here live low a) h.laws;
+            },
+            (refl, subst (ComesBack entries p me.0 (view_mapped (parts.map_back entries) p me.0)) (sym e) (as_it_was (record { state = h.state; laws = h.laws; spread = h.shows.fixed.partition_of; seat = id; there = here; live = live; inside = low; allowed = a; after = refl }))),
+          )
+      of_change (Entering tag f) e = let named : (hold me.0 p).change ≢ Settled = (λ z. let no : Entering tag f ≡ Settled = sym e ∙ z in absurd (cc)) in (
+        view_mapped (parts.map_back entries) p (view_mapped parts.change_map p me.0),
+        gives,
+        tt,
+        held_changed named,
+        (refl, subst (ComesBack entries p me.0 (view_mapped (parts.map_back entries) p (view_mapped parts.change_map p me.0))) (sym e) (entered (view_mapped parts.change_map p me.0) (changed_step named) (back_step named))),
+      )
+      of_change (Leaving tag f) e = let named : (hold me.0 p).change ≢ Settled = (λ z. let no : Leaving tag f ≡ Settled = sym e ∙ z in absurd (cc)) in (
+        view_mapped (parts.map_back entries) p (view_mapped parts.change_map p me.0),
+        gives,
+        tt,
+        held_changed named,
+        (refl, subst (ComesBack entries p me.0 (view_mapped (parts.map_back entries) p (view_mapped parts.change_map p me.0))) (sym e) (left_out (view_mapped parts.change_map p me.0) (changed_step named) (back_step named))),
+      )
+
+-- What a step at a partition makes of the view
+pub map_work : (k : parts.TurnKind) (p : ℕ) (v w : View) → DidMap k p v w → SameWork v w
+map_work k p v w d = subst (SameWork v) (sym d.after) record { number = refl; next = refl; joined = refl; emptied = refl; links = refl; flushed = refl; calls = refl; front = refl; loads = refl; upto = refl; met = refl }
+
+pub map_stepped : (k : parts.TurnKind) (p : ℕ) (v w : View) → DidMap k p v w → MapStep p (parts.hold_after k (hold v p)) v w
+map_stepped k p v w d = subst (MapStep p (parts.hold_after k (hold v p)) v) (sym d.after) record {
+  here = get_or-set_same v.partitions p (parts.hold_after k (hold v p)) no_partition (let wide = (d.laws.invariant.pool.core.views.wide d.seat v d.there d.live).1 in let low = d.inside in omega arith);
+  others = λ q n. get_or-set_other v.partitions p q (parts.hold_after k (hold v p)) no_partition n;
+  lanes = refl;
+  log = refl;
+}
+
+work_on : (v u w : View) → SameWork v u → SameWork u w → SameWork v w
+work_on v u w a b = record { number = b.number ∙ a.number; next = b.next ∙ a.next; joined = b.joined ∙ a.joined; emptied = b.emptied ∙ a.emptied; links = b.links ∙ a.links; flushed = b.flushed ∙ a.flushed; calls = b.calls ∙ a.calls; front = b.front ∙ a.front; loads = b.loads ∙ a.loads; upto = b.upto ∙ a.upto; met = b.met ∙ a.met }
+
+steps_on : (p : ℕ) (h h' : PartitionHold) (v u w : View) → MapStep p h v u → MapStep p h' u w → MapStep p h' v w
+steps_on p h h' v u w a b = record { here = b.here; others = λ q n. b.others q n ∙ a.others q n; lanes = b.lanes ∙ a.lanes; log = b.log ∙ a.log }
+
+pub back_work : (entries : List MapEntry) (p : ℕ) (v w : View) (c : MapChange) → ComesBack entries p v w c → SameWork v w
+back_work entries p v w Settled (as_it_was d) = map_work (parts.map_back entries) p v w d
+back_work entries p v w (Entering tag f) (entered u d e) = work_on v u w (map_work parts.change_map p v u d) (map_work (parts.map_back entries) p u w e)
+back_work entries p v w (Leaving tag f) (left_out u d e) = work_on v u w (map_work parts.change_map p v u d) (map_work (parts.map_back entries) p u w e)
+
+after_change : (entries : List MapEntry) (p : ℕ) (v u w : View) → is_named (hold v p).change ≡ true → DidMap parts.change_map p v u → DidMap (parts.map_back entries) p u w → MapStep p (back_hold entries (hold v p)) v w
+after_change entries p v u w named d e = let a = map_stepped parts.change_map p v u d in let b = map_stepped (parts.map_back entries) p u w e in
+    let same : parts.hold_after (parts.map_back entries) (hold u p) ≡ back_hold entries (hold v p) = ap (parts.hold_after (parts.map_back entries)) a.here ∙ (λ i. record (hold v p) { out = None; change = Settled; changed = sym named i; seen = Some entries }) in
+    subst (λ (h : PartitionHold). MapStep p h v w) same (steps_on p (parts.hold_after parts.change_map (hold v p)) (parts.hold_after (parts.map_back entries) (hold u p)) v u w a b)
+
+back_steps : (entries : List MapEntry) (p : ℕ) (v w : View) (c : MapChange) → (hold v p).change ≡ c → (hold v p).changed ≡ false → ComesBack entries p v w c → MapStep p (back_hold entries (hold v p)) v w
+back_steps entries p v w Settled is unchanged (as_it_was d) = let same : parts.hold_after (parts.map_back entries) (hold v p) ≡ back_hold entries (hold v p) = (λ i. record (hold v p) { out = None; change = (ap (λ (b : Bool). owed_by b (hold v p).change) unchanged ∙ is) i; changed = (unchanged ∙ sym (ap is_named is)) i; seen = Some entries }) in
+    subst (λ (h : PartitionHold). MapStep p h v w) same (map_stepped (parts.map_back entries) p v w d)
+back_steps entries p v w (Entering tag f) is unchanged (entered u d e) = after_change entries p v u w (ap is_named is) d e
+back_steps entries p v w (Leaving tag f) is unchanged (left_out u d e) = after_change entries p v u w (ap is_named is) d e
+
+pub back_stepped : (entries : List MapEntry) (p : ℕ) (v w : View) → (hold v p).changed ≡ false → ComesBack entries p v w (hold v p).change → MapStep p (back_hold entries (hold v p)) v w
+back_stepped entries p v w unchanged b = back_steps entries p v w (hold v p).change refl unchanged b
+
+module _ {L G : Type 0} (d : Devices L G) (o : Opening L G) where
+  -- the seat as the exchange of the slot left it
+  pub comes_from : (slots id p : ℕ) (me me' : Me (Value L G) View) (m : Vec Mapped Global) → me' ≡ (me.0, (slot_of o.config.frames (place.Of (Partition p)), value.Map m) ∷ rest me.1) → p < 128 → me.0.emptied ≡ false → MayComeBack (map entry_of m.items) p me.0
+      → Allows (Held d o) slots id me' (latch_place o.config.frames (Partition p)) (λ n. n) (map_came p (map entry_of m.items) (step slots (latch_place o.config.frames (Partition p)) 0 0 none) me')
+  comes_from slots id p me me' m e below live may = let entries : List MapEntry = map entry_of m.items in
+      subst (λ (x : Me (Value L G) View). Allows (Held d o) slots id x (latch_place o.config.frames (Partition p)) (λ n. n) (map_came p entries (step slots (latch_place o.config.frames (Partition p)) 0 0 none) x)) (sym e)
+      (comes_back d o slots id p (me.0, (slot_of o.config.frames (place.Of (Partition p)), value.Map m) ∷ rest me.1) (value.Map m) entries below live refl refl may)
+
+  -- what the seat has then, and what it is told
+  pub came_from : (p : ℕ) (entries : List MapEntry) (st : table.Step (Value L G)) (me me' m' : Me (Value L G) View) (k found : ℕ) (y : Value L G) → me' ≡ (me.0, (k, y) ∷ rest me.1) → map_came p entries st me' found m' → (m'.1 ≡ rest me.1) × ComesBack entries p me.0 m'.0 (hold me.0 p).change
+  came_from p entries st me me' m' k found y e told = subst (λ (x : Me (Value L G) View). (m'.1 ≡ rest x.1) × ComesBack entries p x.0 m'.0 (hold x.0 p).change) e told

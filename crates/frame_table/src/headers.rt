@@ -1,0 +1,169 @@
+//! Calls at tag words, and calls under a buffer header.
+ghost use Rattle.std.specs.Prelude.{◌≡◌, ◌≢◌, ◌+◌, ◌<◌, ◌^◌, ℕ, true, false, Some, None};
+ghost use Rattle.state_word.specs.Fields.{fields, unlocked_fields};
+ghost use Rattle.block_tag.specs.Names.{packed_tag, unpacked_tag};
+ghost use Rattle.pin_core.specs.declared.view.View.{View};
+ghost use Rattle.pin_core.specs.declared.view.MapChange.TheVariants.{Entering};
+ghost use Rattle.pin_core.specs.declared.view.Role.TheVariants.{Absent};
+ghost use Rattle.pin_core.specs.State.{hold, link};
+ghost use Rattle.pin_core.specs.Kinds as kinds;
+ghost use Rattle.pin_core.specs.Steps.{HasNoVictim};
+ghost use Rattle.frame_table.specs.Kinds.{pins};
+ghost use Rattle.frame_table.specs.Sees.{CanErase, CanStep, CanStore, CanStoreAs, HasRoom, HasStored, HoldsWord, IsAlone, IsUsed, Looked, SameSeat, Stores, Touches, assigned_link, cleared_link, partitions_stored, read_link, stored_link, tag_word, unlocked_link, victim_link};
+ghost use Rattle.frame_table.specs.Tells.{Did, DidHeld, always, storing};
+
+use crate::layout::{state_place, tag_place};
+use crate::pin::Pin;
+use crate::plays::{Assign, Clear, Does, EraseTag, LoadTag, LowerUsage, Step, VictimPin};
+use crate::table::FrameTable;
+use crate::value::Value;
+use atomic_table::Seat;
+use block_tag::Tag;
+use pin_core::View;
+use segment_store::BlockLane;
+use state_word::{assigned, cleared, unlock_with, usage_down};
+use std::marker::Brand;
+
+/// The tag word of a frame without a tag.
+const NO_TAG: u64 = u64::MAX;
+
+/// The word with one more pin, the usage count as it was, and the header not locked (`PinBuffer_Locked`).
+fn victim_pinned(word: u64) -> u64
+    requires { (fields word).pins + 1 < 2 ^ 18 }
+    ensures { fields result ≡ unlocked_fields (record (fields word) { pins = (fields word).pins + 1 }) }
+{
+    unlock_with(word + 1)
+}
+
+impl<L: BlockLane, G> FrameTable<L, G> {
+    /// The tag of a frame that the backend pins, or whose header it holds.
+    pub fn load_tag(&self, seat: &mut Seat<Value<L, G>, View>, frame: u32) -> Option<Tag>
+        requires seat { CanStep self.now seat.old frame }
+        requires right { kinds.CanLoadTag (link seat.old.me.0 frame).role (link seat.old.me.0 frame).header }
+        ensures seat { SameSeat seat.old seat.new }
+        ensures touches { Touches frame seat.old.me.0 seat.new.me.0 }
+        ensures read { link seat.new.me.0 frame ≡ read_link result (link seat.old.me.0 frame) }
+        ensures did { Did (pins kinds.load_tag) frame seat.old.me.0 seat.new.me.0 (tag_word result) }
+    {
+        let word = self
+            .table
+            .shared
+            .load::<Step<LoadTag>>(seat, tag_place(frame));
+        Tag::unpack(word)
+    }
+
+    /// Pins the frame that the clock sweep chose, and unlocks its header (`GetVictimBuffer`).
+    pub fn victim_pin(&self, seat: &mut Seat<Value<L, G>, View>, frame: u32) -> Pin
+        requires seat { CanStep self.now seat.old frame }
+        requires held { HoldsWord HasRoom (link seat.old.me.0 frame) }
+        requires absent { (link seat.old.me.0 frame).role ≡ Absent }
+        requires only { HasNoVictim seat.old.me.0 }
+        ensures seat { SameSeat seat.old seat.new }
+        ensures touches { Touches frame seat.old.me.0 seat.new.me.0 }
+        ensures pin { result.frame ≡ frame }
+        ensures pinned { Looked (victim_link (link seat.old.me.0 frame)) (link seat.new.me.0 frame) }
+        ensures did { DidHeld (pins kinds.pin_victim) frame seat.old.me.0 seat.new.me.0 }
+    {
+        let word = self.look(seat, frame);
+        self.table
+            .shared
+            .swap::<Step<VictimPin>>(seat, state_place(frame), victim_pinned(word));
+        Pin { frame }
+    }
+
+    /// The clock sweep passes the frame: its usage count falls, and its header is unlocked (`StrategyGetBuffer`).
+    pub fn lower_usage(&self, seat: &mut Seat<Value<L, G>, View>, frame: u32)
+        requires seat { CanStep self.now seat.old frame }
+        requires held { HoldsWord IsUsed (link seat.old.me.0 frame) }
+        ensures seat { SameSeat seat.old seat.new }
+        ensures touches { Touches frame seat.old.me.0 seat.new.me.0 }
+        ensures lowered { Looked (unlocked_link (link seat.old.me.0 frame)) (link seat.new.me.0 frame) }
+        ensures did { DidHeld (pins kinds.lower_usage) frame seat.old.me.0 seat.new.me.0 }
+    {
+        let word = self.look(seat, frame);
+        self.table
+            .shared
+            .swap::<Step<LowerUsage>>(seat, state_place(frame), unlock_with(usage_down(word)));
+    }
+
+    fn store_packed<D: Does>(
+        &self,
+        seat: &mut Seat<Value<L, G>, View>,
+        frame: u32,
+        _tag: Tag,
+        packed: u64,
+    )
+        requires kind { D.choice ≡ always (storing (Some _tag)) }
+        requires packed { (packed ≡ packed_tag _tag) × (unpacked_tag packed ≡ Some _tag) }
+        requires seat { CanStep self.now seat.old frame }
+        requires alone { IsAlone (link seat.old.me.0 frame) }
+        requires tag { CanStore _tag seat.old.me.0 frame }
+        ensures seat { SameSeat seat.old seat.new }
+        ensures did { (now : ℕ) × Did (storing (Some _tag)) frame seat.old.me.0 seat.new.me.0 now }
+    {
+        self.table
+            .shared
+            .swap::<Step<D>>(seat, tag_place(frame), packed);
+    }
+
+    fn store_none(&self, seat: &mut Seat<Value<L, G>, View>, frame: u32)
+        requires seat { CanStep self.now seat.old frame }
+        requires alone { IsAlone (link seat.old.me.0 frame) }
+        requires tag { CanErase seat.old.me.0 frame }
+        ensures seat { SameSeat seat.old seat.new }
+        ensures did { (now : ℕ) × Did (storing None) frame seat.old.me.0 seat.new.me.0 now }
+    {
+        self.table
+            .shared
+            .swap::<Step<EraseTag>>(seat, tag_place(frame), NO_TAG);
+    }
+
+    /// Stores a tag in a frame without one, whose tag the map of its partition lacks (`BufferAlloc`), or takes a frame's tag away (`InvalidateVictimBuffer`).
+    /// The pair is named in change then, until the map is back with it.
+    pub fn store_tag(&self, seat: &mut Seat<Value<L, G>, View>, frame: u32, tag: Option<Tag>)
+        requires seat { CanStep self.now seat.old frame }
+        requires alone { IsAlone (link seat.old.me.0 frame) }
+        requires tag { CanStoreAs tag seat.old.me.0 frame }
+        ensures seat { SameSeat seat.old seat.new }
+        ensures stores { Stores frame seat.old.me.0 seat.new.me.0 }
+        ensures stored { link seat.new.me.0 frame ≡ stored_link (link seat.old.me.0 frame) }
+        ensures named { seat.new.me.0.partitions ≡ partitions_stored tag frame seat.old.me.0 }
+        ensures did { (now : ℕ) × Did (storing tag) frame seat.old.me.0 seat.new.me.0 now }
+    {
+        match tag {
+            Some(tag) => self.store_packed::<Brand>(seat, frame, tag, tag.pack()),
+            None => self.store_none(seat, frame),
+        }
+    }
+
+    /// A frame whose tag was stored gets `BM_TAG_VALID`, and its header is unlocked (`BufferAlloc`). The pin is the caller's from now on.
+    pub fn assign(&self, seat: &mut Seat<Value<L, G>, View>, frame: u32)
+        requires seat { CanStep self.now seat.old frame }
+        requires stored { HasStored false (link seat.old.me.0 frame) }
+        ensures seat { SameSeat seat.old seat.new }
+        ensures touches { Touches frame seat.old.me.0 seat.new.me.0 }
+        ensures assigned { Looked (assigned_link (link seat.new.me.0 frame).tag (link seat.old.me.0 frame)) (link seat.new.me.0 frame) }
+        ensures tag { (p tag : ℕ) → (hold seat.old.me.0 p).change ≡ Entering tag frame → (hold seat.old.me.0 p).changed ≡ false → (link seat.new.me.0 frame).tag ≡ Some tag }
+        ensures did { DidHeld (pins kinds.assign) frame seat.old.me.0 seat.new.me.0 }
+    {
+        let word = self.look(seat, frame);
+        self.table
+            .shared
+            .swap::<Step<Assign>>(seat, state_place(frame), unlock_with(assigned(word)));
+    }
+
+    /// A frame whose tag was taken away loses its flags, and its header is unlocked (`InvalidateVictimBuffer`).
+    pub fn clear(&self, seat: &mut Seat<Value<L, G>, View>, frame: u32)
+        requires seat { CanStep self.now seat.old frame }
+        requires stored { HasStored true (link seat.old.me.0 frame) }
+        ensures seat { SameSeat seat.old seat.new }
+        ensures touches { Touches frame seat.old.me.0 seat.new.me.0 }
+        ensures cleared { Looked (cleared_link (link seat.old.me.0 frame)) (link seat.new.me.0 frame) }
+        ensures did { DidHeld (pins kinds.clear) frame seat.old.me.0 seat.new.me.0 }
+    {
+        let word = self.look(seat, frame);
+        self.table
+            .shared
+            .swap::<Step<Clear>>(seat, state_place(frame), unlock_with(cleared(word)));
+    }
+}

@@ -1,0 +1,89 @@
+//! Latches.
+ghost use Rattle.std.specs.Prelude.{◌≡◌, ◌<◌, true, false};
+ghost use Rattle.frame_table.specs.Layout.{latch_place, word_count};
+ghost use Rattle.frame_table.specs.Shows.{HasTurn};
+ghost use Rattle.frame_table.specs.Sees.{CanTurn, SameSeat, frames_of};
+ghost use Rattle.frame_table.specs.Turning.{DidTurn, IsTurned, MayLeave, SameWork};
+
+use crate::plays::{AtTurn, LeaveTurn, TakeTurn};
+use crate::table::FrameTable;
+use crate::turn::Turn;
+use crate::value::Value;
+use atomic_table::Seat;
+use pin_core::View;
+use segment_store::BlockLane;
+use std::marker::Brand;
+use std::sync::Wait;
+
+impl<L: BlockLane, G> FrameTable<L, G> {
+    /// The place of a latch's word.
+    pub(crate) fn latch(&self, turn: Turn) -> usize
+        ensures place { result ≡ latch_place (frames_of self.now) turn }
+    {
+        let frames = 3 * self.config.frames as usize;
+        match turn {
+            Turn::Partition(partition) => frames + partition as usize,
+            Turn::Lane(lane) => frames + 128 + lane as usize,
+            Turn::Log => frames + 144,
+        }
+    }
+
+    fn try_take<D: AtTurn>(
+        &self,
+        seat: &mut Seat<Value<L, G>, View>,
+        _turn: Turn,
+        place: usize,
+    ) -> bool
+        requires known { D.turn ≡ _turn }
+        requires place { (place ≡ latch_place (frames_of self.now) _turn) × (place < word_count (frames_of self.now)) }
+        requires seat { CanTurn self.now seat.old _turn }
+        ensures seat { SameSeat seat.old seat.new }
+        ensures took { result ≡ true → DidTurn true _turn seat.old.me.0 seat.new.me.0 }
+        ensures not { result ≡ false → seat.new.me.0 ≡ seat.old.me.0 }
+    {
+        self.table
+            .shared
+            .compare_exchange::<TakeTurn<D>>(seat, place, 0, 1)
+            == 0
+    }
+
+    /// Waits until the latch is free, and takes it (`LWLockAcquire`).
+    pub fn take_turn<R: Wait>(&self, rt: &R, seat: &mut Seat<Value<L, G>, View>, turn: Turn)
+        requires seat { CanTurn self.now seat.old turn }
+        ensures seat { SameSeat seat.old seat.new }
+        ensures work { SameWork seat.old.me.0 seat.new.me.0 }
+        ensures turned { IsTurned true turn seat.old.me.0 seat.new.me.0 }
+        ensures did { DidTurn true turn seat.old.me.0 seat.new.me.0 }
+    {
+        let place = self.latch(turn);
+        for _ in rt.forever() {
+            if self.try_take::<Brand>(seat, turn, place) {
+                return;
+            }
+        }
+        unreachable!()
+    }
+
+    fn leave_at<D: AtTurn>(&self, seat: &mut Seat<Value<L, G>, View>, _turn: Turn, place: usize)
+        requires known { D.turn ≡ _turn }
+        requires place { (place ≡ latch_place (frames_of self.now) _turn) × (place < word_count (frames_of self.now)) }
+        requires seat { CanTurn self.now seat.old _turn }
+        requires may { MayLeave _turn seat.old.me.0 }
+        ensures seat { SameSeat seat.old seat.new }
+        ensures did { DidTurn false _turn seat.old.me.0 seat.new.me.0 }
+    {
+        self.table.shared.store::<LeaveTurn<D>>(seat, place, 0);
+    }
+
+    /// Leaves the latch (`LWLockRelease`).
+    pub fn leave_turn(&self, seat: &mut Seat<Value<L, G>, View>, turn: Turn)
+        requires seat { CanTurn self.now seat.old turn }
+        requires may { MayLeave turn seat.old.me.0 }
+        ensures seat { SameSeat seat.old seat.new }
+        ensures work { SameWork seat.old.me.0 seat.new.me.0 }
+        ensures turned { IsTurned false turn seat.old.me.0 seat.new.me.0 }
+        ensures did { DidTurn false turn seat.old.me.0 seat.new.me.0 }
+    {
+        self.leave_at::<Brand>(seat, turn, self.latch(turn))
+    }
+}
