@@ -1,6 +1,5 @@
 -- An operation on a word behind those of the frames is a step of the state.
-use Rattle.std.proofs.Common.{◌≡◌, ◌≢◌, ℕ, zero, suc, ◌+◌, ◌*◌, ◌<◌, ◌≤◌, ◌%◌, ◌^◌, cond, eq-eqb, ne_eqb, lit<, Bool, true, false, List, Option, Some, None, map, set, get_or, length, length-set, get_or-set_same, get_or-set_other, sym, refl, ap, ◌∙◌, subst, arith}
-use Rattle.std.specs.Prelude.{max}
+use Rattle.std.proofs.Common.{◌≡◌, ◌≢◌, ℕ, ◌+◌, ◌*◌, ◌<◌, ◌≤◌, ◌%◌, ◌^◌, cond, eq-eqb, ne_eqb, lit<, Bool, true, false, List, Option, Some, None, set, get_or, length, length-set, get_or-set_same, get_or-set_other, sym, refl, ap, ◌∙◌, subst, arith}
 use Rattle.std.specs.Option.{is_some}
 use Rattle.std.proofs.Math.Nat.{mod-eq_of_lt}
 use mathlib.Core.Logic.{dite}
@@ -12,21 +11,21 @@ use Rattle.atomic_table.specs.Table as table
 use Rattle.pin_core.specs.declared.view.Link.{Link}
 use Rattle.pin_core.specs.declared.view.Seen.TheVariants as seen
 use Rattle.pin_core.specs.declared.view.View.{View}
-use Rattle.pin_core.specs.State.{Page, idle, link}
+use Rattle.pin_core.specs.State.{Page, link}
 use Rattle.pin_core.specs.Tallies.{flag_weight}
 use Rattle.history_core.specs.Laws.{Laws}
 use Rattle.history_core.specs.State.{State, next_hand}
 use Rattle.history_core.specs.Steps.{Step, looked, begins, reads, loads_end, loads_flushed, raises, loads_hand, adds_hand}
 use Rattle.history_core.proofs.Laws.{laws_kept}
-use Rattle.history_core.proofs.Beginning.{BegunHere, link_begun}
+use Rattle.history_core.proofs.Beginning.{link_begun}
 use Rattle.frame_table.specs.declared.value.Value.{Value}
 use Rattle.frame_table.specs.declared.opening.Opening.{Opening}
 use Rattle.frame_table.specs.declared.turn.Place.{Place}
 use Rattle.frame_table.specs.declared.turn.Place.TheVariants as place
 use Rattle.frame_table.specs.declared.turn.Turn.{Turn}
 use Rattle.frame_table.specs.declared.turn.Turn.TheVariants as turn
-use Rattle.frame_table.specs.Shows.{ShowsFrame, HasTurn, is_taken, ShowsLatches, Devices, IsOpened, Shows, Held, is_out}
-use Rattle.frame_table.specs.Behind.{WordKind, load_end, read_end, begin_checkpoint, load_flushed, raise_flushed, load_hand, add_hand, word_place, word_of, word_after, word_event, IsCopied, IsWordAllowed, read_of, view_of, flushed_of, hand_of, next_of, DidWord, tells_word}
+use Rattle.frame_table.specs.Shows.{HasTurn, is_taken, ShowsLatches, Devices, Shows, Held, is_out}
+use Rattle.frame_table.specs.Behind.{WordKind, load_end, read_end, begin_checkpoint, load_flushed, raise_flushed, load_hand, add_hand, word_place, word_of, word_after, word_event, IsWordAllowed, read_of, view_of, flushed_of, hand_of, next_of, DidWord, tells_word}
 use Rattle.frame_table.specs.declared.log_words.EndLoad.{EndLoad}
 use Rattle.frame_table.specs.declared.log_words.EndLoad.TheVariants.{Plain, Read, Checkpoint}
 use Rattle.frame_table.specs.EndLoads.{IsEndAllowed, end_kind}

@@ -6,7 +6,7 @@ use Rattle.pin_core.specs.declared.view.View.{View}
 use Rattle.pin_core.specs.Steps as pin_steps
 use Rattle.page_core.specs.Steps as page_steps
 use Rattle.history_core.specs.State.{State}
-use Rattle.history_core.specs.Steps.{Event, Step, pools}
+use Rattle.history_core.specs.Steps.{Step, pools}
 use Rattle.frame_table.specs.Kinds.{FrameKind, pins, pages, IsAllowed, IsAllowedAround, state_after, event_of}
 
 -- a kind at a frame is a step
