@@ -24,9 +24,9 @@ mod value;
 mod word_plays;
 
 pub use config::Config;
-pub use log_words::EndLoad;
 pub use content_word::{is_copying, is_exclusive, sharers};
 pub use io_right::IoRight;
+pub use log_words::EndLoad;
 pub use opening::Opening;
 pub use pin::{Pin, TryPin};
 pub use rule::Rule;

@@ -92,8 +92,6 @@ impl<L: BlockLane, G> FrameTable<L, G> {
         ensures did { DidWord add_hand seat.old.me.0 seat.new.me.0 result }
     {
         let at = hand_place(self.frames());
-        self.table
-            .shared
-            .fetch_add::<StepAt<AddHand>>(seat, at, 1)
+        self.table.shared.fetch_add::<StepAt<AddHand>>(seat, at, 1)
     }
 }
