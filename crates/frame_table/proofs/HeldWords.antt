@@ -115,7 +115,7 @@ module _ {L G : Type 0} (d : Devices L G) (o : Opening L G) where
   pub needs_there : (slots id f word new : ℕ) (me : Me (Value L G) View) → f < o.config.frames → me.0.emptied ≡ false → CanNeed word (link me.0 f) → fields new ≡ unlocked_fields (checkpoint_needed_fields (fields word))
       → Allows (Held d o) slots id me (state_place f) (λ _. new) (tells (always (pages paged.need_checkpoint)) (step slots (state_place f) new 0 none) me)
   needs_there slots id f word new me below live may made = gives_up (pages paged.need_checkpoint) refl slots id f word new me below live may.held (λ s is held. record {
-    allowed = (tt, record { held = held; settled = may.settled; dirty = ap (λ (w : StateWord). w.dirty) is ∙ may.dirty; ahead = may.ahead });
+    allowed = (tt, record { held = held; settled = may.settled; dirty = ap (λ (w : StateWord). w.dirty) is ∙ may.dirty });
     around = tt;
     word = ap (λ (w : StateWord). unlocked_fields (checkpoint_needed_fields w)) is ∙ sym made;
     rest = record { tag = refl; sharers = refl; exclusive = refl; copying = refl; page = refl };

@@ -92,12 +92,11 @@ pub record CanClearJust (word : ℕ) (l : Link) : Type 0 where
   pub held : l.header ≡ Some (fields word)
   pub right : l.io ≡ Output
 
--- where its checkpoint passes a frame that it has to write
+-- where its checkpoint has to write the frame
 pub record CanNeed (word : ℕ) (l : Link) : Type 0 where
   pub held : l.header ≡ Some (fields word)
   pub settled : l.pending ≡ false
   pub dirty : (fields word).dirty ≡ true
-  pub ahead : l.passed ≡ false
 
 -- where it begins to wait until its pin is the only one
 pub record CanAwait (word : ℕ) (l : Link) : Type 0 where

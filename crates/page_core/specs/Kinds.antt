@@ -198,12 +198,11 @@ pub record CanClearWaiter (fr : Frame) (l : Link) : Type 0 where
   pub awaited : fr.word.awaited ≡ true
   pub single : fr.word.pins ≡ 1
 
--- the view's checkpoint has not passed the frame
+-- a dirty frame, whether the view's checkpoint has passed it or not: a load while the view waited for the header may have
 pub record CanNeedCheckpoint (fr : Frame) (l : Link) : Type 0 where
   pub held : l.header ≡ Some fr.word
   pub settled : l.pending ≡ false
   pub dirty : fr.word.dirty ≡ true
-  pub ahead : l.passed ≡ false
 
 abbrev pub Allowed : Kind → Block → Frame → Link → Type 0
 Allowed load_content b fr l = Unit {0}
