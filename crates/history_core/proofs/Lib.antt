@@ -28,3 +28,4 @@ pub mod Outings
 pub mod PinsStay
 pub mod Promises
 pub mod Laws
+pub mod Lasting

@@ -17,3 +17,4 @@ pub mod Spent
 pub mod Outings
 pub mod Promises
 pub mod Laws
+pub mod Lasting

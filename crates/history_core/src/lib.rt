@@ -9,6 +9,7 @@ ghost use Rattle.pin_core.specs.Schedules.{TagsAreUnique, PinsRemember};
 ghost use Rattle.page_core.specs.Histories.{CleanupIsAlone};
 ghost use Rattle.history_core.specs.State.{CanStore, State, Store, opening};
 ghost use Rattle.history_core.specs.Laws.{Laws};
+ghost use Rattle.history_core.specs.Lasting.{LogGrows, OpeningStays};
 ghost use Rattle.history_core.specs.Promises.{CheckpointsStore, GrantsAreAlone, PinnedTagsStay};
 ghost use Rattle.history_core.specs.Steps.{Event, Run};
 ghost use Rattle.history_core.specs.Sample.{SampleRuns};
@@ -22,6 +23,10 @@ pub fn all_histories()
     ensures kept { (es : List Event) (s : State) (t : State) → Laws s → Run es s t → Laws t }
     ensures opens { (config : Config) (store : Store) (page : Page) → CanOpen config → CanStore config store → Laws (opening config store page) }
     ensures laws { (s : State) → IsReached s → Laws s }
+
+    // What is fixed at the start stays so, and where the law holds the log only grows.
+    ensures fixed { (s : State) → OpeningStays s }
+    ensures grows { (s : State) → Laws s → LogGrows s }
 
     // So where the law holds, of what backends read and wrote:
     ensures legal { (s : State) → Laws s → CallsAreLegal s }

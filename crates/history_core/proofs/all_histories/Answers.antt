@@ -3,6 +3,7 @@ use Rattle.pin_core.proofs.Schedules as pins
 use Rattle.history_core.proofs.Histories.{legal, at_base, syncs, own, apart, fronts, in_order, go_out_flushed, loaded_flushed, noted_done, log_held, entries, reads_stand, writes_stand, log_first, lanes_hold, clean_stored, sound, hold_cells, words, held, durable, device_holds}
 use Rattle.history_core.proofs.Staying.{calls_stay}
 use Rattle.history_core.proofs.KeptFlushed.{holds_keep}
+use Rattle.history_core.proofs.Lasting.{opening_stays, log_grows}
 use Rattle.history_core.proofs.all_histories.Goals as goal
 
 pub returns-clause-holds_keep : goal.returns-clause-holds_keep
@@ -94,3 +95,9 @@ returns-clause-at_base c = λ s r. at_base s r.invariant
 
 pub returns-clause-syncs : goal.returns-clause-syncs
 returns-clause-syncs c = syncs
+
+pub returns-clause-fixed : goal.returns-clause-fixed
+returns-clause-fixed c = opening_stays
+
+pub returns-clause-grows : goal.returns-clause-grows
+returns-clause-grows c = log_grows

@@ -1,0 +1,88 @@
+-- What no step changes, and what only grows.
+use Rattle.std.proofs.Common.{◌≡◌, ◌≢◌, ℕ, ◌≤◌, List, [], ◌∷◌, ◌++◌, length, None, append-nil, sym, refl, ◌∙◌, lit<, arith}
+use Rattle.pin_core.specs.State as pins
+use Rattle.pin_core.specs.Steps as pin_steps
+use Rattle.page_core.specs.State as page
+use Rattle.page_core.specs.Steps as page_steps
+use Rattle.history_core.specs.State.{State, Device}
+use Rattle.history_core.specs.Device.{LogKind, take_log, leave_log, log_out, append, fail_append, sync_log, fail_sync, log_back, see_down, LogAllowed, device_after}
+use Rattle.history_core.specs.Steps.{pools, lanes, writes, notes, enters, reads, loads_end, begins, loads_flushed, raises, adds_hand, loads_hand, logs, new_entry}
+use Rattle.history_core.specs.Laws.{Laws}
+use Rattle.history_core.specs.Lasting.{IsSameOpening, HasGrown, OpeningStays, LogGrows}
+use Rattle.pin_core.specs.declared.view.LogHold.{LogHold}
+
+-- what a pool is made of
+record IsSamePool (s t : pins.State) : Type 0 where
+  frames : t.frames ≡ s.frames
+  backends : t.backends ≡ s.backends
+  partitions : t.partitions ≡ s.partitions
+  partition_of : t.partition_of ≡ s.partition_of
+  is_block : t.is_block ≡ s.is_block
+
+pins_last : {e : pin_steps.Event} {s t : pins.State} → pin_steps.Step e s t → IsSamePool s t
+pins_last (pin_steps.touches i f k u there live inside a around) = record { frames = refl; backends = refl; partitions = refl; partition_of = refl; is_block = refl }
+pins_last (pin_steps.turns i p k u there live below a) = record { frames = refl; backends = refl; partitions = refl; partition_of = refl; is_block = refl }
+pins_last (pin_steps.splits u there room) = record { frames = refl; backends = refl; partitions = refl; partition_of = refl; is_block = refl }
+pins_last (pin_steps.joins k a b there other here live free) = record { frames = refl; backends = refl; partitions = refl; partition_of = refl; is_block = refl }
+
+pages_last : {e : page_steps.Event} {s t : page.State} → page_steps.Step e s t → IsSamePool s.core t.core
+pages_last (page_steps.cores x) = pins_last x
+pages_last (page_steps.touches i f k u there live inside a around) = record { frames = refl; backends = refl; partitions = refl; partition_of = refl; is_block = refl }
+
+of_pool : {s t : State} → IsSamePool s.pool.core t.pool.core → t.lanes ≡ s.lanes → t.lane_of ≡ s.lane_of → t.known ≡ s.known → t.origin ≡ s.origin → t.log.base ≡ s.log.base → t.names ≡ s.names → t.log_faults ≡ s.log_faults → IsSameOpening s t
+of_pool p count lane_of known origin base names faults = record { frames = p.frames; backends = p.backends; partitions = p.partitions; partition_of = p.partition_of; is_block = p.is_block; lanes = count; lane_of = lane_of; known = known; origin = origin; base = base; names = names; log_faults = faults }
+
+pub opening_stays : (s : State) → OpeningStays s
+opening_stays s e t (pools x a) = of_pool (pages_last x) refl refl refl refl refl refl refl
+opening_stays s e t (lanes i n k u there live low a alone) = of_pool record { frames = refl; backends = refl; partitions = refl; partition_of = refl; is_block = refl } refl refl refl refl refl refl refl
+opening_stays s e t (writes i n f k u there live low inside a x) = of_pool record { frames = refl; backends = refl; partitions = refl; partition_of = refl; is_block = refl } refl refl refl refl refl refl refl
+opening_stays s e t (notes i n f noted k u there live low inside a x) = of_pool record { frames = refl; backends = refl; partitions = refl; partition_of = refl; is_block = refl } refl refl refl refl refl refl refl
+opening_stays s e t (logs i k u there live a record_is) = of_pool record { frames = refl; backends = refl; partitions = refl; partition_of = refl; is_block = refl } refl refl refl refl refl refl refl
+opening_stays s e t (enters i f p u there live inside x) = of_pool record { frames = refl; backends = refl; partitions = refl; partition_of = refl; is_block = refl } refl refl refl refl refl refl refl
+opening_stays s e t (reads i f tag p u there live inside a) = of_pool record { frames = refl; backends = refl; partitions = refl; partition_of = refl; is_block = refl } refl refl refl refl refl refl refl
+opening_stays s e t (loads_end i u there live) = of_pool record { frames = refl; backends = refl; partitions = refl; partition_of = refl; is_block = refl } refl refl refl refl refl refl refl
+opening_stays s e t (begins i u there live) = of_pool record { frames = refl; backends = refl; partitions = refl; partition_of = refl; is_block = refl } refl refl refl refl refl refl refl
+opening_stays s e t (loads_flushed i u there live) = of_pool record { frames = refl; backends = refl; partitions = refl; partition_of = refl; is_block = refl } refl refl refl refl refl refl refl
+opening_stays s e t (raises i u there live synced) = of_pool record { frames = refl; backends = refl; partitions = refl; partition_of = refl; is_block = refl } refl refl refl refl refl refl refl
+opening_stays s e t (adds_hand i u there live) = of_pool record { frames = refl; backends = refl; partitions = refl; partition_of = refl; is_block = refl } refl refl refl refl refl refl refl
+opening_stays s e t (loads_hand i u there live) = of_pool record { frames = refl; backends = refl; partitions = refl; partition_of = refl; is_block = refl } refl refl refl refl refl refl refl
+
+-- the device after a call
+record DeviceGrows (d d' : Device) : Type 0 where
+  rest : List ℕ
+  bytes : d'.bytes ≡ d.bytes ++ rest
+  synced : d.synced ≤ d'.synced
+  down : d.down ≢ None → d'.down ≡ d.down
+
+device_same : (d : Device) → DeviceGrows d d
+device_same d = record { rest = []; bytes = sym (append-nil d.bytes); synced = omega arith; down = λ e. refl }
+
+device_grows : (k : LogKind) (end : ℕ) (d : Device) (h : LogHold) → d.synced ≤ length d.bytes → LogAllowed k d h → DeviceGrows d (device_after k end d)
+device_grows take_log end d h low a = record { rest = []; bytes = sym (append-nil d.bytes); synced = omega arith; down = λ e. refl }
+device_grows leave_log end d h low a = record { rest = []; bytes = sym (append-nil d.bytes); synced = omega arith; down = λ e. refl }
+device_grows (log_out taken) end d h low a = device_same d
+device_grows (append f tag p bytes) end d h low a = record { rest = bytes; bytes = refl; synced = omega arith; down = λ e. refl }
+device_grows (fail_append f tag p bytes n) end d h low a = record { rest = bytes; bytes = refl; synced = omega arith; down = λ e. absurd (e a.call.up) }
+device_grows sync_log end d h low a = record { rest = []; bytes = sym (append-nil d.bytes); synced = low; down = λ e. refl }
+device_grows (fail_sync synced n) end d h low a = record { rest = []; bytes = sym (append-nil d.bytes); synced = a.later; down = λ e. absurd (e a.call.up) }
+device_grows (log_back noted) end d h low a = device_same d
+device_grows see_down end d h low a = device_same d
+
+-- a step that isn't the log's
+unlogged : {s t : State} → t.log.entries ≡ s.log.entries → t.end ≡ s.end → s.flushed ≤ t.flushed → DeviceGrows s.device t.device → HasGrown s t
+unlogged {s = s} entries end flushed d = record { added = []; entries = entries ∙ sym (append-nil s.log.entries); end = omega arith; flushed = flushed; rest = d.rest; bytes = d.bytes; synced = d.synced; down = d.down }
+
+pub log_grows : (s : State) → Laws s → LogGrows s
+log_grows s l e t (pools x a) = unlogged refl refl (omega arith) (device_same s.device)
+log_grows s l e t (lanes i n k u there live low a alone) = unlogged refl refl (omega arith) (device_same s.device)
+log_grows s l e t (writes i n f k u there live low inside a x) = unlogged refl refl (omega arith) (device_same s.device)
+log_grows s l e t (notes i n f noted k u there live low inside a x) = unlogged refl refl (omega arith) (device_same s.device)
+log_grows s l e t (logs i k u there live a record_is) = unlogged refl refl (omega arith) (device_grows k s.end s.device u.log (l.invariant.device.columns 0 (lit< tt)).synced a)
+log_grows s l e t (enters i f p u there live inside x) = let d = device_same s.device in record { added = new_entry s u.number (s.pool.core.frame f).tag p ∷ []; entries = refl; end = omega arith; flushed = omega arith; rest = d.rest; bytes = d.bytes; synced = d.synced; down = d.down }
+log_grows s l e t (reads i f tag p u there live inside a) = unlogged refl refl (omega arith) (device_same s.device)
+log_grows s l e t (loads_end i u there live) = unlogged refl refl (omega arith) (device_same s.device)
+log_grows s l e t (begins i u there live) = unlogged refl refl (omega arith) (device_same s.device)
+log_grows s l e t (loads_flushed i u there live) = unlogged refl refl (omega arith) (device_same s.device)
+log_grows s l e t (raises i u there live synced) = unlogged refl refl (omega arith) (device_same s.device)
+log_grows s l e t (adds_hand i u there live) = unlogged refl refl (omega arith) (device_same s.device)
+log_grows s l e t (loads_hand i u there live) = unlogged refl refl (omega arith) (device_same s.device)
