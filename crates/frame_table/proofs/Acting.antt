@@ -10,10 +10,10 @@ use Rattle.pin_core.specs.State.{Frame}
 use Rattle.history_core.specs.Laws.{Laws}
 use Rattle.history_core.specs.State.{State}
 use Rattle.history_core.proofs.Laws.{laws_kept}
-use Rattle.frame_table.specs.declared.value.Value.{Value}
-use Rattle.frame_table.specs.declared.opening.Opening.{Opening}
+use Rattle.table_rule.specs.declared.value.Value.{Value}
+use Rattle.table_rule.specs.declared.opening.Opening.{Opening}
 use Rattle.frame_table.specs.Kinds.{Part, state_word, tag_word, content_word, FrameKind, part_of, load_of, view_after, state_after}
-use Rattle.frame_table.specs.Shows.{ShowsFrame, Devices, Shows, Held}
+use Rattle.table_rule.specs.Shows.{ShowsFrame, Devices, Shows, Held}
 use Rattle.frame_table.specs.Tells.{part_place, SaysOf, Did, Choice, always, if_found, if_unlocked, chosen, choice_part, tells}
 use Rattle.frame_table.proofs.Kept.{frame_step}
 use Rattle.frame_table.proofs.Frames.{Asks, shows_after}

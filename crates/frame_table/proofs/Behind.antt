@@ -18,19 +18,19 @@ use Rattle.history_core.specs.State.{State, next_hand}
 use Rattle.history_core.specs.Steps.{Step, looked, begins, reads, loads_end, loads_flushed, raises, loads_hand, adds_hand}
 use Rattle.history_core.proofs.Laws.{laws_kept}
 use Rattle.history_core.proofs.Beginning.{link_begun}
-use Rattle.frame_table.specs.declared.value.Value.{Value}
-use Rattle.frame_table.specs.declared.opening.Opening.{Opening}
-use Rattle.frame_table.specs.declared.turn.Place.{Place}
-use Rattle.frame_table.specs.declared.turn.Place.TheVariants as place
-use Rattle.frame_table.specs.declared.turn.Turn.{Turn}
-use Rattle.frame_table.specs.declared.turn.Turn.TheVariants as turn
-use Rattle.frame_table.specs.Shows.{HasTurn, is_taken, ShowsLatches, Devices, Shows, Held, is_out}
+use Rattle.table_rule.specs.declared.value.Value.{Value}
+use Rattle.table_rule.specs.declared.opening.Opening.{Opening}
+use Rattle.table_rule.specs.declared.turn.Place.{Place}
+use Rattle.table_rule.specs.declared.turn.Place.TheVariants as place
+use Rattle.table_rule.specs.declared.turn.Turn.{Turn}
+use Rattle.table_rule.specs.declared.turn.Turn.TheVariants as turn
+use Rattle.table_rule.specs.Shows.{HasTurn, is_taken, ShowsLatches, Devices, Shows, Held, is_out}
 use Rattle.frame_table.specs.Behind.{WordKind, load_end, read_end, begin_checkpoint, load_flushed, raise_flushed, load_hand, add_hand, word_place, word_of, word_after, word_event, IsWordAllowed, read_of, view_of, flushed_of, hand_of, next_of, DidWord, tells_word}
 use Rattle.frame_table.specs.declared.log_words.EndLoad.{EndLoad}
 use Rattle.frame_table.specs.declared.log_words.EndLoad.TheVariants.{Plain, Read, Checkpoint}
 use Rattle.frame_table.specs.EndLoads.{IsEndAllowed, end_kind}
-use Rattle.frame_table.specs.Layout.{latch_place, end_place, flushed_place, hand_place}
-use Rattle.frame_table.proofs.Frames.{frame_else, lane_none, same_out, home_before, gives_same}
+use Rattle.table_rule.specs.Layout.{latch_place, end_place, flushed_place, hand_place}
+use Rattle.frame_table.proofs.Frames.{frame_else, lane_none, device_none, same_out, home_before, gives_same}
 
 -- each kind is a step of the protocol
 word_step : (k : WordKind) (s : State) (i : ℕ) (v : View) → get_elem? s.pool.core.views i ≡ some v → v.emptied ≡ false → IsWordAllowed k s v → Step (word_event k i) s (next_of k s i v)
@@ -140,14 +140,15 @@ module _ {L G : Type 0} (d : Devices L G) (o : Opening L G) where
   -- the table shows the state after it
   shows_behind : (k : WordKind) (t : table.State (Value L G) View) (s : State) (id m : ℕ) (c : List (ℕ × Value L G)) (v : View) → Shows d o t s → get_elem? s.pool.core.views id ≡ some v → m ≡ word_after k s → Shows d o (stepped t (word_place k o.config.frames) m id c (view_of k (word_of k s) v) keeps) (next_of k s id v)
   shows_behind k t s id m c v h there is = let w : View = view_of k (word_of k s) v in let n : ℕ = o.config.frames in let x = word_behind k n in let long = h.words in record {
-    fixed = let f = h.fixed in record { frames = f.frames; backends = f.backends; base = f.base; partitions = f.partitions; partition_of = f.partition_of; is_block = f.is_block; lanes = f.lanes; lane_of = f.lane_of; few_backends = f.few_backends; few_lanes = f.few_lanes; origin = f.origin; reads = f.reads; writes = f.writes };
+    fixed = let f = h.fixed in record { frames = f.frames; backends = f.backends; base = f.base; partitions = f.partitions; partition_of = f.partition_of; is_block = f.is_block; names = f.names; lanes = f.lanes; lane_of = f.lane_of; few_backends = f.few_backends; few_lanes = f.few_lanes; known = f.known; origin = f.origin; reads = f.reads; writes = f.writes; log_faults = f.log_faults };
     words = length-set t.words (word_place k n) m ∙ h.words;
     slots = h.slots;
     views = ap (λ (l : List View). set l id w) h.views;
     frame = λ g inside. frame_else t.words (word_place k n) m g (s.pool.core.frame g) (λ e. absurd (omega arith)) (λ e. absurd (omega arith)) (λ e. absurd (omega arith)) (h.frame g inside);
     latches = latches_behind n o.config.lanes t.words s id m v (omega arith) h.fixed.few_lanes h.latches k is;
     homes = λ y inside home. let old = h.homes y inside (home_before s.pool.core.views id v w y there (λ e. sym (view_out k (word_of k s) v y) ∙ e) home) in
-        record { value = old.value; home = old.home; gives = gives_same d o s (next_of k s id v) (record { page = λ f. refl; map = λ p. refl; count = refl; lane = λ q. lane_none (s.lane q) }) y old.value old.gives };
+        record { value = old.value; home = old.home; gives = gives_same d o s (next_of k s id v) (record { page = λ f. refl; map = λ p. refl; count = refl; lane = λ q. lane_none (s.lane q); device = device_none s.device }) y old.value old.gives };
+    list = h.list;
   }
 
   word_says : (k : WordKind) (t : table.State (Value L G) View) (s : State) → Shows d o t s → word_of k s ≡ get_or t.words (word_place k o.config.frames) 0

@@ -19,11 +19,11 @@ use Rattle.page_core.specs.Tallies.{sharers, applied_locks, unapplied_locks, cop
 use Rattle.grid.proofs.Sums.{term_le, total-few}
 use Rattle.history_core.specs.Laws.{Laws}
 use Rattle.history_core.specs.State.{State}
-use Rattle.frame_table.specs.declared.value.Value.{Value}
-use Rattle.frame_table.specs.declared.opening.Opening.{Opening}
-use Rattle.frame_table.specs.Layout.{content_place}
+use Rattle.table_rule.specs.declared.value.Value.{Value}
+use Rattle.table_rule.specs.declared.opening.Opening.{Opening}
+use Rattle.table_rule.specs.Layout.{content_place}
 use Rattle.frame_table.specs.Kinds.{FrameKind, pages, part_of, load_of, frame_after, link_after, IsAllowed, IsAllowedAround}
-use Rattle.frame_table.specs.Shows.{ShowsFrame, Devices, Shows, Held}
+use Rattle.table_rule.specs.Shows.{ShowsFrame, Devices, Shows, Held}
 use Rattle.frame_table.specs.Tells.{Did, SaysOf, part_place, always, if_found, chosen, tells}
 use Rattle.frame_table.specs.Kinds.{content_word}
 use Rattle.frame_table.specs.Content.{looking_content, has_exclusive, has_copying, CanLock, CanDropShare, CanDropExclusive, CanDropCopy}

@@ -1,5 +1,5 @@
 -- What the table shows after a step at a frame.
-use Rattle.std.proofs.Common.{Bool, ◌≡◌, ℕ, zero, suc, ◌+◌, ◌*◌, ◌-◌, ◌<◌, ◌%◌, ◌^◌, false, List, [], ◌∷◌, get_or, set, length-set, get_or-set_other, sym, refl, ap, ◌∙◌, subst, arith}
+use Rattle.std.proofs.Common.{Bool, ◌≡◌, ℕ, zero, suc, ◌+◌, ◌*◌, ◌-◌, ◌<◌, ◌%◌, ◌^◌, false, List, [], ◌∷◌, get_or, set, length-set, get_or-set_other, sym, refl, ap, ◌∙◌, subst, arith, Some}
 use Rattle.std.specs.Prelude.{is_some, Option}
 use mathlib.Core.Logic.{dite}
 use mathlib.Core.Option.{some, some-injective}
@@ -20,19 +20,20 @@ use Rattle.pin_core.specs.State.{Frame, Partition, Page, link, hold, idle, no_pa
 use Rattle.pin_core.specs.Kinds.{partitions_owing, holds_naming}
 use Rattle.pin_core.specs.Kinds as pin
 use Rattle.pin_core.specs.Tallies.{flag_weight}
-use Rattle.history_core.specs.State.{State, Lane}
+use Rattle.block_tag.specs.declared.catalogue.RelEntry.{RelEntry}
+use Rattle.history_core.specs.State.{State, Lane, Device}
 use Rattle.grid.specs.Shape.{put}
 use Rattle.grid.proofs.Lists.{set_here, set_else, put_at, put_else}
-use Rattle.frame_table.specs.declared.value.Value.{Value}
-use Rattle.frame_table.specs.declared.value.Value.TheVariants as value
-use Rattle.frame_table.specs.declared.opening.Opening.{Opening}
-use Rattle.frame_table.specs.declared.turn.Place.{Place}
-use Rattle.frame_table.specs.declared.turn.Place.TheVariants as place
-use Rattle.frame_table.specs.declared.turn.Turn.{Turn}
-use Rattle.frame_table.specs.declared.turn.Turn.TheVariants as turn
-use Rattle.frame_table.specs.Layout.{latch_place}
+use Rattle.table_rule.specs.declared.value.Value.{Value}
+use Rattle.table_rule.specs.declared.value.Value.TheVariants as value
+use Rattle.table_rule.specs.declared.opening.Opening.{Opening}
+use Rattle.table_rule.specs.declared.turn.Place.{Place}
+use Rattle.table_rule.specs.declared.turn.Place.TheVariants as place
+use Rattle.table_rule.specs.declared.turn.Turn.{Turn}
+use Rattle.table_rule.specs.declared.turn.Turn.TheVariants as turn
+use Rattle.table_rule.specs.Layout.{latch_place}
 use Rattle.frame_table.specs.Kinds.{FrameKind, pins, pages, IsAllowed, IsAllowedAround, frame_after, link_after, view_after, state_after}
-use Rattle.frame_table.specs.Shows.{ShowsFrame, ShowsLatches, is_taken, is_out, IsHome, Devices, Gives, GivesPage, GivesMap, GivesLane, IsOpened, Shows}
+use Rattle.table_rule.specs.Shows.{ShowsFrame, ShowsLatches, is_taken, is_out, IsHome, Devices, Gives, GivesPage, GivesMap, GivesLane, GivesLog, IsOpened, Shows}
 
 -- a word that none of the frame's three is leaves what they show
 pub frame_else : (words : List ℕ) (i n g : ℕ) (fr : Frame) → ¬ (i ≡ 3 * g) → ¬ (i ≡ 3 * g + 1) → ¬ (i ≡ 3 * g + 2) → ShowsFrame words g fr → ShowsFrame (set words i n) g fr
@@ -140,18 +141,40 @@ pub record SameLane (ln ln' : Lane) : Type 0 where
 pub lane_none : (ln : Lane) → SameLane ln ln
 lane_none ln = record { known = refl; stored = refl; failed = refl; reads = refl; writes = refl; reads_at_start = refl; writes_at_start = refl }
 
-gives_lane : {L G : Type 0} (d : Devices L G) (lanes q : ℕ) (y : Value L G) (ln ln' : Lane) → SameLane ln ln' → GivesLane d lanes q y ln → GivesLane d lanes q y ln'
-gives_lane d lanes q (value.Lane l) ln ln' e h = record {
-  known = e.known ∙ h.known;
-  pages = λ known word p told has. ap (λ (f : ℕ → Page). f word) e.stored ∙ h.pages known word p told has;
-  failed = λ known word tag told named placed. ap (λ (f : ℕ → Bool). f word) e.failed ∙ h.failed known word tag told named placed;
-  reads = e.reads ∙ h.reads;
-  writes = e.writes ∙ h.writes;
-}
-gives_lane d lanes q (value.Page p) ln ln' e h = h
-gives_lane d lanes q (value.Map m) ln ln' e h = h
-gives_lane d lanes q (value.Log g) ln ln' e h = h
-gives_lane d lanes q value.Away ln ln' e h = h
+gives_lane : {L G : Type 0} (d : Devices L G) (relations : List RelEntry) (lanes q : ℕ) (y : Value L G) (ln ln' : Lane) → SameLane ln ln' → GivesLane d relations lanes q y ln → GivesLane d relations lanes q y ln'
+gives_lane d relations lanes q (value.Lane l) ln ln' e h = (
+  record {
+    known = e.known ∙ h.0.known;
+    pages = λ known word tag told placed. h.0.pages known word tag told placed ∙ ap (λ (f : ℕ → Page). Some (f word)) (sym e.stored);
+    failed = λ known word tag told placed. ap (λ (f : ℕ → Bool). f word) e.failed ∙ h.0.failed known word tag told placed;
+    reads = e.reads ∙ h.0.reads;
+    writes = e.writes ∙ h.0.writes;
+  },
+  h.1,
+)
+gives_lane d relations lanes q (value.Page p) ln ln' e h = h
+gives_lane d relations lanes q (value.Map m) ln ln' e h = h
+gives_lane d relations lanes q (value.Log g) ln ln' e h = h
+gives_lane d relations lanes q (value.Lanes l) ln ln' e h = h
+gives_lane d relations lanes q value.Away ln ln' e h = h
+
+-- What the log's device holds and has counted is the same
+pub record SameDevice (a b : Device) : Type 0 where
+  pub bytes : b.bytes ≡ a.bytes
+  pub synced : b.synced ≡ a.synced
+  pub faults : b.faults ≡ a.faults
+  pub down : b.down ≡ a.down
+
+pub device_none : (a : Device) → SameDevice a a
+device_none a = record { bytes = refl; synced = refl; faults = refl; down = refl }
+
+gives_log : {L G : Type 0} (d : Devices L G) (y : Value L G) (a b : Device) → SameDevice a b → GivesLog d y a → GivesLog d y b
+gives_log d (value.Log g) a b e h = (record { bytes = λ known told. e.bytes ∙ h.0.bytes known told; synced = λ known told. e.synced ∙ h.0.synced known told; faults = e.faults ∙ h.0.faults; down = e.down ∙ h.0.down }, h.1, h.2)
+gives_log d (value.Page p) a b e h = h
+gives_log d (value.Map m) a b e h = h
+gives_log d (value.Lane l) a b e h = h
+gives_log d (value.Lanes l) a b e h = h
+gives_log d value.Away a b e h = h
 
 module _ {L G : Type 0} (d : Devices L G) (o : Opening L G) where
   -- What the states s and s' say of values is the same
@@ -160,12 +183,13 @@ module _ {L G : Type 0} (d : Devices L G) (o : Opening L G) where
     pub map : (p : ℕ) → (s'.pool.core.partition p).map ≡ (s.pool.core.partition p).map
     pub count : s'.lanes ≡ s.lanes
     pub lane : (q : ℕ) → SameLane (s.lane q) (s'.lane q)
+    pub device : SameDevice s.device s'.device
 
-  pub gives_same : (s s' : State) → SameValues s s' → (x : Place) (y : Value L G) → Gives d s x y → Gives d s' x y
+  pub gives_same : (s s' : State) → SameValues s s' → (x : Place) (y : Value L G) → Gives d o s x y → Gives d o s' x y
   gives_same s s' e (place.Page f) y h = subst (GivesPage y) (sym (e.page f)) h
-  gives_same s s' e (place.Of (turn.Partition p)) y h = subst (GivesMap y) (sym (e.map p)) h
-  gives_same s s' e (place.Of (turn.Lane q)) y h = subst (λ (n : ℕ). GivesLane d n q y (s'.lane q)) (sym e.count) (gives_lane d s.lanes q y (s.lane q) (s'.lane q) (e.lane q) h)
-  gives_same s s' e (place.Of turn.Log) y h = h
+  gives_same s s' e (place.Of (turn.Partition p)) y h = subst (GivesMap o.config.frames y) (sym (e.map p)) h
+  gives_same s s' e (place.Of (turn.Lane q)) y h = subst (λ (n : ℕ). GivesLane d o.catalog.value n q y (s'.lane q)) (sym e.count) (gives_lane d o.catalog.value s.lanes q y (s.lane q) (s'.lane q) (e.lane q) h)
+  gives_same s s' e (place.Of turn.Log) y h = gives_log d y s.device s'.device e.device h
 
 -- What a step of the kind k at the frame f asks, where its word i becomes n
 module _ {L G : Type 0} where
@@ -180,8 +204,8 @@ module _ {L G : Type 0} where
 
 module _ {L G : Type 0} (d : Devices L G) (o : Opening L G) where
   fixed_after : (k : FrameKind) (s : State) (i f : ℕ) (v : View) → IsOpened d o s → IsOpened d o (state_after k s i f v)
-  fixed_after (pins k) s i f v h = record { frames = h.frames; backends = h.backends; base = h.base; partitions = h.partitions; partition_of = h.partition_of; is_block = h.is_block; lanes = h.lanes; lane_of = h.lane_of; few_backends = h.few_backends; few_lanes = h.few_lanes; origin = h.origin; reads = h.reads; writes = h.writes }
-  fixed_after (pages k) s i f v h = record { frames = h.frames; backends = h.backends; base = h.base; partitions = h.partitions; partition_of = h.partition_of; is_block = h.is_block; lanes = h.lanes; lane_of = h.lane_of; few_backends = h.few_backends; few_lanes = h.few_lanes; origin = h.origin; reads = h.reads; writes = h.writes }
+  fixed_after (pins k) s i f v h = record { frames = h.frames; backends = h.backends; base = h.base; partitions = h.partitions; partition_of = h.partition_of; is_block = h.is_block; names = h.names; lanes = h.lanes; lane_of = h.lane_of; few_backends = h.few_backends; few_lanes = h.few_lanes; known = h.known; origin = h.origin; reads = h.reads; writes = h.writes; log_faults = h.log_faults }
+  fixed_after (pages k) s i f v h = record { frames = h.frames; backends = h.backends; base = h.base; partitions = h.partitions; partition_of = h.partition_of; is_block = h.is_block; names = h.names; lanes = h.lanes; lane_of = h.lane_of; few_backends = h.few_backends; few_lanes = h.few_lanes; known = h.known; origin = h.origin; reads = h.reads; writes = h.writes; log_faults = h.log_faults }
 
   same_values : (k : FrameKind) (s : State) (i f : ℕ) (v : View) → (frame_after k s f).page ≡ (s.pool.core.frame f).page → SameValues d o s (state_after k s i f v)
   same_values k s i f v e = record {
@@ -189,6 +213,7 @@ module _ {L G : Type 0} (d : Devices L G) (o : Opening L G) where
     map = map_same k s i f v;
     count = refl;
     lane = λ q. lane_none (s.lane q);
+    device = device_none s.device;
   }
 
   -- A table shows the state after a step at a frame, if its word shows the frame
@@ -205,4 +230,5 @@ module _ {L G : Type 0} (d : Devices L G) (o : Opening L G) where
     latches = latches_else o.config.frames o.config.lanes t.words i n s (state_after k s id f v) (omega arith) (taken_same k s id f v) refl refl refl h.latches;
     homes = λ x inside home. let old = h.homes x inside (home_before s.pool.core.views id v w x there (λ e. sym (out_same k s f v a.out x) ∙ e) (subst (IsHome x) (views_are k s id f v) home)) in
         record { value = old.value; home = old.home; gives = gives_same d o s (state_after k s id f v) (same_values k s id f v a.page) x old.value old.gives };
+    list = h.list;
   }

@@ -15,11 +15,11 @@ use Rattle.page_core.specs.Kinds as paged
 use Rattle.page_core.specs.Steps.{HasNoIo, HasNoWriteOut, MayWait}
 use Rattle.history_core.specs.Laws.{Laws}
 use Rattle.history_core.specs.State.{State}
-use Rattle.frame_table.specs.declared.value.Value.{Value}
-use Rattle.frame_table.specs.declared.opening.Opening.{Opening}
-use Rattle.frame_table.specs.Layout.{state_place}
+use Rattle.table_rule.specs.declared.value.Value.{Value}
+use Rattle.table_rule.specs.declared.opening.Opening.{Opening}
+use Rattle.table_rule.specs.Layout.{state_place}
 use Rattle.frame_table.specs.Kinds.{FrameKind, pages, state_word, part_of}
-use Rattle.frame_table.specs.Shows.{Devices, Held}
+use Rattle.table_rule.specs.Shows.{Devices, Held}
 use Rattle.frame_table.specs.Sees.{Looked}
 use Rattle.frame_table.specs.Tells.{Did, SaysOf, Tried, part_place, has_locked, always, if_found, tells}
 use Rattle.frame_table.specs.Content.{CanAwait, CanBeginIo, CanClearJust, CanFinishIo, CanNeed, CanWake, begun_link, dirtied_link, start_of}

@@ -31,12 +31,14 @@ use Rattle.pin_core.specs.Kinds as pin
 use Rattle.pin_core.specs.Steps.{HasNoVictim}
 use Rattle.grid.proofs.Sums.{term_le}
 use Rattle.history_core.specs.State.{State}
-use Rattle.frame_table.specs.declared.value.Value.{Value}
-use Rattle.frame_table.specs.declared.opening.Opening.{Opening}
-use Rattle.frame_table.specs.Layout.{state_place, tag_place, tag_partition, partition_of_tag}
+use Rattle.table_rule.specs.declared.value.Value.{Value}
+use Rattle.table_rule.specs.declared.opening.Opening.{Opening}
+use Rattle.table_rule.specs.Blocks.{has_block, has_named, is_block}
+use Rattle.block_tag.specs.declared.catalogue.RelEntry.{RelEntry}
+use Rattle.table_rule.specs.Layout.{state_place, tag_place, tag_partition, partition_of_tag}
 use Rattle.history_core.specs.Laws.{Laws}
 use Rattle.frame_table.specs.Kinds.{FrameKind, pins, part_of, link_after, view_after}
-use Rattle.frame_table.specs.Shows.{ShowsFrame, Devices, Shows, Held}
+use Rattle.table_rule.specs.Shows.{ShowsFrame, Devices, Shows, Held}
 use Rattle.frame_table.specs.Sees.{Finds, mapped_link, SameSelf, Looked, Touches, Stores, HoldsWord, HasRoom, IsUsed, HasFlag, IsAlone, MayChange, Lacks, CanStore, CanErase, CanStoreAs, partitions_erased, partitions_stored, stored_link, victim_link, unlocked_link, assigned_link, cleared_link, tag_word, read_link}
 use Rattle.frame_table.specs.Tells.{Tried, if_found, Did, DidHeld, always, looking, storing, tells}
 use Rattle.frame_table.proofs.Frames.{Asks}
@@ -204,14 +206,18 @@ module _ {L G : Type 0} (d : Devices L G) (o : Opening L G) where
   unfolding is_tag
   is_tag_of tag t e = ap (λ (x : Option Tag). is_some x) e
 
-  pub stores_there : (slots id f tag : ℕ) (t : Tag) (me : Me (Value L G) View) → f < o.config.frames → me.0.emptied ≡ false → unpacked_tag tag ≡ Some t → IsAlone (link me.0 f) → HoldsWord (HasFlag false) (link me.0 f) → MayChange me.0 (tag_partition tag) → Lacks me.0 tag
+  is_block_of : (relations : List RelEntry) (tag : ℕ) (t : Tag) → unpacked_tag tag ≡ Some t → has_block relations t ≡ true → is_block relations tag ≡ true
+  unfolding is_block
+  is_block_of relations tag t e listed = ap (has_named relations) e ∙ listed
+
+  pub stores_there : (slots id f tag : ℕ) (t : Tag) (me : Me (Value L G) View) → f < o.config.frames → me.0.emptied ≡ false → unpacked_tag tag ≡ Some t → has_block o.catalog.value t ≡ true → IsAlone (link me.0 f) → HoldsWord (HasFlag false) (link me.0 f) → MayChange me.0 (tag_partition tag) → Lacks me.0 tag
       → Allows (Held d o) slots id me (tag_place f) (λ _. tag) (tells (always (pins (pin.store_tag tag))) (step slots (tag_place f) tag 0 none) me)
-  stores_there slots id f tag t me below live packed alone untagged may lacks = acts d o (always (pins (pin.store_tag tag))) slots id f tag 0 (λ _. tag) me below live (λ u s h laws there small.
+  stores_there slots id f tag t me below live packed listed alone untagged may lacks = acts d o (always (pins (pin.store_tag tag))) slots id f tag 0 (λ _. tag) me below live (λ u s h laws there small.
       let inside : f < s.pool.core.frames = (let e = h.fixed.frames in omega arith) in let mine = alone_there s id f me.0 laws there inside alone in let at : tag_partition tag ≡ s.pool.core.partition_of tag = ap (λ (g : ℕ → ℕ). g tag) (sym h.fixed.partition_of) in record {
         allowed = record { alone = mine; named = named_there tag (is_tag_of tag t packed); packed = is_tag_of tag t packed; untagged = untagged.knows (s.pool.core.frame f).word mine.held };
         around = record {
           naming = record { held = subst (λ (p : ℕ). (hold me.0 p).held ≡ true) at may.held; unchanged = subst (λ (p : ℕ). (hold me.0 p).changed ≡ false) at may.unchanged; settled = may.settled };
-          block = ap (λ (g : ℕ → Bool). g tag) h.fixed.is_block ∙ is_tag_of tag t packed;
+          block = ap (λ (g : ℕ → Bool). g tag) h.fixed.is_block ∙ is_block_of o.catalog.value tag t packed listed;
           lacking = subst (λ (p : ℕ). (s.pool.core.partition p).map tag ≡ None) at (lacks_there s id me.0 tag h.fixed.partition_of laws there may.unchanged lacks);
         };
         shows = tag_shows u.words f tag (s.pool.core.frame f) (let wide = h.words in omega arith) (h.frame f below);
@@ -297,14 +303,14 @@ pub stored_after : (tag : Option Tag) (f now : ℕ) (v w : View) → Did (storin
 stored_after None f now v w d = link_is (storing None) f now v w d
 stored_after (Some tag) f now v w d = link_is (storing (Some tag)) f now v w d
 
-pub stored_partitions : (tag : Option Tag) (f now : ℕ) (v w : View) → Did (storing tag) f v w now → CanStoreAs tag v f → w.partitions ≡ partitions_stored tag f v
-stored_partitions None f now v w d can = ap (λ (x : View). x.partitions) d.after ∙ ap (λ (g : ℕ → ℕ). holds_naming (Leaving (d.state.pool.core.frame f).tag f) g v) d.spread ∙ of_tag (link v f).tag refl
+pub stored_partitions : (relations : List RelEntry) (tag : Option Tag) (f now : ℕ) (v w : View) → Did (storing tag) f v w now → CanStoreAs relations tag v f → w.partitions ≡ partitions_stored tag f v
+stored_partitions relations None f now v w d can = ap (λ (x : View). x.partitions) d.after ∙ ap (λ (g : ℕ → ℕ). holds_naming (Leaving (d.state.pool.core.frame f).tag f) g v) d.spread ∙ of_tag (link v f).tag refl
   where
     of_tag : (x : Option ℕ) → (link v f).tag ≡ x → holds_naming (Leaving (d.state.pool.core.frame f).tag f) tag_partition v ≡ partitions_erased (link v f).tag f v
     of_tag None e = absurd (can.read e)
     of_tag (Some tag) e = let known = (d.laws.invariant.pool.core.grid.cells d.seat v f d.there d.inside).remembers tag e in
         ap (λ (t : ℕ). holds_naming (Leaving t f) tag_partition v) known.1 ∙ ap (λ (x : Option ℕ). partitions_erased x f v) (sym e)
-stored_partitions (Some tag) f now v w d can = ap (λ (x : View). x.partitions) d.after ∙ ap (λ (g : ℕ → ℕ). holds_naming (Entering (packed_tag tag) f) g v) d.spread
+stored_partitions relations (Some tag) f now v w d can = ap (λ (x : View). x.partitions) d.after ∙ ap (λ (g : ℕ → ℕ). holds_naming (Entering (packed_tag tag) f) g v) d.spread
 
 -- the number that a load of a tag word found, by the tag that it is
 tag_number : (word : ℕ) (r : Option Tag) → r ≡ unpacked_tag word → IfSome r (λ t. packed_tag t ≡ word) → (word ≢ no_tag → is_tag word ≡ true) → word ≡ tag_word r
@@ -325,10 +331,10 @@ victimless f v w t l h g = dite (ℕ_discrete g f)
     (λ n r. h g (sym (ap (λ (x : Link). x.role) (t.others g n)) ∙ r))
 
 module _ {L G : Type 0} (d : Devices L G) (o : Opening L G) where
-  pub stores_as : (slots id f : ℕ) (tag : Tag) (me : Me (Value L G) View) → f < o.config.frames → me.0.emptied ≡ false → IsAlone (link me.0 f) → unpacked_tag (packed_tag tag) ≡ Some tag → CanStore tag me.0 f
+  pub stores_as : (slots id f : ℕ) (tag : Tag) (me : Me (Value L G) View) → f < o.config.frames → me.0.emptied ≡ false → IsAlone (link me.0 f) → unpacked_tag (packed_tag tag) ≡ Some tag → CanStore o.catalog.value tag me.0 f
       → Allows (Held d o) slots id me (tag_place f) (λ _. packed_tag tag) (tells (always (storing (Some tag))) (step slots (tag_place f) (packed_tag tag) 0 none) me)
   stores_as slots id f tag me below live alone packed can =
-      stores_there d o slots id f (packed_tag tag) tag me below live packed alone can.word (subst (MayChange me.0) (ap partition_of_tag (sym packed)) can.latch) can.map
+      stores_there d o slots id f (packed_tag tag) tag me below live packed can.listed alone can.word (subst (MayChange me.0) (ap partition_of_tag (sym packed)) can.latch) can.map
 
 -- a pin of the frame that a map gives, after loads
 pub finds_on : (f tag g : ℕ) (v w : View) → Touches f v w → Finds v tag g → Finds w tag g

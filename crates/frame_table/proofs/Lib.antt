@@ -7,8 +7,6 @@ pub mod HeldWords
 pub mod Seeing
 pub mod Told
 pub mod Splitting
-pub mod Laying
-pub mod Opens
 pub mod Behind
 pub mod Holding
 pub mod Taking

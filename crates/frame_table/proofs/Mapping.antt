@@ -6,7 +6,7 @@ use mathlib.Core.Option as slot
 use native.Mathlib.Decide.{ℕ_discrete}
 use lib.ListN.{get_elem?}
 use lib.Seq.{set-get_or}
-use Rattle.std.specs.Prelude.{is_some, Option}
+use Rattle.std.specs.Prelude.{is_some, vec_capacity, Option}
 use Rattle.atomic_table.specs.Table.{Me, step, takes, gives, stepped, Allows, rest}
 use Rattle.atomic_table.specs.Table as table
 use Rattle.atomic_table.proofs.Lists.{set_here, set_else}
@@ -29,17 +29,17 @@ use Rattle.grid.specs.Shape.{put}
 use Rattle.grid.proofs.Lists.{put_here, put_else, put_at, at_set}
 use Rattle.grid.proofs.Lists as grid
 use Rattle.grid.proofs.Sums.{terms_le}
-use Rattle.frame_table.specs.declared.value.Mapped.{Mapped}
-use Rattle.frame_table.specs.declared.value.Value.{Value}
-use Rattle.frame_table.specs.declared.value.Value.TheVariants as value
-use Rattle.frame_table.specs.declared.opening.Opening.{Opening}
-use Rattle.frame_table.specs.declared.turn.Place.{Place}
-use Rattle.frame_table.specs.declared.turn.Place.TheVariants as place
-use Rattle.frame_table.specs.declared.turn.Turn.{Turn}
-use Rattle.frame_table.specs.declared.turn.Turn.TheVariants.{Partition, Lane, Log}
-use Rattle.frame_table.specs.Layout.{latch_place, slot_of, slot_count}
+use Rattle.table_rule.specs.declared.value.Mapped.{Mapped}
+use Rattle.table_rule.specs.declared.value.Value.{Value}
+use Rattle.table_rule.specs.declared.value.Value.TheVariants as value
+use Rattle.table_rule.specs.declared.opening.Opening.{Opening}
+use Rattle.table_rule.specs.declared.turn.Place.{Place}
+use Rattle.table_rule.specs.declared.turn.Place.TheVariants as place
+use Rattle.table_rule.specs.declared.turn.Turn.{Turn}
+use Rattle.table_rule.specs.declared.turn.Turn.TheVariants.{Partition, Lane, Log}
+use Rattle.table_rule.specs.Layout.{latch_place, slot_of, slot_count}
 use Rattle.history_core.specs.Laws.{Laws}
-use Rattle.frame_table.specs.Shows.{ShowsFrame, ShowsLatches, is_taken, is_out, IsHome, entry_of, Devices, Gives, GivesMap, HasPlace, HasValue, Shows, Held}
+use Rattle.table_rule.specs.Shows.{ShowsFrame, ShowsLatches, is_taken, is_out, IsHome, AreApart, entry_of, Devices, Gives, GivesMap, HasPlace, HasValue, HasList, Shows, Held}
 use Rattle.frame_table.specs.Turning.{DidMap, ComesBack, as_it_was, entered, left_out, MayComeBack, IsMap, map_went, map_came, MapStep, SameWork, is_named, back_hold}
 use Rattle.history_core.proofs.Laws.{laws_kept}
 use Rattle.frame_table.proofs.Frames.{put_keeps, home_before}
@@ -63,6 +63,10 @@ same_slot o (place.Of Log) (place.Of (Partition q)) few a b e = absurd (omega ar
 same_slot o (place.Of Log) (place.Of (Lane q)) few a b e = absurd (omega arith)
 same_slot o (place.Of Log) (place.Of Log) few a b e = refl
 
+-- the list of lanes stays where another slot changes
+pub list_stays : {L G : Type 0} (o : Opening L G) (homes : List (slot.Option (Value L G))) (i : ℕ) (y : slot.Option (Value L G)) → i ≢ o.config.frames + 145 → HasList o homes → HasList o (set homes i y)
+list_stays o homes i y n h = record { list = h.list; home = set_else homes i (o.config.frames + 145) y (λ e. n (sym e)) ∙ h.home; empty = h.empty; room = h.room }
+
 -- the state after a step of a kind at a partition
 abbrev mapped : parts.TurnKind → State → ℕ → ℕ → View → State
 mapped k s i p v = record s { pool = record s.pool { core = pin_steps.state_turned k s.pool.core i p v } }
@@ -81,11 +85,11 @@ mapped_out k p v (place.Of (Lane q)) n = refl
 mapped_out k p v (place.Of Log) n = refl
 
 -- and so do their values
-mapped_gives : {L G : Type 0} (d : Devices L G) (k : parts.TurnKind) (s : State) (i p : ℕ) (v : View) (y : Place) (z : Value L G) → y ≢ place.Of (Partition p) → Gives d s y z → Gives d (mapped k s i p v) y z
-mapped_gives d k s i p v (place.Page f) z n h = h
-mapped_gives d k s i p v (place.Of (Partition q)) z n h = subst (λ (pt : pool.Partition). GivesMap z pt.map) (sym (put_else s.pool.core.partition p (parts.partition_after k (s.pool.core.partition p) (hold v p)) q (λ e. n (ap (λ (x : ℕ). place.Of (Partition x)) e)))) h
-mapped_gives d k s i p v (place.Of (Lane q)) z n h = h
-mapped_gives d k s i p v (place.Of Log) z n h = h
+mapped_gives : {L G : Type 0} (d : Devices L G) (o : Opening L G) (k : parts.TurnKind) (s : State) (i p : ℕ) (v : View) (y : Place) (z : Value L G) → y ≢ place.Of (Partition p) → Gives d o s y z → Gives d o (mapped k s i p v) y z
+mapped_gives d o k s i p v (place.Page f) z n h = h
+mapped_gives d o k s i p v (place.Of (Partition q)) z n h = subst (λ (pt : pool.Partition). GivesMap o.config.frames z pt.map) (sym (put_else s.pool.core.partition p (parts.partition_after k (s.pool.core.partition p) (hold v p)) q (λ e. n (ap (λ (x : ℕ). place.Of (Partition x)) e)))) h
+mapped_gives d o k s i p v (place.Of (Lane q)) z n h = h
+mapped_gives d o k s i p v (place.Of Log) z n h = h
 
 mapped_taken : (k : parts.TurnKind) (s : State) (i p : ℕ) (v : View) → (parts.partition_after k (s.pool.core.partition p) (hold v p)).taken ≡ (s.pool.core.partition p).taken → (x : Turn) → is_taken x (mapped k s i p v) ≡ is_taken x s
 mapped_taken k s i p v kept (Partition q) = put_keeps (λ (pt : pool.Partition). pt.taken) s.pool.core.partition p (parts.partition_after k (s.pool.core.partition p) (hold v p)) q kept
@@ -95,16 +99,17 @@ mapped_taken k s i p v kept Log = refl
 module _ {L G : Type 0} (d : Devices L G) (o : Opening L G) where
   -- The table shows the state after such a step, where its slots do
   shows_mapped : (k : parts.TurnKind) (words : List ℕ) (t : table.State (Value L G) View) (s : State) (id p : ℕ) (v : View) (homes : List (slot.Option (Value L G))) → words ≡ t.words → Shows d o t s → (parts.partition_after k (s.pool.core.partition p) (hold v p)).taken ≡ (s.pool.core.partition p).taken
-      → length homes ≡ slot_count o.config.frames → ((x : Place) → HasPlace o x → IsHome x (set s.pool.core.views id (view_mapped k p v)) → HasValue d o.config.frames homes (mapped k s id p v) x)
+      → length homes ≡ slot_count o.config.frames → HasList o homes → ((x : Place) → HasPlace o x → IsHome x (set s.pool.core.views id (view_mapped k p v)) → HasValue d o homes (mapped k s id p v) x)
       → Shows d o record { words = words; homes = homes; views = set t.views id (view_mapped k p v) } (mapped k s id p v)
-  shows_mapped k words t s id p v homes same h kept long values = record {
-    fixed = let f = h.fixed in record { frames = f.frames; backends = f.backends; base = f.base; partitions = f.partitions; partition_of = f.partition_of; is_block = f.is_block; lanes = f.lanes; lane_of = f.lane_of; few_backends = f.few_backends; few_lanes = f.few_lanes; origin = f.origin; reads = f.reads; writes = f.writes };
+  shows_mapped k words t s id p v homes same h kept long list values = record {
+    fixed = let f = h.fixed in record { frames = f.frames; backends = f.backends; base = f.base; partitions = f.partitions; partition_of = f.partition_of; is_block = f.is_block; names = f.names; lanes = f.lanes; lane_of = f.lane_of; few_backends = f.few_backends; few_lanes = f.few_lanes; known = f.known; origin = f.origin; reads = f.reads; writes = f.writes; log_faults = f.log_faults };
     words = ap (λ (l : List ℕ). length l) same ∙ h.words;
     slots = long;
     views = ap (λ (l : List View). set l id (view_mapped k p v)) h.views;
     frame = λ g inside. subst (λ (l : List ℕ). ShowsFrame l g (s.pool.core.frame g)) (sym same) (h.frame g inside);
     latches = subst (λ (l : List ℕ). ShowsLatches o.config.frames o.config.lanes l (mapped k s id p v)) (sym same) (let l = h.latches in record { latch = λ x has. l.latch x has ∙ ap flag_weight (sym (mapped_taken k s id p v kept x)); end = l.end; flushed = l.flushed; hand = l.hand });
     homes = values;
+    list = list;
   }
 
   -- no other view has the map of a partition out, where one holds its latch
@@ -124,7 +129,7 @@ module _ {L G : Type 0} (d : Devices L G) (o : Opening L G) where
           absurd (let a = ap flag_weight held in let b = ap flag_weight e in omega (arith, one, sum))
 
   pub goes_out : (slots id p : ℕ) (me : Me (Value L G) View) → p < 128 → me.0.emptied ≡ false → (hold me.0 p).held ≡ true → (hold me.0 p).out ≡ None
-      → Allows (Held d o) slots id me (latch_place o.config.frames (Partition p)) (λ n. n) (map_went p (slot_of o.config.frames (place.Of (Partition p))) (step slots (latch_place o.config.frames (Partition p)) 0 0 none) me)
+      → Allows (Held d o) slots id me (latch_place o.config.frames (Partition p)) (λ n. n) (map_went o.config.frames p (slot_of o.config.frames (place.Of (Partition p))) (step slots (latch_place o.config.frames (Partition p)) 0 0 none) me)
   goes_out slots id p me below live held out t h deep there small = of_value value_there.value value_there.home value_there.gives
     where
       here : get_elem? h.state.pool.core.views id ≡ some me.0
@@ -138,27 +143,27 @@ module _ {L G : Type 0} (d : Devices L G) (o : Opening L G) where
           (λ e. let same : me.0 ≡ u = some-injective me.0 u (sym here ∙ ap (get_elem? h.state.pool.core.views) (sym e) ∙ at) in ap (λ (x : View). is_some (hold x p).out) (sym same) ∙ ap (λ (x : Option (List MapEntry)). is_some x) out)
           (λ n. ap (λ (x : Option (List MapEntry)). is_some x) (map_home h.state id p me.0 h.laws here low held i u n at))
 
-      value_there : HasValue d o.config.frames t.homes h.state (place.Of (Partition p))
+      value_there : HasValue d o t.homes h.state (place.Of (Partition p))
       value_there = h.shows.homes (place.Of (Partition p)) below none_out
 
-      of_value : (y : Value L G) → get_elem? t.homes (o.config.frames + p) ≡ some (some y) → GivesMap y (h.state.pool.core.partition p).map
+      of_value : (y : Value L G) → get_elem? t.homes (o.config.frames + p) ≡ some (some y) → GivesMap o.config.frames y (h.state.pool.core.partition p).map
           → (w : View) × (a : table.Act (Value L G)) × table.Valid t.homes me.1 a × Held d o (stepped t (latch_place o.config.frames (Partition p)) (get_or t.words (latch_place o.config.frames (Partition p)) 0) id me.1 w a)
-          × map_went p (o.config.frames + p) (step slots (latch_place o.config.frames (Partition p)) 0 0 none) me (get_or t.words (latch_place o.config.frames (Partition p)) 0) (w, table.carried_after me.1 a)
+          × map_went o.config.frames p (o.config.frames + p) (step slots (latch_place o.config.frames (Partition p)) 0 0 none) me (get_or t.words (latch_place o.config.frames (Partition p)) 0) (w, table.carried_after me.1 a)
       of_value (value.Map m) home gives_it = let entries : List MapEntry = map entry_of m.items in let k : parts.TurnKind = parts.map_out entries in let w : View = view_mapped k p me.0 in
-          let a : parts.TurnAllowed k (h.state.pool.core.partition p) (hold me.0 p) = record { held = held; home = out; entries_are = gives_it } in (
+          let a : parts.TurnAllowed k (h.state.pool.core.partition p) (hold me.0 p) = record { held = held; home = out; entries_are = gives_it.found } in (
             w,
             takes (o.config.frames + p) (value.Map m),
             home,
             record {
               state = mapped k h.state id p me.0;
-              shows = shows_mapped k (set t.words (latch_place o.config.frames (Partition p)) (get_or t.words (latch_place o.config.frames (Partition p)) 0)) t h.state id p me.0 (set t.homes (o.config.frames + p) none) (set-get_or t.words (latch_place o.config.frames (Partition p)) 0) h.shows refl (length-set t.homes (o.config.frames + p) none ∙ h.shows.slots)
+              shows = shows_mapped k (set t.words (latch_place o.config.frames (Partition p)) (get_or t.words (latch_place o.config.frames (Partition p)) 0)) t h.state id p me.0 (set t.homes (o.config.frames + p) none) (set-get_or t.words (latch_place o.config.frames (Partition p)) 0) h.shows refl (length-set t.homes (o.config.frames + p) none ∙ h.shows.slots) (list_stays o t.homes (o.config.frames + p) none (omega arith) h.shows.list)
                   (λ x has home_x. dite (ℕ_discrete (slot_of o.config.frames x) (o.config.frames + p))
                   (λ e. let is : x ≡ place.Of (Partition p) = same_slot o x (place.Of (Partition p)) h.shows.fixed.few_lanes has below e in absurd (is_away (subst (λ (z : Place). is_out z w ≡ false) is (home_x id w (grid.set_here h.state.pool.core.views id me.0 w here))) entries))
                   (λ n. let other : x ≢ place.Of (Partition p) = (λ e. n (ap (slot_of o.config.frames) e)) in let old = h.shows.homes x has (home_before h.state.pool.core.views id me.0 w x here (λ e. sym (mapped_out k p me.0 x other) ∙ e) home_x) in
-                  record { value = old.value; home = set_else t.homes (o.config.frames + p) (slot_of o.config.frames x) none n ∙ old.home; gives = mapped_gives d k h.state id p me.0 x old.value other old.gives }));
+                  record { value = old.value; home = set_else t.homes (o.config.frames + p) (slot_of o.config.frames x) none n ∙ old.home; gives = mapped_gives d o k h.state id p me.0 x old.value other old.gives }));
               laws = laws_kept (map_step k h.state id p me.0 here live low a) h.laws;
             },
-            (value.Map m, entries, refl, refl, record { state = h.state; laws = h.laws; spread = h.shows.fixed.partition_of; seat = id; there = here; live = live; inside = low; allowed = a; after = refl }),
+            (value.Map m, entries, refl, (refl, gives_it.apart, gives_it.room), record { state = h.state; laws = h.laws; spread = h.shows.fixed.partition_of; seat = id; there = here; live = live; inside = low; allowed = a; after = refl }),
           )
         where
           is_away : is_out (place.Of (Partition p)) (view_mapped (parts.map_out (map entry_of m.items)) p me.0) ≡ false → List MapEntry → ⊥
@@ -167,28 +172,29 @@ module _ {L G : Type 0} (d : Devices L G) (o : Opening L G) where
       of_value (value.Page q) home gives_it = absurd gives_it
       of_value (value.Lane l) home gives_it = absurd gives_it
       of_value (value.Log g) home gives_it = absurd gives_it
+      of_value (value.Lanes l) home gives_it = absurd gives_it
       of_value value.Away home gives_it = absurd gives_it
 
   -- a step while the map is out
   shows_away : (k : parts.TurnKind) (words : List ℕ) (t : table.State (Value L G) View) (s : State) (id p : ℕ) (v : View) → words ≡ t.words → p < 128 → Shows d o t s → (parts.partition_after k (s.pool.core.partition p) (hold v p)).taken ≡ (s.pool.core.partition p).taken
       → get_elem? s.pool.core.views id ≡ some v → is_out (place.Of (Partition p)) (view_mapped k p v) ≡ true → Shows d o record { words = words; homes = t.homes; views = set t.views id (view_mapped k p v) } (mapped k s id p v)
-  shows_away k words t s id p v same below h kept there away = shows_mapped k words t s id p v t.homes same h kept h.slots (λ x has home_x. dite (ℕ_discrete (slot_of o.config.frames x) (o.config.frames + p))
+  shows_away k words t s id p v same below h kept there away = shows_mapped k words t s id p v t.homes same h kept h.slots h.list (λ x has home_x. dite (ℕ_discrete (slot_of o.config.frames x) (o.config.frames + p))
       (λ e. let is : x ≡ place.Of (Partition p) = same_slot o x (place.Of (Partition p)) h.fixed.few_lanes has below e in let no : true ≡ false = sym away ∙ subst (λ (z : Place). is_out z (view_mapped k p v) ≡ false) is (home_x id (view_mapped k p v) (grid.set_here s.pool.core.views id v (view_mapped k p v) there)) in absurd (cc))
       (λ n. let other : x ≢ place.Of (Partition p) = (λ e. n (ap (slot_of o.config.frames) e)) in let old = h.homes x has (home_before s.pool.core.views id v (view_mapped k p v) x there (λ e. sym (mapped_out k p v x other) ∙ e) home_x) in
-      record { value = old.value; home = old.home; gives = mapped_gives d k s id p v x old.value other old.gives }))
+      record { value = old.value; home = old.home; gives = mapped_gives d o k s id p v x old.value other old.gives }))
 
   -- the step by which it is home again
-  shows_home : (entries : List MapEntry) (words : List ℕ) (t : table.State (Value L G) View) (s : State) (id p : ℕ) (v : View) (y : Value L G) → words ≡ t.words → p < 128 → Shows d o t s → get_elem? s.pool.core.views id ≡ some v → GivesMap y (s.pool.core.partition p).map
+  shows_home : (entries : List MapEntry) (words : List ℕ) (t : table.State (Value L G) View) (s : State) (id p : ℕ) (v : View) (y : Value L G) → words ≡ t.words → p < 128 → Shows d o t s → get_elem? s.pool.core.views id ≡ some v → GivesMap o.config.frames y (s.pool.core.partition p).map
       → Shows d o record { words = words; homes = set t.homes (o.config.frames + p) (some y); views = set t.views id (view_mapped (parts.map_back entries) p v) } (mapped (parts.map_back entries) s id p v)
-  shows_home entries words t s id p v y same below h there gives_it = let k : parts.TurnKind = parts.map_back entries in shows_mapped k words t s id p v (set t.homes (o.config.frames + p) (some y)) same h refl (length-set t.homes (o.config.frames + p) (some y) ∙ h.slots)
+  shows_home entries words t s id p v y same below h there gives_it = let k : parts.TurnKind = parts.map_back entries in shows_mapped k words t s id p v (set t.homes (o.config.frames + p) (some y)) same h refl (length-set t.homes (o.config.frames + p) (some y) ∙ h.slots) (list_stays o t.homes (o.config.frames + p) (some y) (omega arith) h.list)
       (λ x has home_x. dite (ℕ_discrete (slot_of o.config.frames x) (o.config.frames + p))
-      (λ e. subst (λ (z : Place). HasValue d o.config.frames (set t.homes (o.config.frames + p) (some y)) (mapped k s id p v) z) (sym (same_slot o x (place.Of (Partition p)) h.fixed.few_lanes has below e)) record {
+      (λ e. subst (λ (z : Place). HasValue d o (set t.homes (o.config.frames + p) (some y)) (mapped k s id p v) z) (sym (same_slot o x (place.Of (Partition p)) h.fixed.few_lanes has below e)) record {
         value = y;
         home = set_here t.homes (o.config.frames + p) (some y) (let long = h.slots in omega arith);
-        gives = subst (λ (pt : pool.Partition). GivesMap y pt.map) (sym (put_here s.pool.core.partition p (s.pool.core.partition p))) gives_it;
+        gives = subst (λ (pt : pool.Partition). GivesMap o.config.frames y pt.map) (sym (put_here s.pool.core.partition p (s.pool.core.partition p))) gives_it;
       })
       (λ n. let other : x ≢ place.Of (Partition p) = (λ e. n (ap (slot_of o.config.frames) e)) in let old = h.homes x has (home_before s.pool.core.views id v (view_mapped k p v) x there (λ e. sym (mapped_out k p v x other) ∙ e) home_x) in
-      record { value = old.value; home = set_else t.homes (o.config.frames + p) (slot_of o.config.frames x) (some y) n ∙ old.home; gives = mapped_gives d k s id p v x old.value other old.gives }))
+      record { value = old.value; home = set_else t.homes (o.config.frames + p) (slot_of o.config.frames x) (some y) n ∙ old.home; gives = mapped_gives d o k s id p v x old.value other old.gives }))
 
 set_twice : {A : Type 0} (l : List A) (i : ℕ) (a b : A) → set (set l i a) i b ≡ set l i b
 set_twice [] i a b = refl
@@ -200,7 +206,7 @@ some_out None n = absurd (n refl)
 some_out (Some e) n = refl
 
 module _ {L G : Type 0} (d : Devices L G) (o : Opening L G) where
-  pub comes_back : (slots id p : ℕ) (me : Me (Value L G) View) (y : Value L G) (entries : List MapEntry) → p < 128 → me.0.emptied ≡ false → me.1 ≡ (slot_of o.config.frames (place.Of (Partition p)), y) ∷ rest me.1 → IsMap y entries → MayComeBack entries p me.0
+  pub comes_back : (slots id p : ℕ) (me : Me (Value L G) View) (y : Value L G) (entries : List MapEntry) → p < 128 → me.0.emptied ≡ false → me.1 ≡ (slot_of o.config.frames (place.Of (Partition p)), y) ∷ rest me.1 → IsMap o.config.frames y entries → MayComeBack entries p me.0
       → Allows (Held d o) slots id me (latch_place o.config.frames (Partition p)) (λ n. n) (map_came p entries (step slots (latch_place o.config.frames (Partition p)) 0 0 none) me)
   comes_back slots id p me y entries below live hand is may t h deep there small = of_change (hold me.0 p).change refl
     where
@@ -221,8 +227,9 @@ module _ {L G : Type 0} (d : Devices L G) (o : Opening L G) where
           of_out None e = absurd (may.out e)
           of_out (Some was) e = may.changed was e ∙ ap (map_after (hold me.0 p).change) (sym ((h.laws.invariant.pool.core.turns.cells id me.0 p here low).out was e ∙ ap (λ (b : Bool). map_now b (hold me.0 p).change (found was)) may.unchanged))
 
-      gives_of : (z : Value L G) (m : ℕ → Option ℕ) → IsMap z entries → found entries ≡ m → GivesMap z m
-      gives_of (value.Map l) m e f = ap found e ∙ f
+      gives_of : (z : Value L G) (m : ℕ → Option ℕ) → IsMap o.config.frames z entries → found entries ≡ m → GivesMap o.config.frames z m
+      gives_of (value.Map l) m e f = record { found = ap found e.0 ∙ f; apart = e.1; room = e.2 }
+      gives_of (value.Lanes l) m e f = e
       gives_of (value.Page q) m e f = e
       gives_of (value.Lane l) m e f = e
       gives_of (value.Log g) m e f = e
@@ -338,11 +345,11 @@ back_stepped entries p v w unchanged b = back_steps entries p v w (hold v p).cha
 
 module _ {L G : Type 0} (d : Devices L G) (o : Opening L G) where
   -- the seat as the exchange of the slot left it
-  pub comes_from : (slots id p : ℕ) (me me' : Me (Value L G) View) (m : Vec Mapped Global) → me' ≡ (me.0, (slot_of o.config.frames (place.Of (Partition p)), value.Map m) ∷ rest me.1) → p < 128 → me.0.emptied ≡ false → MayComeBack (map entry_of m.items) p me.0
+  pub comes_from : (slots id p : ℕ) (me me' : Me (Value L G) View) (m : Vec Mapped Global) → me' ≡ (me.0, (slot_of o.config.frames (place.Of (Partition p)), value.Map m) ∷ rest me.1) → p < 128 → me.0.emptied ≡ false → AreApart m.items × (o.config.frames ≤ vec_capacity m) → MayComeBack (map entry_of m.items) p me.0
       → Allows (Held d o) slots id me' (latch_place o.config.frames (Partition p)) (λ n. n) (map_came p (map entry_of m.items) (step slots (latch_place o.config.frames (Partition p)) 0 0 none) me')
-  comes_from slots id p me me' m e below live may = let entries : List MapEntry = map entry_of m.items in
+  comes_from slots id p me me' m e below live room may = let entries : List MapEntry = map entry_of m.items in
       subst (λ (x : Me (Value L G) View). Allows (Held d o) slots id x (latch_place o.config.frames (Partition p)) (λ n. n) (map_came p entries (step slots (latch_place o.config.frames (Partition p)) 0 0 none) x)) (sym e)
-      (comes_back d o slots id p (me.0, (slot_of o.config.frames (place.Of (Partition p)), value.Map m) ∷ rest me.1) (value.Map m) entries below live refl refl may)
+      (comes_back d o slots id p (me.0, (slot_of o.config.frames (place.Of (Partition p)), value.Map m) ∷ rest me.1) (value.Map m) entries below live refl (refl, room.0, room.1) may)
 
   -- what the seat has then, and what it is told
   pub came_from : (p : ℕ) (entries : List MapEntry) (st : table.Step (Value L G)) (me me' m' : Me (Value L G) View) (k found : ℕ) (y : Value L G) → me' ≡ (me.0, (k, y) ∷ rest me.1) → map_came p entries st me' found m' → (m'.1 ≡ rest me.1) × ComesBack entries p me.0 m'.0 (hold me.0 p).change

@@ -19,15 +19,15 @@ use Rattle.history_core.specs.Steps.{pools}
 use Rattle.grid.proofs.Lists.{set_else, at_longer}
 use Rattle.history_core.specs.Laws.{Laws}
 use Rattle.history_core.proofs.Laws.{laws_kept}
-use Rattle.frame_table.specs.declared.value.Value.{Value}
-use Rattle.frame_table.specs.declared.opening.Opening.{Opening}
-use Rattle.frame_table.specs.declared.turn.Place.{Place}
-use Rattle.frame_table.specs.declared.turn.Place.TheVariants as place
-use Rattle.frame_table.specs.declared.turn.Turn.{Turn}
-use Rattle.frame_table.specs.declared.turn.Turn.TheVariants as turn
-use Rattle.frame_table.specs.Shows.{IsOpened, is_out, HasPlace, is_taken, IsHome, Devices, Shows, Held}
+use Rattle.table_rule.specs.declared.value.Value.{Value}
+use Rattle.table_rule.specs.declared.opening.Opening.{Opening}
+use Rattle.table_rule.specs.declared.turn.Place.{Place}
+use Rattle.table_rule.specs.declared.turn.Place.TheVariants as place
+use Rattle.table_rule.specs.declared.turn.Turn.{Turn}
+use Rattle.table_rule.specs.declared.turn.Turn.TheVariants as turn
+use Rattle.table_rule.specs.Shows.{IsOpened, is_out, HasPlace, is_taken, IsHome, Devices, Shows, Held}
 use Rattle.frame_table.specs.Tells.{kept_view, split_view}
-use Rattle.frame_table.proofs.Frames.{lane_none, gives_same, same_out, home_before}
+use Rattle.frame_table.proofs.Frames.{lane_none, device_none, gives_same, same_out, home_before}
 
 module _ {L G : Type 0} (d : Devices L G) (o : Opening L G) where
   -- the state where the views are others, and nothing else
@@ -42,14 +42,15 @@ module _ {L G : Type 0} (d : Devices L G) (o : Opening L G) where
   -- The table shows it, where no value comes home by it
   shows_views : (t : table.State (Value L G) View) (s : State) (views : List View) → Shows d o t s → ((x : Place) → HasPlace o x → IsHome x views → IsHome x s.pool.core.views) → Shows d o (record t { views = views }) (with_views s views)
   shows_views t s views h home = record {
-    fixed = let f = h.fixed in record { frames = f.frames; backends = f.backends; base = f.base; partitions = f.partitions; partition_of = f.partition_of; is_block = f.is_block; lanes = f.lanes; lane_of = f.lane_of; few_backends = f.few_backends; few_lanes = f.few_lanes; origin = f.origin; reads = f.reads; writes = f.writes };
+    fixed = let f = h.fixed in record { frames = f.frames; backends = f.backends; base = f.base; partitions = f.partitions; partition_of = f.partition_of; is_block = f.is_block; names = f.names; lanes = f.lanes; lane_of = f.lane_of; few_backends = f.few_backends; few_lanes = f.few_lanes; known = f.known; origin = f.origin; reads = f.reads; writes = f.writes; log_faults = f.log_faults };
     words = h.words;
     slots = h.slots;
     views = refl;
     frame = h.frame;
     latches = let l = h.latches in record { latch = λ x has. l.latch x has ∙ ap flag_weight (taken_stays s views x); end = l.end; flushed = l.flushed; hand = l.hand };
     homes = λ x inside none_out. let old = h.homes x inside (home x inside none_out) in
-        record { value = old.value; home = old.home; gives = gives_same d o s (with_views s views) (record { page = λ f. refl; map = λ p. refl; count = refl; lane = λ q. lane_none (s.lane q) }) x old.value old.gives };
+        record { value = old.value; home = old.home; gives = gives_same d o s (with_views s views) (record { page = λ f. refl; map = λ p. refl; count = refl; lane = λ q. lane_none (s.lane q); device = device_none s.device }) x old.value old.gives };
+    list = h.list;
   }
 
   pub splits_there : (base id : ℕ) (v : View) → base ≡ o.base → id ≡ 0 → v.next < o.config.backends → Splits (Held d o) id v (kept_view v) (split_view base v)

@@ -27,18 +27,18 @@ use Rattle.history_core.specs.Lanes as lanes
 use Rattle.history_core.specs.Steps.{Step, pools}
 use Rattle.history_core.specs.Steps as steps
 use Rattle.grid.proofs.Lists.{put_here, put_else, put_at}
-use Rattle.frame_table.specs.declared.value.Value.{Value}
-use Rattle.frame_table.specs.declared.opening.Opening.{Opening}
-use Rattle.frame_table.specs.declared.turn.Place.{Place}
-use Rattle.frame_table.specs.declared.turn.Place.TheVariants as place
-use Rattle.frame_table.specs.declared.turn.Turn.{Turn}
-use Rattle.frame_table.specs.declared.turn.Turn.TheVariants.{Partition, Lane, Log}
-use Rattle.frame_table.specs.Layout.{latch_place}
+use Rattle.table_rule.specs.declared.value.Value.{Value}
+use Rattle.table_rule.specs.declared.opening.Opening.{Opening}
+use Rattle.table_rule.specs.declared.turn.Place.{Place}
+use Rattle.table_rule.specs.declared.turn.Place.TheVariants as place
+use Rattle.table_rule.specs.declared.turn.Turn.{Turn}
+use Rattle.table_rule.specs.declared.turn.Turn.TheVariants.{Partition, Lane, Log}
+use Rattle.table_rule.specs.Layout.{latch_place}
 use Rattle.history_core.specs.Laws.{Laws}
-use Rattle.frame_table.specs.Shows.{ShowsFrame, ShowsLatches, is_taken, HasTurn, is_out, IsHome, Devices, IsOpened, Shows, Held}
+use Rattle.table_rule.specs.Shows.{ShowsFrame, ShowsLatches, is_taken, HasTurn, is_out, IsHome, Devices, IsOpened, Shows, Held}
 use Rattle.frame_table.specs.Turning.{MayLeave, TurnAllowed, IsInside, part_kind, lane_kind, log_kind, view_turned, state_turned, turn_event, DidTurn, SameWork, IsTurned, took, left}
 use Rattle.history_core.proofs.Laws.{laws_kept}
-use Rattle.frame_table.proofs.Frames.{frame_else, put_keeps, same_at, home_before, SameLane, lane_none, SameValues, gives_same}
+use Rattle.frame_table.proofs.Frames.{frame_else, put_keeps, same_at, home_before, SameLane, SameDevice, lane_none, device_none, SameValues, gives_same}
 
 -- what a step at a latch leaves, and what it makes of it
 turned_frame : (takes : Bool) (x : Turn) (s : State) (i : ℕ) (v : View) (f : ℕ) → (state_turned takes x s i v).pool.core.frame f ≡ s.pool.core.frame f
@@ -140,9 +140,15 @@ turn_step d o false (Lane q) s i v h has there live a = steps.lanes i q (lane_ki
 turn_step d o true Log s i v h has there live a = steps.logs i (log_kind true) v there live (record { free = a }) tt
 turn_step d o false Log s i v h has there live a = steps.logs i (log_kind false) v there live (record { held = a.0; home = a.1; entered = a.2 }) tt
 
+turned_device : (takes : Bool) (x : Turn) (s : State) (i : ℕ) (v : View) → SameDevice s.device (state_turned takes x s i v).device
+turned_device takes (Partition p) s i v = device_none s.device
+turned_device takes (Lane q) s i v = device_none s.device
+turned_device true Log s i v = record { bytes = refl; synced = refl; faults = refl; down = refl }
+turned_device false Log s i v = record { bytes = refl; synced = refl; faults = refl; down = refl }
+
 module _ {L G : Type 0} (d : Devices L G) (o : Opening L G) where
   fixed_turned : (takes : Bool) (x : Turn) (s : State) (i : ℕ) (v : View) → IsOpened d o s → IsOpened d o (state_turned takes x s i v)
-  fixed_turned takes (Partition p) s i v h = record { frames = h.frames; backends = h.backends; base = h.base; partitions = h.partitions; partition_of = h.partition_of; is_block = h.is_block; lanes = h.lanes; lane_of = h.lane_of; few_backends = h.few_backends; few_lanes = h.few_lanes; origin = h.origin; reads = h.reads; writes = h.writes }
+  fixed_turned takes (Partition p) s i v h = record { frames = h.frames; backends = h.backends; base = h.base; partitions = h.partitions; partition_of = h.partition_of; is_block = h.is_block; names = h.names; lanes = h.lanes; lane_of = h.lane_of; few_backends = h.few_backends; few_lanes = h.few_lanes; known = h.known; origin = h.origin; reads = h.reads; writes = h.writes; log_faults = h.log_faults }
   fixed_turned takes (Lane q) s i v h = record {
     frames = h.frames;
     backends = h.backends;
@@ -150,18 +156,21 @@ module _ {L G : Type 0} (d : Devices L G) (o : Opening L G) where
     partitions = h.partitions;
     partition_of = h.partition_of;
     is_block = h.is_block;
+    names = h.names;
     lanes = h.lanes;
     lane_of = h.lane_of;
     few_backends = h.few_backends;
     few_lanes = h.few_lanes;
+    known = h.known;
     origin = h.origin;
     reads = λ r l at. (turned_lane takes (Lane q) s i v r).reads_at_start ∙ h.reads r l at;
     writes = λ r l at. (turned_lane takes (Lane q) s i v r).writes_at_start ∙ h.writes r l at;
+    log_faults = h.log_faults;
   }
-  fixed_turned takes Log s i v h = record { frames = h.frames; backends = h.backends; base = h.base; partitions = h.partitions; partition_of = h.partition_of; is_block = h.is_block; lanes = h.lanes; lane_of = h.lane_of; few_backends = h.few_backends; few_lanes = h.few_lanes; origin = h.origin; reads = h.reads; writes = h.writes }
+  fixed_turned takes Log s i v h = record { frames = h.frames; backends = h.backends; base = h.base; partitions = h.partitions; partition_of = h.partition_of; is_block = h.is_block; names = h.names; lanes = h.lanes; lane_of = h.lane_of; few_backends = h.few_backends; few_lanes = h.few_lanes; known = h.known; origin = h.origin; reads = h.reads; writes = h.writes; log_faults = h.log_faults }
 
   turned_values : (takes : Bool) (x : Turn) (s : State) (i : ℕ) (v : View) → SameValues d o s (state_turned takes x s i v)
-  turned_values takes x s i v = record { page = λ f. ap (λ (fr : Frame). fr.page) (turned_frame takes x s i v f); map = turned_map takes x s i v; count = turned_count takes x s i v; lane = turned_lane takes x s i v }
+  turned_values takes x s i v = record { page = λ f. ap (λ (fr : Frame). fr.page) (turned_frame takes x s i v f); map = turned_map takes x s i v; count = turned_count takes x s i v; lane = turned_lane takes x s i v; device = turned_device takes x s i v }
     where
       turned_count : (takes : Bool) (x : Turn) (s : State) (i : ℕ) (v : View) → (state_turned takes x s i v).lanes ≡ s.lanes
       turned_count takes (Partition p) s i v = refl
@@ -226,6 +235,7 @@ module _ {L G : Type 0} (d : Devices L G) (o : Opening L G) where
     latches = turned_latches takes x t.words s id v few has (let l = low.1 in let wide = h.words in omega arith) h.latches;
     homes = λ y inside home. let old = h.homes y inside (home_before s.pool.core.views id v w y there (λ e. sym (turned_out takes x s v y) ∙ e) (subst (IsHome y) (turned_views takes x s id v) home)) in
         record { value = old.value; home = old.home; gives = gives_same d o s (state_turned takes x s id v) (turned_values takes x s id v) y old.value old.gives };
+    list = h.list;
   }
 
   is_inside : (x : Turn) (s : State) → IsOpened d o s → HasTurn o.config.lanes x → IsInside x s

@@ -12,8 +12,8 @@ use Rattle.history_core.specs.State.{State, next_hand}
 use Rattle.history_core.specs.Laws.{Laws}
 use Rattle.history_core.specs.Steps as steps
 use Rattle.history_core.specs.Steps.{Event, aside, stepped, looked, has_loaded, has_begun, has_read}
-use Rattle.frame_table.specs.declared.value.Value.{Value}
-use Rattle.frame_table.specs.Layout.{end_place, flushed_place, hand_place}
+use Rattle.table_rule.specs.declared.value.Value.{Value}
+use Rattle.table_rule.specs.Layout.{end_place, flushed_place, hand_place}
 
 pub data WordKind : Type 0 where
   -- the log's end is loaded; as the place of a read of the page that was copied from a frame; as the start of a checkpoint

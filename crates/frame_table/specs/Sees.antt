@@ -3,6 +3,7 @@ use Rattle.std.specs.Prelude.{◌≡◌, ◌≢◌, ℕ, ◌<◌, Bool, true, fa
 use Rattle.state_word.specs.declared.word.StateWord.{StateWord}
 use Rattle.state_word.specs.Fields.{fields}
 use Rattle.block_tag.specs.declared.tag.Tag.{Tag}
+use Rattle.block_tag.specs.declared.catalogue.RelEntry.{RelEntry}
 use Rattle.block_tag.specs.Names.{names_block, packed_tag, partition_number}
 use Rattle.atomic_table.specs.declared.shared.Seat.{Seat}
 use Rattle.pin_core.specs.declared.view.View.{View}
@@ -16,11 +17,12 @@ use Rattle.pin_core.specs.State.{link, hold, no_tag}
 use Rattle.pin_core.specs.declared.view.PartitionHold.{PartitionHold}
 use Rattle.pin_core.specs.Kinds.{tag_after, holds_naming}
 use Rattle.pin_core.specs.Turns.{found}
-use Rattle.frame_table.specs.declared.value.Value.{Value}
+use Rattle.table_rule.specs.declared.value.Value.{Value}
 use Rattle.frame_table.specs.declared.table.FrameTable.{FrameTable}
-use Rattle.frame_table.specs.declared.turn.Turn.{Turn}
-use Rattle.frame_table.specs.Layout.{tag_partition}
-use Rattle.frame_table.specs.Shows.{HasTurn}
+use Rattle.table_rule.specs.declared.turn.Turn.{Turn}
+use Rattle.table_rule.specs.Blocks.{has_block}
+use Rattle.table_rule.specs.Layout.{tag_partition}
+use Rattle.table_rule.specs.Shows.{HasTurn}
 
 -- What a view keeps of itself over a step at a frame
 pub record SameSelf (v w : View) : Type 0 where
@@ -138,9 +140,10 @@ pub record Finds (v : View) (tag f : ℕ) : Type 0 where
   pub out : (hold v (tag_partition tag)).out ≢ None
   pub finds : (entries : List MapEntry) → (hold v (tag_partition tag)).out ≡ Some entries → found entries tag ≡ Some f
 
--- A tag may be stored: it names a block, the frame has none, and the map of its partition lacks it
-pub record CanStore (tag : Tag) (v : View) (f : ℕ) : Type 0 where
+-- A tag may be stored: it is of a block of the relations, the frame has none, and the map of its partition lacks it
+pub record CanStore (relations : List RelEntry) (tag : Tag) (v : View) (f : ℕ) : Type 0 where
   pub named : names_block tag ≡ true
+  pub listed : has_block relations tag ≡ true
   pub word : HoldsWord (HasFlag false) (link v f)
   pub latch : MayChange v (partition_number tag)
   pub map : Lacks v (packed_tag tag)
@@ -151,9 +154,9 @@ pub record CanErase (v : View) (f : ℕ) : Type 0 where
   pub latch : (tag : ℕ) → (link v f).tag ≡ Some tag → MayChange v (tag_partition tag)
   pub word : HoldsWord (λ w. w.dirty ≡ false) (link v f)
 
-abbrev pub CanStoreAs : Option Tag → View → ℕ → Type 0
-CanStoreAs None v f = CanErase v f
-CanStoreAs (Some tag) v f = CanStore tag v f
+abbrev pub CanStoreAs : List RelEntry → Option Tag → View → ℕ → Type 0
+CanStoreAs relations None v f = CanErase v f
+CanStoreAs relations (Some tag) v f = CanStore relations tag v f
 
 -- The view has stored the tag word under the header, and the frame has BM_TAG_VALID or hasn't
 pub record HasStored (flag : Bool) (l : Link) : Type 0 where
@@ -205,6 +208,9 @@ pub record Touches (f : ℕ) (v w : View) : Type 0 where
 module _ {L G : Type 0} where
   abbrev pub frames_of : FrameTable L G → ℕ
   frames_of t = t.table.shared.key.config.frames
+
+  abbrev pub relations_of : FrameTable L G → List RelEntry
+  relations_of t = t.table.shared.key.catalog.value
 
   -- the seat is one of the table
   abbrev pub Fits : FrameTable L G → Seat (Value L G) View → Type 0

@@ -11,10 +11,10 @@ use Rattle.pin_core.specs.State.{Frame, new_view}
 use Rattle.pin_core.specs.Kinds as pin
 use Rattle.history_core.specs.State.{State}
 use Rattle.history_core.specs.Laws.{Laws}
-use Rattle.frame_table.specs.declared.value.Value.{Value}
+use Rattle.table_rule.specs.declared.value.Value.{Value}
 use Rattle.frame_table.specs.declared.pin.TryPin.{TryPin}
 use Rattle.frame_table.specs.declared.pin.TryPin.TheVariants.{Locked, Untagged, Changed}
-use Rattle.frame_table.specs.Layout.{state_place, tag_place, content_place, tag_partition}
+use Rattle.table_rule.specs.Layout.{state_place, tag_place, content_place, tag_partition}
 use Rattle.frame_table.specs.Kinds.{Part, state_word, tag_word, content_word, FrameKind, pins, part_of, load_of, IsAllowed, IsAllowedAround, view_after}
 
 abbrev pub has_locked : ℕ → Bool

@@ -1,5 +1,5 @@
 -- The steps at latches: where they are allowed, and what they make of the state.
-use Rattle.std.specs.Prelude.{◌≡◌, ◌≢◌, ℕ, ◌<◌, Bool, true, false, List, ◌∷◌, map, Some, None}
+use Rattle.std.specs.Prelude.{◌≡◌, ◌≢◌, ℕ, ◌<◌, ◌≤◌, vec_capacity, Bool, true, false, List, ◌∷◌, map, Some, None}
 use mathlib.Core.Option.{some}
 use lib.ListN.{get_elem?}
 use Rattle.atomic_table.specs.Table.{Me, Step, rest}
@@ -18,13 +18,13 @@ use Rattle.history_core.specs.Device as logs
 use Rattle.history_core.specs.Steps.{Event, aside, stepped, laned}
 use Rattle.history_core.specs.Steps as steps
 use Rattle.grid.specs.Shape.{put}
-use Rattle.frame_table.specs.declared.value.Value.{Value}
-use Rattle.frame_table.specs.declared.value.Value.TheVariants as value
-use Rattle.frame_table.specs.Layout.{tag_partition}
-use Rattle.frame_table.specs.declared.turn.Turn.{Turn}
-use Rattle.frame_table.specs.declared.turn.Turn.TheVariants.{Partition, Lane, Log}
+use Rattle.table_rule.specs.declared.value.Value.{Value}
+use Rattle.table_rule.specs.declared.value.Value.TheVariants as value
+use Rattle.table_rule.specs.Layout.{tag_partition}
+use Rattle.table_rule.specs.declared.turn.Turn.{Turn}
+use Rattle.table_rule.specs.declared.turn.Turn.TheVariants.{Partition, Lane, Log}
 use Rattle.history_core.specs.Laws.{Laws}
-use Rattle.frame_table.specs.Shows.{is_taken, entry_of}
+use Rattle.table_rule.specs.Shows.{is_taken, AreApart, entry_of}
 
 -- whether a view has the latch
 abbrev pub has_turn : Turn → View → Bool
@@ -148,14 +148,14 @@ pub record MayComeBack (entries : List MapEntry) (p : ℕ) (v : View) : Type 0 w
   pub changed : (was : List MapEntry) → (hold v p).out ≡ Some was → parts.found entries ≡ parts.map_after (hold v p).change (parts.found was)
 
 module _ {L G : Type 0} where
-  -- the value is a map with these entries
-  abbrev pub IsMap : Value L G → List MapEntry → Type 0
-  IsMap (value.Map m) entries = map entry_of m.items ≡ entries
-  IsMap _ entries = ⊥
+  -- the value is a map with these entries, no tag twice, and room for n of them
+  abbrev pub IsMap : ℕ → Value L G → List MapEntry → Type 0
+  IsMap n (value.Map m) entries = (map entry_of m.items ≡ entries) × AreApart m.items × (n ≤ vec_capacity m)
+  IsMap n _ entries = ⊥
 
-  -- the map went out with the seat, from this slot
-  abbrev pub map_went : ℕ → ℕ → Step (Value L G) → Me (Value L G) View → ℕ → Me (Value L G) View → Type 0
-  map_went p slot st m found m' = (y : Value L G) × (entries : List MapEntry) × (m'.1 ≡ (slot, y) ∷ m.1) × IsMap y entries × DidMap (parts.map_out entries) p m.0 m'.0
+  -- the map went out with the seat, from this slot, in a table of n frames
+  abbrev pub map_went : ℕ → ℕ → ℕ → Step (Value L G) → Me (Value L G) View → ℕ → Me (Value L G) View → Type 0
+  map_went n p slot st m found m' = (y : Value L G) × (entries : List MapEntry) × (m'.1 ≡ (slot, y) ∷ m.1) × IsMap n y entries × DidMap (parts.map_out entries) p m.0 m'.0
 
   abbrev pub map_came : ℕ → List MapEntry → Step (Value L G) → Me (Value L G) View → ℕ → Me (Value L G) View → Type 0
   map_came p entries st m found m' = (m'.1 ≡ rest m.1) × ComesBack entries p m.0 m'.0 (hold m.0 p).change

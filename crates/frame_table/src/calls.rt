@@ -10,22 +10,22 @@ ghost use Rattle.frame_table.specs.Kinds.{pins};
 ghost use Rattle.frame_table.specs.Sees.{CanStep, CanUnpin, Holds, Looked, SameSeat, Touches, locked_link, pinned_link, unlocked_link, unpinned_link};
 ghost use Rattle.frame_table.specs.Tells.{Did, Looks, Refuses, Tried, chosen, has_locked, has_tag, if_found, if_unlocked, looking};
 
-use crate::layout::state_place;
 use crate::pin::{Pin, TryPin};
 use crate::plays::{Does, LockHeader, Look, Step, UnlockHeader, Unpin};
 use crate::table::FrameTable;
-use crate::value::Value;
 use atomic_table::Seat;
+use log_device::LogDevice;
 use pin_core::View;
 use segment_store::BlockLane;
 use state_word::{Flag, has, locked, pinned, unpinned};
 use std::marker::Brand;
 use std::sync::Wait;
+use table_rule::{Value, state_place};
 
 /// The bit of a locked header.
 const LOCKED: u64 = 1 << 22;
 
-impl<L: BlockLane, G> FrameTable<L, G> {
+impl<L: BlockLane, G: LogDevice> FrameTable<L, G> {
     /// The state word of a frame.
     pub fn look(&self, seat: &mut Seat<Value<L, G>, View>, frame: u32) -> u64
         requires { CanStep self.now seat.old frame }

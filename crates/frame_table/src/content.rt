@@ -10,15 +10,15 @@ ghost use Rattle.frame_table.specs.Content.{CanDropCopy, CanDropExclusive, CanDr
 
 use crate::content_plays::{Exclude, LeaveCopy, LookContent, Share, TakeCopy, Unexclude, Unshare};
 use crate::content_word::{COPYING, EXCLUSIVE};
-use crate::layout::content_place;
 use crate::plays::Step;
 use crate::table::FrameTable;
-use crate::value::Value;
 use atomic_table::Seat;
+use log_device::LogDevice;
 use pin_core::View;
 use segment_store::BlockLane;
+use table_rule::{Value, content_place};
 
-impl<L: BlockLane, G> FrameTable<L, G> {
+impl<L: BlockLane, G: LogDevice> FrameTable<L, G> {
     /// The content word of a frame.
     pub fn look_content(&self, seat: &mut Seat<Value<L, G>, View>, frame: u32) -> u64
         requires { CanStep self.now seat.old frame }

@@ -9,20 +9,20 @@ ghost use Rattle.pin_core.specs.State.{hold, link};
 ghost use Rattle.pin_core.specs.Kinds as kinds;
 ghost use Rattle.pin_core.specs.Steps.{HasNoVictim};
 ghost use Rattle.frame_table.specs.Kinds.{pins};
-ghost use Rattle.frame_table.specs.Sees.{CanErase, CanStep, CanStore, CanStoreAs, HasRoom, HasStored, HoldsWord, IsAlone, IsUsed, Looked, SameSeat, Stores, Touches, assigned_link, cleared_link, partitions_stored, read_link, stored_link, tag_word, unlocked_link, victim_link};
+ghost use Rattle.frame_table.specs.Sees.{CanErase, CanStep, CanStore, CanStoreAs, HasRoom, HasStored, HoldsWord, IsAlone, IsUsed, Looked, SameSeat, Stores, Touches, assigned_link, cleared_link, partitions_stored, read_link, relations_of, stored_link, tag_word, unlocked_link, victim_link};
 ghost use Rattle.frame_table.specs.Tells.{Did, DidHeld, always, storing};
 
-use crate::layout::{state_place, tag_place};
 use crate::pin::Pin;
 use crate::plays::{Assign, Clear, Does, EraseTag, LoadTag, LowerUsage, Step, VictimPin};
 use crate::table::FrameTable;
-use crate::value::Value;
 use atomic_table::Seat;
 use block_tag::Tag;
+use log_device::LogDevice;
 use pin_core::View;
 use segment_store::BlockLane;
 use state_word::{assigned, cleared, unlock_with, usage_down};
 use std::marker::Brand;
+use table_rule::{Value, state_place, tag_place};
 
 /// The tag word of a frame without a tag.
 const NO_TAG: u64 = u64::MAX;
@@ -35,7 +35,7 @@ fn victim_pinned(word: u64) -> u64
     unlock_with(word + 1)
 }
 
-impl<L: BlockLane, G> FrameTable<L, G> {
+impl<L: BlockLane, G: LogDevice> FrameTable<L, G> {
     /// The tag of a frame that the backend pins, or whose header it holds.
     pub fn load_tag(&self, seat: &mut Seat<Value<L, G>, View>, frame: u32) -> Option<Tag>
         requires seat { CanStep self.now seat.old frame }
@@ -97,7 +97,7 @@ impl<L: BlockLane, G> FrameTable<L, G> {
         requires packed { (packed ≡ packed_tag _tag) × (unpacked_tag packed ≡ Some _tag) }
         requires seat { CanStep self.now seat.old frame }
         requires alone { IsAlone (link seat.old.me.0 frame) }
-        requires tag { CanStore _tag seat.old.me.0 frame }
+        requires tag { CanStore (relations_of self.now) _tag seat.old.me.0 frame }
         ensures seat { SameSeat seat.old seat.new }
         ensures did { (now : ℕ) × Did (storing (Some _tag)) frame seat.old.me.0 seat.new.me.0 now }
     {
@@ -123,7 +123,7 @@ impl<L: BlockLane, G> FrameTable<L, G> {
     pub fn store_tag(&self, seat: &mut Seat<Value<L, G>, View>, frame: u32, tag: Option<Tag>)
         requires seat { CanStep self.now seat.old frame }
         requires alone { IsAlone (link seat.old.me.0 frame) }
-        requires tag { CanStoreAs tag seat.old.me.0 frame }
+        requires tag { CanStoreAs (relations_of self.now) tag seat.old.me.0 frame }
         ensures seat { SameSeat seat.old seat.new }
         ensures stores { Stores frame seat.old.me.0 seat.new.me.0 }
         ensures stored { link seat.new.me.0 frame ≡ stored_link (link seat.old.me.0 frame) }

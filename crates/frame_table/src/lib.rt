@@ -5,35 +5,27 @@
 
 mod build;
 mod calls;
-mod config;
 mod content;
 mod content_plays;
 mod content_word;
 mod headers;
 mod io_right;
-mod layout;
 mod log_words;
 mod mapped;
 mod maps;
-mod opening;
 mod pin;
 mod plays;
 mod rights;
-mod rule;
 mod seats;
 mod table;
-mod turn;
 mod turns;
-mod value;
 mod word_plays;
 
-pub use config::Config;
 pub use content_word::{is_copying, is_exclusive, sharers};
 pub use io_right::IoRight;
 pub use log_words::EndLoad;
-pub use opening::Opening;
 pub use pin::{Pin, TryPin};
-pub use rule::Rule;
 pub use table::{BuildRefused, FrameTable};
-pub use turn::{Place, Turn};
-pub use value::{Mapped, Value};
+pub use table_rule::{
+    Config, LaneCall, LogCall, Mapped, NotedLane, NotedLog, Opening, Place, Rule, Turn, Value,
+};

@@ -4,14 +4,14 @@ ghost use Rattle.frame_table.specs.Behind.{DidWord, add_hand, load_flushed, load
 ghost use Rattle.frame_table.specs.EndLoads.{IsEndAllowed, end_kind};
 ghost use Rattle.frame_table.specs.Sees.{IsSeat, SameSeat, frames_of};
 
-use crate::layout::{end_place, flushed_place, hand_place};
 use crate::table::FrameTable;
-use crate::value::Value;
 use crate::word_plays::{AddHand, LoadFlushed, LoadHand, RaiseFlushed, StepAt, StepsAt};
 use atomic_table::Seat;
+use log_device::LogDevice;
 use pin_core::View;
 use segment_store::BlockLane;
 use std::marker::Brand;
+use table_rule::{Value, end_place, flushed_place, hand_place};
 
 /// What the log's end is loaded for.
 #[derive(Clone, Copy, PartialEq, Eq, Debug)]
@@ -23,7 +23,7 @@ pub enum EndLoad {
     Checkpoint,
 }
 
-impl<L: BlockLane, G> FrameTable<L, G> {
+impl<L: BlockLane, G: LogDevice> FrameTable<L, G> {
     fn end_at<D: StepsAt>(&self, seat: &mut Seat<Value<L, G>, View>, _what: EndLoad) -> u64
         requires kind { D.kind ≡ end_kind _what }
         requires seat { IsSeat self.now seat.old }

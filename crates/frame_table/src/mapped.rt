@@ -9,20 +9,20 @@ ghost use Rattle.frame_table.specs.Kinds.{pins};
 ghost use Rattle.frame_table.specs.Sees.{CanStep, Finds, Looked, SameSeat, Touches, mapped_link};
 ghost use Rattle.frame_table.specs.Tells.{Did, Tried, chosen, has_locked, if_found};
 
-use crate::layout::state_place;
 use crate::pin::Pin;
 use crate::plays::{Does, Step};
 use crate::table::FrameTable;
-use crate::value::Value;
 use atomic_table::Seat;
 use block_tag::Tag;
+use log_device::LogDevice;
 use pin_core::View;
 use segment_store::BlockLane;
 use state_word::{Flag, has, pinned};
 use std::marker::Brand;
 use std::sync::Wait;
+use table_rule::{Value, state_place};
 
-impl<L: BlockLane, G> FrameTable<L, G> {
+impl<L: BlockLane, G: LogDevice> FrameTable<L, G> {
     fn swap_mapped<D: Does>(
         &self,
         seat: &mut Seat<Value<L, G>, View>,

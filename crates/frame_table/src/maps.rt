@@ -1,27 +1,27 @@
 //! The maps of the partitions.
-ghost use Rattle.std.specs.Prelude.{◌≡◌, ◌∷◌, List, map, true, None};
+ghost use Rattle.std.specs.Prelude.{◌≡◌, ◌≤◌, ◌∷◌, List, map, true, vec_capacity, None};
 ghost use Rattle.atomic_table.specs.Table.{rest};
 ghost use Rattle.pin_core.specs.declared.view.MapEntry.{MapEntry};
 ghost use Rattle.pin_core.specs.State.{hold};
 ghost use Rattle.pin_core.specs.Turns as parts;
-ghost use Rattle.frame_table.specs.declared.turn.Turn.TheVariants.{Partition};
-ghost use Rattle.frame_table.specs.declared.turn.Place.TheVariants.{Of};
-ghost use Rattle.frame_table.specs.declared.value.Value.TheVariants as value;
-ghost use Rattle.frame_table.specs.Layout.{latch_place, slot_of};
-ghost use Rattle.frame_table.specs.Shows.{entry_of};
+ghost use Rattle.table_rule.specs.declared.turn.Turn.TheVariants.{Partition};
+ghost use Rattle.table_rule.specs.declared.turn.Place.TheVariants.{Of};
+ghost use Rattle.table_rule.specs.declared.value.Value.TheVariants as value;
+ghost use Rattle.table_rule.specs.Layout.{latch_place, slot_of};
+ghost use Rattle.table_rule.specs.Shows.{AreApart, entry_of};
 ghost use Rattle.frame_table.specs.Sees.{CanTurn, frames_of};
 ghost use Rattle.frame_table.specs.Turning.{ComesBack, DidMap, IsMap, MapStep, MayComeBack, SameWork, back_hold, out_hold};
 
 use crate::plays::{AtMap, MapBack, MapOut};
 use crate::table::FrameTable;
-use crate::turn::Turn;
-use crate::value::{Mapped, Value};
 use atomic_table::Seat;
+use log_device::LogDevice;
 use pin_core::View;
 use segment_store::BlockLane;
 use std::marker::Brand;
+use table_rule::{Mapped, Turn, Value};
 
-impl<L: BlockLane, G> FrameTable<L, G> {
+impl<L: BlockLane, G: LogDevice> FrameTable<L, G> {
     /// The slot of a partition's map.
     fn map_slot(&self, partition: u32) -> usize
         ensures { result ≡ slot_of (frames_of self.now) (Of (Partition partition)) }
@@ -36,13 +36,13 @@ impl<L: BlockLane, G> FrameTable<L, G> {
         place: usize,
         slot: usize,
     ) -> Value<L, G>
-        requires known { (D.partition ≡ _partition) × (D.slot ≡ slot) }
+        requires known { (D.frames ≡ frames_of self.now) × (D.partition ≡ _partition) × (D.slot ≡ slot) }
         requires place { (place ≡ latch_place (frames_of self.now) (Partition _partition)) × (slot ≡ slot_of (frames_of self.now) (Of (Partition _partition))) }
         requires seat { CanTurn self.now seat.old (Partition _partition) }
         requires held { ((hold seat.old.me.0 _partition).held ≡ true) × ((hold seat.old.me.0 _partition).out ≡ None) }
         ensures seat { (seat.new.table_id ≡ seat.old.table_id) × (seat.new.id ≡ seat.old.id) }
         ensures hand { seat.new.me.1 ≡ (slot, value.Away) ∷ seat.old.me.1 }
-        ensures map { (entries : List MapEntry) × IsMap result entries × DidMap (parts.map_out entries) _partition seat.old.me.0 seat.new.me.0 }
+        ensures map { (entries : List MapEntry) × IsMap (frames_of self.now) result entries × DidMap (parts.map_out entries) _partition seat.old.me.0 seat.new.me.0 }
     {
         self.table.shared.load::<MapOut<D>>(seat, place);
         self.table.shared.exchange(seat, slot, Value::Away)
@@ -54,6 +54,8 @@ impl<L: BlockLane, G> FrameTable<L, G> {
         requires held { ((hold seat.old.me.0 partition).held ≡ true) × ((hold seat.old.me.0 partition).out ≡ None) }
         ensures seat { (seat.new.table_id ≡ seat.old.table_id) × (seat.new.id ≡ seat.old.id) }
         ensures hand { seat.new.me.1 ≡ (slot_of (frames_of self.now) (Of (Partition partition)), value.Away) ∷ seat.old.me.1 }
+        ensures apart { AreApart result.items }
+        ensures room { frames_of self.now ≤ vec_capacity result }
         ensures work { SameWork seat.old.me.0 seat.new.me.0 }
         ensures out { MapStep partition (out_hold (map entry_of result.items) (hold seat.old.me.0 partition)) seat.old.me.0 seat.new.me.0 }
         ensures did { DidMap (parts.map_out (map entry_of result.items)) partition seat.old.me.0 seat.new.me.0 }
@@ -78,6 +80,7 @@ impl<L: BlockLane, G> FrameTable<L, G> {
         requires place { (place ≡ latch_place (frames_of self.now) (Partition _partition)) × (slot ≡ slot_of (frames_of self.now) (Of (Partition _partition))) }
         requires seat { CanTurn self.now seat.old (Partition _partition) }
         requires hand { seat.old.me.1 ≡ (slot, value.Away) ∷ rest seat.old.me.1 }
+        requires apart { AreApart entries.items × (frames_of self.now ≤ vec_capacity entries) }
         requires may { MayComeBack (map entry_of entries.items) _partition seat.old.me.0 }
         ensures seat { (seat.new.table_id ≡ seat.old.table_id) × (seat.new.id ≡ seat.old.id) }
         ensures hand { seat.new.me.1 ≡ rest seat.old.me.1 }
@@ -92,6 +95,8 @@ impl<L: BlockLane, G> FrameTable<L, G> {
     pub fn map_back(&self, seat: &mut Seat<Value<L, G>, View>, partition: u32, entries: Vec<Mapped>)
         requires seat { CanTurn self.now seat.old (Partition partition) }
         requires hand { seat.old.me.1 ≡ (slot_of (frames_of self.now) (Of (Partition partition)), value.Away) ∷ rest seat.old.me.1 }
+        requires apart { AreApart entries.items }
+        requires room { frames_of self.now ≤ vec_capacity entries }
         requires may { MayComeBack (map entry_of entries.items) partition seat.old.me.0 }
         ensures seat { (seat.new.table_id ≡ seat.old.table_id) × (seat.new.id ≡ seat.old.id) }
         ensures hand { seat.new.me.1 ≡ rest seat.old.me.1 }

@@ -4,14 +4,14 @@ ghost use Rattle.pin_core.specs.declared.view.MapEntry.{MapEntry};
 ghost use Rattle.frame_table.specs.Tells.{tells, Choice, always, if_found, if_unlocked, looking};
 ghost use Rattle.frame_table.specs.Kinds.{pins};
 ghost use Rattle.frame_table.specs.Turning.{left, map_came, map_went, took};
-ghost use Rattle.frame_table.specs.declared.turn.Turn.{Turn};
-ghost use Rattle.frame_table.specs.declared.turn.Turn.TheVariants.{Log};
+ghost use Rattle.table_rule.specs.declared.turn.Turn.{Turn};
+ghost use Rattle.table_rule.specs.declared.turn.Turn.TheVariants.{Log};
 ghost use Rattle.pin_core.specs.Kinds as pin;
 
-use crate::value::Value;
 use atomic_table::{Join, Play, Split};
 use pin_core::View;
 use std::marker::{Brand, PhantomData};
+use table_rule::Value;
 
 /// Which kind a step at a frame is.
 pub(crate) trait Does {
@@ -116,8 +116,10 @@ impl<L, G, D: AtTurn> Play<Value<L, G>, View> for LeaveTurn<D> {
     ghost then = { left D.turn };
 }
 
-/// Which partition's map a step is at, the slot of the map, and its entries. Each call picks it.
+/// Which partition's map a step is at, of how many frames, the slot of the map, and its entries. Each call picks it.
 pub(crate) trait AtMap {
+    ghost frames: { ℕ };
+
     ghost partition: { ℕ };
 
     ghost slot: { ℕ };
@@ -126,6 +128,8 @@ pub(crate) trait AtMap {
 }
 
 impl AtMap for Brand {
+    ghost frames = { 0 };
+
     ghost partition = { 0 };
 
     ghost slot = { 0 };
@@ -138,7 +142,7 @@ pub(crate) struct MapOut<D> {
 }
 
 impl<L, G, D: AtMap> Play<Value<L, G>, View> for MapOut<D> {
-    ghost then = { map_went D.partition D.slot };
+    ghost then = { map_went D.frames D.partition D.slot };
 }
 
 pub(crate) struct MapBack<D> {

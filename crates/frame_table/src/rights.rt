@@ -12,11 +12,10 @@ ghost use Rattle.frame_table.specs.Content.{CanAwait, CanBeginIo, CanClearJust, 
 
 use crate::content_plays::{ClearJustDirtied, ClearWaiter, MarkDirty, NeedCheckpoint};
 use crate::io_right::IoRight;
-use crate::layout::state_place;
 use crate::plays::{Does, Step};
 use crate::table::FrameTable;
-use crate::value::Value;
 use atomic_table::Seat;
+use log_device::LogDevice;
 use pin_core::View;
 use segment_store::BlockLane;
 use state_word::{
@@ -25,8 +24,9 @@ use state_word::{
 };
 use std::marker::Brand;
 use std::sync::Wait;
+use table_rule::{Value, state_place};
 
-impl<L: BlockLane, G> FrameTable<L, G> {
+impl<L: BlockLane, G: LogDevice> FrameTable<L, G> {
     /// Marks the frame dirty under its exclusive lock, once the header is not locked (`MarkBufferDirty`).
     pub fn mark_dirty<R: Wait>(&self, rt: &R, seat: &mut Seat<Value<L, G>, View>, frame: u32)
         requires seat { CanStep self.now seat.old frame }

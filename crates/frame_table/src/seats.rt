@@ -7,13 +7,14 @@ ghost use Rattle.frame_table.specs.Tells.{kept_view, split_view};
 
 use crate::plays::{Joined, Known, NewSeat};
 use crate::table::FrameTable;
-use crate::value::Value;
 use atomic_table::Seat;
+use log_device::LogDevice;
 use pin_core::View;
 use segment_store::BlockLane;
 use std::marker::Brand;
+use table_rule::Value;
 
-impl<L: BlockLane, G> FrameTable<L, G> {
+impl<L: BlockLane, G: LogDevice> FrameTable<L, G> {
     fn split_at<J: Known>(&self, seat: &mut Seat<Value<L, G>, View>) -> Seat<Value<L, G>, View>
         requires known { J.base ≡ self.now.table.shared.key.base }
         requires seat { Fits self.now seat.old × (seat.old.id ≡ 0) }

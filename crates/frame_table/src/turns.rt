@@ -1,21 +1,21 @@
 //! Latches.
 ghost use Rattle.std.specs.Prelude.{◌≡◌, ◌<◌, true, false};
-ghost use Rattle.frame_table.specs.Layout.{latch_place, word_count};
-ghost use Rattle.frame_table.specs.Shows.{HasTurn};
+ghost use Rattle.table_rule.specs.Layout.{latch_place, word_count};
+ghost use Rattle.table_rule.specs.Shows.{HasTurn};
 ghost use Rattle.frame_table.specs.Sees.{CanTurn, SameSeat, frames_of};
 ghost use Rattle.frame_table.specs.Turning.{DidTurn, IsTurned, MayLeave, SameWork};
 
 use crate::plays::{AtTurn, LeaveTurn, TakeTurn};
 use crate::table::FrameTable;
-use crate::turn::Turn;
-use crate::value::Value;
 use atomic_table::Seat;
+use log_device::LogDevice;
 use pin_core::View;
 use segment_store::BlockLane;
 use std::marker::Brand;
 use std::sync::Wait;
+use table_rule::{Turn, Value};
 
-impl<L: BlockLane, G> FrameTable<L, G> {
+impl<L: BlockLane, G: LogDevice> FrameTable<L, G> {
     /// The place of a latch's word.
     pub(crate) fn latch(&self, turn: Turn) -> usize
         ensures place { result ≡ latch_place (frames_of self.now) turn }

@@ -1,10 +1,10 @@
 //! What a step at a word behind those of the frames tells its seat.
 ghost use Rattle.frame_table.specs.Behind.{WordKind, tells_word, load_end, load_flushed, raise_flushed, load_hand, add_hand};
 
-use crate::value::Value;
 use atomic_table::Play;
 use pin_core::View;
 use std::marker::{Brand, PhantomData};
+use table_rule::Value;
 
 /// Which kind a step at such a word is.
 pub(crate) trait StepsAt {

@@ -10,4 +10,4 @@ returns-in-Some-clause-did g c = let d = c.store_packed.ensures.did in (d.0, sub
 
 pub returns-in-None-clause-named : goal.returns-in-None-clause-named
 returns-in-None-clause-named g c = subst (λ (t : Option Tag). c.store_none.new.seat.me.0.partitions ≡ partitions_stored t c.args.frame c.args.seat.now.me.0) (sym c.in-None.is)
-    (stored_partitions None _ _ _ _ c.store_none.ensures.did.1 (subst (λ (t : Option Tag). CanStoreAs t c.args.seat.now.me.0 c.args.frame) c.in-None.is c.requires.tag))
+    (stored_partitions c.args.self.now.table.shared.key.catalog.value None _ _ _ _ c.store_none.ensures.did.1 (subst (λ (t : Option Tag). CanStoreAs c.args.self.now.table.shared.key.catalog.value t c.args.seat.now.me.0 c.args.frame) c.in-None.is c.requires.tag))

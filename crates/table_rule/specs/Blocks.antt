@@ -1,0 +1,39 @@
+-- What a catalogue says of blocks, by the numbers of their tags.
+use Rattle.std.specs.Prelude.{ℕ, ◌+◌, ◌<◌, Bool, true, false, nat_lt, nat_eq, ◌&&◌, List, [], ◌∷◌, ◌++◌, filter, map, replicate, slice_get, Option, Some, None, unwrap_or}
+use Rattle.std.specs.Option.{option_map}
+use Rattle.byteorder.specs.Endian.{little_bytes}
+use Rattle.block_tag.specs.declared.tag.Tag.{Tag}
+use Rattle.block_tag.specs.declared.catalogue.RelEntry.{RelEntry}
+use Rattle.block_tag.specs.Names.{unpacked_tag, fork_number}
+use Rattle.block_tag.specs.Catalogue.{blocks_at}
+
+-- whether the relations have the block of a tag
+abbrev pub has_block : List RelEntry → Tag → Bool
+has_block relations tag = nat_lt tag.block (blocks_at relations tag.rel.0 tag.fork)
+
+abbrev pub has_named : List RelEntry → Option Tag → Bool
+has_named relations None = false
+has_named relations (Some tag) = has_block relations tag
+
+-- by the tag's number; false for a number that is no tag
+unfoldable pub is_block : List RelEntry → ℕ → Bool
+is_block relations word = has_named relations (unpacked_tag word)
+
+-- How the log names a block: the relation's three numbers, the fork, and the block, in 4 bytes each
+abbrev pub block_name : RelEntry → Tag → List ℕ
+block_name e tag = little_bytes 4 e.tablespace ++ (little_bytes 4 e.database ++ (little_bytes 4 e.relation ++ (little_bytes 4 (fork_number tag.fork) ++ little_bytes 4 tag.block)))
+
+-- a block that the relations lack has no name: zeros stand for it
+abbrev pub no_name : List ℕ
+no_name = replicate 20 0
+
+abbrev pub name_in : Option RelEntry → Tag → List ℕ
+name_in None tag = no_name
+name_in (Some e) tag = block_name e tag
+
+abbrev pub name_of : List RelEntry → Option Tag → List ℕ
+name_of relations None = no_name
+name_of relations (Some tag) = name_in (slice_get relations tag.rel.0) tag
+
+unfoldable pub log_name : List RelEntry → ℕ → List ℕ
+log_name relations word = name_of relations (unpacked_tag word)

@@ -1,0 +1,105 @@
+-- The words and the slots of a table at the start.
+use Rattle.std.specs.Prelude.{◌≡◌, ℕ, ◌*◌, ◌-◌, ◌<◌, ◌≤◌, List, [], ◌∷◌, ◌++◌, Vec, vec_len, vec_capacity, length, map, replicate, slice_index, None}
+use Rattle.std.specs.Global.{Global}
+use mathlib.Core.Option.{some}
+use lib.ListN.{get_elem?}
+use Rattle.pin_core.specs.State.{Page, no_tag}
+use Rattle.table_rule.specs.declared.value.Value.{Value}
+use Rattle.table_rule.specs.declared.value.Value.TheVariants as value
+use Rattle.table_rule.specs.Layout.{state_place, tag_place, content_place}
+use Rattle.history_core.specs.Log.{record_size}
+use Rattle.table_rule.specs.declared.build.Room.{Room}
+use Rattle.table_rule.specs.declared.noted_lane.LaneCall.TheVariants as lane_call
+use Rattle.table_rule.specs.declared.noted_lane.NotedLane.{NotedLane}
+use Rattle.table_rule.specs.declared.noted_log.LogCall.TheVariants as log_call
+use Rattle.table_rule.specs.declared.noted_log.NotedLog.{NotedLog}
+use Rattle.table_rule.specs.declared.value.Mapped.{Mapped}
+use Rattle.table_rule.specs.Shows.{GivesMap}
+
+-- the words of n frames without pins and tags
+pub record AreBlank (words : List ℕ) (n : ℕ) : Type 0 where
+  pub wide : length words ≡ 3 * n
+  pub states : (f : ℕ) → f < n → slice_index words (state_place f) ≡ 0
+  pub tags : (f : ℕ) → f < n → slice_index words (tag_place f) ≡ no_tag
+  pub contents : (f : ℕ) → f < n → slice_index words (content_place f) ≡ 0
+
+-- and behind them free latches, and a log that begins and ends at `base` and is flushed
+pub record AreOpening (words : List ℕ) (n base : ℕ) : Type 0 where
+  pub blank : List ℕ
+  pub frames : AreBlank blank n
+  pub is : words ≡ (blank ++ replicate 145 0) ++ base ∷ base ∷ 0 ∷ []
+
+-- a page whose bytes are all 0
+abbrev pub zero_page : Page
+zero_page = replicate 8192 0
+
+-- empty lists, each with room for n entries
+abbrev pub AreFresh : ℕ → List (Vec Mapped Global) → Type 0
+AreFresh n maps = (k : ℕ) (m : Vec Mapped Global) → get_elem? maps k ≡ some m → (m.items ≡ []) × (n ≤ vec_capacity m)
+
+-- the memory of a table of n frames
+pub record IsRoom (n : ℕ) (room : Room) : Type 0 where
+  pub counted : vec_len room.pages ≡ n
+  pub pages : room.pages.items ≡ replicate n zero_page
+  pub partitions : vec_len room.maps ≡ 128
+  pub maps : AreFresh n room.maps.items
+  pub record_room : record_size ≤ vec_capacity room.buffer
+
+-- the log as it is home, without the note of a call, with this room for a record
+abbrev pub home_log : {G : Type 0} → Vec ℕ Global → G → NotedLog G
+home_log room g = record { device = g; down = None; buffer = room; call = log_call.Untouched }
+
+module _ {L G : Type 0} where
+  -- a lane that is home
+  abbrev pub home_lane : L → Value L G
+  home_lane l = value.Lane (record { device = l; call = lane_call.Untouched })
+
+  -- each value is an empty map with room for n entries
+  abbrev pub AreMaps : ℕ → List (Value L G) → Type 0
+  AreMaps n ys = (k : ℕ) (y : Value L G) → get_elem? ys k ≡ some y → GivesMap n y (λ _. None)
+
+  -- as many empty maps were put behind the values
+  pub record AddsMaps (n count : ℕ) (before after : List (Value L G)) : Type 0 where
+    pub maps : List (Value L G)
+    pub counted : length maps ≡ count
+    pub are_maps : AreMaps n maps
+    pub is : after ≡ before ++ maps
+
+  -- the lanes among values
+  unfoldable pub lanes_in : List (Value L G) → List L
+  lanes_in [] = []
+  lanes_in (value.Page p ∷ ys) = lanes_in ys
+  lanes_in (value.Map m ∷ ys) = lanes_in ys
+  lanes_in (value.Lane l ∷ ys) = l.device ∷ lanes_in ys
+  lanes_in (value.Log g ∷ ys) = lanes_in ys
+  lanes_in (value.Lanes l ∷ ys) = lanes_in ys
+  lanes_in (value.Away ∷ ys) = lanes_in ys
+
+  -- neither a log nor a list of lanes is among them
+  unfoldable pub IsPlain : List (Value L G) → Type 0
+  IsPlain [] = Unit {0}
+  IsPlain (value.Page p ∷ ys) = IsPlain ys
+  IsPlain (value.Map m ∷ ys) = IsPlain ys
+  IsPlain (value.Lane l ∷ ys) = IsPlain ys
+  IsPlain (value.Log g ∷ ys) = ⊥
+  IsPlain (value.Lanes l ∷ ys) = ⊥
+  IsPlain (value.Away ∷ ys) = IsPlain ys
+
+  -- the log and the list stand behind the other values
+  pub record EndsWith (g : NotedLog G) (list : Vec L Global) (ys : List (Value L G)) : Type 0 where
+    pub others : List (Value L G)
+    pub is : ys ≡ (others ++ value.Log g ∷ []) ++ value.Lanes list ∷ []
+    pub plain : IsPlain others
+
+  -- The slots of n frames: a page of zeros for each, 128 empty maps, 16 places for lanes, the log, and the list of lanes
+  pub record AreSlots (n : ℕ) (lanes : List L) (log : G) (ys : List (Value L G)) : Type 0 where
+    pub maps : List (Value L G)
+    pub counted : length maps ≡ 128
+    pub are_maps : AreMaps n maps
+    pub few : length lanes ≤ 16
+    pub room : Vec ℕ Global
+    pub record_room : record_size ≤ vec_capacity room
+    pub list : Vec L Global
+    pub empty : list.items ≡ []
+    pub list_room : length lanes ≤ vec_capacity list
+    pub is : ys ≡ ((((replicate n (value.Page zero_page) ++ maps) ++ map home_lane lanes) ++ replicate (16 - length lanes) value.Away) ++ value.Log (home_log room log) ∷ []) ++ value.Lanes list ∷ []

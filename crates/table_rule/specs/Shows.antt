@@ -1,0 +1,226 @@
+-- The rule of the table: what its words, slots and views show of a state that has the law.
+use Rattle.std.specs.Prelude.{◌≡◌, ℕ, ◌<◌, ◌≤◌, ◌%◌, ◌^◌, Bool, true, false, List, [], Vec, vec_capacity, length, map, slice_index, Option, Some, is_some}
+use Rattle.std.specs.Global.{Global}
+use mathlib.Core.Option.{some}
+use mathlib.Core.Option as slot
+use lib.ListN.{get_elem?}
+use Rattle.atomic_table.specs.Table as table
+use Rattle.state_word.specs.Fields.{fields, bit}
+use Rattle.block_tag.specs.declared.tag.Tag.{Tag}
+use Rattle.block_tag.specs.Names.{unpacked_tag, lane_number}
+use Rattle.block_tag.specs.declared.catalogue.RelEntry.{RelEntry}
+use Rattle.segment_store.specs.Contents.{Pages, Marks}
+use Rattle.pin_core.specs.declared.view.View.{View}
+use Rattle.pin_core.specs.declared.view.MapEntry.{MapEntry}
+use Rattle.pin_core.specs.State.{Frame, Page, link, hold, lane_hold, first_view}
+use Rattle.pin_core.specs.Turns.{found}
+use Rattle.pin_core.specs.Tallies.{flag_weight}
+use Rattle.history_core.specs.State.{State, Lane, Device}
+use Rattle.history_core.specs.Log.{record_size, head_bytes}
+use Rattle.history_core.specs.Laws.{Laws}
+use Rattle.table_rule.specs.declared.value.Mapped.{Mapped}
+use Rattle.table_rule.specs.declared.noted_lane.NotedLane.{NotedLane}
+use Rattle.table_rule.specs.declared.noted_lane.LaneCall.TheVariants as lane_call
+use Rattle.table_rule.specs.declared.noted_log.NotedLog.{NotedLog}
+use Rattle.table_rule.specs.declared.noted_log.LogCall.TheVariants as log_call
+use Rattle.table_rule.specs.declared.value.Value.{Value}
+use Rattle.table_rule.specs.declared.value.Value.TheVariants as value
+use Rattle.table_rule.specs.declared.opening.Opening.{Opening}
+use Rattle.table_rule.specs.declared.turn.Place.{Place}
+use Rattle.table_rule.specs.declared.turn.Place.TheVariants as place
+use Rattle.table_rule.specs.declared.turn.Turn.{Turn}
+use Rattle.table_rule.specs.declared.turn.Turn.TheVariants as turn
+use Rattle.table_rule.specs.Blocks.{has_block, is_block, log_name}
+use Rattle.table_rule.specs.Layout.{state_place, tag_place, content_place, latch_place, end_place, flushed_place, hand_place, word_count, slot_of, list_slot, slot_count, tag_partition, tag_lane}
+
+-- What the words say of the frame f
+pub record ShowsFrame (words : List ℕ) (f : ℕ) (fr : Frame) : Type 0 where
+  pub word : fr.word ≡ fields (slice_index words (state_place f))
+  pub tag : fr.tag ≡ slice_index words (tag_place f)
+  -- the content word: 18 bits of sharers, the exclusive bit, and the copy latch
+  pub sharers : fr.sharers ≡ slice_index words (content_place f) % 2 ^ 18
+  pub exclusive : fr.exclusive ≡ bit 18 (slice_index words (content_place f))
+  pub copying : fr.copying ≡ bit 19 (slice_index words (content_place f))
+  pub small : slice_index words (content_place f) < 2 ^ 20
+
+-- whether a backend has the latch
+abbrev pub is_taken : Turn → State → Bool
+is_taken (turn.Partition p) s = (s.pool.core.partition p).taken
+is_taken (turn.Lane q) s = (s.lane q).taken
+is_taken turn.Log s = s.device.taken
+
+-- whether a table of so many lanes has the latch
+abbrev pub HasTurn : ℕ → Turn → Type 0
+HasTurn lanes (turn.Partition p) = p < 128
+HasTurn lanes (turn.Lane q) = q < lanes
+HasTurn lanes turn.Log = Unit {0}
+
+-- What the words say of the latches, of the log, and of the hand
+pub record ShowsLatches (n lanes : ℕ) (words : List ℕ) (s : State) : Type 0 where
+  -- a latch is taken where its word is 1, and else its word is 0
+  pub latch : (x : Turn) → HasTurn lanes x → slice_index words (latch_place n x) ≡ flag_weight (is_taken x s)
+  pub end : slice_index words (end_place n) ≡ s.end
+  pub flushed : slice_index words (flushed_place n) ≡ s.flushed
+  pub hand : slice_index words (hand_place n) ≡ s.hand
+
+-- whether a view has the value of a place out
+abbrev pub is_out : Place → View → Bool
+is_out (place.Page f) v = is_some (link v f).out
+is_out (place.Of (turn.Partition p)) v = is_some (hold v p).out
+is_out (place.Of (turn.Lane q)) v = is_some (lane_hold v q).out
+is_out (place.Of turn.Log) v = is_some v.log.out
+
+-- no view has it out
+abbrev pub IsHome : Place → List View → Type 0
+IsHome x views = (i : ℕ) (v : View) → get_elem? views i ≡ some v → is_out x v ≡ false
+
+-- the entries of a map, as views note them
+abbrev pub entry_of : Mapped → MapEntry
+entry_of m = record { tag = m.tag; frame = m.frame }
+
+-- no tag stands twice
+abbrev pub AreApart : List Mapped → Type 0
+AreApart entries = (i j : ℕ) (a b : Mapped) → get_elem? entries i ≡ some a → get_elem? entries j ≡ some b → a.tag ≡ b.tag → i ≡ j
+
+-- Entries of a map, with room for one of each of n frames: no tag stands twice
+pub record GivesEntries (n : ℕ) (entries : Vec Mapped Global) (m : ℕ → Option ℕ) : Type 0 where
+  pub found : found (map entry_of entries.items) ≡ m
+  pub apart : AreApart entries.items
+  pub room : n ≤ vec_capacity entries
+
+-- The devices, as their traits tell them
+pub record Devices (L G : Type 0) : Type 0 where
+  -- the pages of a lane, and the blocks whose last write failed, where they are known
+  pub contents : L → Option Pages
+  pub failed_writes : L → Marks
+  -- how many reads, and how many writes and syncs, have failed
+  pub read_faults : L → ℕ
+  pub write_faults : L → ℕ
+  -- the bytes of a log, and how many of them are durable, where they are known
+  pub bytes : G → Option (List ℕ)
+  pub synced : G → ℕ
+  -- how many appends and syncs have failed
+  pub log_faults : G → ℕ
+
+abbrev pub devices : {L G : Type 0} → (L → Option Pages) → (L → Marks) → (L → ℕ) → (L → ℕ) → (G → Option (List ℕ)) → (G → ℕ) → (G → ℕ) → Devices L G
+devices contents failed_writes read_faults write_faults bytes synced log_faults = record { contents = contents; failed_writes = failed_writes; read_faults = read_faults; write_faults = write_faults; bytes = bytes; synced = synced; log_faults = log_faults }
+
+-- A block of the relations, by its tag and the tag's number, that lies in the lane q of so many
+pub record IsPlaced (relations : List RelEntry) (lanes q word : ℕ) (tag : Tag) : Type 0 where
+  pub named : unpacked_tag word ≡ Some tag
+  pub listed : has_block relations tag ≡ true
+  pub placed : lane_number tag lanes ≡ q
+
+module _ {L G : Type 0} where
+  -- The lane q of so many is the device l
+  pub record IsLane (d : Devices L G) (relations : List RelEntry) (lanes q : ℕ) (l : L) (ln : Lane) : Type 0 where
+    pub known : ln.known ≡ is_some (d.contents l)
+    -- it holds each block of the relations that lies there
+    pub pages : (known : Pages) (word : ℕ) (tag : Tag) → d.contents l ≡ Some known → IsPlaced relations lanes q word tag → known tag ≡ Some (ln.stored word)
+    pub failed : (known : Pages) (word : ℕ) (tag : Tag) → d.contents l ≡ Some known → IsPlaced relations lanes q word tag → ln.failed word ≡ d.failed_writes l tag
+    pub reads : ln.read_faults ≡ d.read_faults l
+    pub writes : ln.write_faults ≡ d.write_faults l
+
+  -- The log is the device g, with the mark of a failure, its end then
+  pub record IsLog (d : Devices L G) (g : G) (mark : Option ℕ) (dev : Device) : Type 0 where
+    pub bytes : (known : List ℕ) → d.bytes g ≡ Some known → dev.bytes ≡ known
+    pub synced : (known : List ℕ) → d.bytes g ≡ Some known → dev.synced ≡ d.synced g
+    pub faults : dev.faults ≡ d.log_faults g
+    pub down : dev.down ≡ mark
+
+  -- What the devices are as a table is built over them: where a lane's contents are known it holds the relations' blocks that lie there, and no block's last write has failed
+  pub record AreLanes (d : Devices L G) (relations : List RelEntry) (lanes : List L) : Type 0 where
+    pub held : (q : ℕ) (l : L) (known : Pages) (word : ℕ) (tag : Tag) → get_elem? lanes q ≡ some l → d.contents l ≡ Some known → IsPlaced relations (length lanes) q word tag → is_some (known tag) ≡ true
+    pub unfailed : (q : ℕ) (l : L) (known : Pages) (tag : Tag) → get_elem? lanes q ≡ some l → d.contents l ≡ Some known → d.failed_writes l tag ≡ false
+
+  -- and where the log's are, it holds just the head
+  pub record IsNewLog (d : Devices L G) (base : ℕ) (g : G) : Type 0 where
+    pub head : (known : List ℕ) → d.bytes g ≡ Some known → known ≡ head_bytes base
+    pub synced : (known : List ℕ) → d.bytes g ≡ Some known → d.synced g ≤ length known
+
+  -- a value is what the state says of a place
+  abbrev pub GivesPage : Value L G → Page → Type 0
+  GivesPage (value.Page p) q = p ≡ q
+  GivesPage _ q = ⊥
+
+  abbrev pub GivesMap : ℕ → Value L G → (ℕ → Option ℕ) → Type 0
+  GivesMap n (value.Map entries) m = GivesEntries n entries m
+  GivesMap n _ m = ⊥
+
+  -- a lane and the log are home without the note of a call
+  abbrev pub GivesLane : Devices L G → List RelEntry → ℕ → ℕ → Value L G → Lane → Type 0
+  GivesLane d relations lanes q (value.Lane l) ln = IsLane d relations lanes q l.device ln × (l.call ≡ lane_call.Untouched)
+  GivesLane d relations lanes q _ ln = ⊥
+
+  -- and there is room for a record
+  abbrev pub GivesLog : Devices L G → Value L G → Device → Type 0
+  GivesLog d (value.Log g) dev = IsLog d g.device g.down dev × (g.call ≡ log_call.Untouched) × (record_size ≤ vec_capacity g.buffer)
+  GivesLog d _ dev = ⊥
+
+  abbrev pub Gives : Devices L G → Opening L G → State → Place → Value L G → Type 0
+  Gives d o s (place.Page f) y = GivesPage y (s.pool.core.frame f).page
+  Gives d o s (place.Of (turn.Partition p)) y = GivesMap o.config.frames y (s.pool.core.partition p).map
+  Gives d o s (place.Of (turn.Lane q)) y = GivesLane d o.catalog.value s.lanes q y (s.lane q)
+  Gives d o s (place.Of turn.Log) y = GivesLog d y s.device
+
+  -- whether a table has the place
+  abbrev pub HasPlace : Opening L G → Place → Type 0
+  HasPlace o (place.Page f) = f < o.config.frames
+  HasPlace o (place.Of x) = HasTurn o.config.lanes x
+
+  -- What was fixed when the table was opened
+  pub record IsOpened (d : Devices L G) (o : Opening L G) (s : State) : Type 0 where
+    pub frames : s.pool.core.frames ≡ o.config.frames
+    pub backends : s.pool.core.backends ≡ o.config.backends
+    pub base : s.log.base ≡ o.base
+    pub partitions : s.pool.core.partitions ≡ 128
+    pub partition_of : s.pool.core.partition_of ≡ tag_partition
+    -- the blocks are those of the catalogue, and the log names them by it
+    pub is_block : s.pool.core.is_block ≡ is_block o.catalog.value
+    pub names : s.names ≡ log_name o.catalog.value
+    pub lanes : s.lanes ≡ o.config.lanes
+    pub lane_of : s.lane_of ≡ tag_lane o.config.lanes
+    -- there are at most 64 backends, and 16 lanes
+    pub few_backends : o.config.backends ≤ 64
+    pub few_lanes : o.config.lanes ≤ 16
+    -- the pages and the counts of the devices at the start
+    pub known : (q : ℕ) (l : L) (word : ℕ) → get_elem? o.lanes.value.items q ≡ some l → tag_lane o.config.lanes word ≡ q → s.known word ≡ is_some (d.contents l)
+    pub origin : (q : ℕ) (l : L) (known : Pages) (word : ℕ) (tag : Tag) → get_elem? o.lanes.value.items q ≡ some l → d.contents l ≡ Some known → IsPlaced o.catalog.value o.config.lanes q word tag → known tag ≡ Some (s.origin word)
+    pub reads : (q : ℕ) (l : L) → get_elem? o.lanes.value.items q ≡ some l → (s.lane q).read_faults_at_start ≡ d.read_faults l
+    pub writes : (q : ℕ) (l : L) → get_elem? o.lanes.value.items q ≡ some l → (s.lane q).write_faults_at_start ≡ d.write_faults l
+    pub log_faults : s.log_faults ≡ d.log_faults o.log.value
+
+  -- The slot has this value, and it is what the state says of the place
+  pub record HasValue (d : Devices L G) (o : Opening L G) (homes : List (slot.Option (Value L G))) (s : State) (x : Place) : Type 0 where
+    pub value : Value L G
+    pub home : get_elem? homes (slot_of o.config.frames x) ≡ some (some value)
+    pub gives : Gives d o s x value
+
+  -- The list in which the lanes came is empty, with room for them
+  pub record HasList (o : Opening L G) (homes : List (slot.Option (Value L G))) : Type 0 where
+    pub list : Vec L Global
+    pub home : get_elem? homes (list_slot o.config.frames) ≡ some (some (value.Lanes list))
+    pub empty : list.items ≡ []
+    pub room : o.config.lanes ≤ vec_capacity list
+
+  -- What a table shows of a state
+  pub record Shows (d : Devices L G) (o : Opening L G) (t : table.State (Value L G) View) (s : State) : Type 0 where
+    pub fixed : IsOpened d o s
+    pub words : length t.words ≡ word_count o.config.frames
+    pub slots : length t.homes ≡ slot_count o.config.frames
+    pub views : t.views ≡ s.pool.core.views
+    pub frame : (f : ℕ) → f < o.config.frames → ShowsFrame t.words f (s.pool.core.frame f)
+    pub latches : ShowsLatches o.config.frames o.config.lanes t.words s
+    -- a value that no view has out is in its slot
+    pub homes : (x : Place) → HasPlace o x → IsHome x s.pool.core.views → HasValue d o t.homes s x
+    pub list : HasList o t.homes
+
+  -- The rule: the table shows a state that has the law. The state has besides what no word shows: the pages of the blocks after the log, its entries, and what is out
+  pub record Held (d : Devices L G) (o : Opening L G) (t : table.State (Value L G) View) : Type 0 where
+    pub state : State
+    pub shows : Shows d o t state
+    pub laws : Laws state
+
+  -- the view of the first backend
+  abbrev pub starting : Opening L G → View
+  starting o = first_view o.base o.config.frames 128 o.config.lanes

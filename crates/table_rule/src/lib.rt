@@ -1,0 +1,27 @@
+//! The rule of the table that the backends share: what its words and slots are, and what they show of the state of the protocol.
+//!
+//! `frame_table` has the calls.
+#![tactic(auto)]
+
+mod build;
+mod config;
+mod layout;
+mod noted_lane;
+mod noted_log;
+mod opening;
+mod rule;
+mod turn;
+mod value;
+
+pub use build::{Room, opening_words, take_back};
+pub use config::Config;
+pub use layout::{
+    OTHER_SLOTS, OTHER_WORDS, content_place, end_place, flushed_place, hand_place, state_place,
+    tag_place,
+};
+pub use noted_lane::{LaneCall, NotedLane};
+pub use noted_log::{LogCall, NotedLog};
+pub use opening::Opening;
+pub use rule::Rule;
+pub use turn::{Place, Turn};
+pub use value::{Mapped, Value};

@@ -1,0 +1,18 @@
+//! The rule of the table.
+use crate::opening::Opening;
+use crate::value::Value;
+use atomic_table::TableRule;
+use log_device::LogDevice;
+use pin_core::View;
+use segment_store::BlockLane;
+
+/// Its words, slots and views show a state that has the law of `history_core`.
+pub struct Rule;
+
+impl<L: BlockLane, G: LogDevice> TableRule<Value<L, G>, View, Opening<L, G>> for Rule {
+    ghost use Rattle.table_rule.specs.Shows.{Held, devices, starting};
+
+    ghost holds = { Held (devices L.contents L.failed_writes L.read_faults L.write_faults G.bytes G.synced G.faults) };
+
+    ghost first = { starting };
+}
