@@ -43,29 +43,7 @@ use Rattle.table_rule.specs.Shows.{ShowsFrame, ShowsLatches, is_taken, is_out, I
 use Rattle.frame_table.specs.Turning.{DidMap, ComesBack, as_it_was, entered, left_out, MayComeBack, IsMap, map_went, map_came, MapStep, SameWork, is_named, back_hold}
 use Rattle.history_core.proofs.Laws.{laws_kept}
 use Rattle.frame_table.proofs.Frames.{put_keeps, home_before}
-
--- two places with one slot are one
-same_slot : {L G : Type 0} (o : Opening L G) (x y : Place) → o.config.lanes ≤ 16 → HasPlace o x → HasPlace o y → slot_of o.config.frames x ≡ slot_of o.config.frames y → x ≡ y
-same_slot o (place.Page f) (place.Page g) few a b e = ap (λ (k : ℕ). place.Page k) e
-same_slot o (place.Page f) (place.Of (Partition q)) few a b e = absurd (omega arith)
-same_slot o (place.Page f) (place.Of (Lane q)) few a b e = absurd (omega arith)
-same_slot o (place.Page f) (place.Of Log) few a b e = absurd (omega arith)
-same_slot o (place.Of (Partition p)) (place.Page g) few a b e = absurd (omega arith)
-same_slot o (place.Of (Partition p)) (place.Of (Partition q)) few a b e = ap (λ (k : ℕ). place.Of (Partition k)) {x = p} {y = q} (omega arith)
-same_slot o (place.Of (Partition p)) (place.Of (Lane q)) few a b e = absurd (omega arith)
-same_slot o (place.Of (Partition p)) (place.Of Log) few a b e = absurd (omega arith)
-same_slot o (place.Of (Lane p)) (place.Page g) few a b e = absurd (omega arith)
-same_slot o (place.Of (Lane p)) (place.Of (Partition q)) few a b e = absurd (omega arith)
-same_slot o (place.Of (Lane p)) (place.Of (Lane q)) few a b e = ap (λ (k : ℕ). place.Of (Lane k)) {x = p} {y = q} (omega arith)
-same_slot o (place.Of (Lane p)) (place.Of Log) few a b e = absurd (omega arith)
-same_slot o (place.Of Log) (place.Page g) few a b e = absurd (omega arith)
-same_slot o (place.Of Log) (place.Of (Partition q)) few a b e = absurd (omega arith)
-same_slot o (place.Of Log) (place.Of (Lane q)) few a b e = absurd (omega arith)
-same_slot o (place.Of Log) (place.Of Log) few a b e = refl
-
--- the list of lanes stays where another slot changes
-pub list_stays : {L G : Type 0} (o : Opening L G) (homes : List (slot.Option (Value L G))) (i : ℕ) (y : slot.Option (Value L G)) → i ≢ o.config.frames + 145 → HasList o homes → HasList o (set homes i y)
-list_stays o homes i y n h = record { list = h.list; home = set_else homes i (o.config.frames + 145) y (λ e. n (sym e)) ∙ h.home; empty = h.empty; room = h.room }
+use Rattle.frame_table.proofs.Moving.{same_slot, list_stays}
 
 -- the state after a step of a kind at a partition
 abbrev mapped : parts.TurnKind → State → ℕ → ℕ → View → State
