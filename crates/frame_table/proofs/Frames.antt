@@ -86,7 +86,7 @@ naming_out (Entering tag f) partition_of v p = same_at (λ (h : PartitionHold). 
 naming_out (Leaving tag f) partition_of v p = same_at (λ (h : PartitionHold). h.out) v.partitions (partition_of tag) p (record (hold v (partition_of tag)) { change = Leaving tag f }) no_partition refl
 
 -- What a step at a frame leaves as it was
-taken_same : (k : FrameKind) (s : State) (i f : ℕ) (v : View) (x : Turn) → is_taken x (state_after k s i f v) ≡ is_taken x s
+pub taken_same : (k : FrameKind) (s : State) (i f : ℕ) (v : View) (x : Turn) → is_taken x (state_after k s i f v) ≡ is_taken x s
 taken_same k s i f v (turn.Lane q) = refl
 taken_same k s i f v turn.Log = refl
 taken_same (pins k) s i f v (turn.Partition p) = owing_same (λ (x : Partition). x.taken) (pin.named_by k f (s.pool.core.frame f)) s.pool.core.partition_of s.pool.core.partition p (λ x d. refl)
@@ -96,11 +96,11 @@ map_same : (k : FrameKind) (s : State) (i f : ℕ) (v : View) (p : ℕ) → ((st
 map_same (pins k) s i f v p = owing_same (λ (x : Partition). x.map) (pin.named_by k f (s.pool.core.frame f)) s.pool.core.partition_of s.pool.core.partition p (λ x d. refl)
 map_same (pages k) s i f v p = refl
 
-views_are : (k : FrameKind) (s : State) (i f : ℕ) (v : View) → (state_after k s i f v).pool.core.views ≡ set s.pool.core.views i (view_after k s f v)
+pub views_are : (k : FrameKind) (s : State) (i f : ℕ) (v : View) → (state_after k s i f v).pool.core.views ≡ set s.pool.core.views i (view_after k s f v)
 views_are (pins k) s i f v = refl
 views_are (pages k) s i f v = refl
 
-frame_is : (k : FrameKind) (s : State) (i f : ℕ) (v : View) (g : ℕ) → (state_after k s i f v).pool.core.frame g ≡ put s.pool.core.frame f (frame_after k s f) g
+pub frame_is : (k : FrameKind) (s : State) (i f : ℕ) (v : View) (g : ℕ) → (state_after k s i f v).pool.core.frame g ≡ put s.pool.core.frame f (frame_after k s f) g
 frame_is (pins k) s i f v g = refl
 frame_is (pages k) s i f v g = refl
 
@@ -203,7 +203,7 @@ module _ {L G : Type 0} where
     pub out : (link_after k s f v).out ≡ (link v f).out
 
 module _ {L G : Type 0} (d : Devices L G) (o : Opening L G) where
-  fixed_after : (k : FrameKind) (s : State) (i f : ℕ) (v : View) → IsOpened d o s → IsOpened d o (state_after k s i f v)
+  pub fixed_after : (k : FrameKind) (s : State) (i f : ℕ) (v : View) → IsOpened d o s → IsOpened d o (state_after k s i f v)
   fixed_after (pins k) s i f v h = record { frames = h.frames; backends = h.backends; base = h.base; partitions = h.partitions; partition_of = h.partition_of; is_block = h.is_block; names = h.names; lanes = h.lanes; lane_of = h.lane_of; few_backends = h.few_backends; few_lanes = h.few_lanes; known = h.known; origin = h.origin; reads = h.reads; writes = h.writes; log_faults = h.log_faults }
   fixed_after (pages k) s i f v h = record { frames = h.frames; backends = h.backends; base = h.base; partitions = h.partitions; partition_of = h.partition_of; is_block = h.is_block; names = h.names; lanes = h.lanes; lane_of = h.lane_of; few_backends = h.few_backends; few_lanes = h.few_lanes; known = h.known; origin = h.origin; reads = h.reads; writes = h.writes; log_faults = h.log_faults }
 

@@ -1,5 +1,5 @@
 -- A value goes out with its holder, or comes back: what the table shows then.
-use Rattle.std.proofs.Common.{◌≡◌, ◌≢◌, ℕ, ◌+◌, ◌<◌, ◌≤◌, false, List, length, length-set, set, sym, refl, ap, ◌∙◌, subst, arith}
+use Rattle.std.proofs.Common.{◌≡◌, ◌≢◌, ℕ, ◌+◌, ◌<◌, ◌≤◌, false, List, [], ◌∷◌, length, length-set, set, sym, refl, ap, ◌∙◌, subst, arith}
 use mathlib.Core.Logic.{dite}
 use mathlib.Core.Option.{some}
 use mathlib.Core.Option as slot
@@ -108,3 +108,23 @@ slot_low o (place.Page f) few has = omega arith
 slot_low o (place.Of (turn.Partition p)) few has = omega arith
 slot_low o (place.Of (turn.Lane q)) few has = omega arith
 slot_low o (place.Of turn.Log) few has = omega arith
+
+set_twice : {A : Type 0} (l : List A) (i : ℕ) (a b : A) → set (set l i a) i b ≡ set l i b
+set_twice [] i a b = refl
+set_twice (x ∷ l) Rattle.std.proofs.Common.zero a b = refl
+set_twice (x ∷ l) (Rattle.std.proofs.Common.suc i) a b = ap (λ (m : List _). x ∷ m) (set_twice l i a b)
+
+module _ {L G : Type 0} (d : Devices L G) (o : Opening L G) where
+  -- two steps that move the value of one place
+  pub moves_on : (s s' s'' : State) (id : ℕ) (v u w : View) (y : Place) → Moves d o s s' id v u y → Moves d o s' s'' id u w y → Moves d o s s'' id v w y
+  moves_on s s' s'' id v u w y a b = record {
+    fixed = b.fixed;
+    views = b.views ∙ ap (λ (l : List View). set l id w) a.views ∙ set_twice s.pool.core.views id u w;
+    frames = λ f. let x = a.frames f in let z = b.frames f in record { word = z.word ∙ x.word; tag = z.tag ∙ x.tag; sharers = z.sharers ∙ x.sharers; exclusive = z.exclusive ∙ x.exclusive; copying = z.copying ∙ x.copying };
+    latches = λ x. b.latches x ∙ a.latches x;
+    end = b.end ∙ a.end;
+    flushed = b.flushed ∙ a.flushed;
+    hand = b.hand ∙ a.hand;
+    outs = λ x n. b.outs x n ∙ a.outs x n;
+    values = λ x z n g. b.values x z n (a.values x z n g);
+  }

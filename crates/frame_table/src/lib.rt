@@ -13,6 +13,7 @@ mod io_right;
 mod log_words;
 mod mapped;
 mod maps;
+mod pages;
 mod pin;
 mod plays;
 mod rights;

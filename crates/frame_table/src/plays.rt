@@ -3,6 +3,7 @@ ghost use Rattle.std.specs.Prelude.{ℕ, List, []};
 ghost use Rattle.pin_core.specs.declared.view.MapEntry.{MapEntry};
 ghost use Rattle.frame_table.specs.Tells.{tells, Choice, always, if_found, if_unlocked, looking};
 ghost use Rattle.frame_table.specs.Kinds.{pins};
+ghost use Rattle.frame_table.specs.PageWork.{page_came, page_went};
 ghost use Rattle.frame_table.specs.Turning.{left, map_came, map_went, took};
 ghost use Rattle.table_rule.specs.declared.turn.Turn.{Turn};
 ghost use Rattle.table_rule.specs.declared.turn.Turn.TheVariants.{Log};
@@ -151,6 +152,35 @@ pub(crate) struct MapBack<D> {
 
 impl<L, G, D: AtMap> Play<Value<L, G>, View> for MapBack<D> {
     ghost then = { map_came D.partition D.entries };
+}
+
+/// Which frame's page a step is at, and its slot. Each call picks it.
+pub(crate) trait AtPage {
+    ghost frame: { ℕ };
+
+    ghost slot: { ℕ };
+}
+
+impl AtPage for Brand {
+    ghost frame = { 0 };
+
+    ghost slot = { 0 };
+}
+
+pub(crate) struct PageOut<D> {
+    frame: PhantomData<D>,
+}
+
+impl<L, G, D: AtPage> Play<Value<L, G>, View> for PageOut<D> {
+    ghost then = { page_went D.frame D.slot };
+}
+
+pub(crate) struct PageBack<D> {
+    frame: PhantomData<D>,
+}
+
+impl<L, G, D: AtPage> Play<Value<L, G>, View> for PageBack<D> {
+    ghost then = { page_came D.frame };
 }
 
 /// What a call knows of the table beside its seat. Each call picks it.
