@@ -134,7 +134,7 @@ module _ {L G : Type 0} (d : Devices L G) (o : Opening L G) where
             home,
             record {
               state = mapped k h.state id p me.0;
-              shows = shows_mapped k (set t.words (latch_place o.config.frames (Partition p)) (get_or t.words (latch_place o.config.frames (Partition p)) 0)) t h.state id p me.0 (set t.homes (o.config.frames + p) none) (set-get_or t.words (latch_place o.config.frames (Partition p)) 0) h.shows refl (length-set t.homes (o.config.frames + p) none ∙ h.shows.slots) (list_stays o t.homes (o.config.frames + p) none (omega arith) h.shows.list)
+              shows = shows_mapped k (set t.words (latch_place o.config.frames (Partition p)) (get_or t.words (latch_place o.config.frames (Partition p)) 0)) t h.state id p me.0 (set t.homes (o.config.frames + p) none) (set-get_or t.words (latch_place o.config.frames (Partition p)) 0) h.shows refl (length-set t.homes (o.config.frames + p) none ∙ h.shows.slots) (list_stays o t.homes (place.Of (Partition p)) none h.shows.fixed.few_lanes below h.shows.list)
                   (λ x has home_x. dite (ℕ_discrete (slot_of o.config.frames x) (o.config.frames + p))
                   (λ e. let is : x ≡ place.Of (Partition p) = same_slot o x (place.Of (Partition p)) h.shows.fixed.few_lanes has below e in absurd (is_away (subst (λ (z : Place). is_out z w ≡ false) is (home_x id w (grid.set_here h.state.pool.core.views id me.0 w here))) entries))
                   (λ n. let other : x ≢ place.Of (Partition p) = (λ e. n (ap (slot_of o.config.frames) e)) in let old = h.shows.homes x has (home_before h.state.pool.core.views id me.0 w x here (λ e. sym (mapped_out k p me.0 x other) ∙ e) home_x) in
@@ -164,7 +164,7 @@ module _ {L G : Type 0} (d : Devices L G) (o : Opening L G) where
   -- the step by which it is home again
   shows_home : (entries : List MapEntry) (words : List ℕ) (t : table.State (Value L G) View) (s : State) (id p : ℕ) (v : View) (y : Value L G) → words ≡ t.words → p < 128 → Shows d o t s → get_elem? s.pool.core.views id ≡ some v → GivesMap o.config.frames y (s.pool.core.partition p).map
       → Shows d o record { words = words; homes = set t.homes (o.config.frames + p) (some y); views = set t.views id (view_mapped (parts.map_back entries) p v) } (mapped (parts.map_back entries) s id p v)
-  shows_home entries words t s id p v y same below h there gives_it = let k : parts.TurnKind = parts.map_back entries in shows_mapped k words t s id p v (set t.homes (o.config.frames + p) (some y)) same h refl (length-set t.homes (o.config.frames + p) (some y) ∙ h.slots) (list_stays o t.homes (o.config.frames + p) (some y) (omega arith) h.list)
+  shows_home entries words t s id p v y same below h there gives_it = let k : parts.TurnKind = parts.map_back entries in shows_mapped k words t s id p v (set t.homes (o.config.frames + p) (some y)) same h refl (length-set t.homes (o.config.frames + p) (some y) ∙ h.slots) (list_stays o t.homes (place.Of (Partition p)) (some y) h.fixed.few_lanes below h.list)
       (λ x has home_x. dite (ℕ_discrete (slot_of o.config.frames x) (o.config.frames + p))
       (λ e. subst (λ (z : Place). HasValue d o (set t.homes (o.config.frames + p) (some y)) (mapped k s id p v) z) (sym (same_slot o x (place.Of (Partition p)) h.fixed.few_lanes has below e)) record {
         value = y;

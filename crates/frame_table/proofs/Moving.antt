@@ -40,9 +40,28 @@ same_slot o (place.Of turn.Log) (place.Of (turn.Partition q)) few a b e = absurd
 same_slot o (place.Of turn.Log) (place.Of (turn.Lane q)) few a b e = absurd (omega arith)
 same_slot o (place.Of turn.Log) (place.Of turn.Log) few a b e = refl
 
--- the list of lanes stays where another slot changes
-pub list_stays : {L G : Type 0} (o : Opening L G) (homes : List (slot.Option (Value L G))) (i : ℕ) (y : slot.Option (Value L G)) → i ≢ o.config.frames + 145 → HasList o homes → HasList o (set homes i y)
-list_stays o homes i y n h = record { list = h.list; home = set_else homes i (o.config.frames + 145) y (λ e. n (sym e)) ∙ h.home; empty = h.empty; room = h.room }
+-- no place has the slot of a lane that isn't there, or of the list of lanes
+spare_else : {L G : Type 0} (o : Opening L G) (x : Place) (q : ℕ) → o.config.lanes ≤ 16 → HasPlace o x → o.config.lanes ≤ q → q < 16 → o.config.frames + 128 + q ≢ slot_of o.config.frames x
+spare_else o (place.Page f) q few has from below e = absurd (omega arith)
+spare_else o (place.Of (turn.Partition p)) q few has from below e = absurd (omega arith)
+spare_else o (place.Of (turn.Lane r)) q few has from below e = absurd (omega arith)
+spare_else o (place.Of turn.Log) q few has from below e = absurd (omega arith)
+
+pub slot_low : {L G : Type 0} (o : Opening L G) (x : Place) → o.config.lanes ≤ 16 → HasPlace o x → slot_of o.config.frames x < o.config.frames + 145
+slot_low o (place.Page f) few has = omega arith
+slot_low o (place.Of (turn.Partition p)) few has = omega arith
+slot_low o (place.Of (turn.Lane q)) few has = omega arith
+slot_low o (place.Of turn.Log) few has = omega arith
+
+-- these slots stay where that of a place changes
+pub list_stays : {L G : Type 0} (o : Opening L G) (homes : List (slot.Option (Value L G))) (x : Place) (y : slot.Option (Value L G)) → o.config.lanes ≤ 16 → HasPlace o x → HasList o homes → HasList o (set homes (slot_of o.config.frames x) y)
+list_stays o homes x y few has h = record {
+  list = h.list;
+  home = set_else homes (slot_of o.config.frames x) (o.config.frames + 145) y (λ e. absurd (let low = slot_low o x few has in omega arith)) ∙ h.home;
+  empty = h.empty;
+  room = h.room;
+  spare = λ q from below. set_else homes (slot_of o.config.frames x) (o.config.frames + 128 + q) y (spare_else o x q few has from below) ∙ h.spare q from below;
+}
 
 -- A frame's words are the same
 pub record SameWords (a b : Frame) : Type 0 where
@@ -93,21 +112,14 @@ module _ {L G : Type 0} (d : Devices L G) (o : Opening L G) where
   -- where it goes out of its slot
   pub shows_out : (words : List ℕ) (t : table.State (Value L G) View) (s s' : State) (id : ℕ) (v w : View) (y : Place) → words ≡ t.words → Shows d o t s → get_elem? s.pool.core.views id ≡ some v → Moves s s' id v w y → HasPlace o y → slot_of o.config.frames y ≢ o.config.frames + 145 → (IsHome y (set s.pool.core.views id w) → ⊥)
       → Shows d o record { words = words; homes = set t.homes (slot_of o.config.frames y) slot.none; views = set t.views id w } s'
-  shows_out words t s s' id v w y same h there m within low away = shows_moved words t s s' id v w y (set t.homes (slot_of o.config.frames y) slot.none) same h there m within (length-set t.homes (slot_of o.config.frames y) slot.none ∙ h.slots) (list_stays o t.homes (slot_of o.config.frames y) slot.none low h.list)
+  shows_out words t s s' id v w y same h there m within low away = shows_moved words t s s' id v w y (set t.homes (slot_of o.config.frames y) slot.none) same h there m within (length-set t.homes (slot_of o.config.frames y) slot.none ∙ h.slots) (list_stays o t.homes y slot.none h.fixed.few_lanes within h.list)
       (λ i n. set_else t.homes (slot_of o.config.frames y) i slot.none n) (λ home. absurd (away home))
 
   -- where it comes back into its slot, as this value
   pub shows_back : (words : List ℕ) (t : table.State (Value L G) View) (s s' : State) (id : ℕ) (v w : View) (y : Place) (z : Value L G) → words ≡ t.words → Shows d o t s → get_elem? s.pool.core.views id ≡ some v → Moves s s' id v w y → HasPlace o y → slot_of o.config.frames y < o.config.frames + 145 → Gives d o s' y z
       → Shows d o record { words = words; homes = set t.homes (slot_of o.config.frames y) (some z); views = set t.views id w } s'
-  shows_back words t s s' id v w y z same h there m within low gives = shows_moved words t s s' id v w y (set t.homes (slot_of o.config.frames y) (some z)) same h there m within (length-set t.homes (slot_of o.config.frames y) (some z) ∙ h.slots) (list_stays o t.homes (slot_of o.config.frames y) (some z) (λ e. absurd (omega arith)) h.list)
+  shows_back words t s s' id v w y z same h there m within low gives = shows_moved words t s s' id v w y (set t.homes (slot_of o.config.frames y) (some z)) same h there m within (length-set t.homes (slot_of o.config.frames y) (some z) ∙ h.slots) (list_stays o t.homes y (some z) h.fixed.few_lanes within h.list)
       (λ i n. set_else t.homes (slot_of o.config.frames y) i (some z) n) (λ home. record { value = z; home = set_here t.homes (slot_of o.config.frames y) (some z) (let e = h.slots in omega arith); gives = gives })
-
--- each place lies before the list of lanes
-pub slot_low : {L G : Type 0} (o : Opening L G) (x : Place) → o.config.lanes ≤ 16 → HasPlace o x → slot_of o.config.frames x < o.config.frames + 145
-slot_low o (place.Page f) few has = omega arith
-slot_low o (place.Of (turn.Partition p)) few has = omega arith
-slot_low o (place.Of (turn.Lane q)) few has = omega arith
-slot_low o (place.Of turn.Log) few has = omega arith
 
 set_twice : {A : Type 0} (l : List A) (i : ℕ) (a b : A) → set (set l i a) i b ≡ set l i b
 set_twice [] i a b = refl

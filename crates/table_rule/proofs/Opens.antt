@@ -254,6 +254,9 @@ module _ {L G : Type 0} (d : Devices L G) (n : ℕ) (lanes : List L) (log : G) (
   lane_at : (q : ℕ) (l : L) → get_elem? lanes q ≡ some l → get_elem? ys (n + 128 + q) ≡ some (home_lane l)
   lane_at q l at = let low = length_low lanes q l at in in_lanes (n + 128 + q) (omega arith) ∙ right_at maps_part (map home_lane lanes) (n + 128 + q) q (let a = maps_long in omega arith) ∙ at_map home_lane lanes q l at
 
+  spare_at : (q : ℕ) → length lanes ≤ q → q < 16 → get_elem? ys (n + 128 + q) ≡ some value.Away
+  spare_at q from below = in_all (n + 128 + q) (omega arith) ∙ right_at lanes_part (replicate (16 - length lanes) value.Away) (n + 128 + q) (q - length lanes) (let a = lanes_long in omega arith) ∙ same_at_replicate (16 - length lanes) (q - length lanes) value.Away (omega arith)
+
   log_at : get_elem? ys (n + 144) ≡ some (value.Log (home_log h.room log))
   log_at = in_logged (n + 144) (omega arith) ∙ right_at all_part (value.Log (home_log h.room log) ∷ []) (n + 144) 0 (let a = all_long in omega arith)
 
@@ -333,7 +336,7 @@ module _ {L G : Type 0} (d : Devices L G) (o : Opening L G) where
         hand = in_rest words n o.base w (3 * n + 147) 147 refl;
       };
       homes = homes ys h count are new;
-      list = record { list = h.list; home = at_map some ys (n + 145) (value.Lanes h.list) (list_at d n lanes o.log.value ys h); empty = h.empty; room = (let a = h.list_room in omega arith) };
+      list = record { list = h.list; home = at_map some ys (n + 145) (value.Lanes h.list) (list_at d n lanes o.log.value ys h); empty = h.empty; room = (let a = h.list_room in omega arith); spare = λ q from below. at_map some ys (n + 128 + q) value.Away (spare_at d n lanes o.log.value ys h q (omega arith) below) };
     };
     laws = laws_open config_of store zero_page (record { some_backend = some_backend; placed = λ word. partition_low (unpacked_tag word) }) (record { placed = λ word. subst (λ (m : ℕ). tag_lane m word < o.config.lanes) (sym count) (lane_low o.config.lanes some_lane (unpacked_tag word)); based = based; named = names_long o.catalog.value; synced = synced_low d o.catalog.value lanes o.log.value o.base new });
   }

@@ -196,12 +196,13 @@ module _ {L G : Type 0} where
     pub home : get_elem? homes (slot_of o.config.frames x) ≡ some (some value)
     pub gives : Gives d o s x value
 
-  -- The list in which the lanes came is empty, with room for them
+  -- In the other slots the list in which the lanes came is empty, with room for them, and nothing stands for the lanes that there aren't
   pub record HasList (o : Opening L G) (homes : List (slot.Option (Value L G))) : Type 0 where
     pub list : Vec L Global
     pub home : get_elem? homes (list_slot o.config.frames) ≡ some (some (value.Lanes list))
     pub empty : list.items ≡ []
     pub room : o.config.lanes ≤ vec_capacity list
+    pub spare : (q : ℕ) → o.config.lanes ≤ q → q < 16 → get_elem? homes (slot_of o.config.frames (place.Of (turn.Lane q))) ≡ some (some value.Away)
 
   -- What a table shows of a state
   pub record Shows (d : Devices L G) (o : Opening L G) (t : table.State (Value L G) View) (s : State) : Type 0 where

@@ -71,7 +71,7 @@ fn zero_pages(alloc: Global, frames: u32) -> Result<Vec<Page>, AllocError>
 }
 
 /// Puts a value into a list that has room.
-fn put<T>(list: &mut Vec<T>, value: T)
+pub(crate) fn put<T>(list: &mut Vec<T>, value: T)
     requires { vec_len list.old < vec_capacity list.old }
     ensures items { list.new.items ≡ list.old.items ++ value ∷ [] }
     ensures room { vec_capacity list.old ≤ vec_capacity list.new }

@@ -4,6 +4,7 @@
 #![tactic(auto)]
 
 mod build;
+mod closing;
 mod config;
 mod layout;
 mod noted_lane;
@@ -14,6 +15,7 @@ mod turn;
 mod value;
 
 pub use build::{Room, opening_words, take_back};
+pub use closing::take_closed;
 pub use config::Config;
 pub use layout::{
     OTHER_SLOTS, OTHER_WORDS, content_place, end_place, flushed_place, hand_place, state_place,
