@@ -6,3 +6,4 @@ pub mod EndLoads
 pub mod Content
 pub mod Turning
 pub mod PageWork
+pub mod Closes

@@ -1,6 +1,7 @@
-//! A table is built.
+//! A table is built, and closed.
 ghost use Rattle.std.specs.Prelude.{◌≡◌, ◌≤◌, ◌^◌, [], length, IfOk, IfErr};
 ghost use Rattle.table_rule.specs.Shows.{AreLanes, IsNewLog, devices, starting};
+ghost use Rattle.frame_table.specs.Closes.{CanClose, Closes};
 ghost use Rattle.frame_table.specs.Sees.{Fits};
 
 use crate::table::{BuildRefused, FrameTable};
@@ -11,7 +12,9 @@ use pin_core::View;
 use segment_store::BlockLane;
 use std::alloc::Global;
 use std::snapshot::Snapshot;
-use table_rule::{Config, OTHER_SLOTS, Opening, Room, Value, opening_words, take_back};
+use table_rule::{
+    Config, OTHER_SLOTS, Opening, Room, Value, opening_words, take_back, take_closed,
+};
 
 impl<L: BlockLane, G: LogDevice> FrameTable<L, G> {
     /// The table of these relations and devices, over a log that begins at `base`, with a seat for the first backend.
@@ -65,5 +68,18 @@ impl<L: BlockLane, G: LogDevice> FrameTable<L, G> {
                 Err(BuildRefused { lanes, log })
             }
         }
+    }
+
+    /// The devices come back, once the first backend holds nothing and has taken in all others.
+    pub fn close(self, seat: Seat<Value<L, G>, View>) -> (Vec<L>, G)
+        requires { CanClose self seat }
+        ensures { Closes (devices L.contents L.failed_writes L.read_faults L.write_faults G.bytes G.synced G.faults) self.table.shared.key seat.me.0 result.0.items result.1 }
+    {
+        let FrameTable {
+            table,
+            config: _config,
+            catalog: _catalog,
+        } = self;
+        take_closed(table.close_with(seat))
     }
 }

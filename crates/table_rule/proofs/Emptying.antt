@@ -1,6 +1,6 @@
 -- Values are taken out of the slots of a closed table, the last one first.
 use Rattle.std.proofs.Common.{◌≡◌, ℕ, zero, suc, ◌+◌, ◌-◌, ◌<◌, ◌≤◌, Bool, true, false, List, [], ◌∷◌, ◌++◌, take, reverse, length, get_or, set, get_or-set_same, get_or-set_other, length-append, append_assoc, sym, refl, ap, ◌∙◌, subst, arith}
-use Rattle.std.proofs.lemmas.List.{append-nil}
+use Rattle.std.proofs.lemmas.List.{append-nil, take_all}
 use Rattle.std.specs.Prelude.{Vec, vec_capacity}
 use Rattle.std.specs.Global.{Global}
 use mathlib.Core.Logic.{dite}
@@ -12,7 +12,7 @@ use Rattle.table_rule.specs.declared.noted_log.NotedLog.{NotedLog}
 use Rattle.table_rule.specs.declared.value.Value.{Value}
 use Rattle.table_rule.specs.declared.value.Value.TheVariants as value
 use Rattle.table_rule.specs.Laid.{lanes_in, IsPlain, EndsWith}
-use Rattle.table_rule.proofs.Laying.{lanes_append, plain_left, plain_right, took_plain, took_lane, lane_room, lanes_before}
+use Rattle.table_rule.proofs.Laying.{lanes_append, plain_left, plain_right, took_plain, took_lane, lane_room, lanes_before, snoc_same}
 use Rattle.table_rule.proofs.Opens.{left_at, right_at, length_low}
 
 module _ {A : Type 0} where
@@ -182,3 +182,140 @@ module _ {L G : Type 0} where
   unfolding lanes_in
   all_left xs filled zero lanes h e = h.done
   all_left xs filled (suc i) lanes h e = absurd (omega arith)
+
+module _ {A : Type 0} where
+  -- an item of the first ones is one of all
+  pub at_take : (l : List A) (m i : ℕ) (y : A) → get_elem? (take m l) i ≡ some y → (i < m) × (get_elem? l i ≡ some y)
+  at_take [] zero i y e = absurd (some-ne-none y (sym e))
+  at_take [] (suc m) i y e = absurd (some-ne-none y (sym e))
+  at_take (x ∷ l) zero i y e = absurd (some-ne-none y (sym e))
+  at_take (x ∷ l) (suc m) zero y e = (omega arith, e)
+  at_take (x ∷ l) (suc m) (suc i) y e = let t = at_take l m i y e in (let a = t.0 in omega arith, t.1)
+
+  -- a list, by its two last items
+  pub two_last : (l : List A) (m : ℕ) (a b : A) → length l ≡ m + 2 → get_elem? l m ≡ some a → get_elem? l (m + 1) ≡ some b → l ≡ (take m l ++ a ∷ []) ++ b ∷ []
+  two_last l m a b long first second = sym (take_all (m + 2) l (omega arith)) ∙ take_more l (m + 1) (m + 2) b (omega arith) second ∙ ap (λ (z : List A). z ++ b ∷ []) (take_more l m (m + 1) a refl first)
+
+none_there : (L G : Type 0) → length (lanes_in {L = L} {G = G} []) ≡ 0
+unfolding lanes_in
+none_there L G = refl
+
+module _ {L G : Type 0} where
+  -- values are plain where each is
+  pub plain_each : (l : List (Value L G)) → ((i : ℕ) (y : Value L G) → get_elem? l i ≡ some y → IsPlain (y ∷ [])) → IsPlain l
+  unfolding IsPlain
+  plain_each [] h = tt
+  plain_each (value.Page p ∷ l) h = plain_each l (λ i y e. h (suc i) y e)
+  plain_each (value.Map m ∷ l) h = plain_each l (λ i y e. h (suc i) y e)
+  plain_each (value.Lane v ∷ l) h = plain_each l (λ i y e. h (suc i) y e)
+  plain_each (value.Log g ∷ l) h = absurd (h zero (value.Log g) refl)
+  plain_each (value.Lanes v ∷ l) h = absurd (h zero (value.Lanes v) refl)
+  plain_each (value.Away ∷ l) h = plain_each l (λ i y e. h (suc i) y e)
+
+  -- The values from a on, so many, are lanes, and no others
+  pub record LanesAt (a k : ℕ) (l : List (Value L G)) : Type 0 where
+    pub before : (i : ℕ) (y : Value L G) → get_elem? l i ≡ some y → i < a → lanes_in (y ∷ []) ≡ []
+    pub there : (q i : ℕ) (y : Value L G) → i ≡ a + q → q < k → get_elem? l i ≡ some y → (v : NotedLane L) × (y ≡ value.Lane v)
+    pub behind : (i : ℕ) (y : Value L G) → get_elem? l i ≡ some y → a + k ≤ i → lanes_in (y ∷ []) ≡ []
+    pub long : a + k ≤ length l
+
+  -- and so the lanes among them are those
+  pub record AreThose (a k : ℕ) (l : List (Value L G)) : Type 0 where
+    pub counted : length (lanes_in l) ≡ k
+    pub each : (q i : ℕ) (v : NotedLane L) → i ≡ a + q → q < k → get_elem? l i ≡ some (value.Lane v) → get_elem? (lanes_in l) q ≡ some v.device
+
+  no_lane : (y : Value L G) (l : List (Value L G)) → lanes_in (y ∷ []) ≡ [] → lanes_in (y ∷ l) ≡ lanes_in l
+  no_lane y l e = lanes_append (y ∷ []) l ∙ ap (λ (z : List L). z ++ lanes_in l) e
+
+  a_lane : (v : NotedLane L) (y : Value L G) (l : List (Value L G)) → y ≡ value.Lane v → lanes_in (y ∷ l) ≡ v.device ∷ lanes_in l
+  unfolding lanes_in
+  a_lane v y l e = ap (λ (z : Value L G). lanes_in (z ∷ l)) e
+
+  abbrev lane_of : NotedLane L → Value L G → NotedLane L
+  lane_of v (value.Lane w) = w
+  lane_of v _ = v
+
+  -- one more value before them, one more of them, and one more behind them
+  those_before : (y : Value L G) (l : List (Value L G)) (a k : ℕ) → lanes_in (y ∷ []) ≡ [] → AreThose a k l → AreThose (suc a) k (y ∷ l)
+  those_before y l a k none h = record { counted = ap (λ (z : List L). length z) (no_lane y l none) ∙ h.counted; each = λ q i v is low e. ap (λ (z : List L). get_elem? z q) (no_lane y l none) ∙ moved q i v is low e }
+    where
+      moved : (q i : ℕ) (v : NotedLane L) → i ≡ suc a + q → q < k → get_elem? (y ∷ l) i ≡ some (value.Lane v) → get_elem? (lanes_in l) q ≡ some v.device
+      moved q zero v is low e = absurd (omega arith)
+      moved q (suc j) v is low e = h.each q j v (omega arith) low e
+
+  those_lane : (y : Value L G) (l : List (Value L G)) (k : ℕ) (w : NotedLane L) → y ≡ value.Lane w → AreThose 0 k l → AreThose 0 (suc k) (y ∷ l)
+  those_lane y l k w lane h = record { counted = ap (λ (z : List L). length z) (a_lane w y l lane) ∙ (let b = h.counted in omega arith); each = λ q i v is low e. ap (λ (z : List L). get_elem? z q) (a_lane w y l lane) ∙ moved q i v is low e }
+    where
+      moved : (q i : ℕ) (v : NotedLane L) → i ≡ 0 + q → q < suc k → get_elem? (y ∷ l) i ≡ some (value.Lane v) → get_elem? (w.device ∷ lanes_in l) q ≡ some v.device
+      moved zero zero v is low e = ap (λ (x : NotedLane L). some x.device) (ap (lane_of w) (sym lane ∙ some-injective y (value.Lane v) e))
+      moved zero (suc j) v is low e = absurd (omega arith)
+      moved (suc q) zero v is low e = absurd (omega arith)
+      moved (suc q) (suc j) v is low e = h.each q j v (omega arith) (omega arith) e
+
+  those_behind : (y : Value L G) (l : List (Value L G)) → lanes_in (y ∷ []) ≡ [] → AreThose 0 0 l → AreThose 0 0 (y ∷ l)
+  those_behind y l none h = record { counted = ap (λ (z : List L). length z) (no_lane y l none) ∙ h.counted; each = λ q i v is low e. absurd (omega arith) }
+
+  pub are_those : (l : List (Value L G)) (a k : ℕ) → LanesAt a k l → AreThose a k l
+  are_those [] a k h = record { counted = none_there L G ∙ (let b = h.long in omega arith); each = λ q i v is low e. absurd (some-ne-none (value.Lane v) (sym e)) }
+  are_those (y ∷ l) (suc a) k h = those_before y l a k (h.before zero y refl (omega arith)) (are_those l a k record {
+    before = λ i z e low. h.before (suc i) z e (omega arith);
+    there = λ q i z is low e. h.there q (suc i) z (omega arith) low e;
+    behind = λ i z e high. h.behind (suc i) z e (omega arith);
+    long = (let b = h.long in omega arith);
+  })
+  are_those (y ∷ l) zero (suc k) h = let lane = h.there 0 0 y refl (omega arith) refl in those_lane y l k lane.0 lane.1 (are_those l 0 k record {
+    before = λ i z e low. absurd (omega arith);
+    there = λ q i z is low e. h.there (q + 1) (suc i) z (omega arith) (omega arith) e;
+    behind = λ i z e high. h.behind (suc i) z e (omega arith);
+    long = (let b = h.long in omega arith);
+  })
+  are_those (y ∷ l) zero zero h = those_behind y l (h.behind zero y refl (omega arith)) (are_those l 0 0 record {
+    before = λ i z e low. absurd (omega arith);
+    there = λ q i z is low e. absurd (omega arith);
+    behind = λ i z e high. h.behind (suc i) z e (omega arith);
+    long = omega arith;
+  })
+
+  -- a page, a map, and nothing
+  abbrev pub IsOther : Value L G → Type 0
+  IsOther (value.Page p) = Unit {0}
+  IsOther (value.Map m) = Unit {0}
+  IsOther (value.Lane l) = ⊥
+  IsOther (value.Log g) = ⊥
+  IsOther (value.Lanes l) = ⊥
+  IsOther value.Away = Unit {0}
+
+  pub other_plain : (y : Value L G) → IsOther y → IsPlain (y ∷ [])
+  unfolding IsPlain
+  other_plain (value.Page p) h = tt
+  other_plain (value.Map m) h = tt
+  other_plain (value.Lane l) h = absurd h
+  other_plain (value.Log g) h = absurd h
+  other_plain (value.Lanes l) h = absurd h
+  other_plain value.Away h = tt
+
+  pub other_lanes : (y : Value L G) → IsOther y → lanes_in (y ∷ []) ≡ []
+  unfolding lanes_in
+  other_lanes (value.Page p) h = refl
+  other_lanes (value.Map m) h = refl
+  other_lanes (value.Lane l) h = absurd h
+  other_lanes (value.Log g) h = absurd h
+  other_lanes (value.Lanes l) h = absurd h
+  other_lanes value.Away h = refl
+
+-- a lane is plain, and neither the log nor the list is a lane
+pub lane_plain : (L G : Type 0) (l : NotedLane L) → IsPlain {L = L} {G = G} (value.Lane l ∷ [])
+unfolding IsPlain
+lane_plain L G l = tt
+
+pub log_lanes : (L G : Type 0) (g : NotedLog G) → lanes_in {L = L} {G = G} (value.Log g ∷ []) ≡ []
+unfolding lanes_in
+log_lanes L G g = refl
+
+pub list_lanes : (L G : Type 0) (l : Vec L Global) → lanes_in {L = L} {G = G} (value.Lanes l ∷ []) ≡ []
+unfolding lanes_in
+list_lanes L G l = refl
+
+-- values end with one log
+pub one_log : {L G : Type 0} (g h : NotedLog G) (xs : List (Value L G)) (l m : Vec L Global) → EndsWith g l xs → EndsWith h m xs → h.device ≡ g.device
+one_log g h xs l m a b = log_same g h (value.Log g) refl (snoc_same a.others b.others (value.Log g) (value.Log h) (snoc_same (a.others ++ value.Log g ∷ []) (b.others ++ value.Log h ∷ []) (value.Lanes l) (value.Lanes m) (sym a.is ∙ b.is)).0).1
