@@ -1,0 +1,132 @@
+-- Reads and writes begin, and end.
+use Rattle.std.proofs.Common.{◌≡◌, ◌≢◌, ℕ, Bool, not, true, false, Some, None, List, get_or, sym, refl, ap, ◌∙◌, subst}
+use Rattle.state_word.specs.declared.word.StateWord.{StateWord}
+use Rattle.state_word.specs.Fields.{fields, locked_fields}
+use Rattle.pin_core.specs.declared.view.Role.TheVariants.{Absent, HandedOut}
+use Rattle.pin_core.specs.declared.view.Link.{Link}
+use Rattle.pin_core.specs.declared.view.View.{View}
+use Rattle.pin_core.specs.declared.view.LaneHold.{LaneHold}
+use Rattle.pin_core.specs.State.{link, no_lane}
+use Rattle.pin_core.specs.Steps.{HoldsNoHeader}
+use Rattle.page_core.specs.Kinds.{EndsAs}
+use Rattle.page_core.specs.Steps.{HasNoIo, HasNoWriteOut, IsWriteOf}
+use Rattle.state_word.specs.declared.word.IoEnd.{IoEnd}
+use Rattle.state_word.specs.declared.word.IoEnd.TheVariants.{ReadOk, WriteOk, Bad}
+use mathlib.Core.Logic.{dite}
+use native.Mathlib.Decide.{ℕ_discrete}
+use Rattle.pin_core.specs.Kinds.{lock_header}
+use Rattle.frame_table.specs.Kinds.{pins}
+use Rattle.frame_table.specs.Sees.{Looked, Touches, locked_link, unlocked_link}
+use Rattle.frame_table.specs.Tells.{Did, Looks, looking}
+use Rattle.frame_table.specs.Content.{CanBeginIo, CanFinishIo, begun_link, finished_link}
+use Rattle.frame_table.proofs.Told.{looks_link, looked_on}
+use Rattle.frame_table.proofs.Seeing.{sees_valid}
+use Rattle.content_locks.specs.Io.{CanEndIo, CanStartIo, FindsNothing, is_nothing}
+
+-- a locked word shows what the word did
+nothing_locked : (input : Bool) (w : StateWord) → is_nothing input (locked_fields w) ≡ is_nothing input w
+nothing_locked true w = refl
+nothing_locked false w = refl
+
+-- The link before the header was locked, under the lock, and after it
+module _ (word : ℕ) (l m : Link) (a : Looked (locked_link word l) m) where
+  -- unlocked again after a load, with nothing begun
+  pub unlocked_back : (n o : Link) → Looked m n → o ≡ unlocked_link n → l.header ≡ None → Looked l o
+  unlocked_back n o b e none = subst (Looked l) (sym e) record {
+    role = b.role ∙ a.role;
+    tag = b.tag ∙ a.tag;
+    ring = b.ring ∙ a.ring;
+    header = sym none;
+    pending = b.pending ∙ a.pending;
+    content = b.content ∙ a.content;
+    copying = b.copying ∙ a.copying;
+    dirtied = b.dirtied ∙ a.dirtied;
+    unapplied = b.unapplied ∙ a.unapplied;
+    copied = b.copied ∙ a.copied;
+    io = b.io ∙ a.io;
+    read = b.read ∙ a.read;
+    read_is_home = b.read_is_home ∙ a.read_is_home;
+    last_write = b.last_write ∙ a.last_write;
+    out = b.out ∙ a.out;
+    overwritten = b.overwritten ∙ a.overwritten;
+    waits = λ w. b.waits (a.waits w);
+  }
+
+  -- begun
+  pub begun_back : (input : Bool) (o : Link) → o ≡ begun_link input m → Looked (begun_link input l) o
+  begun_back true o e = subst (Looked (begun_link true l)) (sym e) record { role = a.role; tag = a.tag; ring = a.ring; header = refl; pending = a.pending; content = a.content; copying = a.copying; dirtied = a.dirtied; unapplied = a.unapplied; copied = a.copied; io = refl; read = refl; read_is_home = refl; last_write = a.last_write; out = a.out; overwritten = a.overwritten; waits = a.waits }
+  begun_back false o e = subst (Looked (begun_link false l)) (sym e) record { role = a.role; tag = a.tag; ring = a.ring; header = refl; pending = a.pending; content = a.content; copying = a.copying; dirtied = a.dirtied; unapplied = a.unapplied; copied = a.copied; io = refl; read = a.read; read_is_home = a.read_is_home; last_write = a.last_write; out = a.out; overwritten = a.overwritten; waits = a.waits }
+
+  -- the frame of a pin that was handed out has a tag
+  tagged : (f was : ℕ) (v u w : View) → Looks f v u → Did (pins lock_header) f u w was → fields word ≡ locked_fields (fields was) → (link v f).role ≡ HandedOut → (fields word).tag_valid ≡ true
+  tagged f was v u w looks d locked handed = ap (λ (x : StateWord). x.tag_valid) locked ∙ ap (λ (x : StateWord). x.tag_valid) (sym d.says) ∙ ((d.laws.invariant.pool.core.grid.cells d.seat u f d.there d.inside).handed_out ((looks_link f v u looks).role ∙ handed)).flagged
+
+  dirty_of : (b : Bool) → not b ≡ false → b ≡ true
+  dirty_of true e = refl
+  dirty_of false e = absurd (let no : true ≡ false = e in cc)
+
+  pub can_begin : (input : Bool) → CanStartIo input l → (fields word).in_progress ≡ false → is_nothing input (fields word) ≡ false → (l.role ≡ HandedOut → (fields word).tag_valid ≡ true) → CanBeginIo input word m
+  can_begin true can clear nothing tag = record {
+    held = a.header;
+    settled = a.pending ∙ can.settled;
+    pinned = λ e. can.pinned (sym a.role ∙ e);
+    clear = clear;
+    to_read = λ e. (tag (can.to_read refl), nothing);
+    to_write = λ e. absurd (let no : true ≡ false = e in cc);
+  }
+  can_begin false can clear nothing tag = record {
+    held = a.header;
+    settled = a.pending ∙ can.settled;
+    pinned = λ e. can.pinned (sym a.role ∙ e);
+    clear = clear;
+    to_read = λ e. absurd (let no : false ≡ true = e in cc);
+    to_write = λ e. (dirty_of (fields word).dirty nothing, a.content ∙ can.to_write refl);
+  }
+
+-- What was seen under the header
+module _ (f word : ℕ) (v w : View) (locks : (u : View) × (was : ℕ) × Looks f v u × Did (pins lock_header) f u w was × (fields word ≡ locked_fields (fields was))) where
+  pub tag_there : Looked (locked_link word (link v f)) (link w f) → (link v f).role ≡ HandedOut → (fields word).tag_valid ≡ true
+  tag_there a handed = tagged word (link v f) (link w f) a f locks.1 v locks.0 w locks.2 locks.3 locks.4 handed
+
+  pub finds : (input : Bool) → is_nothing input (fields word) ≡ true → FindsNothing input f
+  finds input nothing = (locks.0, w, locks.1, locks.3, sym (nothing_locked input (fields locks.1)) ∙ ap (is_nothing input) (sym locks.4) ∙ nothing)
+
+  -- a load under it sees that the page is valid
+  pub sees : (x : View) (found : ℕ) → Looked (locked_link word (link v f)) (link w f) → Did looking f w x found → (link v f).pending ≡ false → (link v f).role ≢ Absent → (fields word).valid ≡ true → (link x f).seen_valid ≡ true
+  sees x found a d settled pinned valid = sees_valid f found w x d (a.pending ∙ settled) (λ e. pinned (sym a.role ∙ e))
+      (ap (λ (z : StateWord). z.valid) (sym d.says ∙ (d.laws.invariant.pool.core.grid.cells d.seat w f d.there d.inside).header (fields word) a.header) ∙ valid)
+
+-- What loads of the word leave, for another try
+module _ (f : ℕ) (v w : View) (touches : Touches f v w) (a : Looked (link v f) (link w f)) where
+  pub headless_still : HoldsNoHeader v → HoldsNoHeader w
+  headless_still none g = dite (ℕ_discrete g f) (λ e. ap (λ (x : ℕ). (link w x).header) e ∙ a.header ∙ none f) (λ n. ap (λ (l : Link). l.header) (touches.others g n) ∙ none g)
+
+  pub quiet_still : HasNoIo v → HasNoIo w
+  quiet_still quiet g = dite (ℕ_discrete g f) (λ e. ap (λ (x : ℕ). (link w x).io) e ∙ a.io ∙ quiet f) (λ n. ap (λ (l : Link). l.io) (touches.others g n) ∙ quiet g)
+
+  pub can_still : (input : Bool) → CanStartIo input (link v f) → CanStartIo input (link w f)
+  can_still input can = record { pinned = λ e. can.pinned (sym a.role ∙ e); settled = a.pending ∙ can.settled; to_read = λ e. a.role ∙ can.to_read e; to_write = λ e. a.content ∙ can.to_write e }
+
+-- loads, and then a read or a write that began
+pub begun_on : (input : Bool) (l m n : Link) → Looked l m → Looked (begun_link input m) n → Looked (begun_link input l) n
+begun_on true l m n a b = looked_on (begun_link true l) (begun_link true m) n record { role = a.role; tag = a.tag; ring = a.ring; header = refl; pending = a.pending; content = a.content; copying = a.copying; dirtied = a.dirtied; unapplied = a.unapplied; copied = a.copied; io = refl; read = refl; read_is_home = refl; last_write = a.last_write; out = a.out; overwritten = a.overwritten; waits = a.waits } b
+begun_on false l m n a b = looked_on (begun_link false l) (begun_link false m) n record { role = a.role; tag = a.tag; ring = a.ring; header = refl; pending = a.pending; content = a.content; copying = a.copying; dirtied = a.dirtied; unapplied = a.unapplied; copied = a.copied; io = refl; read = a.read; read_is_home = a.read_is_home; last_write = a.last_write; out = a.out; overwritten = a.overwritten; waits = a.waits } b
+
+-- a read or a write may end under the header as it could before it was locked
+ends_on : (end : IoEnd) (l m : Link) → m.io ≡ l.io → m.read ≡ l.read → m.read_is_home ≡ l.read_is_home → m.last_write ≡ l.last_write → EndsAs end l → EndsAs end m
+ends_on ReadOk l m io read home write h = record { right = io ∙ h.right; read = λ e. h.read (sym read ∙ e); sound = λ p e. h.sound p (sym read ∙ e); home = home ∙ h.home }
+ends_on WriteOk l m io read home write h = record { right = io ∙ h.right; written = write ∙ h.written }
+ends_on Bad l m io read home write h = λ e. h (sym io ∙ e)
+
+pub can_finish : (end : IoEnd) (word : ℕ) (l m : Link) → Looked (locked_link word l) m → CanEndIo end l → CanFinishIo end word m
+can_finish end word l m a can = record { held = a.header; page_home = λ e. a.out ∙ can.home (sym a.io ∙ e); ends = ends_on end l m a.io a.read a.read_is_home a.last_write can.ends }
+
+-- no lane is out with a write of the frame still
+pub no_write_still : (f : ℕ) (v w : View) → w.lanes ≡ v.lanes → HasNoWriteOut v f → HasNoWriteOut w f
+no_write_still f v w e h n = subst (λ (l : List LaneHold). (get_or l n no_lane).out ≢ None → ¬ IsWriteOf f (get_or l n no_lane).change) (sym e) (h n)
+
+pub finished_back : (word : ℕ) (l m o : Link) → Looked (locked_link word l) m → o ≡ finished_link m → Looked (finished_link l) o
+finished_back word l m o a e = subst (Looked (finished_link l)) (sym e) record { role = a.role; tag = a.tag; ring = a.ring; header = refl; pending = a.pending; content = a.content; copying = a.copying; dirtied = a.dirtied; unapplied = a.unapplied; copied = a.copied; io = refl; read = refl; read_is_home = refl; last_write = refl; out = a.out; overwritten = a.overwritten; waits = a.waits }
+
+pub looked_none : (l : Link) → Looked l l
+looked_none l = record { role = refl; tag = refl; ring = refl; header = refl; pending = refl; content = refl; copying = refl; dirtied = refl; unapplied = refl; copied = refl; io = refl; read = refl; read_is_home = refl; last_write = refl; out = refl; overwritten = refl; waits = λ e. e }

@@ -1,0 +1,20 @@
+use Rattle.std.proofs.Common.{sym, ap, subst, ◌∙◌}
+use Rattle.pin_core.specs.declared.view.Link.{Link}
+use Rattle.frame_table.proofs.Told.{touches_on}
+use Rattle.content_locks.specs.Locks.{MayCopy}
+use Rattle.content_locks.proofs.Locking.{is_shared, is_exclusive_lock}
+use Rattle.content_locks.proofs.copies.copy_out.Goals as goal
+
+pub copy_page-requires-clause-view : goal.copy_page-requires-clause-view
+copy_page-requires-clause-view g c = let v = c.requires.view in let l = c.look_content.ensures in subst MayCopy (sym l.link) record {
+  right = v.right;
+  settled = v.settled;
+  home = v.home;
+  shared = λ e. absurd (is_exclusive_lock _ _ _ _ l.did (sym c.is_exclusive.ensures ∙ c.if-is_exclusive.true) e);
+}
+
+pub take_copy-requires-clause-view : goal.take_copy-requires-clause-view
+take_copy-requires-clause-view g c = let l = c.look_content.ensures in ap (λ (x : Link). x.content) l.link ∙ is_shared _ _ _ _ l.did (sym c.is_exclusive.ensures ∙ c.if-is_exclusive.false) c.requires.view.right
+
+pub returns-clause-touches : goal.returns-clause-touches
+returns-clause-touches g c = touches_on _ _ _ _ (touches_on _ _ _ _ c.look_content.ensures.touches c.take_copy.ensures.touches) (touches_on _ _ _ _ c.copy_page-2.ensures.touches c.leave_copy.ensures.touches)

@@ -1,0 +1,25 @@
+use Rattle.std.proofs.Common.{refl, sym, ap, ◌∙◌, subst}
+use Rattle.frame_table.proofs.Told.{touches_none, touches_on, looked_on}
+use Rattle.content_locks.proofs.InOut.{headless_still, quiet_still, can_still, begun_on, looked_none}
+use Rattle.content_locks.proofs.io.start_io.Goals as goal
+
+pub loop-init : goal.loop-init
+loop-init g c = record { seat = record { table = refl; id = refl; hand = refl }; touches = touches_none _ _; looked = looked_none _ }
+
+pub try_io-requires-clause-seat : goal.try_io-requires-clause-seat
+try_io-requires-clause-seat g c = let a = c.requires.seat in let i = c.loop.invariant in record { fits = i.seat.table ∙ a.fits; live = i.touches.self.emptied ∙ a.live; inside = a.inside }
+
+pub try_io-requires-clause-headless : goal.try_io-requires-clause-headless
+try_io-requires-clause-headless g c = let i = c.loop.invariant in headless_still _ _ _ i.touches i.looked c.requires.headless
+
+pub try_io-requires-clause-quiet : goal.try_io-requires-clause-quiet
+try_io-requires-clause-quiet g c = let i = c.loop.invariant in quiet_still _ _ _ i.touches i.looked c.requires.quiet
+
+pub try_io-requires-clause-view : goal.try_io-requires-clause-view
+try_io-requires-clause-view g c = let i = c.loop.invariant in can_still _ _ _ i.touches i.looked _ c.requires.view
+
+pub returns-in-Begun-clause-touches : goal.returns-in-Begun-clause-touches
+returns-in-Begun-clause-touches g c = touches_on _ _ _ _ c.loop.invariant.touches c.try_io.ensures.touches
+
+pub returns-in-Begun-clause-begun : goal.returns-in-Begun-clause-begun
+returns-in-Begun-clause-begun g c = begun_on _ _ _ _ c.loop.invariant.looked c.in-Begun.ensures.tried.2

@@ -1,0 +1,31 @@
+use Rattle.std.proofs.Common.{refl, sym, ap, subst, ◌∙◌}
+use Rattle.page_core.specs.Kinds.{share}
+use Rattle.frame_table.proofs.Told.{touches_on}
+use Rattle.frame_table.specs.Content.{CanLock, shared_link}
+use Rattle.content_locks.specs.Locks.{still}
+use Rattle.content_locks.proofs.Locking.{looks_touch, looks_link, looks_on, refused_looks, locks_on}
+use Rattle.content_locks.proofs.locks.share.Goals as goal
+
+pub loop-init : goal.loop-init
+loop-init g c = record { seat = record { table = refl; id = refl; hand = refl }; looked = still }
+
+pub try_share-requires-clause-seat : goal.try_share-requires-clause-seat
+try_share-requires-clause-seat g c = let a = c.requires.seat in record { fits = c.loop.invariant.seat.table ∙ a.fits; live = (looks_touch _ _ _ c.loop.invariant.looked).self.emptied ∙ a.live; inside = a.inside }
+
+pub try_share-requires-clause-view : goal.try_share-requires-clause-view
+try_share-requires-clause-view g c = subst CanLock (sym (looks_link _ _ _ c.loop.invariant.looked)) c.requires.view
+
+pub returns-in-Ok-clause-touches : goal.returns-in-Ok-clause-touches
+returns-in-Ok-clause-touches g c = touches_on _ _ _ _ (looks_touch _ _ _ c.loop.invariant.looked) c.try_share.ensures.touches
+
+pub returns-in-Ok-clause-shared : goal.returns-in-Ok-clause-shared
+returns-in-Ok-clause-shared g c = c.in-Ok.ensures.shared ∙ ap shared_link (looks_link _ _ _ c.loop.invariant.looked)
+
+pub returns-in-Ok-clause-did : goal.returns-in-Ok-clause-did
+returns-in-Ok-clause-did g c = locks_on share _ _ _ _ c.loop.invariant.looked c.in-Ok.ensures.did
+
+pub loop-preserved : goal.loop-preserved
+loop-preserved g c = let a = c.loop.invariant.seat in let b = c.try_share.ensures.seat in record {
+  seat = record { table = b.table ∙ a.table; id = b.id ∙ a.id; hand = b.hand ∙ a.hand };
+  looked = looks_on _ _ _ _ c.loop.invariant.looked (refused_looks _ _ _ _ _ c.in-Err.ensures.cause);
+}

@@ -1,0 +1,13 @@
+use Rattle.frame_table.proofs.Told.{touches_on}
+use Rattle.content_locks.proofs.Locking.{held_word}
+use Rattle.content_locks.specs.Locks.{still, again}
+use Rattle.content_locks.proofs.locks.try_exclusive.Goals as goal
+
+pub returns-in-Ok-clause-did : goal.returns-in-Ok-clause-did
+returns-in-Ok-clause-did g c = (c.look_content-was.new.seat.me.0, c.look_content-was.result, again _ still c.look_content-was.ensures.did, c.in-Ok.ensures.did)
+
+pub returns-in-Err-clause-touches : goal.returns-in-Err-clause-touches
+returns-in-Err-clause-touches g c = touches_on _ _ _ _ c.look_content-was.ensures.touches c.set_exclusive.ensures.touches
+
+pub returns-then-was-ne0-clause-cause : goal.returns-then-was-ne0-clause-cause
+returns-then-was-ne0-clause-cause g c = (c.look_content-was.ensures.did, held_word _ _ _ _ c.look_content-was.ensures.did c.if-was-ne0.true)

@@ -1,0 +1,9 @@
+use Rattle.frame_table.proofs.Told.{touches_on}
+use Rattle.content_locks.specs.Locks.{still, again}
+use Rattle.content_locks.proofs.locks.try_share.Goals as goal
+
+pub returns-in-Ok-clause-did : goal.returns-in-Ok-clause-did
+returns-in-Ok-clause-did g c = (c.look_content-was.new.seat.me.0, c.look_content-was.result, again _ still c.look_content-was.ensures.did, c.in-Ok.ensures.did)
+
+pub returns-in-Err-clause-touches : goal.returns-in-Err-clause-touches
+returns-in-Err-clause-touches g c = touches_on _ _ _ _ c.look_content-was.ensures.touches c.add_share.ensures.touches

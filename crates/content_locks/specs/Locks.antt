@@ -1,0 +1,63 @@
+-- What the calls of this crate do, and why they refuse.
+use Rattle.std.specs.Prelude.{◌≡◌, ◌≢◌, ℕ, ◌<◌, ◌%◌, ◌^◌, Bool, true, false, Option, Some, None}
+use mathlib.Core.Logic.{◌⊎◌}
+use Rattle.state_word.specs.Fields.{fields}
+use Rattle.pin_core.specs.declared.view.Content.TheVariants.{Unlocked, Shared}
+use Rattle.pin_core.specs.declared.view.Role.TheVariants.{Absent, HandedOut}
+use Rattle.pin_core.specs.declared.view.Link.{Link}
+use Rattle.pin_core.specs.declared.view.View.{View}
+use Rattle.pin_core.specs.State.{Page, link}
+use Rattle.page_core.specs.Kinds as paged
+use Rattle.frame_table.specs.Kinds.{pages}
+use Rattle.frame_table.specs.Tells.{Did}
+use Rattle.frame_table.specs.Content.{copying_link, has_exclusive, looking_content}
+use Rattle.content_locks.specs.declared.locks.TryLock.{TryLock}
+use Rattle.content_locks.specs.declared.locks.TryLock.TheVariants.{Busy, Changed}
+
+-- the view v became w by loads of the content word of f
+pub data Looks (f : ℕ) : View → View → Type 0 where
+  still : {v : View} → Looks f v v
+  again : {v u w : View} (found : ℕ) → Looks f v u → Did looking_content f u w found → Looks f v w
+
+-- after such loads a step of the kind k was made at the content word
+abbrev pub Locks : paged.Kind → ℕ → View → View → Type 0
+Locks k f v w = (u : View) × (was : ℕ) × Looks f v u × Did (pages k) f u w was
+
+-- a content word that shows an exclusive lock, and one that shows any
+abbrev pub IsHeldExclusively : ℕ → Type 0
+IsHeldExclusively word = has_exclusive word ≡ true
+
+abbrev pub IsHeld : ℕ → Type 0
+IsHeld word = (has_exclusive word ≡ true) ⊎ (0 < word % 2 ^ 18)
+
+-- Why a content lock is not taken: a word that this call loaded shows a holder in conflict, or this call loaded two different words
+abbrev pub RefusesLock : (ℕ → Type 0) → ℕ → View → View → TryLock → Type 0
+RefusesLock Conflicts f v w (Busy word) = Did looking_content f v w word × Conflicts word
+RefusesLock Conflicts f v w (Changed was now) = (was ≢ now) × ((u : View) × Did looking_content f v u was × Did looking_content f u w now)
+
+-- the link of a sharer that has taken the copy latch, or hasn't
+abbrev pub copying_link_if : Bool → Link → Link
+copying_link_if true l = copying_link true l
+copying_link_if false l = l
+
+-- The view may copy the page under its content lock: no entry is unapplied, and neither the page nor the copy latch is taken
+pub record CanCopy (l : Link) : Type 0 where
+  pub right : l.content ≢ Unlocked
+  pub settled : l.unapplied ≡ false
+  pub home : l.out ≡ None
+  pub no_copy : l.copying ≡ false
+
+-- and it has what the page needs to go out
+pub record MayCopy (l : Link) : Type 0 where
+  pub right : l.content ≢ Unlocked
+  pub settled : l.unapplied ≡ false
+  pub home : l.out ≡ None
+  pub shared : l.content ≡ Shared → l.copying ≡ true
+
+-- the link with the copy noted
+abbrev pub copied_link : Page → Link → Link
+copied_link page l = record l { copied = Some page }
+
+-- The page went out of the frame as this page
+abbrev pub CopiesPage : ℕ → Page → Type 0
+CopiesPage f page = (v : View) × (w : View) × (found : ℕ) × Did (pages paged.page_out) f v w found × ((link w f).out ≡ Some page)

@@ -1,0 +1,117 @@
+//! The rights to read a page and to write it (`StartBufferIO`, `TerminateBufferIO`).
+ghost use Rattle.std.specs.Prelude.{◌≡◌, true, IfNone, IfSome};
+ghost use Rattle.state_word.specs.Fields.{fields};
+ghost use Rattle.pin_core.specs.State.{link};
+ghost use Rattle.pin_core.specs.Steps.{HoldsNoHeader};
+ghost use Rattle.page_core.specs.Steps.{HasNoIo, HasNoWriteOut};
+ghost use Rattle.frame_table.specs.Sees.{CanStep, Looked, SameSeat, Touches};
+ghost use Rattle.frame_table.specs.Content.{begun_link, finished_link};
+ghost use Rattle.content_locks.specs.Io.{BeginsIo, CanEndIo, CanStartIo, EndsIo, FindsNothing, TriedIo, is_nothing};
+
+use atomic_table::Seat;
+use frame_table::{FrameTable, IoRight, Value};
+use log_device::LogDevice;
+use pin_core::View;
+use segment_store::BlockLane;
+use state_word::{Flag, IoEnd, has};
+use std::sync::Wait;
+
+/// What came of one try to begin.
+enum TryIo {
+    /// Another backend reads or writes the page.
+    InProgress,
+    /// The page is read, or clean.
+    Nothing,
+    Begun(IoRight),
+}
+
+/// Whether a state word shows nothing to do: a page that is valid, or for a write one that isn't dirty.
+fn shows_nothing(word: u64, input: bool) -> bool
+    ensures { result ≡ is_nothing input (fields word) }
+{
+    if input {
+        has(word, Flag::Valid)
+    } else {
+        !has(word, Flag::Dirty)
+    }
+}
+
+fn try_io<L: BlockLane, G: LogDevice, R: Wait>(
+    table: &FrameTable<L, G>,
+    rt: &R,
+    seat: &mut Seat<Value<L, G>, View>,
+    frame: u32,
+    input: bool,
+) -> TryIo
+    requires seat { CanStep table.now seat.old frame }
+    requires headless { HoldsNoHeader seat.old.me.0 }
+    requires quiet { HasNoIo seat.old.me.0 }
+    requires view { CanStartIo input (link seat.old.me.0 frame) }
+    ensures seat { SameSeat seat.old seat.new }
+    ensures touches { Touches frame seat.old.me.0 seat.new.me.0 }
+    ensures tried { TriedIo input frame seat.old.me.0 seat.new.me.0 result }
+{
+    let word = table.lock_header(rt, seat, frame);
+    if has(word, Flag::IoInProgress) {
+        table.unlock_header(seat, frame);
+        return TryIo::InProgress;
+    }
+    if shows_nothing(word, input) {
+        table.look(seat, frame);
+        table.unlock_header(seat, frame);
+        return TryIo::Nothing;
+    }
+    TryIo::Begun(table.begin_io(seat, frame, word, input))
+}
+
+/// Waits until no other backend reads or writes the page, and begins to read it, or to write it. It answers None where the word that it held shows nothing to do: the page is valid, or for a write it isn't dirty.
+pub fn start_io<L: BlockLane, G: LogDevice, R: Wait>(
+    table: &FrameTable<L, G>,
+    rt: &R,
+    seat: &mut Seat<Value<L, G>, View>,
+    frame: u32,
+    input: bool,
+) -> Option<IoRight>
+    requires seat { CanStep table.now seat.old frame }
+    requires headless { HoldsNoHeader seat.old.me.0 }
+    requires quiet { HasNoIo seat.old.me.0 }
+    requires view { CanStartIo input (link seat.old.me.0 frame) }
+    ensures seat { SameSeat seat.old seat.new }
+    ensures touches { Touches frame seat.old.me.0 seat.new.me.0 }
+    ensures right { IfSome result (λ r. (r.frame ≡ frame) × (r.input ≡ input)) }
+    ensures begun { IfSome result (λ _. Looked (begun_link input (link seat.old.me.0 frame)) (link seat.new.me.0 frame)) }
+    ensures left { IfNone result (Looked (link seat.old.me.0 frame) (link seat.new.me.0 frame)) }
+    ensures seen { IfNone result (input ≡ true → (link seat.new.me.0 frame).seen_valid ≡ true) }
+    ensures did { IfSome result (λ _. BeginsIo input frame seat.new.me.0) }
+    ensures cause { IfNone result (FindsNothing input frame) }
+{
+    for _ in rt.forever() {
+        match try_io(table, rt, seat, frame, input) {
+            TryIo::InProgress => {}
+            TryIo::Nothing => return None,
+            TryIo::Begun(right) => return Some(right),
+        }
+    }
+    unreachable!()
+}
+
+/// Ends the read or the write of a page.
+pub fn end_io<L: BlockLane, G: LogDevice, R: Wait>(
+    table: &FrameTable<L, G>,
+    rt: &R,
+    seat: &mut Seat<Value<L, G>, View>,
+    right: IoRight,
+    end: IoEnd,
+)
+    requires seat { CanStep table.now seat.old right.frame }
+    requires headless { HoldsNoHeader seat.old.me.0 }
+    requires no_write { HasNoWriteOut seat.old.me.0 right.frame }
+    requires view { CanEndIo end (link seat.old.me.0 right.frame) }
+    ensures seat { SameSeat seat.old seat.new }
+    ensures touches { Touches right.frame seat.old.me.0 seat.new.me.0 }
+    ensures ended { Looked (finished_link (link seat.old.me.0 right.frame)) (link seat.new.me.0 right.frame) }
+    ensures did { EndsIo end right.frame seat.new.me.0 }
+{
+    let word = table.lock_header(rt, seat, right.frame());
+    table.finish_io(seat, right, word, end);
+}
