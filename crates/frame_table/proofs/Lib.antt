@@ -10,4 +10,5 @@ pub mod Splitting
 pub mod Behind
 pub mod Holding
 pub mod Taking
+pub mod Fitting
 pub mod Mapping
