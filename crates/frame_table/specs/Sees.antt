@@ -127,18 +127,19 @@ pub record MayChange (v : View) (p : ℕ) : Type 0 where
   -- it names no pair, in any partition
   pub settled : (q : ℕ) → (hold v q).change ≡ Settled
 
--- The map of the tag's partition is out with the view, and lacks the tag
+-- The view has seen the map of the tag's partition, which is home again, and it lacks the tag
 pub record Lacks (v : View) (tag : ℕ) : Type 0 where
-  pub out : (hold v (tag_partition tag)).out ≢ None
-  pub lacks : (entries : List MapEntry) → (hold v (tag_partition tag)).out ≡ Some entries → found entries tag ≡ None
+  pub home : (hold v (tag_partition tag)).out ≡ None
+  pub seen : (hold v (tag_partition tag)).seen ≢ None
+  pub lacks : (entries : List MapEntry) → (hold v (tag_partition tag)).seen ≡ Some entries → found entries tag ≡ None
 
--- The map of the tag's partition is out with the view, as it is, and gives the frame for the tag
+-- The view has the latch of the tag's partition, no pair named there, and it has seen the map, which is home again, and gives the frame for the tag
 pub record Finds (v : View) (tag f : ℕ) : Type 0 where
   pub held : (hold v (tag_partition tag)).held ≡ true
   pub settled : (hold v (tag_partition tag)).change ≡ Settled
-  pub unchanged : (hold v (tag_partition tag)).changed ≡ false
-  pub out : (hold v (tag_partition tag)).out ≢ None
-  pub finds : (entries : List MapEntry) → (hold v (tag_partition tag)).out ≡ Some entries → found entries tag ≡ Some f
+  pub home : (hold v (tag_partition tag)).out ≡ None
+  pub seen : (hold v (tag_partition tag)).seen ≢ None
+  pub finds : (entries : List MapEntry) → (hold v (tag_partition tag)).seen ≡ Some entries → found entries tag ≡ Some f
 
 -- A tag may be stored: it is of a block of the relations, the frame has none, and the map of its partition lacks it
 pub record CanStore (relations : List RelEntry) (tag : Tag) (v : View) (f : ℕ) : Type 0 where
