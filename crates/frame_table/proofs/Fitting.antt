@@ -45,13 +45,27 @@ module _ {A : Type 0} (number : A → ℕ) where
       below : (q : ℕ) → list_any (eqb q) (x ∷ map number l) ≡ true → q < n
       below q is = dite (ℕ_discrete q x) (λ e. omega arith) (λ e. all_below n l (λ i a at. (each i a at).0) q (let no = ne_eqb q x e in grind (arith, no, is)))
 
+-- a tag that stands in front stands nowhere else
+pub apart_head : (a : Mapped) (l : List Mapped) → AreApart (a ∷ l) → (i : ℕ) (b : Mapped) → get_elem? l i ≡ some b → b.tag ≢ a.tag
+apart_head a l apart i b at e = absurd (let no : suc i ≡ 0 = apart (suc i) 0 b a at refl e in omega arith)
+
+pub apart_tail : (a : Mapped) (l : List Mapped) → AreApart (a ∷ l) → AreApart l
+apart_tail a l apart i j b c at there e = let same : suc i ≡ suc j = apart (suc i) (suc j) b c at there e in omega arith
+
+-- what the first entry gives, and what the others give
+pub found_here : (a : Mapped) (l : List Mapped) (tag : ℕ) → tag ≡ a.tag → found (map entry_of (a ∷ l)) tag ≡ Some a.frame
+unfolding found
+found_here a l tag e = ap (λ (t : Bool). if t then Some a.frame else found (map entry_of l) tag) (eq-eqb tag a.tag e)
+
+pub found_else : (a : Mapped) (l : List Mapped) (tag : ℕ) → tag ≢ a.tag → found (map entry_of (a ∷ l)) tag ≡ found (map entry_of l) tag
+unfolding found
+found_else a l tag n = ap (λ (t : Bool). if t then Some a.frame else found (map entry_of l) tag) (ne_eqb tag a.tag n)
+
 -- the frame of an entry is what the entries give for its tag
 pub entry_found : (l : List Mapped) → AreApart l → (i : ℕ) (a : Mapped) → get_elem? l i ≡ some a → found (map entry_of l) a.tag ≡ Some a.frame
-unfolding found
 entry_found [] apart i a at = absurd (cc)
-entry_found (b ∷ l) apart zero a at = let same = some-injective b a at in let is = eq-eqb a.tag b.tag (ap (λ (x : Mapped). x.tag) (sym same)) in ap (λ (t : Bool). if t then Some b.frame else found (map entry_of l) a.tag) is ∙ ap (λ (x : Mapped). Some x.frame) same
-entry_found (b ∷ l) apart (suc i) a at = let other = ne_eqb a.tag b.tag (λ e. let no : suc i ≡ 0 = apart (suc i) 0 a b at refl e in omega arith) in
-    ap (λ (t : Bool). if t then Some b.frame else found (map entry_of l) a.tag) other ∙ entry_found l (λ j k x y c d e. let same : suc j ≡ suc k = apart (suc j) (suc k) x y c d e in omega arith) i a at
+entry_found (b ∷ l) apart zero a at = let same = some-injective b a at in found_here b l a.tag (ap (λ (x : Mapped). x.tag) (sym same)) ∙ ap (λ (x : Mapped). Some x.frame) same
+entry_found (b ∷ l) apart (suc i) a at = found_else b l a.tag (apart_head b l apart i a at) ∙ entry_found l (apart_tail b l apart) i a at
 
 module _ (s : State) (id p : ℕ) (v : View) (laws : Laws s) (there : get_elem? s.pool.core.views id ≡ some v) (inside : p < s.pool.core.partitions) (held : (hold v p).held ≡ true) (unchanged : (hold v p).changed ≡ false) where
   -- the pair that the view has named is the one in change
