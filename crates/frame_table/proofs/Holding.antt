@@ -18,12 +18,13 @@ use Rattle.block_tag.specs.Names.{unpacked_tag, packed_tag}
 use Rattle.pin_core.specs.declared.view.View.{View}
 use Rattle.pin_core.specs.declared.view.Link.{Link}
 use Rattle.pin_core.specs.declared.view.MapEntry.{MapEntry}
+use Rattle.pin_core.specs.declared.view.MapChange.{MapChange}
 use Rattle.pin_core.specs.declared.view.MapChange.TheVariants.{Settled, Entering, Leaving}
 use Rattle.pin_core.specs.declared.view.PartitionHold.{PartitionHold}
 use Rattle.pin_core.specs.declared.view.Role.TheVariants.{Absent, Victim}
 use Rattle.pin_core.specs.State.{Frame, link, hold, idle, no_partition, no_tag, is_tag}
 use Rattle.pin_core.specs.Tallies.{pendings, flag_weight, weigh}
-use Rattle.pin_core.specs.Turns.{found, map_now, owed_by}
+use Rattle.pin_core.specs.Turns.{found, owed_by}
 use Rattle.pin_core.specs.Maps.{OwedLaw}
 use Rattle.pin_core.specs.Kinds.{holds_naming}
 use Rattle.pin_core.specs.Invariant.{PendingFrame}
@@ -39,7 +40,7 @@ use Rattle.table_rule.specs.Layout.{state_place, tag_place, tag_partition, parti
 use Rattle.history_core.specs.Laws.{Laws}
 use Rattle.frame_table.specs.Kinds.{FrameKind, pins, part_of, link_after, view_after}
 use Rattle.table_rule.specs.Shows.{ShowsFrame, Devices, Shows, Held}
-use Rattle.frame_table.specs.Sees.{Finds, mapped_link, SameSelf, Looked, Touches, Stores, HoldsWord, HasRoom, IsUsed, HasFlag, IsAlone, MayChange, Lacks, CanStore, CanErase, CanStoreAs, partitions_erased, partitions_stored, stored_link, victim_link, unlocked_link, assigned_link, cleared_link, tag_word, read_link}
+use Rattle.frame_table.specs.Sees.{Finds, mapped_link, SameSelf, Looked, Touches, Stores, HoldsWord, HasRoom, IsUsed, HasFlag, IsAlone, MayChange, Lacks, NamesIn, NamesStored, CanStore, CanErase, CanStoreAs, partitions_erased, partitions_stored, stored_link, victim_link, unlocked_link, assigned_link, cleared_link, tag_word, read_link}
 use Rattle.frame_table.specs.Tells.{Tried, if_found, Did, DidHeld, always, looking, storing, tells}
 use Rattle.frame_table.proofs.Frames.{Asks}
 use Rattle.frame_table.proofs.Acting.{acts}
@@ -305,6 +306,19 @@ stored_partitions relations None f now v w d can = ap (λ (x : View). x.partitio
     of_tag (Some tag) e = let known = (d.laws.invariant.pool.core.grid.cells d.seat v f d.there d.inside).remembers tag e in
         ap (λ (t : ℕ). holds_naming (Leaving t f) tag_partition v) known.1 ∙ ap (λ (x : Option ℕ). partitions_erased x f v) (sym e)
 stored_partitions relations (Some tag) f now v w d can = ap (λ (x : View). x.partitions) d.after ∙ ap (λ (g : ℕ → ℕ). holds_naming (Entering (packed_tag tag) f) g v) d.spread
+
+-- a store of a tag word names its pair
+names_in : (k : FrameKind) (t f now : ℕ) (change : MapChange) (v w : View) → Did k f v w now → w.partitions ≡ set v.partitions (tag_partition t) (record (hold v (tag_partition t)) { change = change }) → NamesIn (tag_partition t) change v w
+names_in k t f now change v w d e = let p : ℕ = tag_partition t in record {
+  here = ap (λ (l : List PartitionHold). get_or l p no_partition) e ∙ get_or-set_same v.partitions p (record (hold v p) { change = change }) no_partition inside;
+  others = λ q n. ap (λ (l : List PartitionHold). get_or l q no_partition) e ∙ get_or-set_other v.partitions p q (record (hold v p) { change = change }) no_partition n;
+}
+  where
+    inside : tag_partition t < length v.partitions
+    inside = let wide = (d.laws.invariant.pool.core.views.wide d.seat v d.there d.live).1 in let placed = d.laws.invariant.pool.core.placed t in let at = ap (λ (g : ℕ → ℕ). g t) d.spread in omega arith
+
+pub names_erased : (f now : ℕ) (v w : View) → Did (storing None) f v w now → w.partitions ≡ partitions_stored None f v → NamesStored None f v w
+names_erased f now v w d e tag known = names_in (storing None) tag f now (Leaving tag f) v w d (e ∙ ap (λ (x : Option ℕ). partitions_erased x f v) known)
 
 -- the number that a load of a tag word found, by the tag that it is
 tag_number : (word : ℕ) (r : Option Tag) → r ≡ unpacked_tag word → IfSome r (λ t. packed_tag t ≡ word) → (word ≢ no_tag → is_tag word ≡ true) → word ≡ tag_word r

@@ -12,6 +12,7 @@ use Rattle.pin_core.specs.declared.view.Role.TheVariants.{Absent, HandedOut, Vic
 use Rattle.pin_core.specs.declared.view.Content.TheVariants.{Unlocked}
 use Rattle.pin_core.specs.declared.view.Io.TheVariants.{Quiet}
 use Rattle.pin_core.specs.declared.view.MapEntry.{MapEntry}
+use Rattle.pin_core.specs.declared.view.MapChange.{MapChange}
 use Rattle.pin_core.specs.declared.view.MapChange.TheVariants.{Settled, Entering, Leaving}
 use Rattle.pin_core.specs.State.{link, hold, no_tag}
 use Rattle.pin_core.specs.declared.view.PartitionHold.{PartitionHold}
@@ -190,6 +191,16 @@ partitions_erased (Some tag) f v = holds_naming (Leaving tag f) tag_partition v
 abbrev pub partitions_stored : Option Tag → ℕ → View → List PartitionHold
 partitions_stored None f v = partitions_erased (link v f).tag f v
 partitions_stored (Some tag) f v = holds_naming (Entering (packed_tag tag) f) tag_partition v
+
+-- The view has named this in change in the partition p, and has of all others what it had
+pub record NamesIn (p : ℕ) (change : MapChange) (v w : View) : Type 0 where
+  pub here : hold w p ≡ record (hold v p) { change = change }
+  pub others : (q : ℕ) → q ≢ p → hold w q ≡ hold v q
+
+-- the pair that it names as it stores a tag, or takes away the one that it knows
+abbrev pub NamesStored : Option Tag → ℕ → View → View → Type 0
+NamesStored None f v w = (tag : ℕ) → (link v f).tag ≡ Some tag → NamesIn (tag_partition tag) (Leaving tag f) v w
+NamesStored (Some tag) f v w = NamesIn (partition_number tag) (Entering (packed_tag tag) f) v w
 
 -- what a pin remembers after a load of the tag word
 abbrev pub read_link : Option Tag → Link → Link
