@@ -3,6 +3,7 @@ use Rattle.std.specs.Prelude.{◌≡◌, ℕ, true, false, List, [], Option, Non
 use Rattle.pin_core.specs.declared.view.View.{View}
 use Rattle.pin_core.specs.declared.view.MapEntry.{MapEntry}
 use Rattle.pin_core.specs.declared.view.MapChange.{MapChange}
+use Rattle.pin_core.specs.declared.view.MapChange.TheVariants.{Settled, Entering, Leaving}
 use Rattle.pin_core.specs.State.{hold}
 use Rattle.pin_core.specs.Turns.{found, map_out}
 use Rattle.grid.specs.Shape.{put}
@@ -14,6 +15,12 @@ pub record Holds (change : MapChange) (v : View) (p : ℕ) : Type 0 where
   pub home : (hold v p).out ≡ None
   pub unchanged : (hold v p).changed ≡ false
   pub named : (hold v p).change ≡ change
+
+-- a pair of the tag is named as one that leaves
+abbrev pub Leaves : ℕ → MapChange → Type 0
+Leaves tag Settled = ⊥
+Leaves tag (Entering t f) = ⊥
+Leaves tag (Leaving t f) = t ≡ tag
 
 -- the entries of the map of the partition p, as the view saw them last
 abbrev pub entries_seen : View → ℕ → List MapEntry

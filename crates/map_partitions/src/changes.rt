@@ -9,7 +9,7 @@ ghost use Rattle.grid.specs.Shape.{put};
 ghost use Rattle.table_rule.specs.declared.turn.Turn.TheVariants.{Partition};
 ghost use Rattle.frame_table.specs.Sees.{CanTurn, SameSeat};
 ghost use Rattle.frame_table.specs.Turning.{MapStep, SameWork, back_hold};
-ghost use Rattle.map_partitions.specs.Partition.{Changes, Holds, entries_seen};
+ghost use Rattle.map_partitions.specs.Partition.{Changes, Holds, Leaves, entries_seen};
 
 use crate::entries::{add, forget};
 use atomic_table::Seat;
@@ -50,7 +50,8 @@ pub fn leave_out<L: BlockLane, G: LogDevice>(
 )
     requires seat { CanTurn table.now seat.old (Partition (partition_number tag.now)) }
     requires tag { names_block tag.now ≡ true }
-    requires named { (frame : ℕ) × Holds (Leaving (packed_tag tag.now) frame) seat.old.me.0 (partition_number tag.now) }
+    requires holds { Holds (hold seat.old.me.0 (partition_number tag.now)).change seat.old.me.0 (partition_number tag.now) }
+    requires named { Leaves (packed_tag tag.now) (hold seat.old.me.0 (partition_number tag.now)).change }
     ensures seat { SameSeat seat.old seat.new }
     ensures work { SameWork seat.old.me.0 seat.new.me.0 }
     ensures left_out { (entries : List MapEntry) → (hold seat.old.me.0 (partition_number tag.now)).seen ≡ Some entries → found (entries_seen seat.new.me.0 (partition_number tag.now)) ≡ put (found entries) (packed_tag tag.now) None }
