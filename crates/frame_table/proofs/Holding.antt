@@ -18,12 +18,13 @@ use Rattle.block_tag.specs.Names.{unpacked_tag, packed_tag}
 use Rattle.pin_core.specs.declared.view.View.{View}
 use Rattle.pin_core.specs.declared.view.Link.{Link}
 use Rattle.pin_core.specs.declared.view.MapEntry.{MapEntry}
+use Rattle.pin_core.specs.declared.view.MapChange.{MapChange}
 use Rattle.pin_core.specs.declared.view.MapChange.TheVariants.{Settled, Entering, Leaving}
 use Rattle.pin_core.specs.declared.view.PartitionHold.{PartitionHold}
 use Rattle.pin_core.specs.declared.view.Role.TheVariants.{Absent, Victim}
 use Rattle.pin_core.specs.State.{Frame, link, hold, idle, no_partition, no_tag, is_tag}
 use Rattle.pin_core.specs.Tallies.{pendings, flag_weight, weigh}
-use Rattle.pin_core.specs.Turns.{found, map_now, owed_by}
+use Rattle.pin_core.specs.Turns.{found, owed_by}
 use Rattle.pin_core.specs.Maps.{OwedLaw}
 use Rattle.pin_core.specs.Kinds.{holds_naming}
 use Rattle.pin_core.specs.Invariant.{PendingFrame}
@@ -39,7 +40,7 @@ use Rattle.table_rule.specs.Layout.{state_place, tag_place, tag_partition, parti
 use Rattle.history_core.specs.Laws.{Laws}
 use Rattle.frame_table.specs.Kinds.{FrameKind, pins, part_of, link_after, view_after}
 use Rattle.table_rule.specs.Shows.{ShowsFrame, Devices, Shows, Held}
-use Rattle.frame_table.specs.Sees.{Finds, mapped_link, SameSelf, Looked, Touches, Stores, HoldsWord, HasRoom, IsUsed, HasFlag, IsAlone, MayChange, Lacks, CanStore, CanErase, CanStoreAs, partitions_erased, partitions_stored, stored_link, victim_link, unlocked_link, assigned_link, cleared_link, tag_word, read_link}
+use Rattle.frame_table.specs.Sees.{Finds, mapped_link, SameSelf, Looked, Touches, Stores, HoldsWord, HasRoom, IsUsed, HasFlag, IsAlone, MayChange, Lacks, NamesIn, NamesStored, CanStore, CanErase, CanStoreAs, partitions_erased, partitions_stored, stored_link, victim_link, unlocked_link, assigned_link, cleared_link, tag_word, read_link}
 use Rattle.frame_table.specs.Tells.{Tried, if_found, Did, DidHeld, always, looking, storing, tells}
 use Rattle.frame_table.proofs.Frames.{Asks}
 use Rattle.frame_table.proofs.Acting.{acts}
@@ -162,16 +163,17 @@ module _ {L G : Type 0} (d : Devices L G) (o : Opening L G) where
   alone_there : (s : State) (id f : ℕ) (v : View) → Laws s → get_elem? s.pool.core.views id ≡ some v → f < s.pool.core.frames → IsAlone (link v f) → pin.IsAlone (s.pool.core.frame f) (link v f)
   alone_there s id f v laws there inside a = let held = held_word s id f v laws there inside a.word.held in record { held = held; settled = a.settled; single = a.word.knows (s.pool.core.frame f).word held; victim = a.victim; no_content = a.no_content; no_io = a.no_io }
 
-  -- the map that is out with a view, as it is
-  map_there : (s : State) (id p : ℕ) (v : View) → Laws s → get_elem? s.pool.core.views id ≡ some v → p < s.pool.core.partitions → (hold v p).changed ≡ false → (entries : List MapEntry) → (hold v p).out ≡ Some entries → (s.pool.core.partition p).map ≡ found entries
-  map_there s id p v laws there low unchanged entries out = (laws.invariant.pool.core.turns.cells id v p there low).out entries out ∙ ap (λ (b : Bool). map_now b (hold v p).change (found entries)) unchanged
-
-  finds_there : (s : State) (id f : ℕ) (v : View) (tag : ℕ) → s.pool.core.partition_of ≡ tag_partition → Laws s → get_elem? s.pool.core.views id ≡ some v → Finds v tag f → (s.pool.core.partition (tag_partition tag)).map tag ≡ Some f
-  finds_there s id f v tag parts laws there finds = of_out (hold v (tag_partition tag)).out refl
+  -- a map that is home is as the view has seen it
+  map_there : (s : State) (id : ℕ) (v : View) (tag : ℕ) (x : Option ℕ) → s.pool.core.partition_of ≡ tag_partition → Laws s → get_elem? s.pool.core.views id ≡ some v → (hold v (tag_partition tag)).out ≡ None → (hold v (tag_partition tag)).seen ≢ None
+      → ((entries : List MapEntry) → (hold v (tag_partition tag)).seen ≡ Some entries → found entries tag ≡ x) → (s.pool.core.partition (tag_partition tag)).map tag ≡ x
+  map_there s id v tag x parts laws there home seen gives = of_seen (hold v (tag_partition tag)).seen refl
     where
-      of_out : (x : Option (List MapEntry)) → (hold v (tag_partition tag)).out ≡ x → (s.pool.core.partition (tag_partition tag)).map tag ≡ Some f
-      of_out None e = absurd (finds.out e)
-      of_out (Some entries) e = ap (λ (m : ℕ → Option ℕ). m tag) (map_there s id (tag_partition tag) v laws there (subst (λ (p : ℕ). p < s.pool.core.partitions) (ap (λ (g : ℕ → ℕ). g tag) parts) (laws.invariant.pool.core.placed tag)) finds.unchanged entries e) ∙ finds.finds entries e
+      low : tag_partition tag < s.pool.core.partitions
+      low = subst (λ (p : ℕ). p < s.pool.core.partitions) (ap (λ (g : ℕ → ℕ). g tag) parts) (laws.invariant.pool.core.placed tag)
+
+      of_seen : (y : Option (List MapEntry)) → (hold v (tag_partition tag)).seen ≡ y → (s.pool.core.partition (tag_partition tag)).map tag ≡ x
+      of_seen None e = absurd (seen e)
+      of_seen (Some entries) e = ap (λ (m : ℕ → Option ℕ). m tag) ((laws.invariant.pool.core.turns.cells id v (tag_partition tag) there low).seen entries e home) ∙ gives entries e
 
   pub maps_there : (tag : ℕ) (ring : Bool) (slots id f was new : ℕ) (me : Me (Value L G) View) → f < o.config.frames → me.0.emptied ≡ false → (link me.0 f).role ≡ Absent → Finds me.0 tag f → (fields was).locked ≡ false → fields new ≡ pinned_fields ring (fields was)
       → Allows (Held d o) slots id me (state_place f) (λ n. either (eqb n was) new n) (tells (if_found (pins (pin.pin_mapped tag ring))) (step slots (state_place f) was new none) me)
@@ -180,19 +182,12 @@ module _ {L G : Type 0} (d : Devices L G) (o : Opening L G) where
     around = record {
       held = subst (λ (p : ℕ). (hold me.0 p).held ≡ true) at finds.held;
       settled = subst (λ (p : ℕ). (hold me.0 p).change ≡ Settled) at finds.settled;
-      given = subst (λ (p : ℕ). (s.pool.core.partition p).map tag ≡ Some f) at (finds_there s id f me.0 tag spread laws there finds);
+      given = subst (λ (p : ℕ). (s.pool.core.partition p).map tag ≡ Some f) at (map_there s id me.0 tag (Some f) spread laws there finds.home finds.seen finds.finds);
     };
     word = ap (pinned_fields ring) is ∙ sym made;
     rest = record { tag = refl; sharers = refl; exclusive = refl; copying = refl; page = refl };
     out = refl;
   })
-
-  lacks_there : (s : State) (id : ℕ) (v : View) (tag : ℕ) → s.pool.core.partition_of ≡ tag_partition → Laws s → get_elem? s.pool.core.views id ≡ some v → (hold v (tag_partition tag)).changed ≡ false → Lacks v tag → (s.pool.core.partition (tag_partition tag)).map tag ≡ None
-  lacks_there s id v tag parts laws there unchanged lacks = of_out (hold v (tag_partition tag)).out refl
-    where
-      of_out : (x : Option (List MapEntry)) → (hold v (tag_partition tag)).out ≡ x → (s.pool.core.partition (tag_partition tag)).map tag ≡ None
-      of_out None e = absurd (lacks.out e)
-      of_out (Some entries) e = ap (λ (m : ℕ → Option ℕ). m tag) (map_there s id (tag_partition tag) v laws there (subst (λ (p : ℕ). p < s.pool.core.partitions) (ap (λ (g : ℕ → ℕ). g tag) parts) (laws.invariant.pool.core.placed tag)) unchanged entries e) ∙ lacks.lacks entries e
 
   no_tag_none : unpacked_tag no_tag ≡ None
   unfolding unpacked_tag
@@ -218,7 +213,7 @@ module _ {L G : Type 0} (d : Devices L G) (o : Opening L G) where
         around = record {
           naming = record { held = subst (λ (p : ℕ). (hold me.0 p).held ≡ true) at may.held; unchanged = subst (λ (p : ℕ). (hold me.0 p).changed ≡ false) at may.unchanged; settled = may.settled };
           block = ap (λ (g : ℕ → Bool). g tag) h.fixed.is_block ∙ is_block_of o.catalog.value tag t packed listed;
-          lacking = subst (λ (p : ℕ). (s.pool.core.partition p).map tag ≡ None) at (lacks_there s id me.0 tag h.fixed.partition_of laws there may.unchanged lacks);
+          lacking = subst (λ (p : ℕ). (s.pool.core.partition p).map tag ≡ None) at (map_there s id me.0 tag None h.fixed.partition_of laws there lacks.home lacks.seen lacks.lacks);
         };
         shows = tag_shows u.words f tag (s.pool.core.frame f) (let wide = h.words in omega arith) (h.frame f below);
         page = refl;
@@ -312,6 +307,19 @@ stored_partitions relations None f now v w d can = ap (λ (x : View). x.partitio
         ap (λ (t : ℕ). holds_naming (Leaving t f) tag_partition v) known.1 ∙ ap (λ (x : Option ℕ). partitions_erased x f v) (sym e)
 stored_partitions relations (Some tag) f now v w d can = ap (λ (x : View). x.partitions) d.after ∙ ap (λ (g : ℕ → ℕ). holds_naming (Entering (packed_tag tag) f) g v) d.spread
 
+-- a store of a tag word names its pair
+names_in : (k : FrameKind) (t f now : ℕ) (change : MapChange) (v w : View) → Did k f v w now → w.partitions ≡ set v.partitions (tag_partition t) (record (hold v (tag_partition t)) { change = change }) → NamesIn (tag_partition t) change v w
+names_in k t f now change v w d e = let p : ℕ = tag_partition t in record {
+  here = ap (λ (l : List PartitionHold). get_or l p no_partition) e ∙ get_or-set_same v.partitions p (record (hold v p) { change = change }) no_partition inside;
+  others = λ q n. ap (λ (l : List PartitionHold). get_or l q no_partition) e ∙ get_or-set_other v.partitions p q (record (hold v p) { change = change }) no_partition n;
+}
+  where
+    inside : tag_partition t < length v.partitions
+    inside = let wide = (d.laws.invariant.pool.core.views.wide d.seat v d.there d.live).1 in let placed = d.laws.invariant.pool.core.placed t in let at = ap (λ (g : ℕ → ℕ). g t) d.spread in omega arith
+
+pub names_erased : (f now : ℕ) (v w : View) → Did (storing None) f v w now → w.partitions ≡ partitions_stored None f v → NamesStored None f v w
+names_erased f now v w d e tag known = names_in (storing None) tag f now (Leaving tag f) v w d (e ∙ ap (λ (x : Option ℕ). partitions_erased x f v) known)
+
 -- the number that a load of a tag word found, by the tag that it is
 tag_number : (word : ℕ) (r : Option Tag) → r ≡ unpacked_tag word → IfSome r (λ t. packed_tag t ≡ word) → (word ≢ no_tag → is_tag word ≡ true) → word ≡ tag_word r
 unfolding is_tag
@@ -341,9 +349,9 @@ pub finds_on : (f tag g : ℕ) (v w : View) → Touches f v w → Finds v tag g 
 finds_on f tag g v w t h = let same : hold w (tag_partition tag) ≡ hold v (tag_partition tag) = ap (λ (l : List PartitionHold). get_or l (tag_partition tag) no_partition) t.partitions in record {
   held = ap (λ (x : PartitionHold). x.held) same ∙ h.held;
   settled = ap (λ (x : PartitionHold). x.change) same ∙ h.settled;
-  unchanged = ap (λ (x : PartitionHold). x.changed) same ∙ h.unchanged;
-  out = λ e. h.out (sym (ap (λ (x : PartitionHold). x.out) same) ∙ e);
-  finds = λ entries e. h.finds entries (sym (ap (λ (x : PartitionHold). x.out) same) ∙ e);
+  home = ap (λ (x : PartitionHold). x.out) same ∙ h.home;
+  seen = λ e. h.seen (sym (ap (λ (x : PartitionHold). x.seen) same) ∙ e);
+  finds = λ entries e. h.finds entries (sym (ap (λ (x : PartitionHold). x.seen) same) ∙ e);
 }
 
 mapped_looked : (tag : ℕ) (ring : Bool) (l m : Link) → Looked l m → Looked (mapped_link tag ring l) (mapped_link tag ring m)

@@ -11,6 +11,7 @@ pub mod Behind
 pub mod Holding
 pub mod Taking
 pub mod Moving
+pub mod Fitting
 pub mod Mapping
 pub mod PageWork
 pub mod Ending

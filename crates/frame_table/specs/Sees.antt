@@ -12,6 +12,7 @@ use Rattle.pin_core.specs.declared.view.Role.TheVariants.{Absent, HandedOut, Vic
 use Rattle.pin_core.specs.declared.view.Content.TheVariants.{Unlocked}
 use Rattle.pin_core.specs.declared.view.Io.TheVariants.{Quiet}
 use Rattle.pin_core.specs.declared.view.MapEntry.{MapEntry}
+use Rattle.pin_core.specs.declared.view.MapChange.{MapChange}
 use Rattle.pin_core.specs.declared.view.MapChange.TheVariants.{Settled, Entering, Leaving}
 use Rattle.pin_core.specs.State.{link, hold, no_tag}
 use Rattle.pin_core.specs.declared.view.PartitionHold.{PartitionHold}
@@ -127,18 +128,19 @@ pub record MayChange (v : View) (p : ℕ) : Type 0 where
   -- it names no pair, in any partition
   pub settled : (q : ℕ) → (hold v q).change ≡ Settled
 
--- The map of the tag's partition is out with the view, and lacks the tag
+-- The view has seen the map of the tag's partition, which is home again, and it lacks the tag
 pub record Lacks (v : View) (tag : ℕ) : Type 0 where
-  pub out : (hold v (tag_partition tag)).out ≢ None
-  pub lacks : (entries : List MapEntry) → (hold v (tag_partition tag)).out ≡ Some entries → found entries tag ≡ None
+  pub home : (hold v (tag_partition tag)).out ≡ None
+  pub seen : (hold v (tag_partition tag)).seen ≢ None
+  pub lacks : (entries : List MapEntry) → (hold v (tag_partition tag)).seen ≡ Some entries → found entries tag ≡ None
 
--- The map of the tag's partition is out with the view, as it is, and gives the frame for the tag
+-- The view has the latch of the tag's partition, no pair named there, and it has seen the map, which is home again, and gives the frame for the tag
 pub record Finds (v : View) (tag f : ℕ) : Type 0 where
   pub held : (hold v (tag_partition tag)).held ≡ true
   pub settled : (hold v (tag_partition tag)).change ≡ Settled
-  pub unchanged : (hold v (tag_partition tag)).changed ≡ false
-  pub out : (hold v (tag_partition tag)).out ≢ None
-  pub finds : (entries : List MapEntry) → (hold v (tag_partition tag)).out ≡ Some entries → found entries tag ≡ Some f
+  pub home : (hold v (tag_partition tag)).out ≡ None
+  pub seen : (hold v (tag_partition tag)).seen ≢ None
+  pub finds : (entries : List MapEntry) → (hold v (tag_partition tag)).seen ≡ Some entries → found entries tag ≡ Some f
 
 -- A tag may be stored: it is of a block of the relations, the frame has none, and the map of its partition lacks it
 pub record CanStore (relations : List RelEntry) (tag : Tag) (v : View) (f : ℕ) : Type 0 where
@@ -189,6 +191,16 @@ partitions_erased (Some tag) f v = holds_naming (Leaving tag f) tag_partition v
 abbrev pub partitions_stored : Option Tag → ℕ → View → List PartitionHold
 partitions_stored None f v = partitions_erased (link v f).tag f v
 partitions_stored (Some tag) f v = holds_naming (Entering (packed_tag tag) f) tag_partition v
+
+-- The view has named this in change in the partition p, and has of all others what it had
+pub record NamesIn (p : ℕ) (change : MapChange) (v w : View) : Type 0 where
+  pub here : hold w p ≡ record (hold v p) { change = change }
+  pub others : (q : ℕ) → q ≢ p → hold w q ≡ hold v q
+
+-- the pair that it names as it stores a tag, or takes away the one that it knows
+abbrev pub NamesStored : Option Tag → ℕ → View → View → Type 0
+NamesStored None f v w = (tag : ℕ) → (link v f).tag ≡ Some tag → NamesIn (tag_partition tag) (Leaving tag f) v w
+NamesStored (Some tag) f v w = NamesIn (partition_number tag) (Entering (packed_tag tag) f) v w
 
 -- what a pin remembers after a load of the tag word
 abbrev pub read_link : Option Tag → Link → Link

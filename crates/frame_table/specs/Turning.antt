@@ -1,5 +1,6 @@
 -- The steps at latches: where they are allowed, and what they make of the state.
-use Rattle.std.specs.Prelude.{◌≡◌, ◌≢◌, ℕ, ◌<◌, ◌≤◌, vec_capacity, Bool, true, false, List, ◌∷◌, map, Some, None}
+use Rattle.std.specs.Prelude.{◌≡◌, ◌≢◌, ℕ, ◌<◌, ◌≤◌, Vec, vec_len, vec_capacity, Bool, true, false, List, ◌∷◌, map, Some, None}
+use Rattle.std.specs.Global.{Global}
 use mathlib.Core.Option.{some}
 use lib.ListN.{get_elem?}
 use Rattle.atomic_table.specs.Table.{Me, Step, rest}
@@ -18,6 +19,7 @@ use Rattle.history_core.specs.Device as logs
 use Rattle.history_core.specs.Steps.{Event, aside, stepped, laned}
 use Rattle.history_core.specs.Steps as steps
 use Rattle.grid.specs.Shape.{put}
+use Rattle.table_rule.specs.declared.value.Mapped.{Mapped}
 use Rattle.table_rule.specs.declared.value.Value.{Value}
 use Rattle.table_rule.specs.declared.value.Value.TheVariants as value
 use Rattle.table_rule.specs.Layout.{tag_partition}
@@ -147,15 +149,30 @@ pub record MayComeBack (entries : List MapEntry) (p : ℕ) (v : View) : Type 0 w
   pub unchanged : (hold v p).changed ≡ false
   pub changed : (was : List MapEntry) → (hold v p).out ≡ Some was → parts.found entries ≡ parts.map_after (hold v p).change (parts.found was)
 
+-- what entries have of the pair that the view has named: one that enters is not there, and one that leaves is
+abbrev pub HasNamed : MapChange → List MapEntry → Type 0
+HasNamed Settled entries = Unit {0}
+HasNamed (Entering tag f) entries = parts.found entries tag ≡ None
+HasNamed (Leaving tag f) entries = parts.found entries tag ≡ Some f
+
+-- a list has room for the pair that the view is entering
+abbrev pub HasRoomFor : PartitionHold → Vec Mapped Global → Type 0
+HasRoomFor h entries = (tag f : ℕ) → h.change ≡ Entering tag f → h.changed ≡ false → vec_len entries < vec_capacity entries
+
 module _ {L G : Type 0} where
   -- the value is a map with these entries, no tag twice, and room for n of them
   abbrev pub IsMap : ℕ → Value L G → List MapEntry → Type 0
   IsMap n (value.Map m) entries = (map entry_of m.items ≡ entries) × AreApart m.items × (n ≤ vec_capacity m)
   IsMap n _ entries = ⊥
 
+  -- and it has room for the pair that the view is entering
+  abbrev pub TakesPair : PartitionHold → Value L G → Type 0
+  TakesPair h (value.Map m) = HasRoomFor h m
+  TakesPair h _ = ⊥
+
   -- the map went out with the seat, from this slot, in a table of n frames
   abbrev pub map_went : ℕ → ℕ → ℕ → Step (Value L G) → Me (Value L G) View → ℕ → Me (Value L G) View → Type 0
-  map_went n p slot st m found m' = (y : Value L G) × (entries : List MapEntry) × (m'.1 ≡ (slot, y) ∷ m.1) × IsMap n y entries × DidMap (parts.map_out entries) p m.0 m'.0
+  map_went n p slot st m found m' = (y : Value L G) × (entries : List MapEntry) × (m'.1 ≡ (slot, y) ∷ m.1) × IsMap n y entries × TakesPair (hold m.0 p) y × DidMap (parts.map_out entries) p m.0 m'.0
 
   abbrev pub map_came : ℕ → List MapEntry → Step (Value L G) → Me (Value L G) View → ℕ → Me (Value L G) View → Type 0
   map_came p entries st m found m' = (m'.1 ≡ rest m.1) × ComesBack entries p m.0 m'.0 (hold m.0 p).change

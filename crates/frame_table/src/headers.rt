@@ -9,7 +9,7 @@ ghost use Rattle.pin_core.specs.State.{hold, link};
 ghost use Rattle.pin_core.specs.Kinds as kinds;
 ghost use Rattle.pin_core.specs.Steps.{HasNoVictim};
 ghost use Rattle.frame_table.specs.Kinds.{pins};
-ghost use Rattle.frame_table.specs.Sees.{CanErase, CanStep, CanStore, CanStoreAs, HasRoom, HasStored, HoldsWord, IsAlone, IsUsed, Looked, SameSeat, Stores, Touches, assigned_link, cleared_link, partitions_stored, read_link, relations_of, stored_link, tag_word, unlocked_link, victim_link};
+ghost use Rattle.frame_table.specs.Sees.{CanErase, CanStep, CanStore, CanStoreAs, HasRoom, HasStored, HoldsWord, IsAlone, IsUsed, Looked, NamesStored, SameSeat, Stores, Touches, assigned_link, cleared_link, partitions_stored, read_link, relations_of, stored_link, tag_word, unlocked_link, victim_link};
 ghost use Rattle.frame_table.specs.Tells.{Did, DidHeld, always, storing};
 
 use crate::pin::Pin;
@@ -128,6 +128,7 @@ impl<L: BlockLane, G: LogDevice> FrameTable<L, G> {
         ensures stores { Stores frame seat.old.me.0 seat.new.me.0 }
         ensures stored { link seat.new.me.0 frame ≡ stored_link (link seat.old.me.0 frame) }
         ensures named { seat.new.me.0.partitions ≡ partitions_stored tag frame seat.old.me.0 }
+        ensures names { NamesStored tag frame seat.old.me.0 seat.new.me.0 }
         ensures did { (now : ℕ) × Did (storing tag) frame seat.old.me.0 seat.new.me.0 now }
     {
         match tag {

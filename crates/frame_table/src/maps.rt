@@ -1,5 +1,5 @@
 //! The maps of the partitions.
-ghost use Rattle.std.specs.Prelude.{◌≡◌, ◌≤◌, ◌∷◌, List, map, true, vec_capacity, None};
+ghost use Rattle.std.specs.Prelude.{◌≡◌, ◌≤◌, ◌∷◌, List, map, false, true, vec_capacity, None};
 ghost use Rattle.atomic_table.specs.Table.{rest};
 ghost use Rattle.pin_core.specs.declared.view.MapEntry.{MapEntry};
 ghost use Rattle.pin_core.specs.State.{hold};
@@ -10,7 +10,7 @@ ghost use Rattle.table_rule.specs.declared.value.Value.TheVariants as value;
 ghost use Rattle.table_rule.specs.Layout.{latch_place, slot_of};
 ghost use Rattle.table_rule.specs.Shows.{AreApart, entry_of};
 ghost use Rattle.frame_table.specs.Sees.{CanTurn, frames_of};
-ghost use Rattle.frame_table.specs.Turning.{ComesBack, DidMap, IsMap, MapStep, MayComeBack, SameWork, back_hold, out_hold};
+ghost use Rattle.frame_table.specs.Turning.{ComesBack, DidMap, HasNamed, HasRoomFor, IsMap, MapStep, MayComeBack, SameWork, TakesPair, back_hold, out_hold};
 
 use crate::plays::{AtMap, MapBack, MapOut};
 use crate::table::FrameTable;
@@ -42,13 +42,13 @@ impl<L: BlockLane, G: LogDevice> FrameTable<L, G> {
         requires held { ((hold seat.old.me.0 _partition).held ≡ true) × ((hold seat.old.me.0 _partition).out ≡ None) }
         ensures seat { (seat.new.table_id ≡ seat.old.table_id) × (seat.new.id ≡ seat.old.id) }
         ensures hand { seat.new.me.1 ≡ (slot, value.Away) ∷ seat.old.me.1 }
-        ensures map { (entries : List MapEntry) × IsMap (frames_of self.now) result entries × DidMap (parts.map_out entries) _partition seat.old.me.0 seat.new.me.0 }
+        ensures map { (entries : List MapEntry) × IsMap (frames_of self.now) result entries × TakesPair (hold seat.old.me.0 _partition) result × DidMap (parts.map_out entries) _partition seat.old.me.0 seat.new.me.0 }
     {
         self.table.shared.load::<MapOut<D>>(seat, place);
         self.table.shared.exchange(seat, slot, Value::Away)
     }
 
-    /// The map of a partition goes out with the seat that has its latch.
+    /// The map of a partition goes out with the seat that has its latch. Where the backend is entering a pair, the list has room for it.
     pub fn map_out(&self, seat: &mut Seat<Value<L, G>, View>, partition: u32) -> Vec<Mapped>
         requires seat { CanTurn self.now seat.old (Partition partition) }
         requires held { ((hold seat.old.me.0 partition).held ≡ true) × ((hold seat.old.me.0 partition).out ≡ None) }
@@ -56,6 +56,8 @@ impl<L: BlockLane, G: LogDevice> FrameTable<L, G> {
         ensures hand { seat.new.me.1 ≡ (slot_of (frames_of self.now) (Of (Partition partition)), value.Away) ∷ seat.old.me.1 }
         ensures apart { AreApart result.items }
         ensures room { frames_of self.now ≤ vec_capacity result }
+        ensures few { HasRoomFor (hold seat.old.me.0 partition) result }
+        ensures named { (hold seat.old.me.0 partition).changed ≡ false → HasNamed (hold seat.old.me.0 partition).change (map entry_of result.items) }
         ensures work { SameWork seat.old.me.0 seat.new.me.0 }
         ensures out { MapStep partition (out_hold (map entry_of result.items) (hold seat.old.me.0 partition)) seat.old.me.0 seat.new.me.0 }
         ensures did { DidMap (parts.map_out (map entry_of result.items)) partition seat.old.me.0 seat.new.me.0 }

@@ -1,13 +1,19 @@
 use Rattle.std.proofs.Common.{None, Option, subst, sym, ◌≡◌}
 use Rattle.block_tag.specs.declared.tag.Tag.{Tag}
-use Rattle.frame_table.specs.Sees.{CanStoreAs, partitions_stored}
+use Rattle.frame_table.specs.Sees.{CanStoreAs, NamesStored, partitions_stored}
 use Rattle.frame_table.specs.Tells.{Did, storing}
-use Rattle.frame_table.proofs.Holding.{stored_partitions}
+use Rattle.frame_table.proofs.Holding.{stored_partitions, names_erased}
 use Rattle.frame_table.proofs.table.FrameTable.store_tag.Goals as goal
 
 pub returns-in-Some-clause-did : goal.returns-in-Some-clause-did
 returns-in-Some-clause-did g c = let d = c.store_packed.ensures.did in (d.0, subst (λ (t : Option Tag). Did (storing t) c.args.frame c.args.seat.now.me.0 c.store_packed.new.seat.me.0 d.0) (sym c.in-Some.is) d.1)
 
+-- what the view has of the latches after it took the tag away
+erased : (g : _) (c : goal.After-store_none g) → c.store_none.new.seat.me.0.partitions ≡ partitions_stored None c.args.frame c.args.seat.now.me.0
+erased g c = stored_partitions c.args.self.now.table.shared.key.catalog.value None _ _ _ _ c.store_none.ensures.did.1 (subst (λ (t : Option Tag). CanStoreAs c.args.self.now.table.shared.key.catalog.value t c.args.seat.now.me.0 c.args.frame) c.in-None.is c.requires.tag)
+
 pub returns-in-None-clause-named : goal.returns-in-None-clause-named
-returns-in-None-clause-named g c = subst (λ (t : Option Tag). c.store_none.new.seat.me.0.partitions ≡ partitions_stored t c.args.frame c.args.seat.now.me.0) (sym c.in-None.is)
-    (stored_partitions c.args.self.now.table.shared.key.catalog.value None _ _ _ _ c.store_none.ensures.did.1 (subst (λ (t : Option Tag). CanStoreAs c.args.self.now.table.shared.key.catalog.value t c.args.seat.now.me.0 c.args.frame) c.in-None.is c.requires.tag))
+returns-in-None-clause-named g c = subst (λ (t : Option Tag). c.store_none.new.seat.me.0.partitions ≡ partitions_stored t c.args.frame c.args.seat.now.me.0) (sym c.in-None.is) (erased g c)
+
+pub returns-in-None-clause-names : goal.returns-in-None-clause-names
+returns-in-None-clause-names g c = subst (λ (t : Option Tag). NamesStored t c.args.frame c.args.seat.now.me.0 c.store_none.new.seat.me.0) (sym c.in-None.is) (names_erased _ _ _ _ c.store_none.ensures.did.1 (erased g c))

@@ -1,0 +1,48 @@
+//! The latches of the partitions (`BufMappingPartitionLock`).
+ghost use Rattle.std.specs.Prelude.{true, false};
+ghost use Rattle.pin_core.specs.declared.view.MapChange.TheVariants.{Settled};
+ghost use Rattle.table_rule.specs.declared.turn.Turn.TheVariants.{Partition};
+ghost use Rattle.frame_table.specs.Sees.{CanTurn, SameSeat};
+ghost use Rattle.frame_table.specs.Turning.{DidTurn, IsTurned, MayLeave, SameWork};
+ghost use Rattle.map_partitions.specs.Partition.{Holds};
+
+use atomic_table::Seat;
+use frame_table::FrameTable;
+use log_device::LogDevice;
+use pin_core::View;
+use segment_store::BlockLane;
+use std::sync::Wait;
+use table_rule::{Turn, Value};
+
+/// Waits until the partition's latch is free, and takes it.
+pub fn take_turn<L: BlockLane, G: LogDevice, R: Wait>(
+    table: &FrameTable<L, G>,
+    seat: &mut Seat<Value<L, G>, View>,
+    rt: &R,
+    partition: u32,
+)
+    requires seat { CanTurn table.now seat.old (Partition partition) }
+    ensures seat { SameSeat seat.old seat.new }
+    ensures work { SameWork seat.old.me.0 seat.new.me.0 }
+    ensures turned { IsTurned true (Partition partition) seat.old.me.0 seat.new.me.0 }
+    ensures holds { Holds Settled seat.new.me.0 partition }
+    ensures did { DidTurn true (Partition partition) seat.old.me.0 seat.new.me.0 }
+{
+    table.take_turn(rt, seat, Turn::Partition(partition));
+}
+
+/// Leaves the partition's latch. Its map is home, and no pair is named in change there.
+pub fn give_turn<L: BlockLane, G: LogDevice>(
+    table: &FrameTable<L, G>,
+    seat: &mut Seat<Value<L, G>, View>,
+    partition: u32,
+)
+    requires seat { CanTurn table.now seat.old (Partition partition) }
+    requires may { MayLeave (Partition partition) seat.old.me.0 }
+    ensures seat { SameSeat seat.old seat.new }
+    ensures work { SameWork seat.old.me.0 seat.new.me.0 }
+    ensures turned { IsTurned false (Partition partition) seat.old.me.0 seat.new.me.0 }
+    ensures did { DidTurn false (Partition partition) seat.old.me.0 seat.new.me.0 }
+{
+    table.leave_turn(seat, Turn::Partition(partition));
+}

@@ -1,0 +1,13 @@
+//! The mapping from tags to frames (`buf_table.c`): its partitions' latches, and searches and changes of their maps.
+//!
+//! A map is changed after the frame's tag word: the backend stores a tag word in a frame, which names the pair in change, and enters the pair, or leaves it out, before it leaves the latch.
+#![tactic(auto)]
+
+mod changes;
+mod entries;
+mod latches;
+mod lookup;
+
+pub use changes::{enter, leave_out};
+pub use latches::{give_turn, take_turn};
+pub use lookup::find;
