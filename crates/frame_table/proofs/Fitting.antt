@@ -23,22 +23,25 @@ use Rattle.table_rule.specs.Shows.{AreApart, GivesEntries, entry_of}
 use Rattle.frame_table.specs.Turning.{HasNamed}
 
 module _ {A : Type 0} (number : A → ℕ) where
-  -- A list of things with different numbers below n, none of which is the number x below n, is shorter than n
+  -- no thing has the number x
   others_apart : (x : ℕ) (l : List A) → ((i : ℕ) (a : A) → get_elem? l i ≡ some a → number a ≢ x) → AllByRecursion (λ (y : ℕ). eqb x y ≡ false) (map number l)
   others_apart x [] other = tt
   others_apart x (a ∷ l) other = (ne_eqb x (number a) (λ e. other 0 a refl (sym e)), others_apart x l (λ i b at. other (suc i) b at))
 
+  -- no two have the same number
   all_apart : (l : List A) → ((i j : ℕ) (a b : A) → get_elem? l i ≡ some a → get_elem? l j ≡ some b → number a ≡ number b → i ≡ j) → IsDistinct eqb (map number l)
   unfolding IsDistinct
   all_apart [] apart = tt
   all_apart (a ∷ l) apart = (others_apart (number a) l (λ i b at e. absurd (let no : suc i ≡ 0 = apart (suc i) 0 b a at refl e in omega arith)), all_apart l (λ i j b c at there e. let same : suc i ≡ suc j = apart (suc i) (suc j) b c at there e in omega arith))
 
+  -- each number is below n
   all_below : (n : ℕ) (l : List A) → ((i : ℕ) (a : A) → get_elem? l i ≡ some a → number a < n) → (q : ℕ) → list_any (eqb q) (map number l) ≡ true → q < n
   all_below n [] low q is = absurd (cc)
   all_below n (a ∷ l) low q is = dite (ℕ_discrete q (number a)) (λ e. let h = low 0 a refl in omega arith)
       (λ e. all_below n l (λ i b at. low (suc i) b at) q (let no = ne_eqb q (number a) e in grind (arith, no, is)))
 
-  pub fewer : (n x : ℕ) (l : List A) → x < n → ((i : ℕ) (a : A) → get_elem? l i ≡ some a → (number a < n) × (number a ≢ x)) → ((i j : ℕ) (a b : A) → get_elem? l i ≡ some a → get_elem? l j ≡ some b → number a ≡ number b → i ≡ j) → length l < n
+  -- things with different numbers below n, none of which is x, are fewer than n, where x is below n too
+  fewer : (n x : ℕ) (l : List A) → x < n → ((i : ℕ) (a : A) → get_elem? l i ≡ some a → (number a < n) × (number a ≢ x)) → ((i j : ℕ) (a b : A) → get_elem? l i ≡ some a → get_elem? l j ≡ some b → number a ≡ number b → i ≡ j) → length l < n
   unfolding IsDistinct
   fewer n x l low each apart = let few = length-le_from_distinct_below (x ∷ map number l) n (others_apart x l (λ i a at. (each i a at).1), all_apart l apart) below in let long = length-map l number in omega arith
     where
