@@ -3,3 +3,4 @@ pub mod Blocks
 pub mod Shows
 pub mod Laid
 pub mod LaneCalls
+pub mod TakenLanes
