@@ -1,3 +1,5 @@
 pub mod Laying
 pub mod Tags
+pub mod TakenBlocks
+pub mod LanesOut
 pub mod Opens

@@ -9,7 +9,12 @@ use Rattle.pin_core.specs.declared.view.BlockPage.{BlockPage}
 use Rattle.pin_core.specs.declared.view.TakenLane.{TakenLane}
 use Rattle.table_rule.specs.Blocks.{has_block, is_block}
 use Rattle.table_rule.specs.Layout.{tag_lane}
-use Rattle.table_rule.specs.LaneCalls.{LaneDevices}
+use Rattle.table_rule.specs.Shows.{Devices}
+use Rattle.table_rule.specs.LaneCalls.{LaneDevices, lane_devices}
+
+-- the lanes among the devices
+abbrev pub lanes_of : {L G : Type 0} → Devices L G → LaneDevices L
+lanes_of d = lane_devices d.contents d.failed_writes d.read_faults d.write_faults
 
 -- A block of the relations that lies in the lane q of so many
 pub record IsBlockOf (relations : List RelEntry) (lanes q : ℕ) (tag : Tag) : Type 0 where
@@ -41,6 +46,11 @@ mark_named marks (Some tag) = marks tag
 
 abbrev pub block_page : Pages → Marks → ℕ → BlockPage
 block_page known marks word = record { tag = word; page = page_named known (unpacked_tag word); failed = mark_named marks (unpacked_tag word) }
+
+-- the page that a lane holds for a tag, where its contents are known, and else this one
+abbrev pub page_held : Option Pages → Tag → List ℕ → List ℕ
+page_held None tag page = page
+page_held (Some known) tag page = unwrap_or (known tag) page
 
 abbrev pub pages_of : List ℕ → Option Pages → Marks → Option (List BlockPage)
 pages_of blocks None marks = None
