@@ -12,3 +12,4 @@ pub mod Holding
 pub mod Taking
 pub mod Moving
 pub mod Mapping
+pub mod LaneWork

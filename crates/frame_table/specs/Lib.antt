@@ -5,3 +5,4 @@ pub mod Behind
 pub mod EndLoads
 pub mod Content
 pub mod Turning
+pub mod LaneWork

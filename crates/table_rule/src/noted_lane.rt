@@ -45,6 +45,17 @@ pub struct NotedLane<L> {
 }
 
 impl<L> NotedLane<L> {
+    /// The lane without the note of a call.
+    pub fn settled(self) -> NotedLane<L>
+        ensures device { result.device ≡ self.device }
+        ensures call { result.call ≡ lane_call.Untouched }
+    {
+        NotedLane {
+            device: self.into_device(),
+            call: LaneCall::Untouched,
+        }
+    }
+
     /// The lane itself.
     pub fn into_device(self) -> L
         ensures { result ≡ self.device }
