@@ -13,3 +13,4 @@ pub mod Taking
 pub mod Moving
 pub mod Mapping
 pub mod LaneWork
+pub mod LaneRuns

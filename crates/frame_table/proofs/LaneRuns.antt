@@ -1,0 +1,142 @@
+-- The steps by which a lane goes out and comes back.
+use Rattle.std.proofs.Common.{◌≡◌, ◌≢◌, ℕ, ◌+◌, ◌*◌, ◌<◌, ◌≤◌, ◌%◌, ◌^◌, Bool, true, false, Some, None, List, [], ◌∷◌, ◌++◌, get_or, set, length, get_or-set_same, append-nil, sym, refl, ap, ◌∙◌, subst, arith}
+use Rattle.std.specs.Prelude.{is_some, Option, ◌||◌}
+use Rattle.std.proofs.lemmas.Option.{same_Some}
+use mathlib.Core.Option.{some}
+use lib.ListN.{get_elem?}
+use Rattle.pin_core.specs.declared.view.DeviceCall.{DeviceCall}
+use Rattle.pin_core.specs.declared.view.LaneChange.{LaneChange}
+use Rattle.pin_core.specs.declared.view.LaneChange.TheVariants as lane_change
+use Rattle.pin_core.specs.declared.view.LastWrite.TheVariants.{Unwritten}
+use Rattle.pin_core.specs.declared.view.LaneHold.{LaneHold}
+use Rattle.pin_core.specs.declared.view.TakenLane.{TakenLane}
+use Rattle.pin_core.specs.declared.view.Link.{Link}
+use Rattle.pin_core.specs.declared.view.Load.{Load}
+use Rattle.pin_core.specs.declared.view.Met.{Met}
+use Rattle.pin_core.specs.declared.view.View.{View}
+use Rattle.pin_core.specs.State.{Frame, Page, link, lane_hold, no_lane, idle, sum_of_met}
+use Rattle.page_core.specs.State.{Block, block_of}
+use Rattle.page_core.specs.Kinds.{Kind, note_read, begin_write, note_write}
+use Rattle.page_core.specs.Kinds as pages
+use Rattle.history_core.specs.State.{State, Lane}
+use Rattle.history_core.specs.Lanes.{LaneKind, lane_out, read_block, fail_read, write_block, fail_write, sync_lane, fail_sync, lane_back, LaneAllowed, lane_after, lane_hold_after, CanReturnLane, CountsFault, is_failed_read, is_failed_write, met_by, calls_by, syncs, fault_of}
+use Rattle.history_core.specs.Steps.{Event, Step, Run, rests, goes, NoWrite, LaneAlone, Writes, aside, stepped, laned, paged, pool_after, pool_noting}
+use Rattle.history_core.specs.Steps as steps
+use Rattle.history_core.specs.Laws.{Laws}
+use Rattle.history_core.proofs.Laws.{laws_kept}
+use Rattle.history_core.proofs.Lasting.{opening_stays}
+use Rattle.grid.proofs.Lists.{put_here, set_here}
+use Rattle.table_rule.specs.declared.opening.Opening.{Opening}
+use Rattle.table_rule.specs.declared.turn.Place.TheVariants as place
+use Rattle.table_rule.specs.declared.turn.Turn.TheVariants as turn
+use Rattle.table_rule.specs.Shows.{Devices, IsOpened}
+use Rattle.frame_table.specs.LaneWork.{back_lane}
+use Rattle.frame_table.proofs.Frames.{put_keeps, same_at, set_twice}
+use Rattle.frame_table.proofs.Moving.{Moves}
+use Rattle.frame_table.proofs.LaneWork.{Leaves, laned_state, moves_lane, moves_on}
+
+-- The three kinds of step at a lane: alone, a write of the frame f, and a return with a note at the frame f
+abbrev pub alone_view : LaneKind → ℕ → View → View
+alone_view k q v = stepped (laned k q v v)
+
+abbrev pub alone_state : LaneKind → State → ℕ → ℕ → View → State
+alone_state k s id q v = laned_state s (aside s.pool id (alone_view k q v)) q (lane_after k (s.lane q))
+
+abbrev written_view : LaneKind → State → ℕ → ℕ → View → View
+written_view k s q f v = laned k q v (paged begin_write s.pool f v)
+
+abbrev written_state : LaneKind → State → ℕ → ℕ → ℕ → View → State
+written_state k s id q f v = laned_state s (pool_after begin_write s.pool id f (written_view k s q f v)) q (lane_after k (s.lane q))
+
+abbrev noted_view : Bool → Kind → State → ℕ → ℕ → View → View
+noted_view noted k s q f v = laned (lane_back noted) q v (paged k (pool_noting k s f) f v)
+
+abbrev noted_state : Bool → Kind → State → ℕ → ℕ → ℕ → View → State
+noted_state noted k s id q f v = laned_state s (pool_after k (pool_noting k s f) id f (noted_view noted k s q f v)) q (lane_after (lane_back noted) (s.lane q))
+
+-- The kind of a note leaves the frame, and what is out
+record NotesAlone (k : Kind) : Type 0 where
+  frame : (b : Block) (fr : Frame) → pages.frame_after k b fr ≡ fr
+  out : (b : Block) (fr : Frame) (l : Link) → (pages.link_after k b fr l).out ≡ l.out
+
+leaves_itself : (ln : Lane) → Leaves ln ln
+leaves_itself ln = record { taken = refl; reads = refl; writes = refl }
+
+module _ {L G : Type 0} (d : Devices L G) (o : Opening L G) where
+  alone_moves : (k : LaneKind) (s : State) (id q : ℕ) (v : View) (e : Event) → IsOpened d o s → Step e s (alone_state k s id q v) → Leaves (s.lane q) (lane_after k (s.lane q)) → Moves d o s (alone_state k s id q v) id v (alone_view k q v) (place.Of (turn.Lane q))
+  alone_moves k s id q v e opened step kept = moves_lane d o s (aside s.pool id (alone_view k q v)) id q v (alone_view k q v) (lane_after k (s.lane q)) opened (opening_stays s e (alone_state k s id q v) step) (record { views = refl; frames = λ f. refl; partitions = λ p. refl })
+      (record { hold = lane_hold_after k v.flushed (lane_hold v q); lanes = refl; partitions = refl; log = refl; outs = λ f. refl }) kept
+
+  written_moves : (k : LaneKind) (s : State) (id q f : ℕ) (v : View) (e : Event) → IsOpened d o s → Step e s (written_state k s id q f v) → Leaves (s.lane q) (lane_after k (s.lane q)) → Moves d o s (written_state k s id q f v) id v (written_view k s q f v) (place.Of (turn.Lane q))
+  written_moves k s id q f v e opened step kept = moves_lane d o s (pool_after begin_write s.pool id f (written_view k s q f v)) id q v (written_view k s q f v) (lane_after k (s.lane q)) opened (opening_stays s e (written_state k s id q f v) step) (record { views = refl; frames = λ g. put_keeps (λ (x : Frame). x) s.pool.core.frame f (s.pool.core.frame f) g refl; partitions = λ p. refl })
+      (record { hold = lane_hold_after k v.flushed (lane_hold v q); lanes = refl; partitions = refl; log = refl; outs = λ g. same_at (λ (l : Link). l.out) v.links f g (record (link v f) { last_write = Unwritten }) idle refl }) kept
+
+  noted_moves : (noted : Bool) (k : Kind) (s : State) (id q f : ℕ) (v : View) (e : Event) → NotesAlone k → IsOpened d o s → Step e s (noted_state noted k s id q f v) → Moves d o s (noted_state noted k s id q f v) id v (noted_view noted k s q f v) (place.Of (turn.Lane q))
+  noted_moves noted k s id q f v e note opened step = let fr : Frame = s.pool.core.frame f in let b : Block = block_of (pool_noting k s f).logged fr.tag in
+      moves_lane d o s (pool_after k (pool_noting k s f) id f (noted_view noted k s q f v)) id q v (noted_view noted k s q f v) (lane_after (lane_back noted) (s.lane q)) opened (opening_stays s e (noted_state noted k s id q f v) step) (record { views = refl; frames = λ g. put_keeps (λ (x : Frame). x) s.pool.core.frame f (pages.frame_after k b fr) g (note.frame b fr); partitions = λ p. refl })
+      (record { hold = lane_hold_after (lane_back noted) v.flushed (lane_hold v q); lanes = refl; partitions = refl; log = refl; outs = λ g. same_at (λ (l : Link). l.out) v.links f g (pages.link_after k b fr (link v f)) idle (note.out b fr (link v f)) }) (leaves_itself (s.lane q))
+
+  -- By these steps the state s comes to one in which the lane q is `ln`, and the view v becomes w; the lane's value alone moves
+  pub record Comes (s : State) (id q : ℕ) (v : View) (events : List Event) (w : View) (ln : Lane) : Type 0 where
+    pub next : State
+    pub run : Run events s next
+    pub laws : Laws next
+    pub moves : Moves d o s next id v w (place.Of (turn.Lane q))
+    pub lane : next.lane q ≡ ln
+
+  -- A state in which backend id has the view v
+  pub record Stands (s : State) (id q : ℕ) (v : View) : Type 0 where
+    pub opened : IsOpened d o s
+    pub laws : Laws s
+    pub there : get_elem? s.pool.core.views id ≡ some v
+    pub live : v.emptied ≡ false
+    pub below : q < s.lanes
+
+  in_lanes : (s : State) (id q : ℕ) (v : View) → Stands s id q v → q < length v.lanes
+  in_lanes s id q v h = let wide = h.laws.invariant.wide id v h.there h.live in let low = h.below in omega arith
+
+  -- a state after the first of two steps
+  stands_on : (s t : State) (id q : ℕ) (v u : View) (e : Event) → Stands s id q v → Step e s t → Moves d o s t id v u (place.Of (turn.Lane q)) → u.emptied ≡ v.emptied → Stands t id q u
+  stands_on s t id q v u e h step moves live = record {
+    opened = moves.fixed;
+    laws = laws_kept step h.laws;
+    there = ap (λ (l : List View). get_elem? l id) moves.views ∙ set_here s.pool.core.views id v u h.there;
+    live = live ∙ h.live;
+    below = (let a = moves.fixed.lanes in let b = h.opened.lanes in let low = h.below in omega arith);
+  }
+
+  one_step : (k : LaneKind) (s : State) (id q : ℕ) (v : View) → Stands s id q v → LaneAllowed k (s.lane q) (lane_hold v q) → LaneAlone k s q (lane_hold v q) → Leaves (s.lane q) (lane_after k (s.lane q)) → Comes s id q v (steps.lane id q k ∷ []) (alone_view k q v) (lane_after k (s.lane q))
+  one_step k s id q v h a alone kept = let step : Step (steps.lane id q k) s (alone_state k s id q v) = steps.lanes id q k v h.there h.live h.below a alone in record {
+    next = alone_state k s id q v;
+    run = goes step rests;
+    laws = laws_kept step h.laws;
+    moves = alone_moves k s id q v (steps.lane id q k) h.opened step kept;
+    lane = put_here s.lane q (lane_after k (s.lane q));
+  }
+
+  -- a step before others
+  before_others : (s t : State) (id q : ℕ) (v u w : View) (e : Event) (es : List Event) (ln : Lane) → Step e s t → Moves d o s t id v u (place.Of (turn.Lane q)) → Comes t id q u es w ln → Comes s id q v (e ∷ es) w ln
+  before_others s t id q v u w e es ln step moves c = record { next = c.next; run = goes step c.run; laws = c.laws; moves = moves_on d o s t c.next id v u w (place.Of (turn.Lane q)) moves c.moves; lane = c.lane }
+
+  -- the return, alone or with a note
+  returns_alone : (noted : Bool) (s : State) (id q : ℕ) (v : View) (ln : Lane) (h : LaneHold) → Stands s id q v → s.lane q ≡ ln → lane_hold v q ≡ h → CanReturnLane noted ln h → NoWrite h.change → Comes s id q v (steps.lane id q (lane_back noted) ∷ []) (alone_view (lane_back noted) q v) ln
+  returns_alone noted s id q v ln h stands is hold can none = let c = one_step (lane_back noted) s id q v stands (subst (λ (x : Lane). CanReturnLane noted x (lane_hold v q)) (sym is) (subst (CanReturnLane noted ln) (sym hold) can)) (subst (λ (x : LaneHold). NoWrite x.change) (sym hold) none) (leaves_itself (s.lane q)) in
+      record { next = c.next; run = c.run; laws = c.laws; moves = c.moves; lane = c.lane ∙ is }
+
+  returns_noted : (noted : Bool) (k : Kind) (s : State) (id q f : ℕ) (v : View) (ln : Lane) (h : LaneHold) → NotesAlone k → Stands s id q v → f < s.pool.core.frames → s.lane q ≡ ln → lane_hold v q ≡ h → CanReturnLane noted ln h → steps.Notes k s q f (lane_hold v q) (link v f)
+      → Comes s id q v (steps.note id q f (lane_back noted) k ∷ []) (noted_view noted k s q f v) ln
+  returns_noted noted k s id q f v ln h note stands inside is hold can notes =
+      let step : Step (steps.note id q f (lane_back noted) k) s (noted_state noted k s id q f v) = steps.notes id q f noted k v stands.there stands.live stands.below inside (subst (λ (x : Lane). CanReturnLane noted x (lane_hold v q)) (sym is) (subst (CanReturnLane noted ln) (sym hold) can)) notes in record {
+        next = noted_state noted k s id q f v;
+        run = goes step rests;
+        laws = laws_kept step stands.laws;
+        moves = noted_moves noted k s id q f v (steps.note id q f (lane_back noted) k) note stands.opened step;
+        lane = put_here s.lane q (s.lane q) ∙ is;
+      }
+
+  -- A call alone, and the return alone
+  pub calls_alone : (k : LaneKind) (noted : Bool) (s : State) (id q : ℕ) (v : View) → Stands s id q v → LaneAllowed k (s.lane q) (lane_hold v q) → LaneAlone k s q (lane_hold v q) → Leaves (s.lane q) (lane_after k (s.lane q)) → CanReturnLane noted (lane_after k (s.lane q)) (lane_hold_after k v.flushed (lane_hold v q)) → NoWrite (lane_hold_after k v.flushed (lane_hold v q)).change
+      → Comes s id q v (steps.lane id q k ∷ steps.lane id q (lane_back noted) ∷ []) (alone_view (lane_back noted) q (alone_view k q v)) (lane_after k (s.lane q))
+  calls_alone k noted s id q v h a alone kept can none = let t : State = alone_state k s id q v in let u : View = alone_view k q v in let step : Step (steps.lane id q k) s t = steps.lanes id q k v h.there h.live h.below a alone in let moves = alone_moves k s id q v (steps.lane id q k) h.opened step kept in
+      before_others s t id q v u (alone_view (lane_back noted) q u) (steps.lane id q k) (steps.lane id q (lane_back noted) ∷ []) (lane_after k (s.lane q)) step moves
+      (returns_alone noted t id q u (lane_after k (s.lane q)) (lane_hold_after k v.flushed (lane_hold v q)) (stands_on s t id q v u (steps.lane id q k) h step moves refl) (put_here s.lane q (lane_after k (s.lane q))) (get_or-set_same v.lanes q (lane_hold_after k v.flushed (lane_hold v q)) no_lane (in_lanes s id q v h)) can none)
