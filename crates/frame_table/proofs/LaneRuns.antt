@@ -7,6 +7,7 @@ use lib.ListN.{get_elem?}
 use Rattle.pin_core.specs.declared.view.DeviceCall.{DeviceCall}
 use Rattle.pin_core.specs.declared.view.LaneChange.{LaneChange}
 use Rattle.pin_core.specs.declared.view.LaneChange.TheVariants as lane_change
+use Rattle.pin_core.specs.declared.view.Io.TheVariants.{Input}
 use Rattle.pin_core.specs.declared.view.LastWrite.TheVariants.{Unwritten}
 use Rattle.pin_core.specs.declared.view.LaneHold.{LaneHold}
 use Rattle.pin_core.specs.declared.view.TakenLane.{TakenLane}
@@ -140,3 +141,110 @@ module _ {L G : Type 0} (d : Devices L G) (o : Opening L G) where
   calls_alone k noted s id q v h a alone kept can none = let t : State = alone_state k s id q v in let u : View = alone_view k q v in let step : Step (steps.lane id q k) s t = steps.lanes id q k v h.there h.live h.below a alone in let moves = alone_moves k s id q v (steps.lane id q k) h.opened step kept in
       before_others s t id q v u (alone_view (lane_back noted) q u) (steps.lane id q k) (steps.lane id q (lane_back noted) ∷ []) (lane_after k (s.lane q)) step moves
       (returns_alone noted t id q u (lane_after k (s.lane q)) (lane_hold_after k v.flushed (lane_hold v q)) (stands_on s t id q v u (steps.lane id q k) h step moves refl) (put_here s.lane q (lane_after k (s.lane q))) (get_or-set_same v.lanes q (lane_hold_after k v.flushed (lane_hold v q)) no_lane (in_lanes s id q v h)) can none)
+
+  -- A read, and the return with its note
+  pub reads_noted : (tag : ℕ) (p : Page) (s : State) (id q f : ℕ) (v : View) → Stands s id q v → f < s.pool.core.frames → LaneAllowed (read_block tag p) (s.lane q) (lane_hold v q) → s.lane_of tag ≡ q → CanReturnLane false (s.lane q) (record (lane_hold v q) { change = lane_change.Read tag p })
+      → (s.pool.core.frame f).tag ≡ tag → (link v f).io ≡ Input → (link v f).overwritten ≡ None
+      → Comes s id q v (steps.lane id q (read_block tag p) ∷ steps.note id q f (lane_back false) (note_read p) ∷ []) (noted_view false (note_read p) (alone_state (read_block tag p) s id q v) q f (alone_view (read_block tag p) q v)) (s.lane q)
+  reads_noted tag p s id q f v h inside a lane can tagged right fresh = let k : LaneKind = read_block tag p in let t : State = alone_state k s id q v in let u : View = alone_view k q v in
+      let step : Step (steps.lane id q k) s t = steps.lanes id q k v h.there h.live h.below a lane in let moves = alone_moves k s id q v (steps.lane id q k) h.opened step (leaves_itself (s.lane q)) in let hold = get_or-set_same v.lanes q (lane_hold_after k v.flushed (lane_hold v q)) no_lane (in_lanes s id q v h) in
+      before_others s t id q v u (noted_view false (note_read p) t q f u) (steps.lane id q k) (steps.note id q f (lane_back false) (note_read p) ∷ []) (s.lane q) step moves
+      (returns_noted false (note_read p) t id q f u (s.lane q) (lane_hold_after k v.flushed (lane_hold v q)) (record { frame = λ b fr. refl; out = λ b fr l. refl }) (stands_on s t id q v u (steps.lane id q k) h step moves refl) inside (put_here s.lane q (s.lane q)) hold can
+      (record { was_read = ap (λ (x : LaneHold). x.change) hold ∙ ap (λ (n : ℕ). lane_change.Read n p) (sym tagged); lane = ap s.lane_of tagged ∙ lane; right = right; fresh = fresh }))
+
+  -- A write, and the return with its note
+  pub writes_noted : (k : LaneKind) (noted : Bool) (s : State) (id q f : ℕ) (v : View) → Stands s id q v → f < s.pool.core.frames → LaneAllowed k (s.lane q) (lane_hold v q) → Writes k s q f (lane_hold v q) (link v f) → Leaves (s.lane q) (lane_after k (s.lane q))
+      → CanReturnLane noted (lane_after k (s.lane q)) (lane_hold_after k v.flushed (lane_hold v q)) → (done : Bool)
+      → (steps.Notes (note_write done) (written_state k s id q f v) q f (lane_hold (written_view k s q f v) q) (link (written_view k s q f v) f))
+      → Comes s id q v (steps.write id q f k ∷ steps.note id q f (lane_back noted) (note_write done) ∷ []) (noted_view noted (note_write done) (written_state k s id q f v) q f (written_view k s q f v)) (lane_after k (s.lane q))
+  writes_noted k noted s id q f v h inside a writes kept can done notes = let t : State = written_state k s id q f v in let u : View = written_view k s q f v in
+      let step : Step (steps.write id q f k) s t = steps.writes id q f k v h.there h.live h.below inside a writes in let moves = written_moves k s id q f v (steps.write id q f k) h.opened step kept in
+      let hold = get_or-set_same v.lanes q (lane_hold_after k v.flushed (lane_hold v q)) no_lane (in_lanes s id q v h) in
+      before_others s t id q v u (noted_view noted (note_write done) t q f u) (steps.write id q f k) (steps.note id q f (lane_back noted) (note_write done) ∷ []) (lane_after k (s.lane q)) step moves
+      (returns_noted noted (note_write done) t id q f u (lane_after k (s.lane q)) (lane_hold_after k v.flushed (lane_hold v q)) (record { frame = λ b fr. refl; out = λ b fr l. refl }) (stands_on s t id q v u (steps.write id q f k) h step moves refl) inside (put_here s.lane q (lane_after k (s.lane q))) hold can notes)
+
+  -- what the view has, and the frame is, once the write is made
+  pub written_link_is : (k : LaneKind) (s : State) (id q f : ℕ) (v : View) → f < length v.links → link (written_view k s q f v) f ≡ record (link v f) { last_write = Unwritten }
+  written_link_is k s id q f v low = get_or-set_same v.links f (record (link v f) { last_write = Unwritten }) idle low
+
+  pub written_frame_is : (k : LaneKind) (s : State) (id q f : ℕ) (v : View) → (written_state k s id q f v).pool.core.frame f ≡ s.pool.core.frame f
+  written_frame_is k s id q f v = put_here s.pool.core.frame f (s.pool.core.frame f)
+
+  pub written_hold_is : (k : LaneKind) (s : State) (id q f : ℕ) (v : View) → Stands s id q v → lane_hold (written_view k s q f v) q ≡ lane_hold_after k v.flushed (lane_hold v q)
+  written_hold_is k s id q f v h = get_or-set_same v.lanes q (lane_hold_after k v.flushed (lane_hold v q)) no_lane (in_lanes s id q v h)
+
+-- Views after two steps
+zero_met : Met
+zero_met = record { reads = 0; writes = 0; logs = 0 }
+
+met_after_none : (m x : Met) → sum_of_met (sum_of_met m (record { reads = 0; writes = 0; logs = 0 })) x ≡ sum_of_met m x
+met_after_none m x = λ j. record { reads = none_added m.reads x.reads j; writes = none_added m.writes x.writes j; logs = none_added m.logs x.logs j }
+  where
+    none_added : (a b : ℕ) → (a + 0) + b ≡ a + b
+    none_added a b = omega arith
+
+or_none : (b : Bool) → (b || false) ≡ b
+or_none true = refl
+or_none false = refl
+
+two_more : (n : ℕ) → (n + 1) + 1 ≡ n + 2
+two_more n = omega arith
+
+-- the lane is home, whatever call was noted
+lanes_back : (l : List LaneHold) (q : ℕ) (c : LaneChange) → q < length l → set (set l q (record (get_or l q no_lane) { change = c })) q (back_lane (get_or (set l q (record (get_or l q no_lane) { change = c })) q no_lane)) ≡ set l q (back_lane (get_or l q no_lane))
+lanes_back l q c low = set_twice l q (record (get_or l q no_lane) { change = c }) (back_lane (get_or (set l q (record (get_or l q no_lane) { change = c })) q no_lane)) ∙ ap (λ (h : LaneHold). set l q (back_lane h)) (get_or-set_same l q (record (get_or l q no_lane) { change = c }) no_lane low)
+
+pub view_alone : (k : LaneKind) (c : LaneChange) (noted : Bool) (q : ℕ) (v : View) → q < length v.lanes → lane_hold_after k v.flushed (lane_hold v q) ≡ record (lane_hold v q) { change = c } → met_by k (lane_hold v q) ≡ record { reads = 0; writes = 0; logs = 0 }
+    → alone_view (lane_back noted) q (alone_view k q v) ≡ record v { lanes = set v.lanes q (back_lane (lane_hold v q)); steps = v.steps + 2; device_calls = v.device_calls ++ calls_by k q; met = sum_of_met v.met (fault_of noted c); dirtied_or_synced = v.dirtied_or_synced || syncs k }
+view_alone k c noted q v low hold none = λ j. record v { lanes = lanes j; steps = two_more v.steps j; device_calls = append-nil (v.device_calls ++ calls_by k q) j; met = met j; dirtied_or_synced = or_none (v.dirtied_or_synced || syncs k) j }
+  where
+    lanes : set (set v.lanes q (lane_hold_after k v.flushed (lane_hold v q))) q (back_lane (get_or (set v.lanes q (lane_hold_after k v.flushed (lane_hold v q))) q no_lane)) ≡ set v.lanes q (back_lane (lane_hold v q))
+    lanes = subst (λ (h : LaneHold). set (set v.lanes q h) q (back_lane (get_or (set v.lanes q h) q no_lane)) ≡ set v.lanes q (back_lane (lane_hold v q))) (sym hold) (lanes_back v.lanes q c low)
+
+    changed : (get_or (set v.lanes q (lane_hold_after k v.flushed (lane_hold v q))) q no_lane).change ≡ c
+    changed = ap (λ (h : LaneHold). h.change) (get_or-set_same v.lanes q (lane_hold_after k v.flushed (lane_hold v q)) no_lane low ∙ hold)
+
+    met : sum_of_met (sum_of_met v.met (met_by k (lane_hold v q))) (fault_of noted (get_or (set v.lanes q (lane_hold_after k v.flushed (lane_hold v q))) q no_lane).change) ≡ sum_of_met v.met (fault_of noted c)
+    met = ap (λ (m : Met). sum_of_met (sum_of_met v.met m) (fault_of noted (get_or (set v.lanes q (lane_hold_after k v.flushed (lane_hold v q))) q no_lane).change)) none ∙ met_after_none v.met (fault_of noted (get_or (set v.lanes q (lane_hold_after k v.flushed (lane_hold v q))) q no_lane).change) ∙ ap (λ (x : LaneChange). sum_of_met v.met (fault_of noted x)) changed
+
+pub view_read : (tag : ℕ) (p : Page) (s : State) (id q f : ℕ) (v : View) → q < length v.lanes
+    → noted_view false (note_read p) (alone_state (read_block tag p) s id q v) q f (alone_view (read_block tag p) q v) ≡ record v { links = set v.links f (record (link v f) { read = Some p; read_is_home = false }); lanes = set v.lanes q (back_lane (lane_hold v q)); steps = v.steps + 2; device_calls = v.device_calls ++ calls_by (read_block tag p) q; met = sum_of_met v.met (record { reads = 0; writes = 0; logs = 0 }); dirtied_or_synced = v.dirtied_or_synced || false }
+view_read tag p s id q f v low = λ j. record v {
+  links = set v.links f (record (link v f) { read = Some p; read_is_home = false });
+  loads = append-nil v.loads j;
+  lanes = lanes_back v.lanes q (lane_change.Read tag p) low j;
+  steps = two_more v.steps j;
+  device_calls = append-nil (v.device_calls ++ calls_by (read_block tag p) q) j;
+  met = met_after_none v.met (record { reads = 0; writes = 0; logs = 0 }) j;
+  dirtied_or_synced = (or_none ((v.dirtied_or_synced || false) || false) ∙ or_none (v.dirtied_or_synced || false)) j;
+  had_output = or_none v.had_output j;
+}
+
+pub view_written : (k : LaneKind) (c : LaneChange) (noted done : Bool) (s : State) (id q f : ℕ) (v : View) → q < length v.lanes → f < length v.links → lane_hold_after k v.flushed (lane_hold v q) ≡ record (lane_hold v q) { change = c } → met_by k (lane_hold v q) ≡ record { reads = 0; writes = 0; logs = 0 } → syncs k ≡ false
+    → noted_view noted (note_write done) (written_state k s id q f v) q f (written_view k s q f v) ≡ record v { links = set v.links f (record (link v f) { last_write = pages.write_noted done }); lanes = set v.lanes q (back_lane (lane_hold v q)); steps = v.steps + 2; device_calls = v.device_calls ++ calls_by k q; met = sum_of_met v.met (fault_of noted c); dirtied_or_synced = v.dirtied_or_synced || false }
+view_written k c noted done s id q f v low inside hold none quiet = λ j. record v {
+  links = links j;
+  loads = (append-nil (v.loads ++ []) ∙ append-nil v.loads) j;
+  lanes = lanes j;
+  steps = two_more v.steps j;
+  device_calls = append-nil (v.device_calls ++ calls_by k q) j;
+  met = met j;
+  dirtied_or_synced = marks j;
+  had_output = (or_none (v.had_output || false) ∙ or_none v.had_output) j;
+}
+  where
+    links : set (set v.links f (record (link v f) { last_write = Unwritten })) f (record (get_or (set v.links f (record (link v f) { last_write = Unwritten })) f idle) { last_write = pages.write_noted done }) ≡ set v.links f (record (link v f) { last_write = pages.write_noted done })
+    links = set_twice v.links f (record (link v f) { last_write = Unwritten }) (record (get_or (set v.links f (record (link v f) { last_write = Unwritten })) f idle) { last_write = pages.write_noted done })
+        ∙ ap (λ (l : Link). set v.links f (record l { last_write = pages.write_noted done })) (get_or-set_same v.links f (record (link v f) { last_write = Unwritten }) idle inside)
+
+    lanes : set (set v.lanes q (lane_hold_after k v.flushed (lane_hold v q))) q (back_lane (get_or (set v.lanes q (lane_hold_after k v.flushed (lane_hold v q))) q no_lane)) ≡ set v.lanes q (back_lane (lane_hold v q))
+    lanes = subst (λ (h : LaneHold). set (set v.lanes q h) q (back_lane (get_or (set v.lanes q h) q no_lane)) ≡ set v.lanes q (back_lane (lane_hold v q))) (sym hold) (lanes_back v.lanes q c low)
+
+    changed : (get_or (set v.lanes q (lane_hold_after k v.flushed (lane_hold v q))) q no_lane).change ≡ c
+    changed = ap (λ (h : LaneHold). h.change) (get_or-set_same v.lanes q (lane_hold_after k v.flushed (lane_hold v q)) no_lane low ∙ hold)
+
+    met : sum_of_met (sum_of_met v.met (met_by k (lane_hold v q))) (fault_of noted (get_or (set v.lanes q (lane_hold_after k v.flushed (lane_hold v q))) q no_lane).change) ≡ sum_of_met v.met (fault_of noted c)
+    met = ap (λ (m : Met). sum_of_met (sum_of_met v.met m) (fault_of noted (get_or (set v.lanes q (lane_hold_after k v.flushed (lane_hold v q))) q no_lane).change)) none ∙ met_after_none v.met (fault_of noted (get_or (set v.lanes q (lane_hold_after k v.flushed (lane_hold v q))) q no_lane).change) ∙ ap (λ (x : LaneChange). sum_of_met v.met (fault_of noted x)) changed
+
+    marks : ((((v.dirtied_or_synced || false) || syncs k) || false) || false) ≡ (v.dirtied_or_synced || false)
+    marks = or_none (((v.dirtied_or_synced || false) || syncs k) || false) ∙ or_none ((v.dirtied_or_synced || false) || syncs k) ∙ ap (λ (b : Bool). (v.dirtied_or_synced || false) || b) quiet ∙ or_none (v.dirtied_or_synced || false)
