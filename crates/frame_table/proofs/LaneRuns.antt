@@ -106,7 +106,7 @@ module _ {L G : Type 0} (d : Devices L G) (o : Opening L G) where
     below = (let a = moves.fixed.lanes in let b = h.opened.lanes in let low = h.below in omega arith);
   }
 
-  one_step : (k : LaneKind) (s : State) (id q : ℕ) (v : View) → Stands s id q v → LaneAllowed k (s.lane q) (lane_hold v q) → LaneAlone k s q (lane_hold v q) → Leaves (s.lane q) (lane_after k (s.lane q)) → Comes s id q v (steps.lane id q k ∷ []) (alone_view k q v) (lane_after k (s.lane q))
+  pub one_step : (k : LaneKind) (s : State) (id q : ℕ) (v : View) → Stands s id q v → LaneAllowed k (s.lane q) (lane_hold v q) → LaneAlone k s q (lane_hold v q) → Leaves (s.lane q) (lane_after k (s.lane q)) → Comes s id q v (steps.lane id q k ∷ []) (alone_view k q v) (lane_after k (s.lane q))
   one_step k s id q v h a alone kept = let step : Step (steps.lane id q k) s (alone_state k s id q v) = steps.lanes id q k v h.there h.live h.below a alone in record {
     next = alone_state k s id q v;
     run = goes step rests;
@@ -174,9 +174,6 @@ module _ {L G : Type 0} (d : Devices L G) (o : Opening L G) where
   written_hold_is k s id q f v h = get_or-set_same v.lanes q (lane_hold_after k v.flushed (lane_hold v q)) no_lane (in_lanes s id q v h)
 
 -- Views after two steps
-zero_met : Met
-zero_met = record { reads = 0; writes = 0; logs = 0 }
-
 met_after_none : (m x : Met) → sum_of_met (sum_of_met m (record { reads = 0; writes = 0; logs = 0 })) x ≡ sum_of_met m x
 met_after_none m x = λ j. record { reads = none_added m.reads x.reads j; writes = none_added m.writes x.writes j; logs = none_added m.logs x.logs j }
   where
@@ -194,18 +191,18 @@ two_more n = omega arith
 lanes_back : (l : List LaneHold) (q : ℕ) (c : LaneChange) → q < length l → set (set l q (record (get_or l q no_lane) { change = c })) q (back_lane (get_or (set l q (record (get_or l q no_lane) { change = c })) q no_lane)) ≡ set l q (back_lane (get_or l q no_lane))
 lanes_back l q c low = set_twice l q (record (get_or l q no_lane) { change = c }) (back_lane (get_or (set l q (record (get_or l q no_lane) { change = c })) q no_lane)) ∙ ap (λ (h : LaneHold). set l q (back_lane h)) (get_or-set_same l q (record (get_or l q no_lane) { change = c }) no_lane low)
 
+-- A call that notes the change c, and the return: the lane is home, and the fault is counted
+module _ (k : LaneKind) (c : LaneChange) (noted : Bool) (q : ℕ) (v : View) (low : q < length v.lanes) (hold : lane_hold_after k v.flushed (lane_hold v q) ≡ record (lane_hold v q) { change = c }) where
+  lanes_home : set (set v.lanes q (lane_hold_after k v.flushed (lane_hold v q))) q (back_lane (get_or (set v.lanes q (lane_hold_after k v.flushed (lane_hold v q))) q no_lane)) ≡ set v.lanes q (back_lane (lane_hold v q))
+  lanes_home = subst (λ (h : LaneHold). set (set v.lanes q h) q (back_lane (get_or (set v.lanes q h) q no_lane)) ≡ set v.lanes q (back_lane (lane_hold v q))) (sym hold) (lanes_back v.lanes q c low)
+
+  fault_noted : met_by k (lane_hold v q) ≡ record { reads = 0; writes = 0; logs = 0 } → sum_of_met (sum_of_met v.met (met_by k (lane_hold v q))) (fault_of noted (get_or (set v.lanes q (lane_hold_after k v.flushed (lane_hold v q))) q no_lane).change) ≡ sum_of_met v.met (fault_of noted c)
+  fault_noted none = let change : LaneChange = (get_or (set v.lanes q (lane_hold_after k v.flushed (lane_hold v q))) q no_lane).change in
+      ap (λ (m : Met). sum_of_met (sum_of_met v.met m) (fault_of noted change)) none ∙ met_after_none v.met (fault_of noted change) ∙ ap (λ (h : LaneHold). sum_of_met v.met (fault_of noted h.change)) (get_or-set_same v.lanes q (lane_hold_after k v.flushed (lane_hold v q)) no_lane low ∙ hold)
+
 pub view_alone : (k : LaneKind) (c : LaneChange) (noted : Bool) (q : ℕ) (v : View) → q < length v.lanes → lane_hold_after k v.flushed (lane_hold v q) ≡ record (lane_hold v q) { change = c } → met_by k (lane_hold v q) ≡ record { reads = 0; writes = 0; logs = 0 }
     → alone_view (lane_back noted) q (alone_view k q v) ≡ record v { lanes = set v.lanes q (back_lane (lane_hold v q)); steps = v.steps + 2; device_calls = v.device_calls ++ calls_by k q; met = sum_of_met v.met (fault_of noted c); dirtied_or_synced = v.dirtied_or_synced || syncs k }
-view_alone k c noted q v low hold none = λ j. record v { lanes = lanes j; steps = two_more v.steps j; device_calls = append-nil (v.device_calls ++ calls_by k q) j; met = met j; dirtied_or_synced = or_none (v.dirtied_or_synced || syncs k) j }
-  where
-    lanes : set (set v.lanes q (lane_hold_after k v.flushed (lane_hold v q))) q (back_lane (get_or (set v.lanes q (lane_hold_after k v.flushed (lane_hold v q))) q no_lane)) ≡ set v.lanes q (back_lane (lane_hold v q))
-    lanes = subst (λ (h : LaneHold). set (set v.lanes q h) q (back_lane (get_or (set v.lanes q h) q no_lane)) ≡ set v.lanes q (back_lane (lane_hold v q))) (sym hold) (lanes_back v.lanes q c low)
-
-    changed : (get_or (set v.lanes q (lane_hold_after k v.flushed (lane_hold v q))) q no_lane).change ≡ c
-    changed = ap (λ (h : LaneHold). h.change) (get_or-set_same v.lanes q (lane_hold_after k v.flushed (lane_hold v q)) no_lane low ∙ hold)
-
-    met : sum_of_met (sum_of_met v.met (met_by k (lane_hold v q))) (fault_of noted (get_or (set v.lanes q (lane_hold_after k v.flushed (lane_hold v q))) q no_lane).change) ≡ sum_of_met v.met (fault_of noted c)
-    met = ap (λ (m : Met). sum_of_met (sum_of_met v.met m) (fault_of noted (get_or (set v.lanes q (lane_hold_after k v.flushed (lane_hold v q))) q no_lane).change)) none ∙ met_after_none v.met (fault_of noted (get_or (set v.lanes q (lane_hold_after k v.flushed (lane_hold v q))) q no_lane).change) ∙ ap (λ (x : LaneChange). sum_of_met v.met (fault_of noted x)) changed
+view_alone k c noted q v low hold none = λ j. record v { lanes = lanes_home k c noted q v low hold j; steps = two_more v.steps j; device_calls = append-nil (v.device_calls ++ calls_by k q) j; met = fault_noted k c noted q v low hold none j; dirtied_or_synced = or_none (v.dirtied_or_synced || syncs k) j }
 
 pub view_read : (tag : ℕ) (p : Page) (s : State) (id q f : ℕ) (v : View) → q < length v.lanes
     → noted_view false (note_read p) (alone_state (read_block tag p) s id q v) q f (alone_view (read_block tag p) q v) ≡ record v { links = set v.links f (record (link v f) { read = Some p; read_is_home = false }); lanes = set v.lanes q (back_lane (lane_hold v q)); steps = v.steps + 2; device_calls = v.device_calls ++ calls_by (read_block tag p) q; met = sum_of_met v.met (record { reads = 0; writes = 0; logs = 0 }); dirtied_or_synced = v.dirtied_or_synced || false }
@@ -225,10 +222,10 @@ pub view_written : (k : LaneKind) (c : LaneChange) (noted done : Bool) (s : Stat
 view_written k c noted done s id q f v low inside hold none quiet = λ j. record v {
   links = links j;
   loads = (append-nil (v.loads ++ []) ∙ append-nil v.loads) j;
-  lanes = lanes j;
+  lanes = lanes_home k c noted q v low hold j;
   steps = two_more v.steps j;
   device_calls = append-nil (v.device_calls ++ calls_by k q) j;
-  met = met j;
+  met = fault_noted k c noted q v low hold none j;
   dirtied_or_synced = marks j;
   had_output = (or_none (v.had_output || false) ∙ or_none v.had_output) j;
 }
@@ -236,15 +233,6 @@ view_written k c noted done s id q f v low inside hold none quiet = λ j. record
     links : set (set v.links f (record (link v f) { last_write = Unwritten })) f (record (get_or (set v.links f (record (link v f) { last_write = Unwritten })) f idle) { last_write = pages.write_noted done }) ≡ set v.links f (record (link v f) { last_write = pages.write_noted done })
     links = set_twice v.links f (record (link v f) { last_write = Unwritten }) (record (get_or (set v.links f (record (link v f) { last_write = Unwritten })) f idle) { last_write = pages.write_noted done })
         ∙ ap (λ (l : Link). set v.links f (record l { last_write = pages.write_noted done })) (get_or-set_same v.links f (record (link v f) { last_write = Unwritten }) idle inside)
-
-    lanes : set (set v.lanes q (lane_hold_after k v.flushed (lane_hold v q))) q (back_lane (get_or (set v.lanes q (lane_hold_after k v.flushed (lane_hold v q))) q no_lane)) ≡ set v.lanes q (back_lane (lane_hold v q))
-    lanes = subst (λ (h : LaneHold). set (set v.lanes q h) q (back_lane (get_or (set v.lanes q h) q no_lane)) ≡ set v.lanes q (back_lane (lane_hold v q))) (sym hold) (lanes_back v.lanes q c low)
-
-    changed : (get_or (set v.lanes q (lane_hold_after k v.flushed (lane_hold v q))) q no_lane).change ≡ c
-    changed = ap (λ (h : LaneHold). h.change) (get_or-set_same v.lanes q (lane_hold_after k v.flushed (lane_hold v q)) no_lane low ∙ hold)
-
-    met : sum_of_met (sum_of_met v.met (met_by k (lane_hold v q))) (fault_of noted (get_or (set v.lanes q (lane_hold_after k v.flushed (lane_hold v q))) q no_lane).change) ≡ sum_of_met v.met (fault_of noted c)
-    met = ap (λ (m : Met). sum_of_met (sum_of_met v.met m) (fault_of noted (get_or (set v.lanes q (lane_hold_after k v.flushed (lane_hold v q))) q no_lane).change)) none ∙ met_after_none v.met (fault_of noted (get_or (set v.lanes q (lane_hold_after k v.flushed (lane_hold v q))) q no_lane).change) ∙ ap (λ (x : LaneChange). sum_of_met v.met (fault_of noted x)) changed
 
     marks : ((((v.dirtied_or_synced || false) || syncs k) || false) || false) ≡ (v.dirtied_or_synced || false)
     marks = or_none (((v.dirtied_or_synced || false) || syncs k) || false) ∙ or_none ((v.dirtied_or_synced || false) || syncs k) ∙ ap (λ (b : Bool). (v.dirtied_or_synced || false) || b) quiet ∙ or_none (v.dirtied_or_synced || false)

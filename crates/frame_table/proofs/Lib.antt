@@ -14,3 +14,4 @@ pub mod Moving
 pub mod Mapping
 pub mod LaneWork
 pub mod LaneRuns
+pub mod LaneTrips

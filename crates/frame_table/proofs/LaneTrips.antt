@@ -1,0 +1,243 @@
+-- A lane goes out with its holder, and comes back with the call that was made of it.
+use Rattle.std.proofs.Common.{◌≡◌, ◌≢◌, ℕ, ◌+◌, ◌*◌, ◌<◌, ◌≤◌, ◌%◌, ◌^◌, Bool, true, false, Some, None, List, [], ◌∷◌, ◌++◌, get_or, set, length, get_or-set_same, get_or-set_other, append-nil, sym, refl, ap, ◌∙◌, subst, arith, rules}
+use Rattle.std.proofs.Math.Nat.{mod-eq_of_lt}
+use Rattle.std.proofs.Math.ListN.{get_or-eq_default}
+use Rattle.std.specs.Prelude.{is_some, Option, ◌||◌}
+use Rattle.std.proofs.lemmas.Option.{same_Some}
+use Rattle.std.proofs.lemmas.Grind.{common_steps}
+use mathlib.Core.Logic.{dite}
+use mathlib.Core.Option.{none, some, some-injective}
+use mathlib.Core.Option as slot
+use native.Mathlib.Decide.{ℕ_discrete, dec_lt}
+use lib.ListN.{get_elem?}
+use lib.Seq.{set-get_or}
+use Rattle.atomic_table.specs.Table.{Me, step, takes, gives, stepped, Allows, rest}
+use Rattle.atomic_table.specs.Table as table
+use Rattle.log_device.specs.Faults.{Rose}
+use Rattle.page_layout.specs.Fields.{lsn_of}
+use Rattle.block_tag.specs.declared.tag.Fork.TheVariants.{Main}
+use Rattle.block_tag.specs.declared.tag.Tag.{Tag}
+use Rattle.block_tag.specs.Names.{packed_tag, tag_of_parts, names_block, hash_of, lane_number}
+use Rattle.pin_core.specs.declared.view.View.{View}
+use Rattle.pin_core.specs.declared.view.Link.{Link}
+use Rattle.pin_core.specs.declared.view.Io.{Io}
+use Rattle.pin_core.specs.declared.view.Io.TheVariants.{Quiet, Input, Output}
+use Rattle.pin_core.specs.declared.view.LaneChange.{LaneChange}
+use Rattle.pin_core.specs.declared.view.LaneChange.TheVariants as lane_change
+use Rattle.pin_core.specs.declared.view.LaneHold.{LaneHold}
+use Rattle.pin_core.specs.declared.view.TakenLane.{TakenLane}
+use Rattle.pin_core.specs.declared.view.BlockPage.{BlockPage}
+use Rattle.pin_core.specs.State.{Frame, Page, link, lane_hold, no_lane, idle, sum_of_met}
+use Rattle.pin_core.specs.Tallies.{flag_weight}
+use Rattle.history_core.specs.State.{State, Lane}
+use Rattle.history_core.specs.Lanes.{LaneKind, lane_out, read_block, fail_read, write_block, fail_write, sync_lane, fail_sync, lane_back, CanReturnLane, CountsFault, CanCall, LaneLink, CountsOut, is_failed_read, is_failed_write, lane_after, lane_hold_after, Rises}
+use Rattle.history_core.specs.Steps.{Event, Run}
+use Rattle.history_core.specs.Steps as steps
+use Rattle.history_core.specs.Laws.{Laws}
+use Rattle.grid.proofs.Lists.{set_here}
+use Rattle.grid.proofs.Sums.{terms_le}
+use Rattle.table_rule.specs.declared.value.Value.{Value}
+use Rattle.table_rule.specs.declared.value.Value.TheVariants as value
+use Rattle.table_rule.specs.declared.opening.Opening.{Opening}
+use Rattle.table_rule.specs.declared.noted_lane.NotedLane.{NotedLane}
+use Rattle.table_rule.specs.declared.noted_lane.LaneCall.{LaneCall}
+use Rattle.table_rule.specs.declared.noted_lane.LaneCall.TheVariants.{Untouched, Read, ReadFailed, Written, WriteFailed, Synced, SyncFailed}
+use Rattle.table_rule.specs.declared.turn.Place.{Place}
+use Rattle.table_rule.specs.declared.turn.Place.TheVariants as place
+use Rattle.table_rule.specs.declared.turn.Turn.{Turn}
+use Rattle.table_rule.specs.declared.turn.Turn.TheVariants as turn
+use Rattle.table_rule.specs.Layout.{latch_place, slot_of, tag_lane, lane_of_tag}
+use Rattle.table_rule.specs.Shows.{is_out, IsHome, Devices, Gives, GivesLane, IsLane, IsOpened, HasValue, Shows, Held}
+use Rattle.table_rule.specs.LaneCalls.{LaneDid}
+use Rattle.table_rule.specs.TakenLanes.{IsBlockOf, taken_of, page_held, lanes_of}
+use Rattle.table_rule.proofs.Tags.{packed_is}
+use Rattle.table_rule.proofs.LanesOut.{holds_blocks, can_go_out, still_is, kept_lane, took_page, tore_page}
+use Rattle.table_rule.proofs.Opens.{there_at}
+use Rattle.frame_table.specs.LaneWork.{DidSteps, out_events, out_lane, back_lane, out_view, back_events, back_view, MayNote, CanNoteRead, CanNoteWrite, was_known, is_known_in, IsTaken, MayReturn, lane_went, came_by}
+use Rattle.frame_table.proofs.Moving.{Moves, shows_out, shows_back, slot_low}
+use Rattle.frame_table.proofs.LaneWork.{rises}
+use Rattle.frame_table.proofs.LaneRuns.{Comes, Stands, alone_view, alone_state, calls_alone, one_step, reads_noted, writes_noted, written_link_is, written_frame_is, written_hold_is, view_alone, view_read, view_written}
+
+-- each lane has a number of a tag
+lane_word : (lanes q : ℕ) → q < lanes → lanes ≤ 16 → (word : ℕ) × (tag_lane lanes word ≡ q)
+lane_word lanes q low few = let tag : Tag = tag_of_parts 0 Main q in (packed_tag tag, ap (lane_of_tag lanes) (packed_is tag (named q (omega arith))) ∙ ap (λ (n : ℕ). n % lanes) {x = hash_of tag} {y = q} (omega arith) ∙ mod-eq_of_lt low)
+  where
+    named : (q : ℕ) → q < 16 → names_block (tag_of_parts 0 Main q) ≡ true
+    named q low = grind arith
+
+module _ {L G : Type 0} (d : Devices L G) (o : Opening L G) where
+  -- whether the contents of a lane are known
+  known_of : (s : State) (q : ℕ) → IsOpened d o s → Laws s → length o.lanes.value.items ≡ o.config.lanes → q < o.config.lanes → (s.lane q).known ≡ was_known (lanes_of d) o.lanes.value.items q
+  known_of s q h laws counted low = let word = lane_word o.config.lanes q low h.few_lanes in let l = there_at o.lanes.value.items q (omega arith) in let of_word = ap (λ (g : ℕ → ℕ). g word.0) h.lane_of ∙ word.1 in
+      ap (λ (r : ℕ). (s.lane r).known) (sym of_word) ∙ laws.invariant.known word.0 ∙ h.known q l.0 word.0 l.1 word.1 ∙ sym (ap (is_known_in (lanes_of d)) l.1)
+
+  -- no other view has a lane out, where one holds its latch
+  lane_home : (s : State) (id q : ℕ) (v : View) → Laws s → get_elem? s.pool.core.views id ≡ some v → q < s.lanes → (lane_hold v q).held ≡ true → (i : ℕ) (u : View) → i ≢ id → get_elem? s.pool.core.views i ≡ some u → (lane_hold u q).out ≡ None
+  lane_home s id q v laws there low held i u other at = (laws.invariant.lanes.cells i u q at low).hold.resting (unheld (lane_hold u q).held refl)
+    where
+      one : flag_weight (s.lane q).taken ≤ 1
+      one = flag_low (s.lane q).taken
+        where
+          flag_low : (b : Bool) → flag_weight b ≤ 1
+          flag_low true = omega arith
+          flag_low false = omega arith
+
+      unheld : (b : Bool) → (lane_hold u q).held ≡ b → (lane_hold u q).held ≡ false
+      unheld false e = e
+      unheld true e = let both = terms_le (λ (x : View). flag_weight (lane_hold x q).held) s.pool.core.views id i v u other there at in let sum = (laws.invariant.lanes.columns q low).taken in
+          absurd (let a = ap flag_weight held in let b = ap flag_weight e in omega (arith, one, sum))
+
+  -- the view after the lane went out
+  out_view_is : (q : ℕ) (taken : TakenLane) (v : View) → (lane_hold v q).held ≡ true → (lane_hold v q).change ≡ lane_change.Untouched → alone_view (lane_out taken) q v ≡ out_view q taken v
+  out_view_is q taken v held idle_call = λ j. record v { lanes = set v.lanes q (record (lane_hold v q) { held = held j; out = Some taken; change = idle_call j; flushed = v.flushed }); steps = v.steps + 1; device_calls = append-nil v.device_calls j; met = met j; dirtied_or_synced = or_false v.dirtied_or_synced j }
+    where
+      met : sum_of_met v.met (record { reads = 0; writes = 0; logs = 0 }) ≡ v.met
+      met = λ j. record { reads = none_more v.met.reads j; writes = none_more v.met.writes j; logs = none_more v.met.logs j }
+        where
+          none_more : (n : ℕ) → n + 0 ≡ n
+          none_more n = omega arith
+
+      or_false : (b : Bool) → (b || false) ≡ b
+      or_false true = refl
+      or_false false = refl
+
+  pub goes_out : (slots id q : ℕ) (me : Me (Value L G) View) → length o.lanes.value.items ≡ o.config.lanes → q < o.config.lanes → me.0.emptied ≡ false → (lane_hold me.0 q).held ≡ true → (lane_hold me.0 q).out ≡ None
+      → Allows (Held d o) slots id me (latch_place o.config.frames (turn.Lane q)) (λ n. n) (lane_went (lanes_of d) (was_known (lanes_of d) o.lanes.value.items q) o.catalog.value o.config.lanes q (slot_of o.config.frames (place.Of (turn.Lane q))) (step slots (latch_place o.config.frames (turn.Lane q)) 0 0 none) me)
+  goes_out slots id q me counted below live held out t h deep there small = of_value value_there.value value_there.home value_there.gives
+    where
+      here : get_elem? h.state.pool.core.views id ≡ some me.0
+      here = ap (λ (l : List View). get_elem? l id) (sym h.shows.views) ∙ there
+
+      low : q < h.state.lanes
+      low = let e = h.shows.fixed.lanes in omega arith
+
+      stands : Stands d o h.state id q me.0
+      stands = record { opened = h.shows.fixed; laws = h.laws; there = here; live = live; below = low }
+
+      none_out : IsHome (place.Of (turn.Lane q)) h.state.pool.core.views
+      none_out i u at = dite (ℕ_discrete i id)
+          (λ e. let same : me.0 ≡ u = some-injective me.0 u (sym here ∙ ap (get_elem? h.state.pool.core.views) (sym e) ∙ at) in ap (λ (x : View). is_some (lane_hold x q).out) (sym same) ∙ ap (λ (x : Option TakenLane). is_some x) out)
+          (λ n. ap (λ (x : Option TakenLane). is_some x) (lane_home h.state id q me.0 h.laws here low held i u n at))
+
+      value_there : HasValue d o t.homes h.state (place.Of (turn.Lane q))
+      value_there = h.shows.homes (place.Of (turn.Lane q)) below none_out
+
+      unnoted : (lane_hold me.0 q).change ≡ lane_change.Untouched
+      unnoted = (h.laws.invariant.lanes.cells id me.0 q here low).hold.home out
+
+      of_value : (y : Value L G) → get_elem? t.homes (slot_of o.config.frames (place.Of (turn.Lane q))) ≡ some (some y) → GivesLane d o.catalog.value h.state.lanes q y (h.state.lane q)
+          → (w : View) × (a : table.Act (Value L G)) × table.Valid t.homes me.1 a × Held d o (stepped t (latch_place o.config.frames (turn.Lane q)) (get_or t.words (latch_place o.config.frames (turn.Lane q)) 0) id me.1 w a)
+          × lane_went (lanes_of d) (was_known (lanes_of d) o.lanes.value.items q) o.catalog.value o.config.lanes q (slot_of o.config.frames (place.Of (turn.Lane q))) (step slots (latch_place o.config.frames (turn.Lane q)) 0 0 none) me (get_or t.words (latch_place o.config.frames (turn.Lane q)) 0) (w, table.carried_after me.1 a)
+      of_value (value.Lane l) home gives_it = (
+        out_view q taken me.0,
+        takes (slot_of o.config.frames (place.Of (turn.Lane q))) (value.Lane l),
+        home,
+        record {
+          state = comes.next;
+          shows = shows_out d o (set t.words at (get_or t.words at 0)) t h.state comes.next id me.0 (out_view q taken me.0) (place.Of (turn.Lane q)) (set-get_or t.words at 0) h.shows here moves below (λ e. let few = h.shows.fixed.few_lanes in absurd (omega arith)) is_away;
+          laws = comes.laws;
+        },
+        (
+          l,
+          refl,
+          gives_it.1,
+          record { holds = holds_blocks d o.catalog.value o.config.lanes q l.device (h.state.lane q) is_lane; known_still = sym is_lane.known ∙ known_of h.state q h.shows.fixed h.laws counted below },
+          refl,
+          record { state = h.state; laws = h.laws; next = comes.next; seat = id; there = here; live = live; run = comes.run; after = ap (λ (x : List View). get_elem? x id) moves.views ∙ set_here h.state.pool.core.views id me.0 (out_view q taken me.0) here },
+        ),
+      )
+        where
+          at : ℕ
+          at = latch_place o.config.frames (turn.Lane q)
+
+          is_lane : IsLane d o.catalog.value o.config.lanes q l.device (h.state.lane q)
+          is_lane = subst (λ (n : ℕ). IsLane d o.catalog.value n q l.device (h.state.lane q)) h.shows.fixed.lanes gives_it.0
+
+          taken : TakenLane
+          taken = taken_of (lanes_of d) o.catalog.value o.config.lanes q l.device
+
+          comes : Comes d o h.state id q me.0 (out_events q taken id) (alone_view (lane_out taken) q me.0) (h.state.lane q)
+          comes = one_step d o (lane_out taken) h.state id q me.0 stands (can_go_out d o.catalog.value o.config.lanes q l.device (h.state.lane q) (lane_hold me.0 q) is_lane held out) tt (record { taken = refl; reads = refl; writes = refl })
+
+          moves : Moves d o h.state comes.next id me.0 (out_view q taken me.0) (place.Of (turn.Lane q))
+          moves = subst (λ (w : View). Moves d o h.state comes.next id me.0 w (place.Of (turn.Lane q))) (out_view_is q taken me.0 held unnoted) comes.moves
+
+          is_away : IsHome (place.Of (turn.Lane q)) (set h.state.pool.core.views id (out_view q taken me.0)) → ⊥
+          is_away all_home = let wide = h.laws.invariant.wide id me.0 here live in let no : true ≡ false = sym (ap (λ (x : LaneHold). is_some x.out) (get_or-set_same me.0.lanes q (out_lane taken me.0.flushed) no_lane (let z = low in omega arith))) ∙ all_home id (out_view q taken me.0) (set_here h.state.pool.core.views id me.0 (out_view q taken me.0) here) in absurd (cc)
+      of_value (value.Page p) home gives_it = absurd gives_it
+      of_value (value.Map m) home gives_it = absurd gives_it
+      of_value (value.Log g) home gives_it = absurd gives_it
+      of_value (value.Lanes l) home gives_it = absurd gives_it
+      of_value value.Away home gives_it = absurd gives_it
+
+  -- By these steps a state comes to one that has the lane as the device l is
+  record Returns (s : State) (id q : ℕ) (v : View) (events : List Event) (w : View) (l : L) : Type 0 where
+    lane : Lane
+    comes : Comes d o s id q v events w lane
+    is : IsLane d o.catalog.value o.config.lanes q l lane
+
+  returns_as : (s : State) (id q : ℕ) (v : View) (events : List Event) (w w' : View) (l : L) → w ≡ w' → Returns s id q v events w l → Returns s id q v events w' l
+  returns_as s id q v events w w' l e r = subst (λ (x : View). Returns s id q v events x l) e r
+
+  -- a call's block lies in the lane, by the number of its tag
+  number_placed : (s : State) (q : ℕ) (tag : Tag) → IsOpened d o s → IsBlockOf o.catalog.value o.config.lanes q tag → s.lane_of (packed_tag tag) ≡ q
+  number_placed s q tag h b = ap (λ (g : ℕ → ℕ). g (packed_tag tag)) h.lane_of ∙ ap (lane_of_tag o.config.lanes) (packed_is tag b.named) ∙ b.placed
+
+  module _ (s : State) (id q : ℕ) (v : View) (h : Stands d o s id q v) (counted : length o.lanes.value.items ≡ o.config.lanes) (below : q < o.config.lanes) (l : NotedLane L) (m : MayReturn (lanes_of d) (was_known (lanes_of d) o.lanes.value.items q) o.catalog.value o.config.lanes q v l)
+      (reads_fit : (x : L) → d.read_faults x < 2 ^ 64) (writes_fit : (x : L) → d.write_faults x < 2 ^ 64) where
+    abbrev ln : Lane
+    ln = s.lane q
+
+    abbrev hold : LaneHold
+    hold = lane_hold v q
+
+    abbrev after : L
+    after = l.device
+
+    is_out : hold.out ≢ None
+    is_out e = let no : Some (taken_of (lanes_of d) o.catalog.value o.config.lanes q m.before) ≡ None = sym m.out ∙ e in absurd (cc)
+
+    can_call : CanCall ln hold
+    can_call = record { out = is_out; once = m.once }
+
+    cell : LaneLink s.flushed ln hold
+    cell = h.laws.invariant.lanes.cells id v q h.there h.below
+
+    reads_same : ln.read_faults ≡ d.read_faults m.before
+    reads_same = (cell.counts (taken_of (lanes_of d) o.catalog.value o.config.lanes q m.before) m.out).reads (ap is_failed_read m.once)
+
+    writes_same : ln.write_faults ≡ d.write_faults m.before
+    writes_same = (cell.counts (taken_of (lanes_of d) o.catalog.value o.config.lanes q m.before) m.out).writes (ap is_failed_write m.once)
+
+    -- the lane is what it was as it went out
+    was : IsLane d o.catalog.value o.config.lanes q m.before ln
+    was = still_is d o.catalog.value o.config.lanes q m.before ln m.taken.holds (known_of s q h.opened h.laws counted below ∙ sym m.taken.known_still) reads_same writes_same (λ blocks k b told at. cell.blocks (taken_of (lanes_of d) o.catalog.value o.config.lanes q m.before) blocks k b m.out m.once told at)
+
+    in_view : q < length v.lanes
+    in_view = let wide = h.laws.invariant.wide id v h.there h.live in let low = h.below in omega arith
+
+    -- no fault is counted, or one is
+    quiet : (now : Lane) (c : LaneChange) → now.read_faults ≡ ln.read_faults → now.write_faults ≡ ln.write_faults → CanReturnLane false now (record hold { change = c })
+    quiet now c reads writes = record { out = is_out; counts = λ taken e. subst (λ (t : TakenLane). CountsFault false t now c) (same_Some _ _ (sym m.out ∙ e)) record { failed = λ no. absurd (cc); read_rose = λ lt. absurd (omega (arith, reads_same, reads)); write_rose = λ lt. absurd (omega (arith, writes_same, writes)) } }
+
+    faulty : (now : Lane) (c : LaneChange) → (is_failed_read c || is_failed_write c) ≡ true → CanReturnLane true now (record hold { change = c })
+    faulty now c failed = record { out = is_out; counts = λ taken e. record { failed = λ yes. failed; read_rose = λ lt. refl; write_rose = λ lt. refl } }
+
+    read_rises : Rose (d.read_faults m.before) (d.read_faults after) → Rises ln.read_faults (d.read_faults after)
+    read_rises rose = subst (λ (n : ℕ). Rises n (d.read_faults after)) (sym reads_same) (rises (d.read_faults m.before) (d.read_faults after) (reads_fit m.before) (reads_fit after) rose)
+
+    write_rises : Rose (d.write_faults m.before) (d.write_faults after) → Rises ln.write_faults (d.write_faults after)
+    write_rises rose = subst (λ (n : ℕ). Rises n (d.write_faults after)) (sym writes_same) (rises (d.write_faults m.before) (d.write_faults after) (writes_fit m.before) (writes_fit after) rose)
+
+    -- a frame where the view has a right
+    in_links : (f : ℕ) (io : Io) → (link v f).io ≡ io → io ≢ Quiet → f < length v.links
+    in_links f io is busy = dite (dec_lt f (length v.links)) (λ low. low) (λ n. absurd (busy (sym is ∙ ap (λ (x : Link). x.io) (get_or-eq_default v.links idle (omega arith)))))
+
+    in_frames : (f : ℕ) → f < length v.links → f < s.pool.core.frames
+    in_frames f low = let wide = (h.laws.invariant.pool.core.views.wide id v h.there h.live).0 in omega arith
+
+    tag_there : (f word : ℕ) → f < s.pool.core.frames → (link v f).tag ≡ Some word → (s.pool.core.frame f).tag ≡ word
+    tag_there f word low e = ((h.laws.invariant.pool.core.grid.cells id v f h.there low).remembers word e).1
+
+    page_there : (f : ℕ) (p : Page) → f < s.pool.core.frames → (link v f).copied ≡ Some p → (s.pool.core.frame f).page ≡ p
+    page_there f p low e = ((h.laws.invariant.pool.pages.cells id v f h.there low).copied p e).home
