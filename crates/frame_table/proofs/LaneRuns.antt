@@ -43,16 +43,16 @@ alone_view k q v = stepped (laned k q v v)
 abbrev pub alone_state : LaneKind → State → ℕ → ℕ → View → State
 alone_state k s id q v = laned_state s (aside s.pool id (alone_view k q v)) q (lane_after k (s.lane q))
 
-abbrev written_view : LaneKind → State → ℕ → ℕ → View → View
+abbrev pub written_view : LaneKind → State → ℕ → ℕ → View → View
 written_view k s q f v = laned k q v (paged begin_write s.pool f v)
 
-abbrev written_state : LaneKind → State → ℕ → ℕ → ℕ → View → State
+abbrev pub written_state : LaneKind → State → ℕ → ℕ → ℕ → View → State
 written_state k s id q f v = laned_state s (pool_after begin_write s.pool id f (written_view k s q f v)) q (lane_after k (s.lane q))
 
-abbrev noted_view : Bool → Kind → State → ℕ → ℕ → View → View
+abbrev pub noted_view : Bool → Kind → State → ℕ → ℕ → View → View
 noted_view noted k s q f v = laned (lane_back noted) q v (paged k (pool_noting k s f) f v)
 
-abbrev noted_state : Bool → Kind → State → ℕ → ℕ → ℕ → View → State
+abbrev pub noted_state : Bool → Kind → State → ℕ → ℕ → ℕ → View → State
 noted_state noted k s id q f v = laned_state s (pool_after k (pool_noting k s f) id f (noted_view noted k s q f v)) q (lane_after (lane_back noted) (s.lane q))
 
 -- The kind of a note leaves the frame, and what is out

@@ -2,6 +2,7 @@
 use Rattle.std.proofs.Common.{◌≡◌, ◌≢◌, ℕ, ◌+◌, ◌*◌, ◌<◌, ◌≤◌, ◌%◌, ◌^◌, Bool, true, false, Some, None, List, [], ◌∷◌, ◌++◌, get_or, set, length, get_or-set_same, get_or-set_other, append-nil, sym, refl, ap, ◌∙◌, subst, arith, rules}
 use Rattle.std.proofs.Math.Nat.{mod-eq_of_lt}
 use Rattle.std.proofs.Math.ListN.{get_or-eq_default}
+use Rattle.std.specs.declared.snapshot.Snapshot.{Snapshot}
 use Rattle.std.specs.Prelude.{is_some, Option, ◌||◌}
 use Rattle.std.proofs.lemmas.Option.{same_Some}
 use Rattle.std.proofs.lemmas.Grind.{common_steps}
@@ -18,10 +19,12 @@ use Rattle.page_layout.specs.Fields.{lsn_of}
 use Rattle.block_tag.specs.declared.tag.Fork.TheVariants.{Main}
 use Rattle.block_tag.specs.declared.tag.Tag.{Tag}
 use Rattle.block_tag.specs.Names.{packed_tag, tag_of_parts, names_block, hash_of, lane_number}
+use Rattle.segment_store.specs.Contents.{Pages}
 use Rattle.pin_core.specs.declared.view.View.{View}
 use Rattle.pin_core.specs.declared.view.Link.{Link}
 use Rattle.pin_core.specs.declared.view.Io.{Io}
 use Rattle.pin_core.specs.declared.view.Io.TheVariants.{Quiet, Input, Output}
+use Rattle.pin_core.specs.declared.view.LastWrite.TheVariants.{Unwritten}
 use Rattle.pin_core.specs.declared.view.LaneChange.{LaneChange}
 use Rattle.pin_core.specs.declared.view.LaneChange.TheVariants as lane_change
 use Rattle.pin_core.specs.declared.view.LaneHold.{LaneHold}
@@ -51,12 +54,12 @@ use Rattle.table_rule.specs.Shows.{is_out, IsHome, Devices, Gives, GivesLane, Is
 use Rattle.table_rule.specs.LaneCalls.{LaneDid}
 use Rattle.table_rule.specs.TakenLanes.{IsBlockOf, taken_of, page_held, lanes_of}
 use Rattle.table_rule.proofs.Tags.{packed_is}
-use Rattle.table_rule.proofs.LanesOut.{holds_blocks, can_go_out, still_is, kept_lane, took_page, tore_page}
+use Rattle.table_rule.proofs.LanesOut.{block_number, holds_blocks, can_go_out, still_is, kept_lane, took_page, tore_page}
 use Rattle.table_rule.proofs.Opens.{there_at}
 use Rattle.frame_table.specs.LaneWork.{DidSteps, out_events, out_lane, back_lane, out_view, back_events, back_view, MayNote, CanNoteRead, CanNoteWrite, was_known, is_known_in, IsTaken, MayReturn, lane_went, came_by}
 use Rattle.frame_table.proofs.Moving.{Moves, shows_out, shows_back, slot_low}
 use Rattle.frame_table.proofs.LaneWork.{rises}
-use Rattle.frame_table.proofs.LaneRuns.{Comes, Stands, alone_view, alone_state, calls_alone, one_step, reads_noted, writes_noted, written_link_is, written_frame_is, written_hold_is, view_alone, view_read, view_written}
+use Rattle.frame_table.proofs.LaneRuns.{Comes, Stands, alone_view, alone_state, written_view, written_state, calls_alone, one_step, reads_noted, writes_noted, written_link_is, written_frame_is, written_hold_is, view_alone, view_read, view_written}
 
 -- each lane has a number of a tag
 lane_word : (lanes q : ℕ) → q < lanes → lanes ≤ 16 → (word : ℕ) × (tag_lane lanes word ≡ q)
@@ -194,11 +197,11 @@ module _ {L G : Type 0} (d : Devices L G) (o : Opening L G) where
     abbrev after : L
     after = l.device
 
-    is_out : hold.out ≢ None
-    is_out e = let no : Some (taken_of (lanes_of d) o.catalog.value o.config.lanes q m.before) ≡ None = sym m.out ∙ e in absurd (cc)
+    not_home : hold.out ≢ None
+    not_home e = let no : Some (taken_of (lanes_of d) o.catalog.value o.config.lanes q m.before) ≡ None = sym m.out ∙ e in absurd (cc)
 
     can_call : CanCall ln hold
-    can_call = record { out = is_out; once = m.once }
+    can_call = record { out = not_home; once = m.once }
 
     cell : LaneLink s.flushed ln hold
     cell = h.laws.invariant.lanes.cells id v q h.there h.below
@@ -218,10 +221,10 @@ module _ {L G : Type 0} (d : Devices L G) (o : Opening L G) where
 
     -- no fault is counted, or one is
     quiet : (now : Lane) (c : LaneChange) → now.read_faults ≡ ln.read_faults → now.write_faults ≡ ln.write_faults → CanReturnLane false now (record hold { change = c })
-    quiet now c reads writes = record { out = is_out; counts = λ taken e. subst (λ (t : TakenLane). CountsFault false t now c) (same_Some _ _ (sym m.out ∙ e)) record { failed = λ no. absurd (cc); read_rose = λ lt. absurd (omega (arith, reads_same, reads)); write_rose = λ lt. absurd (omega (arith, writes_same, writes)) } }
+    quiet now c reads writes = record { out = not_home; counts = λ taken e. subst (λ (t : TakenLane). CountsFault false t now c) (same_Some _ _ (sym m.out ∙ e)) record { failed = λ no. absurd (cc); read_rose = λ lt. absurd (omega (arith, reads_same, reads)); write_rose = λ lt. absurd (omega (arith, writes_same, writes)) } }
 
     faulty : (now : Lane) (c : LaneChange) → (is_failed_read c || is_failed_write c) ≡ true → CanReturnLane true now (record hold { change = c })
-    faulty now c failed = record { out = is_out; counts = λ taken e. record { failed = λ yes. failed; read_rose = λ lt. refl; write_rose = λ lt. refl } }
+    faulty now c failed = record { out = not_home; counts = λ taken e. record { failed = λ yes. failed; read_rose = λ lt. refl; write_rose = λ lt. refl } }
 
     read_rises : Rose (d.read_faults m.before) (d.read_faults after) → Rises ln.read_faults (d.read_faults after)
     read_rises rose = subst (λ (n : ℕ). Rises n (d.read_faults after)) (sym reads_same) (rises (d.read_faults m.before) (d.read_faults after) (reads_fit m.before) (reads_fit after) rose)
@@ -241,3 +244,98 @@ module _ {L G : Type 0} (d : Devices L G) (o : Opening L G) where
 
     page_there : (f : ℕ) (p : Page) → f < s.pool.core.frames → (link v f).copied ≡ Some p → (s.pool.core.frame f).page ≡ p
     page_there f p low e = ((h.laws.invariant.pool.pages.cells id v f h.there low).copied p e).home
+
+    -- the page that a read gave is the one that the lane holds, where its contents are known
+    gave_stored : (tag : Tag) (p : Page) → IsBlockOf o.catalog.value o.config.lanes q tag → ((known : Pages) → d.contents m.before ≡ Some known → known tag ≡ Some p) → ln.known ≡ true → ln.stored (packed_tag tag) ≡ p
+    gave_stored tag p block gave known = of_contents (d.contents m.before) refl
+      where
+        of_contents : (c : Option Pages) → d.contents m.before ≡ c → ln.stored (packed_tag tag) ≡ p
+        of_contents None e = let no : true ≡ false = sym known ∙ was.known ∙ ap (λ (c : Option Pages). is_some c) e in absurd (cc)
+        of_contents (Some pages) e = same_Some _ _ (sym (was.pages pages (packed_tag tag) tag e (block_number d o.catalog.value o.config.lanes q tag block)) ∙ gave pages e)
+
+    -- What a write of the frame's page to its block asks, and its note
+    module _ (f : ℕ) (tag : Tag) (page : Snapshot Page) (block : IsBlockOf o.catalog.value o.config.lanes q tag) (can : CanNoteWrite tag page.value hold.flushed (link v f)) where
+      abbrev p : Page
+      p = page.value
+
+      write_links : f < length v.links
+      write_links = in_links f Output can.right (λ e. absurd (cc))
+
+      write_frames : f < s.pool.core.frames
+      write_frames = in_frames f write_links
+
+      write_tag : (s.pool.core.frame f).tag ≡ packed_tag tag
+      write_tag = tag_there f (packed_tag tag) write_frames can.remembered
+
+      write_page : (s.pool.core.frame f).page ≡ p
+      write_page = page_there f p write_frames can.copied
+
+      can_write : (x : Page) → x ≡ p → (s.pool.core.frame f).page ≡ x → steps.CanWrite s q f (packed_tag tag) x hold (link v f)
+      can_write x e is = record { tagged = write_tag; lane = number_placed s q tag h.opened block; page = is; right = record { right = can.right }; log_first = subst (λ (y : Page). lsn_of y ≤ hold.flushed) (sym e) can.log_first }
+
+      module _ (k : LaneKind) where
+        abbrev now : State
+        now = written_state k s id q f v
+
+        now_tag : (now.pool.core.frame f).tag ≡ packed_tag tag
+        now_tag = ap (λ (x : Frame). x.tag) (written_frame_is d o k s id q f v) ∙ write_tag
+
+        now_page : (now.pool.core.frame f).page ≡ p
+        now_page = ap (λ (x : Frame). x.page) (written_frame_is d o k s id q f v) ∙ write_page
+
+        now_lane : s.lane_of (now.pool.core.frame f).tag ≡ q
+        now_lane = ap s.lane_of now_tag ∙ number_placed s q tag h.opened block
+
+        now_right : (link (written_view k s q f v) f).io ≡ Output
+        now_right = ap (λ (x : Link). x.io) (written_link_is d o k s id q f v write_links) ∙ can.right
+
+        now_change : (c : LaneChange) → lane_hold_after k v.flushed hold ≡ record hold { change = c } → (lane_hold (written_view k s q f v) q).change ≡ c
+        now_change c e = ap (λ (x : LaneHold). x.change) (written_hold_is d o k s id q f v h ∙ e)
+
+      wrote : LaneDid (lanes_of d) m.before after (Written f tag page) → Returns s id q v (back_events (lanes_of d) q after (Written f tag page) id) (back_view (lanes_of d) q after (Written f tag page) v) after
+      wrote did = let word : ℕ = packed_tag tag in let k : LaneKind = write_block f word p in returns_as s id q v _ _ _ after (view_written k (lane_change.Written f word p) false true s id q f v in_view write_links refl refl refl) record {
+        lane = lane_after k ln;
+        comes = writes_noted d o k false s id q f v h write_frames can_call (refl, can_write p refl write_page) (record { taken = refl; reads = refl; writes = refl }) (quiet (lane_after k ln) (lane_change.Written f word p) refl refl) true
+            (p, record { was_written = now_change k (lane_change.Written f word p) refl ∙ ap (λ (n : ℕ). lane_change.Written f n p) (sym (now_tag k)); lane = now_lane k; page = now_page k; right = record { right = now_right k } });
+        is = took_page d o.catalog.value o.config.lanes q m.before after ln (lane_after k ln) was refl (reads_same ∙ sym did.1.reads) (writes_same ∙ sym did.1.writes) tag p block did.0 refl refl;
+      }
+
+      write_failed : LaneDid (lanes_of d) m.before after (WriteFailed f tag page) → Returns s id q v (back_events (lanes_of d) q after (WriteFailed f tag page) id) (back_view (lanes_of d) q after (WriteFailed f tag page) v) after
+      write_failed did = let word : ℕ = packed_tag tag in let k : LaneKind = fail_write f word (page_held (d.contents after) tag p) (d.write_faults after) in returns_as s id q v _ _ _ after (view_written k (lane_change.WriteFailed f word) true false s id q f v in_view write_links refl refl refl) record {
+        lane = lane_after k ln;
+        comes = writes_noted d o k true s id q f v h write_frames (record { call = can_call; rises = write_rises did.1.writes }) (refl, can_write (s.pool.core.frame f).page write_page refl) (record { taken = refl; reads = refl; writes = refl }) (faulty (lane_after k ln) (lane_change.WriteFailed f word) refl) false
+            (record { failed = now_change k (lane_change.WriteFailed f word) refl ∙ ap (λ (n : ℕ). lane_change.WriteFailed f n) (sym (now_tag k)); lane = now_lane k; right = record { right = now_right k } });
+        is = tore_page d o.catalog.value o.config.lanes q m.before after ln (lane_after k ln) was refl (reads_same ∙ sym did.1.reads) refl tag p block did.0 refl refl;
+      }
+
+    -- The steps of each call
+    returns : (c : LaneCall) → LaneDid (lanes_of d) m.before after c → MayNote o.catalog.value o.config.lanes q c v → Returns s id q v (back_events (lanes_of d) q after c id) (back_view (lanes_of d) q after c v) after
+    returns Untouched did may = record {
+      lane = ln;
+      comes = one_step d o (lane_back false) s id q v h (quiet ln hold.change refl refl) (subst (λ (c : LaneChange). steps.NoWrite c) (sym m.once) tt) (record { taken = refl; reads = refl; writes = refl });
+      is = subst (λ (x : L). IsLane d o.catalog.value o.config.lanes q x ln) (sym did) was;
+    }
+    returns (Read f tag page) did may = let word : ℕ = packed_tag tag in let inside = in_frames f (in_links f Input may.1.right (λ e. absurd (cc))) in
+        returns_as s id q v _ _ _ after (view_read word page.value s id q f v in_view) record {
+          lane = ln;
+          comes = reads_noted d o word page.value s id q f v h inside (record { call = can_call; given = gave_stored tag page.value may.0 did.2 }) (number_placed s q tag h.opened may.0) (quiet ln (lane_change.Read word page.value) refl refl) (tag_there f word inside may.1.remembered) may.1.right may.1.fresh;
+          is = kept_lane d o.catalog.value o.config.lanes q m.before after ln ln was refl (reads_same ∙ sym did.1.reads) (writes_same ∙ sym did.1.writes) did.0 refl refl;
+        }
+    returns (ReadFailed tag) did may = let word : ℕ = packed_tag tag in let k : LaneKind = fail_read word (d.read_faults after) in
+        returns_as s id q v _ _ _ after (view_alone k (lane_change.ReadFailed word) true q v in_view refl refl) record {
+          lane = lane_after k ln;
+          comes = calls_alone d o k true s id q v h (record { call = can_call; rises = read_rises did.1.reads }) (number_placed s q tag h.opened may) (record { taken = refl; reads = refl; writes = refl }) (faulty (lane_after k ln) (lane_change.ReadFailed word) refl) tt;
+          is = kept_lane d o.catalog.value o.config.lanes q m.before after ln (lane_after k ln) was refl refl (writes_same ∙ sym did.1.writes) did.0 refl refl;
+        }
+    returns (Written f tag page) did may = wrote f tag page may.0 may.1 did
+    returns (WriteFailed f tag page) did may = write_failed f tag page may.0 may.1 did
+    returns Synced did may = returns_as s id q v _ _ _ after (view_alone sync_lane lane_change.Synced false q v in_view refl refl) record {
+      lane = lane_after sync_lane ln;
+      comes = calls_alone d o sync_lane false s id q v h can_call tt (record { taken = refl; reads = refl; writes = refl }) (quiet (lane_after sync_lane ln) lane_change.Synced refl refl) tt;
+      is = kept_lane d o.catalog.value o.config.lanes q m.before after ln (lane_after sync_lane ln) was refl (reads_same ∙ sym did.1.reads) (writes_same ∙ sym did.1.writes) did.0 refl refl;
+    }
+    returns SyncFailed did may = let k : LaneKind = fail_sync (d.write_faults after) in returns_as s id q v _ _ _ after (view_alone k lane_change.SyncFailed true q v in_view refl refl) record {
+      lane = lane_after k ln;
+      comes = calls_alone d o k true s id q v h (record { call = can_call; rises = write_rises did.1.writes }) tt (record { taken = refl; reads = refl; writes = refl }) (faulty (lane_after k ln) lane_change.SyncFailed refl) tt;
+      is = kept_lane d o.catalog.value o.config.lanes q m.before after ln (lane_after k ln) was refl (reads_same ∙ sym did.1.reads) refl did.0 refl refl;
+    }
