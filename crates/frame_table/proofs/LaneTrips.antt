@@ -18,6 +18,7 @@ use Rattle.log_device.specs.Faults.{Rose}
 use Rattle.page_layout.specs.Fields.{lsn_of}
 use Rattle.block_tag.specs.declared.tag.Fork.TheVariants.{Main}
 use Rattle.block_tag.specs.declared.tag.Tag.{Tag}
+use Rattle.block_tag.specs.declared.catalogue.RelEntry.{RelEntry}
 use Rattle.block_tag.specs.Names.{packed_tag, tag_of_parts, names_block, hash_of, lane_number}
 use Rattle.segment_store.specs.Contents.{Pages}
 use Rattle.pin_core.specs.declared.view.View.{View}
@@ -51,12 +52,14 @@ use Rattle.table_rule.specs.declared.turn.Turn.{Turn}
 use Rattle.table_rule.specs.declared.turn.Turn.TheVariants as turn
 use Rattle.table_rule.specs.Layout.{latch_place, slot_of, tag_lane, lane_of_tag}
 use Rattle.table_rule.specs.Shows.{is_out, IsHome, Devices, Gives, GivesLane, IsLane, IsOpened, HasValue, Shows, Held}
-use Rattle.table_rule.specs.LaneCalls.{LaneDid}
+use Rattle.table_rule.specs.LaneCalls.{LaneDevices, LaneDid}
 use Rattle.table_rule.specs.TakenLanes.{IsBlockOf, taken_of, page_held, lanes_of}
 use Rattle.table_rule.proofs.Tags.{packed_is}
 use Rattle.table_rule.proofs.LanesOut.{block_number, holds_blocks, can_go_out, still_is, kept_lane, took_page, tore_page}
 use Rattle.table_rule.proofs.Opens.{there_at}
-use Rattle.frame_table.specs.LaneWork.{DidSteps, out_events, out_lane, back_lane, out_view, back_events, back_view, MayNote, CanNoteRead, CanNoteWrite, was_known, is_known_in, IsTaken, MayReturn, lane_went, came_by}
+use Rattle.frame_table.specs.LaneWork.{DidSteps, out_events, out_lane, back_lane, out_view, back_events, back_view, MayNote, CanNoteRead, CanNoteWrite, was_known, is_known_in, IsTaken, MayReturn, LaneStep, Notes, IsNoted, links_of, read_link, written_link, unwritten_link, lane_went, came_by, WentOut, taken_at}
+use Rattle.frame_table.specs.declared.table.FrameTable.{FrameTable}
+use Rattle.frame_table.specs.Sees.{relations_of, lanes_in, opened_of}
 use Rattle.frame_table.proofs.Moving.{Moves, shows_out, shows_back, slot_low}
 use Rattle.frame_table.proofs.LaneWork.{rises}
 use Rattle.frame_table.proofs.LaneRuns.{Comes, Stands, alone_view, alone_state, written_view, written_state, calls_alone, one_step, reads_noted, writes_noted, written_link_is, written_frame_is, written_hold_is, view_alone, view_read, view_written}
@@ -67,6 +70,16 @@ lane_word lanes q low few = let tag : Tag = tag_of_parts 0 Main q in (packed_tag
   where
     named : (q : ℕ) → q < 16 → names_block (tag_of_parts 0 Main q) ≡ true
     named q low = grind arith
+
+-- the view has a hold for a lane whose latch it has, or that it has out, and a link for a frame where it has a right
+pub held_in_view : (v : View) (q : ℕ) → (lane_hold v q).held ≡ true → q < length v.lanes
+held_in_view v q held = dite (dec_lt q (length v.lanes)) (λ low. low) (λ n. absurd (let no : true ≡ false = sym held ∙ ap (λ (h : LaneHold). h.held) (get_or-eq_default v.lanes no_lane (omega arith)) in cc))
+
+pub out_in_view : (v : View) (q : ℕ) (taken : TakenLane) → (lane_hold v q).out ≡ Some taken → q < length v.lanes
+out_in_view v q taken out = dite (dec_lt q (length v.lanes)) (λ low. low) (λ n. absurd (let no : Some taken ≡ None = sym out ∙ ap (λ (h : LaneHold). h.out) (get_or-eq_default v.lanes no_lane (omega arith)) in cc))
+
+right_in_view : (v : View) (f : ℕ) (io : Io) → (link v f).io ≡ io → io ≢ Quiet → f < length v.links
+right_in_view v f io is busy = dite (dec_lt f (length v.links)) (λ low. low) (λ n. absurd (busy (sym is ∙ ap (λ (x : Link). x.io) (get_or-eq_default v.links idle (omega arith)))))
 
 module _ {L G : Type 0} (d : Devices L G) (o : Opening L G) where
   -- whether the contents of a lane are known
@@ -233,9 +246,6 @@ module _ {L G : Type 0} (d : Devices L G) (o : Opening L G) where
     write_rises rose = subst (λ (n : ℕ). Rises n (d.write_faults after)) (sym writes_same) (rises (d.write_faults m.before) (d.write_faults after) (writes_fit m.before) (writes_fit after) rose)
 
     -- a frame where the view has a right
-    in_links : (f : ℕ) (io : Io) → (link v f).io ≡ io → io ≢ Quiet → f < length v.links
-    in_links f io is busy = dite (dec_lt f (length v.links)) (λ low. low) (λ n. absurd (busy (sym is ∙ ap (λ (x : Link). x.io) (get_or-eq_default v.links idle (omega arith)))))
-
     in_frames : (f : ℕ) → f < length v.links → f < s.pool.core.frames
     in_frames f low = let wide = (h.laws.invariant.pool.core.views.wide id v h.there h.live).0 in omega arith
 
@@ -259,7 +269,7 @@ module _ {L G : Type 0} (d : Devices L G) (o : Opening L G) where
       p = page.value
 
       write_links : f < length v.links
-      write_links = in_links f Output can.right (λ e. absurd (cc))
+      write_links = right_in_view v f Output can.right (λ e. absurd (cc))
 
       write_frames : f < s.pool.core.frames
       write_frames = in_frames f write_links
@@ -315,7 +325,7 @@ module _ {L G : Type 0} (d : Devices L G) (o : Opening L G) where
       comes = one_step d o (lane_back false) s id q v h (quiet ln hold.change refl refl) (subst (λ (c : LaneChange). steps.NoWrite c) (sym m.once) tt) (record { taken = refl; reads = refl; writes = refl });
       is = subst (λ (x : L). IsLane d o.catalog.value o.config.lanes q x ln) (sym did) was;
     }
-    returns (Read f tag page) did may = let word : ℕ = packed_tag tag in let inside = in_frames f (in_links f Input may.1.right (λ e. absurd (cc))) in
+    returns (Read f tag page) did may = let word : ℕ = packed_tag tag in let inside = in_frames f (right_in_view v f Input may.1.right (λ e. absurd (cc))) in
         returns_as s id q v _ _ _ after (view_read word page.value s id q f v in_view) record {
           lane = ln;
           comes = reads_noted d o word page.value s id q f v h inside (record { call = can_call; given = gave_stored tag page.value may.0 did.2 }) (number_placed s q tag h.opened may.0) (quiet ln (lane_change.Read word page.value) refl refl) (tag_there f word inside may.1.remembered) may.1.right may.1.fresh;
@@ -339,3 +349,75 @@ module _ {L G : Type 0} (d : Devices L G) (o : Opening L G) where
       comes = calls_alone d o k true s id q v h (record { call = can_call; rises = write_rises did.1.writes }) tt (record { taken = refl; reads = refl; writes = refl }) (faulty (lane_after k ln) lane_change.SyncFailed refl) tt;
       is = kept_lane d o.catalog.value o.config.lanes q m.before after ln (lane_after k ln) was refl (reads_same ∙ sym did.1.reads) refl did.0 refl refl;
     }
+
+  -- the lane comes back as r: the device l after its call, without the note
+  comes_home : (slots id q : ℕ) (v : View) (c : List (ℕ × Value L G)) (l r : NotedLane L) → length o.lanes.value.items ≡ o.config.lanes → q < o.config.lanes → v.emptied ≡ false → r.device ≡ l.device → r.call ≡ Untouched → MayReturn (lanes_of d) (was_known (lanes_of d) o.lanes.value.items q) o.catalog.value o.config.lanes q v l
+      → ((x : L) → d.read_faults x < 2 ^ 64) → ((x : L) → d.write_faults x < 2 ^ 64)
+      → Allows (Held d o) slots id (v, (slot_of o.config.frames (place.Of (turn.Lane q)), value.Lane r) ∷ c) (latch_place o.config.frames (turn.Lane q)) (λ n. n) (came_by (back_events (lanes_of d) q l.device l.call) (back_view (lanes_of d) q l.device l.call) (step slots (latch_place o.config.frames (turn.Lane q)) 0 0 none) (v, (slot_of o.config.frames (place.Of (turn.Lane q)), value.Lane r) ∷ c))
+  comes_home slots id q v c l r counted below live same untouched m reads_fit writes_fit t h deep there small = let s : State = h.state in let at : ℕ = latch_place o.config.frames (turn.Lane q) in let w : View = back_view (lanes_of d) q l.device l.call v in
+      let here : get_elem? s.pool.core.views id ≡ some v = ap (λ (x : List View). get_elem? x id) (sym h.shows.views) ∙ there in
+      let stands : Stands d o s id q v = record { opened = h.shows.fixed; laws = h.laws; there = here; live = live; below = (let e = h.shows.fixed.lanes in omega arith) } in
+      let ret : Returns s id q v (back_events (lanes_of d) q l.device l.call id) w l.device = returns s id q v stands counted below l m reads_fit writes_fit l.call m.did m.may in
+      let moves : Moves d o s ret.comes.next id v w (place.Of (turn.Lane q)) = ret.comes.moves in
+      let is : IsLane d o.catalog.value ret.comes.next.lanes q r.device (ret.comes.next.lane q) = subst (λ (n : ℕ). IsLane d o.catalog.value n q r.device (ret.comes.next.lane q)) (sym moves.fixed.lanes) (subst (λ (x : L). IsLane d o.catalog.value o.config.lanes q x (ret.comes.next.lane q)) (sym same) (subst (IsLane d o.catalog.value o.config.lanes q l.device) (sym ret.comes.lane) ret.is)) in (
+        w,
+        gives,
+        tt,
+        record {
+          state = ret.comes.next;
+          shows = shows_back d o (set t.words at (get_or t.words at 0)) t s ret.comes.next id v w (place.Of (turn.Lane q)) (value.Lane r) (set-get_or t.words at 0) h.shows here moves below (slot_low o (place.Of (turn.Lane q)) h.shows.fixed.few_lanes below) (is, untouched);
+          laws = ret.comes.laws;
+        },
+        (refl, refl, record { state = s; laws = h.laws; next = ret.comes.next; seat = id; there = here; live = live; run = ret.comes.run; after = ap (λ (x : List View). get_elem? x id) moves.views ∙ set_here s.pool.core.views id v w here }),
+      )
+
+  -- the seat is as the exchange of the slot left it
+  pub comes_back : (slots id q : ℕ) (me me' : Me (Value L G) View) (l r : NotedLane L) → me' ≡ (me.0, (slot_of o.config.frames (place.Of (turn.Lane q)), value.Lane r) ∷ rest me.1) → length o.lanes.value.items ≡ o.config.lanes → q < o.config.lanes → me.0.emptied ≡ false → r.device ≡ l.device → r.call ≡ Untouched
+      → MayReturn (lanes_of d) (was_known (lanes_of d) o.lanes.value.items q) o.catalog.value o.config.lanes q me.0 l → ((x : L) → d.read_faults x < 2 ^ 64) → ((x : L) → d.write_faults x < 2 ^ 64)
+      → Allows (Held d o) slots id me' (latch_place o.config.frames (turn.Lane q)) (λ n. n) (came_by (back_events (lanes_of d) q l.device l.call) (back_view (lanes_of d) q l.device l.call) (step slots (latch_place o.config.frames (turn.Lane q)) 0 0 none) me')
+  comes_back slots id q me me' l r e counted below live same untouched m reads_fit writes_fit = let at : ℕ = latch_place o.config.frames (turn.Lane q) in
+      subst (λ (x : Me (Value L G) View). Allows (Held d o) slots id x at (λ n. n) (came_by (back_events (lanes_of d) q l.device l.call) (back_view (lanes_of d) q l.device l.call) (step slots at 0 0 none) x)) (sym e) (comes_home slots id q me.0 (rest me.1) l r counted below live same untouched m reads_fit writes_fit)
+
+-- what the view has of the lane, and at the frame of the call
+pub lane_stepped : (q : ℕ) (h : LaneHold) (v w : View) → q < length v.lanes → w.lanes ≡ set v.lanes q h → w.partitions ≡ v.partitions → w.log ≡ v.log → LaneStep q h v w
+lane_stepped q h v w low lanes partitions log = record {
+  here = ap (λ (l : List LaneHold). get_or l q no_lane) lanes ∙ get_or-set_same v.lanes q h no_lane low;
+  others = λ r n. ap (λ (l : List LaneHold). get_or l r no_lane) lanes ∙ get_or-set_other v.lanes q r h no_lane n;
+  partitions = partitions;
+  log = log;
+}
+
+notes_at : (f : ℕ) (l : Link) (v w : View) → f < length v.links → w.links ≡ set v.links f l → Notes f l v w
+notes_at f l v w low links = record {
+  here = ap (λ (x : List Link). get_or x f idle) links ∙ get_or-set_same v.links f l idle low;
+  others = λ g n. ap (λ (x : List Link). get_or x g idle) links ∙ get_or-set_other v.links f g l idle n;
+}
+
+pub is_noted : (relations : List RelEntry) (lanes q : ℕ) (c : LaneCall) (v w : View) → MayNote relations lanes q c v → w.links ≡ links_of c v → IsNoted c v w
+is_noted relations lanes q Untouched v w may links = links
+is_noted relations lanes q (Read f tag page) v w may links = notes_at f (read_link page.value (link v f)) v w (right_in_view v f Input may.1.right (λ e. absurd (cc))) links
+is_noted relations lanes q (ReadFailed tag) v w may links = links
+is_noted relations lanes q (Written f tag page) v w may links = notes_at f (written_link (link v f)) v w (right_in_view v f Output may.1.right (λ e. absurd (cc))) links
+is_noted relations lanes q (WriteFailed f tag page) v w may links = notes_at f (unwritten_link (link v f)) v w (right_in_view v f Output may.1.right (λ e. absurd (cc))) links
+is_noted relations lanes q Synced v w may links = links
+is_noted relations lanes q SyncFailed v w may links = links
+
+-- the slot in hand that a step gave
+pub in_hand : {S : Type 0} (k slot : ℕ) (y : S) (c old : List (ℕ × S)) → k ≡ slot → c ≡ (k, y) ∷ old → c ≡ (slot, y) ∷ rest c
+in_hand k slot y c old same e = e ∙ ap (λ (i : ℕ). (i, y) ∷ old) same ∙ ap (λ (r : List (ℕ × _)). (slot, y) ∷ r) (sym (ap rest e))
+
+abbrev first_value : {S : Type 0} → S → List (ℕ × S) → S
+first_value y [] = y
+first_value y (x ∷ xs) = x.1
+
+-- what the call gives is the lane that went out
+pub went_out : {L G : Type 0} (d : LaneDevices L) (t : FrameTable L G) (q slot : ℕ) (m m' m'' : Me (Value L G) View) (z : Value L G)
+    → lane_went d (was_known d (opened_of t) q) (relations_of t) (lanes_in t) q slot (step 0 0 0 0 none) m 0 m' → m'.1 ≡ (slot, z) ∷ rest m'.1 → m''.0 ≡ m'.0 → WentOut d t q z m.0 m''.0
+went_out d t q slot m m' m'' z (l, hand, untouched, taken, view, did) e same = record {
+  lane = l;
+  is = ap (first_value z) (sym e ∙ hand);
+  untouched = untouched;
+  taken = taken;
+  view = same ∙ view;
+  did = subst (DidSteps (out_events q (taken_at d t q l.device)) m.0) (sym same) did;
+}
