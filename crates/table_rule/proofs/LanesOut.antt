@@ -1,18 +1,15 @@
 -- A lane that goes out is what the state says of it, and so is one that comes back after a call.
-use Rattle.std.proofs.Common.{◌≡◌, ℕ, zero, suc, ◌<◌, Bool, true, false, Option, Some, None, List, [], ◌∷◌, map, sym, refl, ap, ◌∙◌, subst, arith, cond, eq-eqb, ne_eqb, eqb}
+use Rattle.std.proofs.Common.{◌≡◌, ℕ, zero, suc, Bool, true, false, Option, Some, None, List, [], ◌∷◌, map, sym, refl, ap, ◌∙◌, subst, arith, cond, eqb}
 use Rattle.std.specs.Prelude.{is_some, unwrap_or, IsSomeAnd}
 use Rattle.std.proofs.lemmas.Option.{same_Some}
-use mathlib.Core.Logic.{dite}
-use mathlib.Core.Option.{some, none, some-injective, some-ne-none}
-use native.Mathlib.Decide.{ℕ_discrete}
+use mathlib.Core.Option.{some, some-injective, some-ne-none}
 use lib.ListN.{get_elem?}
 use Rattle.atomic_table.proofs.Lists.{at_map}
 use Rattle.grid.specs.Shape.{put}
 use Rattle.grid.proofs.Lists.{put_at, put_else}
-use Rattle.block_tag.specs.declared.tag.Fork.{Fork}
 use Rattle.block_tag.specs.declared.tag.Tag.{Tag}
 use Rattle.block_tag.specs.declared.catalogue.RelEntry.{RelEntry}
-use Rattle.block_tag.specs.Names.{unpacked_tag, packed_tag, names_block, lane_number, tag_eq, fork_number}
+use Rattle.block_tag.specs.Names.{unpacked_tag, packed_tag, tag_eq}
 use Rattle.segment_store.specs.Contents.{Pages, Marks, with_page, with_mark, IsTorn}
 use Rattle.pin_core.specs.State.{Page}
 use Rattle.pin_core.specs.declared.view.BlockPage.{BlockPage}
@@ -20,7 +17,7 @@ use Rattle.pin_core.specs.declared.view.LaneHold.{LaneHold}
 use Rattle.history_core.specs.State.{Lane}
 use Rattle.history_core.specs.Lanes.{IsBlockPage, CanTakeOut}
 use Rattle.table_rule.specs.Shows.{Devices, IsLane, IsPlaced}
-use Rattle.table_rule.specs.LaneCalls.{LaneDevices, HoldsTheSame, TookPage, TorePage}
+use Rattle.table_rule.specs.LaneCalls.{HoldsTheSame, TookPage, TorePage}
 use Rattle.table_rule.specs.TakenLanes.{IsBlockOf, blocks_in, page_named, mark_named, block_page, page_held, pages_of, taken_of, HoldsBlocks, lanes_of}
 use Rattle.table_rule.proofs.Tags.{packed_is, unpacked_is}
 use Rattle.table_rule.proofs.TakenBlocks.{block_listed, block_placed}

@@ -1,10 +1,8 @@
 -- Numbers of tags.
-use Rattle.std.proofs.Common.{◌≡◌, ℕ, ◌+◌, ◌*◌, ◌<◌, ◌/◌, ◌%◌, ◌^◌, Bool, true, false, Option, Some, None, sym, refl, ap, ◌∙◌, subst, arith, rules}
+use Rattle.std.proofs.Common.{◌≡◌, ℕ, ◌<◌, ◌^◌, true, Some, arith}
 use Rattle.std.proofs.lemmas.Grind.{common_steps}
-use Rattle.block_tag.specs.declared.tag.Fork.{Fork}
-use Rattle.block_tag.specs.declared.tag.Fork.TheVariants.{Main, Fsm, Vm, Init}
 use Rattle.block_tag.specs.declared.tag.Tag.{Tag}
-use Rattle.block_tag.specs.Names.{names_block, packed_tag, unpacked_tag, fork_number, fork_of_number, tag_if_named, tag_of_parts}
+use Rattle.block_tag.specs.Names.{names_block, packed_tag, unpacked_tag}
 
 pub packed_is : (tag : Tag) → names_block tag ≡ true → unpacked_tag (packed_tag tag) ≡ Some tag
 unfolding unpacked_tag

@@ -1,21 +1,18 @@
 -- The blocks of a lane that is out are listed, each with its page and its mark.
-use Rattle.std.proofs.Common.{◌≡◌, ℕ, zero, suc, ◌+◌, ◌<◌, ◌^◌, Bool, true, false, ◌&&◌, Option, Some, None, List, [], ◌∷◌, ◌++◌, map, length, length-append, sym, refl, ap, ◌∙◌, subst, arith, eqb, eq-eqb, cond}
+use Rattle.std.proofs.Common.{◌≡◌, ℕ, zero, suc, ◌<◌, ◌^◌, Bool, true, false, ◌&&◌, Option, Some, None, List, [], ◌∷◌, length, length-append, sym, refl, ap, ◌∙◌, arith, eqb, eq-eqb, cond}
 use Rattle.std.proofs.lemmas.Bool.{eqb-true}
 use Rattle.std.specs.List.{filter}
 use mathlib.Core.Logic.{dite}
-use mathlib.Core.Option.{some, none, some-injective, some-ne-none}
+use mathlib.Core.Option.{some, some-injective, some-ne-none}
 use native.Mathlib.Decide.{ℕ_discrete}
 use lib.ListN.{get_elem?}
-use Rattle.atomic_table.proofs.Lists.{at_map}
 use Rattle.block_tag.specs.declared.tag.Tag.{Tag}
 use Rattle.block_tag.specs.declared.catalogue.RelEntry.{RelEntry}
-use Rattle.block_tag.specs.Names.{unpacked_tag, lane_number}
-use Rattle.segment_store.specs.Contents.{Pages, Marks}
-use Rattle.pin_core.specs.declared.view.BlockPage.{BlockPage}
-use Rattle.table_rule.specs.Blocks.{has_block, has_named, is_block}
+use Rattle.block_tag.specs.Names.{unpacked_tag}
+use Rattle.table_rule.specs.Blocks.{has_named, is_block}
 use Rattle.table_rule.specs.Layout.{tag_lane, lane_of_tag}
 use Rattle.table_rule.specs.Shows.{IsPlaced}
-use Rattle.table_rule.specs.TakenLanes.{is_block_of, numbers_below, blocks_in, block_page}
+use Rattle.table_rule.specs.TakenLanes.{is_block_of, numbers_below, blocks_in}
 use Rattle.table_rule.proofs.Opens.{left_at, right_at}
 use Rattle.table_rule.proofs.Tags.{unpacked_low}
 
@@ -73,7 +70,7 @@ module _ (relations : List RelEntry) (lanes q : ℕ) where
   -- each block that lies in the lane is among them
   pub block_listed : (word : ℕ) (tag : Tag) → IsPlaced relations lanes q word tag → (k : ℕ) × (get_elem? (blocks_in relations lanes q) k ≡ some word)
   unfolding blocks_in
-  block_listed word tag h = listed_below (2 ^ 50) (unpacked_low word tag h.named)
+  block_listed word tag h = listed_below _ (unpacked_low word tag h.named)
     where
       listed_below : (n : ℕ) → word < n → (k : ℕ) × (get_elem? (filter (is_block_of relations lanes q) (numbers_below n)) k ≡ some word)
       listed_below n low = keeps_at (is_block_of relations lanes q) (numbers_below n) word word (number_at n word low) (passes word tag h)

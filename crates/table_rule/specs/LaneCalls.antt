@@ -1,15 +1,10 @@
 -- What the one call of a lane that is out did to the lane, and what the lane was as it went out.
-use Rattle.std.specs.Prelude.{◌≡◌, ℕ, ◌^◌, Bool, true, false, ◌&&◌, nat_eq, List, [], ◌∷◌, ◌++◌, filter, map, Option, Some, None, is_some, IsSomeAnd, unwrap_or}
+use Rattle.std.specs.Prelude.{◌≡◌, ℕ, true, false, List, Option, Some, None, IsSomeAnd}
 use Rattle.log_device.specs.Faults.{Rose}
 use Rattle.block_tag.specs.declared.tag.Tag.{Tag}
-use Rattle.block_tag.specs.declared.catalogue.RelEntry.{RelEntry}
-use Rattle.block_tag.specs.Names.{names_block, unpacked_tag, lane_number}
 use Rattle.segment_store.specs.Contents.{Pages, Marks, with_page, with_mark, IsTorn}
-use Rattle.pin_core.specs.declared.view.BlockPage.{BlockPage}
-use Rattle.pin_core.specs.declared.view.TakenLane.{TakenLane}
 use Rattle.table_rule.specs.declared.noted_lane.LaneCall.{LaneCall}
 use Rattle.table_rule.specs.declared.noted_lane.LaneCall.TheVariants.{Untouched, Read, ReadFailed, Written, WriteFailed, Synced, SyncFailed}
-use Rattle.table_rule.specs.Blocks.{has_block}
 
 -- Lanes, as their trait tells them
 pub record LaneDevices (L : Type 0) : Type 0 where
