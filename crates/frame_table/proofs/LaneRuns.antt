@@ -1,18 +1,14 @@
 -- The steps by which a lane goes out and comes back.
-use Rattle.std.proofs.Common.{◌≡◌, ◌≢◌, ℕ, ◌+◌, ◌*◌, ◌<◌, ◌≤◌, ◌%◌, ◌^◌, Bool, true, false, Some, None, List, [], ◌∷◌, ◌++◌, get_or, set, length, get_or-set_same, append-nil, sym, refl, ap, ◌∙◌, subst, arith}
-use Rattle.std.specs.Prelude.{is_some, Option, ◌||◌}
-use Rattle.std.proofs.lemmas.Option.{same_Some}
+use Rattle.std.proofs.Common.{◌≡◌, ℕ, ◌+◌, ◌<◌, Bool, true, false, Some, None, List, [], ◌∷◌, ◌++◌, get_or, set, length, get_or-set_same, append-nil, sym, refl, ap, ◌∙◌, subst, arith}
+use Rattle.std.specs.Prelude.{◌||◌}
 use mathlib.Core.Option.{some}
 use lib.ListN.{get_elem?}
-use Rattle.pin_core.specs.declared.view.DeviceCall.{DeviceCall}
 use Rattle.pin_core.specs.declared.view.LaneChange.{LaneChange}
 use Rattle.pin_core.specs.declared.view.LaneChange.TheVariants as lane_change
 use Rattle.pin_core.specs.declared.view.Io.TheVariants.{Input}
 use Rattle.pin_core.specs.declared.view.LastWrite.TheVariants.{Unwritten}
 use Rattle.pin_core.specs.declared.view.LaneHold.{LaneHold}
-use Rattle.pin_core.specs.declared.view.TakenLane.{TakenLane}
 use Rattle.pin_core.specs.declared.view.Link.{Link}
-use Rattle.pin_core.specs.declared.view.Load.{Load}
 use Rattle.pin_core.specs.declared.view.Met.{Met}
 use Rattle.pin_core.specs.declared.view.View.{View}
 use Rattle.pin_core.specs.State.{Frame, Page, link, lane_hold, no_lane, idle, sum_of_met}
@@ -20,7 +16,7 @@ use Rattle.page_core.specs.State.{Block, block_of}
 use Rattle.page_core.specs.Kinds.{Kind, note_read, begin_write, note_write}
 use Rattle.page_core.specs.Kinds as pages
 use Rattle.history_core.specs.State.{State, Lane}
-use Rattle.history_core.specs.Lanes.{LaneKind, lane_out, read_block, fail_read, write_block, fail_write, sync_lane, fail_sync, lane_back, LaneAllowed, lane_after, lane_hold_after, CanReturnLane, CountsFault, is_failed_read, is_failed_write, met_by, calls_by, syncs, fault_of}
+use Rattle.history_core.specs.Lanes.{LaneKind, read_block, lane_back, LaneAllowed, lane_after, lane_hold_after, CanReturnLane, met_by, calls_by, syncs, fault_of}
 use Rattle.history_core.specs.Steps.{Event, Step, Run, rests, goes, NoWrite, LaneAlone, Writes, aside, stepped, laned, paged, pool_after, pool_noting}
 use Rattle.history_core.specs.Steps as steps
 use Rattle.history_core.specs.Laws.{Laws}

@@ -1,14 +1,13 @@
 -- A lane goes out with its holder, and comes back with the call that was made of it.
-use Rattle.std.proofs.Common.{◌≡◌, ◌≢◌, ℕ, ◌+◌, ◌*◌, ◌<◌, ◌≤◌, ◌%◌, ◌^◌, Bool, true, false, Some, None, List, [], ◌∷◌, ◌++◌, get_or, set, length, get_or-set_same, get_or-set_other, append-nil, sym, refl, ap, ◌∙◌, subst, arith, rules}
+use Rattle.std.proofs.Common.{◌≡◌, ◌≢◌, ℕ, ◌+◌, ◌<◌, ◌≤◌, ◌%◌, ◌^◌, Bool, true, false, Some, None, List, [], ◌∷◌, get_or, set, length, get_or-set_same, get_or-set_other, append-nil, sym, refl, ap, ◌∙◌, subst, arith}
 use Rattle.std.proofs.Math.Nat.{mod-eq_of_lt}
 use Rattle.std.proofs.Math.ListN.{get_or-eq_default}
 use Rattle.std.specs.declared.snapshot.Snapshot.{Snapshot}
-use Rattle.std.specs.Prelude.{is_some, Option, ◌||◌}
+use Rattle.std.specs.Prelude.{is_some, Option, Result, Ok, Err, MatchResult, ◌||◌}
+use Rattle.log_device.specs.declared.device.Failed.{Failed}
 use Rattle.std.proofs.lemmas.Option.{same_Some}
-use Rattle.std.proofs.lemmas.Grind.{common_steps}
 use mathlib.Core.Logic.{dite}
 use mathlib.Core.Option.{none, some, some-injective}
-use mathlib.Core.Option as slot
 use native.Mathlib.Decide.{ℕ_discrete, dec_lt}
 use lib.ListN.{get_elem?}
 use lib.Seq.{set-get_or}
@@ -19,22 +18,20 @@ use Rattle.page_layout.specs.Fields.{lsn_of}
 use Rattle.block_tag.specs.declared.tag.Fork.TheVariants.{Main}
 use Rattle.block_tag.specs.declared.tag.Tag.{Tag}
 use Rattle.block_tag.specs.declared.catalogue.RelEntry.{RelEntry}
-use Rattle.block_tag.specs.Names.{packed_tag, tag_of_parts, names_block, hash_of, lane_number}
+use Rattle.block_tag.specs.Names.{packed_tag, tag_of_parts, names_block, hash_of}
 use Rattle.segment_store.specs.Contents.{Pages}
 use Rattle.pin_core.specs.declared.view.View.{View}
 use Rattle.pin_core.specs.declared.view.Link.{Link}
 use Rattle.pin_core.specs.declared.view.Io.{Io}
 use Rattle.pin_core.specs.declared.view.Io.TheVariants.{Quiet, Input, Output}
-use Rattle.pin_core.specs.declared.view.LastWrite.TheVariants.{Unwritten}
 use Rattle.pin_core.specs.declared.view.LaneChange.{LaneChange}
 use Rattle.pin_core.specs.declared.view.LaneChange.TheVariants as lane_change
 use Rattle.pin_core.specs.declared.view.LaneHold.{LaneHold}
 use Rattle.pin_core.specs.declared.view.TakenLane.{TakenLane}
-use Rattle.pin_core.specs.declared.view.BlockPage.{BlockPage}
 use Rattle.pin_core.specs.State.{Frame, Page, link, lane_hold, no_lane, idle, sum_of_met}
 use Rattle.pin_core.specs.Tallies.{flag_weight}
 use Rattle.history_core.specs.State.{State, Lane}
-use Rattle.history_core.specs.Lanes.{LaneKind, lane_out, read_block, fail_read, write_block, fail_write, sync_lane, fail_sync, lane_back, CanReturnLane, CountsFault, CanCall, LaneLink, CountsOut, is_failed_read, is_failed_write, lane_after, lane_hold_after, Rises}
+use Rattle.history_core.specs.Lanes.{LaneKind, lane_out, fail_read, write_block, fail_write, sync_lane, fail_sync, lane_back, CanReturnLane, CountsFault, CanCall, LaneLink, is_failed_read, is_failed_write, lane_after, lane_hold_after, Rises}
 use Rattle.history_core.specs.Steps.{Event, Run}
 use Rattle.history_core.specs.Steps as steps
 use Rattle.history_core.specs.Laws.{Laws}
@@ -46,23 +43,21 @@ use Rattle.table_rule.specs.declared.opening.Opening.{Opening}
 use Rattle.table_rule.specs.declared.noted_lane.NotedLane.{NotedLane}
 use Rattle.table_rule.specs.declared.noted_lane.LaneCall.{LaneCall}
 use Rattle.table_rule.specs.declared.noted_lane.LaneCall.TheVariants.{Untouched, Read, ReadFailed, Written, WriteFailed, Synced, SyncFailed}
-use Rattle.table_rule.specs.declared.turn.Place.{Place}
 use Rattle.table_rule.specs.declared.turn.Place.TheVariants as place
-use Rattle.table_rule.specs.declared.turn.Turn.{Turn}
 use Rattle.table_rule.specs.declared.turn.Turn.TheVariants as turn
 use Rattle.table_rule.specs.Layout.{latch_place, slot_of, tag_lane, lane_of_tag}
-use Rattle.table_rule.specs.Shows.{is_out, IsHome, Devices, Gives, GivesLane, IsLane, IsOpened, HasValue, Shows, Held}
-use Rattle.table_rule.specs.LaneCalls.{LaneDevices, LaneDid}
+use Rattle.table_rule.specs.Shows.{IsHome, Devices, GivesLane, IsLane, IsOpened, HasValue, Held}
+use Rattle.table_rule.specs.LaneCalls.{LaneDevices, LaneDid, NotesRead, NotesWritten, NotesWriteFailed}
 use Rattle.table_rule.specs.TakenLanes.{IsBlockOf, taken_of, page_held, lanes_of}
 use Rattle.table_rule.proofs.Tags.{packed_is}
 use Rattle.table_rule.proofs.LanesOut.{block_number, holds_blocks, can_go_out, still_is, kept_lane, took_page, tore_page}
 use Rattle.table_rule.proofs.Opens.{there_at}
-use Rattle.frame_table.specs.LaneWork.{DidSteps, out_events, out_lane, back_lane, out_view, back_events, back_view, MayNote, CanNoteRead, CanNoteWrite, was_known, is_known_in, IsTaken, MayReturn, LaneStep, Notes, IsNoted, links_of, read_link, written_link, unwritten_link, lane_went, came_by, WentOut, taken_at}
+use Rattle.frame_table.specs.LaneWork.{DidSteps, out_events, out_lane, out_view, back_events, back_view, MayNote, CanNoteRead, CanNoteWrite, was_known, is_known_in, IsTaken, MayReturn, Notes, IsNoted, links_of, read_link, written_link, unwritten_link, lane_went, came_by, WentOut, taken_at}
 use Rattle.frame_table.specs.declared.table.FrameTable.{FrameTable}
 use Rattle.frame_table.specs.Sees.{relations_of, lanes_in, opened_of}
 use Rattle.frame_table.proofs.Moving.{Moves, shows_out, shows_back, slot_low}
 use Rattle.frame_table.proofs.LaneWork.{rises}
-use Rattle.frame_table.proofs.LaneRuns.{Comes, Stands, alone_view, alone_state, written_view, written_state, calls_alone, one_step, reads_noted, writes_noted, written_link_is, written_frame_is, written_hold_is, view_alone, view_read, view_written}
+use Rattle.frame_table.proofs.LaneRuns.{Comes, Stands, alone_view, written_view, written_state, calls_alone, one_step, reads_noted, writes_noted, written_link_is, written_frame_is, written_hold_is, view_alone, view_read, view_written}
 
 -- each lane has a number of a tag
 lane_word : (lanes q : ℕ) → q < lanes → lanes ≤ 16 → (word : ℕ) × (tag_lane lanes word ≡ q)
@@ -71,13 +66,7 @@ lane_word lanes q low few = let tag : Tag = tag_of_parts 0 Main q in (packed_tag
     named : (q : ℕ) → q < 16 → names_block (tag_of_parts 0 Main q) ≡ true
     named q low = grind arith
 
--- the view has a hold for a lane whose latch it has, or that it has out, and a link for a frame where it has a right
-pub held_in_view : (v : View) (q : ℕ) → (lane_hold v q).held ≡ true → q < length v.lanes
-held_in_view v q held = dite (dec_lt q (length v.lanes)) (λ low. low) (λ n. absurd (let no : true ≡ false = sym held ∙ ap (λ (h : LaneHold). h.held) (get_or-eq_default v.lanes no_lane (omega arith)) in cc))
-
-pub out_in_view : (v : View) (q : ℕ) (taken : TakenLane) → (lane_hold v q).out ≡ Some taken → q < length v.lanes
-out_in_view v q taken out = dite (dec_lt q (length v.lanes)) (λ low. low) (λ n. absurd (let no : Some taken ≡ None = sym out ∙ ap (λ (h : LaneHold). h.out) (get_or-eq_default v.lanes no_lane (omega arith)) in cc))
-
+-- the view has a link for a frame where it has a right
 right_in_view : (v : View) (f : ℕ) (io : Io) → (link v f).io ≡ io → io ≢ Quiet → f < length v.links
 right_in_view v f io is busy = dite (dec_lt f (length v.links)) (λ low. low) (λ n. absurd (busy (sym is ∙ ap (λ (x : Link). x.io) (get_or-eq_default v.links idle (omega arith)))))
 
@@ -378,15 +367,7 @@ module _ {L G : Type 0} (d : Devices L G) (o : Opening L G) where
   comes_back slots id q me me' l r e counted below live same untouched m reads_fit writes_fit = let at : ℕ = latch_place o.config.frames (turn.Lane q) in
       subst (λ (x : Me (Value L G) View). Allows (Held d o) slots id x at (λ n. n) (came_by (back_events (lanes_of d) q l.device l.call) (back_view (lanes_of d) q l.device l.call) (step slots at 0 0 none) x)) (sym e) (comes_home slots id q me.0 (rest me.1) l r counted below live same untouched m reads_fit writes_fit)
 
--- what the view has of the lane, and at the frame of the call
-pub lane_stepped : (q : ℕ) (h : LaneHold) (v w : View) → q < length v.lanes → w.lanes ≡ set v.lanes q h → w.partitions ≡ v.partitions → w.log ≡ v.log → LaneStep q h v w
-lane_stepped q h v w low lanes partitions log = record {
-  here = ap (λ (l : List LaneHold). get_or l q no_lane) lanes ∙ get_or-set_same v.lanes q h no_lane low;
-  others = λ r n. ap (λ (l : List LaneHold). get_or l r no_lane) lanes ∙ get_or-set_other v.lanes q r h no_lane n;
-  partitions = partitions;
-  log = log;
-}
-
+-- what the view has at the frame of the call
 notes_at : (f : ℕ) (l : Link) (v w : View) → f < length v.links → w.links ≡ set v.links f l → Notes f l v w
 notes_at f l v w low links = record {
   here = ap (λ (x : List Link). get_or x f idle) links ∙ get_or-set_same v.links f l idle low;
@@ -421,3 +402,38 @@ went_out d t q slot m m' m'' z (l, hand, untouched, taken, view, did) e same = r
   view = same ∙ view;
   did = subst (DidSteps (out_events q (taken_at d t q l.device)) m.0) (sym same) did;
 }
+
+-- For callers: a lane that went out comes back after a call
+module _ (relations : List RelEntry) (lanes q f : ℕ) (tag : Tag) (page : Page) (v : View) (block : IsBlockOf relations lanes q tag) where
+  pub read_may : (r : Result Unit Failed) (c : LaneCall) → CanNoteRead tag (link v f) → MatchResult r (λ _. NotesRead f tag page c) (λ _. c ≡ ReadFailed tag) → MayNote relations lanes q c v
+  read_may (Ok x) (Read g t given) can (same_f, same_tag, same_page) = (subst (IsBlockOf relations lanes q) (sym same_tag) block, subst (λ (y : Tag). CanNoteRead y (link v g)) (sym same_tag) (subst (λ (x : ℕ). CanNoteRead tag (link v x)) (sym same_f) can))
+  read_may (Ok x) Untouched can wrong = absurd wrong
+  read_may (Ok x) (ReadFailed t) can wrong = absurd wrong
+  read_may (Ok x) (Written g t put) can wrong = absurd wrong
+  read_may (Ok x) (WriteFailed g t put) can wrong = absurd wrong
+  read_may (Ok x) Synced can wrong = absurd wrong
+  read_may (Ok x) SyncFailed can wrong = absurd wrong
+  read_may (Err x) c can is = subst (λ (x : LaneCall). MayNote relations lanes q x v) (sym is) block
+
+  written_may : (g : ℕ) (t : Tag) (p : Page) → CanNoteWrite tag page (lane_hold v q).flushed (link v f) → (g ≡ f) × (t ≡ tag) × (p ≡ page) → IsBlockOf relations lanes q t × CanNoteWrite t p (lane_hold v q).flushed (link v g)
+  written_may g t p can (same_f, same_tag, same_page) = (subst (IsBlockOf relations lanes q) (sym same_tag) block, subst (λ (x : ℕ). CanNoteWrite t p (lane_hold v q).flushed (link v x)) (sym same_f) (subst (λ (y : Tag). CanNoteWrite y p (lane_hold v q).flushed (link v f)) (sym same_tag) (subst (λ (x : Page). CanNoteWrite tag x (lane_hold v q).flushed (link v f)) (sym same_page) can)))
+
+  pub write_may : (r : Result Unit Failed) (c : LaneCall) → CanNoteWrite tag page (lane_hold v q).flushed (link v f) → MatchResult r (λ _. NotesWritten f tag page c) (λ _. NotesWriteFailed f tag page c) → MayNote relations lanes q c v
+  write_may (Ok x) (Written g t put) can is = written_may g t put.value can is
+  write_may (Ok x) Untouched can wrong = absurd wrong
+  write_may (Ok x) (Read g t given) can wrong = absurd wrong
+  write_may (Ok x) (ReadFailed t) can wrong = absurd wrong
+  write_may (Ok x) (WriteFailed g t put) can wrong = absurd wrong
+  write_may (Ok x) Synced can wrong = absurd wrong
+  write_may (Ok x) SyncFailed can wrong = absurd wrong
+  write_may (Err x) (WriteFailed g t put) can is = written_may g t put.value can is
+  write_may (Err x) Untouched can wrong = absurd wrong
+  write_may (Err x) (Read g t given) can wrong = absurd wrong
+  write_may (Err x) (ReadFailed t) can wrong = absurd wrong
+  write_may (Err x) (Written g t put) can wrong = absurd wrong
+  write_may (Err x) Synced can wrong = absurd wrong
+  write_may (Err x) SyncFailed can wrong = absurd wrong
+
+pub may_return : {L : Type 0} (d : LaneDevices L) (known : Bool) (relations : List RelEntry) (lanes q flushed : ℕ) (v : View) (before : L) (l : NotedLane L) → lane_hold v q ≡ out_lane (taken_of d relations lanes q before) flushed → IsTaken d known relations lanes q before → LaneDid d before l.device l.call → MayNote relations lanes q l.call v
+    → MayReturn d known relations lanes q v l
+may_return d known relations lanes q flushed v before l hold taken did may = record { before = before; out = ap (λ (h : LaneHold). h.out) hold; once = ap (λ (h : LaneHold). h.change) hold; taken = taken; did = did; may = may }

@@ -1,15 +1,10 @@
 -- Steps at a lane while it is out: what they leave of the state and of the view.
-use Rattle.std.proofs.Common.{◌≡◌, ◌≢◌, ℕ, zero, suc, ◌+◌, ◌*◌, ◌<◌, ◌≤◌, ◌^◌, Bool, true, false, Some, None, List, [], ◌∷◌, ◌++◌, get_or, set, length, length-set, get_or-set_same, get_or-set_other, append-nil, sym, refl, ap, ◌∙◌, subst, arith, eq-eqb, ne_eqb, cond}
-use Rattle.std.proofs.Math.ListN.{get_or-eq_default}
-use Rattle.std.specs.Prelude.{is_some, Option, ◌||◌, min}
+use Rattle.std.proofs.Common.{◌≡◌, ◌≢◌, ℕ, ◌+◌, ◌<◌, ◌≤◌, ◌^◌, Bool, Some, List, get_or, set, get_or-set_other, sym, refl, ap, ◌∙◌, subst, arith, eq-eqb, ne_eqb, cond}
+use Rattle.std.specs.Prelude.{is_some, Option}
 use mathlib.Core.Logic.{dite}
-use mathlib.Core.Option.{none, some, some-injective}
-use mathlib.Core.Option as slot
 use native.Mathlib.Decide.{ℕ_discrete}
-use lib.ListN.{get_elem?}
 use Rattle.log_device.specs.Faults.{Rose}
 use Rattle.pin_core.specs.declared.view.View.{View}
-use Rattle.pin_core.specs.declared.view.Link.{Link}
 use Rattle.pin_core.specs.declared.view.LaneHold.{LaneHold}
 use Rattle.pin_core.specs.declared.view.LogHold.{LogHold}
 use Rattle.pin_core.specs.declared.view.PartitionHold.{PartitionHold}
@@ -17,11 +12,10 @@ use Rattle.pin_core.specs.State.{Frame, Page, link, lane_hold, no_lane, idle}
 use Rattle.pin_core.specs.State as pool
 use Rattle.page_core.specs.State as page
 use Rattle.history_core.specs.State.{State, Lane, last_count, raised}
-use Rattle.history_core.specs.Lanes.{LaneKind, lane_out, read_block, fail_read, write_block, fail_write, sync_lane, fail_sync, lane_back, lane_after, Rises}
-use Rattle.history_core.specs.Lanes as lanes
+use Rattle.history_core.specs.Lanes.{Rises}
 use Rattle.history_core.specs.Lasting.{IsSameOpening}
 use Rattle.grid.specs.Shape.{put}
-use Rattle.grid.proofs.Lists.{put_here, put_else, put_at}
+use Rattle.grid.proofs.Lists.{put_else}
 use Rattle.table_rule.specs.declared.value.Value.{Value}
 use Rattle.table_rule.specs.declared.opening.Opening.{Opening}
 use Rattle.table_rule.specs.declared.turn.Place.{Place}

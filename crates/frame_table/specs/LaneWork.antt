@@ -1,5 +1,5 @@
 -- A lane goes out with the holder of its latch, and comes back with the call that was made of it.
-use Rattle.std.specs.Prelude.{◌≡◌, ◌≢◌, ℕ, ◌+◌, ◌≤◌, Bool, true, false, List, [], ◌∷◌, ◌++◌, slice_set, Option, Some, None, is_some, ◌||◌}
+use Rattle.std.specs.Prelude.{◌≡◌, ◌≢◌, ℕ, ◌+◌, ◌≤◌, Bool, true, false, List, [], ◌∷◌, ◌++◌, slice_set, Some, None, is_some, ◌||◌}
 use mathlib.Core.Option.{some}
 use mathlib.Core.Option as slot
 use lib.ListN.{get_elem?}

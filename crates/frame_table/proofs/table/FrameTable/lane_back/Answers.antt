@@ -1,5 +1,4 @@
-use Rattle.std.proofs.Common.{ap, List}
-use Rattle.pin_core.specs.declared.view.Link.{Link}
+use Rattle.std.proofs.Common.{ap}
 use Rattle.pin_core.specs.declared.view.View.{View}
 use Rattle.frame_table.proofs.LaneTrips.{is_noted}
 use Rattle.frame_table.proofs.table.FrameTable.lane_back.Goals as goal
