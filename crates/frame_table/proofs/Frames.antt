@@ -70,6 +70,12 @@ same_at g (y ∷ l) zero (suc p) x d e = refl
 same_at g (y ∷ l) (suc q) zero x d e = refl
 same_at g (y ∷ l) (suc q) (suc p) x d e = same_at g l q p x d e
 
+-- what is put last at a place stands there
+pub set_twice : {A : Type 0} (l : List A) (i : ℕ) (a b : A) → set (set l i a) i b ≡ set l i b
+set_twice [] i a b = refl
+set_twice (x ∷ l) zero a b = refl
+set_twice (x ∷ l) (suc i) a b = ap (λ (m : List _). x ∷ m) (set_twice l i a b)
+
 -- a function with x at f has at k what it had, as far as g tells, where x has
 pub put_keeps : {A B : Type 0} (g : A → B) (h : ℕ → A) (f : ℕ) (x : A) (k : ℕ) → g x ≡ g (h f) → g (put h f x k) ≡ g (h k)
 put_keeps g h f x k e = dite (ℕ_discrete k f) (λ is. ap g (put_at h f x k is) ∙ e ∙ ap (λ (z : ℕ). g (h z)) (sym is)) (λ n. ap g (put_else h f x k n))

@@ -15,3 +15,6 @@ pub mod Fitting
 pub mod Mapping
 pub mod PageWork
 pub mod Ending
+pub mod LaneWork
+pub mod LaneRuns
+pub mod LaneTrips

@@ -42,7 +42,7 @@ use Rattle.history_core.specs.Laws.{Laws}
 use Rattle.table_rule.specs.Shows.{ShowsFrame, ShowsLatches, is_taken, is_out, IsHome, AreApart, entry_of, Devices, Gives, GivesEntries, GivesMap, HasPlace, HasValue, HasList, Shows, Held}
 use Rattle.frame_table.specs.Turning.{DidMap, ComesBack, as_it_was, entered, left_out, MayComeBack, HasNamed, HasRoomFor, IsMap, map_went, map_came, MapStep, SameWork, is_named, back_hold}
 use Rattle.history_core.proofs.Laws.{laws_kept}
-use Rattle.frame_table.proofs.Frames.{put_keeps, home_before}
+use Rattle.frame_table.proofs.Frames.{put_keeps, home_before, set_twice}
 use Rattle.frame_table.proofs.Moving.{same_slot, list_stays}
 use Rattle.frame_table.proofs.Fitting.{has_named, has_room}
 
@@ -177,11 +177,6 @@ module _ {L G : Type 0} (d : Devices L G) (o : Opening L G) where
       })
       (λ n. let other : x ≢ place.Of (Partition p) = (λ e. n (ap (slot_of o.config.frames) e)) in let old = h.homes x has (home_before s.pool.core.views id v (view_mapped k p v) x there (λ e. sym (mapped_out k p v x other) ∙ e) home_x) in
       record { value = old.value; home = set_else t.homes (o.config.frames + p) (slot_of o.config.frames x) (some y) n ∙ old.home; gives = mapped_gives d o k s id p v x old.value other old.gives }))
-
-set_twice : {A : Type 0} (l : List A) (i : ℕ) (a b : A) → set (set l i a) i b ≡ set l i b
-set_twice [] i a b = refl
-set_twice (x ∷ l) Rattle.std.proofs.Common.zero a b = refl
-set_twice (x ∷ l) (Rattle.std.proofs.Common.suc i) a b = ap (λ (m : List _). x ∷ m) (set_twice l i a b)
 
 some_out : (x : Option (List MapEntry)) → x ≢ None → is_some x ≡ true
 some_out None n = absurd (n refl)

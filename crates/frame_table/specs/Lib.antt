@@ -7,3 +7,4 @@ pub mod Content
 pub mod Turning
 pub mod PageWork
 pub mod Closes
+pub mod LaneWork

@@ -224,6 +224,13 @@ module _ {L G : Type 0} where
   abbrev pub relations_of : FrameTable L G → List RelEntry
   relations_of t = t.table.shared.key.catalog.value
 
+  -- how many lanes it has, and what they were when it was opened
+  abbrev pub lanes_in : FrameTable L G → ℕ
+  lanes_in t = t.table.shared.key.config.lanes
+
+  abbrev pub opened_of : FrameTable L G → List L
+  opened_of t = t.table.shared.key.lanes.value.items
+
   -- the seat is one of the table
   abbrev pub Fits : FrameTable L G → Seat (Value L G) View → Type 0
   Fits t s = s.table_id ≡ t.table.shared.table_id

@@ -10,6 +10,8 @@ mod content_plays;
 mod content_word;
 mod headers;
 mod io_right;
+mod lane_plays;
+mod lanes;
 mod log_words;
 mod mapped;
 mod maps;

@@ -1,5 +1,5 @@
 //! The table.
-ghost use Rattle.std.specs.Prelude.{◌≡◌, ◌≤◌};
+ghost use Rattle.std.specs.Prelude.{◌≡◌, ◌≤◌, length};
 ghost use Rattle.table_rule.specs.Layout as layout;
 
 use atomic_table::Table;
@@ -17,6 +17,7 @@ pub struct FrameTable<L: BlockLane, G: LogDevice> {
     pub(crate) catalog: Catalog,
     ghost known: { config ≡ table.shared.key.config },
     ghost relations: { catalog ≡ table.shared.key.catalog.value },
+    ghost counted: { length table.shared.key.lanes.value.items ≡ table.shared.key.config.lanes },
     ghost few: { table.shared.key.config.lanes ≤ 16 },
     ghost wide: { (table.shared.table_id.words ≡ layout.word_count table.shared.key.config.frames) × (table.shared.table_id.slots ≡ layout.slot_count table.shared.key.config.frames) },
 }

@@ -1,3 +1,6 @@
 pub mod Laying
+pub mod Tags
+pub mod TakenBlocks
+pub mod LanesOut
 pub mod Opens
 pub mod Emptying

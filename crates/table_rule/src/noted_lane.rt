@@ -1,6 +1,13 @@
 //! A lane that is out.
+ghost use Rattle.std.specs.Prelude.{◌≡◌, Some, OnOk, IfSome, IsSome, MatchResult};
+ghost use Rattle.std.specs.Option.{ForSome};
+ghost use Rattle.table_rule.specs.declared.noted_lane.LaneCall.TheVariants as lane_call;
+ghost use Rattle.table_rule.specs.LaneCalls.{LaneDid, NotesRead, NotesWritten, NotesWriteFailed, lane_devices};
+
 use block_tag::Tag;
+use log_device::Failed;
 use page_layout::Page;
+use segment_store::BlockLane;
 use std::snapshot::Snapshot;
 
 /// The one call of a lane that was made since it went out. The pages stand here for clauses alone.
@@ -38,7 +45,16 @@ pub struct NotedLane<L> {
 }
 
 impl<L> NotedLane<L> {
-    ghost use Rattle.std.specs.Prelude.{◌≡◌};
+    /// The lane without the note of a call.
+    pub fn settled(self) -> NotedLane<L>
+        ensures device { result.device ≡ self.device }
+        ensures call { result.call ≡ lane_call.Untouched }
+    {
+        NotedLane {
+            device: self.into_device(),
+            call: LaneCall::Untouched,
+        }
+    }
 
     /// The lane itself.
     pub fn into_device(self) -> L
@@ -49,5 +65,77 @@ impl<L> NotedLane<L> {
             call: _call,
         } = self;
         device
+    }
+}
+
+impl<L: BlockLane> NotedLane<L> {
+    /// Reads a block of the lane into the page, for a frame (`smgrread`).
+    pub fn read(&mut self, frame: u32, tag: Tag, page: &mut Page) -> Result<(), Failed>
+        requires untouched { self.old.call ≡ lane_call.Untouched }
+        requires held { ForSome (L.contents self.old.device) (λ pages. IsSome (pages tag)) }
+        ensures page { OnOk result (IfSome (L.contents self.old.device) (λ pages. pages tag ≡ Some page.new)) }
+        ensures call { MatchResult result (λ _. NotesRead frame tag page.new self.new.call) (λ _. self.new.call ≡ lane_call.ReadFailed tag) }
+        ensures did { LaneDid (lane_devices L.contents L.failed_writes L.read_faults L.write_faults) self.old.device self.new.device self.new.call }
+    {
+        match self.device.read(tag, page) {
+            Ok(()) => {
+                self.call = LaneCall::Read {
+                    frame,
+                    tag,
+                    page: Snapshot::of(page),
+                };
+                Ok(())
+            }
+            Err(failed) => {
+                self.call = LaneCall::ReadFailed { tag };
+                Err(failed)
+            }
+        }
+    }
+
+    /// Writes the page of a frame to a block of the lane (`smgrwrite`).
+    pub fn write(&mut self, frame: u32, tag: Tag, page: &Page) -> Result<(), Failed>
+        requires untouched { self.old.call ≡ lane_call.Untouched }
+        requires held { ForSome (L.contents self.old.device) (λ pages. IsSome (pages tag)) }
+        ensures call { MatchResult result (λ _. NotesWritten frame tag page.now self.new.call) (λ _. NotesWriteFailed frame tag page.now self.new.call) }
+        ensures did { LaneDid (lane_devices L.contents L.failed_writes L.read_faults L.write_faults) self.old.device self.new.device self.new.call }
+    {
+        let noted = Snapshot::of(page);
+        match self.device.write(tag, page) {
+            Ok(()) => {
+                self.call = LaneCall::Written {
+                    frame,
+                    tag,
+                    page: noted,
+                };
+                Ok(())
+            }
+            Err(failed) => {
+                self.call = LaneCall::WriteFailed {
+                    frame,
+                    tag,
+                    page: noted,
+                };
+                Err(failed)
+            }
+        }
+    }
+
+    /// Makes the writes so far last (`smgrimmedsync`).
+    pub fn sync(&mut self) -> Result<(), Failed>
+        requires untouched { self.old.call ≡ lane_call.Untouched }
+        ensures call { MatchResult result (λ _. self.new.call ≡ lane_call.Synced) (λ _. self.new.call ≡ lane_call.SyncFailed) }
+        ensures did { LaneDid (lane_devices L.contents L.failed_writes L.read_faults L.write_faults) self.old.device self.new.device self.new.call }
+    {
+        match self.device.sync() {
+            Ok(()) => {
+                self.call = LaneCall::Synced;
+                Ok(())
+            }
+            Err(failed) => {
+                self.call = LaneCall::SyncFailed;
+                Err(failed)
+            }
+        }
     }
 }

@@ -1,0 +1,67 @@
+//! What the steps of a lane that goes out, or of a value that comes back, tell their seat.
+ghost use Rattle.std.specs.Prelude.{ℕ, Bool, false, List, []};
+ghost use Rattle.block_tag.specs.declared.catalogue.RelEntry.{RelEntry};
+ghost use Rattle.pin_core.specs.declared.view.View.{View};
+ghost use Rattle.history_core.specs.Steps.{Event};
+ghost use Rattle.table_rule.specs.LaneCalls.{lane_devices};
+ghost use Rattle.frame_table.specs.LaneWork.{came_by, lane_went};
+
+use atomic_table::Play;
+use pin_core::View;
+use segment_store::BlockLane;
+use std::marker::{Brand, PhantomData};
+use table_rule::Value;
+
+/// Which lane a step is at, of how many, the relations, whether the lane's contents were known at the start, and its slot. Each call picks it.
+pub(crate) trait AtLane {
+    ghost known: { Bool };
+
+    ghost relations: { List RelEntry };
+
+    ghost lanes: { ℕ };
+
+    ghost lane: { ℕ };
+
+    ghost slot: { ℕ };
+}
+
+impl AtLane for Brand {
+    ghost known = { false };
+
+    ghost relations = { [] };
+
+    ghost lanes = { 0 };
+
+    ghost lane = { 0 };
+
+    ghost slot = { 0 };
+}
+
+pub(crate) struct LaneOut<D> {
+    lane: PhantomData<D>,
+}
+
+impl<L: BlockLane, G, D: AtLane> Play<Value<L, G>, View> for LaneOut<D> {
+    ghost then = { lane_went (lane_devices L.contents L.failed_writes L.read_faults L.write_faults) D.known D.relations D.lanes D.lane D.slot };
+}
+
+/// By which steps a value comes back, and what they make of the view. Each call picks it.
+pub(crate) trait Returns {
+    ghost events: { ℕ → List Event };
+
+    ghost after: { View → View };
+}
+
+impl Returns for Brand {
+    ghost events = { λ i. [] };
+
+    ghost after = { λ v. v };
+}
+
+pub(crate) struct Back<D> {
+    steps: PhantomData<D>,
+}
+
+impl<L, G, D: Returns> Play<Value<L, G>, View> for Back<D> {
+    ghost then = { came_by D.events D.after };
+}

@@ -1,0 +1,66 @@
+-- What a lane is as it goes out: its counts and, where its contents are known, its blocks.
+use Rattle.std.specs.Prelude.{◌≡◌, ℕ, zero, suc, ◌^◌, Bool, true, false, ◌&&◌, nat_eq, List, [], ◌∷◌, ◌++◌, filter, map, Option, Some, None, unwrap_or, IsSome}
+use Rattle.std.specs.Option.{ForSome}
+use Rattle.block_tag.specs.declared.tag.Tag.{Tag}
+use Rattle.block_tag.specs.declared.catalogue.RelEntry.{RelEntry}
+use Rattle.block_tag.specs.Names.{names_block, unpacked_tag, lane_number}
+use Rattle.segment_store.specs.Contents.{Pages, Marks}
+use Rattle.pin_core.specs.declared.view.BlockPage.{BlockPage}
+use Rattle.pin_core.specs.declared.view.TakenLane.{TakenLane}
+use Rattle.table_rule.specs.Blocks.{has_block, is_block}
+use Rattle.table_rule.specs.Layout.{tag_lane}
+use Rattle.table_rule.specs.Shows.{Devices}
+use Rattle.table_rule.specs.LaneCalls.{LaneDevices, lane_devices}
+
+-- the lanes among the devices
+abbrev pub lanes_of : {L G : Type 0} → Devices L G → LaneDevices L
+lanes_of d = lane_devices d.contents d.failed_writes d.read_faults d.write_faults
+
+-- A block of the relations that lies in the lane q of so many
+pub record IsBlockOf (relations : List RelEntry) (lanes q : ℕ) (tag : Tag) : Type 0 where
+  pub named : names_block tag ≡ true
+  pub listed : has_block relations tag ≡ true
+  pub placed : lane_number tag lanes ≡ q
+
+-- the same of the number of a tag
+abbrev pub is_block_of : List RelEntry → ℕ → ℕ → ℕ → Bool
+is_block_of relations lanes q word = is_block relations word && nat_eq (tag_lane lanes word) q
+
+-- the numbers below n
+unfoldable pub numbers_below : ℕ → List ℕ
+numbers_below zero = []
+numbers_below (suc n) = numbers_below n ++ n ∷ []
+
+-- the blocks that lie in the lane, by their tags' numbers, which are below 2 to the power 50
+unfoldable pub blocks_in : List RelEntry → ℕ → ℕ → List ℕ
+blocks_in relations lanes q = filter (is_block_of relations lanes q) (numbers_below (2 ^ 50))
+
+-- the page and the mark that stand for a tag
+abbrev pub page_named : Pages → Option Tag → List ℕ
+page_named known None = []
+page_named known (Some tag) = unwrap_or (known tag) []
+
+abbrev pub mark_named : Marks → Option Tag → Bool
+mark_named marks None = false
+mark_named marks (Some tag) = marks tag
+
+abbrev pub block_page : Pages → Marks → ℕ → BlockPage
+block_page known marks word = record { tag = word; page = page_named known (unpacked_tag word); failed = mark_named marks (unpacked_tag word) }
+
+-- the page that a lane holds for a tag, where its contents are known, and else this one
+abbrev pub page_held : Option Pages → Tag → List ℕ → List ℕ
+page_held None tag page = page
+page_held (Some known) tag page = unwrap_or (known tag) page
+
+abbrev pub pages_of : List ℕ → Option Pages → Marks → Option (List BlockPage)
+pages_of blocks None marks = None
+pages_of blocks (Some known) marks = Some (map (block_page known marks) blocks)
+
+module _ {L : Type 0} (d : LaneDevices L) (relations : List RelEntry) (lanes q : ℕ) where
+  -- what the lane q is
+  abbrev pub taken_of : L → TakenLane
+  taken_of l = record { pages = pages_of (blocks_in relations lanes q) (d.contents l) (d.failed_writes l); read_faults = d.read_faults l; write_faults = d.write_faults l }
+
+  -- where its contents are known it holds each block that lies there
+  abbrev pub HoldsBlocks : L → Type 0
+  HoldsBlocks l = (tag : Tag) → IsBlockOf relations lanes q tag → ForSome (d.contents l) (λ known. IsSome (known tag))
