@@ -2,3 +2,4 @@ pub mod Layout
 pub mod Blocks
 pub mod Shows
 pub mod Laid
+pub mod LogCalls
