@@ -12,3 +12,6 @@ pub mod Holding
 pub mod Taking
 pub mod Moving
 pub mod Mapping
+pub mod LogDevices
+pub mod LogNames
+pub mod LogWork

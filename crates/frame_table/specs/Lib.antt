@@ -5,3 +5,5 @@ pub mod Behind
 pub mod EndLoads
 pub mod Content
 pub mod Turning
+pub mod Entering
+pub mod LogWork
