@@ -15,3 +15,4 @@ pub mod Mapping
 pub mod LogDevices
 pub mod LogNames
 pub mod LogWork
+pub mod Entering

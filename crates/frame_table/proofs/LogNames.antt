@@ -1,5 +1,5 @@
 -- How the log names a block, and what a record is by that.
-use Rattle.std.proofs.Common.{◌≡◌, ℕ, ◌+◌, ◌*◌, ◌/◌, ◌%◌, ◌^◌, ◌-◌, ◌<◌, Bool, true, false, ◌&&◌, nat_lt, List, ◌++◌, length, Option, Some, None, sym, refl, ap, ◌∙◌, subst, arith}
+use Rattle.std.proofs.Common.{◌≡◌, ℕ, ◌+◌, ◌*◌, ◌/◌, ◌%◌, ◌^◌, ◌<◌, Bool, true, List, Option, Some, None, sym, refl, ap, ◌∙◌, arith}
 use Rattle.std.specs.Prelude.{slice_get, cond, option_and_then}
 use Rattle.block_tag.specs.declared.tag.Fork.{Fork}
 use Rattle.block_tag.specs.declared.tag.Fork.TheVariants.{Main, Fsm, Vm, Init}
@@ -7,7 +7,7 @@ use Rattle.block_tag.specs.declared.tag.Tag.{Tag}
 use Rattle.block_tag.specs.declared.catalogue.RelEntry.{RelEntry}
 use Rattle.block_tag.specs.Names.{fork_number, fork_of_number, names_block, packed_tag, unpacked_tag, tag_if_named, tag_of_parts}
 use Rattle.pin_core.specs.State.{Page}
-use Rattle.history_core.specs.Log.{Entry, record_bytes}
+use Rattle.history_core.specs.Log.{record_bytes}
 use Rattle.table_rule.specs.Blocks.{log_name, name_of, name_in, block_name}
 use Rattle.frame_table.specs.Entering.{IsRecord}
 

@@ -1,8 +1,6 @@
 -- The log goes out with the holder of its latch, and comes back.
-use Rattle.std.proofs.Common.{◌≡◌, ◌≢◌, ℕ, zero, suc, ⊎_elim, ◌+◌, ◌*◌, ◌<◌, ◌≤◌, Bool, true, false, Option, Some, None, List, [], ◌∷◌, ◌++◌, ◌||◌, get_or, set, length, length-append, append-nil, lit<, sym, refl, ap, ◌∙◌, subst, arith}
-use Rattle.std.proofs.lemmas.Bool.{cases_lt}
+use Rattle.std.proofs.Common.{◌≡◌, ◌≢◌, ℕ, zero, suc, ◌+◌, ◌<◌, ◌≤◌, Bool, true, false, Option, Some, None, List, [], ◌∷◌, ◌++◌, ◌||◌, get_or, set, length, length-append, append-nil, lit<, sym, refl, ap, ◌∙◌, subst, arith}
 use Rattle.std.proofs.lemmas.Option.{same_Some}
-use Rattle.std.proofs.lemmas.List.{get_or_past}
 use mathlib.Core.Logic.{dite}
 use mathlib.Core.Option.{none, some, some-injective}
 use native.Mathlib.Decide.{ℕ_discrete}
@@ -11,24 +9,18 @@ use lib.Seq.{set-get_or}
 use Rattle.std.specs.Prelude.{is_some, vec_capacity}
 use Rattle.atomic_table.specs.Table.{Me, step, takes, gives, stepped, Allows, rest}
 use Rattle.atomic_table.specs.Table as table
-use Rattle.block_tag.specs.declared.tag.Tag.{Tag}
-use Rattle.block_tag.specs.declared.catalogue.RelEntry.{RelEntry}
 use Rattle.block_tag.specs.Names.{packed_tag}
-use Rattle.pin_core.specs.declared.view.Content.{Content}
-use Rattle.pin_core.specs.declared.view.Content.TheVariants.{Unlocked, Exclusive}
 use Rattle.pin_core.specs.declared.view.DeviceCall.{DeviceCall}
-use Rattle.pin_core.specs.declared.view.Link.{Link}
-use Rattle.pin_core.specs.declared.view.LogChange.{LogChange}
 use Rattle.pin_core.specs.declared.view.LogChange.TheVariants as change
 use Rattle.pin_core.specs.declared.view.LogHold.{LogHold}
 use Rattle.pin_core.specs.declared.view.Met.{Met}
 use Rattle.pin_core.specs.declared.view.TakenLog.{TakenLog}
 use Rattle.pin_core.specs.declared.view.View.{View}
-use Rattle.pin_core.specs.State.{Page, link, idle, hold, lane_hold, no_partition, no_lane, sum_of_met}
-use Rattle.history_core.specs.Device.{LogKind, log_out, append, fail_append, sync_log, fail_sync, log_back, see_down, LogAllowed, CanTakeDevice, CanCallLog, device_after, log_hold_after, view_logged, calls_by, met_by, is_failed}
+use Rattle.pin_core.specs.State.{idle, hold, no_partition, no_lane, sum_of_met}
+use Rattle.history_core.specs.Device.{LogKind, log_out, append, fail_append, sync_log, fail_sync, log_back, see_down, LogAllowed, CanCallLog, device_after, log_hold_after, view_logged, met_by, is_failed}
 use Rattle.history_core.specs.Laws.{Laws}
 use Rattle.history_core.specs.Lanes.{Rises}
-use Rattle.history_core.specs.Log.{record_size, record_bytes}
+use Rattle.history_core.specs.Log.{record_size}
 use Rattle.history_core.specs.Outings.{IsAsTaken}
 use Rattle.history_core.specs.State.{State, Device}
 use Rattle.history_core.specs.Steps.{Step, AppendsRecord, CanLog, aside, new_entry}
@@ -49,13 +41,12 @@ use Rattle.table_rule.specs.declared.turn.Turn.TheVariants as turn
 use Rattle.table_rule.specs.declared.value.Value.{Value}
 use Rattle.table_rule.specs.declared.value.Value.TheVariants as value
 use Rattle.table_rule.specs.Layout.{latch_place, slot_of}
-use Rattle.table_rule.specs.LogCalls.{LogDid, has_failed}
-use Rattle.table_rule.specs.Shows.{is_out, is_taken, IsHome, Devices, Gives, GivesLog, IsLog, HasValue, Shows, Held, IsOpened}
-use Rattle.frame_table.specs.Entering.{MayEnter, IsRecord}
-use Rattle.frame_table.specs.LogWork.{DidLog, DidTwo, GoesOut, out_steps, view_out, IsPart, ComesHome, home_hold, device_calls_of, home_steps, view_home, MayAppend, MayCall, is_called, IsMarked, IsFresh, IsLogOut, IsTaken, LogWent, MayComeHome, log_went, log_came}
+use Rattle.table_rule.specs.LogCalls.{LogDid}
+use Rattle.table_rule.specs.Shows.{is_out, is_taken, IsHome, Devices, Gives, GivesLog, IsLog, HasValue, Held, IsOpened}
+use Rattle.frame_table.specs.LogWork.{DidLog, DidTwo, GoesOut, out_steps, view_out, IsPart, ComesHome, home_hold, device_calls_of, view_home, MayCall, IsMarked, IsLogOut, IsTaken, MayComeHome, log_went, log_came}
 use Rattle.frame_table.proofs.LogDevices.{rises, log_before, log_appended, log_torn, log_synced, log_unsynced, log_marked, Torn}
-use Rattle.frame_table.proofs.LogNames.{record_is}
-use Rattle.frame_table.proofs.Moving.{Moves, shows_out, shows_back, words_none, slot_low}
+use Rattle.frame_table.proofs.Entering.{end_is, can_log, is_entry}
+use Rattle.frame_table.proofs.Moving.{Moves, shows_out, shows_back, words_none}
 
 -- the state after a step of a kind at the log
 abbrev logged : LogKind → State → ℕ → View → State
@@ -202,32 +193,6 @@ module _ {L G : Type 0} (d : Devices L G) (o : Opening L G) (slots id : ℕ) (me
       of_value (value.Lanes l) home gives_it = absurd gives_it
       of_value value.Away home gives_it = absurd gives_it
 
--- who has the content lock of a frame has a link there
-pub inside_of : (s : State) (id f : ℕ) (v : View) → Laws s → get_elem? s.pool.core.views id ≡ some v → v.emptied ≡ false → (link v f).content ≡ Exclusive → f < s.pool.core.frames
-inside_of s id f v laws there live right = ⊎_elim (λ (low : f < length v.links). let wide = (laws.invariant.pool.core.views.wide id v there live).0 in omega arith)
-    (λ (past : length v.links ≤ f). let no : Unlocked ≡ Exclusive = sym (ap (λ (l : Link). l.content) (get_or_past v.links f idle past)) ∙ right in absurd (cc)) (cases_lt f (length v.links))
-
-module _ {L G : Type 0} (d : Devices L G) (o : Opening L G) (s : State) (id : ℕ) (v : View) (shows : IsOpened d o s) (laws : Laws s) (there : get_elem? s.pool.core.views id ≡ some v) (live : v.emptied ≡ false) where
-  -- the log's end is what the view has loaded
-  pub end_is : (n : ℕ) → v.log.end ≡ Some n → n ≡ s.end
-  end_is n e = ((laws.invariant.device.cells id v 0 there (lit< tt)).end n e).1
-
-  -- an entry may be made where the view's own things let it
-  pub can_log : (f : ℕ) (tag : Tag) (p : Page) (start : ℕ) → MayEnter f tag p start v → CanLog s f (packed_tag tag) p v
-  can_log f tag p start e = let inside = inside_of s id f v laws there live e.right in let same = end_is start e.loaded in record {
-    inside = inside;
-    tagged = ((laws.invariant.pool.core.grid.cells id v f there inside).remembers (packed_tag tag) e.remembered).1;
-    right = record { right = e.right; dirtied = e.dirtied; settled = e.settled f; sound = e.sound; used = e.used };
-    around = e.settled;
-    full = e.full;
-    ends = e.ends ∙ ap (λ (n : ℕ). n + record_size) same;
-    room = (let z = e.room in omega arith);
-  }
-
-  -- and the record is that of the entry that it would be
-  pub is_entry : (f : ℕ) (tag : Tag) (p : Page) (start : ℕ) (bytes : List ℕ) → MayEnter f tag p start v → IsRecord o.catalog.value tag start p bytes → bytes ≡ record_bytes s.names (new_entry s v.number (packed_tag tag) p)
-  is_entry f tag p start bytes e r = record_is o.catalog.value s.names tag start v.number p bytes shows.names e.named r ∙ ap (λ (n : ℕ). record_bytes s.names (record { start = n; backend = v.number; tag = packed_tag tag; image = p })) (end_is start e.loaded)
-
 module _ {L G : Type 0} (d : Devices L G) (o : Opening L G) (slots id : ℕ) (me : Me (Value L G) View) (live : me.0.emptied ≡ false) where
   pub log_comes_back : (x : NotedLog G) → me.1 ≡ (slot_of o.config.frames (place.Of turn.Log), value.Log (record x { call = log_call.Untouched })) ∷ rest me.1 → record_size ≤ vec_capacity x.buffer → ((g : G) → d.log_faults g < 18446744073709551616) → MayComeHome d.bytes d.synced d.log_faults o.catalog.value x me.0
       → Allows (Held d o) slots id me (latch_place o.config.frames turn.Log) (λ n. n) (log_came (d.bytes x.device) (d.log_faults x.device) x.call (at_latch d o slots id me live) me)
@@ -254,7 +219,7 @@ module _ {L G : Type 0} (d : Devices L G) (o : Opening L G) (slots id : ℕ) (me
       -- the mark of a failure
       ended : (e : Option ℕ) → me.0.log.end ≡ e → e ≢ None → e ≡ Some h.state.end
       ended None e n = absurd (n refl)
-      ended (Some k) e n = ap (λ (z : ℕ). Some z) (end_is d o h.state id me.0 h.shows.fixed h.laws here live k e)
+      ended (Some k) e n = ap (λ (z : ℕ). Some z) (end_is h.state id me.0 h.laws here live k e)
 
       counted : Rose (d.log_faults may.before) (d.log_faults x.device) → Rises h.state.device.faults (d.log_faults x.device)
       counted rose = subst (λ (n : ℕ). Rises n (d.log_faults x.device)) (sym was.faults) (rises (d.log_faults may.before) (d.log_faults x.device) (fits may.before) (fits x.device) rose)
@@ -294,18 +259,18 @@ module _ {L G : Type 0} (d : Devices L G) (o : Opening L G) (slots id : ℕ) (me
           home log_call.Untouched w (set h.state.pool.core.views id w) h.state.device refl refl (record { links = refl; partitions = refl; lanes = refl }) (log_marked d x.device may.taken.down x.down h.state.device (sym (mark.kept refl)) (subst (λ (g : G). IsLog d g may.taken.down h.state.device) (sym did) was))
           (laws_logged (log_back false) h.state id me.0 h.laws here live a tt) (did_log (log_back false) h.state id me.0 h.laws here live a tt)
       of_call (log_call.Appended f tag page piece) did mark asks = let bytes : List ℕ = piece.value.items in let k : LogKind = append f (packed_tag tag) page.value bytes in let dev : Device = device_after k h.state.end h.state.device in
-          let is = is_entry d o h.state id me.0 h.shows.fixed h.laws here live f tag page.value asks.start bytes asks.enters asks.is_record in
+          let is = is_entry h.state id me.0 h.laws here live o.catalog.value h.shows.fixed.names f tag page.value asks.start bytes asks.enters asks.is_record in
           two (log_call.Appended f tag page piece) k false refl
           (record { call = can_call (mark.up refl); entered = asks.entered; unsynced = asks.unsynced; full = ap (λ (l : List ℕ). length l) is ∙ record_length h.state.names (new_entry h.state me.0.number (packed_tag tag) page.value) (h.laws.invariant.named (packed_tag tag)) asks.enters.full })
-          (can_log d o h.state id me.0 h.shows.fixed h.laws here live f tag page.value asks.start asks.enters, is) (returns false dev (log_hold_after k me.0.log) refl (λ e. absurd (cc)) (stands dev refl))
+          (can_log h.state id me.0 h.laws here live f tag page.value asks.start asks.enters, is) (returns false dev (log_hold_after k me.0.log) refl (λ e. absurd (cc)) (stands dev refl))
           (log_marked d x.device may.taken.down x.down dev (sym (mark.kept refl)) (log_appended d may.before x.device may.taken.down h.state.device bytes was did)) (λ w z. z)
       of_call (log_call.AppendFailed f tag page piece) did mark asks = let bytes : List ℕ = piece.value.items in let torn : Torn d bytes may.before x.device h.state.end h.state.device = log_torn d may.before x.device may.taken.down h.state.end h.state.device bytes was did in
           let k : LogKind = fail_append f (packed_tag tag) page.value torn.part (d.log_faults x.device) in let dev : Device = device_after k h.state.end h.state.device in
-          let is = is_entry d o h.state id me.0 h.shows.fixed h.laws here live f tag page.value asks.start bytes asks.enters asks.is_record in
+          let is = is_entry h.state id me.0 h.laws here live o.catalog.value h.shows.fixed.names f tag page.value asks.start bytes asks.enters asks.is_record in
           let long : length bytes ≡ record_size = ap (λ (l : List ℕ). length l) is ∙ record_length h.state.names (new_entry h.state me.0.number (packed_tag tag) page.value) (h.laws.invariant.named (packed_tag tag)) asks.enters.full in
           two (log_call.AppendFailed f tag page piece) k true refl
           (record { call = can_call (mark.up refl); rises = counted did.counted; entered = asks.entered; unsynced = asks.unsynced; part = (let sum = length-append torn.part torn.more in let whole = ap (λ (l : List ℕ). length l) torn.begins in omega arith) })
-          (can_log d o h.state id me.0 h.shows.fixed h.laws here live f tag page.value asks.start asks.enters, record { rest = torn.more; begins = torn.begins ∙ is }) (returns true dev (log_hold_after k me.0.log) refl (λ e. refl) (λ e. refl))
+          (can_log h.state id me.0 h.laws here live f tag page.value asks.start asks.enters, record { rest = torn.more; begins = torn.begins ∙ is }) (returns true dev (log_hold_after k me.0.log) refl (λ e. refl) (λ e. refl))
           (log_marked d x.device (Some h.state.end) x.down dev (sym (mark.marked refl ∙ ended me.0.log.end refl (mark.loaded refl))) torn.is_log)
           (λ w z. (torn.part, subst (λ (b : Option (List ℕ)). IsPart b (d.bytes x.device) torn.part) (sym may.was.told) torn.is_part, z))
       of_call log_call.Synced did mark asks = let dev : Device = device_after sync_log h.state.end h.state.device in

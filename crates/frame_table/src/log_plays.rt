@@ -1,7 +1,9 @@
 //! What a step at the log tells its seat.
-ghost use Rattle.std.specs.Prelude.{ℕ, List, Option, None};
+ghost use Rattle.std.specs.Prelude.{ℕ, List, [], Option, None};
+ghost use Rattle.block_tag.specs.declared.catalogue.RelEntry.{RelEntry};
 ghost use Rattle.table_rule.specs.declared.noted_log.LogCall.{LogCall};
 ghost use Rattle.table_rule.specs.declared.noted_log.LogCall.TheVariants.{Untouched};
+ghost use Rattle.frame_table.specs.Entering.{tells_end};
 ghost use Rattle.frame_table.specs.LogWork.{log_came, log_went};
 
 use atomic_table::Play;
@@ -46,4 +48,29 @@ pub(crate) struct LogBack<D> {
 
 impl<L, G, D: AtLog> Play<Value<L, G>, View> for LogBack<D> {
     ghost then = { log_came D.bytes D.faults D.call };
+}
+
+/// The relations, the frame whose page is entered, and the log's end behind that entry. Each call picks it.
+pub(crate) trait AtEnd {
+    ghost relations: { List RelEntry };
+
+    ghost frame: { ℕ };
+
+    ghost end: { ℕ };
+}
+
+impl AtEnd for Brand {
+    ghost relations = { [] };
+
+    ghost frame = { 0 };
+
+    ghost end = { 0 };
+}
+
+pub(crate) struct StoreEnd<D> {
+    entry: PhantomData<D>,
+}
+
+impl<L, G, D: AtEnd> Play<Value<L, G>, View> for StoreEnd<D> {
+    ghost then = { tells_end D.relations D.frame D.end };
 }

@@ -1,24 +1,28 @@
-//! The log, out and back.
+//! The log, out and back, and its end.
 ghost use Rattle.std.specs.Prelude.{◌≡◌, ◌≤◌, ◌∷◌, true, vec_capacity, None};
 ghost use Rattle.atomic_table.specs.Table.{rest};
+ghost use Rattle.block_tag.specs.declared.tag.Tag.{Tag};
+ghost use Rattle.block_tag.specs.Names.{packed_tag};
 ghost use Rattle.pin_core.specs.declared.view.LogChange.TheVariants as change;
+ghost use Rattle.pin_core.specs.State.{Page};
 ghost use Rattle.history_core.specs.Log.{record_size};
 ghost use Rattle.table_rule.specs.declared.noted_log.LogCall.TheVariants as log_call;
 ghost use Rattle.table_rule.specs.declared.turn.Turn.TheVariants.{Log};
 ghost use Rattle.table_rule.specs.declared.turn.Place.TheVariants.{Of};
 ghost use Rattle.table_rule.specs.declared.value.Value.TheVariants as value;
 ghost use Rattle.table_rule.specs.Layout.{latch_place, slot_of};
-ghost use Rattle.frame_table.specs.Sees.{CanTurn, frames_of, relations_of};
+ghost use Rattle.frame_table.specs.Entering.{DidEnter, MayStoreEnd, view_entered};
+ghost use Rattle.frame_table.specs.Sees.{CanTurn, IsSeat, SameSeat, frames_of, relations_of};
 ghost use Rattle.frame_table.specs.LogWork.{IsLogOut, LogCame, LogWent, MayComeHome, view_home};
 
-use crate::log_plays::{AtLog, LogBack, LogOut};
+use crate::log_plays::{AtEnd, AtLog, LogBack, LogOut, StoreEnd};
 use crate::table::FrameTable;
 use atomic_table::Seat;
 use log_device::LogDevice;
 use pin_core::View;
 use segment_store::BlockLane;
 use std::marker::Brand;
-use table_rule::{LogCall, NotedLog, Turn, Value};
+use table_rule::{LogCall, NotedLog, Turn, Value, end_place};
 
 impl<L: BlockLane, G: LogDevice> FrameTable<L, G> {
     /// The slot of the log.
@@ -102,5 +106,27 @@ impl<L: BlockLane, G: LogDevice> FrameTable<L, G> {
         let place = self.latch(Turn::Log);
         let slot = self.log_slot();
         self.log_back_at::<Brand>(seat, place, slot, log)
+    }
+
+    fn store_end_at<D: AtEnd>(&self, seat: &mut Seat<Value<L, G>, View>, _frame: u32, end: u64)
+        requires known { (D.relations ≡ relations_of self.now) × (D.frame ≡ _frame) × (D.end ≡ end) }
+        requires seat { IsSeat self.now seat.old }
+        requires may { (tag : Tag) × (page : Page) × MayStoreEnd (relations_of self.now) _frame tag page end seat.old.me.0 }
+        ensures seat { SameSeat seat.old seat.new }
+        ensures told { (tag : Tag) × (page : Page) × MayStoreEnd (relations_of self.now) _frame tag page end seat.old.me.0 × DidEnter _frame page seat.old.me.0 seat.new.me.0 }
+    {
+        let at = end_place(self.frames());
+        self.table.shared.store::<StoreEnd<D>>(seat, at, end);
+    }
+
+    /// Stores the log's end behind the record that the backend has appended: the page in it is an entry of the log now, and the backend's to apply (`XLogInsert`).
+    pub fn store_log_end(&self, seat: &mut Seat<Value<L, G>, View>, frame: u32, end: u64)
+        requires seat { IsSeat self.now seat.old }
+        requires may { (tag : Tag) × (page : Page) × MayStoreEnd (relations_of self.now) frame tag page end seat.old.me.0 }
+        ensures seat { SameSeat seat.old seat.new }
+        ensures view { (tag : Tag) (page : Page) → MayStoreEnd (relations_of self.now) frame tag page end seat.old.me.0 → seat.new.me.0 ≡ view_entered frame (packed_tag tag) page end seat.old.me.0 }
+        ensures did { (tag : Tag) (page : Page) → MayStoreEnd (relations_of self.now) frame tag page end seat.old.me.0 → DidEnter frame page seat.old.me.0 seat.new.me.0 }
+    {
+        self.store_end_at::<Brand>(seat, frame, end)
     }
 }

@@ -1,4 +1,4 @@
-use Rattle.std.proofs.Common.{arith, ◌≡◌, ◌∙◌, sym, ap, List, length, subst, ℕ}
+use Rattle.std.proofs.Common.{arith, ◌∙◌, sym, ap, List, length, subst, ℕ}
 use Rattle.table_rule.specs.Laid.{AreOpening, home_log}
 use Rattle.table_rule.proofs.Opens.{opens_built, laid_ends, lanes_are, log_is}
 use Rattle.frame_table.proofs.table.FrameTable.build.Goals as goal
