@@ -16,3 +16,4 @@ pub mod LogDevices
 pub mod LogNames
 pub mod LogWork
 pub mod Entering
+pub mod LogCalling
