@@ -18,3 +18,8 @@ pub mod Ending
 pub mod LaneWork
 pub mod LaneRuns
 pub mod LaneTrips
+pub mod LogDevices
+pub mod LogNames
+pub mod LogWork
+pub mod Entering
+pub mod LogCalling

@@ -8,3 +8,5 @@ pub mod Turning
 pub mod PageWork
 pub mod Closes
 pub mod LaneWork
+pub mod Entering
+pub mod LogWork

@@ -4,3 +4,4 @@ pub mod Shows
 pub mod Laid
 pub mod LaneCalls
 pub mod TakenLanes
+pub mod LogCalls
