@@ -86,10 +86,8 @@ impl<L: BlockLane, G: LogDevice> FrameTable<L, G> {
         ensures view { seat.new.me.0 ≡ back_view (lane_devices L.contents L.failed_writes L.read_faults L.write_faults) _lane noted.device noted.call seat.old.me.0 }
         ensures did { DidSteps (back_events (lane_devices L.contents L.failed_writes L.read_faults L.write_faults) _lane noted.device noted.call) seat.old.me.0 seat.new.me.0 }
     {
-        let away = self
-            .table
-            .shared
-            .exchange(seat, slot, Value::Lane(noted.settled()));
+        let home = noted.settled();
+        let away = self.table.shared.exchange(seat, slot, Value::Lane(home));
         let Value::Away = away else { unreachable!() };
         self.table.shared.load::<Back<D>>(seat, place);
     }
