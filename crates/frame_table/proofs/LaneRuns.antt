@@ -29,8 +29,8 @@ use Rattle.table_rule.specs.declared.turn.Turn.TheVariants as turn
 use Rattle.table_rule.specs.Shows.{Devices, IsOpened}
 use Rattle.frame_table.specs.LaneWork.{back_lane}
 use Rattle.frame_table.proofs.Frames.{put_keeps, same_at, set_twice}
-use Rattle.frame_table.proofs.Moving.{Moves}
-use Rattle.frame_table.proofs.LaneWork.{Leaves, laned_state, moves_lane, moves_on}
+use Rattle.frame_table.proofs.Moving.{Moves, moves_on}
+use Rattle.frame_table.proofs.LaneWork.{Leaves, laned_state, moves_lane}
 
 -- The three kinds of step at a lane: alone, a write of the frame f, and a return with a note at the frame f
 abbrev pub alone_view : LaneKind → ℕ → View → View

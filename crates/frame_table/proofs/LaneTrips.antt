@@ -55,7 +55,7 @@ use Rattle.table_rule.proofs.Opens.{there_at}
 use Rattle.frame_table.specs.LaneWork.{DidSteps, out_events, out_lane, out_view, back_events, back_view, MayNote, CanNoteRead, CanNoteWrite, was_known, is_known_in, IsTaken, MayReturn, Notes, IsNoted, links_of, read_link, written_link, unwritten_link, lane_went, came_by, WentOut, taken_at}
 use Rattle.frame_table.specs.declared.table.FrameTable.{FrameTable}
 use Rattle.frame_table.specs.Sees.{relations_of, lanes_in, opened_of}
-use Rattle.frame_table.proofs.Moving.{Moves, shows_out, shows_back, slot_low}
+use Rattle.frame_table.proofs.Moving.{Moves, shows_out, shows_back}
 use Rattle.frame_table.proofs.LaneWork.{rises}
 use Rattle.frame_table.proofs.LaneRuns.{Comes, Stands, alone_view, written_view, written_state, calls_alone, one_step, reads_noted, writes_noted, written_link_is, written_frame_is, written_hold_is, view_alone, view_read, view_written}
 
@@ -139,7 +139,7 @@ module _ {L G : Type 0} (d : Devices L G) (o : Opening L G) where
         home,
         record {
           state = comes.next;
-          shows = shows_out d o (set t.words at (get_or t.words at 0)) t h.state comes.next id me.0 (out_view q taken me.0) (place.Of (turn.Lane q)) (set-get_or t.words at 0) h.shows here moves below (λ e. let few = h.shows.fixed.few_lanes in absurd (omega arith)) is_away;
+          shows = shows_out d o (set t.words at (get_or t.words at 0)) t h.state comes.next id me.0 (out_view q taken me.0) (place.Of (turn.Lane q)) (set-get_or t.words at 0) h.shows here moves below is_away;
           laws = comes.laws;
         },
         (
@@ -354,7 +354,7 @@ module _ {L G : Type 0} (d : Devices L G) (o : Opening L G) where
         tt,
         record {
           state = ret.comes.next;
-          shows = shows_back d o (set t.words at (get_or t.words at 0)) t s ret.comes.next id v w (place.Of (turn.Lane q)) (value.Lane r) (set-get_or t.words at 0) h.shows here moves below (slot_low o (place.Of (turn.Lane q)) h.shows.fixed.few_lanes below) (is, untouched);
+          shows = shows_back d o (set t.words at (get_or t.words at 0)) t s ret.comes.next id v w (place.Of (turn.Lane q)) (value.Lane r) (set-get_or t.words at 0) h.shows here moves below (is, untouched);
           laws = ret.comes.laws;
         },
         (refl, refl, record { state = s; laws = h.laws; next = ret.comes.next; seat = id; there = here; live = live; run = ret.comes.run; after = ap (λ (x : List View). get_elem? x id) moves.views ∙ set_here s.pool.core.views id v w here }),

@@ -23,7 +23,7 @@ use Rattle.table_rule.specs.declared.turn.Place.TheVariants as place
 use Rattle.table_rule.specs.declared.turn.Turn.{Turn}
 use Rattle.table_rule.specs.declared.turn.Turn.TheVariants as turn
 use Rattle.table_rule.specs.Shows.{is_taken, is_out, Devices, Gives, GivesMap, GivesPage, GivesLane, IsOpened}
-use Rattle.frame_table.proofs.Frames.{put_keeps, set_twice}
+use Rattle.frame_table.proofs.Frames.{put_keeps}
 use Rattle.frame_table.proofs.Moving.{SameWords, words_none, Moves}
 
 -- a count that rose is one that a failed call made rise
@@ -114,18 +114,4 @@ module _ {L G : Type 0} (d : Devices L G) (o : Opening L G) where
     hand = refl;
     outs = λ x n. lane_outs q v w x view n;
     values = λ x z n h. lane_values s pool' id q w ln p x z n h;
-  }
-
-  -- One move after another of the same value is one
-  pub moves_on : (s t t' : State) (id : ℕ) (v u w : View) (y : Place) → Moves d o s t id v u y → Moves d o t t' id u w y → Moves d o s t' id v w y
-  moves_on s t t' id v u w y a b = record {
-    fixed = b.fixed;
-    views = b.views ∙ ap (λ (l : List View). set l id w) a.views ∙ set_twice s.pool.core.views id u w;
-    frames = λ f. let x = a.frames f in let y = b.frames f in record { word = y.word ∙ x.word; tag = y.tag ∙ x.tag; sharers = y.sharers ∙ x.sharers; exclusive = y.exclusive ∙ x.exclusive; copying = y.copying ∙ x.copying };
-    latches = λ x. b.latches x ∙ a.latches x;
-    end = b.end ∙ a.end;
-    flushed = b.flushed ∙ a.flushed;
-    hand = b.hand ∙ a.hand;
-    outs = λ x n. b.outs x n ∙ a.outs x n;
-    values = λ x z n h. b.values x z n (a.values x z n h);
   }

@@ -46,6 +46,7 @@ use Rattle.table_rule.specs.Shows.{is_out, is_taken, IsHome, Devices, Gives, Giv
 use Rattle.frame_table.specs.LogWork.{DidLog, DidTwo, GoesOut, out_steps, view_out, IsPart, ComesHome, home_hold, device_calls_of, view_home, MayCall, IsMarked, IsLogOut, IsTaken, MayComeHome, log_went, log_came}
 use Rattle.frame_table.proofs.LogDevices.{rises, log_before, log_appended, log_torn, log_synced, log_unsynced, log_marked, Torn}
 use Rattle.frame_table.proofs.Entering.{end_is, can_log, is_entry}
+use Rattle.frame_table.proofs.Frames.{set_twice}
 use Rattle.frame_table.proofs.Moving.{Moves, shows_out, shows_back, words_none}
 
 -- the state after a step of a kind at the log
@@ -57,11 +58,6 @@ did_log k s i v laws there live a r = record { state = s; laws = laws; seat = i;
 
 laws_logged : (k : LogKind) (s : State) (i : ℕ) (v : View) → Laws s → get_elem? s.pool.core.views i ≡ some v → v.emptied ≡ false → LogAllowed k s.device v.log → AppendsRecord k s v → Laws (logged k s i v)
 laws_logged k s i v laws there live a r = laws_kept (steps.logs i k v there live a r) laws
-
-set_twice : {A : Type 0} (l : List A) (i : ℕ) (a b : A) → set (set l i a) i b ≡ set l i b
-set_twice [] i a b = refl
-set_twice (x ∷ l) zero a b = refl
-set_twice (x ∷ l) (suc i) a b = ap (λ (m : List _). x ∷ m) (set_twice l i a b)
 
 -- the state with other views and another device
 abbrev with_log : State → List View → Device → State
@@ -172,7 +168,7 @@ module _ {L G : Type 0} (d : Devices L G) (o : Opening L G) (slots id : ℕ) (me
             record {
               state = with_log h.state views h.state.device;
               shows = shows_out d o (set t.words (latch_place o.config.frames turn.Log) (get_or t.words (latch_place o.config.frames turn.Log) 0)) t h.state (with_log h.state views h.state.device) id me.0 w (place.Of turn.Log) (set-get_or t.words (latch_place o.config.frames turn.Log) 0) h.shows here
-                  (log_moves d o h.state id me.0 w views h.state.device h.shows.fixed are refl same) tt (λ e. absurd (omega arith)) (λ home_x. let no : true ≡ false = sym away ∙ home_x id w (grid.set_here h.state.pool.core.views id me.0 w here) in absurd (cc));
+                  (log_moves d o h.state id me.0 w views h.state.device h.shows.fixed are refl same) tt (λ home_x. let no : true ≡ false = sym away ∙ home_x id w (grid.set_here h.state.pool.core.views id me.0 w here) in absurd (cc));
               laws = laws;
             },
             (value.Log x, refl, ((gives_it.1, gives_it.2), record { taken = taken; is_taken = is_taken_so; down = gives_it.0.down; after = is; did = did })),
@@ -240,7 +236,7 @@ module _ {L G : Type 0} (d : Devices L G) (o : Opening L G) (slots id : ℕ) (me
         subst (λ (c : List (ℕ × Value L G)). Held d o (stepped t (latch_place o.config.frames turn.Log) (get_or t.words (latch_place o.config.frames turn.Log) 0) id c w gives)) (sym hand) record {
           state = with_log h.state views dev;
           shows = shows_back d o (set t.words (latch_place o.config.frames turn.Log) (get_or t.words (latch_place o.config.frames turn.Log) 0)) t h.state (with_log h.state views dev) id me.0 w (place.Of turn.Log) (value.Log (record x { call = log_call.Untouched })) (set-get_or t.words (latch_place o.config.frames turn.Log) 0) h.shows here
-              (log_moves d o h.state id me.0 w views dev h.shows.fixed are latch same) tt (omega arith) (is, refl, room);
+              (log_moves d o h.state id me.0 w views dev h.shows.fixed are latch same) tt (is, refl, room);
           laws = laws;
         },
         (refl, (may.taken, may.out, did)),

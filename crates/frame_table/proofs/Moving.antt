@@ -19,7 +19,7 @@ use Rattle.table_rule.specs.declared.turn.Turn.{Turn}
 use Rattle.table_rule.specs.declared.turn.Turn.TheVariants as turn
 use Rattle.table_rule.specs.Layout.{slot_of, slot_count}
 use Rattle.table_rule.specs.Shows.{ShowsFrame, ShowsLatches, is_taken, is_out, IsHome, Devices, Gives, IsOpened, HasPlace, HasValue, HasList, Shows}
-use Rattle.frame_table.proofs.Frames.{home_before}
+use Rattle.frame_table.proofs.Frames.{home_before, set_twice}
 
 -- two places with one slot are one
 pub same_slot : {L G : Type 0} (o : Opening L G) (x y : Place) → o.config.lanes ≤ 16 → HasPlace o x → HasPlace o y → slot_of o.config.frames x ≡ slot_of o.config.frames y → x ≡ y
@@ -110,21 +110,16 @@ module _ {L G : Type 0} (d : Devices L G) (o : Opening L G) where
   }
 
   -- where it goes out of its slot
-  pub shows_out : (words : List ℕ) (t : table.State (Value L G) View) (s s' : State) (id : ℕ) (v w : View) (y : Place) → words ≡ t.words → Shows d o t s → get_elem? s.pool.core.views id ≡ some v → Moves s s' id v w y → HasPlace o y → slot_of o.config.frames y ≢ o.config.frames + 145 → (IsHome y (set s.pool.core.views id w) → ⊥)
+  pub shows_out : (words : List ℕ) (t : table.State (Value L G) View) (s s' : State) (id : ℕ) (v w : View) (y : Place) → words ≡ t.words → Shows d o t s → get_elem? s.pool.core.views id ≡ some v → Moves s s' id v w y → HasPlace o y → (IsHome y (set s.pool.core.views id w) → ⊥)
       → Shows d o record { words = words; homes = set t.homes (slot_of o.config.frames y) slot.none; views = set t.views id w } s'
-  shows_out words t s s' id v w y same h there m within low away = shows_moved words t s s' id v w y (set t.homes (slot_of o.config.frames y) slot.none) same h there m within (length-set t.homes (slot_of o.config.frames y) slot.none ∙ h.slots) (list_stays o t.homes y slot.none h.fixed.few_lanes within h.list)
+  shows_out words t s s' id v w y same h there m within away = shows_moved words t s s' id v w y (set t.homes (slot_of o.config.frames y) slot.none) same h there m within (length-set t.homes (slot_of o.config.frames y) slot.none ∙ h.slots) (list_stays o t.homes y slot.none h.fixed.few_lanes within h.list)
       (λ i n. set_else t.homes (slot_of o.config.frames y) i slot.none n) (λ home. absurd (away home))
 
   -- where it comes back into its slot, as this value
-  pub shows_back : (words : List ℕ) (t : table.State (Value L G) View) (s s' : State) (id : ℕ) (v w : View) (y : Place) (z : Value L G) → words ≡ t.words → Shows d o t s → get_elem? s.pool.core.views id ≡ some v → Moves s s' id v w y → HasPlace o y → slot_of o.config.frames y < o.config.frames + 145 → Gives d o s' y z
+  pub shows_back : (words : List ℕ) (t : table.State (Value L G) View) (s s' : State) (id : ℕ) (v w : View) (y : Place) (z : Value L G) → words ≡ t.words → Shows d o t s → get_elem? s.pool.core.views id ≡ some v → Moves s s' id v w y → HasPlace o y → Gives d o s' y z
       → Shows d o record { words = words; homes = set t.homes (slot_of o.config.frames y) (some z); views = set t.views id w } s'
-  shows_back words t s s' id v w y z same h there m within low gives = shows_moved words t s s' id v w y (set t.homes (slot_of o.config.frames y) (some z)) same h there m within (length-set t.homes (slot_of o.config.frames y) (some z) ∙ h.slots) (list_stays o t.homes y (some z) h.fixed.few_lanes within h.list)
-      (λ i n. set_else t.homes (slot_of o.config.frames y) i (some z) n) (λ home. record { value = z; home = set_here t.homes (slot_of o.config.frames y) (some z) (let e = h.slots in omega arith); gives = gives })
-
-set_twice : {A : Type 0} (l : List A) (i : ℕ) (a b : A) → set (set l i a) i b ≡ set l i b
-set_twice [] i a b = refl
-set_twice (x ∷ l) Rattle.std.proofs.Common.zero a b = refl
-set_twice (x ∷ l) (Rattle.std.proofs.Common.suc i) a b = ap (λ (m : List _). x ∷ m) (set_twice l i a b)
+  shows_back words t s s' id v w y z same h there m within gives = shows_moved words t s s' id v w y (set t.homes (slot_of o.config.frames y) (some z)) same h there m within (length-set t.homes (slot_of o.config.frames y) (some z) ∙ h.slots) (list_stays o t.homes y (some z) h.fixed.few_lanes within h.list)
+      (λ i n. set_else t.homes (slot_of o.config.frames y) i (some z) n) (λ home. record { value = z; home = set_here t.homes (slot_of o.config.frames y) (some z) (let low = slot_low o y h.fixed.few_lanes within in let e = h.slots in omega arith); gives = gives })
 
 module _ {L G : Type 0} (d : Devices L G) (o : Opening L G) where
   -- two steps that move the value of one place

@@ -151,7 +151,7 @@ module _ {L G : Type 0} (d : Devices L G) (o : Opening L G) where
         record {
           state = state_after (pages paged.page_out) s id f me.0;
           shows = shows_out d o (set t.words (content_place f) (get_or t.words (content_place f) 0)) t s (state_after (pages paged.page_out) s id f me.0) id me.0 w (place.Page f) (set-get_or t.words (content_place f) 0) h.shows here
-              (page_moves d o paged.page_out s id f me.0 h.shows.fixed (words_none (s.pool.core.frame f))) below (λ e. absurd (omega arith))
+              (page_moves d o paged.page_out s id f me.0 h.shows.fixed (words_none (s.pool.core.frame f))) below
               (λ home_w. let no : true ≡ false = sym is_away ∙ home_w id w here_after in absurd (cc));
           laws = after;
         },
@@ -241,7 +241,7 @@ module _ {L G : Type 0} (d : Devices L G) (o : Opening L G) where
       home_held : (s' : State) (w : View) → Moves d o s s' id me.0 w (place.Page f) → Laws s' → page ≡ (s'.pool.core.frame f).page → Held d o (stepped t (content_place f) (get_or t.words (content_place f) 0) id me.1 w gives)
       home_held s' w m laws is = subst (λ (x : List (ℕ × Value L G)). Held d o (stepped t (content_place f) (get_or t.words (content_place f) 0) id x w gives)) (sym hand) record {
         state = s';
-        shows = shows_back d o (set t.words (content_place f) (get_or t.words (content_place f) 0)) t s s' id me.0 w (place.Page f) (value.Page page) same h.shows here m below (omega arith) is;
+        shows = shows_back d o (set t.words (content_place f) (get_or t.words (content_place f) 0)) t s s' id me.0 w (place.Page f) (value.Page page) same h.shows here m below is;
         laws = laws;
       }
 

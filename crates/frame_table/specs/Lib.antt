@@ -10,3 +10,4 @@ pub mod Closes
 pub mod LaneWork
 pub mod Entering
 pub mod LogWork
+pub mod Values

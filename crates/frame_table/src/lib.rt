@@ -24,6 +24,7 @@ mod rights;
 mod seats;
 mod table;
 mod turns;
+mod values;
 mod word_plays;
 
 pub use content_word::{is_copying, is_exclusive, sharers};
