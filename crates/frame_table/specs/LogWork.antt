@@ -110,6 +110,7 @@ pub record MayAppend (relations : List RelEntry) (f : ℕ) (tag : Tag) (p : Page
   pub entered : v.log.appended ≡ None
   pub unsynced : v.log.synced ≡ false
 
+-- where this call was to be made: a sync needs nothing of it
 abbrev pub MayCall : List RelEntry → LogCall → View → Type 0
 MayCall relations (log_call.Appended f tag page piece) v = MayAppend relations f tag page.value piece.value.items v
 MayCall relations (log_call.AppendFailed f tag page piece) v = MayAppend relations f tag page.value piece.value.items v
