@@ -7,6 +7,7 @@ pub mod HeldWords
 pub mod Seeing
 pub mod Told
 pub mod Splitting
+pub mod Resting
 pub mod Behind
 pub mod Holding
 pub mod Taking

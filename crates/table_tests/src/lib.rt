@@ -1,0 +1,9 @@
+//! Tests of the table's crates, with threads: they run what the contracts below say.
+#![tactic(auto)]
+
+#[cfg(test)]
+mod devices;
+#[cfg(test)]
+mod fixture;
+#[cfg(test)]
+mod tests;
