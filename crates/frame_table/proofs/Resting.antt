@@ -1,5 +1,5 @@
 -- Views that hold nothing.
-use Rattle.std.proofs.Common.{◌≡◌, ◌≢◌, ℕ, zero, suc, false, List, replicate, get_or, None, sym, refl, ap, ◌∙◌, subst}
+use Rattle.std.proofs.Common.{◌≡◌, ◌≢◌, ℕ, zero, suc, ◌+◌, Bool, false, List, [], replicate, get_or, None, sym, refl, ap, ◌∙◌, subst}
 use mathlib.Core.Logic.{dite}
 use native.Mathlib.Decide.{ℕ_discrete}
 use Rattle.pin_core.specs.declared.view.Link.{Link}
@@ -8,7 +8,15 @@ use Rattle.pin_core.specs.declared.view.LaneHold.{LaneHold}
 use Rattle.pin_core.specs.declared.view.View.{View}
 use Rattle.pin_core.specs.State.{link, hold, lane_hold, idle, no_partition, no_lane, first_view, new_view}
 use Rattle.pin_core.specs.Steps.{HoldsNothing, IsFree}
-use Rattle.frame_table.specs.Sees.{Looked, Touches, unpinned_link}
+use Rattle.atomic_table.specs.declared.shared.Seat.{Seat}
+use Rattle.atomic_table.specs.Table.{Me}
+use Rattle.pin_core.specs.declared.view.Role.TheVariants.{Absent, HandedOut}
+use Rattle.table_rule.specs.declared.opening.Opening.{Opening}
+use Rattle.table_rule.specs.declared.value.Value.{Value}
+use Rattle.table_rule.specs.Shows.{starting}
+use Rattle.frame_table.specs.declared.table.FrameTable.{FrameTable}
+use Rattle.frame_table.specs.Closes.{CanClose}
+use Rattle.frame_table.specs.Sees.{CanUnpin, Fits, Looked, SameSeat, Touches, pinned_link, unpinned_link}
 
 -- an item of a list of the same
 same_all : {A : Type 0} (n i : ℕ) (x : A) → get_or (replicate n x) i x ≡ x
@@ -32,7 +40,7 @@ pub first_rests : (base frames partitions lanes : ℕ) → HoldsNothing (first_v
 first_rests base frames partitions lanes = let h = new_rests 0 base frames partitions lanes in record { frames = h.frames; partitions = h.partitions; lanes = h.lanes; log = h.log }
 
 -- loads of a frame's word leave a link free
-free_looked : (l m : Link) → Looked l m → IsFree l → IsFree m
+pub free_looked : (l m : Link) → Looked l m → IsFree l → IsFree m
 free_looked l m a h = record { no_pin = a.role ∙ h.no_pin; no_header = a.header ∙ h.no_header; no_content = a.content ∙ h.no_content; no_io = a.io ∙ h.no_io; page_home = a.out ∙ h.page_home; no_wait = a.waits h.no_wait }
 
 -- where a view holds nothing at other frames, and what it has at one is free, it holds nothing
@@ -47,3 +55,32 @@ rests_on f v w t here h = record {
 -- so it is after loads
 pub rests_looked : (f : ℕ) (v w : View) → Touches f v w → Looked (link v f) (link w f) → HoldsNothing v → HoldsNothing w
 rests_looked f v w t a h = rests_on f v w t (free_looked (link v f) (link w f) a (h.frames f)) h
+
+-- A seat that may close the table, at the start and after calls that leave it holding nothing
+module _ {L G : Type 0} (t : FrameTable L G) where
+  pub closes_at_start : (s : Seat (Value L G) View) → Fits t s → s.id ≡ 0 → s.me ≡ (starting t.table.shared.key, []) → CanClose t s
+  closes_at_start s fits first me = let o : Opening L G = t.table.shared.key in let v : View = starting o in let same : s.me.0 ≡ v = ap (λ (m : Me (Value L G) View). m.0) me in record {
+    fits = fits;
+    first = first;
+    hand = ap (λ (m : Me (Value L G) View). m.1) me;
+    live = ap (λ (x : View). x.emptied) same;
+    free = subst HoldsNothing (sym same) (first_rests o.base o.config.frames 128 o.config.lanes);
+    joined = ap (λ (x : View). x.joined + 1) same ∙ sym (ap (λ (x : View). x.next) same);
+  }
+
+  pub closes_on : (s s' : Seat (Value L G) View) (f : ℕ) → CanClose t s → SameSeat s s' → Touches f s.me.0 s'.me.0 → IsFree (link s'.me.0 f) → CanClose t s'
+  closes_on s s' f c same touches free = record {
+    fits = same.table ∙ c.fits;
+    first = same.id ∙ c.first;
+    hand = same.hand ∙ c.hand;
+    live = touches.self.emptied ∙ c.live;
+    free = rests_on f s.me.0 s'.me.0 touches free c.free;
+    joined = ap (λ (n : ℕ). n + 1) touches.self.joined ∙ c.joined ∙ sym touches.self.next;
+  }
+
+-- a pin that was taken and given up leaves nothing
+pub free_unpinned : (ring : Bool) (l m n : Link) → Looked (pinned_link ring l) m → Looked (unpinned_link m) n → IsFree l → IsFree n
+free_unpinned ring l m n a b h = record { no_pin = b.role; no_header = b.header ∙ a.header ∙ h.no_header; no_content = b.content ∙ a.content ∙ h.no_content; no_io = b.io ∙ a.io ∙ h.no_io; page_home = b.out ∙ a.out ∙ h.page_home; no_wait = b.waits (a.waits h.no_wait) }
+
+pub can_unpin : (ring : Bool) (l m : Link) → Looked (pinned_link ring l) m → IsFree l → CanUnpin m
+can_unpin ring l m a h = record { pinned = λ e. let no : HandedOut ≡ Absent = sym a.role ∙ e in absurd (cc); no_content = a.content ∙ h.no_content; no_io = a.io ∙ h.no_io; no_wait = a.waits h.no_wait }

@@ -10,6 +10,8 @@ pub struct GoodLane;
 
 impl BlockLane for GoodLane {
     ghost use Rattle.std.specs.Prelude.{None, false};
+    ghost use Rattle.std.proofs.Common.{rules};
+    ghost use Prim.{search};
 
     ghost contents = { λ _. None };
 
@@ -31,9 +33,9 @@ impl BlockLane for GoodLane {
         Ok(())
     }
 
-    ghost read_faults_fit = { λ _. tt };
+    ghost read_faults_fit = { λ _. search rules };
 
-    ghost write_faults_fit = { λ _. tt };
+    ghost write_faults_fit = { λ _. search rules };
 }
 
 /// A log, likewise.
@@ -42,6 +44,8 @@ pub struct GoodLog;
 
 impl LogDevice for GoodLog {
     ghost use Rattle.std.specs.Prelude.{None};
+    ghost use Rattle.std.proofs.Common.{rules};
+    ghost use Prim.{search};
 
     ghost bytes = { λ _. None };
 
@@ -57,7 +61,7 @@ impl LogDevice for GoodLog {
         Ok(())
     }
 
-    ghost faults_fit = { λ _. tt };
+    ghost faults_fit = { λ _. search rules };
 
     ghost synced_within = { λ _. tt };
 }

@@ -6,4 +6,6 @@ mod devices;
 #[cfg(test)]
 mod fixture;
 #[cfg(test)]
+mod pinning;
+#[cfg(test)]
 mod tests;

@@ -1,0 +1,23 @@
+-- What seats have between the steps of a test.
+use Rattle.std.specs.Prelude.{◌≡◌, ◌≢◌, ◌<◌, ℕ, false, List, [], Some}
+use Rattle.atomic_table.specs.declared.shared.Seat.{Seat}
+use Rattle.pin_core.specs.declared.view.View.{View}
+use Rattle.pin_core.specs.Steps.{HoldsNothing}
+use Rattle.table_rule.specs.declared.value.Value.{Value}
+use Rattle.frame_table.specs.declared.table.FrameTable.{FrameTable}
+use Rattle.frame_table.specs.Sees.{Fits}
+
+module _ {L G : Type 0} where
+  -- The seat is one of the table, and holds nothing
+  pub record Rests (t : FrameTable L G) (s : Seat (Value L G) View) : Type 0 where
+    pub fits : Fits t s
+    pub live : s.me.0.emptied ≡ false
+    pub hand : s.me.1 ≡ []
+    pub free : HoldsNothing s.me.0
+
+  -- after a call the seat is the one before it, and its backend took no seat in or out
+  pub record Keeps (s s' : Seat (Value L G) View) : Type 0 where
+    pub table : s'.table_id ≡ s.table_id
+    pub id : s'.id ≡ s.id
+    pub joined : s'.me.0.joined ≡ s.me.0.joined
+    pub next : s'.me.0.next ≡ s.me.0.next
