@@ -1,15 +1,20 @@
 -- Seats that hold nothing.
-use Rattle.std.proofs.Common.{◌≡◌, ◌<◌, ◌+◌, ℕ, Bool, sym, ap, ◌∙◌, subst}
+use Rattle.std.proofs.Common.{◌≡◌, ◌<◌, ◌+◌, ℕ, Bool, true, false, Some, None, [], length, sym, refl, ap, ◌∙◌, subst, arith}
+use Rattle.state_word.specs.Fields.{fields}
+use Rattle.atomic_table.specs.Table.{Me}
+use Rattle.pin_core.specs.Kinds.{lock_header}
+use Rattle.frame_table.specs.Kinds.{FrameKind, pins}
+use Rattle.frame_table.specs.Tells.{Did, Looks, kept_view, split_view}
 use Rattle.atomic_table.specs.declared.shared.Seat.{Seat}
 use Rattle.pin_core.specs.declared.view.View.{View}
-use Rattle.pin_core.specs.State.{link}
-use Rattle.pin_core.specs.Steps.{IsFree}
+use Rattle.pin_core.specs.State.{link, joined_view}
+use Rattle.pin_core.specs.Steps.{HoldsNothing, IsFree}
 use Rattle.table_rule.specs.declared.value.Value.{Value}
 use Rattle.frame_table.specs.declared.table.FrameTable.{FrameTable}
 use Rattle.frame_table.specs.Closes.{CanClose}
-use Rattle.frame_table.specs.Sees.{CanStep, Looked, SameSeat, Touches, frames_of, pinned_link, unpinned_link}
-use Rattle.frame_table.proofs.Resting.{rests_on, free_unpinned}
-use Rattle.frame_table.proofs.Told.{touches_on}
+use Rattle.frame_table.specs.Sees.{CanStep, Fits, Holds, Looked, SameSeat, Touches, frames_of, locked_link, pinned_link, unlocked_link, unpinned_link}
+use Rattle.frame_table.proofs.Resting.{rests_on, free_unpinned, new_rests}
+use Rattle.frame_table.proofs.Told.{looks_link, touches_on}
 use Rattle.table_tests.specs.Work.{Keeps, Rests}
 
 module _ {L G : Type 0} (t : FrameTable L G) where
@@ -42,3 +47,53 @@ same_on s s' s'' a b = record { table = b.table ∙ a.table; id = b.id ∙ a.id;
 pub rests_unpinned : {L G : Type 0} (t : FrameTable L G) (s s' s'' : Seat (Value L G) View) (f h : ℕ) (ring : Bool) → h ≡ f → Rests t s → SameSeat s s' → Touches f s.me.0 s'.me.0 → Looked (pinned_link ring (link s.me.0 f)) (link s'.me.0 f) → SameSeat s' s'' → Touches h s'.me.0 s''.me.0 → Looked (unpinned_link (link s'.me.0 h)) (link s''.me.0 h) → Rests t s''
 rests_unpinned t s s' s'' f h ring e r a touches pinned b after unpinned = rests_still t s s'' f r (same_on s s' s'' a b) (touches_on f s.me.0 s'.me.0 s''.me.0 touches (subst (λ (x : ℕ). Touches x s'.me.0 s''.me.0) e after))
     (free_unpinned ring (link s.me.0 f) (link s'.me.0 f) (link s''.me.0 f) pinned (subst (λ (x : ℕ). Looked (unpinned_link (link s'.me.0 x)) (link s''.me.0 x)) e unpinned) (r.free.frames f))
+
+-- no tag word is stored where no header is held
+pub settled : (k : FrameKind) (f found : ℕ) (v w : View) → Did k f v w found → (link v f).header ≡ None → (link v f).pending ≡ false
+settled k f found v w d none = of_pending (link v f).pending refl
+  where
+    of_pending : (b : Bool) → (link v f).pending ≡ b → b ≡ false
+    of_pending false e = refl
+    of_pending true e = absurd (((d.laws.invariant.pool.core.grid.cells d.seat v f d.there d.inside).pending e).held none)
+
+-- a header that was locked may be unlocked, and then the seat holds nothing
+module _ {L G : Type 0} (t : FrameTable L G) (s s' : Seat (Value L G) View) (f word : ℕ) (r : Rests t s) (same : SameSeat s s') (touches : Touches f s.me.0 s'.me.0) (locked : Looked (locked_link word (link s.me.0 f)) (link s'.me.0 f)) where
+  pub holds_locked : (u : View) (was : ℕ) → Looks f s.me.0 u → Did (pins lock_header) f u s'.me.0 was → Holds (link s'.me.0 f)
+  holds_locked u was looks did = let before = looks_link f s.me.0 u looks in record {
+    held = λ none. let no : Some (fields word) ≡ None = sym locked.header ∙ none in absurd (cc);
+    settled = locked.pending ∙ sym before.pending ∙ settled (pins lock_header) f was u s'.me.0 did (before.header ∙ (r.free.frames f).no_header);
+  }
+
+  pub rests_unlocked : (s'' : Seat (Value L G) View) → SameSeat s' s'' → Touches f s'.me.0 s''.me.0 → link s''.me.0 f ≡ unlocked_link (link s'.me.0 f) → Rests t s''
+  rests_unlocked s'' again after unlocked = let h = r.free.frames f in rests_still t s s'' f r (same_on s s' s'' same again) (touches_on f s.me.0 s'.me.0 s''.me.0 touches after) (subst IsFree (sym unlocked) record {
+    no_pin = locked.role ∙ h.no_pin;
+    no_header = refl;
+    no_content = locked.content ∙ h.no_content;
+    no_io = locked.io ∙ h.no_io;
+    page_home = locked.out ∙ h.page_home;
+    no_wait = locked.waits h.no_wait;
+  })
+
+-- seats come and go
+module _ {L G : Type 0} (t : FrameTable L G) where
+  pub rests_kept : (s s' : Seat (Value L G) View) → Rests t s → SameSeat s s' → s'.me.0 ≡ kept_view s.me.0 → Rests t s'
+  rests_kept s s' r same kept = record { fits = same.table ∙ r.fits; live = ap (λ (v : View). v.emptied) kept ∙ r.live; hand = same.hand ∙ r.hand; free = subst HoldsNothing (sym kept) record { frames = r.free.frames; partitions = r.free.partitions; lanes = r.free.lanes; log = r.free.log } }
+
+  pub rests_new : (s : Seat (Value L G) View) (base : ℕ) (v : View) → Fits t s → s.me ≡ (split_view base v, []) → Rests t s
+  rests_new s base v fits me = let same : s.me.0 ≡ split_view base v = ap (λ (m : Me (Value L G) View). m.0) me in record {
+    fits = fits;
+    live = ap (λ (x : View). x.emptied) same;
+    hand = ap (λ (m : Me (Value L G) View). m.1) me;
+    free = subst HoldsNothing (sym same) (new_rests v.next base (length v.links) (length v.partitions) (length v.lanes));
+  }
+
+  -- once the one other backend is taken in, the table may be closed
+  pub closes_joined : (s s' s'' : Seat (Value L G) View) (u : View) → CanClose t s → s.me.0.next ≡ 1 → SameSeat s s' → s'.me.0 ≡ kept_view s.me.0 → (k : Seat (Value L G) View) → Keeps s' k → Rests t k → SameSeat k s'' → s''.me.0 ≡ joined_view k.me.0 u → CanClose t s''
+  closes_joined s s' s'' u c one same kept k keeps rests again joined = record {
+    fits = again.table ∙ rests.fits;
+    first = again.id ∙ keeps.id ∙ same.id ∙ c.first;
+    hand = again.hand ∙ rests.hand;
+    live = ap (λ (v : View). v.emptied) joined ∙ rests.live;
+    free = subst HoldsNothing (sym joined) record { frames = rests.free.frames; partitions = rests.free.partitions; lanes = rests.free.lanes; log = rests.free.log };
+    joined = (let a = ap (λ (v : View). v.joined) joined in let b = ap (λ (v : View). v.next) joined in let d = keeps.joined in let e = keeps.next in let f = ap (λ (v : View). v.joined) kept in let g = ap (λ (v : View). v.next) kept in let h = c.joined in omega arith);
+  }

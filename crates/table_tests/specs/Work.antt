@@ -1,5 +1,5 @@
 -- What seats have between the steps of a test.
-use Rattle.std.specs.Prelude.{◌≡◌, ◌≢◌, ◌<◌, ℕ, false, List, [], Some}
+use Rattle.std.specs.Prelude.{◌≡◌, ℕ, false, []}
 use Rattle.atomic_table.specs.declared.shared.Seat.{Seat}
 use Rattle.pin_core.specs.declared.view.View.{View}
 use Rattle.pin_core.specs.Steps.{HoldsNothing}
@@ -8,6 +8,9 @@ use Rattle.frame_table.specs.declared.table.FrameTable.{FrameTable}
 use Rattle.frame_table.specs.Sees.{Fits}
 
 module _ {L G : Type 0} where
+  abbrev pub backends_of : FrameTable L G → ℕ
+  backends_of t = t.table.shared.key.config.backends
+
   -- The seat is one of the table, and holds nothing
   pub record Rests (t : FrameTable L G) (s : Seat (Value L G) View) : Type 0 where
     pub fits : Fits t s

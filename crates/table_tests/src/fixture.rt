@@ -2,6 +2,7 @@
 ghost use Rattle.std.specs.Prelude.{◌≡◌, IfOk};
 ghost use Rattle.frame_table.specs.Closes.{CanClose};
 ghost use Rattle.frame_table.specs.Sees.{frames_of};
+ghost use Rattle.table_tests.specs.Work.{backends_of};
 
 use crate::devices::{GoodLane, GoodLog};
 use atomic_table::Seat;
@@ -27,7 +28,7 @@ pub fn catalog(alloc: Global) -> Result<Catalog, CatalogError> {
 
 /// A table of 16 frames over one lane, for three backends, whose first one holds nothing.
 pub fn table(alloc: Global, catalog: Catalog) -> Result<(Table, Place), AllocError>
-    ensures { IfOk result (λ t. CanClose t.0 t.1 × (frames_of t.0 ≡ 16)) }
+    ensures { IfOk result (λ t. CanClose t.0 t.1 × (frames_of t.0 ≡ 16) × (backends_of t.0 ≡ 3) × (t.1.me.0.next ≡ 1)) }
 {
     let config = Config {
         frames: 16,

@@ -1,19 +1,15 @@
-//! Frames get tags, and are pinned.
-ghost use Rattle.std.specs.Prelude.{◌≡◌, ◌<◌, IfSome, IfNone, Some};
-ghost use Rattle.block_tag.specs.Names.{names_block};
-ghost use Rattle.pin_core.specs.declared.view.Role.TheVariants.{HandedOut};
-ghost use Rattle.pin_core.specs.State.{link};
-ghost use Rattle.table_rule.specs.Blocks.{has_block};
+//! Frames are pinned, and given up again.
+ghost use Rattle.std.specs.Prelude.{◌≡◌, ◌<◌};
 ghost use Rattle.frame_table.specs.Closes.{CanClose};
-ghost use Rattle.frame_table.specs.Sees.{frames_of, relations_of};
-ghost use Rattle.table_tests.specs.Work.{Keeps, Rests};
+ghost use Rattle.frame_table.specs.Sees.{frames_of};
+ghost use Rattle.table_tests.specs.Work.{Keeps, Rests, backends_of};
 
 use crate::fixture::{Place, Table};
-use frame_table::{Pin, TryPin};
+use frame_table::TryPin;
 use std::sync::Wait;
 
-/// Whether a frame without a tag is refused as such.
-pub fn is_untagged<R: Wait>(rt: &R, table: &Table, seat: &mut Place, frame: u32) -> bool
+/// Pins a frame and gives it up, or says why it wasn't pinned.
+pub fn refusal<R: Wait>(rt: &R, table: &Table, seat: &mut Place, frame: u32) -> Option<TryPin>
     requires rests { Rests table.now seat.old }
     requires frame { frame < frames_of table.now }
     ensures rests { Rests table.now seat.new }
@@ -22,33 +18,61 @@ pub fn is_untagged<R: Wait>(rt: &R, table: &Table, seat: &mut Place, frame: u32)
     match table.try_pin(seat, frame, false) {
         Ok(pin) => {
             table.unpin(rt, seat, pin);
-            false
+            None
         }
-        Err(why) => why == TryPin::Untagged { word: 0 },
+        Err(why) => Some(why),
     }
 }
 
-/// Whether one backend is told that a header is locked while another has it.
-pub fn tells_locked<R: Wait>(
+/// Why a frame isn't pinned while another backend has its header.
+pub fn refusal_beside<R: Wait>(
     rt: &R,
     table: &Table,
     seat: &mut Place,
     other: &mut Place,
     frame: u32,
-) -> bool
+) -> Option<TryPin>
     requires rests { Rests table.now seat.old × Rests table.now other.old }
     requires frame { frame < frames_of table.now }
     ensures rests { Rests table.now seat.new × Rests table.now other.new }
     ensures keeps { Keeps seat.old seat.new × Keeps other.old other.new }
 {
-    let word = table.lock_header(rt, other, frame);
-    let locked = match table.try_pin(seat, frame, false) {
-        Ok(pin) => {
-            table.unpin(rt, seat, pin);
-            false
-        }
-        Err(why) => why == TryPin::Locked { word },
-    };
+    table.lock_header(rt, other, frame);
+    let refused = refusal(rt, table, seat, frame);
     table.unlock_header(other, frame);
-    locked
+    refused
+}
+
+/// Pins a frame this many times, and counts how often it was refused.
+pub fn pin_often<R: Wait>(rt: &R, table: &Table, seat: &mut Place, frame: u32, times: u32) -> u32
+    requires rests { Rests table.now seat.old }
+    requires frame { frame < frames_of table.now }
+    ensures rests { Rests table.now seat.new }
+    ensures keeps { Keeps seat.old seat.new }
+{
+    let mut refused = 0;
+    for _ in 0..times {
+        if refusal(rt, table, seat, frame).is_some() {
+            refused += 1;
+        }
+    }
+    refused
+}
+
+/// Why the first backend doesn't pin a frame while a second one has its header. The second one comes and goes.
+pub fn refusal_of_two<R: Wait>(
+    rt: &R,
+    table: &Table,
+    seat: &mut Place,
+    frame: u32,
+) -> Option<TryPin>
+    requires closes { CanClose table.now seat.old }
+    requires alone { (seat.old.me.0.next ≡ 1) × (1 < backends_of table.now) }
+    requires frame { frame < frames_of table.now }
+    ensures { CanClose table.now seat.new }
+{
+    let mut other = table.split(seat);
+    let refused = refusal_beside(rt, table, seat, &mut other, frame);
+    table.join(seat, other);
+    refused
 }

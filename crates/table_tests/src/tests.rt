@@ -1,15 +1,16 @@
 //! Tables that are run.
 use crate::fixture::{catalog, table};
-use crate::pinning::{is_untagged, tells_locked};
+use crate::pinning::{pin_often, refusal, refusal_of_two};
+use frame_table::TryPin;
 use std::test::Fail;
 
 #[test]
 fn a_fresh_frame_has_no_tag(rt: HostRuntime) -> Result<(), Fail> {
     let relations = catalog(rt.alloc())?;
     let (table, mut seat) = table(rt.alloc(), relations)?;
-    let untagged = is_untagged(&rt, &table, &mut seat, 3);
+    let refused = refusal(&rt, &table, &mut seat, 3);
     let (lanes, _log) = table.close(seat);
-    assert!(rt; untagged);
+    assert_eq!(rt; refused, Some(TryPin::Untagged { word: 0 }));
     assert_eq!(rt; lanes.len(), 1);
     Ok(())
 }
@@ -18,10 +19,18 @@ fn a_fresh_frame_has_no_tag(rt: HostRuntime) -> Result<(), Fail> {
 fn a_header_that_another_has_is_locked(rt: HostRuntime) -> Result<(), Fail> {
     let relations = catalog(rt.alloc())?;
     let (table, mut first) = table(rt.alloc(), relations)?;
-    let mut other = table.split(&mut first);
-    let locked = tells_locked(&rt, &table, &mut first, &mut other, 3);
-    table.join(&mut first, other);
+    let refused = refusal_of_two(&rt, &table, &mut first, 3);
     let (_lanes, _log) = table.close(first);
-    assert!(rt; locked);
+    assert_eq!(rt; refused, Some(TryPin::Locked { word: 4194304 }));
+    Ok(())
+}
+
+#[test]
+fn no_tag_however_often(rt: HostRuntime) -> Result<(), Fail> {
+    let relations = catalog(rt.alloc())?;
+    let (table, mut seat) = table(rt.alloc(), relations)?;
+    let refused = pin_often(&rt, &table, &mut seat, 3, 100000);
+    let (_lanes, _log) = table.close(seat);
+    assert_eq!(rt; refused, 100000);
     Ok(())
 }
