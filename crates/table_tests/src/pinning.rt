@@ -1,5 +1,6 @@
 //! Frames are pinned, and given up again.
 ghost use Rattle.std.specs.Prelude.{◌≡◌, ◌<◌};
+ghost use Rattle.std.specs.Thread.{IsSync};
 ghost use Rattle.frame_table.specs.Closes.{CanClose};
 ghost use Rattle.frame_table.specs.Sees.{frames_of};
 ghost use Rattle.table_tests.specs.Work.{Keeps, Rests, backends_of};
@@ -7,6 +8,7 @@ ghost use Rattle.table_tests.specs.Work.{Keeps, Rests, backends_of};
 use crate::fixture::{Place, Table};
 use frame_table::TryPin;
 use std::sync::Wait;
+use std::thread::{Threads, join_mut};
 
 /// Pins a frame and gives it up, or says why it wasn't pinned.
 pub fn refusal<R: Wait>(rt: &R, table: &Table, seat: &mut Place, frame: u32) -> Option<TryPin>
@@ -73,6 +75,35 @@ pub fn refusal_of_two<R: Wait>(
 {
     let mut other = table.split(seat);
     let refused = refusal_beside(rt, table, seat, &mut other, frame);
+    table.join(seat, other);
+    refused
+}
+
+/// Two backends pin a frame in threads of their own, each so often. How often each was refused.
+pub fn pin_together<R: Threads + Wait + Sync>(
+    rt: &R,
+    table: &Table,
+    seat: &mut Place,
+    frame: u32,
+    times: u32,
+) -> (u32, u32)
+    requires closes { CanClose table.now seat.old }
+    requires alone { (seat.old.me.0.next ≡ 1) × (1 < backends_of table.now) }
+    requires frame { frame < frames_of table.now }
+    ensures { CanClose table.now seat.new }
+{
+    let mut other = table.split(seat);
+    let refused = join_mut(
+        rt,
+        &mut || -> u32
+            requires { IsSync R.row × Rests table.now seat.now × (frame < frames_of table.now) }
+            ensures { Rests table.entry.now seat.exit.now × Keeps seat.entry.now seat.exit.now }
+        { pin_often(rt, table, seat, frame, times) },
+        &mut || -> u32
+            requires { IsSync R.row × Rests table.now other × (frame < frames_of table.now) }
+            ensures { Rests table.entry.now other.exit × Keeps other.entry other.exit }
+        { pin_often(rt, table, &mut other, frame, times) },
+    );
     table.join(seat, other);
     refused
 }

@@ -1,6 +1,6 @@
 //! Tables that are run.
 use crate::fixture::{catalog, table};
-use crate::pinning::{pin_often, refusal, refusal_of_two};
+use crate::pinning::{pin_often, pin_together, refusal, refusal_of_two};
 use frame_table::TryPin;
 use std::test::Fail;
 
@@ -32,5 +32,15 @@ fn no_tag_however_often(rt: HostRuntime) -> Result<(), Fail> {
     let refused = pin_often(&rt, &table, &mut seat, 3, 100000);
     let (_lanes, _log) = table.close(seat);
     assert_eq!(rt; refused, 100000);
+    Ok(())
+}
+
+#[test]
+fn two_threads_get_one_answer(rt: HostRuntime) -> Result<(), Fail> {
+    let relations = catalog(rt.alloc())?;
+    let (table, mut first) = table(rt.alloc(), relations)?;
+    let refused = pin_together(&rt, &table, &mut first, 3, 100000);
+    let (_lanes, _log) = table.close(first);
+    assert_eq!(rt; refused, (100000, 100000));
     Ok(())
 }
