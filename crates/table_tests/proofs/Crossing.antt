@@ -4,19 +4,10 @@ use denote.Param.Send.{IsSend, IsSync, Frees, sendable, part_keyless}
 use denote.Struct.Struct.{Struct}
 use denote.Struct.Owning.{shape}
 use Rattle.std.specs.declared.alloc.Allocator as allocator
-use Rattle.std.proofs.Crossing.{crosses, frees}
-use Rattle.std.proofs.CrossingOver as over
 use Rattle.atomic_table.specs.declared.shared.TableRule as rule
 use Rattle.atomic_table.specs.contracts.shared.Shared as shared
 use Rattle.atomic_table.specs.contracts.shared.Seat as seat
 use Rattle.atomic_table.specs.contracts.send_lease.SendLease as lease
-use Rattle.segment_store.specs.declared.device.BlockLane as block_lane
-use Rattle.log_device.specs.declared.device.LogDevice as log_device
-use Rattle.table_rule.specs.contracts.value.Value as value
-use Rattle.pin_core.specs.contracts.view.View as view
-use Rattle.frame_table.specs.contracts.table.FrameTable as table
-use Rattle.table_tests.specs.contracts.devices.GoodLane as lane
-use Rattle.table_tests.specs.contracts.devices.GoodLog as log
 use Rattle.atomic_table.proofs.Sent.{seat_keyless, shares_keyless}
 use Rattle.atomic_table.proofs.Rights.{right_send}
 
@@ -29,15 +20,3 @@ seat_send S V s = record { owned = λ d vs. ((λ vss. (tt, ((λ uss. (tt, tt)), 
 
 pub lease_sync : (T A : RattleType) (g : allocator.Ghosts A.Denot) → IsSend A → Frees g g.dealloc_token → IsSync (lease.the_row T A g)
 lease_sync T A g s f = record { shared = λ d b o ν q. part_keyless (lease.the_row T A g) (right_send T A g f) q d b o }
-
-good_lanes_cross : IsSend lane.the_row
-good_lanes_cross = search (sendable, crosses, over.crosses) depth 30
-
-values_cross : IsSend (value.the_row lane.the_row log.the_row)
-values_cross = search (sendable, crosses, over.crosses, good_lanes_cross) depth 30 fits 20000
-
-pub tables_shared : (a : block_lane.Ghosts lane.the_row.Denot) (b : log_device.Ghosts log.the_row.Denot) → IsSync (table.the_row lane.the_row log.the_row a b)
-tables_shared a b = search (sendable, crosses, over.crosses, values_cross, shared_sync, lease_sync, frees) depth 40 fits 20000
-
-pub seats_sent : IsSend (seat.the_row (value.the_row lane.the_row log.the_row) view.the_row)
-seats_sent = seat_send _ _ values_cross
