@@ -14,14 +14,14 @@ use Rattle.state_word.specs.declared.word.IoEnd.{IoEnd}
 use Rattle.state_word.specs.declared.word.IoEnd.TheVariants.{ReadOk, WriteOk, Bad}
 use mathlib.Core.Logic.{dite}
 use native.Mathlib.Decide.{ℕ_discrete}
-use Rattle.pin_core.specs.Kinds.{lock_header}
-use Rattle.frame_table.specs.Kinds.{pins}
+use Rattle.pin_core.specs.Kinds.{lock_header, unlock_header}
+use Rattle.frame_table.specs.Kinds.{pages, pins}
 use Rattle.frame_table.specs.Sees.{Looked, Touches, locked_link, unlocked_link}
 use Rattle.frame_table.specs.Tells.{Did, Looks, looking}
-use Rattle.frame_table.specs.Content.{CanBeginIo, CanFinishIo, begun_link, finished_link}
+use Rattle.frame_table.specs.Content.{CanBeginIo, CanFinishIo, begun_link, finished_link, start_of}
 use Rattle.frame_table.proofs.Told.{looks_link, looked_on}
 use Rattle.frame_table.proofs.Seeing.{sees_valid}
-use Rattle.content_locks.specs.Io.{CanEndIo, CanStartIo, FindsNothing, is_nothing}
+use Rattle.content_locks.specs.Io.{BeginsIo, CanEndIo, CanStartIo, FindsNothing, FindsWork, LocksHeader, Waits, still, again, is_nothing}
 
 -- a locked word shows what the word did
 nothing_locked : (input : Bool) (w : StateWord) → is_nothing input (locked_fields w) ≡ is_nothing input w
@@ -88,13 +88,33 @@ module _ (f word : ℕ) (v w : View) (locks : (u : View) × (was : ℕ) × Looks
   pub tag_there : Looked (locked_link word (link v f)) (link w f) → (link v f).role ≡ HandedOut → (fields word).tag_valid ≡ true
   tag_there a handed = tagged word (link v f) (link w f) a f locks.1 v locks.0 w locks.2 locks.3 locks.4 handed
 
-  pub finds : (input : Bool) → is_nothing input (fields word) ≡ true → FindsNothing input f
-  finds input nothing = (locks.0, w, locks.1, locks.3, sym (nothing_locked input (fields locks.1)) ∙ ap (is_nothing input) (sym locks.4) ∙ nothing)
+  pub locks_header : LocksHeader f v w locks.1
+  locks_header = record { before = locks.0; looks = locks.2; did = locks.3 }
+
+  pub finds_work : (x : View) (found : ℕ) → (fields word).in_progress ≡ true → Did (pins unlock_header) f w x found → FindsWork f v x
+  finds_work x found busy d = record { under = w; was = locks.1; word = found; locks = locks_header; busy = sym (ap (λ (z : StateWord). z.in_progress) locks.4) ∙ busy; unlocks = d }
+
+  pub finds : (input : Bool) (x y : View) (seen found : ℕ) → is_nothing input (fields word) ≡ true → Did looking f w x seen → Did (pins unlock_header) f x y found → FindsNothing input f v y
+  finds input x y seen found nothing d e = record { tried = v; under = w; looked = x; was = locks.1; seen = seen; word = found; waits = still; locks = locks_header; nothing = sym (nothing_locked input (fields locks.1)) ∙ ap (is_nothing input) (sym locks.4) ∙ nothing; looks = d; unlocks = e }
+
+  pub begins : (input : Bool) (x : View) → Did (pages (start_of input)) f w x word → BeginsIo input f v x
+  begins input x d = record { tried = v; under = w; was = locks.1; word = word; waits = still; locks = locks_header; did = d }
 
   -- a load under it sees that the page is valid
   pub sees : (x : View) (found : ℕ) → Looked (locked_link word (link v f)) (link w f) → Did looking f w x found → (link v f).pending ≡ false → (link v f).role ≢ Absent → (fields word).valid ≡ true → (link x f).seen_valid ≡ true
   sees x found a d settled pinned valid = sees_valid f found w x d (a.pending ∙ settled) (λ e. pinned (sym a.role ∙ e))
       (ap (λ (z : StateWord). z.valid) (sym d.says ∙ (d.laws.invariant.pool.core.grid.cells d.seat w f d.there d.inside).header (fields word) a.header) ∙ valid)
+
+-- Tries that found another backend's work, and then another one
+pub waits_on : (f : ℕ) (v u w : View) → Waits f v u → Waits f u w → Waits f v w
+waits_on f v u w a still = a
+waits_on f v u w a (again {u = x} before found) = again (waits_on f v u x a before) found
+
+pub begins_on : (input : Bool) (f : ℕ) (v u w : View) → Waits f v u → BeginsIo input f u w → BeginsIo input f v w
+begins_on input f v u w a b = record { tried = b.tried; under = b.under; was = b.was; word = b.word; waits = waits_on f v u b.tried a b.waits; locks = b.locks; did = b.did }
+
+pub nothing_on : (input : Bool) (f : ℕ) (v u w : View) → Waits f v u → FindsNothing input f u w → FindsNothing input f v w
+nothing_on input f v u w a b = record { tried = b.tried; under = b.under; looked = b.looked; was = b.was; seen = b.seen; word = b.word; waits = waits_on f v u b.tried a b.waits; locks = b.locks; nothing = b.nothing; looks = b.looks; unlocks = b.unlocks }
 
 -- What loads of the word leave, for another try
 module _ (f : ℕ) (v w : View) (touches : Touches f v w) (a : Looked (link v f) (link w f)) where

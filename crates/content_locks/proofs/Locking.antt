@@ -12,12 +12,12 @@ use Rattle.page_core.specs.Kinds as paged
 use Rattle.frame_table.specs.Kinds.{FrameKind, pages}
 use Rattle.frame_table.specs.Sees.{SameSeat, Touches}
 use Rattle.frame_table.specs.Tells.{Did}
-use Rattle.frame_table.specs.Content.{looking_content, has_exclusive}
+use Rattle.frame_table.specs.Content.{copying_link, looking_content, has_exclusive}
 use Rattle.frame_table.specs.PageWork.{CanReturnPage, applied_link, input_page, page_due, page_out_link, read_home, returned_link}
 use Rattle.frame_table.proofs.Told.{link_is, touches, touches_on, touches_none}
 use Rattle.frame_table.proofs.Contents.{own_share, own_exclusive}
 use Rattle.frame_table.proofs.Seeing.{shows_holder}
-use Rattle.content_locks.specs.Locks.{Looks, still, again, Locks, RefusesLock, IsHeld, MayCopy, copied_link}
+use Rattle.content_locks.specs.Locks.{Looks, still, again, Locks, RefusesLock, IsHeld, MayCopy, copied_link, copying_link_if}
 use Rattle.content_locks.specs.declared.locks.TryLock.{TryLock}
 use Rattle.content_locks.specs.declared.locks.TryLock.TheVariants.{Busy, Changed}
 
@@ -41,6 +41,10 @@ refused_looks Conflicts f v w (Changed was now) h = again now (again was still h
 
 pub locks_on : (k : paged.Kind) (f : ℕ) (v u w : View) → Looks f v u → Locks k f u w → Locks k f v w
 locks_on k f v u w a (x, was, before, d) = (x, was, looks_on f v u x a before, d)
+
+-- the copy latch is taken after loads
+pub latched_on : (b : Bool) (l m n : Link) → n ≡ copying_link_if b m → b ≡ true → m ≡ l → n ≡ copying_link true l
+latched_on b l m n e t i = e ∙ ap (λ (x : Bool). copying_link_if x m) t ∙ ap (copying_link true) i
 
 -- a content word that isn't 0 shows a holder
 pub held_word : (f found : ℕ) (v w : View) → Did looking_content f v w found → found ≢ 0 → IsHeld found

@@ -9,13 +9,13 @@ use Rattle.pin_core.specs.declared.view.Io.TheVariants.{Input, Output}
 use Rattle.pin_core.specs.declared.view.Link.{Link}
 use Rattle.pin_core.specs.declared.view.View.{View}
 use Rattle.pin_core.specs.State.{link}
-use Rattle.pin_core.specs.Kinds.{lock_header}
+use Rattle.pin_core.specs.Kinds.{lock_header, unlock_header}
 use Rattle.page_core.specs.Kinds as paged
 use Rattle.page_core.specs.Kinds.{EndsAs}
 use Rattle.frame_table.specs.declared.io_right.IoRight.{IoRight}
 use Rattle.frame_table.specs.Kinds.{pages, pins}
 use Rattle.frame_table.specs.Sees.{Looked}
-use Rattle.frame_table.specs.Tells.{Did}
+use Rattle.frame_table.specs.Tells.{Did, Looks, looking}
 use Rattle.frame_table.specs.Content.{begun_link, start_of}
 use Rattle.content_locks.specs.declared.io.TryIo.{TryIo}
 use Rattle.content_locks.specs.declared.io.TryIo.TheVariants.{InProgress, Nothing, Begun}
@@ -37,20 +37,60 @@ pub record CanEndIo (end : IoEnd) (l : Link) : Type 0 where
   pub home : l.io ≡ Input → l.out ≡ None
   pub ends : EndsAs end l
 
--- the view became w as the read, or the write, began
-abbrev pub BeginsIo : Bool → ℕ → View → Type 0
-BeginsIo input f w = (u : View) × (word : ℕ) × Did (pages (start_of input)) f u w word
+-- Loads of the state word of f, and then its header was locked, where the word was `was`
+pub record LocksHeader (f : ℕ) (v w : View) (was : ℕ) : Type 0 where
+  pub before : View
+  pub looks : Looks f v before
+  pub did : Did (pins lock_header) f before w was
 
--- and as it ended
-abbrev pub EndsIo : IoEnd → ℕ → View → Type 0
-EndsIo end f w = (u : View) × (word : ℕ) × Did (pages (paged.end_io end)) f u w word
+-- The header was locked at a word that shows another backend's read or write, and unlocked
+pub record FindsWork (f : ℕ) (v w : View) : Type 0 where
+  pub under : View
+  pub was : ℕ
+  pub word : ℕ
+  pub locks : LocksHeader f v under was
+  pub busy : (fields was).in_progress ≡ true
+  pub unlocks : Did (pins unlock_header) f under w word
 
--- the header was locked at a word that shows nothing to do
-abbrev pub FindsNothing : Bool → ℕ → Type 0
-FindsNothing input f = (v : View) × (u : View) × (word : ℕ) × Did (pins lock_header) f v u word × (is_nothing input (fields word) ≡ true)
+-- the view v became w as it found such work, any number of times
+pub data Waits (f : ℕ) : View → View → Type 0 where
+  still : {v : View} → Waits f v v
+  again : {v u w : View} → Waits f v u → FindsWork f u w → Waits f v w
+
+-- After that the read, or the write, began
+pub record BeginsIo (input : Bool) (f : ℕ) (v w : View) : Type 0 where
+  pub tried : View
+  pub under : View
+  pub was : ℕ
+  pub word : ℕ
+  pub waits : Waits f v tried
+  pub locks : LocksHeader f tried under was
+  pub did : Did (pages (start_of input)) f under w word
+
+-- After that the header was locked at a word that shows nothing to do, and unlocked
+pub record FindsNothing (input : Bool) (f : ℕ) (v w : View) : Type 0 where
+  pub tried : View
+  pub under : View
+  pub looked : View
+  pub was : ℕ
+  pub seen : ℕ
+  pub word : ℕ
+  pub waits : Waits f v tried
+  pub locks : LocksHeader f tried under was
+  pub nothing : is_nothing input (fields was) ≡ true
+  pub looks : Did looking f under looked seen
+  pub unlocks : Did (pins unlock_header) f looked w word
+
+-- The header was locked, and the read, or the write, ended
+pub record EndsIo (end : IoEnd) (f : ℕ) (v w : View) : Type 0 where
+  pub under : View
+  pub was : ℕ
+  pub word : ℕ
+  pub locks : LocksHeader f v under was
+  pub did : Did (pages (paged.end_io end)) f under w word
 
 -- what one try leaves, and why
 abbrev pub TriedIo : Bool → ℕ → View → View → TryIo → Type 0
-TriedIo input f v w InProgress = Looked (link v f) (link w f)
-TriedIo input f v w Nothing = Looked (link v f) (link w f) × (input ≡ true → (link w f).seen_valid ≡ true) × FindsNothing input f
-TriedIo input f v w (Begun right) = (right.frame ≡ f) × (right.input ≡ input) × Looked (begun_link input (link v f)) (link w f) × BeginsIo input f w
+TriedIo input f v w InProgress = Looked (link v f) (link w f) × FindsWork f v w
+TriedIo input f v w Nothing = Looked (link v f) (link w f) × (input ≡ true → (link w f).seen_valid ≡ true) × FindsNothing input f v w
+TriedIo input f v w (Begun right) = (right.frame ≡ f) × (right.input ≡ input) × Looked (begun_link input (link v f)) (link w f) × BeginsIo input f v w

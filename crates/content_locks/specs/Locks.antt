@@ -9,6 +9,7 @@ use Rattle.pin_core.specs.declared.view.View.{View}
 use Rattle.pin_core.specs.State.{Page, link}
 use Rattle.page_core.specs.Kinds as paged
 use Rattle.frame_table.specs.Kinds.{pages}
+use Rattle.frame_table.specs.PageWork.{ReturnsBy, overwriting}
 use Rattle.frame_table.specs.Tells.{Did}
 use Rattle.frame_table.specs.Content.{copying_link, has_exclusive, looking_content}
 use Rattle.content_locks.specs.declared.locks.TryLock.{TryLock}
@@ -58,6 +59,21 @@ pub record MayCopy (l : Link) : Type 0 where
 abbrev pub copied_link : Page → Link → Link
 copied_link page l = record l { copied = Some page }
 
--- The page went out of the frame as this page
-abbrev pub CopiesPage : ℕ → Page → Type 0
-CopiesPage f page = (v : View) × (w : View) × (found : ℕ) × Did (pages paged.page_out) f v w found × ((link w f).out ≡ Some page)
+-- The page of f went out as this page, and came back
+pub record CopiesPage (f : ℕ) (page : Page) (v w : View) : Type 0 where
+  pub between : View
+  pub went : ℕ
+  pub came : ℕ
+  pub out : Did (pages paged.page_out) f v between went
+  pub found : (link between f).out ≡ Some page
+  pub back : ReturnsBy (overwriting (link between f)) f between w came
+
+-- it did so after loads of the content word, or under the copy latch, which was taken and left
+pub data Copies (f : ℕ) (page : Page) : View → View → Type 0 where
+  alone : {v u w : View} → Looks f v u → CopiesPage f page u w → Copies f page v w
+  latched : {v u x w : View} (left : ℕ) → Locks paged.take_copy f v u → CopiesPage f page u x → Did (pages paged.leave_copy) f x w left → Copies f page v w
+
+-- one try to take the copy latch: it is taken, or the word was loaded
+abbrev pub TriedCopy : ℕ → View → View → Bool → Type 0
+TriedCopy f v w true = Locks paged.take_copy f v w
+TriedCopy f v w false = Looks f v w

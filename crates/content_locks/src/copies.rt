@@ -12,7 +12,7 @@ ghost use Rattle.frame_table.specs.PageWork.{CanReturnPage, CanTakePage, Returns
 ghost use Rattle.frame_table.specs.Kinds.{pages};
 ghost use Rattle.frame_table.specs.Sees.{CanStep, SameSeat, Touches, frames_of};
 ghost use Rattle.frame_table.specs.Tells.{Did};
-ghost use Rattle.content_locks.specs.Locks.{CanCopy, CopiesPage, MayCopy, copied_link, copying_link_if};
+ghost use Rattle.content_locks.specs.Locks.{CanCopy, Copies, CopiesPage, Locks, MayCopy, TriedCopy, copied_link, copying_link_if};
 
 use atomic_table::Seat;
 use frame_table::{FrameTable, Value, is_copying, is_exclusive};
@@ -34,6 +34,7 @@ fn take_copy<L: BlockLane, G: LogDevice, R: Wait>(
     ensures seat { SameSeat seat.old seat.new }
     ensures touches { Touches frame seat.old.me.0 seat.new.me.0 }
     ensures taken { link seat.new.me.0 frame ≡ copying_link true (link seat.old.me.0 frame) }
+    ensures did { Locks kinds.take_copy frame seat.old.me.0 seat.new.me.0 }
 {
     for _ in rt.forever() {
         if try_copy(table, seat, frame) {
@@ -53,6 +54,7 @@ fn try_copy<L: BlockLane, G: LogDevice>(
     ensures seat { SameSeat seat.old seat.new }
     ensures touches { Touches frame seat.old.me.0 seat.new.me.0 }
     ensures link { link seat.new.me.0 frame ≡ copying_link_if result (link seat.old.me.0 frame) }
+    ensures did { TriedCopy frame seat.old.me.0 seat.new.me.0 result }
 {
     let was = table.look_content(seat, frame);
     if is_copying(was) {
@@ -76,7 +78,7 @@ fn copy_page<L: BlockLane, G: LogDevice>(
     ensures seat { SameSeat seat.old seat.new }
     ensures touches { Touches frame seat.old.me.0 seat.new.me.0 }
     ensures copied { link seat.new.me.0 frame ≡ copied_link page.new (link seat.old.me.0 frame) }
-    ensures did { CopiesPage frame page.new }
+    ensures did { CopiesPage frame page.new seat.old.me.0 seat.new.me.0 }
 {
     let out = table.page_out(seat, frame);
     page.copy_from(&out);
@@ -96,7 +98,7 @@ pub fn copy_out<L: BlockLane, G: LogDevice, R: Wait>(
     ensures seat { SameSeat seat.old seat.new }
     ensures touches { Touches frame seat.old.me.0 seat.new.me.0 }
     ensures copied { link seat.new.me.0 frame ≡ copied_link page.new (link seat.old.me.0 frame) }
-    ensures did { CopiesPage frame page.new }
+    ensures did { Copies frame page.new seat.old.me.0 seat.new.me.0 }
 {
     if is_exclusive(table.look_content(seat, frame)) {
         copy_page(table, seat, frame, page);

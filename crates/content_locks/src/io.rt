@@ -82,8 +82,8 @@ pub fn start_io<L: BlockLane, G: LogDevice, R: Wait>(
     ensures begun { IfSome result (λ _. Looked (begun_link input (link seat.old.me.0 frame)) (link seat.new.me.0 frame)) }
     ensures left { IfNone result (Looked (link seat.old.me.0 frame) (link seat.new.me.0 frame)) }
     ensures seen { IfNone result (input ≡ true → (link seat.new.me.0 frame).seen_valid ≡ true) }
-    ensures did { IfSome result (λ _. BeginsIo input frame seat.new.me.0) }
-    ensures cause { IfNone result (FindsNothing input frame) }
+    ensures did { IfSome result (λ _. BeginsIo input frame seat.old.me.0 seat.new.me.0) }
+    ensures cause { IfNone result (FindsNothing input frame seat.old.me.0 seat.new.me.0) }
 {
     for _ in rt.forever() {
         match try_io(table, rt, seat, frame, input) {
@@ -110,7 +110,7 @@ pub fn end_io<L: BlockLane, G: LogDevice, R: Wait>(
     ensures seat { SameSeat seat.old seat.new }
     ensures touches { Touches right.frame seat.old.me.0 seat.new.me.0 }
     ensures ended { Looked (finished_link (link seat.old.me.0 right.frame)) (link seat.new.me.0 right.frame) }
-    ensures did { EndsIo end right.frame seat.new.me.0 }
+    ensures did { EndsIo end right.frame seat.old.me.0 seat.new.me.0 }
 {
     let word = table.lock_header(rt, seat, right.frame());
     table.finish_io(seat, right, word, end);

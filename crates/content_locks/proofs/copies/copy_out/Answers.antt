@@ -1,8 +1,9 @@
 use Rattle.std.proofs.Common.{sym, ap, subst, ◌∙◌}
 use Rattle.pin_core.specs.declared.view.Link.{Link}
 use Rattle.frame_table.proofs.Told.{touches_on}
-use Rattle.content_locks.specs.Locks.{MayCopy}
-use Rattle.content_locks.proofs.Locking.{is_shared, is_exclusive_lock}
+use Rattle.page_core.specs.Kinds as kinds
+use Rattle.content_locks.specs.Locks.{MayCopy, alone, latched, still, again}
+use Rattle.content_locks.proofs.Locking.{is_shared, is_exclusive_lock, locks_on}
 use Rattle.content_locks.proofs.copies.copy_out.Goals as goal
 
 pub copy_page-requires-clause-view : goal.copy_page-requires-clause-view
@@ -18,3 +19,9 @@ take_copy-requires-clause-view g c = let l = c.look_content.ensures in ap (λ (x
 
 pub returns-clause-touches : goal.returns-clause-touches
 returns-clause-touches g c = touches_on _ _ _ _ (touches_on _ _ _ _ c.look_content.ensures.touches c.take_copy.ensures.touches) (touches_on _ _ _ _ c.copy_page-2.ensures.touches c.leave_copy.ensures.touches)
+
+pub returns-then-is_exclusive-clause-did : goal.returns-then-is_exclusive-clause-did
+returns-then-is_exclusive-clause-did g c = alone (again _ still c.look_content.ensures.did) c.copy_page.ensures.did
+
+pub returns-clause-did : goal.returns-clause-did
+returns-clause-did g c = let left = c.leave_copy.ensures.did in latched left.0 (locks_on kinds.take_copy _ _ _ _ (again _ still c.look_content.ensures.did) c.take_copy.ensures.did) c.copy_page-2.ensures.did left.1
