@@ -56,14 +56,15 @@ settled k f found v w d none = of_pending (link v f).pending refl
     of_pending false e = refl
     of_pending true e = absurd (((d.laws.invariant.pool.core.grid.cells d.seat v f d.there d.inside).pending e).held none)
 
+-- who holds no header and locks one has stored no tag word under it
+pub holds_locked : (f word : ℕ) (v w : View) → (link v f).header ≡ None → Looked (locked_link word (link v f)) (link w f) → (u : View) (was : ℕ) → Looks f v u → Did (pins lock_header) f u w was → Holds (link w f)
+holds_locked f word v w none locked u was looks did = let before = looks_link f v u looks in record {
+  held = λ gone. let no : Some (fields word) ≡ None = sym locked.header ∙ gone in absurd (cc);
+  settled = locked.pending ∙ sym before.pending ∙ settled (pins lock_header) f was u w did (before.header ∙ none);
+}
+
 -- a header that was locked may be unlocked, and then the seat holds nothing
 module _ {L G : Type 0} (t : FrameTable L G) (s s' : Seat (Value L G) View) (f word : ℕ) (r : Rests t s) (same : SameSeat s s') (touches : Touches f s.me.0 s'.me.0) (locked : Looked (locked_link word (link s.me.0 f)) (link s'.me.0 f)) where
-  pub holds_locked : (u : View) (was : ℕ) → Looks f s.me.0 u → Did (pins lock_header) f u s'.me.0 was → Holds (link s'.me.0 f)
-  holds_locked u was looks did = let before = looks_link f s.me.0 u looks in record {
-    held = λ none. let no : Some (fields word) ≡ None = sym locked.header ∙ none in absurd (cc);
-    settled = locked.pending ∙ sym before.pending ∙ settled (pins lock_header) f was u s'.me.0 did (before.header ∙ (r.free.frames f).no_header);
-  }
-
   pub rests_unlocked : (s'' : Seat (Value L G) View) → SameSeat s' s'' → Touches f s'.me.0 s''.me.0 → link s''.me.0 f ≡ unlocked_link (link s'.me.0 f) → Rests t s''
   rests_unlocked s'' again after unlocked = let h = r.free.frames f in rests_still t s s'' f r (same_on s s' s'' same again) (touches_on f s.me.0 s'.me.0 s''.me.0 touches after) (subst IsFree (sym unlocked) record {
     no_pin = locked.role ∙ h.no_pin;

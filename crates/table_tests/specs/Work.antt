@@ -1,15 +1,51 @@
 -- What seats have between the steps of a test.
-use Rattle.std.specs.Prelude.{◌≡◌, ℕ, false, []}
+use Rattle.std.specs.Prelude.{◌≡◌, ◌≢◌, ℕ, true, false, [], None, Some}
 use Rattle.atomic_table.specs.declared.shared.Seat.{Seat}
+use Rattle.block_tag.specs.declared.tag.Tag.{Tag}
+use Rattle.block_tag.specs.Names.{names_block, packed_tag}
+use Rattle.pin_core.specs.declared.view.Content.TheVariants.{Unlocked}
+use Rattle.pin_core.specs.declared.view.Io.TheVariants.{Quiet}
+use Rattle.pin_core.specs.declared.view.Link.{Link}
+use Rattle.pin_core.specs.declared.view.MapChange.TheVariants.{Settled}
+use Rattle.pin_core.specs.declared.view.Role.{Role}
+use Rattle.pin_core.specs.declared.view.Role.TheVariants.{Absent, HandedOut, Victim}
 use Rattle.pin_core.specs.declared.view.View.{View}
-use Rattle.pin_core.specs.Steps.{HoldsNothing}
+use Rattle.pin_core.specs.State.{hold, lane_hold, link}
+use Rattle.pin_core.specs.Steps.{HasNoVictim, HoldsNothing}
+use Rattle.table_rule.specs.Blocks.{has_block}
 use Rattle.table_rule.specs.declared.value.Value.{Value}
 use Rattle.frame_table.specs.declared.table.FrameTable.{FrameTable}
-use Rattle.frame_table.specs.Sees.{Fits}
+use Rattle.frame_table.specs.Sees.{Fits, relations_of}
+
+-- A backend has nothing at a frame but maybe a pin
+pub record IsCalm (l : Link) : Type 0 where
+  pub no_header : l.header ≡ None
+  pub no_content : l.content ≡ Unlocked
+  pub no_io : l.io ≡ Quiet
+  pub page_home : l.out ≡ None
+  pub no_wait : l.waits ≡ None
+
+-- The view has the latch of the partition p, whose map is home with no pair in change, and no pair in change elsewhere
+pub record IsInside (p : ℕ) (v : View) : Type 0 where
+  pub held : (hold v p).held ≡ true
+  pub home : (hold v p).out ≡ None
+  pub settled : (q : ℕ) → (hold v q).change ≡ Settled
+
+-- over a call the view keeps what it has of the latches but for that of the partition p
+abbrev pub KeepsOthers : ℕ → View → View → Type 0
+KeepsOthers p v w = (q : ℕ) → q ≢ p → hold w q ≡ hold v q
+
+-- its pin of the frame is one for its callers, of the tag's block
+abbrev pub PinsBlock : Tag → Link → Type 0
+PinsBlock tag l = (l.role ≡ HandedOut) × (l.tag ≡ Some (packed_tag tag))
 
 module _ {L G : Type 0} where
   abbrev pub backends_of : FrameTable L G → ℕ
   backends_of t = t.table.shared.key.config.backends
+
+  -- the tag is of a block that the table has
+  abbrev pub HasBlock : FrameTable L G → Tag → Type 0
+  HasBlock t tag = (names_block tag ≡ true) × (has_block (relations_of t) tag ≡ true)
 
   -- The seat is one of the table, and holds nothing
   pub record Rests (t : FrameTable L G) (s : Seat (Value L G) View) : Type 0 where
@@ -18,9 +54,38 @@ module _ {L G : Type 0} where
     pub hand : s.me.1 ≡ []
     pub free : HoldsNothing s.me.0
 
+  -- It is one of the table, and holds at most pins, and latches of partitions, whatever it has at the frame f
+  pub record IsQuietBeside (t : FrameTable L G) (f : ℕ) (s : Seat (Value L G) View) : Type 0 where
+    pub fits : Fits t s
+    pub live : s.me.0.emptied ≡ false
+    pub hand : s.me.1 ≡ []
+    pub others : (g : ℕ) → g ≢ f → IsCalm (link s.me.0 g)
+    pub lanes : (n : ℕ) → (lane_hold s.me.0 n).held ≡ false
+    pub log : s.me.0.log.held ≡ false
+
+  -- It is one of the table, and holds at most pins, and latches of partitions
+  pub record IsQuiet (t : FrameTable L G) (s : Seat (Value L G) View) : Type 0 where
+    pub fits : Fits t s
+    pub live : s.me.0.emptied ≡ false
+    pub hand : s.me.1 ≡ []
+    pub frames : (f : ℕ) → IsCalm (link s.me.0 f)
+    pub lanes : (n : ℕ) → (lane_hold s.me.0 n).held ≡ false
+    pub log : s.me.0.log.held ≡ false
+
+  -- and pins alone, for its callers
+  pub record OnlyPins (t : FrameTable L G) (s : Seat (Value L G) View) : Type 0 where
+    pub quiet : IsQuiet t s
+    pub no_victim : HasNoVictim s.me.0
+    pub partitions : (p : ℕ) → (hold s.me.0 p).held ≡ false
+
   -- after a call the seat is the one before it, and its backend took no seat in or out
   pub record Keeps (s s' : Seat (Value L G) View) : Type 0 where
     pub table : s'.table_id ≡ s.table_id
     pub id : s'.id ≡ s.id
     pub joined : s'.me.0.joined ≡ s.me.0.joined
     pub next : s'.me.0.next ≡ s.me.0.next
+
+  -- and it has at other frames what it had
+  pub record KeepsBeside (f : ℕ) (s s' : Seat (Value L G) View) : Type 0 where
+    pub self : Keeps s s'
+    pub others : (g : ℕ) → g ≢ f → link s'.me.0 g ≡ link s.me.0 g

@@ -4,6 +4,8 @@
 #[cfg(test)]
 mod devices;
 #[cfg(test)]
+mod entering;
+#[cfg(test)]
 mod fixture;
 #[cfg(test)]
 mod pinning;

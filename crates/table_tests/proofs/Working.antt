@@ -1,0 +1,170 @@
+-- Seats that hold pins, and do something at one frame or under one latch.
+use Rattle.std.proofs.Common.{◌≡◌, ◌≢◌, ◌<◌, ℕ, Bool, true, false, Option, Some, None, [], List, get_or, length, sym, refl, ap, ◌∙◌, subst, arith}
+use Rattle.std.proofs.lemmas.List.{get_or_past}
+use mathlib.Core.Logic.{dite}
+use mathlib.Core.Option.{some}
+use lib.ListN.{get_elem?}
+use native.Mathlib.Decide.{ℕ_discrete, dec_lt}
+use Rattle.state_word.specs.declared.word.StateWord.{StateWord}
+use Rattle.state_word.specs.Fields.{fields}
+use Rattle.atomic_table.specs.declared.shared.Seat.{Seat}
+use Rattle.pin_core.specs.declared.view.View.{View}
+use Rattle.pin_core.specs.declared.view.Link.{Link}
+use Rattle.pin_core.specs.declared.view.LaneHold.{LaneHold}
+use Rattle.pin_core.specs.declared.view.LogHold.{LogHold}
+use Rattle.pin_core.specs.declared.view.PartitionHold.{PartitionHold}
+use Rattle.pin_core.specs.declared.view.MapChange.{MapChange}
+use Rattle.pin_core.specs.declared.view.MapChange.TheVariants.{Settled}
+use Rattle.pin_core.specs.declared.view.MapEntry.{MapEntry}
+use Rattle.pin_core.specs.declared.view.Role.TheVariants.{Absent, HandedOut, Victim}
+use Rattle.pin_core.specs.Steps.{HasNoVictim}
+use Rattle.pin_core.specs.State.{hold, lane_hold, idle, link, no_lane, no_partition}
+use Rattle.history_core.specs.State.{State}
+use Rattle.history_core.specs.Laws.{Laws}
+use Rattle.table_rule.specs.declared.value.Value.{Value}
+use Rattle.frame_table.specs.declared.table.FrameTable.{FrameTable}
+use Rattle.frame_table.specs.Sees.{HoldsWord, Looked, SameSeat, SameSelf, NamesIn, Touches, assigned_link, locked_link, stored_link, unlocked_link, unpinned_link, victim_link}
+use Rattle.table_rule.specs.declared.turn.Turn.TheVariants.{Partition}
+use Rattle.frame_table.specs.Turning.{DidTurn, IsTurned, MapStep, SameWork, back_hold}
+use Rattle.map_partitions.specs.Partition.{Holds}
+use Rattle.table_tests.specs.Work.{IsCalm, IsInside, IsQuiet, IsQuietBeside, KeepsBeside, KeepsOthers, OnlyPins}
+
+-- The link of a frame, before its header was locked and under the lock
+module _ (l m : Link) (word : ℕ) (locked : Looked (locked_link word l) m) where
+  -- what is true of the word is known
+  pub knows_word : (P : StateWord → Type 0) → P (fields word) → HoldsWord P m
+  knows_word P holds = record {
+    held = λ none. let no : Some (fields word) ≡ None = sym locked.header ∙ none in absurd (cc);
+    knows = λ w e. let same : Some (fields word) ≡ Some w = sym locked.header ∙ e in subst P (cc) holds;
+  }
+
+  -- and after that
+  module _ (c : IsCalm l) where
+    pub calm_unlocked : (n : Link) → n ≡ unlocked_link m → IsCalm n
+    calm_unlocked n e = subst IsCalm (sym e) record { no_header = refl; no_content = locked.content ∙ c.no_content; no_io = locked.io ∙ c.no_io; page_home = locked.out ∙ c.page_home; no_wait = locked.waits c.no_wait }
+
+    pub calm_victim : (n : Link) → Looked (victim_link m) n → IsCalm n
+    calm_victim n v = record { no_header = v.header; no_content = v.content ∙ locked.content ∙ c.no_content; no_io = v.io ∙ locked.io ∙ c.no_io; page_home = v.out ∙ locked.out ∙ c.page_home; no_wait = v.waits (locked.waits c.no_wait) }
+
+    pub calm_assigned : (n o : Link) (tag : Option ℕ) → n ≡ stored_link m → Looked (assigned_link tag n) o → IsCalm o
+    calm_assigned n o tag e a = record {
+      no_header = a.header;
+      no_content = a.content ∙ ap (λ (x : Link). x.content) e ∙ locked.content ∙ c.no_content;
+      no_io = a.io ∙ ap (λ (x : Link). x.io) e ∙ locked.io ∙ c.no_io;
+      page_home = a.out ∙ ap (λ (x : Link). x.out) e ∙ locked.out ∙ c.page_home;
+      no_wait = a.waits (ap (λ (x : Link). x.waits) e ∙ locked.waits c.no_wait);
+    }
+
+pub calm_unpinned : (l m : Link) → Looked (unpinned_link l) m → IsCalm l → IsCalm m
+calm_unpinned l m a c = record { no_header = a.header ∙ c.no_header; no_content = a.content ∙ c.no_content; no_io = a.io ∙ c.no_io; page_home = a.out ∙ c.page_home; no_wait = a.waits c.no_wait }
+
+-- who doesn't hold a latch names no pair there
+pub settled_free : (s : State) → Laws s → (i : ℕ) (v : View) → get_elem? s.pool.core.views i ≡ some v → v.emptied ≡ false → (q : ℕ) → (hold v q).held ≡ false → (hold v q).change ≡ Settled
+settled_free s laws i v there live q free = dite (dec_lt q s.pool.core.partitions)
+    (λ low. ((laws.invariant.pool.core.turns.cells i v q there low).resting free).1)
+    (λ high. let wide = laws.invariant.pool.core.views.wide i v there live in ap (λ (h : PartitionHold). h.change) (get_or_past v.partitions q no_partition (omega (arith, wide.1, high))))
+
+module _ {L G : Type 0} (t : FrameTable L G) where
+  pub quiet_beside : (s : Seat (Value L G) View) (f : ℕ) → IsQuiet t s → IsQuietBeside t f s
+  quiet_beside s f q = record { fits = q.fits; live = q.live; hand = q.hand; others = λ g n. q.frames g; lanes = q.lanes; log = q.log }
+
+  pub quiet_at : (s : Seat (Value L G) View) (f : ℕ) → IsQuietBeside t f s → IsCalm (link s.me.0 f) → IsQuiet t s
+  quiet_at s f q c = record { fits = q.fits; live = q.live; hand = q.hand; frames = λ g. dite (ℕ_discrete g f) (λ e. subst (λ (x : ℕ). IsCalm (link s.me.0 x)) (sym e) c) (λ n. q.others g n); lanes = q.lanes; log = q.log }
+
+  module _ (s s' : Seat (Value L G) View) (same : SameSeat s s') where
+    -- a step at the frame
+    pub beside_still : (f : ℕ) → IsQuietBeside t f s → SameSelf s.me.0 s'.me.0 → ((g : ℕ) → g ≢ f → link s'.me.0 g ≡ link s.me.0 g) → IsQuietBeside t f s'
+    beside_still f q self others = record {
+      fits = same.table ∙ q.fits;
+      live = self.emptied ∙ q.live;
+      hand = same.hand ∙ q.hand;
+      others = λ g n. subst IsCalm (sym (others g n)) (q.others g n);
+      lanes = λ n. ap (λ (l : List LaneHold). (get_or l n no_lane).held) self.lanes ∙ q.lanes n;
+      log = ap (λ (h : LogHold). h.held) self.log ∙ q.log;
+    }
+
+    -- a step under a partition's latch
+    pub quiet_worked : IsQuiet t s → SameWork s.me.0 s'.me.0 → s'.me.0.lanes ≡ s.me.0.lanes → s'.me.0.log ≡ s.me.0.log → IsQuiet t s'
+    quiet_worked q work lanes log = record {
+      fits = same.table ∙ q.fits;
+      live = work.emptied ∙ q.live;
+      hand = same.hand ∙ q.hand;
+      frames = λ f. subst IsCalm (sym (ap (λ (l : List Link). get_or l f idle) work.links)) (q.frames f);
+      lanes = λ n. ap (λ (l : List LaneHold). (get_or l n no_lane).held) lanes ∙ q.lanes n;
+      log = ap (λ (h : LogHold). h.held) log ∙ q.log;
+    }
+
+-- What seats keep
+module _ {L G : Type 0} (s s' : Seat (Value L G) View) (same : SameSeat s s') where
+  pub keeps_touched : (f : ℕ) → SameSelf s.me.0 s'.me.0 → ((g : ℕ) → g ≢ f → link s'.me.0 g ≡ link s.me.0 g) → KeepsBeside f s s'
+  keeps_touched f self others = record { self = record { table = same.table; id = same.id; joined = self.joined; next = self.next }; others = others }
+
+  pub links_worked : SameWork s.me.0 s'.me.0 → (g : ℕ) → link s'.me.0 g ≡ link s.me.0 g
+  links_worked work g = ap (λ (l : List Link). get_or l g idle) work.links
+
+  pub keeps_worked : (f : ℕ) → SameWork s.me.0 s'.me.0 → KeepsBeside f s s'
+  keeps_worked f work = record { self = record { table = same.table; id = same.id; joined = work.joined; next = work.next }; others = λ g n. links_worked work g }
+
+pub beside_on : {L G : Type 0} (f : ℕ) (s s' s'' : Seat (Value L G) View) → KeepsBeside f s s' → KeepsBeside f s' s'' → KeepsBeside f s s''
+beside_on f s s' s'' a b = record { self = record { table = b.self.table ∙ a.self.table; id = b.self.id ∙ a.self.id; joined = b.self.joined ∙ a.self.joined; next = b.self.next ∙ a.self.next }; others = λ g n. b.others g n ∙ a.others g n }
+
+-- what a view has of a latch stays where what it has of all latches does
+pub same_hold : (v w : View) → w.partitions ≡ v.partitions → (q : ℕ) → hold w q ≡ hold v q
+same_hold v w e q = ap (λ (l : List PartitionHold). get_or l q no_partition) e
+
+-- The latches over the steps that store a tag and enter its block: the header is locked, the tag stored, the frame assigned, the block entered
+module _ (p : ℕ) (c : MapChange) (entries : List MapEntry) (v u x y w : View) (locked : u.partitions ≡ v.partitions) (names : NamesIn p c u x) (assigned : y.partitions ≡ x.partitions) (enters : MapStep p (back_hold entries (hold y p)) y w) where
+  pub entered_others : KeepsOthers p v w
+  entered_others q n = enters.others q n ∙ same_hold x y assigned q ∙ names.others q n ∙ same_hold v u locked q
+
+  pub entered_inside : IsInside p v → IsInside p w
+  entered_inside i = record {
+    held = ap (λ (h : PartitionHold). h.held) enters.here ∙ ap (λ (h : PartitionHold). h.held) (same_hold x y assigned p ∙ names.here) ∙ ap (λ (h : PartitionHold). h.held) (same_hold v u locked p) ∙ i.held;
+    home = ap (λ (h : PartitionHold). h.out) enters.here;
+    settled = λ q. dite (ℕ_discrete q p)
+        (λ e. subst (λ (z : ℕ). (hold w z).change ≡ Settled) (sym e) (ap (λ (h : PartitionHold). h.change) enters.here))
+        (λ n. ap (λ (h : PartitionHold). h.change) (entered_others q n) ∙ i.settled q);
+  }
+
+-- A view that held no latch takes one
+module _ (p : ℕ) (v w : View) (d : DidTurn true (Partition p) v w) (turned : IsTurned true (Partition p) v w) (free : (q : ℕ) → (hold v q).held ≡ false) where
+  pub inside_taken : Holds Settled w p → IsInside p w
+  inside_taken h = record {
+    held = h.held;
+    home = h.home;
+    settled = λ q. dite (ℕ_discrete q p)
+        (λ e. subst (λ (z : ℕ). (hold w z).change ≡ Settled) (sym e) h.named)
+        (λ n. ap (λ (x : PartitionHold). x.change) (turned.1 q n) ∙ settled_free d.state d.laws d.seat v d.there d.live q (free q));
+  }
+
+  -- and holds none once it has left it
+  pub free_left : (x y : View) → KeepsOthers p w x → IsTurned false (Partition p) x y → (q : ℕ) → (hold y q).held ≡ false
+  free_left x y keeps left q = dite (ℕ_discrete q p)
+      (λ e. subst (λ (z : ℕ). (hold y z).held ≡ false) (sym e) (ap (λ (h : PartitionHold). h.held) left.0))
+      (λ n. ap (λ (h : PartitionHold). h.held) (left.1 q n ∙ keeps q n ∙ turned.1 q n) ∙ free q)
+
+-- a seat that pins frames for its callers does so still, where at one frame it has no victim's pin
+pub only_pins : {L G : Type 0} (t : FrameTable L G) (f : ℕ) (s s' : Seat (Value L G) View) → HasNoVictim s.me.0 → KeepsBeside f s s' → (link s'.me.0 f).role ≢ Victim → IsQuiet t s' → ((q : ℕ) → (hold s'.me.0 q).held ≡ false) → OnlyPins t s'
+only_pins t f s s' none keeps here quiet free = record {
+  quiet = quiet;
+  no_victim = λ g. dite (ℕ_discrete g f) (λ e. subst (λ (x : ℕ). (link s'.me.0 x).role ≢ Victim) (sym e) here) (λ n victim. none g (sym (ap (λ (l : Link). l.role) (keeps.others g n)) ∙ victim));
+  partitions = free;
+}
+
+-- a pin that was handed out is no victim's
+pub not_victim : (l m : Link) → m ≡ l → l.role ≡ HandedOut → m.role ≢ Victim
+not_victim l m e out victim = let no : HandedOut ≡ Victim = sym out ∙ sym (ap (λ (x : Link). x.role) e) ∙ victim in absurd (cc)
+
+-- such a seat gives a pin up
+pub pins_given_up : {L G : Type 0} (t : FrameTable L G) (f h : ℕ) (s s' s'' : Seat (Value L G) View) → h ≡ f → HasNoVictim s.me.0 → KeepsBeside f s s' → IsQuiet t s' → ((q : ℕ) → (hold s'.me.0 q).held ≡ false) → SameSeat s' s'' → Touches h s'.me.0 s''.me.0 → Looked (unpinned_link (link s'.me.0 h)) (link s''.me.0 h) → OnlyPins t s''
+pins_given_up t f h s s' s'' e none keeps quiet free same there given = only_pins t f s s'' none
+    (beside_on f s s' s'' keeps (keeps_touched s' s'' same f touches.self touches.others))
+    (λ victim. let no : Absent ≡ Victim = sym up.role ∙ victim in absurd (cc))
+    (quiet_at t s'' f (beside_still t s' s'' same f (quiet_beside t s' f quiet) touches.self touches.others) (calm_unpinned (link s'.me.0 f) (link s''.me.0 f) up (quiet.frames f)))
+    (λ q. ap (λ (x : PartitionHold). x.held) (same_hold s'.me.0 s''.me.0 touches.partitions q) ∙ free q)
+  where
+    touches : Touches f s'.me.0 s''.me.0
+    touches = subst (λ (x : ℕ). Touches x s'.me.0 s''.me.0) e there
+
+    up : Looked (unpinned_link (link s'.me.0 f)) (link s''.me.0 f)
+    up = subst (λ (x : ℕ). Looked (unpinned_link (link s'.me.0 x)) (link s''.me.0 x)) e given
