@@ -1,3 +1,4 @@
 pub mod Crossing
+pub mod Reading
 pub mod Seats
 pub mod Working

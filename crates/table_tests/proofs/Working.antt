@@ -17,17 +17,22 @@ use Rattle.pin_core.specs.declared.view.MapChange.{MapChange}
 use Rattle.pin_core.specs.declared.view.MapChange.TheVariants.{Settled}
 use Rattle.pin_core.specs.declared.view.MapEntry.{MapEntry}
 use Rattle.pin_core.specs.declared.view.Role.TheVariants.{Absent, HandedOut, Victim}
+use Rattle.pin_core.specs.declared.view.Content.TheVariants.{Unlocked}
+use Rattle.pin_core.specs.declared.view.Io.TheVariants.{Output, Quiet}
 use Rattle.pin_core.specs.Steps.{HasNoVictim}
 use Rattle.pin_core.specs.State.{hold, lane_hold, idle, link, no_lane, no_partition}
 use Rattle.history_core.specs.State.{State}
 use Rattle.history_core.specs.Laws.{Laws}
 use Rattle.table_rule.specs.declared.value.Value.{Value}
 use Rattle.frame_table.specs.declared.table.FrameTable.{FrameTable}
-use Rattle.frame_table.specs.Sees.{HoldsWord, Looked, SameSeat, SameSelf, NamesIn, Touches, assigned_link, locked_link, stored_link, unlocked_link, unpinned_link, victim_link}
+use Rattle.frame_table.specs.Sees.{CanUnpin, HoldsWord, Looked, SameSeat, SameSelf, NamesIn, Touches, assigned_link, locked_link, pinned_link, stored_link, unlocked_link, unpinned_link, victim_link}
 use Rattle.table_rule.specs.declared.turn.Turn.TheVariants.{Partition}
+use Rattle.frame_table.specs.Content.{CanDropExclusive, CanDropShare, exclusive_link, shared_link, unexclusive_link, unshared_link}
 use Rattle.frame_table.specs.Turning.{DidTurn, IsTurned, MapStep, SameWork, back_hold}
 use Rattle.map_partitions.specs.Partition.{Holds}
-use Rattle.table_tests.specs.Work.{IsCalm, IsInside, IsQuiet, IsQuietBeside, KeepsBeside, KeepsOthers, OnlyPins}
+use Rattle.frame_table.proofs.Told.{touches_on}
+use Rattle.table_tests.proofs.Seats.{same_on}
+use Rattle.table_tests.specs.Work.{IsCalm, IsInside, IsQuiet, IsQuietBeside, KeepsBeside, KeepsOthers, OnlyPins, PinsNone, Rests}
 
 -- The link of a frame, before its header was locked and under the lock
 module _ (l m : Link) (word : ℕ) (locked : Looked (locked_link word l) m) where
@@ -41,22 +46,38 @@ module _ (l m : Link) (word : ℕ) (locked : Looked (locked_link word l) m) wher
   -- and after that
   module _ (c : IsCalm l) where
     pub calm_unlocked : (n : Link) → n ≡ unlocked_link m → IsCalm n
-    calm_unlocked n e = subst IsCalm (sym e) record { no_header = refl; no_content = locked.content ∙ c.no_content; no_io = locked.io ∙ c.no_io; page_home = locked.out ∙ c.page_home; no_wait = locked.waits c.no_wait }
+    calm_unlocked n e = subst IsCalm (sym e) record { no_header = refl; no_content = locked.content ∙ c.no_content; no_copy = locked.copying ∙ c.no_copy; applied = locked.unapplied ∙ c.applied; no_io = locked.io ∙ c.no_io; page_home = locked.out ∙ c.page_home; no_wait = locked.waits c.no_wait }
 
     pub calm_victim : (n : Link) → Looked (victim_link m) n → IsCalm n
-    calm_victim n v = record { no_header = v.header; no_content = v.content ∙ locked.content ∙ c.no_content; no_io = v.io ∙ locked.io ∙ c.no_io; page_home = v.out ∙ locked.out ∙ c.page_home; no_wait = v.waits (locked.waits c.no_wait) }
+    calm_victim n v = record { no_header = v.header; no_content = v.content ∙ locked.content ∙ c.no_content; no_copy = v.copying ∙ locked.copying ∙ c.no_copy; applied = v.unapplied ∙ locked.unapplied ∙ c.applied; no_io = v.io ∙ locked.io ∙ c.no_io; page_home = v.out ∙ locked.out ∙ c.page_home; no_wait = v.waits (locked.waits c.no_wait) }
 
     pub calm_assigned : (n o : Link) (tag : Option ℕ) → n ≡ stored_link m → Looked (assigned_link tag n) o → IsCalm o
     calm_assigned n o tag e a = record {
       no_header = a.header;
       no_content = a.content ∙ ap (λ (x : Link). x.content) e ∙ locked.content ∙ c.no_content;
+      no_copy = a.copying ∙ ap (λ (x : Link). x.copying) e ∙ locked.copying ∙ c.no_copy;
+      applied = a.unapplied ∙ ap (λ (x : Link). x.unapplied) e ∙ locked.unapplied ∙ c.applied;
       no_io = a.io ∙ ap (λ (x : Link). x.io) e ∙ locked.io ∙ c.no_io;
       page_home = a.out ∙ ap (λ (x : Link). x.out) e ∙ locked.out ∙ c.page_home;
       no_wait = a.waits (ap (λ (x : Link). x.waits) e ∙ locked.waits c.no_wait);
     }
 
 pub calm_unpinned : (l m : Link) → Looked (unpinned_link l) m → IsCalm l → IsCalm m
-calm_unpinned l m a c = record { no_header = a.header ∙ c.no_header; no_content = a.content ∙ c.no_content; no_io = a.io ∙ c.no_io; page_home = a.out ∙ c.page_home; no_wait = a.waits c.no_wait }
+calm_unpinned l m a c = record { no_header = a.header ∙ c.no_header; no_content = a.content ∙ c.no_content; no_copy = a.copying ∙ c.no_copy; applied = a.unapplied ∙ c.applied; no_io = a.io ∙ c.no_io; page_home = a.out ∙ c.page_home; no_wait = a.waits c.no_wait }
+
+-- a load leaves it so
+pub calm_looked : (l m : Link) → Looked l m → IsCalm l → IsCalm m
+calm_looked l m a c = record { no_header = a.header ∙ c.no_header; no_content = a.content ∙ c.no_content; no_copy = a.copying ∙ c.no_copy; applied = a.unapplied ∙ c.applied; no_io = a.io ∙ c.no_io; page_home = a.out ∙ c.page_home; no_wait = a.waits c.no_wait }
+
+-- what such a link, with a content lock, may give up
+pub drop_shared : (l m : Link) → IsCalm l → m ≡ shared_link l → CanDropShare m
+drop_shared l m c e = subst CanDropShare (sym e) record { right = refl; no_copy = c.no_copy; no_output = λ out. (let no : Quiet ≡ Output = sym c.no_io ∙ out in absurd (cc)); page_home = c.page_home }
+
+pub drop_exclusive : (l m : Link) → IsCalm l → m ≡ exclusive_link l → CanDropExclusive m
+drop_exclusive l m c e = subst CanDropExclusive (sym e) record { right = refl; settled = c.applied; page_home = c.page_home }
+
+pub may_unpin : (l : Link) → IsCalm l → l.role ≡ HandedOut → CanUnpin l
+may_unpin l c out = record { pinned = λ none. (let no : HandedOut ≡ Absent = sym out ∙ none in absurd (cc)); no_content = c.no_content; no_io = c.no_io; no_wait = c.no_wait }
 
 -- who doesn't hold a latch names no pair there
 pub settled_free : (s : State) → Laws s → (i : ℕ) (v : View) → get_elem? s.pool.core.views i ≡ some v → v.emptied ≡ false → (q : ℕ) → (hold v q).held ≡ false → (hold v q).change ≡ Settled
@@ -168,3 +189,57 @@ pins_given_up t f h s s' s'' e none keeps quiet free same there given = only_pin
 
     up : Looked (unpinned_link (link s'.me.0 f)) (link s''.me.0 f)
     up = subst (λ (x : ℕ). Looked (unpinned_link (link s'.me.0 x)) (link s''.me.0 x)) e given
+
+-- none is left, where the seat pinned no other frame
+pub none_given_up : {L G : Type 0} (f h : ℕ) (s s' s'' : Seat (Value L G) View) → h ≡ f → PinsNone s → KeepsBeside f s s' → Touches h s'.me.0 s''.me.0 → Looked (unpinned_link (link s'.me.0 h)) (link s''.me.0 h) → PinsNone s''
+none_given_up f h s s' s'' e none keeps there given g = dite (ℕ_discrete g h)
+    (λ same. subst (λ (x : ℕ). (link s''.me.0 x).role ≡ Absent) (sym same) given.role)
+    (λ n. ap (λ (l : Link). l.role) (there.others g n ∙ keeps.others g (λ same. n (same ∙ sym e))) ∙ none g)
+
+-- A seat that pins frames, after steps at one of them
+module _ {L G : Type 0} (t : FrameTable L G) (f : ℕ) (s : Seat (Value L G) View) (p : OnlyPins t s) where
+  pub pins_touched : (s' : Seat (Value L G) View) → SameSeat s s' → Touches f s.me.0 s'.me.0 → IsCalm (link s'.me.0 f) → (link s'.me.0 f).role ≢ Victim → OnlyPins t s'
+  pins_touched s' same touches calm here = only_pins t f s s' p.no_victim (keeps_touched s s' same f touches.self touches.others) here
+      (quiet_at t s' f (beside_still t s s' same f (quiet_beside t s f p.quiet) touches.self touches.others) calm)
+      (λ q. ap (λ (x : PartitionHold). x.held) (same_hold s.me.0 s'.me.0 touches.partitions q) ∙ p.partitions q)
+
+  -- loads of its state word
+  pub looked_pins : (s' : Seat (Value L G) View) → SameSeat s s' → Touches f s.me.0 s'.me.0 → Looked (link s.me.0 f) (link s'.me.0 f) → OnlyPins t s'
+  looked_pins s' same touches looked = pins_touched s' same touches (calm_looked (link s.me.0 f) (link s'.me.0 f) looked (p.quiet.frames f)) (λ victim. p.no_victim f (sym looked.role ∙ victim))
+
+  -- a pin
+  pub pinned_pins : (ring : Bool) (s' : Seat (Value L G) View) → SameSeat s s' → Touches f s.me.0 s'.me.0 → Looked (pinned_link ring (link s.me.0 f)) (link s'.me.0 f) → OnlyPins t s'
+  pinned_pins ring s' same touches looked = pins_touched s' same touches (calm_looked (pinned_link ring (link s.me.0 f)) (link s'.me.0 f) looked (let c = p.quiet.frames f in record { no_header = c.no_header; no_content = c.no_content; no_copy = c.no_copy; applied = c.applied; no_io = c.no_io; page_home = c.page_home; no_wait = c.no_wait }))
+      (λ victim. let no : HandedOut ≡ Victim = sym looked.role ∙ victim in absurd (cc))
+
+  -- two steps, after which the link is the same but for the content lock's notes
+  module _ (s' s'' : Seat (Value L G) View) (same : SameSeat s s') (touches : Touches f s.me.0 s'.me.0) (again : SameSeat s' s'') (after : Touches f s'.me.0 s''.me.0) where
+    pub pins_shared : link s'.me.0 f ≡ shared_link (link s.me.0 f) → link s''.me.0 f ≡ unshared_link (link s'.me.0 f) → OnlyPins t s''
+    pins_shared shared given = let e = given ∙ ap unshared_link shared in let c = p.quiet.frames f in pins_touched s'' (same_on s s' s'' same again) (touches_on f s.me.0 s'.me.0 s''.me.0 touches after)
+        (subst IsCalm (sym e) record { no_header = c.no_header; no_content = refl; no_copy = c.no_copy; applied = c.applied; no_io = c.no_io; page_home = c.page_home; no_wait = c.no_wait })
+        (λ victim. p.no_victim f (sym (ap (λ (l : Link). l.role) e) ∙ victim))
+
+    pub pins_exclusive : link s'.me.0 f ≡ exclusive_link (link s.me.0 f) → link s''.me.0 f ≡ unexclusive_link (link s'.me.0 f) → OnlyPins t s''
+    pins_exclusive exclusive given = let e = given ∙ ap unexclusive_link exclusive in let c = p.quiet.frames f in pins_touched s'' (same_on s s' s'' same again) (touches_on f s.me.0 s'.me.0 s''.me.0 touches after)
+        (subst IsCalm (sym e) record { no_header = c.no_header; no_content = refl; no_copy = c.no_copy; applied = c.applied; no_io = c.no_io; page_home = c.page_home; no_wait = c.no_wait })
+        (λ victim. p.no_victim f (sym (ap (λ (l : Link). l.role) e) ∙ victim))
+
+-- a backend that has nothing at any frame
+pub calm_idle : (l : Link) → l ≡ idle → IsCalm l
+calm_idle l e = subst IsCalm (sym e) record { no_header = refl; no_content = refl; no_copy = refl; applied = refl; no_io = refl; page_home = refl; no_wait = refl }
+
+pub pins_idle : {L G : Type 0} (t : FrameTable L G) (s : Seat (Value L G) View) → Rests t s → ((f : ℕ) → link s.me.0 f ≡ idle) → OnlyPins t s × PinsNone s
+pins_idle t s r links = (record {
+  quiet = record { fits = r.fits; live = r.live; hand = r.hand; frames = λ f. calm_idle (link s.me.0 f) (links f); lanes = r.free.lanes; log = r.free.log };
+  no_victim = λ f victim. (let no : Absent ≡ Victim = sym (r.free.frames f).no_pin ∙ victim in absurd (cc));
+  partitions = r.free.partitions;
+}, λ f. (r.free.frames f).no_pin)
+
+-- who pins nothing, and holds pins alone, holds nothing
+pub rests_pins : {L G : Type 0} (t : FrameTable L G) (s : Seat (Value L G) View) → OnlyPins t s → PinsNone s → Rests t s
+rests_pins t s p none = record { fits = p.quiet.fits; live = p.quiet.live; hand = p.quiet.hand; free = record {
+  frames = λ f. let c = p.quiet.frames f in record { no_pin = none f; no_header = c.no_header; no_content = c.no_content; no_io = c.no_io; page_home = c.page_home; no_wait = c.no_wait };
+  partitions = p.partitions;
+  lanes = p.quiet.lanes;
+  log = p.quiet.log;
+} }

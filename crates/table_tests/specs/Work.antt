@@ -1,10 +1,11 @@
 -- What seats have between the steps of a test.
-use Rattle.std.specs.Prelude.{◌≡◌, ◌≢◌, ℕ, true, false, [], None, Some}
+use Rattle.std.specs.Prelude.{◌≡◌, ◌≢◌, ℕ, true, false, List, [], ◌∷◌, None, Some}
 use Rattle.atomic_table.specs.declared.shared.Seat.{Seat}
+use Rattle.block_tag.specs.declared.catalogue.RelEntry.{RelEntry}
 use Rattle.block_tag.specs.declared.tag.Tag.{Tag}
 use Rattle.block_tag.specs.Names.{names_block, packed_tag}
 use Rattle.pin_core.specs.declared.view.Content.TheVariants.{Unlocked}
-use Rattle.pin_core.specs.declared.view.Io.TheVariants.{Quiet}
+use Rattle.pin_core.specs.declared.view.Io.TheVariants.{Input, Quiet}
 use Rattle.pin_core.specs.declared.view.Link.{Link}
 use Rattle.pin_core.specs.declared.view.MapChange.TheVariants.{Settled}
 use Rattle.pin_core.specs.declared.view.Role.{Role}
@@ -15,12 +16,18 @@ use Rattle.pin_core.specs.Steps.{HasNoVictim, HoldsNothing}
 use Rattle.table_rule.specs.Blocks.{has_block}
 use Rattle.table_rule.specs.declared.value.Value.{Value}
 use Rattle.frame_table.specs.declared.table.FrameTable.{FrameTable}
-use Rattle.frame_table.specs.Sees.{Fits, relations_of}
+use Rattle.frame_table.specs.Sees.{Fits, lanes_in, relations_of}
+
+-- the one relation of the tests' tables: its number is 16384, and its main fork has 64 blocks
+abbrev pub relations : List RelEntry
+relations = record { tablespace = 0; database = 0; relation = 16384; blocks = 64 ∷ 0 ∷ 0 ∷ 0 ∷ [] } ∷ []
 
 -- A backend has nothing at a frame but maybe a pin
 pub record IsCalm (l : Link) : Type 0 where
   pub no_header : l.header ≡ None
   pub no_content : l.content ≡ Unlocked
+  pub no_copy : l.copying ≡ false
+  pub applied : l.unapplied ≡ false
   pub no_io : l.io ≡ Quiet
   pub page_home : l.out ≡ None
   pub no_wait : l.waits ≡ None
@@ -31,21 +38,49 @@ pub record IsInside (p : ℕ) (v : View) : Type 0 where
   pub home : (hold v p).out ≡ None
   pub settled : (q : ℕ) → (hold v q).change ≡ Settled
 
--- over a call the view keeps what it has of the latches but for that of the partition p
+-- no lane is out with the view
+abbrev pub LanesHome : View → Type 0
+LanesHome v = (n : ℕ) → (lane_hold v n).out ≡ None
+
+-- over a call the view keeps what it has of the partitions' latches
+abbrev pub SameLatches : View → View → Type 0
+SameLatches v w = (q : ℕ) → hold w q ≡ hold v q
+
+-- but for that of the partition p
 abbrev pub KeepsOthers : ℕ → View → View → Type 0
 KeepsOthers p v w = (q : ℕ) → q ≢ p → hold w q ≡ hold v q
 
+-- It reads the tag's page into the frame: the page is home, and was not overwritten yet
+pub record Reads (tag : Tag) (l : Link) : Type 0 where
+  pub pinned : l.role ≡ HandedOut
+  pub remembered : l.tag ≡ Some (packed_tag tag)
+  pub no_header : l.header ≡ None
+  pub no_content : l.content ≡ Unlocked
+  pub right : l.io ≡ Input
+  pub home : l.out ≡ None
+  pub fresh : l.overwritten ≡ None
+  pub settled : l.unapplied ≡ false
+  pub no_copy : l.copying ≡ false
+  pub assigned : l.pending ≡ false
+  pub no_wait : l.waits ≡ None
+
 -- its pin of the frame is one for its callers, of the tag's block
 abbrev pub PinsBlock : Tag → Link → Type 0
-PinsBlock tag l = (l.role ≡ HandedOut) × (l.tag ≡ Some (packed_tag tag))
+PinsBlock tag l = (l.role ≡ HandedOut) × (l.tag ≡ Some (packed_tag tag)) × (l.pending ≡ false)
+
+-- it has seen that the page is there
+pub record SeesPage (l : Link) : Type 0 where
+  pub pinned : l.role ≡ HandedOut
+  pub assigned : l.pending ≡ false
+  pub seen : l.seen_valid ≡ true
 
 module _ {L G : Type 0} where
   abbrev pub backends_of : FrameTable L G → ℕ
   backends_of t = t.table.shared.key.config.backends
 
-  -- the tag is of a block that the table has
+  -- the table has one lane, and the tag is of a block that it has
   abbrev pub HasBlock : FrameTable L G → Tag → Type 0
-  HasBlock t tag = (names_block tag ≡ true) × (has_block (relations_of t) tag ≡ true)
+  HasBlock t tag = (names_block tag ≡ true) × (has_block (relations_of t) tag ≡ true) × (lanes_in t ≡ 1)
 
   -- The seat is one of the table, and holds nothing
   pub record Rests (t : FrameTable L G) (s : Seat (Value L G) View) : Type 0 where
@@ -77,6 +112,10 @@ module _ {L G : Type 0} where
     pub quiet : IsQuiet t s
     pub no_victim : HasNoVictim s.me.0
     pub partitions : (p : ℕ) → (hold s.me.0 p).held ≡ false
+
+  -- no frame is pinned
+  abbrev pub PinsNone : Seat (Value L G) View → Type 0
+  PinsNone s = (f : ℕ) → (link s.me.0 f).role ≡ Absent
 
   -- after a call the seat is the one before it, and its backend took no seat in or out
   pub record Keeps (s s' : Seat (Value L G) View) : Type 0 where

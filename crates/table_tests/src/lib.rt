@@ -8,6 +8,10 @@ mod entering;
 #[cfg(test)]
 mod fixture;
 #[cfg(test)]
+mod loading;
+#[cfg(test)]
+mod locking;
+#[cfg(test)]
 mod pinning;
 #[cfg(test)]
 mod tests;

@@ -1,7 +1,12 @@
 //! Tables that are run.
-use crate::fixture::{catalog, table};
+use crate::entering::leave_block;
+use crate::fixture::{block, catalog, table};
+use crate::locking::refusals;
 use crate::pinning::{pin_often, pin_together, refusal, refusal_of_two};
+use content_locks::TryLock;
 use frame_table::TryPin;
+use page_layout::Page;
+use state_word::{pins, usage};
 use std::test::Fail;
 
 #[test]
@@ -42,5 +47,46 @@ fn two_threads_get_one_answer(rt: HostRuntime) -> Result<(), Fail> {
     let refused = pin_together(&rt, &table, &mut first, 3, 100000);
     let (_lanes, _log) = table.close(first);
     assert_eq!(rt; refused, (100000, 100000));
+    Ok(())
+}
+
+#[test]
+fn pins_of_one_thread_are_never_refused(rt: HostRuntime) -> Result<(), Fail> {
+    let relations = catalog(rt.alloc())?;
+    let (table, mut seat) = table(rt.alloc(), relations)?;
+    let entered = leave_block(&rt, &table, &mut seat, 3, block(7));
+    let refused = pin_often(&rt, &table, &mut seat, 3, 100000);
+    let word = table.look(&mut seat, 3);
+    let (_lanes, _log) = table.close(seat);
+    assert!(rt; entered);
+    assert_eq!(rt; refused, 0);
+    assert_eq!(rt; (pins(word), usage(word)), (0, 5));
+    Ok(())
+}
+
+#[test]
+fn two_threads_leave_no_pin(rt: HostRuntime) -> Result<(), Fail> {
+    let relations = catalog(rt.alloc())?;
+    let (table, mut first) = table(rt.alloc(), relations)?;
+    let entered = leave_block(&rt, &table, &mut first, 3, block(7));
+    let refused = pin_together(&rt, &table, &mut first, 3, 100000);
+    let word = table.look(&mut first, 3);
+    let (_lanes, _log) = table.close(first);
+    assert!(rt; entered);
+    assert!(rt; refused.0 < 100000 && refused.1 < 100000);
+    assert_eq!(rt; (pins(word), usage(word)), (0, 5));
+    Ok(())
+}
+
+#[test]
+fn a_content_lock_that_another_has_is_busy(rt: HostRuntime) -> Result<(), Fail> {
+    let relations = catalog(rt.alloc())?;
+    let mut page = Page::zeroed(rt.alloc())?;
+    let (table, mut first) = table(rt.alloc(), relations)?;
+    let refused = refusals(&rt, &table, &mut first, 3, block(0), &mut page);
+    let (_lanes, _log) = table.close(first);
+    let exclusive = Some(TryLock::Busy { word: 262144 });
+    let shared = Some(TryLock::Busy { word: 1 });
+    assert_eq!(rt; refused, Some([(exclusive, exclusive), (None, shared)]));
     Ok(())
 }

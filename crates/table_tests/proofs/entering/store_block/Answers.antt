@@ -55,4 +55,4 @@ returns-clause-stored g c =
     let names = c.store_tag.ensures.names in
     let same = links_worked _ _ c.enter.ensures.seat c.enter.ensures.work c.args.frame in
     let unchanged = ap (λ (h : PartitionHold). h.changed) (names.here) ∙ ap (λ (h : PartitionHold). h.changed) (same_hold c.args.seat.now.me.0 c.lock_header-word.new.seat.me.0 c.lock_header-word.ensures.touches.partitions _) ∙ c.requires.latch.unchanged in
-    (ap (λ (l : Link). l.role) same ∙ a.assigned.role, ap (λ (l : Link). l.tag) same ∙ a.tag _ _ (ap (λ (h : PartitionHold). h.change) names.here) unchanged)
+    (ap (λ (l : Link). l.role) same ∙ a.assigned.role, ap (λ (l : Link). l.tag) same ∙ a.tag _ _ (ap (λ (h : PartitionHold). h.change) names.here) unchanged, ap (λ (l : Link). l.pending) same ∙ a.assigned.pending)

@@ -1,0 +1,34 @@
+use Rattle.std.proofs.Common.{rules, List, ℕ, get_or, ap, sym, subst, ◌∙◌}
+use Rattle.atomic_table.specs.Table.{rest}
+use Rattle.pin_core.specs.declared.view.View.{View}
+use Rattle.pin_core.specs.declared.view.Link.{Link}
+use Rattle.pin_core.specs.declared.view.LogHold.{LogHold}
+use Rattle.pin_core.specs.State.{idle, link}
+use Rattle.table_tests.specs.Work.{IsCalm, Reads}
+use Rattle.table_tests.proofs.Reading.{lane_free, lanes_free, lanes_home, read_call, reads_noted}
+use Rattle.table_tests.proofs.loading.read_lane.Goals as goal
+
+pub lane_out-lane-requires-clause-held : goal.lane_out-lane-requires-clause-held
+lane_out-lane-requires-clause-held g c = lane_free _ c.args.seat.now.me.0 c.take_turn.new.seat.me.0 c.requires.home c.take_turn.ensures.turned
+
+pub returns-clause-keeps : goal.returns-clause-keeps
+returns-clause-keeps g c = search rules
+
+pub returns-clause-home : goal.returns-clause-home
+returns-clause-home g c = lanes_home _ c.args.seat.now.me.0 c.take_turn.new.seat.me.0 c.requires.home c.take_turn.ensures.turned c.lane_out-lane.new.seat.me.0 c.lane_back.new.seat.me.0 c.leave_turn.new.seat.me.0 _ c.lane_out-lane.ensures.out c.lane_back.ensures.back c.leave_turn.ensures.turned
+
+pub returns-clause-quiet : goal.returns-clause-quiet
+returns-clause-quiet g c = let q = c.requires.quiet in let k = returns-clause-keeps g c in record {
+  fits = k.self.table ∙ q.fits;
+  live = c.leave_turn.ensures.work.emptied ∙ ap (λ (v : View). v.emptied) c.lane_back.ensures.view ∙ ap (λ (v : View). v.emptied) c.lane_out-lane.ensures.view ∙ c.take_turn.ensures.work.emptied ∙ q.live;
+  hand = c.leave_turn.ensures.seat.hand ∙ c.lane_back.ensures.hand ∙ ap rest c.lane_out-lane.ensures.hand ∙ c.take_turn.ensures.seat.hand ∙ q.hand;
+  others = λ f n. subst IsCalm (sym (k.others f n)) (q.others f n);
+  lanes = lanes_free _ c.args.seat.now.me.0 c.take_turn.new.seat.me.0 c.requires.home c.take_turn.ensures.turned c.lane_out-lane.new.seat.me.0 c.lane_back.new.seat.me.0 c.leave_turn.new.seat.me.0 _ c.lane_out-lane.ensures.out c.lane_back.ensures.back c.leave_turn.ensures.turned q.lanes;
+  log = ap (λ (h : LogHold). h.held) (c.leave_turn.ensures.turned.3 ∙ c.lane_back.ensures.back.log ∙ c.lane_out-lane.ensures.out.log ∙ c.take_turn.ensures.turned.3) ∙ q.log;
+}
+
+pub returns-clause-reads : goal.returns-clause-reads
+returns-clause-reads g c =
+    let out : Reads c.args.tag (link c.lane_out-lane.new.seat.me.0 c.args.frame) = subst (λ (l : List Link). Reads c.args.tag (get_or l c.args.frame idle)) (sym (ap (λ (v : View). v.links) c.lane_out-lane.ensures.view ∙ c.take_turn.ensures.work.links)) c.requires.reads in
+    let back = reads_noted c.args.frame c.args.tag c.read-read.new.self.call c.lane_out-lane.new.seat.me.0 c.lane_back.new.seat.me.0 (read_call _ _ _ _ _ c.read-read.ensures.call) c.lane_back.ensures.noted out in
+    subst (λ (l : List Link). Reads c.args.tag (get_or l c.args.frame idle)) (sym c.leave_turn.ensures.work.links) back
