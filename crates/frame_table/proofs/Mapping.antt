@@ -40,11 +40,11 @@ use Rattle.table_rule.specs.declared.turn.Turn.TheVariants.{Partition, Lane, Log
 use Rattle.table_rule.specs.Layout.{latch_place, slot_of, slot_count}
 use Rattle.history_core.specs.Laws.{Laws}
 use Rattle.table_rule.specs.Shows.{ShowsFrame, ShowsLatches, is_taken, is_out, IsHome, AreApart, entry_of, Devices, Gives, GivesEntries, GivesMap, HasPlace, HasValue, HasList, Shows, Held}
-use Rattle.frame_table.specs.Turning.{DidMap, ComesBack, as_it_was, entered, left_out, MayComeBack, HasNamed, HasRoomFor, IsMap, map_went, map_came, MapStep, SameWork, is_named, back_hold}
+use Rattle.frame_table.specs.Turning.{AreBelow, DidMap, ComesBack, as_it_was, entered, left_out, MayComeBack, HasNamed, HasRoomFor, IsMap, map_went, map_came, MapStep, SameWork, is_named, back_hold}
 use Rattle.history_core.proofs.Laws.{laws_kept}
 use Rattle.frame_table.proofs.Frames.{put_keeps, home_before, set_twice}
 use Rattle.frame_table.proofs.Moving.{same_slot, list_stays}
-use Rattle.frame_table.proofs.Fitting.{has_named, has_room}
+use Rattle.frame_table.proofs.Fitting.{entries_inside, has_named, has_room}
 
 -- the state after a step of a kind at a partition
 abbrev mapped : parts.TurnKind → State → ℕ → ℕ → View → State
@@ -125,6 +125,9 @@ module _ {L G : Type 0} (d : Devices L G) (o : Opening L G) where
       room_for : (m : Vec Mapped Global) → GivesEntries o.config.frames m (h.state.pool.core.partition p).map → HasRoomFor (hold me.0 p) m
       room_for m gives_it tag f entering unchanged = let shown = h.shows.fixed.frames in let few = has_room h.state id p me.0 h.laws here low held unchanged m (record { found = gives_it.found; apart = gives_it.apart; room = (let r = gives_it.room in omega arith) }) tag f entering in let long = m.ok.0 in omega arith
 
+      below_for : (m : Vec Mapped Global) → GivesEntries o.config.frames m (h.state.pool.core.partition p).map → AreBelow o.config.frames m.items
+      below_for m gives_it i a at = subst (λ (n : ℕ). a.frame < n) h.shows.fixed.frames (entries_inside h.state h.laws p o.config.frames m gives_it i a at)
+
       value_there : HasValue d o t.homes h.state (place.Of (Partition p))
       value_there = h.shows.homes (place.Of (Partition p)) below none_out
 
@@ -145,7 +148,7 @@ module _ {L G : Type 0} (d : Devices L G) (o : Opening L G) where
                   record { value = old.value; home = set_else t.homes (o.config.frames + p) (slot_of o.config.frames x) none n ∙ old.home; gives = mapped_gives d o k h.state id p me.0 x old.value other old.gives }));
               laws = laws_kept (map_step k h.state id p me.0 here live low a) h.laws;
             },
-            (value.Map m, entries, refl, (refl, gives_it.apart, gives_it.room), room_for m gives_it, record { state = h.state; laws = h.laws; spread = h.shows.fixed.partition_of; seat = id; there = here; live = live; inside = low; allowed = a; after = refl }),
+            (value.Map m, entries, refl, (refl, gives_it.apart, gives_it.room), room_for m gives_it, record { state = h.state; laws = h.laws; spread = h.shows.fixed.partition_of; seat = id; there = here; live = live; inside = low; allowed = a; after = refl }, below_for m gives_it),
           )
         where
           is_away : is_out (place.Of (Partition p)) (view_mapped (parts.map_out (map entry_of m.items)) p me.0) ≡ false → List MapEntry → ⊥
