@@ -1,4 +1,5 @@
 pub mod Kept
+pub mod Allowing
 pub mod Frames
 pub mod Acting
 pub mod Words
@@ -10,6 +11,7 @@ pub mod Splitting
 pub mod Resting
 pub mod Behind
 pub mod Holding
+pub mod TagLoads
 pub mod Taking
 pub mod Moving
 pub mod Fitting
