@@ -22,7 +22,7 @@ use Rattle.history_core.specs.State.{State}
 use Rattle.frame_table.specs.Kinds.{FrameKind}
 use Rattle.frame_table.specs.Tells.{Did, looking}
 use Rattle.frame_table.specs.Content.{looking_content, has_exclusive}
-use Rattle.frame_table.proofs.Told.{link_is}
+use Rattle.frame_table.proofs.Told.{link_is, seen_still}
 
 -- no tag word is stored where a view's pin is handed out
 pub handed_settled : (k : FrameKind) (f found : ℕ) (v w : View) → Did k f v w found → (link v f).role ≡ HandedOut → (link v f).pending ≡ false
@@ -43,18 +43,14 @@ seen_after false saw true Victim e pinned on = refl
 seen_after false saw false HandedOut e pinned on = absurd (cc on)
 seen_after false saw false Victim e pinned on = absurd (cc on)
 
-seen_still : (pending valid : Bool) (r : Role) → seen_valid_after pending r valid true ≡ true
-seen_still true valid r = refl
-seen_still false valid Absent = refl
-seen_still false true HandedOut = refl
-seen_still false false HandedOut = refl
-seen_still false true Victim = refl
-seen_still false false Victim = refl
-
 -- a pin sees BM_VALID
 pub sees_valid : (f found : ℕ) (v w : View) → Did looking f v w found → (link v f).pending ≡ false → (link v f).role ≢ Absent → (fields found).valid ≡ true → (link w f).seen_valid ≡ true
 sees_valid f found v w d settled pinned on = ap (λ (l : Link). l.seen_valid) (link_is looking f found v w d)
     ∙ seen_after (link v f).pending (link v f).seen_valid (d.state.pool.core.frame f).word.valid (link v f).role settled pinned (ap (λ (x : StateWord). x.valid) d.says ∙ on)
+
+-- so does one that is handed out
+pub handed_sees : (f found : ℕ) (v w : View) → Did looking f v w found → (link v f).role ≡ HandedOut → (fields found).valid ≡ true → (link w f).seen_valid ≡ true
+handed_sees f found v w d handed on = sees_valid f found v w d (handed_settled looking f found v w d handed) (λ e. let no : HandedOut ≡ Absent = sym handed ∙ e in absurd (cc)) on
 
 -- and has seen it for good
 pub keeps_seen : (f found : ℕ) (v w : View) → Did looking f v w found → (link v f).seen_valid ≡ true → (link w f).seen_valid ≡ true

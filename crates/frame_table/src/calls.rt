@@ -2,12 +2,12 @@
 ghost use Rattle.std.specs.Prelude.{◌≡◌, ◌≢◌, ℕ, ◌<◌, true, false, Some, IfOk, IfErr, MatchResult};
 ghost use Rattle.state_word.specs.Fields.{fields, locked_fields, pinned_fields, unpinned_fields};
 ghost use Rattle.pin_core.specs.declared.view.View.{View};
-ghost use Rattle.pin_core.specs.declared.view.Role.TheVariants.{Absent};
+ghost use Rattle.pin_core.specs.declared.view.Role.TheVariants.{Absent, HandedOut};
 ghost use Rattle.pin_core.specs.State.{link};
 ghost use Rattle.pin_core.specs.Kinds as kinds;
 ghost use Rattle.pin_core.specs.Steps.{HoldsNoHeader};
 ghost use Rattle.frame_table.specs.Kinds.{pins};
-ghost use Rattle.frame_table.specs.Sees.{CanStep, CanUnpin, Holds, Looked, SameSeat, Touches, locked_link, pinned_link, unlocked_link, unpinned_link};
+ghost use Rattle.frame_table.specs.Sees.{CanStep, CanUnpin, Holds, Looked, SameSeat, Touches, loaded_link, locked_link, pinned_link, unlocked_link, unpinned_link};
 ghost use Rattle.frame_table.specs.Tells.{Did, Looks, Refuses, Tried, chosen, has_locked, has_tag, if_found, if_unlocked, looking};
 
 use crate::pin::{Pin, TryPin};
@@ -26,12 +26,14 @@ use table_rule::{Value, state_place};
 const LOCKED: u64 = 1 << 22;
 
 impl<L: BlockLane, G: LogDevice> FrameTable<L, G> {
-    /// The state word of a frame.
+    /// The state word of a frame. What it shows is seen: that the page is valid, that a wait is over, and that the backend's checkpoint may pass the frame.
     pub fn look(&self, seat: &mut Seat<Value<L, G>, View>, frame: u32) -> u64
         requires { CanStep self.now seat.old frame }
         ensures seat { SameSeat seat.old seat.new }
         ensures touches { Touches frame seat.old.me.0 seat.new.me.0 }
         ensures link { Looked (link seat.old.me.0 frame) (link seat.new.me.0 frame) }
+        ensures loaded { link seat.new.me.0 frame ≡ loaded_link (fields result) (link seat.old.me.0 frame) }
+        ensures seen { (link seat.old.me.0 frame).role ≡ HandedOut → (fields result).valid ≡ true → (link seat.new.me.0 frame).seen_valid ≡ true }
         ensures did { Did looking frame seat.old.me.0 seat.new.me.0 result }
     {
         self.table

@@ -1,7 +1,8 @@
 use Rattle.std.proofs.Common.{rules, arith, refl}
 use Rattle.frame_table.specs.Tells.{looking}
 use Rattle.frame_table.proofs.Words.{looks}
-use Rattle.frame_table.proofs.Told.{touches, looked}
+use Rattle.frame_table.proofs.Told.{touches, loads_link, looked}
+use Rattle.frame_table.proofs.Seeing.{handed_sees}
 use Rattle.frame_table.proofs.table.FrameTable.look.Goals as goal
 
 pub load-requires : goal.load-requires
@@ -12,3 +13,9 @@ returns-clause-touches g c = touches looking (λ s f v. refl) _ _ _ _ (c.load.en
 
 pub returns-clause-link : goal.returns-clause-link
 returns-clause-link g c = looked _ _ _ _ (c.load.ensures.2.1 c.args.frame c.state_place.ensures)
+
+pub returns-clause-loaded : goal.returns-clause-loaded
+returns-clause-loaded g c = loads_link _ _ _ _ (c.load.ensures.2.1 c.args.frame c.state_place.ensures)
+
+pub returns-clause-seen : goal.returns-clause-seen
+returns-clause-seen g c = handed_sees _ _ _ _ (c.load.ensures.2.1 c.args.frame c.state_place.ensures)
