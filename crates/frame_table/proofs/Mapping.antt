@@ -292,7 +292,7 @@ out_named entries p v w d unchanged = has_named d.state d.seat p v d.laws d.ther
 
 -- What a step at a partition makes of the view
 pub map_work : (k : parts.TurnKind) (p : ℕ) (v w : View) → DidMap k p v w → SameWork v w
-map_work k p v w d = subst (SameWork v) (sym d.after) record { number = refl; next = refl; joined = refl; emptied = refl; links = refl; flushed = refl; calls = refl; front = refl; loads = refl; upto = refl; met = refl }
+map_work k p v w d = subst (SameWork v) (sym d.after) record { number = refl; next = refl; joined = refl; emptied = refl; links = refl; flushed = refl; calls = refl; front = refl; loads = refl; place_loads = refl; upto = refl; kept = refl; device_calls = refl; met = refl; saw_down = refl; dirtied_or_synced = refl; had_output = refl; last_ended = refl }
 
 pub map_stepped : (k : parts.TurnKind) (p : ℕ) (v w : View) → DidMap k p v w → MapStep p (parts.hold_after k (hold v p)) v w
 map_stepped k p v w d = subst (MapStep p (parts.hold_after k (hold v p)) v) (sym d.after) record {
@@ -303,7 +303,7 @@ map_stepped k p v w d = subst (MapStep p (parts.hold_after k (hold v p)) v) (sym
 }
 
 work_on : (v u w : View) → SameWork v u → SameWork u w → SameWork v w
-work_on v u w a b = record { number = b.number ∙ a.number; next = b.next ∙ a.next; joined = b.joined ∙ a.joined; emptied = b.emptied ∙ a.emptied; links = b.links ∙ a.links; flushed = b.flushed ∙ a.flushed; calls = b.calls ∙ a.calls; front = b.front ∙ a.front; loads = b.loads ∙ a.loads; upto = b.upto ∙ a.upto; met = b.met ∙ a.met }
+work_on v u w a b = record { number = b.number ∙ a.number; next = b.next ∙ a.next; joined = b.joined ∙ a.joined; emptied = b.emptied ∙ a.emptied; links = b.links ∙ a.links; flushed = b.flushed ∙ a.flushed; calls = b.calls ∙ a.calls; front = b.front ∙ a.front; loads = b.loads ∙ a.loads; place_loads = b.place_loads ∙ a.place_loads; upto = b.upto ∙ a.upto; kept = b.kept ∙ a.kept; device_calls = b.device_calls ∙ a.device_calls; met = b.met ∙ a.met; saw_down = b.saw_down ∙ a.saw_down; dirtied_or_synced = b.dirtied_or_synced ∙ a.dirtied_or_synced; had_output = b.had_output ∙ a.had_output; last_ended = b.last_ended ∙ a.last_ended }
 
 steps_on : (p : ℕ) (h h' : PartitionHold) (v u w : View) → MapStep p h v u → MapStep p h' u w → MapStep p h' v w
 steps_on p h h' v u w a b = record { here = b.here; others = λ q n. b.others q n ∙ a.others q n; lanes = b.lanes ∙ a.lanes; log = b.log ∙ a.log }

@@ -99,8 +99,15 @@ pub record SameWork (v w : View) : Type 0 where
   pub calls : w.calls ≡ v.calls
   pub front : w.front ≡ v.front
   pub loads : w.loads ≡ v.loads
+  pub place_loads : w.place_loads ≡ v.place_loads
   pub upto : w.upto ≡ v.upto
+  pub kept : w.kept ≡ v.kept
+  pub device_calls : w.device_calls ≡ v.device_calls
   pub met : w.met ≡ v.met
+  pub saw_down : w.saw_down ≡ v.saw_down
+  pub dirtied_or_synced : w.dirtied_or_synced ≡ v.dirtied_or_synced
+  pub had_output : w.had_output ≡ v.had_output
+  pub last_ended : w.last_ended ≡ v.last_ended
 
 module _ {L G : Type 0} where
   -- where the latch was free it was taken, and else nothing happened
