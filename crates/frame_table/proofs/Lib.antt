@@ -10,6 +10,7 @@ pub mod Told
 pub mod Splitting
 pub mod Resting
 pub mod Behind
+pub mod Origins
 pub mod Holding
 pub mod TagLoads
 pub mod Taking

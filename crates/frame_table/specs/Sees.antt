@@ -246,6 +246,10 @@ module _ {L G : Type 0} where
   abbrev pub opened_of : FrameTable L G → List L
   opened_of t = t.table.shared.key.lanes.value.items
 
+  -- where its log begins
+  abbrev pub base_of : FrameTable L G → ℕ
+  base_of t = t.table.shared.key.base
+
   -- the seat is one of the table
   abbrev pub Fits : FrameTable L G → Seat (Value L G) View → Type 0
   Fits t s = s.table_id ≡ t.table.shared.table_id
