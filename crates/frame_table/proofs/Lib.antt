@@ -7,6 +7,7 @@ pub mod Contents
 pub mod HeldWords
 pub mod Seeing
 pub mod Told
+pub mod Marks
 pub mod Splitting
 pub mod Resting
 pub mod Behind

@@ -43,6 +43,30 @@ pub record SameSelf (v w : View) : Type 0 where
   pub met : w.met ≡ v.met
   pub saw_down : w.saw_down ≡ v.saw_down
 
+-- and of what it has marked, written and ended
+pub record SameMarks (v w : View) : Type 0 where
+  pub dirtied_or_synced : w.dirtied_or_synced ≡ v.dirtied_or_synced
+  pub had_output : w.had_output ≡ v.had_output
+  pub last_ended : w.last_ended ≡ v.last_ended
+
+-- A view that marked a frame dirty, and one that began to read or to write a page
+pub record MarksDirty (v w : View) : Type 0 where
+  pub dirtied_or_synced : w.dirtied_or_synced ≡ true
+  pub had_output : w.had_output ≡ v.had_output
+  pub last_ended : w.last_ended ≡ v.last_ended
+
+pub record MarksBegun (input : Bool) (v w : View) : Type 0 where
+  pub dirtied_or_synced : w.dirtied_or_synced ≡ v.dirtied_or_synced
+  pub reads : input ≡ true → w.had_output ≡ v.had_output
+  pub writes : input ≡ false → w.had_output ≡ true
+  pub last_ended : w.last_ended ≡ v.last_ended
+
+-- and one that ended it, with this word
+pub record MarksEnded (stored : StateWord) (v w : View) : Type 0 where
+  pub dirtied_or_synced : w.dirtied_or_synced ≡ v.dirtied_or_synced
+  pub had_output : w.had_output ≡ v.had_output
+  pub last_ended : w.last_ended ≡ Some stored
+
 -- the link after a load of the state word, which is w: a pin sees BM_VALID, a wait ends where its number isn't there beside BM_PIN_COUNT_WAITER, and the checkpoint passes a frame that isn't dirty, and has written one that it need not write
 abbrev pub loaded_link : StateWord → Link → Link
 loaded_link w l = record l {

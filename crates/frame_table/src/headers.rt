@@ -10,7 +10,7 @@ ghost use Rattle.pin_core.specs.Kinds as kinds;
 ghost use Rattle.pin_core.specs.Steps.{HasNoVictim};
 ghost use Rattle.table_rule.specs.Blocks.{has_block, is_block};
 ghost use Rattle.frame_table.specs.Kinds.{pins};
-ghost use Rattle.frame_table.specs.Sees.{CanErase, CanStep, CanStore, CanStoreAs, HasRoom, HasStored, HoldsWord, IsAlone, IsUsed, Looked, NamesStored, SameSeat, Stores, Touches, assigned_link, cleared_link, partitions_stored, read_link, relations_of, stored_link, tag_word, unlocked_link, victim_link};
+ghost use Rattle.frame_table.specs.Sees.{CanErase, CanStep, CanStore, CanStoreAs, HasRoom, HasStored, HoldsWord, IsAlone, IsUsed, Looked, NamesStored, SameMarks, SameSeat, Stores, Touches, assigned_link, cleared_link, partitions_stored, read_link, relations_of, stored_link, tag_word, unlocked_link, victim_link};
 ghost use Rattle.frame_table.specs.Tells.{Did, DidHeld, always, storing};
 
 use crate::pin::Pin;
@@ -54,6 +54,7 @@ impl<L: BlockLane, G: LogDevice> FrameTable<L, G> {
         requires right { kinds.CanLoadTag (link seat.old.me.0 frame).role (link seat.old.me.0 frame).header }
         ensures seat { SameSeat seat.old seat.new }
         ensures touches { Touches frame seat.old.me.0 seat.new.me.0 }
+        ensures marks { SameMarks seat.old.me.0 seat.new.me.0 }
         ensures named { IfSome result (λ tag. names_block tag ≡ true) }
         ensures listed { IfSome result (λ tag. has_block (relations_of self.now) tag ≡ true) }
         ensures handed { IfSome result (λ tag. (link seat.old.me.0 frame).role ≡ HandedOut → (link seat.new.me.0 frame).tag ≡ Some (packed_tag tag)) }
@@ -73,6 +74,7 @@ impl<L: BlockLane, G: LogDevice> FrameTable<L, G> {
         requires only { HasNoVictim seat.old.me.0 }
         ensures seat { SameSeat seat.old seat.new }
         ensures touches { Touches frame seat.old.me.0 seat.new.me.0 }
+        ensures marks { SameMarks seat.old.me.0 seat.new.me.0 }
         ensures pin { result.frame ≡ frame }
         ensures pinned { Looked (victim_link (link seat.old.me.0 frame)) (link seat.new.me.0 frame) }
         ensures did { DidHeld (pins kinds.pin_victim) frame seat.old.me.0 seat.new.me.0 }
@@ -90,6 +92,7 @@ impl<L: BlockLane, G: LogDevice> FrameTable<L, G> {
         requires held { HoldsWord IsUsed (link seat.old.me.0 frame) }
         ensures seat { SameSeat seat.old seat.new }
         ensures touches { Touches frame seat.old.me.0 seat.new.me.0 }
+        ensures marks { SameMarks seat.old.me.0 seat.new.me.0 }
         ensures lowered { Looked (unlocked_link (link seat.old.me.0 frame)) (link seat.new.me.0 frame) }
         ensures did { DidHeld (pins kinds.lower_usage) frame seat.old.me.0 seat.new.me.0 }
     {
@@ -139,6 +142,7 @@ impl<L: BlockLane, G: LogDevice> FrameTable<L, G> {
         requires tag { CanStoreAs (relations_of self.now) tag seat.old.me.0 frame }
         ensures seat { SameSeat seat.old seat.new }
         ensures stores { Stores frame seat.old.me.0 seat.new.me.0 }
+        ensures marks { SameMarks seat.old.me.0 seat.new.me.0 }
         ensures stored { link seat.new.me.0 frame ≡ stored_link (link seat.old.me.0 frame) }
         ensures named { seat.new.me.0.partitions ≡ partitions_stored tag frame seat.old.me.0 }
         ensures names { NamesStored tag frame seat.old.me.0 seat.new.me.0 }
@@ -156,6 +160,7 @@ impl<L: BlockLane, G: LogDevice> FrameTable<L, G> {
         requires stored { HasStored false (link seat.old.me.0 frame) }
         ensures seat { SameSeat seat.old seat.new }
         ensures touches { Touches frame seat.old.me.0 seat.new.me.0 }
+        ensures marks { SameMarks seat.old.me.0 seat.new.me.0 }
         ensures assigned { Looked (assigned_link (link seat.new.me.0 frame).tag (link seat.old.me.0 frame)) (link seat.new.me.0 frame) }
         ensures tag { (p tag : ℕ) → (hold seat.old.me.0 p).change ≡ Entering tag frame → (hold seat.old.me.0 p).changed ≡ false → (link seat.new.me.0 frame).tag ≡ Some tag }
         ensures did { DidHeld (pins kinds.assign) frame seat.old.me.0 seat.new.me.0 }
@@ -172,6 +177,7 @@ impl<L: BlockLane, G: LogDevice> FrameTable<L, G> {
         requires stored { HasStored true (link seat.old.me.0 frame) }
         ensures seat { SameSeat seat.old seat.new }
         ensures touches { Touches frame seat.old.me.0 seat.new.me.0 }
+        ensures marks { SameMarks seat.old.me.0 seat.new.me.0 }
         ensures cleared { Looked (cleared_link (link seat.old.me.0 frame)) (link seat.new.me.0 frame) }
         ensures did { DidHeld (pins kinds.clear) frame seat.old.me.0 seat.new.me.0 }
     {

@@ -4,6 +4,7 @@ use Rattle.frame_table.specs.Kinds.{pins}
 use Rattle.frame_table.proofs.Holding.{tag_read, read_after}
 use Rattle.frame_table.proofs.TagLoads.{tag_handed, tag_listed, tag_named, tag_settled}
 use Rattle.frame_table.proofs.Told.{touches}
+use Rattle.frame_table.proofs.Marks.{did_marks}
 use Rattle.frame_table.proofs.table.FrameTable.load_tag.Goals as goal
 
 pub returns-clause-touches : goal.returns-clause-touches
@@ -26,3 +27,6 @@ returns-clause-handed g c = tag_handed _ _ _ _ _ c.load_packed-word.ensures.did 
 
 pub returns-clause-did : goal.returns-clause-did
 returns-clause-did g c = tag_read _ _ _ _ _ c.load_packed-word.ensures.did c.unpack.ensures.value c.unpack.ensures.inverse
+
+pub returns-clause-marks : goal.returns-clause-marks
+returns-clause-marks g c = did_marks (pins load_tag) tt _ _ _ _ c.load_packed-word.ensures.did

@@ -3,6 +3,7 @@ use Rattle.frame_table.specs.Tells.{looking}
 use Rattle.frame_table.proofs.Words.{looks}
 use Rattle.frame_table.proofs.Told.{touches, loads_link, looked}
 use Rattle.frame_table.proofs.Seeing.{handed_sees}
+use Rattle.frame_table.proofs.Marks.{did_marks}
 use Rattle.frame_table.proofs.table.FrameTable.look.Goals as goal
 
 pub load-requires : goal.load-requires
@@ -19,3 +20,6 @@ returns-clause-loaded g c = loads_link _ _ _ _ (c.load.ensures.2.1 c.args.frame 
 
 pub returns-clause-seen : goal.returns-clause-seen
 returns-clause-seen g c = handed_sees _ _ _ _ (c.load.ensures.2.1 c.args.frame c.state_place.ensures)
+
+pub returns-clause-marks : goal.returns-clause-marks
+returns-clause-marks g c = did_marks looking tt _ _ _ _ (c.load.ensures.2.1 c.args.frame c.state_place.ensures)
