@@ -105,3 +105,10 @@ ended_marks end f word v w d = record {
   had_output = ap (λ (x : View). x.had_output) d.after ∙ or-false v.had_output;
   last_ended = ap (λ (x : View). x.last_ended) d.after ∙ ap (λ (x : StateWord). Some (unlocked_fields (io_ended_fields end x))) d.says;
 }
+
+-- after steps that mark nothing
+pub begun_marks_on : (input : Bool) (v u w : View) → SameMarks v u → MarksBegun input u w → MarksBegun input v w
+begun_marks_on input v u w a b = record { dirtied_or_synced = b.dirtied_or_synced ∙ a.dirtied_or_synced; reads = λ e. b.reads e ∙ a.had_output; writes = b.writes; last_ended = b.last_ended ∙ a.last_ended }
+
+pub ended_marks_on : (stored : StateWord) (v u w : View) → SameMarks v u → MarksEnded stored u w → MarksEnded stored v w
+ended_marks_on stored v u w a b = record { dirtied_or_synced = b.dirtied_or_synced ∙ a.dirtied_or_synced; had_output = b.had_output ∙ a.had_output; last_ended = b.last_ended }
