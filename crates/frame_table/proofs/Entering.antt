@@ -1,5 +1,5 @@
 -- A page becomes an entry of the log: the log's end is stored.
-use Rattle.std.proofs.Common.{◌≡◌, ℕ, ◌+◌, ◌*◌, ◌<◌, ◌≤◌, Bool, true, false, ⊎_elim, Option, Some, List, [], ◌∷◌, ◌++◌, ◌||◌, drop, get_or, set, length, length-set, get_or-set_same, get_or-set_other, append-nil, lit<, sym, refl, ap, ◌∙◌, subst, arith}
+use Rattle.std.proofs.Common.{◌≡◌, ℕ, ◌+◌, ◌*◌, ◌<◌, ◌≤◌, false, ⊎_elim, Option, Some, List, [], ◌∷◌, ◌++◌, drop, get_or, set, length, length-set, get_or-set_same, get_or-set_other, append-nil, lit<, sym, refl, ap, ◌∙◌, subst, arith}
 use Rattle.std.proofs.lemmas.Bool.{cases_lt}
 use Rattle.std.proofs.lemmas.List.{get_or_past}
 use Rattle.std.proofs.lemmas.Option.{same_Some}

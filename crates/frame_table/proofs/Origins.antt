@@ -1,10 +1,9 @@
 -- Loads of the log's end: a page that is read while the log has no entry is the one that its lane held at the start.
-use Rattle.std.proofs.Common.{◌≡◌, ℕ, ◌+◌, ◌*◌, ◌<◌, ◌≤◌, true, false, Option, Some, List, [], ◌∷◌, map, length, get_or, sym, refl, ap, ◌∙◌, arith}
+use Rattle.std.proofs.Common.{◌≡◌, ℕ, ◌+◌, ◌*◌, ◌<◌, ◌≤◌, true, false, Option, Some, List, [], ◌∷◌, map, length, sym, refl, ap, ◌∙◌, arith}
 use Rattle.std.specs.Prelude.{is_some}
 use mathlib.Core.Option.{none, some}
 use lib.ListN.{get_elem?}
 use Rattle.atomic_table.specs.Table.{Me, step, Allows}
-use Rattle.atomic_table.specs.Table as table
 use Rattle.atomic_table.proofs.Lists.{at_map}
 use Rattle.block_tag.specs.declared.tag.Tag.{Tag}
 use Rattle.block_tag.specs.Names.{packed_tag}

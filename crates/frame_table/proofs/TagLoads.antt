@@ -1,7 +1,7 @@
 -- Loads of tag words: the tag is of a block of the relations, and a pin remembers it.
 use Rattle.std.proofs.Common.{◌≡◌, ◌≢◌, ℕ, ◌<◌, cond, Bool, true, false, Option, Some, None, List, get_or, sym, refl, ap, ◌∙◌, subst, arith, ne_eqb}
 use Rattle.std.specs.Prelude.{IfSome}
-use mathlib.Core.Option.{none, some}
+use mathlib.Core.Option.{none}
 use Rattle.atomic_table.specs.Table.{Me, step, Allows}
 use Rattle.atomic_table.specs.Table as table
 use Rattle.block_tag.specs.declared.tag.Tag.{Tag}
@@ -9,11 +9,10 @@ use Rattle.block_tag.specs.declared.catalogue.RelEntry.{RelEntry}
 use Rattle.block_tag.specs.Names.{names_block, packed_tag, partition_number, unpacked_tag}
 use Rattle.pin_core.specs.declared.view.Link.{Link}
 use Rattle.pin_core.specs.declared.view.View.{View}
-use Rattle.pin_core.specs.declared.view.MapChange.{MapChange}
 use Rattle.pin_core.specs.declared.view.MapChange.TheVariants.{Leaving}
 use Rattle.pin_core.specs.declared.view.Role.{Role}
 use Rattle.pin_core.specs.declared.view.Role.TheVariants.{Absent, HandedOut, Victim}
-use Rattle.pin_core.specs.State.{hold, link, no_tag}
+use Rattle.pin_core.specs.State.{link, no_tag}
 use Rattle.pin_core.specs.Kinds.{tag_after}
 use Rattle.pin_core.specs.Kinds as pin
 use Rattle.table_rule.specs.declared.value.Value.{Value}

@@ -1,5 +1,5 @@
 //! Calls at state words.
-ghost use Rattle.std.specs.Prelude.{◌≡◌, ◌≢◌, ℕ, ◌<◌, true, false, Some, IfOk, IfErr, MatchResult};
+ghost use Rattle.std.specs.Prelude.{◌≡◌, ◌≢◌, ℕ, ◌<◌, true, false, Some, None, IfOk, IfErr, MatchResult};
 ghost use Rattle.state_word.specs.Fields.{fields, locked_fields, pinned_fields, unpinned_fields};
 ghost use Rattle.pin_core.specs.declared.view.View.{View};
 ghost use Rattle.pin_core.specs.declared.view.Role.TheVariants.{Absent, HandedOut};
@@ -35,6 +35,9 @@ impl<L: BlockLane, G: LogDevice> FrameTable<L, G> {
         ensures link { Looked (link seat.old.me.0 frame) (link seat.new.me.0 frame) }
         ensures loaded { link seat.new.me.0 frame ≡ loaded_link (fields result) (link seat.old.me.0 frame) }
         ensures seen { (link seat.old.me.0 frame).role ≡ HandedOut → (fields result).valid ≡ true → (link seat.new.me.0 frame).seen_valid ≡ true }
+        ensures over { (fields result).awaited ≡ false → (link seat.new.me.0 frame).waits ≡ None }
+        ensures passed { (fields result).dirty ≡ false → (link seat.new.me.0 frame).passed ≡ true }
+        ensures written { (fields result).checkpoint_needed ≡ false → (link seat.new.me.0 frame).listed ≡ false }
         ensures did { Did looking frame seat.old.me.0 seat.new.me.0 result }
     {
         self.table

@@ -2,7 +2,7 @@ use Rattle.std.proofs.Common.{rules, arith, refl}
 use Rattle.frame_table.specs.Tells.{looking}
 use Rattle.frame_table.proofs.Words.{looks}
 use Rattle.frame_table.proofs.Told.{touches, loads_link, looked}
-use Rattle.frame_table.proofs.Seeing.{handed_sees}
+use Rattle.frame_table.proofs.Seeing.{handed_sees, need_not_write, passes_clean, sees_over}
 use Rattle.frame_table.proofs.Marks.{did_marks}
 use Rattle.frame_table.proofs.table.FrameTable.look.Goals as goal
 
@@ -23,3 +23,12 @@ returns-clause-seen g c = handed_sees _ _ _ _ (c.load.ensures.2.1 c.args.frame c
 
 pub returns-clause-marks : goal.returns-clause-marks
 returns-clause-marks g c = did_marks looking tt _ _ _ _ (c.load.ensures.2.1 c.args.frame c.state_place.ensures)
+
+pub returns-clause-over : goal.returns-clause-over
+returns-clause-over g c = sees_over _ _ _ _ (c.load.ensures.2.1 c.args.frame c.state_place.ensures)
+
+pub returns-clause-passed : goal.returns-clause-passed
+returns-clause-passed g c = passes_clean _ _ _ _ (c.load.ensures.2.1 c.args.frame c.state_place.ensures)
+
+pub returns-clause-written : goal.returns-clause-written
+returns-clause-written g c = need_not_write _ _ _ _ (c.load.ensures.2.1 c.args.frame c.state_place.ensures)
