@@ -27,7 +27,7 @@ abbrev pub IsEndAllowed : ℕ → EndLoad → View → Type 0
 IsEndAllowed frames (Read f) v = (f < frames) × IsCopied (link v f)
 IsEndAllowed frames _ v = Unit {0}
 
--- The page of a tag's block is the one that its lane, of so many, held at the start, where that is known: `held` is what each lane did
+-- The page of a tag's block is the one that its lane, of so many, held at the start, where that is known: `held` has the pages of each lane then
 abbrev pub IsHeld : List RelEntry → ℕ → List (Option Pages) → Tag → Page → Type 0
 IsHeld relations lanes held tag page = (q : ℕ) (known : Pages) → IsBlockOf relations lanes q tag → get_elem? held q ≡ some (Some known) → known tag ≡ Some page
 

@@ -67,7 +67,7 @@ pub record MarksEnded (stored : StateWord) (v w : View) : Type 0 where
   pub had_output : w.had_output ≡ v.had_output
   pub last_ended : w.last_ended ≡ Some stored
 
--- the link after a load of the state word, which is w: a pin sees BM_VALID, a wait ends where its number isn't there beside BM_PIN_COUNT_WAITER, and the checkpoint passes a frame that isn't dirty, and has written one that it need not write
+-- the link after a load of the state word, which is w: a pin sees BM_VALID, a wait goes on only while its number stands beside BM_PIN_COUNT_WAITER, and the checkpoint passes a frame that isn't dirty, and has no more to write one without BM_CHECKPOINT_NEEDED
 abbrev pub loaded_link : StateWord → Link → Link
 loaded_link w l = record l {
   seen_valid = seen_valid_after l.pending l.role w.valid l.seen_valid;

@@ -26,7 +26,7 @@ use table_rule::{Value, state_place};
 const LOCKED: u64 = 1 << 22;
 
 impl<L: BlockLane, G: LogDevice> FrameTable<L, G> {
-    /// The state word of a frame. What it shows is seen: that the page is valid, that a wait is over, and that the backend's checkpoint may pass the frame.
+    /// The state word of a frame. By it a pin sees that the page is valid, a wait is over where the word has no waiter, and the backend's checkpoint passes a frame that isn't dirty.
     pub fn look(&self, seat: &mut Seat<Value<L, G>, View>, frame: u32) -> u64
         requires { CanStep self.now seat.old frame }
         ensures seat { SameSeat seat.old seat.new }

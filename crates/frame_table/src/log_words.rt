@@ -38,7 +38,7 @@ impl<L: BlockLane, G: LogDevice> FrameTable<L, G> {
         self.table.shared.load::<LoadEnd<D>>(seat, at)
     }
 
-    /// The log's end, and what it is loaded for: as the place of a read it joins the backend's calls, and is its front then. A read whose place is the log's base is of the page that the block's lane held as the table was opened.
+    /// The log's end, and what it is loaded for: as the place of a read it joins the backend's calls, and is its front then. A read whose place is the log's base is of the page that the block's lane held as the table was opened, where that is known.
     pub fn load_log_end(&self, seat: &mut Seat<Value<L, G>, View>, what: EndLoad) -> u64
         requires seat { IsSeat self.now seat.old }
         requires allowed { IsEndAllowed (frames_of self.now) what seat.old.me.0 }
