@@ -49,13 +49,17 @@ module _ (word : ℕ) (l m : Link) (a : Looked (locked_link word l) m) where
     last_write = b.last_write ∙ a.last_write;
     out = b.out ∙ a.out;
     overwritten = b.overwritten ∙ a.overwritten;
+    image = b.image ∙ a.image;
+    seen_valid = λ saw. b.seen_valid (a.seen_valid saw);
     waits = λ w. b.waits (a.waits w);
+    passed = λ was. b.passed (a.passed was);
+    listed = λ none. b.listed (a.listed none);
   }
 
   -- begun
   pub begun_back : (input : Bool) (o : Link) → o ≡ begun_link input m → Looked (begun_link input l) o
-  begun_back true o e = subst (Looked (begun_link true l)) (sym e) record { role = a.role; tag = a.tag; ring = a.ring; header = refl; pending = a.pending; content = a.content; copying = a.copying; dirtied = a.dirtied; unapplied = a.unapplied; copied = a.copied; io = refl; read = refl; read_is_home = refl; last_write = a.last_write; out = a.out; overwritten = a.overwritten; waits = a.waits }
-  begun_back false o e = subst (Looked (begun_link false l)) (sym e) record { role = a.role; tag = a.tag; ring = a.ring; header = refl; pending = a.pending; content = a.content; copying = a.copying; dirtied = a.dirtied; unapplied = a.unapplied; copied = a.copied; io = refl; read = a.read; read_is_home = a.read_is_home; last_write = a.last_write; out = a.out; overwritten = a.overwritten; waits = a.waits }
+  begun_back true o e = subst (Looked (begun_link true l)) (sym e) record { role = a.role; tag = a.tag; ring = a.ring; header = refl; pending = a.pending; content = a.content; copying = a.copying; dirtied = a.dirtied; unapplied = a.unapplied; copied = a.copied; io = refl; read = refl; read_is_home = refl; last_write = a.last_write; out = a.out; overwritten = a.overwritten; image = a.image; seen_valid = a.seen_valid; waits = a.waits; passed = a.passed; listed = a.listed }
+  begun_back false o e = subst (Looked (begun_link false l)) (sym e) record { role = a.role; tag = a.tag; ring = a.ring; header = refl; pending = a.pending; content = a.content; copying = a.copying; dirtied = a.dirtied; unapplied = a.unapplied; copied = a.copied; io = refl; read = a.read; read_is_home = a.read_is_home; last_write = a.last_write; out = a.out; overwritten = a.overwritten; image = a.image; seen_valid = a.seen_valid; waits = a.waits; passed = a.passed; listed = a.listed }
 
   -- the frame of a pin that was handed out has a tag
   tagged : (f was : ℕ) (v u w : View) → Looks f v u → Did (pins lock_header) f u w was → fields word ≡ locked_fields (fields was) → (link v f).role ≡ HandedOut → (fields word).tag_valid ≡ true
@@ -129,8 +133,8 @@ module _ (f : ℕ) (v w : View) (touches : Touches f v w) (a : Looked (link v f)
 
 -- loads, and then a read or a write that began
 pub begun_on : (input : Bool) (l m n : Link) → Looked l m → Looked (begun_link input m) n → Looked (begun_link input l) n
-begun_on true l m n a b = looked_on (begun_link true l) (begun_link true m) n record { role = a.role; tag = a.tag; ring = a.ring; header = refl; pending = a.pending; content = a.content; copying = a.copying; dirtied = a.dirtied; unapplied = a.unapplied; copied = a.copied; io = refl; read = refl; read_is_home = refl; last_write = a.last_write; out = a.out; overwritten = a.overwritten; waits = a.waits } b
-begun_on false l m n a b = looked_on (begun_link false l) (begun_link false m) n record { role = a.role; tag = a.tag; ring = a.ring; header = refl; pending = a.pending; content = a.content; copying = a.copying; dirtied = a.dirtied; unapplied = a.unapplied; copied = a.copied; io = refl; read = a.read; read_is_home = a.read_is_home; last_write = a.last_write; out = a.out; overwritten = a.overwritten; waits = a.waits } b
+begun_on true l m n a b = looked_on (begun_link true l) (begun_link true m) n record { role = a.role; tag = a.tag; ring = a.ring; header = refl; pending = a.pending; content = a.content; copying = a.copying; dirtied = a.dirtied; unapplied = a.unapplied; copied = a.copied; io = refl; read = refl; read_is_home = refl; last_write = a.last_write; out = a.out; overwritten = a.overwritten; image = a.image; seen_valid = a.seen_valid; waits = a.waits; passed = a.passed; listed = a.listed } b
+begun_on false l m n a b = looked_on (begun_link false l) (begun_link false m) n record { role = a.role; tag = a.tag; ring = a.ring; header = refl; pending = a.pending; content = a.content; copying = a.copying; dirtied = a.dirtied; unapplied = a.unapplied; copied = a.copied; io = refl; read = a.read; read_is_home = a.read_is_home; last_write = a.last_write; out = a.out; overwritten = a.overwritten; image = a.image; seen_valid = a.seen_valid; waits = a.waits; passed = a.passed; listed = a.listed } b
 
 -- a read or a write may end under the header as it could before it was locked
 ends_on : (end : IoEnd) (l m : Link) → m.io ≡ l.io → m.read ≡ l.read → m.read_is_home ≡ l.read_is_home → m.last_write ≡ l.last_write → EndsAs end l → EndsAs end m
@@ -146,7 +150,7 @@ pub no_write_still : (f : ℕ) (v w : View) → w.lanes ≡ v.lanes → HasNoWri
 no_write_still f v w e h n = subst (λ (l : List LaneHold). (get_or l n no_lane).out ≢ None → ¬ IsWriteOf f (get_or l n no_lane).change) (sym e) (h n)
 
 pub finished_back : (word : ℕ) (l m o : Link) → Looked (locked_link word l) m → o ≡ finished_link m → Looked (finished_link l) o
-finished_back word l m o a e = subst (Looked (finished_link l)) (sym e) record { role = a.role; tag = a.tag; ring = a.ring; header = refl; pending = a.pending; content = a.content; copying = a.copying; dirtied = a.dirtied; unapplied = a.unapplied; copied = a.copied; io = refl; read = refl; read_is_home = refl; last_write = refl; out = a.out; overwritten = a.overwritten; waits = a.waits }
+finished_back word l m o a e = subst (Looked (finished_link l)) (sym e) record { role = a.role; tag = a.tag; ring = a.ring; header = refl; pending = a.pending; content = a.content; copying = a.copying; dirtied = a.dirtied; unapplied = a.unapplied; copied = a.copied; io = refl; read = refl; read_is_home = refl; last_write = refl; out = a.out; overwritten = a.overwritten; image = a.image; seen_valid = a.seen_valid; waits = a.waits; passed = a.passed; listed = a.listed }
 
 pub looked_none : (l : Link) → Looked l l
-looked_none l = record { role = refl; tag = refl; ring = refl; header = refl; pending = refl; content = refl; copying = refl; dirtied = refl; unapplied = refl; copied = refl; io = refl; read = refl; read_is_home = refl; last_write = refl; out = refl; overwritten = refl; waits = λ e. e }
+looked_none l = record { role = refl; tag = refl; ring = refl; header = refl; pending = refl; content = refl; copying = refl; dirtied = refl; unapplied = refl; copied = refl; io = refl; read = refl; read_is_home = refl; last_write = refl; out = refl; overwritten = refl; image = refl; seen_valid = λ e. e; waits = λ e. e; passed = λ e. e; listed = λ e. e }

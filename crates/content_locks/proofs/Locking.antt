@@ -10,11 +10,12 @@ use Rattle.pin_core.specs.declared.view.View.{View}
 use Rattle.pin_core.specs.State.{Page, link}
 use Rattle.page_core.specs.Kinds as paged
 use Rattle.frame_table.specs.Kinds.{FrameKind, pages}
-use Rattle.frame_table.specs.Sees.{SameSeat, Touches}
+use Rattle.frame_table.specs.Sees.{SameMarks, SameSeat, Touches}
 use Rattle.frame_table.specs.Tells.{Did}
 use Rattle.frame_table.specs.Content.{copying_link, looking_content, has_exclusive}
 use Rattle.frame_table.specs.PageWork.{CanReturnPage, applied_link, input_page, page_due, page_out_link, read_home, returned_link}
 use Rattle.frame_table.proofs.Told.{link_is, touches, touches_on, touches_none}
+use Rattle.frame_table.proofs.Marks.{did_marks, marks_none, marks_on}
 use Rattle.frame_table.proofs.Contents.{own_share, own_exclusive}
 use Rattle.frame_table.proofs.Seeing.{shows_holder}
 use Rattle.content_locks.specs.Locks.{Looks, still, again, Locks, RefusesLock, IsHeld, MayCopy, copied_link, copying_link_if}
@@ -25,6 +26,11 @@ use Rattle.content_locks.specs.declared.locks.TryLock.TheVariants.{Busy, Changed
 pub looks_touch : (f : ℕ) (v w : View) → Looks f v w → Touches f v w
 looks_touch f v w still = touches_none f v
 looks_touch f v w (again {u = u} found before d) = touches_on f v u w (looks_touch f v u before) (touches looking_content (λ s g x. refl) f found u w d)
+
+-- and mark nothing
+pub looks_marks : (f : ℕ) (v w : View) → Looks f v w → SameMarks v w
+looks_marks f v w still = marks_none v
+looks_marks f v w (again {u = u} found before d) = marks_on v u w (looks_marks f v u before) (did_marks looking_content (record { clean = refl; quiet = refl; open_ended = λ fr e. refl }) f found u w d)
 
 pub looks_link : (f : ℕ) (v w : View) → Looks f v w → link w f ≡ link v f
 looks_link f v w still = refl

@@ -14,7 +14,7 @@ use Rattle.page_core.specs.Kinds as paged
 use Rattle.page_core.specs.Kinds.{EndsAs}
 use Rattle.frame_table.specs.declared.io_right.IoRight.{IoRight}
 use Rattle.frame_table.specs.Kinds.{pages, pins}
-use Rattle.frame_table.specs.Sees.{Looked}
+use Rattle.frame_table.specs.Sees.{Looked, MarksBegun, SameMarks}
 use Rattle.frame_table.specs.Tells.{Did, Looks, looking}
 use Rattle.frame_table.specs.Content.{begun_link, start_of}
 use Rattle.content_locks.specs.declared.io.TryIo.{TryIo}
@@ -91,6 +91,6 @@ pub record EndsIo (end : IoEnd) (f : ℕ) (v w : View) : Type 0 where
 
 -- what one try leaves, and why
 abbrev pub TriedIo : Bool → ℕ → View → View → TryIo → Type 0
-TriedIo input f v w InProgress = Looked (link v f) (link w f) × FindsWork f v w
-TriedIo input f v w Nothing = Looked (link v f) (link w f) × (input ≡ true → (link w f).seen_valid ≡ true) × FindsNothing input f v w
-TriedIo input f v w (Begun right) = (right.frame ≡ f) × (right.input ≡ input) × Looked (begun_link input (link v f)) (link w f) × BeginsIo input f v w
+TriedIo input f v w InProgress = Looked (link v f) (link w f) × FindsWork f v w × SameMarks v w
+TriedIo input f v w Nothing = Looked (link v f) (link w f) × (input ≡ true → (link w f).seen_valid ≡ true) × FindsNothing input f v w × SameMarks v w
+TriedIo input f v w (Begun right) = (right.frame ≡ f) × (right.input ≡ input) × Looked (begun_link input (link v f)) (link w f) × BeginsIo input f v w × MarksBegun input v w

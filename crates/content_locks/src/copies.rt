@@ -10,7 +10,7 @@ ghost use Rattle.table_rule.specs.Layout.{slot_of};
 ghost use Rattle.frame_table.specs.Content.{copying_link};
 ghost use Rattle.frame_table.specs.PageWork.{CanReturnPage, CanTakePage, ReturnsBy, overwriting, page_out_link, returned_link};
 ghost use Rattle.frame_table.specs.Kinds.{pages};
-ghost use Rattle.frame_table.specs.Sees.{CanStep, SameSeat, Touches, frames_of};
+ghost use Rattle.frame_table.specs.Sees.{CanStep, SameMarks, SameSeat, Touches, frames_of};
 ghost use Rattle.frame_table.specs.Tells.{Did};
 ghost use Rattle.content_locks.specs.Locks.{CanCopy, Copies, CopiesPage, Locks, MayCopy, TriedCopy, copied_link, copying_link_if};
 
@@ -33,6 +33,7 @@ fn take_copy<L: BlockLane, G: LogDevice, R: Wait>(
     requires view { (link seat.old.me.0 frame).content ≡ Shared }
     ensures seat { SameSeat seat.old seat.new }
     ensures touches { Touches frame seat.old.me.0 seat.new.me.0 }
+    ensures marks { SameMarks seat.old.me.0 seat.new.me.0 }
     ensures taken { link seat.new.me.0 frame ≡ copying_link true (link seat.old.me.0 frame) }
     ensures did { Locks kinds.take_copy frame seat.old.me.0 seat.new.me.0 }
 {
@@ -53,6 +54,7 @@ fn try_copy<L: BlockLane, G: LogDevice>(
     requires view { (link seat.old.me.0 frame).content ≡ Shared }
     ensures seat { SameSeat seat.old seat.new }
     ensures touches { Touches frame seat.old.me.0 seat.new.me.0 }
+    ensures marks { SameMarks seat.old.me.0 seat.new.me.0 }
     ensures link { link seat.new.me.0 frame ≡ copying_link_if result (link seat.old.me.0 frame) }
     ensures did { TriedCopy frame seat.old.me.0 seat.new.me.0 result }
 {
@@ -77,6 +79,7 @@ fn copy_page<L: BlockLane, G: LogDevice>(
     requires view { MayCopy (link seat.old.me.0 frame) }
     ensures seat { SameSeat seat.old seat.new }
     ensures touches { Touches frame seat.old.me.0 seat.new.me.0 }
+    ensures marks { SameMarks seat.old.me.0 seat.new.me.0 }
     ensures copied { link seat.new.me.0 frame ≡ copied_link page.new (link seat.old.me.0 frame) }
     ensures did { CopiesPage frame page.new seat.old.me.0 seat.new.me.0 }
 {
@@ -97,6 +100,7 @@ pub fn copy_out<L: BlockLane, G: LogDevice, R: Wait>(
     requires view { CanCopy (link seat.old.me.0 frame) }
     ensures seat { SameSeat seat.old seat.new }
     ensures touches { Touches frame seat.old.me.0 seat.new.me.0 }
+    ensures marks { SameMarks seat.old.me.0 seat.new.me.0 }
     ensures copied { link seat.new.me.0 frame ≡ copied_link page.new (link seat.old.me.0 frame) }
     ensures did { Copies frame page.new seat.old.me.0 seat.new.me.0 }
 {
@@ -120,6 +124,7 @@ pub fn page_out<L: BlockLane, G: LogDevice>(
     ensures seat { (seat.new.table_id ≡ seat.old.table_id) × (seat.new.id ≡ seat.old.id) }
     ensures hand { seat.new.me.1 ≡ (slot_of (frames_of table.now) (place.Page frame), value.Away) ∷ seat.old.me.1 }
     ensures touches { Touches frame seat.old.me.0 seat.new.me.0 }
+    ensures marks { SameMarks seat.old.me.0 seat.new.me.0 }
     ensures out { link seat.new.me.0 frame ≡ page_out_link result (link seat.old.me.0 frame) }
     ensures fresh { (link seat.new.me.0 frame).overwritten ≡ None }
     ensures did { (found : ℕ) × Did (pages kinds.page_out) frame seat.old.me.0 seat.new.me.0 found }
@@ -140,6 +145,7 @@ pub fn page_back<L: BlockLane, G: LogDevice>(
     ensures seat { (seat.new.table_id ≡ seat.old.table_id) × (seat.new.id ≡ seat.old.id) }
     ensures hand { seat.new.me.1 ≡ rest seat.old.me.1 }
     ensures touches { Touches frame seat.old.me.0 seat.new.me.0 }
+    ensures marks { SameMarks seat.old.me.0 seat.new.me.0 }
     ensures back { link seat.new.me.0 frame ≡ returned_link page (link seat.old.me.0 frame) }
     ensures did { (found : ℕ) × ReturnsBy (overwriting (link seat.old.me.0 frame)) frame seat.old.me.0 seat.new.me.0 found }
 {

@@ -1,10 +1,10 @@
 //! The rights to read a page and to write it (`StartBufferIO`, `TerminateBufferIO`).
-ghost use Rattle.std.specs.Prelude.{◌≡◌, true, IfNone, IfSome};
-ghost use Rattle.state_word.specs.Fields.{fields};
+ghost use Rattle.std.specs.Prelude.{◌≡◌, ℕ, true, IfNone, IfSome, MatchOption};
+ghost use Rattle.state_word.specs.Fields.{fields, io_ended_fields, unlocked_fields};
 ghost use Rattle.pin_core.specs.State.{link};
 ghost use Rattle.pin_core.specs.Steps.{HoldsNoHeader};
 ghost use Rattle.page_core.specs.Steps.{HasNoIo, HasNoWriteOut};
-ghost use Rattle.frame_table.specs.Sees.{CanStep, Looked, SameSeat, Touches};
+ghost use Rattle.frame_table.specs.Sees.{CanStep, Looked, MarksBegun, MarksEnded, SameMarks, SameSeat, Touches};
 ghost use Rattle.frame_table.specs.Content.{begun_link, finished_link};
 ghost use Rattle.content_locks.specs.Io.{BeginsIo, CanEndIo, CanStartIo, EndsIo, FindsNothing, TriedIo, is_nothing};
 
@@ -78,6 +78,7 @@ pub fn start_io<L: BlockLane, G: LogDevice, R: Wait>(
     requires view { CanStartIo input (link seat.old.me.0 frame) }
     ensures seat { SameSeat seat.old seat.new }
     ensures touches { Touches frame seat.old.me.0 seat.new.me.0 }
+    ensures marks { MatchOption result (SameMarks seat.old.me.0 seat.new.me.0) (λ _. MarksBegun input seat.old.me.0 seat.new.me.0) }
     ensures right { IfSome result (λ r. (r.frame ≡ frame) × (r.input ≡ input)) }
     ensures begun { IfSome result (λ _. Looked (begun_link input (link seat.old.me.0 frame)) (link seat.new.me.0 frame)) }
     ensures left { IfNone result (Looked (link seat.old.me.0 frame) (link seat.new.me.0 frame)) }
@@ -109,6 +110,7 @@ pub fn end_io<L: BlockLane, G: LogDevice, R: Wait>(
     requires view { CanEndIo end (link seat.old.me.0 right.frame) }
     ensures seat { SameSeat seat.old seat.new }
     ensures touches { Touches right.frame seat.old.me.0 seat.new.me.0 }
+    ensures marks { (word : ℕ) × MarksEnded (unlocked_fields (io_ended_fields end (fields word))) seat.old.me.0 seat.new.me.0 }
     ensures ended { Looked (finished_link (link seat.old.me.0 right.frame)) (link seat.new.me.0 right.frame) }
     ensures did { EndsIo end right.frame seat.old.me.0 seat.new.me.0 }
 {

@@ -2,7 +2,7 @@
 ghost use Rattle.std.specs.Prelude.{◌≡◌, ℕ, IfErr, IfOk};
 ghost use Rattle.pin_core.specs.State.{link};
 ghost use Rattle.page_core.specs.Kinds as kinds;
-ghost use Rattle.frame_table.specs.Sees.{CanStep, SameSeat, Touches};
+ghost use Rattle.frame_table.specs.Sees.{CanStep, SameMarks, SameSeat, Touches};
 ghost use Rattle.frame_table.specs.Kinds.{pages};
 ghost use Rattle.frame_table.specs.Tells.{Did};
 ghost use Rattle.frame_table.specs.Content.{CanDropExclusive, CanDropShare, CanLock, exclusive_link, shared_link, unexclusive_link, unshared_link};
@@ -34,6 +34,7 @@ pub fn try_share<L: BlockLane, G: LogDevice>(
     requires view { CanLock (link seat.old.me.0 frame) }
     ensures seat { SameSeat seat.old seat.new }
     ensures touches { Touches frame seat.old.me.0 seat.new.me.0 }
+    ensures marks { SameMarks seat.old.me.0 seat.new.me.0 }
     ensures shared { IfOk result (λ _. link seat.new.me.0 frame ≡ shared_link (link seat.old.me.0 frame)) }
     ensures left { IfErr result (λ _. link seat.new.me.0 frame ≡ link seat.old.me.0 frame) }
     ensures did { IfOk result (λ _. Locks kinds.share frame seat.old.me.0 seat.new.me.0) }
@@ -59,6 +60,7 @@ pub fn try_exclusive<L: BlockLane, G: LogDevice>(
     requires view { CanLock (link seat.old.me.0 frame) }
     ensures seat { SameSeat seat.old seat.new }
     ensures touches { Touches frame seat.old.me.0 seat.new.me.0 }
+    ensures marks { SameMarks seat.old.me.0 seat.new.me.0 }
     ensures exclusive { IfOk result (λ _. link seat.new.me.0 frame ≡ exclusive_link (link seat.old.me.0 frame)) }
     ensures left { IfErr result (λ _. link seat.new.me.0 frame ≡ link seat.old.me.0 frame) }
     ensures did { IfOk result (λ _. Locks kinds.exclude frame seat.old.me.0 seat.new.me.0) }
@@ -85,6 +87,7 @@ pub fn share<L: BlockLane, G: LogDevice, R: Wait>(
     requires view { CanLock (link seat.old.me.0 frame) }
     ensures seat { SameSeat seat.old seat.new }
     ensures touches { Touches frame seat.old.me.0 seat.new.me.0 }
+    ensures marks { SameMarks seat.old.me.0 seat.new.me.0 }
     ensures shared { link seat.new.me.0 frame ≡ shared_link (link seat.old.me.0 frame) }
     ensures did { Locks kinds.share frame seat.old.me.0 seat.new.me.0 }
 {
@@ -108,6 +111,7 @@ pub fn exclusive<L: BlockLane, G: LogDevice, R: Wait>(
     requires view { CanLock (link seat.old.me.0 frame) }
     ensures seat { SameSeat seat.old seat.new }
     ensures touches { Touches frame seat.old.me.0 seat.new.me.0 }
+    ensures marks { SameMarks seat.old.me.0 seat.new.me.0 }
     ensures exclusive { link seat.new.me.0 frame ≡ exclusive_link (link seat.old.me.0 frame) }
     ensures did { Locks kinds.exclude frame seat.old.me.0 seat.new.me.0 }
 {
@@ -130,6 +134,7 @@ pub fn unshare<L: BlockLane, G: LogDevice>(
     requires view { CanDropShare (link seat.old.me.0 frame) }
     ensures seat { SameSeat seat.old seat.new }
     ensures touches { Touches frame seat.old.me.0 seat.new.me.0 }
+    ensures marks { SameMarks seat.old.me.0 seat.new.me.0 }
     ensures unshared { link seat.new.me.0 frame ≡ unshared_link (link seat.old.me.0 frame) }
     ensures did { (was : ℕ) × Did (pages kinds.unshare) frame seat.old.me.0 seat.new.me.0 was }
 {
@@ -146,6 +151,7 @@ pub fn unexclusive<L: BlockLane, G: LogDevice>(
     requires view { CanDropExclusive (link seat.old.me.0 frame) }
     ensures seat { SameSeat seat.old seat.new }
     ensures touches { Touches frame seat.old.me.0 seat.new.me.0 }
+    ensures marks { SameMarks seat.old.me.0 seat.new.me.0 }
     ensures unexclusive { link seat.new.me.0 frame ≡ unexclusive_link (link seat.old.me.0 frame) }
     ensures did { (was : ℕ) × Did (pages kinds.unexclude) frame seat.old.me.0 seat.new.me.0 was }
 {

@@ -205,6 +205,10 @@ module _ {L G : Type 0} (d : Devices L G) (o : Opening L G) (slots id : ℕ) (me
   pub adds_hand_there : Allows (Held d o) slots id me (hand_place o.config.frames) (λ n. (n + 1) % 2 ^ 64) (tells_word add_hand (step slots (hand_place o.config.frames) 1 0 none) me)
   adds_hand_there = acts_behind d o add_hand slots id 1 0 (λ n. (n + 1) % 2 ^ 64) me live (λ s l f there small. (tt, hand_moves s.hand small))
 
+-- the flushed position never falls behind what a view has loaded of it
+pub flushed_below : (v w : View) (found : ℕ) → DidWord load_flushed v w found → v.flushed ≤ found
+flushed_below v w found d = let a = (d.laws.invariant.history.calls d.seat v d.there).loaded in let e = d.says in omega arith
+
 -- the place of a read is at least all that the backend had seen
 pub front_below : (k : WordKind) (v w : View) (found : ℕ) → ((s : State) → word_of k s ≡ s.end) → DidWord k v w found → v.front ≤ found
 front_below k v w found ends d = let a = (d.laws.invariant.history.calls d.seat v d.there).within in let b = d.laws.invariant.ends in let c = ends d.state in let e = d.says in omega arith

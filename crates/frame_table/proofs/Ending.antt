@@ -1,5 +1,5 @@
 -- A table ends: the first backend has taken the others in, and nothing is out.
-use Rattle.std.proofs.Common.{◌≡◌, ◌≢◌, ℕ, ◌+◌, ◌-◌, ◌*◌, ◌<◌, ◌≤◌, Bool, true, false, List, [], ◌∷◌, ◌++◌, take, length, Vec, sym, refl, ap, ◌∙◌, subst, arith}
+use Rattle.std.proofs.Common.{◌≡◌, ◌≢◌, ℕ, ◌+◌, ◌-◌, ◌<◌, ◌≤◌, Bool, true, false, List, [], ◌∷◌, take, length, Vec, sym, refl, ap, ◌∙◌, subst, arith}
 use Rattle.std.specs.Prelude.{vec_capacity}
 use Rattle.std.specs.Global.{Global}
 use mathlib.Core.Logic.{dite}
@@ -15,7 +15,6 @@ use Rattle.pin_core.specs.Steps.{HoldsNothing}
 use Rattle.pin_core.specs.Invariant.{live_weight}
 use Rattle.grid.proofs.Sums.{terms_le}
 use Rattle.history_core.specs.State.{State}
-use Rattle.history_core.specs.Laws.{Laws}
 use Rattle.table_rule.specs.declared.noted_lane.NotedLane.{NotedLane}
 use Rattle.table_rule.specs.declared.noted_log.NotedLog.{NotedLog}
 use Rattle.table_rule.specs.declared.value.Value.{Value}
@@ -26,7 +25,7 @@ use Rattle.table_rule.specs.declared.turn.Place.TheVariants as place
 use Rattle.table_rule.specs.declared.turn.Turn.TheVariants as turn
 use Rattle.table_rule.specs.Layout.{slot_of}
 use Rattle.table_rule.specs.Laid.{lanes_in, IsPlain, EndsWith}
-use Rattle.table_rule.specs.Shows.{is_out, IsHome, Devices, Gives, GivesPage, GivesMap, GivesLane, GivesLog, IsLane, IsLog, HasPlace, HasValue, Held}
+use Rattle.table_rule.specs.Shows.{is_out, IsHome, Devices, Gives, GivesPage, GivesMap, GivesLane, GivesLog, IsLane, IsLog, HasPlace, Held}
 use Rattle.table_rule.proofs.Emptying.{at_take, two_last, plain_each, LanesAt, AreThose, are_those, same_item, IsOther, other_plain, other_lanes, lane_plain, log_lanes, list_lanes, one_log}
 use Rattle.table_rule.proofs.Opens.{length_low}
 use Rattle.frame_table.specs.Closes.{Closes}

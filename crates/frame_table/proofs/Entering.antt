@@ -1,8 +1,9 @@
 -- A page becomes an entry of the log: the log's end is stored.
-use Rattle.std.proofs.Common.{◌≡◌, ℕ, ◌+◌, ◌*◌, ◌<◌, ◌≤◌, Bool, true, false, ⊎_elim, Option, Some, List, [], ◌∷◌, ◌++◌, ◌||◌, drop, get_or, set, length, length-set, get_or-set_same, get_or-set_other, append-nil, lit<, sym, refl, ap, ◌∙◌, subst, arith}
+use Rattle.std.proofs.Common.{◌≡◌, ℕ, ◌+◌, ◌*◌, ◌<◌, ◌≤◌, false, ⊎_elim, Option, Some, List, [], ◌∷◌, ◌++◌, drop, get_or, set, length, length-set, get_or-set_same, get_or-set_other, append-nil, lit<, sym, refl, ap, ◌∙◌, subst, arith}
 use Rattle.std.proofs.lemmas.Bool.{cases_lt}
 use Rattle.std.proofs.lemmas.List.{get_or_past}
 use Rattle.std.proofs.lemmas.Option.{same_Some}
+use Rattle.std.proofs.Math.Bool.{or-false}
 use mathlib.Core.Option.{none, some}
 use lib.ListN.{get_elem?}
 use Rattle.std.specs.Prelude.{is_some}
@@ -143,15 +144,11 @@ same_page : (relations : List RelEntry) (f end : ℕ) (v : View) (tag other : Ta
 same_page relations f end v tag other p q a b = let same : b.bytes ≡ a.bytes = same_Some b.bytes a.bytes (sym b.appended ∙ a.appended) in
     ap (drop 32) (sym b.is_record.is ∙ same ∙ a.is_record.is)
 
-or_false : (b : Bool) → (b || false) ≡ b
-or_false true = refl
-or_false false = refl
-
 -- What the store makes of the view
 pub entered_view : (relations : List RelEntry) (f end : ℕ) (v w : View) (tag : Tag) (p : Page) → MayStoreEnd relations f tag p end v → DidEnter f p v w → w ≡ view_entered f (packed_tag tag) p end v
 entered_view relations f end v w tag p m d = let c = can_log d.state d.seat v d.laws d.there d.live f tag p m.start m.enters in
     let is : d.state.end + record_size ≡ end = sym (m.next ∙ ap (λ (n : ℕ). n + record_size) (end_is d.state d.seat v d.laws d.there d.live m.start m.enters.loaded)) in
-    d.after ∙ (λ i. record (view_entered f (c.tagged i) p (is i) v) { loads = append-nil v.loads i; dirtied_or_synced = or_false v.dirtied_or_synced i; had_output = or_false v.had_output i })
+    d.after ∙ (λ i. record (view_entered f (c.tagged i) p (is i) v) { loads = append-nil v.loads i; dirtied_or_synced = or-false v.dirtied_or_synced i; had_output = or-false v.had_output i })
 
 pub entered_as : (relations : List RelEntry) (f end : ℕ) (v w : View) (told other : Tag) (p q : Page) → MayStoreEnd relations f told p end v → DidEnter f p v w → MayStoreEnd relations f other q end v → DidEnter f q v w
 entered_as relations f end v w told other p q a d b = subst (λ (x : Page). DidEnter f x v w) (sym (same_page relations f end v told other p q a b)) d

@@ -70,6 +70,18 @@ entry_found [] apart i a at = absurd (cc)
 entry_found (b ∷ l) apart zero a at = let same = some-injective b a at in found_here b l a.tag (ap (λ (x : Mapped). x.tag) (sym same)) ∙ ap (λ (x : Mapped). Some x.frame) same
 entry_found (b ∷ l) apart (suc i) a at = found_else b l a.tag (apart_head b l apart i a at) ∙ entry_found l (apart_tail b l apart) i a at
 
+-- the frames of a map's entries are frames of the state
+pub entries_inside : (s : State) → Laws s → (p n : ℕ) (m : Vec Mapped Global) → GivesEntries n m (s.pool.core.partition p).map → (i : ℕ) (a : Mapped) → get_elem? m.items i ≡ some a → a.frame < s.pool.core.frames
+entries_inside s laws p n m gives i a at = (laws.invariant.pool.core.maps.mapped p a.tag a.frame (ap (λ (h : ℕ → Option ℕ). h a.tag) (sym gives.found) ∙ entry_found m.items gives.apart i a at)).inside
+
+-- and so is the frame that they give for a tag
+pub found_below : (n : ℕ) (l : List Mapped) → ((i : ℕ) (a : Mapped) → get_elem? l i ≡ some a → a.frame < n) → (tag f : ℕ) → found (map entry_of l) tag ≡ Some f → f < n
+unfolding found
+found_below n [] low tag f is = absurd (cc)
+found_below n (a ∷ l) low tag f is = dite (ℕ_discrete tag a.tag)
+    (λ e. let both : Some a.frame ≡ Some f = sym (found_here a l tag e) ∙ is in let same : a.frame ≡ f = cc in subst (λ (x : ℕ). x < n) same (low 0 a refl))
+    (λ e. found_below n l (λ i b at. low (suc i) b at) tag f (sym (found_else a l tag e) ∙ is))
+
 module _ (s : State) (id p : ℕ) (v : View) (laws : Laws s) (there : get_elem? s.pool.core.views id ≡ some v) (inside : p < s.pool.core.partitions) (held : (hold v p).held ≡ true) (unchanged : (hold v p).changed ≡ false) where
   -- the pair that the view has named is the one in change
   owed : (s.pool.core.partition p).owed ≡ (hold v p).change

@@ -245,16 +245,16 @@ pub held_touches : (k : FrameKind) → ((s : State) (f : ℕ) (v : View) → (vi
 held_touches k aside f v w d = touches_on f v d.between w (touches looking (λ s g x. refl) f d.word v d.between d.looked) (touches k aside f d.now d.between w d.did)
 
 victim_looked : (l m : Link) → Looked l m → Looked (victim_link l) (victim_link m)
-victim_looked l m a = record { role = refl; tag = a.tag; ring = refl; header = refl; pending = a.pending; content = a.content; copying = a.copying; dirtied = a.dirtied; unapplied = a.unapplied; copied = a.copied; io = a.io; read = a.read; read_is_home = a.read_is_home; last_write = a.last_write; out = a.out; overwritten = a.overwritten; waits = a.waits }
+victim_looked l m a = record { role = refl; tag = a.tag; ring = refl; header = refl; pending = a.pending; content = a.content; copying = a.copying; dirtied = a.dirtied; unapplied = a.unapplied; copied = a.copied; io = a.io; read = a.read; read_is_home = a.read_is_home; last_write = a.last_write; out = a.out; overwritten = a.overwritten; image = a.image; seen_valid = a.seen_valid; waits = a.waits; passed = a.passed; listed = a.listed }
 
 unlocked_looked : (l m : Link) → Looked l m → Looked (unlocked_link l) (unlocked_link m)
-unlocked_looked l m a = record { role = a.role; tag = a.tag; ring = a.ring; header = refl; pending = a.pending; content = a.content; copying = a.copying; dirtied = a.dirtied; unapplied = a.unapplied; copied = a.copied; io = a.io; read = a.read; read_is_home = a.read_is_home; last_write = a.last_write; out = a.out; overwritten = a.overwritten; waits = a.waits }
+unlocked_looked l m a = record { role = a.role; tag = a.tag; ring = a.ring; header = refl; pending = a.pending; content = a.content; copying = a.copying; dirtied = a.dirtied; unapplied = a.unapplied; copied = a.copied; io = a.io; read = a.read; read_is_home = a.read_is_home; last_write = a.last_write; out = a.out; overwritten = a.overwritten; image = a.image; seen_valid = a.seen_valid; waits = a.waits; passed = a.passed; listed = a.listed }
 
 assigned_looked : (tag : Option ℕ) (l m : Link) → Looked l m → Looked (assigned_link tag l) (assigned_link tag m)
-assigned_looked tag l m a = record { role = refl; tag = refl; ring = a.ring; header = refl; pending = refl; content = a.content; copying = a.copying; dirtied = a.dirtied; unapplied = a.unapplied; copied = a.copied; io = a.io; read = a.read; read_is_home = a.read_is_home; last_write = a.last_write; out = a.out; overwritten = a.overwritten; waits = a.waits }
+assigned_looked tag l m a = record { role = refl; tag = refl; ring = a.ring; header = refl; pending = refl; content = a.content; copying = a.copying; dirtied = a.dirtied; unapplied = a.unapplied; copied = a.copied; io = a.io; read = a.read; read_is_home = a.read_is_home; last_write = a.last_write; out = a.out; overwritten = a.overwritten; image = a.image; seen_valid = a.seen_valid; waits = a.waits; passed = a.passed; listed = a.listed }
 
 cleared_looked : (l m : Link) → Looked l m → Looked (cleared_link l) (cleared_link m)
-cleared_looked l m a = record { role = a.role; tag = a.tag; ring = a.ring; header = refl; pending = refl; content = a.content; copying = a.copying; dirtied = a.dirtied; unapplied = a.unapplied; copied = a.copied; io = a.io; read = a.read; read_is_home = a.read_is_home; last_write = a.last_write; out = a.out; overwritten = a.overwritten; waits = a.waits }
+cleared_looked l m a = record { role = a.role; tag = a.tag; ring = a.ring; header = refl; pending = refl; content = a.content; copying = a.copying; dirtied = a.dirtied; unapplied = a.unapplied; copied = a.copied; io = a.io; read = a.read; read_is_home = a.read_is_home; last_write = a.last_write; out = a.out; overwritten = a.overwritten; image = a.image; seen_valid = a.seen_valid; waits = a.waits; passed = a.passed; listed = a.listed }
 
 pub victim_after : (f : ℕ) (v w : View) → DidHeld (pins pin.pin_victim) f v w → Looked (victim_link (link v f)) (link w f)
 victim_after f v w d = subst (Looked (victim_link (link v f))) (sym (link_is (pins pin.pin_victim) f d.now d.between w d.did)) (victim_looked (link v f) (link d.between f) (looked f d.word v d.between d.looked))
@@ -355,7 +355,7 @@ finds_on f tag g v w t h = let same : hold w (tag_partition tag) ≡ hold v (tag
 }
 
 mapped_looked : (tag : ℕ) (ring : Bool) (l m : Link) → Looked l m → Looked (mapped_link tag ring l) (mapped_link tag ring m)
-mapped_looked tag ring l m a = record { role = refl; tag = refl; ring = refl; header = a.header; pending = a.pending; content = a.content; copying = a.copying; dirtied = a.dirtied; unapplied = a.unapplied; copied = a.copied; io = a.io; read = a.read; read_is_home = a.read_is_home; last_write = a.last_write; out = a.out; overwritten = a.overwritten; waits = a.waits }
+mapped_looked tag ring l m a = record { role = refl; tag = refl; ring = refl; header = a.header; pending = a.pending; content = a.content; copying = a.copying; dirtied = a.dirtied; unapplied = a.unapplied; copied = a.copied; io = a.io; read = a.read; read_is_home = a.read_is_home; last_write = a.last_write; out = a.out; overwritten = a.overwritten; image = a.image; seen_valid = a.seen_valid; waits = a.waits; passed = a.passed; listed = a.listed }
 
 pub mapped_after : (tag : ℕ) (ring : Bool) (f : ℕ) (v w : View) → Tried (pins (pin.pin_mapped tag ring)) f v w true → Looked (mapped_link tag ring (link v f)) (link w f)
 mapped_after tag ring f v w t = subst (Looked (mapped_link tag ring (link v f))) (sym (link_is (pins (pin.pin_mapped tag ring)) f t.1 t.0 w t.3)) (mapped_looked tag ring (link v f) (link t.0 f) (looks_link f v t.0 t.2))

@@ -6,6 +6,7 @@ use Rattle.std.specs.declared.snapshot.Snapshot.{Snapshot}
 use Rattle.std.specs.Prelude.{is_some, Option, Result, Ok, Err, MatchResult, ◌||◌}
 use Rattle.log_device.specs.declared.device.Failed.{Failed}
 use Rattle.std.proofs.lemmas.Option.{same_Some}
+use Rattle.std.proofs.Math.Bool.{or-false}
 use mathlib.Core.Logic.{dite}
 use mathlib.Core.Option.{none, some, some-injective}
 use native.Mathlib.Decide.{ℕ_discrete, dec_lt}
@@ -94,17 +95,13 @@ module _ {L G : Type 0} (d : Devices L G) (o : Opening L G) where
 
   -- the view after the lane went out
   out_view_is : (q : ℕ) (taken : TakenLane) (v : View) → (lane_hold v q).held ≡ true → (lane_hold v q).change ≡ lane_change.Untouched → alone_view (lane_out taken) q v ≡ out_view q taken v
-  out_view_is q taken v held idle_call = λ j. record v { lanes = set v.lanes q (record (lane_hold v q) { held = held j; out = Some taken; change = idle_call j; flushed = v.flushed }); steps = v.steps + 1; device_calls = append-nil v.device_calls j; met = met j; dirtied_or_synced = or_false v.dirtied_or_synced j }
+  out_view_is q taken v held idle_call = λ j. record v { lanes = set v.lanes q (record (lane_hold v q) { held = held j; out = Some taken; change = idle_call j; flushed = v.flushed }); steps = v.steps + 1; device_calls = append-nil v.device_calls j; met = met j; dirtied_or_synced = or-false v.dirtied_or_synced j }
     where
       met : sum_of_met v.met (record { reads = 0; writes = 0; logs = 0 }) ≡ v.met
       met = λ j. record { reads = none_more v.met.reads j; writes = none_more v.met.writes j; logs = none_more v.met.logs j }
         where
           none_more : (n : ℕ) → n + 0 ≡ n
           none_more n = omega arith
-
-      or_false : (b : Bool) → (b || false) ≡ b
-      or_false true = refl
-      or_false false = refl
 
   pub goes_out : (slots id q : ℕ) (me : Me (Value L G) View) → length o.lanes.value.items ≡ o.config.lanes → q < o.config.lanes → me.0.emptied ≡ false → (lane_hold me.0 q).held ≡ true → (lane_hold me.0 q).out ≡ None
       → Allows (Held d o) slots id me (latch_place o.config.frames (turn.Lane q)) (λ n. n) (lane_went (lanes_of d) (was_known (lanes_of d) o.lanes.value.items q) o.catalog.value o.config.lanes q (slot_of o.config.frames (place.Of (turn.Lane q))) (step slots (latch_place o.config.frames (turn.Lane q)) 0 0 none) me)

@@ -1,4 +1,5 @@
 pub mod Kept
+pub mod Allowing
 pub mod Frames
 pub mod Acting
 pub mod Words
@@ -6,10 +7,13 @@ pub mod Contents
 pub mod HeldWords
 pub mod Seeing
 pub mod Told
+pub mod Marks
 pub mod Splitting
 pub mod Resting
 pub mod Behind
+pub mod Origins
 pub mod Holding
+pub mod TagLoads
 pub mod Taking
 pub mod Moving
 pub mod Fitting

@@ -1,6 +1,7 @@
 -- The log goes out with the holder of its latch, and comes back.
-use Rattle.std.proofs.Common.{◌≡◌, ◌≢◌, ℕ, zero, suc, ◌+◌, ◌<◌, ◌≤◌, Bool, true, false, Option, Some, None, List, [], ◌∷◌, ◌++◌, ◌||◌, get_or, set, length, length-append, append-nil, lit<, sym, refl, ap, ◌∙◌, subst, arith}
+use Rattle.std.proofs.Common.{◌≡◌, ◌≢◌, ℕ, ◌+◌, ◌<◌, ◌≤◌, Bool, true, false, Option, Some, None, List, [], ◌∷◌, ◌++◌, ◌||◌, get_or, set, length, length-append, append-nil, lit<, sym, refl, ap, ◌∙◌, subst, arith}
 use Rattle.std.proofs.lemmas.Option.{same_Some}
+use Rattle.std.proofs.Math.Bool.{or-false}
 use mathlib.Core.Logic.{dite}
 use mathlib.Core.Option.{none, some, some-injective}
 use native.Mathlib.Decide.{ℕ_discrete}
@@ -105,10 +106,6 @@ module _ {L G : Type 0} (d : Devices L G) (o : Opening L G) where
 twice : (s : State) (id : ℕ) (j k : LogKind) (v : View) → set (set s.pool.core.views id (view_logged j v)) id (view_logged k (view_logged j v)) ≡ set s.pool.core.views id (view_logged k (view_logged j v))
 twice s id j k v = set_twice s.pool.core.views id (view_logged j v) (view_logged k (view_logged j v))
 
-or_false : (b : Bool) → (b || false) ≡ b
-or_false true = refl
-or_false false = refl
-
 met_none : (m : Met) → sum_of_met m (record { reads = 0; writes = 0; logs = 0 }) ≡ m
 met_none m = let a : m.reads + 0 ≡ m.reads = omega arith in let b : m.writes + 0 ≡ m.writes = omega arith in let c : m.logs + 0 ≡ m.logs = omega arith in λ i. record { reads = a i; writes = b i; logs = c i }
 
@@ -119,7 +116,7 @@ out_view taken v down = λ i. record v { log = record v.log { out = Some taken }
 down_view : (taken : TakenLog) (end : ℕ) (v : View) → taken.down ≡ Some end → view_logged see_down (view_logged (log_out taken) v) ≡ view_out taken v
 down_view taken end v down = let more : v.steps + 1 + 1 ≡ v.steps + 2 = omega arith in let calls : (v.device_calls ++ []) ++ [] ≡ v.device_calls = append-nil (v.device_calls ++ []) ∙ append-nil v.device_calls in
     let met = ap (λ (m : Met). sum_of_met m (record { reads = 0; writes = 0; logs = 0 })) (met_none v.met) ∙ met_none v.met in
-    let seen = ap (λ (b : Bool). b || true) (or_false v.saw_down) ∙ ap (λ (x : Option ℕ). v.saw_down || is_some x) (sym down) in
+    let seen = ap (λ (b : Bool). b || true) (or-false v.saw_down) ∙ ap (λ (x : Option ℕ). v.saw_down || is_some x) (sym down) in
     let count = more ∙ ap (λ (x : Option ℕ). v.steps + out_steps x) (sym down) in
     λ i. record v { log = record v.log { out = Some taken }; device_calls = calls i; met = met i; saw_down = seen i; steps = count i }
 
@@ -284,7 +281,7 @@ home_as : (noted sees : Bool) (hold : LogHold) (calls : List DeviceCall) (v : Vi
     → record v { log = hold; device_calls = (v.device_calls ++ calls) ++ []; met = sum_of_met (sum_of_met v.met (record { reads = 0; writes = 0; logs = 0 })) (met_by (log_back noted)); saw_down = (v.saw_down || sees) || false; steps = v.steps + 1 + 1 }
     ≡ record v { log = hold; device_calls = v.device_calls ++ calls; met = sum_of_met v.met (met_by (log_back noted)); saw_down = v.saw_down || sees; steps = v.steps + 2 }
 home_as noted sees hold calls v = let more : v.steps + 1 + 1 ≡ v.steps + 2 = omega arith in
-    λ i. record v { log = hold; device_calls = append-nil (v.device_calls ++ calls) i; met = sum_of_met (met_none v.met i) (met_by (log_back noted)); saw_down = or_false (v.saw_down || sees) i; steps = more i }
+    λ i. record v { log = hold; device_calls = append-nil (v.device_calls ++ calls) i; met = sum_of_met (met_none v.met i) (met_by (log_back noted)); saw_down = or-false (v.saw_down || sees) i; steps = more i }
 
 two_view : (j k : LogKind) (v w : View) → DidTwo j k v w → w ≡ view_logged k (view_logged j v)
 two_view j k v w b = b.second.after ∙ ap (view_logged k) b.first.after

@@ -1,15 +1,13 @@
 -- The map of a partition goes out with its holder, and comes back.
-use Rattle.std.proofs.Common.{Vec, Global, ◌≡◌, ◌≢◌, ℕ, ◌+◌, ◌*◌, ◌<◌, ◌≤◌, Bool, true, false, Some, None, List, [], ◌∷◌, map, get_or, set, length, length-set, get_or-set_same, get_or-set_other, sym, refl, ap, ◌∙◌, subst, arith}
+use Rattle.std.proofs.Common.{Vec, Global, ◌≡◌, ◌≢◌, ℕ, ◌+◌, ◌<◌, ◌≤◌, Bool, true, false, Some, None, List, ◌∷◌, map, get_or, set, length, get_or-set_same, get_or-set_other, sym, refl, ap, ◌∙◌, subst, arith}
 use mathlib.Core.Logic.{dite}
 use mathlib.Core.Option.{none, some, some-injective}
-use mathlib.Core.Option as slot
 use native.Mathlib.Decide.{ℕ_discrete}
 use lib.ListN.{get_elem?}
 use lib.Seq.{set-get_or}
 use Rattle.std.specs.Prelude.{is_some, vec_capacity, Option}
 use Rattle.atomic_table.specs.Table.{Me, step, takes, gives, stepped, Allows, rest}
 use Rattle.atomic_table.specs.Table as table
-use Rattle.atomic_table.proofs.Lists.{set_here, set_else}
 use Rattle.pin_core.specs.declared.view.View.{View}
 use Rattle.pin_core.specs.declared.view.MapEntry.{MapEntry}
 use Rattle.pin_core.specs.declared.view.MapChange.{MapChange}
@@ -37,14 +35,14 @@ use Rattle.table_rule.specs.declared.turn.Place.{Place}
 use Rattle.table_rule.specs.declared.turn.Place.TheVariants as place
 use Rattle.table_rule.specs.declared.turn.Turn.{Turn}
 use Rattle.table_rule.specs.declared.turn.Turn.TheVariants.{Partition, Lane, Log}
-use Rattle.table_rule.specs.Layout.{latch_place, slot_of, slot_count}
+use Rattle.table_rule.specs.Layout.{latch_place, slot_of}
 use Rattle.history_core.specs.Laws.{Laws}
-use Rattle.table_rule.specs.Shows.{ShowsFrame, ShowsLatches, is_taken, is_out, IsHome, AreApart, entry_of, Devices, Gives, GivesEntries, GivesMap, HasPlace, HasValue, HasList, Shows, Held}
-use Rattle.frame_table.specs.Turning.{DidMap, ComesBack, as_it_was, entered, left_out, MayComeBack, HasNamed, HasRoomFor, IsMap, map_went, map_came, MapStep, SameWork, is_named, back_hold}
+use Rattle.table_rule.specs.Shows.{is_taken, is_out, IsHome, AreApart, entry_of, Devices, Gives, GivesEntries, GivesMap, HasValue, IsOpened, Shows, Held}
+use Rattle.frame_table.specs.Turning.{AreBelow, DidMap, ComesBack, as_it_was, entered, left_out, MayComeBack, HasNamed, HasRoomFor, IsMap, map_went, map_came, MapStep, SameWork, is_named, back_hold}
 use Rattle.history_core.proofs.Laws.{laws_kept}
-use Rattle.frame_table.proofs.Frames.{put_keeps, home_before, set_twice}
-use Rattle.frame_table.proofs.Moving.{same_slot, list_stays}
-use Rattle.frame_table.proofs.Fitting.{has_named, has_room}
+use Rattle.frame_table.proofs.Frames.{put_keeps, set_twice}
+use Rattle.frame_table.proofs.Moving.{Moves, shows_back, shows_moved, shows_out, words_none}
+use Rattle.frame_table.proofs.Fitting.{entries_inside, has_named, has_room}
 
 -- the state after a step of a kind at a partition
 abbrev mapped : parts.TurnKind → State → ℕ → ℕ → View → State
@@ -76,19 +74,18 @@ mapped_taken k s i p v kept (Lane q) = refl
 mapped_taken k s i p v kept Log = refl
 
 module _ {L G : Type 0} (d : Devices L G) (o : Opening L G) where
-  -- The table shows the state after such a step, where its slots do
-  shows_mapped : (k : parts.TurnKind) (words : List ℕ) (t : table.State (Value L G) View) (s : State) (id p : ℕ) (v : View) (homes : List (slot.Option (Value L G))) → words ≡ t.words → Shows d o t s → (parts.partition_after k (s.pool.core.partition p) (hold v p)).taken ≡ (s.pool.core.partition p).taken
-      → length homes ≡ slot_count o.config.frames → HasList o homes → ((x : Place) → HasPlace o x → IsHome x (set s.pool.core.views id (view_mapped k p v)) → HasValue d o homes (mapped k s id p v) x)
-      → Shows d o record { words = words; homes = homes; views = set t.views id (view_mapped k p v) } (mapped k s id p v)
-  shows_mapped k words t s id p v homes same h kept long list values = record {
-    fixed = let f = h.fixed in record { frames = f.frames; backends = f.backends; base = f.base; partitions = f.partitions; partition_of = f.partition_of; is_block = f.is_block; names = f.names; lanes = f.lanes; lane_of = f.lane_of; few_backends = f.few_backends; few_lanes = f.few_lanes; known = f.known; origin = f.origin; reads = f.reads; writes = f.writes; log_faults = f.log_faults };
-    words = ap (λ (l : List ℕ). length l) same ∙ h.words;
-    slots = long;
-    views = ap (λ (l : List View). set l id (view_mapped k p v)) h.views;
-    frame = λ g inside. subst (λ (l : List ℕ). ShowsFrame l g (s.pool.core.frame g)) (sym same) (h.frame g inside);
-    latches = subst (λ (l : List ℕ). ShowsLatches o.config.frames o.config.lanes l (mapped k s id p v)) (sym same) (let l = h.latches in record { latch = λ x has. l.latch x has ∙ ap flag_weight (sym (mapped_taken k s id p v kept x)); end = l.end; flushed = l.flushed; hand = l.hand });
-    homes = values;
-    list = list;
+  -- such a step moves the map of its partition alone
+  moves_map : (k : parts.TurnKind) (s : State) (id p : ℕ) (v : View) → IsOpened d o s → (parts.partition_after k (s.pool.core.partition p) (hold v p)).taken ≡ (s.pool.core.partition p).taken → Moves d o s (mapped k s id p v) id v (view_mapped k p v) (place.Of (Partition p))
+  moves_map k s id p v f kept = record {
+    fixed = record { frames = f.frames; backends = f.backends; base = f.base; partitions = f.partitions; partition_of = f.partition_of; is_block = f.is_block; names = f.names; lanes = f.lanes; lane_of = f.lane_of; few_backends = f.few_backends; few_lanes = f.few_lanes; known = f.known; origin = f.origin; reads = f.reads; writes = f.writes; log_faults = f.log_faults };
+    views = refl;
+    frames = λ g. words_none (s.pool.core.frame g);
+    latches = mapped_taken k s id p v kept;
+    end = refl;
+    flushed = refl;
+    hand = refl;
+    outs = mapped_out k p v;
+    values = mapped_gives d o k s id p v;
   }
 
   -- no other view has the map of a partition out, where one holds its latch
@@ -125,6 +122,9 @@ module _ {L G : Type 0} (d : Devices L G) (o : Opening L G) where
       room_for : (m : Vec Mapped Global) → GivesEntries o.config.frames m (h.state.pool.core.partition p).map → HasRoomFor (hold me.0 p) m
       room_for m gives_it tag f entering unchanged = let shown = h.shows.fixed.frames in let few = has_room h.state id p me.0 h.laws here low held unchanged m (record { found = gives_it.found; apart = gives_it.apart; room = (let r = gives_it.room in omega arith) }) tag f entering in let long = m.ok.0 in omega arith
 
+      below_for : (m : Vec Mapped Global) → GivesEntries o.config.frames m (h.state.pool.core.partition p).map → AreBelow o.config.frames m.items
+      below_for m gives_it i a at = subst (λ (n : ℕ). a.frame < n) h.shows.fixed.frames (entries_inside h.state h.laws p o.config.frames m gives_it i a at)
+
       value_there : HasValue d o t.homes h.state (place.Of (Partition p))
       value_there = h.shows.homes (place.Of (Partition p)) below none_out
 
@@ -138,14 +138,11 @@ module _ {L G : Type 0} (d : Devices L G) (o : Opening L G) where
             home,
             record {
               state = mapped k h.state id p me.0;
-              shows = shows_mapped k (set t.words (latch_place o.config.frames (Partition p)) (get_or t.words (latch_place o.config.frames (Partition p)) 0)) t h.state id p me.0 (set t.homes (o.config.frames + p) none) (set-get_or t.words (latch_place o.config.frames (Partition p)) 0) h.shows refl (length-set t.homes (o.config.frames + p) none ∙ h.shows.slots) (list_stays o t.homes (place.Of (Partition p)) none h.shows.fixed.few_lanes below h.shows.list)
-                  (λ x has home_x. dite (ℕ_discrete (slot_of o.config.frames x) (o.config.frames + p))
-                  (λ e. let is : x ≡ place.Of (Partition p) = same_slot o x (place.Of (Partition p)) h.shows.fixed.few_lanes has below e in absurd (is_away (subst (λ (z : Place). is_out z w ≡ false) is (home_x id w (grid.set_here h.state.pool.core.views id me.0 w here))) entries))
-                  (λ n. let other : x ≢ place.Of (Partition p) = (λ e. n (ap (slot_of o.config.frames) e)) in let old = h.shows.homes x has (home_before h.state.pool.core.views id me.0 w x here (λ e. sym (mapped_out k p me.0 x other) ∙ e) home_x) in
-                  record { value = old.value; home = set_else t.homes (o.config.frames + p) (slot_of o.config.frames x) none n ∙ old.home; gives = mapped_gives d o k h.state id p me.0 x old.value other old.gives }));
+              shows = shows_out d o (set t.words (latch_place o.config.frames (Partition p)) (get_or t.words (latch_place o.config.frames (Partition p)) 0)) t h.state (mapped k h.state id p me.0) id me.0 w (place.Of (Partition p)) (set-get_or t.words (latch_place o.config.frames (Partition p)) 0) h.shows here (moves_map k h.state id p me.0 h.shows.fixed refl) below
+                  (λ home_x. is_away (home_x id w (grid.set_here h.state.pool.core.views id me.0 w here)) entries);
               laws = laws_kept (map_step k h.state id p me.0 here live low a) h.laws;
             },
-            (value.Map m, entries, refl, (refl, gives_it.apart, gives_it.room), room_for m gives_it, record { state = h.state; laws = h.laws; spread = h.shows.fixed.partition_of; seat = id; there = here; live = live; inside = low; allowed = a; after = refl }),
+            (value.Map m, entries, refl, (refl, gives_it.apart, gives_it.room), room_for m gives_it, record { state = h.state; laws = h.laws; spread = h.shows.fixed.partition_of; seat = id; there = here; live = live; inside = low; allowed = a; after = refl }, below_for m gives_it),
           )
         where
           is_away : is_out (place.Of (Partition p)) (view_mapped (parts.map_out (map entry_of m.items)) p me.0) ≡ false → List MapEntry → ⊥
@@ -160,23 +157,14 @@ module _ {L G : Type 0} (d : Devices L G) (o : Opening L G) where
   -- a step while the map is out
   shows_away : (k : parts.TurnKind) (words : List ℕ) (t : table.State (Value L G) View) (s : State) (id p : ℕ) (v : View) → words ≡ t.words → p < 128 → Shows d o t s → (parts.partition_after k (s.pool.core.partition p) (hold v p)).taken ≡ (s.pool.core.partition p).taken
       → get_elem? s.pool.core.views id ≡ some v → is_out (place.Of (Partition p)) (view_mapped k p v) ≡ true → Shows d o record { words = words; homes = t.homes; views = set t.views id (view_mapped k p v) } (mapped k s id p v)
-  shows_away k words t s id p v same below h kept there away = shows_mapped k words t s id p v t.homes same h kept h.slots h.list (λ x has home_x. dite (ℕ_discrete (slot_of o.config.frames x) (o.config.frames + p))
-      (λ e. let is : x ≡ place.Of (Partition p) = same_slot o x (place.Of (Partition p)) h.fixed.few_lanes has below e in let no : true ≡ false = sym away ∙ subst (λ (z : Place). is_out z (view_mapped k p v) ≡ false) is (home_x id (view_mapped k p v) (grid.set_here s.pool.core.views id v (view_mapped k p v) there)) in absurd (cc))
-      (λ n. let other : x ≢ place.Of (Partition p) = (λ e. n (ap (slot_of o.config.frames) e)) in let old = h.homes x has (home_before s.pool.core.views id v (view_mapped k p v) x there (λ e. sym (mapped_out k p v x other) ∙ e) home_x) in
-      record { value = old.value; home = old.home; gives = mapped_gives d o k s id p v x old.value other old.gives }))
+  shows_away k words t s id p v same below h kept there away = shows_moved d o words t s (mapped k s id p v) id v (view_mapped k p v) (place.Of (Partition p)) t.homes same h there (moves_map k s id p v h.fixed kept) below h.slots h.list (λ i n. refl)
+      (λ home_x. let no : true ≡ false = sym away ∙ home_x id (view_mapped k p v) (grid.set_here s.pool.core.views id v (view_mapped k p v) there) in absurd (cc))
 
   -- the step by which it is home again
   shows_home : (entries : List MapEntry) (words : List ℕ) (t : table.State (Value L G) View) (s : State) (id p : ℕ) (v : View) (y : Value L G) → words ≡ t.words → p < 128 → Shows d o t s → get_elem? s.pool.core.views id ≡ some v → GivesMap o.config.frames y (s.pool.core.partition p).map
       → Shows d o record { words = words; homes = set t.homes (o.config.frames + p) (some y); views = set t.views id (view_mapped (parts.map_back entries) p v) } (mapped (parts.map_back entries) s id p v)
-  shows_home entries words t s id p v y same below h there gives_it = let k : parts.TurnKind = parts.map_back entries in shows_mapped k words t s id p v (set t.homes (o.config.frames + p) (some y)) same h refl (length-set t.homes (o.config.frames + p) (some y) ∙ h.slots) (list_stays o t.homes (place.Of (Partition p)) (some y) h.fixed.few_lanes below h.list)
-      (λ x has home_x. dite (ℕ_discrete (slot_of o.config.frames x) (o.config.frames + p))
-      (λ e. subst (λ (z : Place). HasValue d o (set t.homes (o.config.frames + p) (some y)) (mapped k s id p v) z) (sym (same_slot o x (place.Of (Partition p)) h.fixed.few_lanes has below e)) record {
-        value = y;
-        home = set_here t.homes (o.config.frames + p) (some y) (let long = h.slots in omega arith);
-        gives = subst (λ (pt : pool.Partition). GivesMap o.config.frames y pt.map) (sym (put_here s.pool.core.partition p (s.pool.core.partition p))) gives_it;
-      })
-      (λ n. let other : x ≢ place.Of (Partition p) = (λ e. n (ap (slot_of o.config.frames) e)) in let old = h.homes x has (home_before s.pool.core.views id v (view_mapped k p v) x there (λ e. sym (mapped_out k p v x other) ∙ e) home_x) in
-      record { value = old.value; home = set_else t.homes (o.config.frames + p) (slot_of o.config.frames x) (some y) n ∙ old.home; gives = mapped_gives d o k s id p v x old.value other old.gives }))
+  shows_home entries words t s id p v y same below h there gives_it = let k : parts.TurnKind = parts.map_back entries in shows_back d o words t s (mapped k s id p v) id v (view_mapped k p v) (place.Of (Partition p)) y same h there (moves_map k s id p v h.fixed refl) below
+      (subst (λ (pt : pool.Partition). GivesMap o.config.frames y pt.map) (sym (put_here s.pool.core.partition p (s.pool.core.partition p))) gives_it)
 
 some_out : (x : Option (List MapEntry)) → x ≢ None → is_some x ≡ true
 some_out None n = absurd (n refl)
@@ -289,7 +277,7 @@ out_named entries p v w d unchanged = has_named d.state d.seat p v d.laws d.ther
 
 -- What a step at a partition makes of the view
 pub map_work : (k : parts.TurnKind) (p : ℕ) (v w : View) → DidMap k p v w → SameWork v w
-map_work k p v w d = subst (SameWork v) (sym d.after) record { number = refl; next = refl; joined = refl; emptied = refl; links = refl; flushed = refl; calls = refl; front = refl; loads = refl; upto = refl; met = refl }
+map_work k p v w d = subst (SameWork v) (sym d.after) record { number = refl; next = refl; joined = refl; emptied = refl; links = refl; flushed = refl; calls = refl; front = refl; loads = refl; place_loads = refl; upto = refl; kept = refl; device_calls = refl; met = refl; saw_down = refl; dirtied_or_synced = refl; had_output = refl; last_ended = refl }
 
 pub map_stepped : (k : parts.TurnKind) (p : ℕ) (v w : View) → DidMap k p v w → MapStep p (parts.hold_after k (hold v p)) v w
 map_stepped k p v w d = subst (MapStep p (parts.hold_after k (hold v p)) v) (sym d.after) record {
@@ -300,7 +288,7 @@ map_stepped k p v w d = subst (MapStep p (parts.hold_after k (hold v p)) v) (sym
 }
 
 work_on : (v u w : View) → SameWork v u → SameWork u w → SameWork v w
-work_on v u w a b = record { number = b.number ∙ a.number; next = b.next ∙ a.next; joined = b.joined ∙ a.joined; emptied = b.emptied ∙ a.emptied; links = b.links ∙ a.links; flushed = b.flushed ∙ a.flushed; calls = b.calls ∙ a.calls; front = b.front ∙ a.front; loads = b.loads ∙ a.loads; upto = b.upto ∙ a.upto; met = b.met ∙ a.met }
+work_on v u w a b = record { number = b.number ∙ a.number; next = b.next ∙ a.next; joined = b.joined ∙ a.joined; emptied = b.emptied ∙ a.emptied; links = b.links ∙ a.links; flushed = b.flushed ∙ a.flushed; calls = b.calls ∙ a.calls; front = b.front ∙ a.front; loads = b.loads ∙ a.loads; place_loads = b.place_loads ∙ a.place_loads; upto = b.upto ∙ a.upto; kept = b.kept ∙ a.kept; device_calls = b.device_calls ∙ a.device_calls; met = b.met ∙ a.met; saw_down = b.saw_down ∙ a.saw_down; dirtied_or_synced = b.dirtied_or_synced ∙ a.dirtied_or_synced; had_output = b.had_output ∙ a.had_output; last_ended = b.last_ended ∙ a.last_ended }
 
 steps_on : (p : ℕ) (h h' : PartitionHold) (v u w : View) → MapStep p h v u → MapStep p h' u w → MapStep p h' v w
 steps_on p h h' v u w a b = record { here = b.here; others = λ q n. b.others q n ∙ a.others q n; lanes = b.lanes ∙ a.lanes; log = b.log ∙ a.log }

@@ -1,23 +1,20 @@
 -- The page of a frame goes out with a backend, and comes back.
-use Rattle.std.proofs.Common.{◌≡◌, ◌≢◌, ℕ, ◌+◌, ◌*◌, ◌<◌, ◌≤◌, Bool, true, false, Some, None, List, [], ◌∷◌, get_or, set, length, get_or-set_same, get_or-set_other, sym, refl, ap, ◌∙◌, subst, arith, cond}
+use Rattle.std.proofs.Common.{◌≡◌, ◌≢◌, ℕ, ◌+◌, ◌<◌, ◌≤◌, Bool, true, false, Some, None, List, ◌∷◌, get_or, set, get_or-set_same, get_or-set_other, sym, refl, ap, ◌∙◌, subst, arith, cond}
 use mathlib.Core.Logic.{dite, ◌⊎◌, inl, inr}
 use mathlib.Core.Option.{none, some, some-injective}
-use mathlib.Core.Option as slot
 use native.Mathlib.Decide.{ℕ_discrete}
 use lib.ListN.{get_elem?}
 use lib.Seq.{set-get_or}
 use Rattle.std.specs.Prelude.{is_some, Option}
 use Rattle.atomic_table.specs.Table.{Me, step, takes, gives, stepped, Allows, rest}
 use Rattle.atomic_table.specs.Table as table
-use Rattle.pin_core.specs.declared.view.Content.{Content}
-use Rattle.pin_core.specs.declared.view.Content.TheVariants.{Unlocked, Shared, Exclusive}
+use Rattle.pin_core.specs.declared.view.Content.TheVariants.{Unlocked, Exclusive}
 use Rattle.pin_core.specs.declared.view.Io.{Io}
 use Rattle.pin_core.specs.declared.view.Io.TheVariants.{Quiet, Input, Output}
 use Rattle.pin_core.specs.declared.view.Link.{Link}
 use Rattle.pin_core.specs.declared.view.View.{View}
 use Rattle.pin_core.specs.State.{Frame, Page, link, idle}
 use Rattle.pin_core.specs.Tallies.{some_weight}
-use Rattle.page_core.specs.State.{block_of}
 use Rattle.page_core.specs.Kinds as paged
 use Rattle.page_core.specs.Tallies.{outs, weigh}
 use Rattle.grid.proofs.Sums.{terms_le}
@@ -33,11 +30,11 @@ use Rattle.table_rule.specs.declared.turn.Place.{Place}
 use Rattle.table_rule.specs.declared.turn.Place.TheVariants as place
 use Rattle.table_rule.specs.declared.turn.Turn.TheVariants as turn
 use Rattle.table_rule.specs.Layout.{content_place, slot_of}
-use Rattle.table_rule.specs.Shows.{is_out, IsHome, Devices, Gives, GivesPage, IsOpened, HasPlace, HasValue, Shows, Held}
-use Rattle.frame_table.specs.Kinds.{FrameKind, pages, part_of, content_word, frame_after, link_after, view_after, state_after, block_at, IsAllowed, IsAllowedAround}
+use Rattle.table_rule.specs.Shows.{is_out, IsHome, Devices, Gives, GivesPage, IsOpened, HasValue, Shows, Held}
+use Rattle.frame_table.specs.Kinds.{FrameKind, pages, part_of, content_word, frame_after, link_after, view_after, state_after, IsAllowed, IsAllowedAround}
 use Rattle.frame_table.specs.Tells.{Did, SaysOf}
-use Rattle.frame_table.specs.PageWork.{CanTakePage, CanReturnPage, by_input, overwriting, input_page, page_due, IsPage, page_went, page_came, ReturnsBy, page_out_link, applied_link, returned_link, read_home}
-use Rattle.frame_table.proofs.Frames.{fixed_after, taken_same, views_are, frame_is}
+use Rattle.frame_table.specs.PageWork.{CanTakePage, CanReturnPage, by_input, overwriting, input_page, page_went, page_came, ReturnsBy, page_out_link, applied_link, returned_link, read_home}
+use Rattle.frame_table.proofs.Frames.{fixed_after, taken_same}
 use Rattle.frame_table.specs.Sees.{Touches}
 use Rattle.frame_table.proofs.Kept.{frame_step}
 use Rattle.frame_table.proofs.Told.{link_is, touches, touches_on}

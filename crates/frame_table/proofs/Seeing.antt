@@ -1,5 +1,7 @@
 -- What callers know after loads.
-use Rattle.std.proofs.Common.{◌≡◌, ◌≢◌, ℕ, ◌/◌, ◌<◌, ◌%◌, ◌^◌, ◌==◌, Bool, true, false, sym, refl, ap, ◌∙◌, arith}
+use Rattle.std.proofs.Common.{◌≡◌, ◌≢◌, ℕ, ◌/◌, ◌<◌, ◌%◌, ◌^◌, ◌==◌, nat_eq, Bool, true, false, Option, Some, None, sym, refl, ap, ◌∙◌, arith}
+use Rattle.std.specs.Prelude.{not, ◌||◌, ◌&&◌, if◌then◌else◌}
+use Rattle.std.proofs.Math.Bool.{and-false, or-true}
 use mathlib.Core.Logic.{dite}
 use mathlib.Core.Option.{some}
 use native.Mathlib.Decide.{ℕ_discrete}
@@ -14,7 +16,7 @@ use Rattle.pin_core.specs.declared.view.Content.{Content}
 use Rattle.pin_core.specs.declared.view.Content.TheVariants.{Shared}
 use Rattle.pin_core.specs.State.{link}
 use Rattle.pin_core.specs.Tallies.{flag_weight}
-use Rattle.pin_core.specs.Kinds.{seen_valid_after}
+use Rattle.pin_core.specs.Kinds.{seen_valid_after, wait_after}
 use Rattle.page_core.specs.Tallies.{sharers, copies, weigh, share_weight}
 use Rattle.grid.proofs.Sums.{term_le, total-none}
 use Rattle.history_core.specs.Laws.{Laws}
@@ -22,7 +24,7 @@ use Rattle.history_core.specs.State.{State}
 use Rattle.frame_table.specs.Kinds.{FrameKind}
 use Rattle.frame_table.specs.Tells.{Did, looking}
 use Rattle.frame_table.specs.Content.{looking_content, has_exclusive}
-use Rattle.frame_table.proofs.Told.{link_is}
+use Rattle.frame_table.proofs.Told.{link_is, loads_link, seen_still}
 
 -- no tag word is stored where a view's pin is handed out
 pub handed_settled : (k : FrameKind) (f found : ℕ) (v w : View) → Did k f v w found → (link v f).role ≡ HandedOut → (link v f).pending ≡ false
@@ -43,18 +45,29 @@ seen_after false saw true Victim e pinned on = refl
 seen_after false saw false HandedOut e pinned on = absurd (cc on)
 seen_after false saw false Victim e pinned on = absurd (cc on)
 
-seen_still : (pending valid : Bool) (r : Role) → seen_valid_after pending r valid true ≡ true
-seen_still true valid r = refl
-seen_still false valid Absent = refl
-seen_still false true HandedOut = refl
-seen_still false false HandedOut = refl
-seen_still false true Victim = refl
-seen_still false false Victim = refl
-
 -- a pin sees BM_VALID
 pub sees_valid : (f found : ℕ) (v w : View) → Did looking f v w found → (link v f).pending ≡ false → (link v f).role ≢ Absent → (fields found).valid ≡ true → (link w f).seen_valid ≡ true
 sees_valid f found v w d settled pinned on = ap (λ (l : Link). l.seen_valid) (link_is looking f found v w d)
     ∙ seen_after (link v f).pending (link v f).seen_valid (d.state.pool.core.frame f).word.valid (link v f).role settled pinned (ap (λ (x : StateWord). x.valid) d.says ∙ on)
+
+-- a wait is over where nobody's number is in the word
+over_after : (w : StateWord) (waits : Option ℕ) → w.awaited ≡ false → wait_after w waits ≡ None
+over_after w None off = refl
+over_after w (Some number) off = ap (λ (b : Bool). if b && nat_eq w.waiter number then Some number else None) off
+
+pub sees_over : (f found : ℕ) (v w : View) → Did looking f v w found → (fields found).awaited ≡ false → (link w f).waits ≡ None
+sees_over f found v w d off = ap (λ (l : Link). l.waits) (loads_link f found v w d) ∙ over_after (fields found) (link v f).waits off
+
+-- the checkpoint passes a frame that isn't dirty, and need not write one that has not to be written
+pub passes_clean : (f found : ℕ) (v w : View) → Did looking f v w found → (fields found).dirty ≡ false → (link w f).passed ≡ true
+passes_clean f found v w d clean = ap (λ (l : Link). l.passed) (loads_link f found v w d) ∙ ap (λ (b : Bool). (link v f).passed || not b) clean ∙ or-true (link v f).passed
+
+pub need_not_write : (f found : ℕ) (v w : View) → Did looking f v w found → (fields found).checkpoint_needed ≡ false → (link w f).listed ≡ false
+need_not_write f found v w d none = ap (λ (l : Link). l.listed) (loads_link f found v w d) ∙ ap (λ (b : Bool). (link v f).listed && b) none ∙ and-false (link v f).listed
+
+-- a pin that is handed out sees BM_VALID too
+pub handed_sees : (f found : ℕ) (v w : View) → Did looking f v w found → (link v f).role ≡ HandedOut → (fields found).valid ≡ true → (link w f).seen_valid ≡ true
+handed_sees f found v w d handed on = sees_valid f found v w d (handed_settled looking f found v w d handed) (λ e. let no : HandedOut ≡ Absent = sym handed ∙ e in absurd (cc)) on
 
 -- and has seen it for good
 pub keeps_seen : (f found : ℕ) (v w : View) → Did looking f v w found → (link v f).seen_valid ≡ true → (link w f).seen_valid ≡ true

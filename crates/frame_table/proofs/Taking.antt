@@ -1,5 +1,6 @@
 -- Steps at latches.
-use Rattle.std.proofs.Common.{◌≡◌, ◌≢◌, ℕ, ◌+◌, ◌*◌, ◌<◌, ◌≤◌, eqb, Bool, true, false, List, get_or, set, length, length-set, get_or-set_same, get_or-set_other, sym, refl, ap, ◌∙◌, subst, arith, eq-eqb, ne_eqb}
+use Rattle.std.proofs.Common.{◌≡◌, ◌≢◌, ℕ, ◌+◌, ◌*◌, ◌<◌, ◌≤◌, eqb, Bool, true, false, List, get_or, set, length, length-set, append-nil, get_or-set_same, get_or-set_other, sym, refl, ap, ◌∙◌, subst, arith, eq-eqb, ne_eqb}
+use Rattle.std.proofs.Math.Bool.{or-false}
 use mathlib.Core.Logic.{dite}
 use mathlib.Core.Option.{none, some}
 use native.Mathlib.Decide.{ℕ_discrete}
@@ -299,11 +300,11 @@ no_met v i = record { reads = none_more v.met.reads i; writes = none_more v.met.
 
 -- what a step at a latch makes of the view
 work_after : (takes : Bool) (x : Turn) (s : State) (v : View) → SameWork v (view_turned takes x s v)
-work_after takes (Partition p) s v = record { number = refl; next = refl; joined = refl; emptied = refl; links = refl; flushed = refl; calls = refl; front = refl; loads = refl; upto = refl; met = refl }
-work_after true (Lane q) s v = record { number = refl; next = refl; joined = refl; emptied = refl; links = refl; flushed = refl; calls = refl; front = refl; loads = refl; upto = refl; met = no_met v }
-work_after false (Lane q) s v = record { number = refl; next = refl; joined = refl; emptied = refl; links = refl; flushed = refl; calls = refl; front = refl; loads = refl; upto = refl; met = no_met v }
-work_after true Log s v = record { number = refl; next = refl; joined = refl; emptied = refl; links = refl; flushed = refl; calls = refl; front = refl; loads = refl; upto = refl; met = no_met v }
-work_after false Log s v = record { number = refl; next = refl; joined = refl; emptied = refl; links = refl; flushed = refl; calls = refl; front = refl; loads = refl; upto = refl; met = no_met v }
+work_after takes (Partition p) s v = record { number = refl; next = refl; joined = refl; emptied = refl; links = refl; flushed = refl; calls = refl; front = refl; loads = refl; place_loads = refl; upto = refl; kept = refl; device_calls = refl; met = refl; saw_down = refl; dirtied_or_synced = refl; had_output = refl; last_ended = refl }
+work_after true (Lane q) s v = record { number = refl; next = refl; joined = refl; emptied = refl; links = refl; flushed = refl; calls = refl; front = refl; loads = refl; place_loads = refl; upto = refl; kept = refl; device_calls = append-nil v.device_calls; met = no_met v; saw_down = refl; dirtied_or_synced = or-false v.dirtied_or_synced; had_output = refl; last_ended = refl }
+work_after false (Lane q) s v = record { number = refl; next = refl; joined = refl; emptied = refl; links = refl; flushed = refl; calls = refl; front = refl; loads = refl; place_loads = refl; upto = refl; kept = refl; device_calls = append-nil v.device_calls; met = no_met v; saw_down = refl; dirtied_or_synced = or-false v.dirtied_or_synced; had_output = refl; last_ended = refl }
+work_after true Log s v = record { number = refl; next = refl; joined = refl; emptied = refl; links = refl; flushed = refl; calls = refl; front = refl; loads = refl; place_loads = refl; upto = refl; kept = refl; device_calls = append-nil v.device_calls; met = no_met v; saw_down = or-false v.saw_down; dirtied_or_synced = refl; had_output = refl; last_ended = refl }
+work_after false Log s v = record { number = refl; next = refl; joined = refl; emptied = refl; links = refl; flushed = refl; calls = refl; front = refl; loads = refl; place_loads = refl; upto = refl; kept = refl; device_calls = append-nil v.device_calls; met = no_met v; saw_down = or-false v.saw_down; dirtied_or_synced = refl; had_output = refl; last_ended = refl }
 
 pub turn_work : (takes : Bool) (x : Turn) (v w : View) → DidTurn takes x v w → SameWork v w
 turn_work takes x v w d = subst (SameWork v) (sym d.after) (work_after takes x d.state v)

@@ -1,20 +1,22 @@
 -- What follows from a step that was told.
 use Rattle.std.proofs.Common.{◌≡◌, ◌≢◌, ℕ, ◌<◌, nat_eq, cond, Bool, true, false, Some, None, get_or, set, List, get_or-set_same, get_or-set_other, sym, refl, ap, ◌∙◌, subst, arith, eq-eqb, ne_eqb}
+use Rattle.std.specs.Prelude.{not, ◌||◌, ◌&&◌}
 use mathlib.Core.Logic.{dite}
 use native.Mathlib.Decide.{ℕ_discrete}
 use Rattle.state_word.specs.declared.word.StateWord.{StateWord}
 use Rattle.state_word.specs.Fields.{fields, locked_fields}
 use Rattle.pin_core.specs.declared.view.View.{View}
 use Rattle.pin_core.specs.declared.view.Link.{Link}
-use Rattle.pin_core.specs.declared.view.Role.TheVariants.{Absent}
+use Rattle.pin_core.specs.declared.view.Role.{Role}
+use Rattle.pin_core.specs.declared.view.Role.TheVariants.{Absent, HandedOut, Victim}
 use Rattle.pin_core.specs.State.{link, idle}
-use Rattle.pin_core.specs.Kinds.{wait_after}
+use Rattle.pin_core.specs.Kinds.{seen_valid_after, wait_after}
 use Rattle.pin_core.specs.Kinds as pin
 use Rattle.pin_core.specs.Steps.{HoldsNoHeader}
 use Rattle.pin_core.proofs.Schedules.{few, own_pins}
 use Rattle.history_core.specs.State.{State}
 use Rattle.frame_table.specs.Kinds.{FrameKind, pins, pages, part_of, load_of, link_after, view_after}
-use Rattle.frame_table.specs.Sees.{SameSelf, Touches, Looked, CanUnpin, pinned_link, unpinned_link, locked_link}
+use Rattle.frame_table.specs.Sees.{SameSelf, Touches, Looked, CanUnpin, loaded_link, pinned_link, unpinned_link, locked_link}
 use Rattle.frame_table.specs.Tells.{Choice, choice_part, part_place, Did, Looks, still, again, Tried, if_found, if_unlocked, chosen, has_locked, looking}
 
 pub self_after : (k : FrameKind) (s : State) (f : ℕ) (v : View) → SameSelf v (view_after k s f v)
@@ -86,27 +88,44 @@ looked_on l m n a b = record {
   last_write = b.last_write ∙ a.last_write;
   out = b.out ∙ a.out;
   overwritten = b.overwritten ∙ a.overwritten;
+  image = b.image ∙ a.image;
+  seen_valid = λ saw. b.seen_valid (a.seen_valid saw);
   waits = λ none. b.waits (a.waits none);
+  passed = λ was. b.passed (a.passed was);
+  listed = λ none. b.listed (a.listed none);
 }
 
 pub looked_same : (l m : Link) → m ≡ l → Looked l m
-looked_same l m e = subst (Looked l) (sym e) record { role = refl; tag = refl; ring = refl; header = refl; pending = refl; content = refl; copying = refl; dirtied = refl; unapplied = refl; copied = refl; io = refl; read = refl; read_is_home = refl; last_write = refl; out = refl; overwritten = refl; waits = λ none. none }
+looked_same l m e = subst (Looked l) (sym e) record { role = refl; tag = refl; ring = refl; header = refl; pending = refl; content = refl; copying = refl; dirtied = refl; unapplied = refl; copied = refl; io = refl; read = refl; read_is_home = refl; last_write = refl; out = refl; overwritten = refl; image = refl; seen_valid = λ saw. saw; waits = λ none. none; passed = λ was. was; listed = λ none. none }
 
-loaded_link : (s : State) (f : ℕ) (v : View) → Looked (link v f) (link_after looking s f v)
-loaded_link s f v = record { role = refl; tag = refl; ring = refl; header = refl; pending = refl; content = refl; copying = refl; dirtied = refl; unapplied = refl; copied = refl; io = refl; read = refl; read_is_home = refl; last_write = refl; out = refl; overwritten = refl; waits = λ none. ap (wait_after (s.pool.core.frame f).word) none }
+-- a pin has seen BM_VALID for good
+pub seen_still : (pending valid : Bool) (r : Role) → seen_valid_after pending r valid true ≡ true
+seen_still true valid r = refl
+seen_still false valid Absent = refl
+seen_still false true HandedOut = refl
+seen_still false false HandedOut = refl
+seen_still false true Victim = refl
+seen_still false false Victim = refl
+
+load_looked : (s : State) (f : ℕ) (v : View) → Looked (link v f) (link_after looking s f v)
+load_looked s f v = record { role = refl; tag = refl; ring = refl; header = refl; pending = refl; content = refl; copying = refl; dirtied = refl; unapplied = refl; copied = refl; io = refl; read = refl; read_is_home = refl; last_write = refl; out = refl; overwritten = refl; image = refl; seen_valid = λ saw. ap (seen_valid_after (link v f).pending (link v f).role (s.pool.core.frame f).word.valid) saw ∙ seen_still (link v f).pending (s.pool.core.frame f).word.valid (link v f).role; waits = λ none. ap (wait_after (s.pool.core.frame f).word) none; passed = λ was. ap (λ (b : Bool). b || not (s.pool.core.frame f).word.dirty) was; listed = λ none. ap (λ (b : Bool). b && (s.pool.core.frame f).word.checkpoint_needed) none }
 
 pub looked : (f found : ℕ) (v w : View) → Did looking f v w found → Looked (link v f) (link w f)
-looked f found v w d = subst (Looked (link v f)) (sym (link_is looking f found v w d)) (loaded_link d.state f v)
+looked f found v w d = subst (Looked (link v f)) (sym (link_is looking f found v w d)) (load_looked d.state f v)
+
+-- what a load makes of the link, exactly
+pub loads_link : (f found : ℕ) (v w : View) → Did looking f v w found → link w f ≡ loaded_link (fields found) (link v f)
+loads_link f found v w d = link_is looking f found v w d ∙ ap (λ (word : StateWord). loaded_link word (link v f)) d.says
 
 -- changes of a link after a load
 pub pinned_looked : (ring : Bool) (l m : Link) → Looked l m → Looked (pinned_link ring l) (pinned_link ring m)
-pinned_looked ring l m a = record { role = refl; tag = a.tag; ring = refl; header = a.header; pending = a.pending; content = a.content; copying = a.copying; dirtied = a.dirtied; unapplied = a.unapplied; copied = a.copied; io = a.io; read = a.read; read_is_home = a.read_is_home; last_write = a.last_write; out = a.out; overwritten = a.overwritten; waits = a.waits }
+pinned_looked ring l m a = record { role = refl; tag = a.tag; ring = refl; header = a.header; pending = a.pending; content = a.content; copying = a.copying; dirtied = a.dirtied; unapplied = a.unapplied; copied = a.copied; io = a.io; read = a.read; read_is_home = a.read_is_home; last_write = a.last_write; out = a.out; overwritten = a.overwritten; image = a.image; seen_valid = a.seen_valid; waits = a.waits; passed = a.passed; listed = a.listed }
 
 pub unpinned_looked : (l m : Link) → Looked l m → Looked (unpinned_link l) (unpinned_link m)
-unpinned_looked l m a = record { role = refl; tag = refl; ring = refl; header = a.header; pending = a.pending; content = a.content; copying = a.copying; dirtied = a.dirtied; unapplied = a.unapplied; copied = a.copied; io = a.io; read = a.read; read_is_home = a.read_is_home; last_write = a.last_write; out = a.out; overwritten = a.overwritten; waits = a.waits }
+unpinned_looked l m a = record { role = refl; tag = refl; ring = refl; header = a.header; pending = a.pending; content = a.content; copying = a.copying; dirtied = a.dirtied; unapplied = a.unapplied; copied = a.copied; io = a.io; read = a.read; read_is_home = a.read_is_home; last_write = a.last_write; out = a.out; overwritten = a.overwritten; image = a.image; seen_valid = λ saw. saw; waits = a.waits; passed = a.passed; listed = a.listed }
 
 pub locked_looked : (word : ℕ) (l m : Link) → Looked l m → Looked (locked_link word l) (locked_link word m)
-locked_looked word l m a = record { role = a.role; tag = a.tag; ring = a.ring; header = refl; pending = a.pending; content = a.content; copying = a.copying; dirtied = a.dirtied; unapplied = a.unapplied; copied = a.copied; io = a.io; read = a.read; read_is_home = a.read_is_home; last_write = a.last_write; out = a.out; overwritten = a.overwritten; waits = a.waits }
+locked_looked word l m a = record { role = a.role; tag = a.tag; ring = a.ring; header = refl; pending = a.pending; content = a.content; copying = a.copying; dirtied = a.dirtied; unapplied = a.unapplied; copied = a.copied; io = a.io; read = a.read; read_is_home = a.read_is_home; last_write = a.last_write; out = a.out; overwritten = a.overwritten; image = a.image; seen_valid = a.seen_valid; waits = a.waits; passed = a.passed; listed = a.listed }
 
 -- what was loaded has few pins
 pub few_pins : (f found : ℕ) (v w : View) → Did looking f v w found → (fields found).pins < 262143

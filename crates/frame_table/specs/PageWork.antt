@@ -1,5 +1,5 @@
 -- The page of a frame goes out with a backend, and comes back.
-use Rattle.std.specs.Prelude.{◌≡◌, ◌≢◌, ℕ, true, false, List, ◌∷◌, Option, Some, None, if◌then◌else◌}
+use Rattle.std.specs.Prelude.{◌≡◌, ◌≢◌, ℕ, true, false, ◌∷◌, Option, Some, None, if◌then◌else◌}
 use Rattle.atomic_table.specs.Table.{Me, Step, rest}
 use Rattle.pin_core.specs.declared.view.Content.TheVariants.{Unlocked, Shared}
 use Rattle.pin_core.specs.declared.view.Io.{Io}

@@ -1,5 +1,5 @@
 -- What callers see of a table and of a seat.
-use Rattle.std.specs.Prelude.{◌≡◌, ◌≢◌, ℕ, ◌<◌, Bool, true, false, List, Option, Some, None}
+use Rattle.std.specs.Prelude.{◌≡◌, ◌≢◌, ℕ, ◌<◌, Bool, true, false, not, ◌||◌, ◌&&◌, List, Option, Some, None}
 use Rattle.state_word.specs.declared.word.StateWord.{StateWord}
 use Rattle.state_word.specs.Fields.{fields}
 use Rattle.block_tag.specs.declared.tag.Tag.{Tag}
@@ -16,7 +16,7 @@ use Rattle.pin_core.specs.declared.view.MapChange.{MapChange}
 use Rattle.pin_core.specs.declared.view.MapChange.TheVariants.{Settled, Entering, Leaving}
 use Rattle.pin_core.specs.State.{link, hold, no_tag}
 use Rattle.pin_core.specs.declared.view.PartitionHold.{PartitionHold}
-use Rattle.pin_core.specs.Kinds.{tag_after, holds_naming}
+use Rattle.pin_core.specs.Kinds.{tag_after, seen_valid_after, wait_after, holds_naming}
 use Rattle.pin_core.specs.Turns.{found}
 use Rattle.table_rule.specs.declared.value.Value.{Value}
 use Rattle.frame_table.specs.declared.table.FrameTable.{FrameTable}
@@ -43,7 +43,40 @@ pub record SameSelf (v w : View) : Type 0 where
   pub met : w.met ≡ v.met
   pub saw_down : w.saw_down ≡ v.saw_down
 
--- What a load of the state word leaves of a link: all but what the pin has seen, a wait, and the checkpoint's notes
+-- and of what it has marked, written and ended
+pub record SameMarks (v w : View) : Type 0 where
+  pub dirtied_or_synced : w.dirtied_or_synced ≡ v.dirtied_or_synced
+  pub had_output : w.had_output ≡ v.had_output
+  pub last_ended : w.last_ended ≡ v.last_ended
+
+-- A view that marked a frame dirty, and one that began to read or to write a page
+pub record MarksDirty (v w : View) : Type 0 where
+  pub dirtied_or_synced : w.dirtied_or_synced ≡ true
+  pub had_output : w.had_output ≡ v.had_output
+  pub last_ended : w.last_ended ≡ v.last_ended
+
+pub record MarksBegun (input : Bool) (v w : View) : Type 0 where
+  pub dirtied_or_synced : w.dirtied_or_synced ≡ v.dirtied_or_synced
+  pub reads : input ≡ true → w.had_output ≡ v.had_output
+  pub writes : input ≡ false → w.had_output ≡ true
+  pub last_ended : w.last_ended ≡ v.last_ended
+
+-- and one that ended it, with this word
+pub record MarksEnded (stored : StateWord) (v w : View) : Type 0 where
+  pub dirtied_or_synced : w.dirtied_or_synced ≡ v.dirtied_or_synced
+  pub had_output : w.had_output ≡ v.had_output
+  pub last_ended : w.last_ended ≡ Some stored
+
+-- the link after a load of the state word, which is w: a pin sees BM_VALID, a wait goes on only while its number stands beside BM_PIN_COUNT_WAITER, and the checkpoint passes a frame that isn't dirty, and has no more to write one without BM_CHECKPOINT_NEEDED
+abbrev pub loaded_link : StateWord → Link → Link
+loaded_link w l = record l {
+  seen_valid = seen_valid_after l.pending l.role w.valid l.seen_valid;
+  waits = wait_after w l.waits;
+  passed = l.passed || not w.dirty;
+  listed = l.listed && w.checkpoint_needed;
+}
+
+-- What loads of the state word leave of a link: all but what the pin has seen, a wait, and the checkpoint's notes
 pub record Looked (l m : Link) : Type 0 where
   pub role : m.role ≡ l.role
   pub tag : m.tag ≡ l.tag
@@ -61,8 +94,14 @@ pub record Looked (l m : Link) : Type 0 where
   pub last_write : m.last_write ≡ l.last_write
   pub out : m.out ≡ l.out
   pub overwritten : m.overwritten ≡ l.overwritten
+  pub image : m.image ≡ l.image
+  -- what was seen stays seen
+  pub seen_valid : l.seen_valid ≡ true → m.seen_valid ≡ true
   -- where no wait was there, none is
   pub waits : l.waits ≡ None → m.waits ≡ None
+  -- a frame that the checkpoint has passed stays passed, and none becomes one that it has to write
+  pub passed : l.passed ≡ true → m.passed ≡ true
+  pub listed : l.listed ≡ false → m.listed ≡ false
 
 -- the link after a pin by the caller, for a ring or not
 abbrev pub pinned_link : Bool → Link → Link
@@ -230,6 +269,10 @@ module _ {L G : Type 0} where
 
   abbrev pub opened_of : FrameTable L G → List L
   opened_of t = t.table.shared.key.lanes.value.items
+
+  -- where its log begins
+  abbrev pub base_of : FrameTable L G → ℕ
+  base_of t = t.table.shared.key.base
 
   -- the seat is one of the table
   abbrev pub Fits : FrameTable L G → Seat (Value L G) View → Type 0

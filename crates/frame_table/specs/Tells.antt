@@ -1,19 +1,21 @@
 -- What a step tells the seat that makes it.
-use Rattle.std.specs.Prelude.{◌≡◌, ◌≢◌, ℕ, ◌+◌, ◌<◌, ◌≤◌, ◌%◌, ◌^◌, cond, nat_eq, Bool, true, false, length, Option, Some, None}
+use Rattle.std.specs.Prelude.{◌≡◌, ◌≢◌, ℕ, ◌+◌, ◌<◌, ◌≤◌, ◌%◌, ◌^◌, cond, nat_eq, Bool, true, false, List, length, Option, Some, None}
 use mathlib.Core.Option.{some}
 use lib.ListN.{get_elem?}
 use Rattle.atomic_table.specs.Table.{Me, Step}
 use Rattle.state_word.specs.Fields.{fields, bit}
 use Rattle.block_tag.specs.declared.tag.Tag.{Tag}
+use Rattle.block_tag.specs.declared.catalogue.RelEntry.{RelEntry}
 use Rattle.block_tag.specs.Names.{packed_tag}
 use Rattle.pin_core.specs.declared.view.View.{View}
-use Rattle.pin_core.specs.State.{Frame, new_view}
+use Rattle.pin_core.specs.State.{Frame, new_view, no_tag}
 use Rattle.pin_core.specs.Kinds as pin
 use Rattle.history_core.specs.State.{State}
 use Rattle.history_core.specs.Laws.{Laws}
 use Rattle.table_rule.specs.declared.value.Value.{Value}
 use Rattle.frame_table.specs.declared.pin.TryPin.{TryPin}
 use Rattle.frame_table.specs.declared.pin.TryPin.TheVariants.{Locked, Untagged, Changed}
+use Rattle.table_rule.specs.Blocks.{is_block}
 use Rattle.table_rule.specs.Layout.{state_place, tag_place, content_place, tag_partition}
 use Rattle.frame_table.specs.Kinds.{Part, state_word, tag_word, content_word, FrameKind, pins, part_of, load_of, IsAllowed, IsAllowedAround, view_after}
 
@@ -75,6 +77,10 @@ module _ {L G : Type 0} where
   -- a step at a word of the frame f, where the slots in hand stay
   abbrev pub tells : Choice → Step (Value L G) → Me (Value L G) View → ℕ → Me (Value L G) View → Type 0
   tells choice st m found m' = (m'.1 ≡ m.1) × ((f : ℕ) → st.word ≡ part_place (choice_part choice) f → Did (chosen choice st.first found) f m.0 m'.0 found)
+
+  -- a load of a tag word: a number that is a tag is of a block of the relations
+  abbrev pub tells_tag : List RelEntry → Step (Value L G) → Me (Value L G) View → ℕ → Me (Value L G) View → Type 0
+  tells_tag relations st m found m' = tells (always (pins pin.load_tag)) st m found m' × (found ≢ no_tag → is_block relations found ≡ true)
 
 -- the load of the state word
 abbrev pub looking : FrameKind

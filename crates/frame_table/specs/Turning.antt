@@ -28,12 +28,6 @@ use Rattle.table_rule.specs.declared.turn.Turn.TheVariants.{Partition, Lane, Log
 use Rattle.history_core.specs.Laws.{Laws}
 use Rattle.table_rule.specs.Shows.{is_taken, AreApart, entry_of}
 
--- whether a view has the latch
-abbrev pub has_turn : Turn → View → Bool
-has_turn (Partition p) v = (hold v p).held
-has_turn (Lane q) v = (lane_hold v q).held
-has_turn Log v = v.log.held
-
 -- The view may leave the latch: it has it, its value is home, and nothing under it is left to do
 abbrev pub MayLeave : Turn → View → Type 0
 MayLeave (Partition p) v = ((hold v p).held ≡ true) × ((hold v p).out ≡ None) × ((hold v p).change ≡ Settled)
@@ -105,8 +99,15 @@ pub record SameWork (v w : View) : Type 0 where
   pub calls : w.calls ≡ v.calls
   pub front : w.front ≡ v.front
   pub loads : w.loads ≡ v.loads
+  pub place_loads : w.place_loads ≡ v.place_loads
   pub upto : w.upto ≡ v.upto
+  pub kept : w.kept ≡ v.kept
+  pub device_calls : w.device_calls ≡ v.device_calls
   pub met : w.met ≡ v.met
+  pub saw_down : w.saw_down ≡ v.saw_down
+  pub dirtied_or_synced : w.dirtied_or_synced ≡ v.dirtied_or_synced
+  pub had_output : w.had_output ≡ v.had_output
+  pub last_ended : w.last_ended ≡ v.last_ended
 
 module _ {L G : Type 0} where
   -- where the latch was free it was taken, and else nothing happened
@@ -155,6 +156,10 @@ HasNamed Settled entries = Unit {0}
 HasNamed (Entering tag f) entries = parts.found entries tag ≡ None
 HasNamed (Leaving tag f) entries = parts.found entries tag ≡ Some f
 
+-- each entry's frame is one of n
+abbrev pub AreBelow : ℕ → List Mapped → Type 0
+AreBelow n entries = (i : ℕ) (a : Mapped) → get_elem? entries i ≡ some a → a.frame < n
+
 -- a list has room for the pair that the view is entering
 abbrev pub HasRoomFor : PartitionHold → Vec Mapped Global → Type 0
 HasRoomFor h entries = (tag f : ℕ) → h.change ≡ Entering tag f → h.changed ≡ false → vec_len entries < vec_capacity entries
@@ -170,9 +175,14 @@ module _ {L G : Type 0} where
   TakesPair h (value.Map m) = HasRoomFor h m
   TakesPair h _ = ⊥
 
+  -- its frames are among the n of the table
+  abbrev pub GivesFrames : ℕ → Value L G → Type 0
+  GivesFrames n (value.Map m) = AreBelow n m.items
+  GivesFrames n _ = ⊥
+
   -- the map went out with the seat, from this slot, in a table of n frames
   abbrev pub map_went : ℕ → ℕ → ℕ → Step (Value L G) → Me (Value L G) View → ℕ → Me (Value L G) View → Type 0
-  map_went n p slot st m found m' = (y : Value L G) × (entries : List MapEntry) × (m'.1 ≡ (slot, y) ∷ m.1) × IsMap n y entries × TakesPair (hold m.0 p) y × DidMap (parts.map_out entries) p m.0 m'.0
+  map_went n p slot st m found m' = (y : Value L G) × (entries : List MapEntry) × (m'.1 ≡ (slot, y) ∷ m.1) × IsMap n y entries × TakesPair (hold m.0 p) y × DidMap (parts.map_out entries) p m.0 m'.0 × GivesFrames n y
 
   abbrev pub map_came : ℕ → List MapEntry → Step (Value L G) → Me (Value L G) View → ℕ → Me (Value L G) View → Type 0
   map_came p entries st m found m' = (m'.1 ≡ rest m.1) × ComesBack entries p m.0 m'.0 (hold m.0 p).change

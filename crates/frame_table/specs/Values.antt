@@ -11,20 +11,16 @@ use Rattle.table_rule.specs.declared.value.Value.TheVariants as value
 use Rattle.table_rule.specs.declared.turn.Place.{Place}
 use Rattle.table_rule.specs.declared.turn.Place.TheVariants as place
 use Rattle.table_rule.specs.declared.turn.Turn.TheVariants.{Partition, Lane, Log}
-use Rattle.table_rule.specs.LaneCalls.{LaneDevices, lane_devices}
 use Rattle.table_rule.specs.Shows.{AreApart, Devices, entry_of}
+use Rattle.table_rule.specs.TakenLanes.{lanes_of}
 use Rattle.frame_table.specs.declared.table.FrameTable.{FrameTable}
 use Rattle.frame_table.specs.Sees.{CanStep, CanTurn, Touches, frames_of, relations_of}
-use Rattle.frame_table.specs.Turning.{MapStep, MayComeBack, SameWork, back_hold, out_hold}
+use Rattle.frame_table.specs.Turning.{AreBelow, MapStep, MayComeBack, SameWork, back_hold, out_hold}
 use Rattle.frame_table.specs.PageWork.{CanReturnPage, CanTakePage, page_out_link, returned_link}
 use Rattle.frame_table.specs.LaneWork.{IsTakenFrom, MayReturnTo, back_view, out_view, taken_at}
 use Rattle.frame_table.specs.LogWork.{LogWent, MayComeHome, view_home}
 
 module _ {L G : Type 0} where
-  -- the lanes, as their trait tells them
-  abbrev pub lanes_of : Devices L G → LaneDevices L
-  lanes_of d = lane_devices d.contents d.failed_writes d.read_faults d.write_faults
-
   -- The value of a place may go out with the seat
   abbrev pub MayGoOut : FrameTable L G → Seat (Value L G) View → Place → Type 0
   MayGoOut t s (place.Page f) = CanStep t s f × CanTakePage (link s.me.0 f)
@@ -35,7 +31,7 @@ module _ {L G : Type 0} where
   -- it went out as this value, and the view v became w
   abbrev pub WentOutAs : Devices L G → FrameTable L G → Place → Value L G → View → View → Type 0
   WentOutAs d t (place.Page f) (value.Page p) v w = Touches f v w × (link w f ≡ page_out_link p (link v f)) × ((link w f).overwritten ≡ None)
-  WentOutAs d t (place.Of (Partition p)) (value.Map m) v w = AreApart m.items × (frames_of t ≤ vec_capacity m) × SameWork v w × MapStep p (out_hold (map entry_of m.items) (hold v p)) v w
+  WentOutAs d t (place.Of (Partition p)) (value.Map m) v w = AreApart m.items × (frames_of t ≤ vec_capacity m) × SameWork v w × MapStep p (out_hold (map entry_of m.items) (hold v p)) v w × AreBelow (frames_of t) m.items
   WentOutAs d t (place.Of (Lane q)) (value.Lane l) v w = (l.call ≡ lane_call.Untouched) × IsTakenFrom (lanes_of d) t q l.device × (w ≡ out_view q (taken_at (lanes_of d) t q l.device) v)
   WentOutAs d t (place.Of Log) (value.Log g) v w = (g.call ≡ log_call.Untouched) × (record_size ≤ vec_capacity g.buffer) × LogWent d.bytes d.synced d.log_faults g v w
   WentOutAs d t x y v w = ⊥

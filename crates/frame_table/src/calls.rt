@@ -1,13 +1,13 @@
 //! Calls at state words.
-ghost use Rattle.std.specs.Prelude.{◌≡◌, ◌≢◌, ℕ, ◌<◌, true, false, Some, IfOk, IfErr, MatchResult};
+ghost use Rattle.std.specs.Prelude.{◌≡◌, ◌≢◌, ℕ, ◌<◌, true, false, Some, None, IfOk, IfErr, MatchResult};
 ghost use Rattle.state_word.specs.Fields.{fields, locked_fields, pinned_fields, unpinned_fields};
 ghost use Rattle.pin_core.specs.declared.view.View.{View};
-ghost use Rattle.pin_core.specs.declared.view.Role.TheVariants.{Absent};
+ghost use Rattle.pin_core.specs.declared.view.Role.TheVariants.{Absent, HandedOut};
 ghost use Rattle.pin_core.specs.State.{link};
 ghost use Rattle.pin_core.specs.Kinds as kinds;
 ghost use Rattle.pin_core.specs.Steps.{HoldsNoHeader};
 ghost use Rattle.frame_table.specs.Kinds.{pins};
-ghost use Rattle.frame_table.specs.Sees.{CanStep, CanUnpin, Holds, Looked, SameSeat, Touches, locked_link, pinned_link, unlocked_link, unpinned_link};
+ghost use Rattle.frame_table.specs.Sees.{CanStep, CanUnpin, Holds, Looked, SameMarks, SameSeat, Touches, loaded_link, locked_link, pinned_link, unlocked_link, unpinned_link};
 ghost use Rattle.frame_table.specs.Tells.{Did, Looks, Refuses, Tried, chosen, has_locked, has_tag, if_found, if_unlocked, looking};
 
 use crate::pin::{Pin, TryPin};
@@ -26,12 +26,18 @@ use table_rule::{Value, state_place};
 const LOCKED: u64 = 1 << 22;
 
 impl<L: BlockLane, G: LogDevice> FrameTable<L, G> {
-    /// The state word of a frame.
+    /// The state word of a frame. By it a pin sees that the page is valid, a wait is over where the word has no waiter, and the backend's checkpoint passes a frame that isn't dirty.
     pub fn look(&self, seat: &mut Seat<Value<L, G>, View>, frame: u32) -> u64
         requires { CanStep self.now seat.old frame }
         ensures seat { SameSeat seat.old seat.new }
         ensures touches { Touches frame seat.old.me.0 seat.new.me.0 }
+        ensures marks { SameMarks seat.old.me.0 seat.new.me.0 }
         ensures link { Looked (link seat.old.me.0 frame) (link seat.new.me.0 frame) }
+        ensures loaded { link seat.new.me.0 frame ≡ loaded_link (fields result) (link seat.old.me.0 frame) }
+        ensures seen { (link seat.old.me.0 frame).role ≡ HandedOut → (fields result).valid ≡ true → (link seat.new.me.0 frame).seen_valid ≡ true }
+        ensures over { (fields result).awaited ≡ false → (link seat.new.me.0 frame).waits ≡ None }
+        ensures passed { (fields result).dirty ≡ false → (link seat.new.me.0 frame).passed ≡ true }
+        ensures written { (fields result).checkpoint_needed ≡ false → (link seat.new.me.0 frame).listed ≡ false }
         ensures did { Did looking frame seat.old.me.0 seat.new.me.0 result }
     {
         self.table
@@ -71,6 +77,7 @@ impl<L: BlockLane, G: LogDevice> FrameTable<L, G> {
         requires absent { (link seat.old.me.0 frame).role ≡ Absent }
         ensures seat { SameSeat seat.old seat.new }
         ensures touches { Touches frame seat.old.me.0 seat.new.me.0 }
+        ensures marks { SameMarks seat.old.me.0 seat.new.me.0 }
         ensures pin { IfOk result (λ p. p.frame ≡ frame) }
         ensures pinned { IfOk result (λ _. Looked (pinned_link ring (link seat.old.me.0 frame)) (link seat.new.me.0 frame)) }
         ensures left { IfErr result (λ _. Looked (link seat.old.me.0 frame) (link seat.new.me.0 frame)) }
@@ -91,12 +98,13 @@ impl<L: BlockLane, G: LogDevice> FrameTable<L, G> {
         }
     }
 
-    /// Gives up a pin, once the header is not locked (`UnpinBuffer`).
+    /// Gives up a pin, once the header is not locked (`UnpinBuffer`). A backend that holds that header itself would wait for ever.
     pub fn unpin<R: Wait>(&self, rt: &R, seat: &mut Seat<Value<L, G>, View>, pin: Pin)
         requires seat { CanStep self.now seat.old pin.frame }
         requires pinned { CanUnpin (link seat.old.me.0 pin.frame) }
         ensures seat { SameSeat seat.old seat.new }
         ensures touches { Touches pin.frame seat.old.me.0 seat.new.me.0 }
+        ensures marks { SameMarks seat.old.me.0 seat.new.me.0 }
         ensures unpinned { Looked (unpinned_link (link seat.old.me.0 pin.frame)) (link seat.new.me.0 pin.frame) }
         ensures did { Tried (pins kinds.unpin) pin.frame seat.old.me.0 seat.new.me.0 true }
     {
@@ -145,6 +153,7 @@ impl<L: BlockLane, G: LogDevice> FrameTable<L, G> {
         requires headless { HoldsNoHeader seat.old.me.0 }
         ensures seat { SameSeat seat.old seat.new }
         ensures touches { Touches frame seat.old.me.0 seat.new.me.0 }
+        ensures marks { SameMarks seat.old.me.0 seat.new.me.0 }
         ensures locked { Looked (locked_link result (link seat.old.me.0 frame)) (link seat.new.me.0 frame) }
         ensures did { (v : View) × (was : ℕ) × Looks frame seat.old.me.0 v × Did (pins kinds.lock_header) frame v seat.new.me.0 was × (fields result ≡ locked_fields (fields was)) }
     {
@@ -174,6 +183,7 @@ impl<L: BlockLane, G: LogDevice> FrameTable<L, G> {
         requires held { Holds (link seat.old.me.0 frame) }
         ensures seat { SameSeat seat.old seat.new }
         ensures touches { Touches frame seat.old.me.0 seat.new.me.0 }
+        ensures marks { SameMarks seat.old.me.0 seat.new.me.0 }
         ensures unlocked { link seat.new.me.0 frame ≡ unlocked_link (link seat.old.me.0 frame) }
         ensures did { (was : ℕ) × Did (pins kinds.unlock_header) frame seat.old.me.0 seat.new.me.0 was }
     {

@@ -4,7 +4,7 @@ ghost use Rattle.pin_core.specs.declared.view.Content.TheVariants.{Shared};
 ghost use Rattle.pin_core.specs.State.{link};
 ghost use Rattle.page_core.specs.Kinds as kinds;
 ghost use Rattle.frame_table.specs.Kinds.{pages};
-ghost use Rattle.frame_table.specs.Sees.{CanStep, SameSeat, Touches};
+ghost use Rattle.frame_table.specs.Sees.{CanStep, SameMarks, SameSeat, Touches};
 ghost use Rattle.frame_table.specs.Tells.{Did};
 ghost use Rattle.frame_table.specs.Content.{CanDropCopy, CanDropExclusive, CanDropShare, CanLock, copying_link, exclusive_link, has_copying, has_exclusive, looking_content, shared_link, unexclusive_link, unshared_link};
 
@@ -25,6 +25,7 @@ impl<L: BlockLane, G: LogDevice> FrameTable<L, G> {
         ensures small { result < 2 ^ 20 }
         ensures seat { SameSeat seat.old seat.new }
         ensures touches { Touches frame seat.old.me.0 seat.new.me.0 }
+        ensures marks { SameMarks seat.old.me.0 seat.new.me.0 }
         ensures link { link seat.new.me.0 frame ≡ link seat.old.me.0 frame }
         ensures did { Did looking_content frame seat.old.me.0 seat.new.me.0 result }
     {
@@ -45,6 +46,7 @@ impl<L: BlockLane, G: LogDevice> FrameTable<L, G> {
         requires was { has_exclusive was ≡ false }
         ensures seat { SameSeat seat.old seat.new }
         ensures touches { Touches frame seat.old.me.0 seat.new.me.0 }
+        ensures marks { SameMarks seat.old.me.0 seat.new.me.0 }
         ensures shared { IfOk result (λ _. link seat.new.me.0 frame ≡ shared_link (link seat.old.me.0 frame)) }
         ensures left { IfErr result (λ _. link seat.new.me.0 frame ≡ link seat.old.me.0 frame) }
         ensures did { MatchResult result (λ _. Did (pages kinds.share) frame seat.old.me.0 seat.new.me.0 was) (λ found. (found ≢ was) × (found < 2 ^ 20) × Did looking_content frame seat.old.me.0 seat.new.me.0 found) }
@@ -68,6 +70,7 @@ impl<L: BlockLane, G: LogDevice> FrameTable<L, G> {
         requires was { was ≡ 0 }
         ensures seat { SameSeat seat.old seat.new }
         ensures touches { Touches frame seat.old.me.0 seat.new.me.0 }
+        ensures marks { SameMarks seat.old.me.0 seat.new.me.0 }
         ensures exclusive { IfOk result (λ _. link seat.new.me.0 frame ≡ exclusive_link (link seat.old.me.0 frame)) }
         ensures left { IfErr result (λ _. link seat.new.me.0 frame ≡ link seat.old.me.0 frame) }
         ensures did { MatchResult result (λ _. Did (pages kinds.exclude) frame seat.old.me.0 seat.new.me.0 was) (λ found. (found ≢ was) × (found < 2 ^ 20) × Did looking_content frame seat.old.me.0 seat.new.me.0 found) }
@@ -91,6 +94,7 @@ impl<L: BlockLane, G: LogDevice> FrameTable<L, G> {
         requires was { has_copying was ≡ false }
         ensures seat { SameSeat seat.old seat.new }
         ensures touches { Touches frame seat.old.me.0 seat.new.me.0 }
+        ensures marks { SameMarks seat.old.me.0 seat.new.me.0 }
         ensures taken { IfOk result (λ _. link seat.new.me.0 frame ≡ copying_link true (link seat.old.me.0 frame)) }
         ensures left { IfErr result (λ _. link seat.new.me.0 frame ≡ link seat.old.me.0 frame) }
         ensures did { MatchResult result (λ _. Did (pages kinds.take_copy) frame seat.old.me.0 seat.new.me.0 was) (λ found. (found ≢ was) × (found < 2 ^ 20) × Did looking_content frame seat.old.me.0 seat.new.me.0 found) }
@@ -108,6 +112,7 @@ impl<L: BlockLane, G: LogDevice> FrameTable<L, G> {
         requires view { CanDropShare (link seat.old.me.0 frame) }
         ensures seat { SameSeat seat.old seat.new }
         ensures touches { Touches frame seat.old.me.0 seat.new.me.0 }
+        ensures marks { SameMarks seat.old.me.0 seat.new.me.0 }
         ensures unshared { link seat.new.me.0 frame ≡ unshared_link (link seat.old.me.0 frame) }
         ensures did { (was : ℕ) × Did (pages kinds.unshare) frame seat.old.me.0 seat.new.me.0 was }
     {
@@ -122,6 +127,7 @@ impl<L: BlockLane, G: LogDevice> FrameTable<L, G> {
         requires view { CanDropExclusive (link seat.old.me.0 frame) }
         ensures seat { SameSeat seat.old seat.new }
         ensures touches { Touches frame seat.old.me.0 seat.new.me.0 }
+        ensures marks { SameMarks seat.old.me.0 seat.new.me.0 }
         ensures unexclusive { link seat.new.me.0 frame ≡ unexclusive_link (link seat.old.me.0 frame) }
         ensures did { (was : ℕ) × Did (pages kinds.unexclude) frame seat.old.me.0 seat.new.me.0 was }
     {
@@ -136,6 +142,7 @@ impl<L: BlockLane, G: LogDevice> FrameTable<L, G> {
         requires view { CanDropCopy (link seat.old.me.0 frame) }
         ensures seat { SameSeat seat.old seat.new }
         ensures touches { Touches frame seat.old.me.0 seat.new.me.0 }
+        ensures marks { SameMarks seat.old.me.0 seat.new.me.0 }
         ensures left { link seat.new.me.0 frame ≡ copying_link false (link seat.old.me.0 frame) }
         ensures did { (was : ℕ) × Did (pages kinds.leave_copy) frame seat.old.me.0 seat.new.me.0 was }
     {

@@ -1,19 +1,20 @@
 //! Calls at tag words, and calls under a buffer header.
-ghost use Rattle.std.specs.Prelude.{◌≡◌, ◌≢◌, ◌+◌, ◌<◌, ◌^◌, ℕ, true, false, Some, None};
+ghost use Rattle.std.specs.Prelude.{◌≡◌, ◌≢◌, ◌+◌, ◌<◌, ◌^◌, ℕ, true, false, Some, None, IfSome};
 ghost use Rattle.state_word.specs.Fields.{fields, unlocked_fields};
-ghost use Rattle.block_tag.specs.Names.{packed_tag, unpacked_tag};
+ghost use Rattle.block_tag.specs.Names.{names_block, packed_tag, unpacked_tag};
 ghost use Rattle.pin_core.specs.declared.view.View.{View};
 ghost use Rattle.pin_core.specs.declared.view.MapChange.TheVariants.{Entering};
-ghost use Rattle.pin_core.specs.declared.view.Role.TheVariants.{Absent};
-ghost use Rattle.pin_core.specs.State.{hold, link};
+ghost use Rattle.pin_core.specs.declared.view.Role.TheVariants.{Absent, HandedOut};
+ghost use Rattle.pin_core.specs.State.{hold, link, no_tag};
 ghost use Rattle.pin_core.specs.Kinds as kinds;
 ghost use Rattle.pin_core.specs.Steps.{HasNoVictim};
+ghost use Rattle.table_rule.specs.Blocks.{has_block, is_block};
 ghost use Rattle.frame_table.specs.Kinds.{pins};
-ghost use Rattle.frame_table.specs.Sees.{CanErase, CanStep, CanStore, CanStoreAs, HasRoom, HasStored, HoldsWord, IsAlone, IsUsed, Looked, NamesStored, SameSeat, Stores, Touches, assigned_link, cleared_link, partitions_stored, read_link, relations_of, stored_link, tag_word, unlocked_link, victim_link};
+ghost use Rattle.frame_table.specs.Sees.{CanErase, CanStep, CanStore, CanStoreAs, HasRoom, HasStored, HoldsWord, IsAlone, IsUsed, Looked, NamesStored, SameMarks, SameSeat, Stores, Touches, assigned_link, cleared_link, partitions_stored, read_link, relations_of, stored_link, tag_word, unlocked_link, victim_link};
 ghost use Rattle.frame_table.specs.Tells.{Did, DidHeld, always, storing};
 
 use crate::pin::Pin;
-use crate::plays::{Assign, Clear, Does, EraseTag, LoadTag, LowerUsage, Step, VictimPin};
+use crate::plays::{Assign, Clear, Does, EraseTag, LoadTag, LowerUsage, Related, Step, VictimPin};
 use crate::table::FrameTable;
 use atomic_table::Seat;
 use block_tag::Tag;
@@ -36,19 +37,32 @@ fn victim_pinned(word: u64) -> u64
 }
 
 impl<L: BlockLane, G: LogDevice> FrameTable<L, G> {
-    /// The tag of a frame that the backend pins, or whose header it holds.
+    fn load_packed<D: Related>(&self, seat: &mut Seat<Value<L, G>, View>, frame: u32) -> u64
+        requires known { D.relations ≡ relations_of self.now }
+        requires seat { CanStep self.now seat.old frame }
+        requires right { kinds.CanLoadTag (link seat.old.me.0 frame).role (link seat.old.me.0 frame).header }
+        ensures seat { SameSeat seat.old seat.new }
+        ensures block { result ≢ no_tag → is_block (relations_of self.now) result ≡ true }
+        ensures did { Did (pins kinds.load_tag) frame seat.old.me.0 seat.new.me.0 result }
+    {
+        self.table.shared.load::<LoadTag<D>>(seat, tag_place(frame))
+    }
+
+    /// The tag of a frame that the backend pins, or whose header it holds: that of a block of the relations. A pin remembers it, unless the backend stored the frame's tag word itself.
     pub fn load_tag(&self, seat: &mut Seat<Value<L, G>, View>, frame: u32) -> Option<Tag>
         requires seat { CanStep self.now seat.old frame }
         requires right { kinds.CanLoadTag (link seat.old.me.0 frame).role (link seat.old.me.0 frame).header }
         ensures seat { SameSeat seat.old seat.new }
         ensures touches { Touches frame seat.old.me.0 seat.new.me.0 }
+        ensures marks { SameMarks seat.old.me.0 seat.new.me.0 }
+        ensures named { IfSome result (λ tag. names_block tag ≡ true) }
+        ensures listed { IfSome result (λ tag. has_block (relations_of self.now) tag ≡ true) }
+        ensures handed { IfSome result (λ tag. (link seat.old.me.0 frame).role ≡ HandedOut → (link seat.new.me.0 frame).tag ≡ Some (packed_tag tag)) }
+        ensures settled { IfSome result (λ tag. (link seat.old.me.0 frame).role ≢ Absent → (link seat.old.me.0 frame).pending ≡ false → (link seat.new.me.0 frame).tag ≡ Some (packed_tag tag)) }
         ensures read { link seat.new.me.0 frame ≡ read_link result (link seat.old.me.0 frame) }
         ensures did { Did (pins kinds.load_tag) frame seat.old.me.0 seat.new.me.0 (tag_word result) }
     {
-        let word = self
-            .table
-            .shared
-            .load::<Step<LoadTag>>(seat, tag_place(frame));
+        let word = self.load_packed::<Brand>(seat, frame);
         Tag::unpack(word)
     }
 
@@ -60,6 +74,7 @@ impl<L: BlockLane, G: LogDevice> FrameTable<L, G> {
         requires only { HasNoVictim seat.old.me.0 }
         ensures seat { SameSeat seat.old seat.new }
         ensures touches { Touches frame seat.old.me.0 seat.new.me.0 }
+        ensures marks { SameMarks seat.old.me.0 seat.new.me.0 }
         ensures pin { result.frame ≡ frame }
         ensures pinned { Looked (victim_link (link seat.old.me.0 frame)) (link seat.new.me.0 frame) }
         ensures did { DidHeld (pins kinds.pin_victim) frame seat.old.me.0 seat.new.me.0 }
@@ -77,6 +92,7 @@ impl<L: BlockLane, G: LogDevice> FrameTable<L, G> {
         requires held { HoldsWord IsUsed (link seat.old.me.0 frame) }
         ensures seat { SameSeat seat.old seat.new }
         ensures touches { Touches frame seat.old.me.0 seat.new.me.0 }
+        ensures marks { SameMarks seat.old.me.0 seat.new.me.0 }
         ensures lowered { Looked (unlocked_link (link seat.old.me.0 frame)) (link seat.new.me.0 frame) }
         ensures did { DidHeld (pins kinds.lower_usage) frame seat.old.me.0 seat.new.me.0 }
     {
@@ -126,6 +142,7 @@ impl<L: BlockLane, G: LogDevice> FrameTable<L, G> {
         requires tag { CanStoreAs (relations_of self.now) tag seat.old.me.0 frame }
         ensures seat { SameSeat seat.old seat.new }
         ensures stores { Stores frame seat.old.me.0 seat.new.me.0 }
+        ensures marks { SameMarks seat.old.me.0 seat.new.me.0 }
         ensures stored { link seat.new.me.0 frame ≡ stored_link (link seat.old.me.0 frame) }
         ensures named { seat.new.me.0.partitions ≡ partitions_stored tag frame seat.old.me.0 }
         ensures names { NamesStored tag frame seat.old.me.0 seat.new.me.0 }
@@ -143,6 +160,7 @@ impl<L: BlockLane, G: LogDevice> FrameTable<L, G> {
         requires stored { HasStored false (link seat.old.me.0 frame) }
         ensures seat { SameSeat seat.old seat.new }
         ensures touches { Touches frame seat.old.me.0 seat.new.me.0 }
+        ensures marks { SameMarks seat.old.me.0 seat.new.me.0 }
         ensures assigned { Looked (assigned_link (link seat.new.me.0 frame).tag (link seat.old.me.0 frame)) (link seat.new.me.0 frame) }
         ensures tag { (p tag : ℕ) → (hold seat.old.me.0 p).change ≡ Entering tag frame → (hold seat.old.me.0 p).changed ≡ false → (link seat.new.me.0 frame).tag ≡ Some tag }
         ensures did { DidHeld (pins kinds.assign) frame seat.old.me.0 seat.new.me.0 }
@@ -159,6 +177,7 @@ impl<L: BlockLane, G: LogDevice> FrameTable<L, G> {
         requires stored { HasStored true (link seat.old.me.0 frame) }
         ensures seat { SameSeat seat.old seat.new }
         ensures touches { Touches frame seat.old.me.0 seat.new.me.0 }
+        ensures marks { SameMarks seat.old.me.0 seat.new.me.0 }
         ensures cleared { Looked (cleared_link (link seat.old.me.0 frame)) (link seat.new.me.0 frame) }
         ensures did { DidHeld (pins kinds.clear) frame seat.old.me.0 seat.new.me.0 }
     {

@@ -1,11 +1,11 @@
 //! Calls at the words of the log, and at the clock's hand.
-ghost use Rattle.std.specs.Prelude.{◌≡◌, ℕ, ◌≤◌, true, Some};
+ghost use Rattle.std.specs.Prelude.{◌≡◌, ℕ, ◌≤◌, true, map, Some};
 ghost use Rattle.frame_table.specs.Behind.{DidWord, add_hand, load_flushed, load_hand, raise_flushed, view_of};
-ghost use Rattle.frame_table.specs.EndLoads.{IsEndAllowed, end_kind};
-ghost use Rattle.frame_table.specs.Sees.{IsSeat, SameSeat, frames_of};
+ghost use Rattle.frame_table.specs.EndLoads.{IsEndAllowed, ReadsHeld, ReadsOpening, end_kind};
+ghost use Rattle.frame_table.specs.Sees.{IsSeat, SameSeat, base_of, frames_of, lanes_in, opened_of, relations_of};
 
 use crate::table::FrameTable;
-use crate::word_plays::{AddHand, LoadFlushed, LoadHand, RaiseFlushed, StepAt, StepsAt};
+use crate::word_plays::{AddHand, AtEndLoad, LoadEnd, LoadFlushed, LoadHand, RaiseFlushed, StepAt};
 use atomic_table::Seat;
 use log_device::LogDevice;
 use pin_core::View;
@@ -24,34 +24,40 @@ pub enum EndLoad {
 }
 
 impl<L: BlockLane, G: LogDevice> FrameTable<L, G> {
-    fn end_at<D: StepsAt>(&self, seat: &mut Seat<Value<L, G>, View>, _what: EndLoad) -> u64
-        requires kind { D.kind ≡ end_kind _what }
+    fn end_at<D: AtEndLoad>(&self, seat: &mut Seat<Value<L, G>, View>, _what: EndLoad) -> u64
+        requires what { (D.what ≡ _what) × (D.base ≡ base_of self.now) }
+        requires known { (D.relations ≡ relations_of self.now) × (D.lanes ≡ lanes_in self.now) × (D.held ≡ map L.contents (opened_of self.now)) }
         requires seat { IsSeat self.now seat.old }
         requires allowed { IsEndAllowed (frames_of self.now) _what seat.old.me.0 }
         ensures seat { SameSeat seat.old seat.new }
+        ensures base { base_of self.now ≤ result }
+        ensures held { result ≡ base_of self.now → ReadsHeld (relations_of self.now) (lanes_in self.now) (map L.contents (opened_of self.now)) _what seat.old.me.0 }
         ensures did { DidWord (end_kind _what) seat.old.me.0 seat.new.me.0 result }
     {
         let at = end_place(self.frames());
-        self.table.shared.load::<StepAt<D>>(seat, at)
+        self.table.shared.load::<LoadEnd<D>>(seat, at)
     }
 
-    /// The log's end, and what it is loaded for: as the place of a read it joins the backend's calls, and is its front then.
+    /// The log's end, and what it is loaded for: as the place of a read it joins the backend's calls, and is its front then. A read whose place is the log's base is of the page that the block's lane held as the table was opened, where that is known.
     pub fn load_log_end(&self, seat: &mut Seat<Value<L, G>, View>, what: EndLoad) -> u64
         requires seat { IsSeat self.now seat.old }
         requires allowed { IsEndAllowed (frames_of self.now) what seat.old.me.0 }
         ensures seat { SameSeat seat.old seat.new }
         ensures view { seat.new.me.0 ≡ view_of (end_kind what) result seat.old.me.0 }
         ensures front { seat.old.me.0.front ≤ result }
+        ensures base { base_of self.now ≤ result }
+        ensures origin { ReadsOpening L.contents self.now what result seat.old.me.0 }
         ensures did { DidWord (end_kind what) seat.old.me.0 seat.new.me.0 result }
     {
         self.end_at::<Brand>(seat, what)
     }
 
-    /// The position up to which the log is flushed.
+    /// The position up to which the log is flushed. It never falls.
     pub fn load_flushed(&self, seat: &mut Seat<Value<L, G>, View>) -> u64
         requires { IsSeat self.now seat.old }
         ensures seat { SameSeat seat.old seat.new }
         ensures view { seat.new.me.0 ≡ view_of load_flushed result seat.old.me.0 }
+        ensures flushed { seat.old.me.0.flushed ≤ result }
         ensures did { DidWord load_flushed seat.old.me.0 seat.new.me.0 result }
     {
         let at = flushed_place(self.frames());

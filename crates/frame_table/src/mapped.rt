@@ -6,7 +6,7 @@ ghost use Rattle.pin_core.specs.declared.view.Role.TheVariants.{Absent};
 ghost use Rattle.pin_core.specs.State.{link};
 ghost use Rattle.pin_core.specs.Kinds as kinds;
 ghost use Rattle.frame_table.specs.Kinds.{pins};
-ghost use Rattle.frame_table.specs.Sees.{CanStep, Finds, Looked, SameSeat, Touches, mapped_link};
+ghost use Rattle.frame_table.specs.Sees.{CanStep, Finds, Looked, SameMarks, SameSeat, Touches, mapped_link};
 ghost use Rattle.frame_table.specs.Tells.{Did, Tried, chosen, has_locked, if_found};
 
 use crate::pin::Pin;
@@ -67,7 +67,7 @@ impl<L: BlockLane, G: LogDevice> FrameTable<L, G> {
         self.swap_mapped::<Brand>(seat, frame, tag, ring, was, new) == was
     }
 
-    /// Pins the frame that the map of the tag's partition gives for the tag, once its header is not locked (`BufferAlloc`, where the block is found).
+    /// Pins the frame that the map of the tag's partition gives for the tag, once its header is not locked (`BufferAlloc`, where the block is found). A backend that holds that header itself would wait for ever.
     pub fn pin<R: Wait>(
         &self,
         rt: &R,
@@ -82,6 +82,7 @@ impl<L: BlockLane, G: LogDevice> FrameTable<L, G> {
         requires finds { Finds seat.old.me.0 (packed_tag tag) frame }
         ensures seat { SameSeat seat.old seat.new }
         ensures touches { Touches frame seat.old.me.0 seat.new.me.0 }
+        ensures marks { SameMarks seat.old.me.0 seat.new.me.0 }
         ensures pin { result.frame ≡ frame }
         ensures pinned { Looked (mapped_link (packed_tag tag) ring (link seat.old.me.0 frame)) (link seat.new.me.0 frame) }
         ensures did { Tried (pins (kinds.pin_mapped (packed_tag tag) ring)) frame seat.old.me.0 seat.new.me.0 true }

@@ -10,7 +10,7 @@ ghost use Rattle.table_rule.specs.declared.value.Value.TheVariants as value;
 ghost use Rattle.table_rule.specs.Layout.{latch_place, slot_of};
 ghost use Rattle.table_rule.specs.Shows.{AreApart, entry_of};
 ghost use Rattle.frame_table.specs.Sees.{CanTurn, frames_of};
-ghost use Rattle.frame_table.specs.Turning.{ComesBack, DidMap, HasNamed, HasRoomFor, IsMap, MapStep, MayComeBack, SameWork, TakesPair, back_hold, out_hold};
+ghost use Rattle.frame_table.specs.Turning.{AreBelow, ComesBack, DidMap, GivesFrames, HasNamed, HasRoomFor, IsMap, MapStep, MayComeBack, SameWork, TakesPair, back_hold, out_hold};
 
 use crate::plays::{AtMap, MapBack, MapOut};
 use crate::table::FrameTable;
@@ -42,7 +42,7 @@ impl<L: BlockLane, G: LogDevice> FrameTable<L, G> {
         requires held { ((hold seat.old.me.0 _partition).held ≡ true) × ((hold seat.old.me.0 _partition).out ≡ None) }
         ensures seat { (seat.new.table_id ≡ seat.old.table_id) × (seat.new.id ≡ seat.old.id) }
         ensures hand { seat.new.me.1 ≡ (slot, value.Away) ∷ seat.old.me.1 }
-        ensures map { (entries : List MapEntry) × IsMap (frames_of self.now) result entries × TakesPair (hold seat.old.me.0 _partition) result × DidMap (parts.map_out entries) _partition seat.old.me.0 seat.new.me.0 }
+        ensures map { (entries : List MapEntry) × IsMap (frames_of self.now) result entries × TakesPair (hold seat.old.me.0 _partition) result × DidMap (parts.map_out entries) _partition seat.old.me.0 seat.new.me.0 × GivesFrames (frames_of self.now) result }
     {
         self.table.shared.load::<MapOut<D>>(seat, place);
         self.table.shared.exchange(seat, slot, Value::Away)
@@ -55,6 +55,7 @@ impl<L: BlockLane, G: LogDevice> FrameTable<L, G> {
         ensures seat { (seat.new.table_id ≡ seat.old.table_id) × (seat.new.id ≡ seat.old.id) }
         ensures hand { seat.new.me.1 ≡ (slot_of (frames_of self.now) (Of (Partition partition)), value.Away) ∷ seat.old.me.1 }
         ensures apart { AreApart result.items }
+        ensures inside { AreBelow (frames_of self.now) result.items }
         ensures room { frames_of self.now ≤ vec_capacity result }
         ensures few { HasRoomFor (hold seat.old.me.0 partition) result }
         ensures named { (hold seat.old.me.0 partition).changed ≡ false → HasNamed (hold seat.old.me.0 partition).change (map entry_of result.items) }

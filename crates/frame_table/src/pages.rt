@@ -8,7 +8,7 @@ ghost use Rattle.table_rule.specs.declared.turn.Place.TheVariants as place;
 ghost use Rattle.table_rule.specs.Layout.{slot_of};
 ghost use Rattle.frame_table.specs.Kinds.{pages};
 ghost use Rattle.frame_table.specs.PageWork.{CanReturnPage, CanTakePage, IsPage, ReturnsBy, overwriting, page_out_link, returned_link};
-ghost use Rattle.frame_table.specs.Sees.{CanStep, Touches, frames_of};
+ghost use Rattle.frame_table.specs.Sees.{CanStep, SameMarks, Touches, frames_of};
 ghost use Rattle.frame_table.specs.Tells.{Did};
 
 use crate::plays::{AtPage, PageBack, PageOut};
@@ -48,6 +48,7 @@ impl<L: BlockLane, G: LogDevice> FrameTable<L, G> {
         ensures seat { (seat.new.table_id ≡ seat.old.table_id) × (seat.new.id ≡ seat.old.id) }
         ensures hand { seat.new.me.1 ≡ (slot_of (frames_of self.now) (place.Page frame), value.Away) ∷ seat.old.me.1 }
         ensures touches { Touches frame seat.old.me.0 seat.new.me.0 }
+        ensures marks { SameMarks seat.old.me.0 seat.new.me.0 }
         ensures out { link seat.new.me.0 frame ≡ page_out_link result (link seat.old.me.0 frame) }
         ensures fresh { (link seat.new.me.0 frame).overwritten ≡ None }
         ensures did { (found : ℕ) × Did (pages kinds.page_out) frame seat.old.me.0 seat.new.me.0 found }
@@ -88,6 +89,7 @@ impl<L: BlockLane, G: LogDevice> FrameTable<L, G> {
         ensures seat { (seat.new.table_id ≡ seat.old.table_id) × (seat.new.id ≡ seat.old.id) }
         ensures hand { seat.new.me.1 ≡ rest seat.old.me.1 }
         ensures touches { Touches frame seat.old.me.0 seat.new.me.0 }
+        ensures marks { SameMarks seat.old.me.0 seat.new.me.0 }
         ensures back { link seat.new.me.0 frame ≡ returned_link page (link seat.old.me.0 frame) }
         ensures did { (found : ℕ) × ReturnsBy (overwriting (link seat.old.me.0 frame)) frame seat.old.me.0 seat.new.me.0 found }
     {

@@ -1,7 +1,8 @@
 //! What each step tells its seat.
 ghost use Rattle.std.specs.Prelude.{ℕ, List, []};
+ghost use Rattle.block_tag.specs.declared.catalogue.RelEntry.{RelEntry};
 ghost use Rattle.pin_core.specs.declared.view.MapEntry.{MapEntry};
-ghost use Rattle.frame_table.specs.Tells.{tells, Choice, always, if_found, if_unlocked, looking};
+ghost use Rattle.frame_table.specs.Tells.{tells, tells_tag, Choice, always, if_found, if_unlocked, looking};
 ghost use Rattle.frame_table.specs.Kinds.{pins};
 ghost use Rattle.frame_table.specs.PageWork.{page_came, page_went};
 ghost use Rattle.frame_table.specs.Turning.{left, map_came, map_went, took};
@@ -56,10 +57,21 @@ impl Does for UnlockHeader {
     ghost choice = { always (pins pin.unlock_header) };
 }
 
-pub(crate) struct LoadTag;
+/// The relations of the table where a tag word is loaded. Each call picks them.
+pub(crate) trait Related {
+    ghost relations: { List RelEntry };
+}
 
-impl Does for LoadTag {
-    ghost choice = { always (pins pin.load_tag) };
+impl Related for Brand {
+    ghost relations = { [] };
+}
+
+pub(crate) struct LoadTag<D> {
+    relations: PhantomData<D>,
+}
+
+impl<L, G, D: Related> Play<Value<L, G>, View> for LoadTag<D> {
+    ghost then = { tells_tag D.relations };
 }
 
 pub(crate) struct EraseTag;

@@ -6,7 +6,7 @@ ghost use Rattle.pin_core.specs.State.{link};
 ghost use Rattle.page_core.specs.Kinds as kinds;
 ghost use Rattle.page_core.specs.Steps.{HasNoIo, HasNoWriteOut, MayWait};
 ghost use Rattle.frame_table.specs.Kinds.{pages};
-ghost use Rattle.frame_table.specs.Sees.{CanStep, Looked, SameSeat, Touches, unlocked_link};
+ghost use Rattle.frame_table.specs.Sees.{CanStep, Looked, MarksBegun, MarksDirty, MarksEnded, SameMarks, SameSeat, Touches, unlocked_link};
 ghost use Rattle.frame_table.specs.Tells.{Did, Tried, always, chosen, has_locked, if_found};
 ghost use Rattle.frame_table.specs.Content.{CanAwait, CanBeginIo, CanClearJust, CanFinishIo, CanNeed, CanWake, begun_link, dirtied_link, finished_link, listed_link, start_of, waiting_link};
 
@@ -27,12 +27,13 @@ use std::sync::Wait;
 use table_rule::{Value, state_place};
 
 impl<L: BlockLane, G: LogDevice> FrameTable<L, G> {
-    /// Marks the frame dirty under its exclusive lock, once the header is not locked (`MarkBufferDirty`).
+    /// Marks the frame dirty under its exclusive lock, once the header is not locked (`MarkBufferDirty`). A backend that holds that header itself would wait for ever.
     pub fn mark_dirty<R: Wait>(&self, rt: &R, seat: &mut Seat<Value<L, G>, View>, frame: u32)
         requires seat { CanStep self.now seat.old frame }
         requires right { (link seat.old.me.0 frame).content ≡ Exclusive }
         ensures seat { SameSeat seat.old seat.new }
         ensures touches { Touches frame seat.old.me.0 seat.new.me.0 }
+        ensures marks { MarksDirty seat.old.me.0 seat.new.me.0 }
         ensures dirtied { Looked (dirtied_link (link seat.old.me.0 frame)) (link seat.new.me.0 frame) }
         ensures did { Tried (pages kinds.mark_dirty) frame seat.old.me.0 seat.new.me.0 true }
     {
@@ -104,6 +105,7 @@ impl<L: BlockLane, G: LogDevice> FrameTable<L, G> {
         ensures right { (result.frame ≡ frame) × (result.input ≡ input) }
         ensures seat { SameSeat seat.old seat.new }
         ensures touches { Touches frame seat.old.me.0 seat.new.me.0 }
+        ensures marks { MarksBegun input seat.old.me.0 seat.new.me.0 }
         ensures begun { link seat.new.me.0 frame ≡ begun_link input (link seat.old.me.0 frame) }
         ensures did { Did (pages (start_of input)) frame seat.old.me.0 seat.new.me.0 word }
     {
@@ -145,6 +147,7 @@ impl<L: BlockLane, G: LogDevice> FrameTable<L, G> {
         requires no_write { HasNoWriteOut seat.old.me.0 right.frame }
         ensures seat { SameSeat seat.old seat.new }
         ensures touches { Touches right.frame seat.old.me.0 seat.new.me.0 }
+        ensures marks { MarksEnded (unlocked_fields (io_ended_fields end (fields word))) seat.old.me.0 seat.new.me.0 }
         ensures finished { link seat.new.me.0 right.frame ≡ finished_link (link seat.old.me.0 right.frame) }
         ensures did { Did (pages (kinds.end_io end)) right.frame seat.old.me.0 seat.new.me.0 word }
     {
@@ -158,6 +161,7 @@ impl<L: BlockLane, G: LogDevice> FrameTable<L, G> {
         requires view { CanClearJust word (link seat.old.me.0 frame) }
         ensures seat { SameSeat seat.old seat.new }
         ensures touches { Touches frame seat.old.me.0 seat.new.me.0 }
+        ensures marks { SameMarks seat.old.me.0 seat.new.me.0 }
         ensures unlocked { link seat.new.me.0 frame ≡ unlocked_link (link seat.old.me.0 frame) }
         ensures did { Did (pages kinds.clear_just_dirtied) frame seat.old.me.0 seat.new.me.0 word }
     {
@@ -174,6 +178,7 @@ impl<L: BlockLane, G: LogDevice> FrameTable<L, G> {
         requires view { CanNeed word (link seat.old.me.0 frame) }
         ensures seat { SameSeat seat.old seat.new }
         ensures touches { Touches frame seat.old.me.0 seat.new.me.0 }
+        ensures marks { SameMarks seat.old.me.0 seat.new.me.0 }
         ensures listed { link seat.new.me.0 frame ≡ listed_link (link seat.old.me.0 frame) }
         ensures did { Did (pages kinds.need_checkpoint) frame seat.old.me.0 seat.new.me.0 word }
     {
@@ -212,6 +217,7 @@ impl<L: BlockLane, G: LogDevice> FrameTable<L, G> {
         requires may { MayWait number seat.old.me.0 }
         ensures seat { SameSeat seat.old seat.new }
         ensures touches { Touches frame seat.old.me.0 seat.new.me.0 }
+        ensures marks { SameMarks seat.old.me.0 seat.new.me.0 }
         ensures waits { link seat.new.me.0 frame ≡ waiting_link number (link seat.old.me.0 frame) }
         ensures did { Did (pages (kinds.set_waiter number)) frame seat.old.me.0 seat.new.me.0 word }
     {
@@ -230,6 +236,7 @@ impl<L: BlockLane, G: LogDevice> FrameTable<L, G> {
         requires view { CanWake word (link seat.old.me.0 frame) }
         ensures seat { SameSeat seat.old seat.new }
         ensures touches { Touches frame seat.old.me.0 seat.new.me.0 }
+        ensures marks { SameMarks seat.old.me.0 seat.new.me.0 }
         ensures unlocked { link seat.new.me.0 frame ≡ unlocked_link (link seat.old.me.0 frame) }
         ensures did { Did (pages kinds.clear_waiter) frame seat.old.me.0 seat.new.me.0 word }
     {

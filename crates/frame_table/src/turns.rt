@@ -47,7 +47,7 @@ impl<L: BlockLane, G: LogDevice> FrameTable<L, G> {
             == 0
     }
 
-    /// Waits until the latch is free, and takes it (`LWLockAcquire`).
+    /// Waits until the latch is free, and takes it (`LWLockAcquire`). A backend that has it already would wait for ever.
     pub fn take_turn<R: Wait>(&self, rt: &R, seat: &mut Seat<Value<L, G>, View>, turn: Turn)
         requires seat { CanTurn self.now seat.old turn }
         ensures seat { SameSeat seat.old seat.new }

@@ -1,5 +1,11 @@
 //! What a step at a word behind those of the frames tells its seat.
-ghost use Rattle.frame_table.specs.Behind.{WordKind, tells_word, load_end, load_flushed, raise_flushed, load_hand, add_hand};
+ghost use Rattle.std.specs.Prelude.{ℕ, List, [], Option};
+ghost use Rattle.block_tag.specs.declared.catalogue.RelEntry.{RelEntry};
+ghost use Rattle.segment_store.specs.Contents.{Pages};
+ghost use Rattle.frame_table.specs.declared.log_words.EndLoad.{EndLoad};
+ghost use Rattle.frame_table.specs.declared.log_words.EndLoad.TheVariants.{Plain};
+ghost use Rattle.frame_table.specs.EndLoads.{tells_end_load};
+ghost use Rattle.frame_table.specs.Behind.{WordKind, tells_word, load_flushed, raise_flushed, load_hand, add_hand};
 
 use atomic_table::Play;
 use pin_core::View;
@@ -19,9 +25,37 @@ impl<L, G, D: StepsAt> Play<Value<L, G>, View> for StepAt<D> {
     ghost then = { tells_word D.kind };
 }
 
-// The call picks the kind.
-impl StepsAt for Brand {
-    ghost kind = { load_end };
+/// What the log's end is loaded for, where the log begins, the relations, how many lanes there are, and what they held as the table was opened. Each call picks it.
+pub(crate) trait AtEndLoad {
+    ghost what: { EndLoad };
+
+    ghost base: { ℕ };
+
+    ghost relations: { List RelEntry };
+
+    ghost lanes: { ℕ };
+
+    ghost held: { List (Option Pages) };
+}
+
+impl AtEndLoad for Brand {
+    ghost what = { Plain };
+
+    ghost base = { 0 };
+
+    ghost relations = { [] };
+
+    ghost lanes = { 0 };
+
+    ghost held = { [] };
+}
+
+pub(crate) struct LoadEnd<D> {
+    what: PhantomData<D>,
+}
+
+impl<L, G, D: AtEndLoad> Play<Value<L, G>, View> for LoadEnd<D> {
+    ghost then = { tells_end_load D.what D.base D.relations D.lanes D.held };
 }
 
 pub(crate) struct LoadFlushed;

@@ -1,6 +1,6 @@
 -- Lists of entries as finite maps.
 use Rattle.std.proofs.Common.{eqb, ◌≡◌, ◌≢◌, ◌⊎◌, ℕ, zero, suc, Bool, true, false, cond, Option, Some, None, List, [], ◌∷◌, ◌++◌, map, length, eq-eqb, ne_eqb, ⊎_elim, sym, refl, ap, ◌∙◌}
-use Rattle.std.specs.Prelude.{filter, not, nat_eq, if◌then◌else◌}
+use Rattle.std.specs.Prelude.{◌<◌, IfSome, filter, not, nat_eq, if◌then◌else◌}
 use Rattle.std.specs.List.{find}
 use Rattle.std.specs.Option.{option_map}
 use mathlib.Core.Logic.{dite}
@@ -12,7 +12,8 @@ use Rattle.grid.proofs.Lists.{at_end, put_at, put_else, put_same}
 use Rattle.pin_core.specs.Turns.{found}
 use Rattle.table_rule.specs.declared.value.Mapped.{Mapped}
 use Rattle.table_rule.specs.Shows.{AreApart, entry_of}
-use Rattle.frame_table.proofs.Fitting.{apart_head, apart_tail, found_here, found_else}
+use Rattle.frame_table.specs.Turning.{AreBelow}
+use Rattle.frame_table.proofs.Fitting.{apart_head, apart_tail, found_below, found_here, found_else}
 
 -- whether an entry is of the tag, or of another one
 abbrev pub is_of : ℕ → Mapped → Bool
@@ -32,6 +33,11 @@ found_first [] tag = refl
 found_first (a ∷ l) tag = dite (ℕ_discrete tag a.tag)
     (λ e. ap (λ (t : Bool). option_map (λ (b : Mapped). b.frame) (if t then Some a else find (is_of tag) l)) (eq-eqb a.tag tag (sym e)) ∙ sym (found_here a l tag e))
     (λ n. ap (λ (t : Bool). option_map (λ (b : Mapped). b.frame) (if t then Some a else find (is_of tag) l)) (ne_eqb a.tag tag (λ e. n (sym e))) ∙ found_first l tag ∙ sym (found_else a l tag n))
+
+-- a frame that entries give for a tag is one of theirs
+pub gives_below : (n : ℕ) (l : List Mapped) → AreBelow n l → (tag : ℕ) (r : Option ℕ) → r ≡ gives l tag → IfSome r (λ f. f < n)
+gives_below n l low tag None e = tt
+gives_below n l low tag (Some f) e = found_below n l low tag f (sym e)
 
 -- a tag that entries lack is none of theirs
 lacks_head : (a : Mapped) (l : List Mapped) (tag : ℕ) → gives (a ∷ l) tag ≡ None → tag ≢ a.tag

@@ -1,12 +1,12 @@
 //! Searches.
-ghost use Rattle.std.specs.Prelude.{◌≡◌, List, Some, true, IfSome, IfNone};
+ghost use Rattle.std.specs.Prelude.{◌≡◌, ◌<◌, List, Some, true, IfSome, IfNone};
 ghost use Rattle.block_tag.specs.Names.{names_block, packed_tag, partition_number};
 ghost use Rattle.pin_core.specs.declared.view.MapEntry.{MapEntry};
 ghost use Rattle.pin_core.specs.declared.view.MapChange.TheVariants.{Settled};
 ghost use Rattle.pin_core.specs.State.{hold};
 ghost use Rattle.pin_core.specs.Turns.{found};
 ghost use Rattle.table_rule.specs.declared.turn.Turn.TheVariants.{Partition};
-ghost use Rattle.frame_table.specs.Sees.{CanTurn, Finds, Lacks, SameSeat};
+ghost use Rattle.frame_table.specs.Sees.{CanTurn, Finds, Lacks, SameSeat, frames_of};
 ghost use Rattle.frame_table.specs.Turning.{MapStep, SameWork, back_hold};
 ghost use Rattle.map_partitions.specs.Partition.{Holds, WentAndCame, entries_seen};
 
@@ -31,6 +31,7 @@ pub fn find<L: BlockLane, G: LogDevice>(
     ensures seat { SameSeat seat.old seat.new }
     ensures work { SameWork seat.old.me.0 seat.new.me.0 }
     ensures found { result ≡ found (entries_seen seat.new.me.0 (partition_number tag.now)) (packed_tag tag.now) }
+    ensures inside { IfSome result (λ frame. frame < frames_of table.now) }
     ensures finds { IfSome result (λ frame. Finds seat.new.me.0 (packed_tag tag.now) frame) }
     ensures lacks { IfNone result (Lacks seat.new.me.0 (packed_tag tag.now)) }
     ensures holds { Holds Settled seat.new.me.0 (partition_number tag.now) }

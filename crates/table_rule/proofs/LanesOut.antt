@@ -30,7 +30,7 @@ tag_itself : (a : Tag) → tag_eq a a ≡ true
 tag_itself a = grind arith
 
 -- what stands in a list that was mapped
-map_at : {A B : Type 0} (f : A → B) (l : List A) (k : ℕ) (b : B) → get_elem? (map f l) k ≡ some b → (a : A) × (get_elem? l k ≡ some a) × (f a ≡ b)
+pub map_at : {A B : Type 0} (f : A → B) (l : List A) (k : ℕ) (b : B) → get_elem? (map f l) k ≡ some b → (a : A) × (get_elem? l k ≡ some a) × (f a ≡ b)
 map_at f [] k b e = absurd (some-ne-none b (sym e))
 map_at f (x ∷ l) zero b e = (x, refl, some-injective (f x) b e)
 map_at f (x ∷ l) (suc k) b e = map_at f l k b e

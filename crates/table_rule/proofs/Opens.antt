@@ -174,7 +174,7 @@ module _ {L G : Type 0} (d : Devices L G) (relations : List RelEntry) (lanes : L
   fresh_is are q l at = record {
     known = ap known_in at;
     pages = λ known word tag told h. origin_is are q l known word tag at told h;
-    failed = λ known word tag told h. sym (are.unfailed q l known tag at told);
+    failed = λ known word tag told h. sym (are.unfailed q l known word tag at told h);
     reads = ap (faults_in d.read_faults) at;
     writes = ap (faults_in d.write_faults) at;
   }

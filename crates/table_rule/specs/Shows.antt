@@ -128,10 +128,10 @@ module _ {L G : Type 0} where
     pub faults : dev.faults ≡ d.log_faults g
     pub down : dev.down ≡ mark
 
-  -- What the devices are as a table is built over them: where a lane's contents are known it holds the relations' blocks that lie there, and no block's last write has failed
+  -- What the devices are as a table is built over them: where a lane's contents are known it holds the relations' blocks that lie there, and the last write of none of these has failed
   pub record AreLanes (d : Devices L G) (relations : List RelEntry) (lanes : List L) : Type 0 where
     pub held : (q : ℕ) (l : L) (known : Pages) (word : ℕ) (tag : Tag) → get_elem? lanes q ≡ some l → d.contents l ≡ Some known → IsPlaced relations (length lanes) q word tag → is_some (known tag) ≡ true
-    pub unfailed : (q : ℕ) (l : L) (known : Pages) (tag : Tag) → get_elem? lanes q ≡ some l → d.contents l ≡ Some known → d.failed_writes l tag ≡ false
+    pub unfailed : (q : ℕ) (l : L) (known : Pages) (word : ℕ) (tag : Tag) → get_elem? lanes q ≡ some l → d.contents l ≡ Some known → IsPlaced relations (length lanes) q word tag → d.failed_writes l tag ≡ false
 
   -- and where the log's are, it holds just the head
   pub record IsNewLog (d : Devices L G) (base : ℕ) (g : G) : Type 0 where

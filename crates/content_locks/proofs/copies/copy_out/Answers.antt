@@ -4,6 +4,7 @@ use Rattle.frame_table.proofs.Told.{touches_on}
 use Rattle.page_core.specs.Kinds as kinds
 use Rattle.content_locks.specs.Locks.{MayCopy, alone, latched, still, again}
 use Rattle.content_locks.proofs.Locking.{is_shared, is_exclusive_lock, locks_on}
+use Rattle.frame_table.proofs.Marks.{marks_on}
 use Rattle.content_locks.proofs.copies.copy_out.Goals as goal
 
 pub copy_page-requires-clause-view : goal.copy_page-requires-clause-view
@@ -25,3 +26,9 @@ returns-then-is_exclusive-clause-did g c = alone (again _ still c.look_content.e
 
 pub returns-clause-did : goal.returns-clause-did
 returns-clause-did g c = let left = c.leave_copy.ensures.did in latched left.0 (locks_on kinds.take_copy _ _ _ _ (again _ still c.look_content.ensures.did) c.take_copy.ensures.did) c.copy_page-2.ensures.did left.1
+
+pub returns-clause-marks : goal.returns-clause-marks
+returns-clause-marks g c = marks_on _ _ _ (marks_on _ _ _ c.look_content.ensures.marks c.take_copy.ensures.marks) (marks_on _ _ _ c.copy_page-2.ensures.marks c.leave_copy.ensures.marks)
+
+pub returns-then-is_exclusive-clause-marks : goal.returns-then-is_exclusive-clause-marks
+returns-then-is_exclusive-clause-marks g c = marks_on _ _ _ c.look_content.ensures.marks c.copy_page.ensures.marks

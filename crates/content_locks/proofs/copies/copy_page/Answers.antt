@@ -1,4 +1,5 @@
 use Rattle.content_locks.proofs.Locking.{may_return, copied_back}
+use Rattle.frame_table.proofs.Marks.{marks_on}
 use Rattle.content_locks.proofs.copies.copy_page.Goals as goal
 
 pub page_back-requires-clause-can : goal.page_back-requires-clause-can
@@ -6,3 +7,6 @@ page_back-requires-clause-can g c = let o = c.page_out-out.ensures in may_return
 
 pub returns-clause-copied : goal.returns-clause-copied
 returns-clause-copied g c = let o = c.page_out-out.ensures in rw c.copy_from.ensures (copied_back _ o.did.0 c.args.seat.now.me.0 c.page_out-out.new.seat.me.0 _ o.did.1 c.requires.view c.page_back.new.seat.me.0 o.out c.page_back.ensures.back)
+
+pub returns-clause-marks : goal.returns-clause-marks
+returns-clause-marks g c = marks_on _ _ _ c.page_out-out.ensures.marks c.page_back.ensures.marks

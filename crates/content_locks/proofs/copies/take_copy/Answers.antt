@@ -3,7 +3,8 @@ use Rattle.pin_core.specs.declared.view.Link.{Link}
 use Rattle.page_core.specs.Kinds as kinds
 use Rattle.frame_table.proofs.Told.{touches_on}
 use Rattle.content_locks.specs.Locks.{TriedCopy, still}
-use Rattle.content_locks.proofs.Locking.{looks_touch, looks_link, looks_on, locks_on, latched_on}
+use Rattle.content_locks.proofs.Locking.{looks_marks, looks_touch, looks_link, looks_on, locks_on, latched_on}
+use Rattle.frame_table.proofs.Marks.{marks_on}
 use Rattle.content_locks.proofs.copies.take_copy.Goals as goal
 
 pub loop-init : goal.loop-init
@@ -29,3 +30,6 @@ loop-preserved g c = let a = c.loop.invariant.seat in let b = c.try_copy.ensures
   seat = record { table = b.seat.table ∙ a.table; id = b.seat.id ∙ a.id; hand = b.seat.hand ∙ a.hand };
   looked = looks_on _ _ _ _ c.loop.invariant.looked (subst (TriedCopy _ _ _) c.if-try_copy.false b.did);
 }
+
+pub returns-then-try_copy-clause-marks : goal.returns-then-try_copy-clause-marks
+returns-then-try_copy-clause-marks g c = marks_on _ _ _ (looks_marks _ _ _ c.loop.invariant.looked) c.try_copy.ensures.marks

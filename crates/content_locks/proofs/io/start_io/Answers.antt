@@ -2,10 +2,11 @@ use Rattle.std.proofs.Common.{refl, sym, ap, ◌∙◌, subst}
 use Rattle.frame_table.proofs.Told.{touches_none, touches_on, looked_on}
 use Rattle.content_locks.proofs.InOut.{headless_still, quiet_still, can_still, begun_on, begins_on, nothing_on, looked_none}
 use Rattle.content_locks.specs.Io.{still, again}
+use Rattle.frame_table.proofs.Marks.{begun_marks_on, marks_none, marks_on}
 use Rattle.content_locks.proofs.io.start_io.Goals as goal
 
 pub loop-init : goal.loop-init
-loop-init g c = record { seat = record { table = refl; id = refl; hand = refl }; touches = touches_none _ _; waits = still; looked = looked_none _ }
+loop-init g c = record { seat = record { table = refl; id = refl; hand = refl }; touches = touches_none _ _; marks = marks_none _; waits = still; looked = looked_none _ }
 
 pub try_io-requires-clause-seat : goal.try_io-requires-clause-seat
 try_io-requires-clause-seat g c = let a = c.requires.seat in let i = c.loop.invariant in record { fits = i.seat.table ∙ a.fits; live = i.touches.self.emptied ∙ a.live; inside = a.inside }
@@ -41,6 +42,13 @@ pub loop-preserved : goal.loop-preserved
 loop-preserved g c = let i = c.loop.invariant in let b = c.try_io.ensures in let t = c.in-InProgress.ensures.tried in record {
   seat = record { table = b.seat.table ∙ i.seat.table; id = b.seat.id ∙ i.seat.id; hand = b.seat.hand ∙ i.seat.hand };
   touches = touches_on _ _ _ _ i.touches b.touches;
+  marks = marks_on _ _ _ i.marks t.2;
   waits = again i.waits t.1;
   looked = looked_on _ _ _ i.looked t.0;
 }
+
+pub returns-in-Begun-clause-marks : goal.returns-in-Begun-clause-marks
+returns-in-Begun-clause-marks g c = begun_marks_on _ _ _ _ c.loop.invariant.marks c.in-Begun.ensures.tried.4
+
+pub returns-in-Nothing-clause-marks : goal.returns-in-Nothing-clause-marks
+returns-in-Nothing-clause-marks g c = marks_on _ _ _ c.loop.invariant.marks c.in-Nothing.ensures.tried.3

@@ -1,5 +1,5 @@
 use Rattle.pin_core.specs.State.{link}
-use Rattle.frame_table.specs.Sees.{Looked, SameSeat, Touches}
+use Rattle.frame_table.specs.Sees.{Looked, SameMarks, SameSeat, Touches}
 use Rattle.content_locks.specs.Io.{Waits}
 use Rattle.content_locks.proofs.io.start_io.Given as goal
 
@@ -7,6 +7,7 @@ abbrev pub invariant-loop : goal.invariant-loop
 invariant-loop g l = record {
   seat : SameSeat l.fn.seat l.seat;
   touches : Touches l.fn.frame l.fn.seat.me.0 l.seat.me.0;
+  marks : SameMarks l.fn.seat.me.0 l.seat.me.0;
   waits : Waits l.fn.frame l.fn.seat.me.0 l.seat.me.0;
   looked : Looked (link l.fn.seat.me.0 l.fn.frame) (link l.seat.me.0 l.fn.frame);
 }

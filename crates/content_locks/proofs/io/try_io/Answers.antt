@@ -3,6 +3,7 @@ use Rattle.state_word.specs.Fields.{fields}
 use Rattle.pin_core.specs.declared.view.Link.{Link}
 use Rattle.content_locks.specs.Io.{is_nothing}
 use Rattle.content_locks.proofs.InOut.{unlocked_back, begun_back, can_begin, tag_there, begins, finds, finds_work, sees}
+use Rattle.frame_table.proofs.Marks.{begun_marks_on, marks_on}
 use Rattle.content_locks.proofs.io.try_io.Goals as goal
 
 pub returns-then-shows_nothing-clause-tried : goal.returns-then-shows_nothing-clause-tried
@@ -10,10 +11,11 @@ returns-then-shows_nothing-clause-tried g c = let k = c.lock_header-word.ensures
   unlocked_back _ _ _ k.locked _ _ c.look.ensures.link e (c.requires.headless c.args.frame),
   λ reads. ap (λ (l : Link). l.seen_valid) e ∙ sees _ _ _ _ k.did _ _ k.locked c.look.ensures.did c.requires.view.settled c.requires.view.pinned (subst (λ (b : Bool). is_nothing b (fields c.lock_header-word.result) ≡ true) reads n),
   finds _ _ _ _ k.did _ _ _ _ _ n c.look.ensures.did c.unlock_header-then-shows_nothing.ensures.did.1,
+  marks_on _ _ _ (marks_on _ _ _ k.marks c.look.ensures.marks) c.unlock_header-then-shows_nothing.ensures.marks,
 )
 
 pub begin_io-requires-clause-view : goal.begin_io-requires-clause-view
 begin_io-requires-clause-view g c = let k = c.lock_header-word.ensures in can_begin _ _ _ k.locked _ c.requires.view (sym c.has.ensures ∙ c.if-has.false) (sym c.shows_nothing.ensures ∙ c.if-shows_nothing.false) (tag_there _ _ _ _ k.did k.locked)
 
 pub returns-clause-tried : goal.returns-clause-tried
-returns-clause-tried g c = let b = c.begin_io.ensures in (b.right.0, b.right.1, begun_back _ _ _ c.lock_header-word.ensures.locked _ _ b.begun, begins _ _ _ _ c.lock_header-word.ensures.did _ _ b.did)
+returns-clause-tried g c = let b = c.begin_io.ensures in (b.right.0, b.right.1, begun_back _ _ _ c.lock_header-word.ensures.locked _ _ b.begun, begins _ _ _ _ c.lock_header-word.ensures.did _ _ b.did, begun_marks_on _ _ _ _ c.lock_header-word.ensures.marks b.marks)

@@ -3,7 +3,8 @@ use Rattle.page_core.specs.Kinds.{share}
 use Rattle.frame_table.proofs.Told.{touches_on}
 use Rattle.frame_table.specs.Content.{CanLock, shared_link}
 use Rattle.content_locks.specs.Locks.{still}
-use Rattle.content_locks.proofs.Locking.{looks_touch, looks_link, looks_on, refused_looks, locks_on}
+use Rattle.content_locks.proofs.Locking.{looks_marks, looks_touch, looks_link, looks_on, refused_looks, locks_on}
+use Rattle.frame_table.proofs.Marks.{marks_on}
 use Rattle.content_locks.proofs.locks.share.Goals as goal
 
 pub loop-init : goal.loop-init
@@ -29,3 +30,6 @@ loop-preserved g c = let a = c.loop.invariant.seat in let b = c.try_share.ensure
   seat = record { table = b.table ∙ a.table; id = b.id ∙ a.id; hand = b.hand ∙ a.hand };
   looked = looks_on _ _ _ _ c.loop.invariant.looked (refused_looks _ _ _ _ _ c.in-Err.ensures.cause);
 }
+
+pub returns-in-Ok-clause-marks : goal.returns-in-Ok-clause-marks
+returns-in-Ok-clause-marks g c = marks_on _ _ _ (looks_marks _ _ _ c.loop.invariant.looked) c.try_share.ensures.marks

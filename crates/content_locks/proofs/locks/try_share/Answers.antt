@@ -1,5 +1,6 @@
 use Rattle.frame_table.proofs.Told.{touches_on}
 use Rattle.content_locks.specs.Locks.{still, again}
+use Rattle.frame_table.proofs.Marks.{marks_on}
 use Rattle.content_locks.proofs.locks.try_share.Goals as goal
 
 pub returns-in-Ok-clause-did : goal.returns-in-Ok-clause-did
@@ -7,3 +8,9 @@ returns-in-Ok-clause-did g c = (c.look_content-was.new.seat.me.0, c.look_content
 
 pub returns-in-Err-clause-touches : goal.returns-in-Err-clause-touches
 returns-in-Err-clause-touches g c = touches_on _ _ _ _ c.look_content-was.ensures.touches c.add_share.ensures.touches
+
+pub returns-in-Err-clause-marks : goal.returns-in-Err-clause-marks
+returns-in-Err-clause-marks g c = marks_on _ _ _ c.look_content-was.ensures.marks c.add_share.ensures.marks
+
+pub returns-in-Ok-clause-marks : goal.returns-in-Ok-clause-marks
+returns-in-Ok-clause-marks g c = marks_on _ _ _ c.look_content-was.ensures.marks c.add_share.ensures.marks

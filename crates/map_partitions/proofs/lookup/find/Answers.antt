@@ -1,9 +1,15 @@
-use Rattle.std.proofs.Common.{◌≡◌, ℕ, Some, refl, subst}
+use Rattle.std.proofs.Common.{◌≡◌, ℕ, Some, List, map, ap, ◌∙◌, refl, subst}
 use Rattle.pin_core.specs.State.{hold}
+use Rattle.table_rule.specs.declared.value.Mapped.{Mapped}
+use Rattle.table_rule.specs.Shows.{entry_of}
 use Rattle.pin_core.specs.Turns.{found}
 use Rattle.map_partitions.specs.Partition.{entries_seen}
 use Rattle.map_partitions.proofs.Seen.{seen_after}
+use Rattle.map_partitions.proofs.FiniteMaps.{gives_below}
 use Rattle.map_partitions.proofs.lookup.find.Goals as goal
+
+pub returns-clause-inside : goal.returns-clause-inside
+returns-clause-inside g c = gives_below _ _ c.map_out-entries.ensures.inside _ _ (c.frame_of-frame.ensures ∙ ap (λ (l : List Mapped). found (map entry_of l) c.pack.result) c.deref.ensures.value)
 
 pub returns-clause-before : goal.returns-clause-before
 returns-clause-before g c entries = subst (λ (p : ℕ). (hold c.args.seat.now.me.0 p).seen ≡ Some entries → found (entries_seen c.map_back.new.seat.me.0 p) ≡ found entries) c.partition-partition.ensures.value

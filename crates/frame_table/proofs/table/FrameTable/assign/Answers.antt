@@ -4,6 +4,7 @@ use Rattle.state_word.specs.Fields.{unlocked_fields}
 use Rattle.frame_table.specs.Kinds.{pins}
 use Rattle.frame_table.specs.Sees.{HasFlag}
 use Rattle.frame_table.proofs.Holding.{assigns_there, word_loaded, knows_loaded, held_touches, assigned_after, assigned_tag}
+use Rattle.frame_table.proofs.Marks.{held_marks}
 use Rattle.frame_table.proofs.table.FrameTable.assign.Goals as goal
 
 pub swap-requires : goal.swap-requires
@@ -24,3 +25,6 @@ returns-clause-assigned g c = assigned_after _ _ _ (returns-clause-did g c)
 
 pub returns-clause-tag : goal.returns-clause-tag
 returns-clause-tag g c = assigned_tag _ _ _ (returns-clause-did g c)
+
+pub returns-clause-marks : goal.returns-clause-marks
+returns-clause-marks g c = held_marks (pins assign) tt _ _ _ (returns-clause-did g c)

@@ -4,6 +4,7 @@ use Rattle.frame_table.specs.Kinds.{pages}
 use Rattle.frame_table.specs.Content.{start_of}
 use Rattle.frame_table.proofs.Told.{touches}
 use Rattle.frame_table.proofs.HeldWords.{begun_after}
+use Rattle.frame_table.proofs.Marks.{begun_marks}
 use Rattle.frame_table.proofs.table.FrameTable.begin_io.Goals as goal
 
 pub swap_begun-requires-clause-new : goal.swap_begun-requires-clause-new
@@ -14,3 +15,6 @@ returns-clause-touches g c = touches (pages (start_of c.args.input)) (λ s f v. 
 
 pub returns-clause-begun : goal.returns-clause-begun
 returns-clause-begun g c = begun_after _ _ _ _ _ c.swap_begun.ensures.did
+
+pub returns-clause-marks : goal.returns-clause-marks
+returns-clause-marks g c = begun_marks _ _ _ _ _ c.swap_begun.ensures.did

@@ -4,6 +4,7 @@ use Rattle.state_word.specs.Fields.{unlocked_fields}
 use Rattle.frame_table.specs.Kinds.{pins}
 use Rattle.frame_table.specs.Sees.{HasFlag}
 use Rattle.frame_table.proofs.Holding.{clears_there, word_loaded, knows_loaded, held_touches, cleared_after}
+use Rattle.frame_table.proofs.Marks.{held_marks}
 use Rattle.frame_table.proofs.table.FrameTable.clear.Goals as goal
 
 pub swap-requires : goal.swap-requires
@@ -21,3 +22,6 @@ returns-clause-touches g c = held_touches (pins clear) (λ s f v. refl) _ _ _ (r
 
 pub returns-clause-cleared : goal.returns-clause-cleared
 returns-clause-cleared g c = cleared_after _ _ _ (returns-clause-did g c)
+
+pub returns-clause-marks : goal.returns-clause-marks
+returns-clause-marks g c = held_marks (pins clear) tt _ _ _ (returns-clause-did g c)

@@ -4,6 +4,7 @@ use Rattle.page_core.specs.Kinds.{clear_just_dirtied}
 use Rattle.frame_table.specs.Kinds.{pages}
 use Rattle.frame_table.proofs.Told.{touches, link_is}
 use Rattle.frame_table.proofs.HeldWords.{clears_just_there, as_held}
+use Rattle.frame_table.proofs.Marks.{did_marks}
 use Rattle.frame_table.proofs.table.FrameTable.clear_just_dirtied.Goals as goal
 
 pub swap-requires : goal.swap-requires
@@ -21,3 +22,6 @@ returns-clause-unlocked g c = link_is (pages clear_just_dirtied) _ _ _ _ (c.swap
 
 pub returns-clause-did : goal.returns-clause-did
 returns-clause-did g c = as_held (pages clear_just_dirtied) refl _ _ _ _ _ c.requires.view.held (c.swap.ensures.2.1 c.args.frame c.state_place.ensures)
+
+pub returns-clause-marks : goal.returns-clause-marks
+returns-clause-marks g c = did_marks (pages clear_just_dirtied) (record { clean = refl; quiet = refl; open_ended = λ fr e. refl }) _ _ _ _ (c.swap.ensures.2.1 c.args.frame c.state_place.ensures)

@@ -1,4 +1,3 @@
-use Rattle.std.proofs.Common.{rules}
 use Rattle.frame_table.proofs.Ending.{final_ends, final_closes}
 use Rattle.frame_table.proofs.table.FrameTable.close.Goals as goal
 

@@ -3,6 +3,7 @@ use Rattle.page_core.specs.Kinds.{unexclude}
 use Rattle.frame_table.specs.Kinds.{pages}
 use Rattle.frame_table.proofs.Contents.{unexcludes_there}
 use Rattle.frame_table.proofs.Told.{touches, link_is}
+use Rattle.frame_table.proofs.Marks.{did_marks}
 use Rattle.frame_table.proofs.table.FrameTable.drop_exclusive.Goals as goal
 
 pub fetch_sub-requires : goal.fetch_sub-requires
@@ -16,3 +17,6 @@ returns-clause-unexclusive g c = link_is (pages unexclude) _ _ _ _ (c.fetch_sub.
 
 pub returns-clause-did : goal.returns-clause-did
 returns-clause-did g c = (_, c.fetch_sub.ensures.2.1 c.args.frame c.content_place.ensures)
+
+pub returns-clause-marks : goal.returns-clause-marks
+returns-clause-marks g c = did_marks (pages unexclude) (record { clean = refl; quiet = refl; open_ended = λ fr e. refl }) _ _ _ _ (c.fetch_sub.ensures.2.1 c.args.frame c.content_place.ensures)

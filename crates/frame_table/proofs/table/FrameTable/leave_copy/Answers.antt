@@ -3,6 +3,7 @@ use Rattle.page_core.specs.Kinds.{leave_copy}
 use Rattle.frame_table.specs.Kinds.{pages}
 use Rattle.frame_table.proofs.Contents.{leaves_copy_there}
 use Rattle.frame_table.proofs.Told.{touches, link_is}
+use Rattle.frame_table.proofs.Marks.{did_marks}
 use Rattle.frame_table.proofs.table.FrameTable.leave_copy.Goals as goal
 
 pub fetch_sub-requires : goal.fetch_sub-requires
@@ -16,3 +17,6 @@ returns-clause-left g c = link_is (pages leave_copy) _ _ _ _ (c.fetch_sub.ensure
 
 pub returns-clause-did : goal.returns-clause-did
 returns-clause-did g c = (_, c.fetch_sub.ensures.2.1 c.args.frame c.content_place.ensures)
+
+pub returns-clause-marks : goal.returns-clause-marks
+returns-clause-marks g c = did_marks (pages leave_copy) (record { clean = refl; quiet = refl; open_ended = λ fr e. refl }) _ _ _ _ (c.fetch_sub.ensures.2.1 c.args.frame c.content_place.ensures)

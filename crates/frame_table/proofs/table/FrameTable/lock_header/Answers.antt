@@ -3,6 +3,7 @@ use Rattle.pin_core.specs.Kinds.{lock_header}
 use Rattle.frame_table.specs.Kinds.{pins}
 use Rattle.frame_table.specs.Tells.{still, again}
 use Rattle.frame_table.proofs.Told.{touches, touches_on, looks_touch, looks_headless, on_locked, on_unlocked, locked_after}
+use Rattle.frame_table.proofs.Marks.{did_marks, looks_marks, marks_on}
 use Rattle.frame_table.proofs.table.FrameTable.lock_header.Goals as goal
 
 pub loop-init : goal.loop-init
@@ -25,3 +26,6 @@ returns-then-not-has-clause-touches g c = touches_on _ _ _ _ (looks_touch _ _ _ 
 
 pub returns-then-not-has-clause-locked : goal.returns-then-not-has-clause-locked
 returns-then-not-has-clause-locked g c = locked_after _ _ _ _ _ _ c.loop.invariant.looked (on_unlocked (pins lock_header) _ 4194304 _ _ _ c.or_lock-found.ensures.did (sym c.has.ensures ∙ search rules)) c.locked.ensures
+
+pub returns-then-not-has-clause-marks : goal.returns-then-not-has-clause-marks
+returns-then-not-has-clause-marks g c = marks_on _ _ _ (looks_marks _ _ _ c.loop.invariant.looked) (did_marks (pins lock_header) tt _ _ _ _ (on_unlocked (pins lock_header) _ 4194304 _ _ _ c.or_lock-found.ensures.did (sym c.has.ensures ∙ search rules)))

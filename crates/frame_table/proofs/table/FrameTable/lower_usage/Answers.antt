@@ -4,6 +4,7 @@ use Rattle.state_word.specs.Fields.{unlocked_fields}
 use Rattle.frame_table.specs.Kinds.{pins}
 use Rattle.frame_table.specs.Sees.{IsUsed}
 use Rattle.frame_table.proofs.Holding.{lowers_there, word_loaded, knows_loaded, held_touches, lowered_after}
+use Rattle.frame_table.proofs.Marks.{held_marks}
 use Rattle.frame_table.proofs.table.FrameTable.lower_usage.Goals as goal
 
 pub usage_down-requires : goal.usage_down-requires
@@ -24,3 +25,6 @@ returns-clause-touches g c = held_touches (pins lower_usage) (λ s f v. refl) _ 
 
 pub returns-clause-lowered : goal.returns-clause-lowered
 returns-clause-lowered g c = lowered_after _ _ _ (returns-clause-did g c)
+
+pub returns-clause-marks : goal.returns-clause-marks
+returns-clause-marks g c = held_marks (pins lower_usage) tt _ _ _ (returns-clause-did g c)

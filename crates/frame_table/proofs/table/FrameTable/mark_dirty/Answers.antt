@@ -4,6 +4,7 @@ use Rattle.frame_table.specs.Kinds.{pages}
 use Rattle.frame_table.specs.Tells.{still}
 use Rattle.frame_table.proofs.Told.{looks_touch, looks_link, not_yet, at_last, tried_touches}
 use Rattle.frame_table.proofs.HeldWords.{dirtied_after}
+use Rattle.frame_table.proofs.Marks.{dirtied_marks}
 use Rattle.frame_table.proofs.table.FrameTable.mark_dirty.Goals as goal
 
 pub loop-init : goal.loop-init
@@ -25,6 +26,7 @@ pub returns-then-try_mark_dirty : goal.returns-then-try_mark_dirty
 returns-then-try_mark_dirty g c = let t = at_last (pages mark_dirty) _ _ _ _ _ c.if-try_mark_dirty.true c.loop.invariant.looked c.try_mark_dirty.ensures.did in let a = c.loop.invariant.seat in let b = c.try_mark_dirty.ensures.seat in record {
   seat = record { table = b.table ∙ a.table; id = b.id ∙ a.id; hand = b.hand ∙ a.hand };
   touches = tried_touches (pages mark_dirty) (λ s f v. refl) _ _ _ t;
+  marks = dirtied_marks _ _ _ t;
   dirtied = dirtied_after _ _ _ t;
   did = t;
 }

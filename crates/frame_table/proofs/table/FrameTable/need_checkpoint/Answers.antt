@@ -4,6 +4,7 @@ use Rattle.page_core.specs.Kinds.{need_checkpoint}
 use Rattle.frame_table.specs.Kinds.{pages}
 use Rattle.frame_table.proofs.Told.{touches, link_is}
 use Rattle.frame_table.proofs.HeldWords.{needs_there, as_held}
+use Rattle.frame_table.proofs.Marks.{did_marks}
 use Rattle.frame_table.proofs.table.FrameTable.need_checkpoint.Goals as goal
 
 pub swap-requires : goal.swap-requires
@@ -21,3 +22,6 @@ returns-clause-listed g c = link_is (pages need_checkpoint) _ _ _ _ (c.swap.ensu
 
 pub returns-clause-did : goal.returns-clause-did
 returns-clause-did g c = as_held (pages need_checkpoint) refl _ _ _ _ _ c.requires.view.held (c.swap.ensures.2.1 c.args.frame c.state_place.ensures)
+
+pub returns-clause-marks : goal.returns-clause-marks
+returns-clause-marks g c = did_marks (pages need_checkpoint) (record { clean = refl; quiet = refl; open_ended = λ fr e. refl }) _ _ _ _ (c.swap.ensures.2.1 c.args.frame c.state_place.ensures)

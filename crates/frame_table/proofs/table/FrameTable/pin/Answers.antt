@@ -5,6 +5,7 @@ use Rattle.frame_table.specs.Sees.{Finds}
 use Rattle.frame_table.specs.Tells.{Tried, still}
 use Rattle.frame_table.proofs.Told.{looks_touch, looks_link, not_yet, at_last, tried_touches}
 use Rattle.frame_table.proofs.Holding.{finds_on, mapped_after}
+use Rattle.frame_table.proofs.Marks.{tried_marks}
 use Rattle.frame_table.proofs.table.FrameTable.pin.Goals as goal
 
 pub loop-init : goal.loop-init
@@ -31,3 +32,6 @@ returns-then-try_mapped-clause-touches g c = tried_touches (pins (pin_mapped c.p
 
 pub returns-then-try_mapped-clause-pinned : goal.returns-then-try_mapped-clause-pinned
 returns-then-try_mapped-clause-pinned g c = mapped_after _ _ _ _ _ (returns-then-try_mapped-clause-did g c)
+
+pub returns-then-try_mapped-clause-marks : goal.returns-then-try_mapped-clause-marks
+returns-then-try_mapped-clause-marks g c = tried_marks (pins (pin_mapped c.pack-packed.result c.args.ring)) tt _ _ _ (at_last (pins (pin_mapped c.pack-packed.result c.args.ring)) _ _ _ _ _ c.if-try_mapped.true c.loop.invariant.looked c.try_mapped.ensures.did)

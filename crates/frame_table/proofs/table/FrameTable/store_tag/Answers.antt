@@ -1,8 +1,9 @@
-use Rattle.std.proofs.Common.{None, Option, subst, sym, ◌≡◌}
+use Rattle.std.proofs.Common.{None, Some, Option, subst, sym, ◌≡◌}
 use Rattle.block_tag.specs.declared.tag.Tag.{Tag}
 use Rattle.frame_table.specs.Sees.{CanStoreAs, NamesStored, partitions_stored}
 use Rattle.frame_table.specs.Tells.{Did, storing}
 use Rattle.frame_table.proofs.Holding.{stored_partitions, names_erased}
+use Rattle.frame_table.proofs.Marks.{did_marks}
 use Rattle.frame_table.proofs.table.FrameTable.store_tag.Goals as goal
 
 pub returns-in-Some-clause-did : goal.returns-in-Some-clause-did
@@ -17,3 +18,9 @@ returns-in-None-clause-named g c = subst (λ (t : Option Tag). c.store_none.new.
 
 pub returns-in-None-clause-names : goal.returns-in-None-clause-names
 returns-in-None-clause-names g c = subst (λ (t : Option Tag). NamesStored t c.args.frame c.args.seat.now.me.0 c.store_none.new.seat.me.0) (sym c.in-None.is) (names_erased _ _ _ _ c.store_none.ensures.did.1 (erased g c))
+
+pub returns-in-Some-clause-marks : goal.returns-in-Some-clause-marks
+returns-in-Some-clause-marks g c = did_marks (storing (Some c.in-Some.tag)) tt _ _ _ _ c.store_packed.ensures.did.1
+
+pub returns-in-None-clause-marks : goal.returns-in-None-clause-marks
+returns-in-None-clause-marks g c = did_marks (storing None) tt _ _ _ _ c.store_none.ensures.did.1

@@ -3,6 +3,7 @@ use Rattle.pin_core.specs.Kinds.{unpin}
 use Rattle.frame_table.specs.Kinds.{pins}
 use Rattle.frame_table.specs.Tells.{still}
 use Rattle.frame_table.proofs.Told.{looks_touch, looks_unpin, not_yet, at_last, tried_touches, unpinned_after}
+use Rattle.frame_table.proofs.Marks.{tried_marks}
 use Rattle.frame_table.proofs.table.FrameTable.unpin.Goals as goal
 
 pub loop-init : goal.loop-init
@@ -24,6 +25,7 @@ pub returns-then-try_unpin : goal.returns-then-try_unpin
 returns-then-try_unpin g c = let t = at_last (pins unpin) _ _ _ _ _ c.if-try_unpin.true c.loop.invariant.looked c.try_unpin.ensures.did in let a = c.loop.invariant.seat in let b = c.try_unpin.ensures.seat in record {
   seat = record { table = b.table ∙ a.table; id = b.id ∙ a.id; hand = b.hand ∙ a.hand };
   touches = tried_touches (pins unpin) (λ s f v. refl) _ _ _ t;
+  marks = tried_marks (pins unpin) tt _ _ _ t;
   unpinned = unpinned_after _ _ _ t;
   did = t;
 }

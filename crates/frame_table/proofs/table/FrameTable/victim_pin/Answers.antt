@@ -4,6 +4,7 @@ use Rattle.frame_table.specs.Kinds.{pins}
 use Rattle.frame_table.specs.Sees.{HasRoom}
 use Rattle.frame_table.proofs.Holding.{victims_there, word_loaded, knows_loaded, held_touches, victim_after, victimless}
 use Rattle.frame_table.proofs.Told.{few_pins}
+use Rattle.frame_table.proofs.Marks.{held_marks}
 use Rattle.frame_table.proofs.table.FrameTable.victim_pin.Goals as goal
 
 pub victim_pinned-requires : goal.victim_pinned-requires
@@ -24,3 +25,6 @@ returns-clause-touches g c = held_touches (pins pin_victim) (λ s f v. refl) _ _
 
 pub returns-clause-pinned : goal.returns-clause-pinned
 returns-clause-pinned g c = victim_after _ _ _ (returns-clause-did g c)
+
+pub returns-clause-marks : goal.returns-clause-marks
+returns-clause-marks g c = held_marks (pins pin_victim) tt _ _ _ (returns-clause-did g c)

@@ -1,0 +1,89 @@
+-- Loads of tag words: the tag is of a block of the relations, and a pin remembers it.
+use Rattle.std.proofs.Common.{◌≡◌, ◌≢◌, ℕ, ◌<◌, cond, Bool, true, false, Option, Some, None, List, get_or, sym, refl, ap, ◌∙◌, subst, arith, ne_eqb}
+use Rattle.std.specs.Prelude.{IfSome}
+use mathlib.Core.Option.{none}
+use Rattle.atomic_table.specs.Table.{Me, step, Allows}
+use Rattle.atomic_table.specs.Table as table
+use Rattle.block_tag.specs.declared.tag.Tag.{Tag}
+use Rattle.block_tag.specs.declared.catalogue.RelEntry.{RelEntry}
+use Rattle.block_tag.specs.Names.{names_block, packed_tag, partition_number, unpacked_tag}
+use Rattle.pin_core.specs.declared.view.Link.{Link}
+use Rattle.pin_core.specs.declared.view.View.{View}
+use Rattle.pin_core.specs.declared.view.MapChange.TheVariants.{Leaving}
+use Rattle.pin_core.specs.declared.view.Role.{Role}
+use Rattle.pin_core.specs.declared.view.Role.TheVariants.{Absent, HandedOut, Victim}
+use Rattle.pin_core.specs.State.{link, no_tag}
+use Rattle.pin_core.specs.Kinds.{tag_after}
+use Rattle.pin_core.specs.Kinds as pin
+use Rattle.table_rule.specs.declared.value.Value.{Value}
+use Rattle.table_rule.specs.declared.opening.Opening.{Opening}
+use Rattle.table_rule.specs.Blocks.{has_block, has_named, is_block}
+use Rattle.table_rule.specs.Layout.{partition_of_tag, tag_partition, tag_place}
+use Rattle.table_rule.specs.Shows.{Devices, Held}
+use Rattle.table_rule.proofs.Tags.{packed_is, unpacked_is}
+use Rattle.frame_table.specs.Kinds.{pins}
+use Rattle.frame_table.specs.Sees.{MayChange, NamesIn, NamesStored}
+use Rattle.frame_table.specs.Tells.{Did, always, tells, tells_tag}
+use Rattle.frame_table.proofs.Allowing.{allows_with}
+use Rattle.frame_table.proofs.Holding.{read_after, tag_loads, tag_read}
+use Rattle.frame_table.proofs.Seeing.{handed_settled}
+
+module _ {L G : Type 0} (d : Devices L G) (o : Opening L G) where
+  -- a number in a tag word, but for all ones, is of a block of the relations
+  word_listed : (f : ℕ) → f < o.config.frames → (t : table.State (Value L G) View) → Held d o t → get_or t.words (tag_place f) 0 ≢ no_tag → is_block o.catalog.value (get_or t.words (tag_place f) 0) ≡ true
+  word_listed f below t h named = let at = (h.shows.frame f below).tag in
+      ap (λ (g : ℕ → Bool). g (get_or t.words (tag_place f) 0)) (sym h.shows.fixed.is_block) ∙ ap h.state.pool.core.is_block (sym at)
+      ∙ h.laws.invariant.pool.core.blocks f (let e = h.shows.fixed.frames in omega arith) (λ e. named (sym at ∙ e))
+
+  pub loads_tag : (slots id f : ℕ) (me : Me (Value L G) View) → f < o.config.frames → me.0.emptied ≡ false → pin.CanLoadTag (link me.0 f).role (link me.0 f).header
+      → Allows (Held d o) slots id me (tag_place f) (λ n. n) (tells_tag o.catalog.value (step slots (tag_place f) 0 0 none) me)
+  loads_tag slots id f me below live right = allows_with (Held d o) slots id me (tag_place f) (λ n. n) (tells (always (pins pin.load_tag)) (step slots (tag_place f) 0 0 none) me) (λ found. found ≢ no_tag → is_block o.catalog.value found ≡ true)
+      (tag_loads d o slots id f me below live right) (λ t h there. word_listed f below t h)
+
+no_tag_none : unpacked_tag no_tag ≡ None
+unfolding unpacked_tag
+no_tag_none = refl
+
+-- the number of a tag isn't all ones
+tagged : (word : ℕ) (tag : Tag) → unpacked_tag word ≡ Some tag → word ≢ no_tag
+tagged word tag is e = let no : Some tag ≡ None = sym is ∙ ap unpacked_tag e ∙ no_tag_none in absurd (cc)
+
+pub tag_named : (word : ℕ) (r : Option Tag) → r ≡ unpacked_tag word → IfSome r (λ tag. names_block tag ≡ true)
+tag_named word None e = tt
+tag_named word (Some tag) e = (unpacked_is word tag (sym e)).0
+
+pub tag_listed : (relations : List RelEntry) (word : ℕ) (r : Option Tag) → r ≡ unpacked_tag word → (word ≢ no_tag → is_block relations word ≡ true) → IfSome r (λ tag. has_block relations tag ≡ true)
+unfolding is_block
+tag_listed relations word None e block = tt
+tag_listed relations word (Some tag) e block = ap (has_named relations) e ∙ block (tagged word tag (sym e))
+
+remembered : (pending : Bool) (r : Role) (word : ℕ) (known : Option ℕ) → pending ≡ false → r ≢ Absent → word ≢ no_tag → tag_after pending r word known ≡ Some word
+remembered true r word known settled pinned named = absurd (let no : true ≡ false = settled in cc)
+remembered false Absent word known settled pinned named = absurd (pinned refl)
+remembered false HandedOut word known settled pinned named = ap (λ (b : Bool). cond b known (Some word)) (ne_eqb word no_tag named)
+remembered false Victim word known settled pinned named = ap (λ (b : Bool). cond b known (Some word)) (ne_eqb word no_tag named)
+
+-- what a pin remembers after a load, where no tag word was stored
+pub tag_settled : (f found : ℕ) (v w : View) (r : Option Tag) → Did (pins pin.load_tag) f v w found → r ≡ unpacked_tag found → IfSome r (λ tag. packed_tag tag ≡ found) → IfSome r (λ tag. (link v f).role ≢ Absent → (link v f).pending ≡ false → (link w f).tag ≡ Some (packed_tag tag))
+tag_settled f found v w None d e back = tt
+tag_settled f found v w (Some tag) d e back = λ pinned settled. ap (λ (l : Link). l.tag) (read_after f v w (Some tag) (tag_read f found v w (Some tag) d e back))
+    ∙ remembered (link v f).pending (link v f).role (packed_tag tag) (link v f).tag settled pinned (λ none. tagged found tag (sym e) (sym back ∙ none))
+
+pub tag_handed : (f found : ℕ) (v w : View) (r : Option Tag) → Did (pins pin.load_tag) f v w found → IfSome r (λ tag. (link v f).role ≢ Absent → (link v f).pending ≡ false → (link w f).tag ≡ Some (packed_tag tag)) → IfSome r (λ tag. (link v f).role ≡ HandedOut → (link w f).tag ≡ Some (packed_tag tag))
+tag_handed f found v w None d known = tt
+tag_handed f found v w (Some tag) d known = λ handed. known (λ e. let no : HandedOut ≡ Absent = sym handed ∙ e in absurd (cc)) (handed_settled (pins pin.load_tag) f found v w d handed)
+
+-- a tag that names a block lies in the partition of its number
+pub packed_partition : (tag : Tag) → names_block tag ≡ true → tag_partition (packed_tag tag) ≡ partition_number tag
+packed_partition tag named = ap partition_of_tag (packed_is tag named)
+
+same_number : (a b : ℕ) → Some a ≡ Some b → a ≡ b
+same_number a b e = cc
+
+-- so a backend whose pin remembers the tag, and that has the latch of the tag's partition, has that of the tag word that it knows
+pub may_erase : (tag : Tag) (f : ℕ) (v : View) → names_block tag ≡ true → (link v f).tag ≡ Some (packed_tag tag) → MayChange v (partition_number tag) → (word : ℕ) → (link v f).tag ≡ Some word → MayChange v (tag_partition word)
+may_erase tag f v named knows may word is = subst (MayChange v) (sym (packed_partition tag named) ∙ ap tag_partition (same_number (packed_tag tag) word (sym knows ∙ is))) may
+
+-- and as it takes the tag away it names the pair in the tag's partition
+pub erase_names : (tag : Tag) (f : ℕ) (v w : View) → names_block tag ≡ true → (link v f).tag ≡ Some (packed_tag tag) → NamesStored None f v w → NamesIn (partition_number tag) (Leaving (packed_tag tag) f) v w
+erase_names tag f v w named knows names = subst (λ (p : ℕ). NamesIn p (Leaving (packed_tag tag) f) v w) (packed_partition tag named) (names (packed_tag tag) knows)
