@@ -1,5 +1,5 @@
 -- Seats that hold pins, and do something at one frame or under one latch.
-use Rattle.std.proofs.Common.{◌≡◌, ◌≢◌, ◌<◌, ℕ, Bool, true, false, Option, Some, None, [], List, get_or, length, sym, refl, ap, ◌∙◌, subst, arith}
+use Rattle.std.proofs.Common.{◌≡◌, ◌≢◌, ◌<◌, ℕ, zero, suc, replicate, Bool, true, false, Option, Some, None, [], List, get_or, length, sym, refl, ap, ◌∙◌, subst, arith}
 use Rattle.std.proofs.lemmas.List.{get_or_past}
 use mathlib.Core.Logic.{dite}
 use mathlib.Core.Option.{some}
@@ -28,6 +28,7 @@ use Rattle.frame_table.specs.declared.table.FrameTable.{FrameTable}
 use Rattle.frame_table.specs.Sees.{CanUnpin, HoldsWord, Looked, SameSeat, SameSelf, NamesIn, Touches, assigned_link, locked_link, pinned_link, stored_link, unlocked_link, unpinned_link, victim_link}
 use Rattle.table_rule.specs.declared.turn.Turn.TheVariants.{Partition}
 use Rattle.frame_table.specs.Content.{CanDropExclusive, CanDropShare, exclusive_link, shared_link, unexclusive_link, unshared_link}
+use Rattle.frame_table.specs.Tells.{kept_view}
 use Rattle.frame_table.specs.Turning.{DidTurn, IsTurned, MapStep, SameWork, back_hold}
 use Rattle.map_partitions.specs.Partition.{Holds}
 use Rattle.frame_table.proofs.Told.{touches_on}
@@ -243,3 +244,20 @@ rests_pins t s p none = record { fits = p.quiet.fits; live = p.quiet.live; hand 
   lanes = p.quiet.lanes;
   log = p.quiet.log;
 } }
+
+-- the first backend's seat once it has given another one its number
+pub pins_kept : {L G : Type 0} (t : FrameTable L G) (s s' : Seat (Value L G) View) → OnlyPins t s × PinsNone s → SameSeat s s' → s'.me.0 ≡ kept_view s.me.0 → OnlyPins t s' × PinsNone s'
+pins_kept t s s' (p, none) same kept = (record {
+  quiet = record { fits = same.table ∙ p.quiet.fits; live = ap (λ (v : View). v.emptied) kept ∙ p.quiet.live; hand = same.hand ∙ p.quiet.hand; frames = λ f. subst (λ (v : View). IsCalm (link v f)) (sym kept) (p.quiet.frames f); lanes = λ n. ap (λ (v : View). (lane_hold v n).held) kept ∙ p.quiet.lanes n; log = ap (λ (v : View). v.log.held) kept ∙ p.quiet.log };
+  no_victim = λ f victim. p.no_victim f (sym (ap (λ (v : View). (link v f).role) kept) ∙ victim);
+  partitions = λ q. ap (λ (v : View). (hold v q).held) kept ∙ p.partitions q;
+}, λ f. ap (λ (v : View). (link v f).role) kept ∙ none f)
+
+-- where the frame isn't pinned, and no other one was, none is
+pub none_still : {L G : Type 0} (f : ℕ) (s s' : Seat (Value L G) View) → PinsNone s → KeepsBeside f s s' → (link s'.me.0 f).role ≡ Absent → PinsNone s'
+none_still f s s' none keeps here g = dite (ℕ_discrete g f) (λ e. subst (λ (x : ℕ). (link s'.me.0 x).role ≡ Absent) (sym e) here) (λ n. ap (λ (l : Link). l.role) (keeps.others g n) ∙ none g)
+
+pub all_idle : (n f : ℕ) → get_or (replicate n idle) f idle ≡ idle
+all_idle zero f = refl
+all_idle (suc n) zero = refl
+all_idle (suc n) (suc f) = all_idle n f

@@ -16,7 +16,7 @@ use Rattle.pin_core.specs.Steps.{HasNoVictim, HoldsNothing}
 use Rattle.table_rule.specs.Blocks.{has_block}
 use Rattle.table_rule.specs.declared.value.Value.{Value}
 use Rattle.frame_table.specs.declared.table.FrameTable.{FrameTable}
-use Rattle.frame_table.specs.Sees.{Fits, lanes_in, relations_of}
+use Rattle.frame_table.specs.Sees.{Fits, frames_of, lanes_in, relations_of}
 
 -- the one relation of the tests' tables: its number is 16384, and its main fork has 64 blocks
 abbrev pub relations : List RelEntry
@@ -77,6 +77,10 @@ pub record SeesPage (l : Link) : Type 0 where
 module _ {L G : Type 0} where
   abbrev pub backends_of : FrameTable L G → ℕ
   backends_of t = t.table.shared.key.config.backends
+
+  -- the table of the tests: 16 frames, three backends, one lane, and the one relation
+  abbrev pub IsSmall : FrameTable L G → Type 0
+  IsSmall t = (frames_of t ≡ 16) × (backends_of t ≡ 3) × (lanes_in t ≡ 1) × (relations_of t ≡ relations)
 
   -- the table has one lane, and the tag is of a block that it has
   abbrev pub HasBlock : FrameTable L G → Tag → Type 0

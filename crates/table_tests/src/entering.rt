@@ -6,6 +6,7 @@ ghost use Rattle.pin_core.specs.declared.view.MapChange.TheVariants.{Settled};
 ghost use Rattle.pin_core.specs.declared.view.Role.TheVariants.{Absent, Victim};
 ghost use Rattle.pin_core.specs.State.{link};
 ghost use Rattle.map_partitions.specs.Partition.{Holds};
+ghost use Rattle.frame_table.specs.Closes.{CanClose};
 ghost use Rattle.frame_table.specs.Sees.{Lacks, Touches, frames_of};
 ghost use Rattle.table_tests.specs.Work.{HasBlock, IsInside, IsQuiet, Keeps, KeepsBeside, KeepsOthers, OnlyPins, PinsBlock, PinsNone};
 
@@ -122,10 +123,11 @@ pub fn enter_block<R: Wait>(
 
 /// A block comes into a frame, and the backend gives its pin up.
 pub fn leave_block<R: Wait>(rt: &R, table: &Table, seat: &mut Place, frame: u32, tag: Tag) -> bool
+    requires closes { CanClose table.now seat.old }
     requires pins { OnlyPins table.now seat.old × PinsNone seat.old }
     requires frame { frame < frames_of table.now }
     requires block { HasBlock table.now tag }
-    ensures pins { OnlyPins table.now seat.new × PinsNone seat.new }
+    ensures closes { CanClose table.now seat.new }
     ensures keeps { Keeps seat.old seat.new }
 {
     let Some(pin) = enter_block(rt, table, seat, frame, tag) else {

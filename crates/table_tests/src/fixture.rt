@@ -1,10 +1,8 @@
 //! A small table.
-ghost use Rattle.std.specs.Prelude.{◌≡◌, ◌<◌, IfOk, true};
-ghost use Rattle.block_tag.specs.Names.{names_block};
-ghost use Rattle.table_rule.specs.Blocks.{has_block};
+ghost use Rattle.std.specs.Prelude.{◌≡◌, ◌<◌, IfOk};
 ghost use Rattle.frame_table.specs.Closes.{CanClose};
-ghost use Rattle.frame_table.specs.Sees.{frames_of, lanes_in, relations_of};
-ghost use Rattle.table_tests.specs.Work.{OnlyPins, PinsNone, backends_of, relations};
+ghost use Rattle.frame_table.specs.Sees.{frames_of};
+ghost use Rattle.table_tests.specs.Work.{HasBlock, IsSmall, OnlyPins, PinsNone, relations};
 
 use crate::devices::{GoodLane, GoodLog};
 use atomic_table::Seat;
@@ -18,7 +16,7 @@ pub type Table = FrameTable<GoodLane, GoodLog>;
 pub type Place = Seat<Value<GoodLane, GoodLog>, View>;
 
 /// One relation of 64 blocks.
-pub fn catalog(alloc: Global) -> Result<Catalog, CatalogError> {
+fn catalog(alloc: Global) -> Result<Catalog, CatalogError> {
     let entry = RelEntry {
         tablespace: 0,
         database: 0,
@@ -28,26 +26,16 @@ pub fn catalog(alloc: Global) -> Result<Catalog, CatalogError> {
     Catalog::build(alloc, &[entry])
 }
 
-/// The name of one of its blocks.
-pub fn block(number: u32) -> Tag
-    requires { number < 64 }
-    ensures { (names_block result ≡ true) × (has_block relations result ≡ true) }
-{
-    Tag {
-        rel: RelNo(0),
-        fork: Fork::Main,
-        block: number,
-    }
-}
-
 /// A table of 16 frames over one lane, for three backends, whose first one holds nothing.
-pub fn table(alloc: Global, catalog: Catalog) -> Result<(Table, Place), AllocError>
+pub fn table(alloc: Global) -> Result<(Table, Place), AllocError>
+    ensures small { IfOk result (λ t. IsSmall t.0) }
     ensures pins { IfOk result (λ t. OnlyPins t.0 t.1 × PinsNone t.1) }
-    ensures alone { IfOk result (λ t. (t.1.id ≡ 0) × (t.1.me.0.joined ≡ 0)) }
-    ensures closes { IfOk result (λ t. CanClose t.0 t.1 × (t.1.me.0.next ≡ 1)) }
-    ensures sizes { IfOk result (λ t. (frames_of t.0 ≡ 16) × (backends_of t.0 ≡ 3) × (lanes_in t.0 ≡ 1)) }
-    ensures relations { IfOk result (λ t. relations_of t.0 ≡ catalog) }
+    ensures closes { IfOk result (λ t. CanClose t.0 t.1) }
+    ensures alone { IfOk result (λ t. t.1.me.0.next ≡ 1) }
 {
+    let Ok(catalog) = catalog(alloc) else {
+        return Err(AllocError);
+    };
     let config = Config {
         frames: 16,
         backends: 3,
@@ -63,4 +51,26 @@ pub fn table(alloc: Global, catalog: Catalog) -> Result<(Table, Place), AllocErr
             Err(AllocError)
         }
     }
+}
+
+/// The name of one of its blocks.
+pub fn block(_table: &Table, number: u32) -> Tag
+    requires small { IsSmall _table.now }
+    requires inside { number < 64 }
+    ensures { HasBlock _table.now result }
+{
+    Tag {
+        rel: RelNo(0),
+        fork: Fork::Main,
+        block: number,
+    }
+}
+
+/// The state word of a frame.
+pub fn word_of(table: &Table, seat: &mut Place, frame: u32) -> u64
+    requires closes { CanClose table.now seat.old }
+    requires frame { frame < frames_of table.now }
+    ensures { CanClose table.now seat.new }
+{
+    table.look(seat, frame)
 }

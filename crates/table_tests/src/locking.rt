@@ -1,11 +1,10 @@
 //! Content locks that two backends want.
-ghost use Rattle.std.specs.Prelude.{◌≡◌, ◌≢◌, ◌<◌, IfSome, IfNone, true};
-ghost use Rattle.std.specs.Bool.{OnTrue};
+ghost use Rattle.std.specs.Prelude.{◌≡◌, ◌<◌, IfSome, IfNone};
 ghost use Rattle.pin_core.specs.declared.view.Role.TheVariants.{Absent};
 ghost use Rattle.pin_core.specs.State.{link};
 ghost use Rattle.frame_table.specs.Closes.{CanClose};
 ghost use Rattle.frame_table.specs.Sees.{frames_of};
-ghost use Rattle.table_tests.specs.Work.{HasBlock, KeepsBeside, OnlyPins, PinsNone, SeesPage, backends_of};
+ghost use Rattle.table_tests.specs.Work.{HasBlock, Keeps, KeepsBeside, OnlyPins, PinsNone, SeesPage, backends_of};
 
 use crate::entering::enter_block;
 use crate::fixture::{Place, Table};
@@ -141,7 +140,32 @@ fn refusals_beside<R: Wait>(
     Some([exclusively, shared])
 }
 
-/// The same at a block that the first backend brings into the frame; the other one comes and goes.
+/// The same at a block that the other backend brings into the frame.
+fn refusals_at<R: Wait>(
+    rt: &R,
+    table: &Table,
+    holder: &mut Place,
+    seat: &mut Place,
+    frame: u32,
+    tag: Tag,
+    page: &mut Page,
+) -> Option<[(Option<TryLock>, Option<TryLock>); 2]>
+    requires holder { OnlyPins table.now holder.old × PinsNone holder.old }
+    requires seat { OnlyPins table.now seat.old × PinsNone seat.old }
+    requires frame { frame < frames_of table.now }
+    requires block { HasBlock table.now tag }
+    ensures holder { OnlyPins table.now holder.new × PinsNone holder.new }
+    ensures seat { OnlyPins table.now seat.new × PinsNone seat.new }
+    ensures keeps { Keeps holder.old holder.new × Keeps seat.old seat.new }
+{
+    let pin = enter_block(rt, table, holder, frame, tag)?;
+    load_block(rt, table, holder, frame, tag, page);
+    let refused = refusals_beside(rt, table, holder, seat, frame);
+    table.unpin(rt, holder, pin);
+    refused
+}
+
+/// The same for a backend that comes and goes, beside the first one.
 pub fn refusals<R: Wait>(
     rt: &R,
     table: &Table,
@@ -150,17 +174,15 @@ pub fn refusals<R: Wait>(
     tag: Tag,
     page: &mut Page,
 ) -> Option<[(Option<TryLock>, Option<TryLock>); 2]>
+    requires closes { CanClose table.now seat.old }
     requires pins { OnlyPins table.now seat.old × PinsNone seat.old }
-    requires alone { (seat.old.id ≡ 0) × (seat.old.me.0.next ≡ 1) × (seat.old.me.0.joined ≡ 0) × (1 < backends_of table.now) }
+    requires alone { (seat.old.me.0.next ≡ 1) × (1 < backends_of table.now) }
     requires frame { frame < frames_of table.now }
     requires block { HasBlock table.now tag }
     ensures { CanClose table.now seat.new }
 {
-    let pin = enter_block(rt, table, seat, frame, tag)?;
-    load_block(rt, table, seat, frame, tag, page);
     let mut other = table.split(seat);
-    let refused = refusals_beside(rt, table, seat, &mut other, frame);
+    let refused = refusals_at(rt, table, seat, &mut other, frame, tag, page);
     table.join(seat, other);
-    table.unpin(rt, seat, pin);
     refused
 }

@@ -1,6 +1,6 @@
 //! Tables that are run.
 use crate::entering::leave_block;
-use crate::fixture::{block, catalog, table};
+use crate::fixture::{block, table, word_of};
 use crate::locking::refusals;
 use crate::pinning::{pin_often, pin_together, refusal, refusal_of_two};
 use content_locks::TryLock;
@@ -11,8 +11,7 @@ use std::test::Fail;
 
 #[test]
 fn a_fresh_frame_has_no_tag(rt: HostRuntime) -> Result<(), Fail> {
-    let relations = catalog(rt.alloc())?;
-    let (table, mut seat) = table(rt.alloc(), relations)?;
+    let (table, mut seat) = table(rt.alloc())?;
     let refused = refusal(&rt, &table, &mut seat, 3);
     let (lanes, _log) = table.close(seat);
     assert_eq!(rt; refused, Some(TryPin::Untagged { word: 0 }));
@@ -22,8 +21,7 @@ fn a_fresh_frame_has_no_tag(rt: HostRuntime) -> Result<(), Fail> {
 
 #[test]
 fn a_header_that_another_has_is_locked(rt: HostRuntime) -> Result<(), Fail> {
-    let relations = catalog(rt.alloc())?;
-    let (table, mut first) = table(rt.alloc(), relations)?;
+    let (table, mut first) = table(rt.alloc())?;
     let refused = refusal_of_two(&rt, &table, &mut first, 3);
     let (_lanes, _log) = table.close(first);
     assert_eq!(rt; refused, Some(TryPin::Locked { word: 4194304 }));
@@ -32,8 +30,7 @@ fn a_header_that_another_has_is_locked(rt: HostRuntime) -> Result<(), Fail> {
 
 #[test]
 fn no_tag_however_often(rt: HostRuntime) -> Result<(), Fail> {
-    let relations = catalog(rt.alloc())?;
-    let (table, mut seat) = table(rt.alloc(), relations)?;
+    let (table, mut seat) = table(rt.alloc())?;
     let refused = pin_often(&rt, &table, &mut seat, 3, 100000);
     let (_lanes, _log) = table.close(seat);
     assert_eq!(rt; refused, 100000);
@@ -42,8 +39,7 @@ fn no_tag_however_often(rt: HostRuntime) -> Result<(), Fail> {
 
 #[test]
 fn two_threads_get_one_answer(rt: HostRuntime) -> Result<(), Fail> {
-    let relations = catalog(rt.alloc())?;
-    let (table, mut first) = table(rt.alloc(), relations)?;
+    let (table, mut first) = table(rt.alloc())?;
     let refused = pin_together(&rt, &table, &mut first, 3, 100000);
     let (_lanes, _log) = table.close(first);
     assert_eq!(rt; refused, (100000, 100000));
@@ -52,11 +48,11 @@ fn two_threads_get_one_answer(rt: HostRuntime) -> Result<(), Fail> {
 
 #[test]
 fn pins_of_one_thread_are_never_refused(rt: HostRuntime) -> Result<(), Fail> {
-    let relations = catalog(rt.alloc())?;
-    let (table, mut seat) = table(rt.alloc(), relations)?;
-    let entered = leave_block(&rt, &table, &mut seat, 3, block(7));
+    let (table, mut seat) = table(rt.alloc())?;
+    let tag = block(&table, 7);
+    let entered = leave_block(&rt, &table, &mut seat, 3, tag);
     let refused = pin_often(&rt, &table, &mut seat, 3, 100000);
-    let word = table.look(&mut seat, 3);
+    let word = word_of(&table, &mut seat, 3);
     let (_lanes, _log) = table.close(seat);
     assert!(rt; entered);
     assert_eq!(rt; refused, 0);
@@ -66,11 +62,11 @@ fn pins_of_one_thread_are_never_refused(rt: HostRuntime) -> Result<(), Fail> {
 
 #[test]
 fn two_threads_leave_no_pin(rt: HostRuntime) -> Result<(), Fail> {
-    let relations = catalog(rt.alloc())?;
-    let (table, mut first) = table(rt.alloc(), relations)?;
-    let entered = leave_block(&rt, &table, &mut first, 3, block(7));
+    let (table, mut first) = table(rt.alloc())?;
+    let tag = block(&table, 7);
+    let entered = leave_block(&rt, &table, &mut first, 3, tag);
     let refused = pin_together(&rt, &table, &mut first, 3, 100000);
-    let word = table.look(&mut first, 3);
+    let word = word_of(&table, &mut first, 3);
     let (_lanes, _log) = table.close(first);
     assert!(rt; entered);
     assert!(rt; refused.0 < 100000 && refused.1 < 100000);
@@ -80,10 +76,10 @@ fn two_threads_leave_no_pin(rt: HostRuntime) -> Result<(), Fail> {
 
 #[test]
 fn a_content_lock_that_another_has_is_busy(rt: HostRuntime) -> Result<(), Fail> {
-    let relations = catalog(rt.alloc())?;
     let mut page = Page::zeroed(rt.alloc())?;
-    let (table, mut first) = table(rt.alloc(), relations)?;
-    let refused = refusals(&rt, &table, &mut first, 3, block(0), &mut page);
+    let (table, mut first) = table(rt.alloc())?;
+    let tag = block(&table, 0);
+    let refused = refusals(&rt, &table, &mut first, 3, tag, &mut page);
     let (_lanes, _log) = table.close(first);
     let exclusive = Some(TryLock::Busy { word: 262144 });
     let shared = Some(TryLock::Busy { word: 1 });

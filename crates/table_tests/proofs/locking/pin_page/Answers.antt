@@ -22,7 +22,7 @@ returns-then-has-clause-sees g c =
     record {
       pinned = l.link.role ∙ p.role;
       assigned = l.link.pending ∙ p.pending ∙ before;
-      seen = sees_valid _ _ _ _ l.did (p.pending ∙ before) (λ none. (let no : HandedOut ≡ Absent = sym p.role ∙ none in absurd (cc))) ?;
+      seen = sees_valid _ _ _ _ l.did (p.pending ∙ before) (λ none. (let no : HandedOut ≡ Absent = sym p.role ∙ none in absurd (cc))) (sym c.has.ensures ∙ c.if-has.true);
     }
 
 pub unpin-requires-clause-pinned : goal.unpin-requires-clause-pinned
