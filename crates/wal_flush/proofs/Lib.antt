@@ -1,0 +1,4 @@
+pub mod PagePositions
+pub mod LogSteps
+pub mod Results
+pub mod Views

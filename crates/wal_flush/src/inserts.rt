@@ -1,5 +1,5 @@
 //! Inserts (`XLogInsert`).
-ghost use Rattle.std.specs.Prelude.{◌≡◌, ℕ, ◌+◌, ◌≤◌, false, length, slice_get, Some, IfErr, IfOk, MatchResult};
+ghost use Rattle.std.specs.Prelude.{◌≡◌, ℕ, ◌+◌, ◌≤◌, true, false, length, slice_get, slice_index, ◌<◌, Some, IfErr, IfOk, MatchResult};
 ghost use Rattle.block_tag.specs.Names.{packed_tag};
 ghost use Rattle.page_layout.specs.Fields.{with_lsn};
 ghost use Rattle.pin_core.specs.State.{link};
@@ -55,12 +55,18 @@ fn relation_of<L: BlockLane, G: LogDevice>(table: &FrameTable<L, G>, tag: Tag) -
     }
 }
 
+/// Bytes are below 256, for the contract of who calls this.
+fn show_bytes(bytes: &[u8])
+    ensures { (k : ℕ) → slice_index bytes.now k < 256 }
+{
+}
+
 /// The page's log position, which puts the page back as it is once another one was set.
 fn position_of(page: &Page) -> Lsn
     ensures size { length page.now ≡ 8192 }
     ensures restores { (lsn : ℕ) → with_lsn result (with_lsn lsn page.now) ≡ page.now }
 {
-    let _bytes = page.bytes();
+    show_bytes(page.bytes());
     page.lsn()
 }
 

@@ -1,0 +1,1 @@
+-- What inserts and flushes make of a view.
