@@ -14,7 +14,7 @@ use Rattle.table_rule.specs.declared.turn.Turn.TheVariants.{Log}
 use Rattle.frame_table.specs.Behind.{DidWord, raise_flushed}
 use Rattle.frame_table.specs.LogWork.{DidLog, DidTwo}
 use Rattle.frame_table.specs.Turning.{DidTurn}
-use Rattle.wal_flush.specs.Latched.{FindsDown, GoesOut, Opens, downed, faulted, opened_log}
+use Rattle.wal_flush.specs.Latched.{FindsDown, GoesOutUp, Opens, downed, faulted, opened_log}
 
 -- a step that counts no call of the log and no fault, and one that counts these
 abbrev pub quiet : LogKind → View → View
@@ -59,7 +59,7 @@ faulted_back : (v w : View) → DidLog (log_back true) v w → w ≡ counting (l
 faulted_back v w d = d.after ∙ counts (log_back true) v v.device_calls (record v.met { logs = v.met.logs + 1 }) v.saw_down (append-nil v.device_calls) (one_met v.met) (or_false v.saw_down)
 
 -- The log went out, was called, and came back: but for the latch and the count of steps, what this made of the view
-module _ (v out : View) (went : GoesOut v out) where
+module _ (v out : View) (went : GoesOutUp v out) where
   gone : out ≡ quiet (log_out went.taken) v
   gone = out_view went.taken v out went.did
 

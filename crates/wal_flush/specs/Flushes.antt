@@ -8,7 +8,7 @@ use Rattle.frame_table.specs.Behind.{DidWord, load_flushed, raise_flushed}
 use Rattle.frame_table.specs.LogWork.{DidTwo}
 use Rattle.wal_flush.specs.declared.flushes.FlushLog.{FlushLog}
 use Rattle.wal_flush.specs.declared.flushes.FlushLog.TheVariants.{LogShort, LogDown, LogFault}
-use Rattle.wal_flush.specs.Latched.{FindsDown, GoesOut, UnderLatch, downed, faulted}
+use Rattle.wal_flush.specs.Latched.{FindsDown, GoesOutUp, UnderLatch, downed, faulted}
 
 -- The flushed position was loaded, and it is at `lsn` or behind it
 pub record SeesFlushed (lsn : ℕ) (v w : View) : Type 0 where
@@ -38,7 +38,7 @@ pub record Syncs (v w : View) : Type 0 where
   pub out : View
   pub home : View
   pub found : ℕ
-  pub went : GoesOut v out
+  pub went : GoesOutUp v out
   pub syncs : DidTwo sync_log (log_back false) out home
   pub raises : DidWord raise_flushed home w found
 
@@ -47,7 +47,7 @@ pub record FailsToSync (v w : View) : Type 0 where
   pub out : View
   pub synced : ℕ
   pub faults : ℕ
-  pub went : GoesOut v out
+  pub went : GoesOutUp v out
   pub fails : DidTwo (fail_sync synced faults) (log_back true) out w
 
 -- Why the log is not flushed up to `lsn` where it ends at `end`, and what was done

@@ -19,7 +19,7 @@ use Rattle.frame_table.specs.Entering.{DidEnter, IsRecord, entered_link, view_en
 use Rattle.frame_table.specs.LogWork.{DidTwo}
 use Rattle.wal_flush.specs.declared.inserts.InsertError.{InsertError}
 use Rattle.wal_flush.specs.declared.inserts.InsertError.TheVariants.{LogFull, LogDown, LogFault}
-use Rattle.wal_flush.specs.Latched.{FindsDown, GoesOut, UnderLatch, downed, faulted}
+use Rattle.wal_flush.specs.Latched.{FindsDown, GoesOutUp, UnderLatch, downed, faulted}
 
 -- The page p may be inserted for the frame f, which has the tag of a block of the relations
 pub record CanInsert (relations : List RelEntry) (f : ℕ) (tag : Tag) (p : Page) (v : View) : Type 0 where
@@ -41,7 +41,7 @@ pub record Appends (relations : List RelEntry) (f : ℕ) (tag : Tag) (start : �
   pub out : View
   pub bytes : List ℕ
   pub is_record : IsRecord relations tag start p bytes
-  pub went : GoesOut v out
+  pub went : GoesOutUp v out
   pub did : DidTwo (append f (packed_tag tag) p bytes) (log_back false) out w
 
 -- and it became an entry of the log
@@ -58,7 +58,7 @@ pub record FailsToAppend (relations : List RelEntry) (f : ℕ) (tag : Tag) (star
   pub part : List ℕ
   pub faults : ℕ
   pub is_record : IsRecord relations tag start p bytes
-  pub went : GoesOut v out
+  pub went : GoesOutUp v out
   pub fails : DidTwo (fail_append f (packed_tag tag) p part faults) (log_back true) out w
 
 -- Why the page p is not entered where the log ends at `end`, and what was done

@@ -29,7 +29,7 @@ abbrev pub opened_log : ℕ → LogHold
 opened_log end = record no_log { held = true; end = Some end }
 
 -- The log went out, and wasn't down
-pub record GoesOut (v w : View) : Type 0 where
+pub record GoesOutUp (v w : View) : Type 0 where
   pub taken : TakenLog
   pub up : taken.down ≡ None
   pub did : DidLog (log_out taken) v w
