@@ -1,5 +1,5 @@
 pub mod PagePositions
 pub mod LogSteps
 pub mod Records
-pub mod Results
 pub mod Views
+pub mod Inserting

@@ -1,5 +1,5 @@
 -- What the steps at the log make of a view.
-use Rattle.std.proofs.Common.{◌≡◌, ℕ, ◌+◌, Bool, true, false, ◌||◌, List, [], ◌∷◌, ◌++◌, append-nil, Option, Some, None, lit<, refl, sym, ap, ◌∙◌, subst, arith}
+use Rattle.std.proofs.Common.{◌≡◌, ℕ, ◌+◌, Bool, true, false, ◌||◌, List, [], ◌∷◌, ◌++◌, append-nil, Option, Some, None, lit<, refl, sym, ap, ◌∙◌, arith}
 use Rattle.pin_core.specs.declared.view.DeviceCall.{DeviceCall}
 use Rattle.pin_core.specs.declared.view.DeviceCall.TheVariants.{LogAppend, LogSync}
 use Rattle.pin_core.specs.declared.view.LogChange.TheVariants.{Untouched}
@@ -11,7 +11,6 @@ use Rattle.pin_core.specs.State.{Page, no_log, sum_of_met}
 use Rattle.history_core.specs.Device.{LogKind, take_log, leave_log, log_out, append, fail_append, sync_log, fail_sync, log_back, see_down, calls_by, met_by, sees_down, log_hold_after, view_logged}
 use Rattle.history_core.specs.Steps.{has_loaded}
 use Rattle.table_rule.specs.declared.turn.Turn.TheVariants.{Log}
-use Rattle.frame_table.specs.Behind.{DidWord, raise_flushed}
 use Rattle.frame_table.specs.LogWork.{DidLog, DidTwo}
 use Rattle.frame_table.specs.Turning.{DidTurn}
 use Rattle.wal_flush.specs.Latched.{FindsDown, GoesOutUp, Opens, downed, faulted, opened_log}

@@ -1,5 +1,5 @@
 -- The record of a page is appended.
-use Rattle.std.proofs.Common.{◌≡◌, ℕ, ◌+◌, ◌≤◌, Option, Some, None, true, false, List, length, sym, ap, ◌∙◌, subst, arith}
+use Rattle.std.proofs.Common.{◌≡◌, ℕ, ◌+◌, ◌≤◌, Option, None, true, false, List, length, ap, ◌∙◌, subst, arith}
 use Rattle.block_tag.specs.declared.tag.Tag.{Tag}
 use Rattle.block_tag.specs.declared.catalogue.RelEntry.{RelEntry}
 use Rattle.block_tag.specs.Names.{packed_tag}
@@ -9,7 +9,7 @@ use Rattle.pin_core.specs.declared.view.LogHold.{LogHold}
 use Rattle.pin_core.specs.declared.view.TakenLog.{TakenLog}
 use Rattle.pin_core.specs.declared.view.View.{View}
 use Rattle.pin_core.specs.State.{Page}
-use Rattle.history_core.specs.Device.{append, fail_append, log_back, log_out}
+use Rattle.history_core.specs.Device.{append, fail_append, log_back}
 use Rattle.history_core.specs.Log.{record_size}
 use Rattle.history_core.specs.State.{last_position}
 use Rattle.table_rule.specs.LogCalls.{IsAppended, IsFailedAppend}

@@ -1,6 +1,6 @@
 -- What inserts and flushes make of a view.
-use Rattle.std.proofs.Common.{◌≡◌, ℕ, ◌+◌, ◌<◌, ◌≤◌, true, false, List, [], ◌∷◌, ◌++◌, Option, None, length, get_or, set, get_or-set_same, refl, sym, ap, ◌∙◌, subst, arith}
-use mathlib.Core.Logic.{◌⊎◌, inl, inr}
+use Rattle.std.proofs.Common.{◌≡◌, ℕ, ◌+◌, ◌<◌, true, false, List, [], ◌∷◌, ◌++◌, Option, None, length, get_or-set_same, refl, sym, ap, ◌∙◌, arith}
+use mathlib.Core.Logic.{inl, inr}
 use Rattle.block_tag.specs.declared.tag.Tag.{Tag}
 use Rattle.block_tag.specs.declared.catalogue.RelEntry.{RelEntry}
 use Rattle.block_tag.specs.Names.{packed_tag}
@@ -22,7 +22,7 @@ use Rattle.wal_flush.specs.declared.flushes.FlushLog.{FlushLog}
 use Rattle.wal_flush.specs.declared.flushes.FlushLog.TheVariants as flush_log
 use Rattle.wal_flush.specs.Latched.{UnderLatch, as_counted, downed, faulted}
 use Rattle.wal_flush.specs.Inserts.{EnterRefused, Enters, inserted_view, refused_view}
-use Rattle.wal_flush.specs.Flushes.{Awaits, Flushed, Flushes, Looks, still, again, SeesFlushed, SyncRefused, Syncs, Tries, as_looked, synced_view, unflushed_view}
+use Rattle.wal_flush.specs.Flushes.{Flushed, Flushes, Looks, still, again, SeesFlushed, SyncRefused, Syncs, Tries, as_looked, synced_view, unflushed_view}
 use Rattle.wal_flush.proofs.LogSteps.{quiet, counting, opens_view, leaves_view, free_log, appended_view, synced_view as after_sync, unappended_view, unsynced_view, down_view}
 
 -- but for steps and loads w is t, where it is x, and x is t so

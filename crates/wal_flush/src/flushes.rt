@@ -21,10 +21,10 @@ use thiserror::Error;
 pub enum FlushLog {
     /// The position asked for is behind the log's end.
     #[error("the log ends at {end}, before {lsn}")]
-    LogShort { lsn: u64, end: u64 },
+    LogShort { lsn: Lsn, end: Lsn },
     /// A call of the log failed before, where the log ended here.
     #[error("the log is down at {at}")]
-    LogDown { at: u64 },
+    LogDown { at: Lsn },
     /// The sync failed: the log is down from now on.
     #[error("the log failed")]
     LogFault,
@@ -63,7 +63,7 @@ fn sync<L: BlockLane, G: LogDevice>(
     }
 }
 
-/// Loads the flushed position until it is at `lsn` or behind it.
+/// Loads the flushed position until it is at `lsn` or behind it. Once it was raised so far the first load shows it, since it never falls; but what this backend knows of it is what it loads.
 fn await_flushed<L: BlockLane, G: LogDevice, R: Wait>(
     table: &FrameTable<L, G>,
     rt: &R,
@@ -83,7 +83,9 @@ fn await_flushed<L: BlockLane, G: LogDevice, R: Wait>(
     unreachable!()
 }
 
-/// Makes the log durable up to the position `lsn`, which the backend sees as flushed then. Where it is so already no device is called. Else it waits for the log's latch, and syncs the log once.
+/// Makes the log durable up to the position `lsn`, and the backend has seen the flushed position at `lsn` or behind it then (`XLogFlush`).
+///
+/// Where the flushed position is so far already no device is called. Else it waits for the log's latch, and makes one sync at most. It refuses where the log ends before `lsn`, then where it is down, then where the sync fails.
 pub fn flush_to<L: BlockLane, G: LogDevice, R: Wait>(
     table: &FrameTable<L, G>,
     rt: &R,

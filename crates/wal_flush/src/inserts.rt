@@ -35,10 +35,10 @@ const RECORD_SIZE: Lsn = 8224;
 pub enum InsertError {
     /// A record behind the log's end, which is here, would pass the last position.
     #[error("the log is full at {end}")]
-    LogFull { end: u64 },
+    LogFull { end: Lsn },
     /// A call of the log failed before, where the log ended here.
     #[error("the log is down at {at}")]
-    LogDown { at: u64 },
+    LogDown { at: Lsn },
     /// The append failed: the log is down from now on.
     #[error("the log failed")]
     LogFault,
@@ -55,13 +55,12 @@ fn relation_of<L: BlockLane, G: LogDevice>(table: &FrameTable<L, G>, tag: Tag) -
     }
 }
 
-/// Bytes are below 256, for the contract of who calls this.
+/// Says of bytes that each is below 256, and does nothing.
 fn show_bytes(bytes: &[u8])
     ensures { (k : ℕ) → slice_index bytes.now k < 256 }
-{
-}
+{}
 
-/// The page's log position, which puts the page back as it is once another one was set.
+/// The page's log position. Where another one is set, this one puts the page back.
 fn position_of(page: &Page) -> Lsn
     ensures size { length page.now ≡ 8192 }
     ensures restores { (lsn : ℕ) → with_lsn result (with_lsn lsn page.now) ≡ page.now }
@@ -139,9 +138,9 @@ fn enter<L: BlockLane, G: LogDevice>(
     Ok(lsn)
 }
 
-/// Inserts a page of the frame's block into the log, and gives it the position of its entry's end, which it answers. The backend has the frame's content lock exclusively, and marked the frame dirty; the entry is its to apply to the frame then. It waits for the log's latch, and makes one append at most.
+/// Inserts a page of the frame's block into the log (`XLogInsert`). It answers the position of the entry's end, which the page has then (`pd_lsn`). The backend has the frame's content lock exclusively, and marked the frame dirty under it; it has to apply the entry to the frame next.
 ///
-/// After a refusal the page is as it was: the log is full, a call of it failed before, or the append failed.
+/// It waits for the log's latch, and makes one append at most. It refuses where the log is full, then where it is down, then where the append fails. After a refusal the page is as it was, and the log has no entry more.
 pub fn insert<L: BlockLane, G: LogDevice, R: Wait>(
     table: &FrameTable<L, G>,
     rt: &R,

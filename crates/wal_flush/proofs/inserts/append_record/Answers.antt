@@ -1,10 +1,10 @@
-use Rattle.std.proofs.Common.{sym, ap, subst, ◌∙◌, arith}
+use Rattle.std.proofs.Common.{ap, subst, ◌∙◌}
 use Rattle.pin_core.specs.declared.view.LogHold.{LogHold}
 use Rattle.pin_core.specs.declared.view.View.{View}
 use Rattle.pin_core.specs.State.{Page}
 use Rattle.table_rule.specs.LogCalls.{LogDid}
 use Rattle.frame_table.specs.Sees.{relations_of}
-use Rattle.frame_table.proofs.LogCalling.{appends_out, home_after_append, stores_home}
+use Rattle.frame_table.proofs.LogCalling.{appends_out, home_after_append}
 use Rattle.wal_flush.specs.Inserts.{FailsToAppend}
 use Rattle.wal_flush.proofs.LogSteps.{down_at_end}
 use Rattle.wal_flush.proofs.Records.{may_enter, went_up, came_appended, came_torn}
@@ -34,14 +34,14 @@ returns-in-Ok-result-clause-appended g c = let o = c.in-Ok.ensures in record {
 
 pub returns-in-Err-result-clause-cause : goal.returns-in-Err-result-clause-cause
 returns-in-Err-result-clause-cause g c = let o = c.in-Ok.ensures in let torn = came_torn _ _ _ _ c.log_back.ensures.came.taken _ _ _ _ _ c.in-Err-result.ensures.call c.log_back.ensures.came.did in (
-    c.requires.room,
-    subst (λ (p : Page). FailsToAppend (relations_of c.args.table.now) c.args.frame c.args.tag c.args.end p c.args.seat.now.me.0 c.log_back.new.seat.me.0) c.set_lsn.ensures.bytes record {
-      out = c.take_log.new.seat.me.0;
-      bytes = c.write_record.new.self.buffer.items;
-      part = torn.0;
-      faults = g.G.LogDevice.faults c.append-result.new.self.device;
-      is_record = record { entry = c.relation_of-entry.result; listed = c.relation_of-entry.ensures; is = c.write_record.ensures.«record» };
-      went = went_up _ _ _ _ _ _ o.went o.up;
-      fails = torn.1;
-    },
-  )
+  c.requires.room,
+  subst (λ (p : Page). FailsToAppend (relations_of c.args.table.now) c.args.frame c.args.tag c.args.end p c.args.seat.now.me.0 c.log_back.new.seat.me.0) c.set_lsn.ensures.bytes record {
+    out = c.take_log.new.seat.me.0;
+    bytes = c.write_record.new.self.buffer.items;
+    part = torn.0;
+    faults = g.G.LogDevice.faults c.append-result.new.self.device;
+    is_record = record { entry = c.relation_of-entry.result; listed = c.relation_of-entry.ensures; is = c.write_record.ensures.«record» };
+    went = went_up _ _ _ _ _ _ o.went o.up;
+    fails = torn.1;
+  },
+)

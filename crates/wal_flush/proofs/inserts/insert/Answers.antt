@@ -1,7 +1,17 @@
-use Rattle.std.proofs.Common.{ℕ, ◌+◌, ◌≤◌, subst, sym, ap}
-use Rattle.wal_flush.proofs.Results.{ok_on, ok_both, err_on}
-use Rattle.wal_flush.proofs.Views.{insert_view, inserted_link, unentered_view}
+use Rattle.wal_flush.proofs.Inserting.{did_insert, view_inserted, link_inserted, refused_insert, view_refused}
 use Rattle.wal_flush.proofs.inserts.insert.Goals as goal
 
 pub returns-clause-view : goal.returns-clause-view
-returns-clause-view g c = ?
+returns-clause-view g c = let e = c.enter-result.ensures in view_inserted _ _ _ _ _ _ _ _ c.take_end-end.ensures.did c.leave_turn.ensures.did _ _ e.entered c.requires.free e.lsn
+
+pub returns-clause-entered : goal.returns-clause-entered
+returns-clause-entered g c = link_inserted _ _ _ _ _ _ _ _ c.take_end-end.ensures.did c.leave_turn.ensures.did _ _ c.enter-result.ensures.entered c.requires.free
+
+pub returns-clause-left : goal.returns-clause-left
+returns-clause-left g c = view_refused _ _ _ _ _ _ _ _ c.take_end-end.ensures.did c.leave_turn.ensures.did _ _ c.enter-result.ensures.cause c.requires.free
+
+pub returns-clause-did : goal.returns-clause-did
+returns-clause-did g c = let e = c.enter-result.ensures in did_insert _ _ _ _ _ _ _ _ c.take_end-end.ensures.did c.leave_turn.ensures.did _ _ e.entered c.take_end-end.ensures.front e.lsn
+
+pub returns-clause-cause : goal.returns-clause-cause
+returns-clause-cause g c = refused_insert _ _ _ _ _ _ _ _ c.take_end-end.ensures.did c.leave_turn.ensures.did _ _ c.enter-result.ensures.cause

@@ -1,4 +1,4 @@
-use Rattle.std.proofs.Common.{◌≡◌, ℕ, ◌<◌, ◌≤◌, get_or, List, ap, sym, ◌∙◌, subst, arith, length}
+use Rattle.std.proofs.Common.{ℕ, ◌<◌, get_or, List, ap, ◌∙◌, subst, arith}
 use Rattle.page_layout.specs.Fields.{with_lsn}
 use Rattle.wal_flush.proofs.PagePositions.{restores}
 use Rattle.wal_flush.proofs.inserts.position_of.Goals as goal
