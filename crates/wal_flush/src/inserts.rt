@@ -140,7 +140,7 @@ fn enter<L: BlockLane, G: LogDevice>(
 
 /// Inserts a page of the frame's block into the log (`XLogInsert`). It answers the position of the entry's end, which the page has then (`pd_lsn`). The backend has the frame's content lock exclusively, and marked the frame dirty under it; it has to apply the entry to the frame next.
 ///
-/// It waits for the log's latch, and makes one append at most. It refuses where the log is full, then where it is down, then where the append fails. After a refusal the page is as it was, and the log has no entry more.
+/// It waits for the log's latch, and makes one append at most. It refuses where the log is full, then where it is down, then where the append fails. After a refusal the page is as it was, and no entry was made.
 pub fn insert<L: BlockLane, G: LogDevice, R: Wait>(
     table: &FrameTable<L, G>,
     rt: &R,
