@@ -1,5 +1,5 @@
 -- What an insert answers, and what it leaves.
-use Rattle.std.proofs.Common.{◌≡◌, ℕ, ◌+◌, ◌≤◌, false, Result, Ok, Err, List, sym, subst}
+use Rattle.std.proofs.Common.{◌≡◌, ◌≢◌, ℕ, ◌+◌, ◌≤◌, false, Result, Ok, Err, List, sym, subst}
 use Rattle.std.specs.Prelude.{IfOk, IfErr}
 use Rattle.block_tag.specs.declared.tag.Tag.{Tag}
 use Rattle.block_tag.specs.declared.catalogue.RelEntry.{RelEntry}
@@ -12,9 +12,9 @@ use Rattle.table_rule.specs.declared.turn.Turn.TheVariants.{Log}
 use Rattle.frame_table.specs.Entering.{entered_link}
 use Rattle.frame_table.specs.Turning.{DidTurn}
 use Rattle.wal_flush.specs.declared.inserts.InsertError.{InsertError}
-use Rattle.wal_flush.specs.Latched.{Opens, UnderLatch, as_counted}
+use Rattle.wal_flush.specs.Latched.{KeepsWork, Opens, UnderLatch, as_counted}
 use Rattle.wal_flush.specs.Inserts.{EnterRefused, Enters, InsertRefused, Inserts, inserted_view, refused_view}
-use Rattle.wal_flush.proofs.Views.{insert_view, inserted_link, unentered_view}
+use Rattle.wal_flush.proofs.Views.{insert_view, inserted_link, other_links, refused_work, unentered_view}
 
 module _ (relations : List RelEntry) (f : ℕ) (tag : Tag) (end : ℕ) (v loaded worked w : View) (opens : Opens end v loaded) (leaves : DidTurn false Log worked w) (result : Result ℕ InsertError) where
   latched : (Work : View → View → Type 0) → Work loaded worked → UnderLatch end Work v w
@@ -43,6 +43,13 @@ module _ (relations : List RelEntry) (f : ℕ) (tag : Tag) (end : ℕ) (v loaded
         of_result (Ok lsn) work = inserted_link relations f tag end p v w (latched (Enters relations f tag end p) work) free
         of_result (Err why) none = none
 
+    pub others_stay : v.log.held ≡ false → IfOk result (λ _. (g : ℕ) → g ≢ f → link w g ≡ link v g)
+    others_stay free = of_result result done
+      where
+        of_result : (r : Result ℕ InsertError) → IfOk r (λ _. Enters relations f tag end p loaded worked) → IfOk r (λ _. (g : ℕ) → g ≢ f → link w g ≡ link v g)
+        of_result (Ok lsn) work = other_links relations f tag end p v w (latched (Enters relations f tag end p) work) free
+        of_result (Err why) none = none
+
   -- or it was refused
   module _ (p : Page) (done : IfErr result (λ why. EnterRefused relations f tag p end why loaded worked)) where
     pub refused_insert : IfErr result (InsertRefused relations f tag p v w)
@@ -58,3 +65,8 @@ module _ (relations : List RelEntry) (f : ℕ) (tag : Tag) (end : ℕ) (v loaded
         of_result : (r : Result ℕ InsertError) → IfErr r (λ why. EnterRefused relations f tag p end why loaded worked) → IfErr r (λ why. w ≡ as_counted (refused_view why v) w)
         of_result (Ok lsn) none = none
         of_result (Err why) work = unentered_view relations f tag p end why v w (latched (EnterRefused relations f tag p end why) work) free
+
+-- and then the view's work is as it was
+pub work_stays : (v w : View) (result : Result ℕ InsertError) → IfErr result (λ why. w ≡ as_counted (refused_view why v) w) → IfErr result (λ _. KeepsWork v w)
+work_stays v w (Ok lsn) none = none
+work_stays v w (Err why) e = refused_work why v w e

@@ -1,14 +1,16 @@
 -- What inserts and flushes make of a view.
-use Rattle.std.proofs.Common.{◌≡◌, ℕ, ◌+◌, ◌<◌, true, false, List, [], ◌∷◌, ◌++◌, Option, None, length, get_or-set_same, refl, sym, ap, ◌∙◌, arith}
+use Rattle.std.proofs.Common.{◌≡◌, ◌≢◌, ℕ, ◌+◌, ◌<◌, Bool, true, false, List, [], ◌∷◌, ◌++◌, Option, None, length, get_or-set_same, get_or-set_other, refl, sym, ap, ◌∙◌, arith}
 use mathlib.Core.Logic.{inl, inr}
 use Rattle.block_tag.specs.declared.tag.Tag.{Tag}
 use Rattle.block_tag.specs.declared.catalogue.RelEntry.{RelEntry}
 use Rattle.block_tag.specs.Names.{packed_tag}
 use Rattle.page_layout.specs.Fields.{with_lsn}
+use Rattle.pin_core.specs.declared.view.DeviceCall.{DeviceCall}
 use Rattle.pin_core.specs.declared.view.DeviceCall.TheVariants.{LogAppend, LogSync}
 use Rattle.pin_core.specs.declared.view.Link.{Link}
 use Rattle.pin_core.specs.declared.view.LogChange.TheVariants.{Untouched}
 use Rattle.pin_core.specs.declared.view.LogHold.{LogHold}
+use Rattle.pin_core.specs.declared.view.Met.{Met}
 use Rattle.pin_core.specs.declared.view.View.{View}
 use Rattle.pin_core.specs.State.{Page, idle, link, no_log}
 use Rattle.history_core.specs.Device.{take_log, leave_log, log_out, append, sync_log, log_back}
@@ -20,7 +22,7 @@ use Rattle.wal_flush.specs.declared.inserts.InsertError.{InsertError}
 use Rattle.wal_flush.specs.declared.inserts.InsertError.TheVariants as insert_error
 use Rattle.wal_flush.specs.declared.flushes.FlushLog.{FlushLog}
 use Rattle.wal_flush.specs.declared.flushes.FlushLog.TheVariants as flush_log
-use Rattle.wal_flush.specs.Latched.{UnderLatch, as_counted, downed, faulted}
+use Rattle.wal_flush.specs.Latched.{KeepsWork, UnderLatch, as_counted, downed, faulted}
 use Rattle.wal_flush.specs.Inserts.{EnterRefused, Enters, inserted_view, refused_view}
 use Rattle.wal_flush.specs.Flushes.{Flushed, Flushes, Looks, still, again, SeesFlushed, SyncRefused, Syncs, Tries, as_looked, synced_view, unflushed_view}
 use Rattle.wal_flush.proofs.LogSteps.{quiet, counting, opens_view, leaves_view, free_log, appended_view, synced_view as after_sync, unappended_view, unsynced_view, down_view}
@@ -52,6 +54,10 @@ inserted_link relations f tag start p v w u free = ap (λ (x : View). link x f) 
     inside = let d = u.work.did in let a = u.work.appends in let wide = (d.laws.invariant.pool.core.views.wide d.seat u.work.home d.there d.live).0 in
         let same : u.work.home.links ≡ v.links = ap (λ (x : View). x.links) (appended_view u.loaded a.out a.went f (packed_tag tag) p a.bytes u.work.home a.did) ∙ ap (λ (x : View). x.links) (opens_view start v u.loaded u.opens) in
         let long = ap (λ (l : List Link). length l) same in let low = d.inside in omega arith
+
+-- and those of other frames
+pub other_links : (relations : List RelEntry) (f : ℕ) (tag : Tag) (start : ℕ) (p : Page) (v w : View) → UnderLatch start (Enters relations f tag start p) v w → v.log.held ≡ false → (g : ℕ) → g ≢ f → link w g ≡ link v g
+other_links relations f tag start p v w u free g n = ap (λ (x : View). link x g) (insert_view relations f tag start p v w u free) ∙ get_or-set_other v.links f g (entered_link p (link v f)) idle n
 
 -- the latch that is left is as it was
 left_hold : (v : View) (a : Option (List ℕ)) → v.log ≡ no_log → a ≡ v.log.appended → record no_log { appended = a } ≡ v.log
@@ -125,3 +131,35 @@ unflushed lsn end why v w t free = let s = t.first in
     of_why (flush_log.LogShort l at) = ap (λ (x : View). as_looked x w) (saw t.first.found v t.looked t.first.did)
     of_why (flush_log.LogDown at) = ap (λ (x : View). as_looked (downed x) w) (saw t.first.found v t.looked t.first.did)
     of_why flush_log.LogFault = ap (λ (x : View). as_looked (unflushed_view flush_log.LogFault x) w) (saw t.first.found v t.looked t.first.did)
+
+-- what is as it was where but for looks only calls of devices and faults are counted
+counted_work : (v w : View) (calls : List DeviceCall) (met : Met) (down : Bool) → w ≡ as_looked (record v { device_calls = calls; met = met; saw_down = down }) w → KeepsWork v w
+counted_work v w calls met down e = record {
+  number = ap (λ (x : View). x.number) e;
+  next = ap (λ (x : View). x.next) e;
+  joined = ap (λ (x : View). x.joined) e;
+  emptied = ap (λ (x : View). x.emptied) e;
+  links = ap (λ (x : View). x.links) e;
+  partitions = ap (λ (x : View). x.partitions) e;
+  lanes = ap (λ (x : View). x.lanes) e;
+  log = ap (λ (x : View). x.log) e;
+  calls = ap (λ (x : View). x.calls) e;
+  front = ap (λ (x : View). x.front) e;
+  place_loads = ap (λ (x : View). x.place_loads) e;
+  upto = ap (λ (x : View). x.upto) e;
+  kept = ap (λ (x : View). x.kept) e;
+}
+
+pub flushed_work : (lsn : ℕ) (v w : View) → Flushed lsn v w → KeepsWork v w
+flushed_work lsn v w (inl s) = counted_work v w v.device_calls v.met v.saw_down s.1
+flushed_work lsn v w (inr s) = counted_work v w (v.device_calls ++ LogSync true ∷ []) v.met v.saw_down s.1
+
+pub unflushed_work : (why : FlushLog) (v w : View) → w ≡ as_looked (unflushed_view why v) w → KeepsWork v w
+unflushed_work (flush_log.LogShort l at) v w e = counted_work v w v.device_calls v.met v.saw_down e
+unflushed_work (flush_log.LogDown at) v w e = counted_work v w v.device_calls v.met true e
+unflushed_work flush_log.LogFault v w e = counted_work v w (v.device_calls ++ LogSync false ∷ []) (record v.met { logs = v.met.logs + 1 }) true e
+
+pub refused_work : (why : InsertError) (v w : View) → w ≡ as_counted (refused_view why v) w → KeepsWork v w
+refused_work (insert_error.LogFull at) v w e = counted_work v w v.device_calls v.met v.saw_down (unlooked v w e)
+refused_work (insert_error.LogDown at) v w e = counted_work v w v.device_calls v.met true (unlooked (downed v) w e)
+refused_work insert_error.LogFault v w e = counted_work v w (v.device_calls ++ LogAppend false ∷ []) (record v.met { logs = v.met.logs + 1 }) true (unlooked (refused_view insert_error.LogFault v) w e)

@@ -52,3 +52,19 @@ downed v = record v { saw_down = true }
 
 abbrev pub faulted : View → View
 faulted v = record (downed v) { met = record v.met { logs = v.met.logs + 1 } }
+
+-- What a call of the log leaves as it was, but where an entry is made: all that the view has of frames, partitions, lanes and the log, and what it has read and written
+pub record KeepsWork (v w : View) : Type 0 where
+  pub number : w.number ≡ v.number
+  pub next : w.next ≡ v.next
+  pub joined : w.joined ≡ v.joined
+  pub emptied : w.emptied ≡ v.emptied
+  pub links : w.links ≡ v.links
+  pub partitions : w.partitions ≡ v.partitions
+  pub lanes : w.lanes ≡ v.lanes
+  pub log : w.log ≡ v.log
+  pub calls : w.calls ≡ v.calls
+  pub front : w.front ≡ v.front
+  pub place_loads : w.place_loads ≡ v.place_loads
+  pub upto : w.upto ≡ v.upto
+  pub kept : w.kept ≡ v.kept

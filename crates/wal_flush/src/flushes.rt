@@ -3,7 +3,7 @@ ghost use Rattle.std.specs.Prelude.{◌≡◌, ◌<◌, ◌≤◌, false, IfErr,
 ghost use Rattle.table_rule.specs.declared.turn.Turn.TheVariants.{Log};
 ghost use Rattle.frame_table.specs.Sees.{CanTurn, IsSeat, SameSeat};
 ghost use Rattle.frame_table.specs.Turning.{MayLeave};
-ghost use Rattle.wal_flush.specs.Latched.{opened_log};
+ghost use Rattle.wal_flush.specs.Latched.{KeepsWork, opened_log};
 ghost use Rattle.wal_flush.specs.Flushes.{Awaits, Flushed, FlushRefused, SyncRefused, Syncs, as_looked, unflushed_view};
 
 use crate::outings::{take_end, take_log};
@@ -95,6 +95,7 @@ pub fn flush_to<L: BlockLane, G: LogDevice, R: Wait>(
     requires seat { IsSeat table.now seat.old }
     requires free { seat.old.me.0.log.held ≡ false }
     ensures seat { SameSeat seat.old seat.new }
+    ensures work { KeepsWork seat.old.me.0 seat.new.me.0 }
     ensures flushed { MatchResult result (λ _. lsn ≤ seat.new.me.0.flushed) (λ _. seat.new.me.0.flushed < lsn) }
     ensures left { IfErr result (λ why. seat.new.me.0 ≡ as_looked (unflushed_view why seat.old.me.0) seat.new.me.0) }
     ensures did { IfOk result (λ _. Flushed lsn seat.old.me.0 seat.new.me.0) }

@@ -1,5 +1,5 @@
 //! Inserts (`XLogInsert`).
-ghost use Rattle.std.specs.Prelude.{◌≡◌, ℕ, ◌+◌, ◌≤◌, true, false, length, slice_get, slice_index, ◌<◌, Some, IfErr, IfOk, MatchResult};
+ghost use Rattle.std.specs.Prelude.{◌≡◌, ◌≢◌, ℕ, ◌+◌, ◌≤◌, true, false, length, slice_get, slice_index, ◌<◌, Some, IfErr, IfOk, MatchResult};
 ghost use Rattle.block_tag.specs.Names.{packed_tag};
 ghost use Rattle.page_layout.specs.Fields.{with_lsn};
 ghost use Rattle.pin_core.specs.State.{link};
@@ -10,7 +10,7 @@ ghost use Rattle.table_rule.specs.Blocks.{has_block};
 ghost use Rattle.frame_table.specs.Entering.{MayStoreEnd, entered_link};
 ghost use Rattle.frame_table.specs.Sees.{CanTurn, IsSeat, SameSeat, relations_of};
 ghost use Rattle.frame_table.specs.Turning.{MayLeave};
-ghost use Rattle.wal_flush.specs.Latched.{as_counted, opened_log};
+ghost use Rattle.wal_flush.specs.Latched.{KeepsWork, as_counted, opened_log};
 ghost use Rattle.wal_flush.specs.Inserts.{Appends, CanInsert, EnterRefused, Enters, InsertRefused, Inserts, inserted_view, refused_view};
 
 use crate::outings::{take_end, take_log};
@@ -156,6 +156,8 @@ pub fn insert<L: BlockLane, G: LogDevice, R: Wait>(
     ensures page { MatchResult result (λ lsn. page.new ≡ with_lsn lsn page.old) (λ _. page.new ≡ page.old) }
     ensures view { IfOk result (λ lsn. seat.new.me.0 ≡ as_counted (inserted_view frame (packed_tag tag) page.new lsn seat.old.me.0) seat.new.me.0) }
     ensures entered { IfOk result (λ _. link seat.new.me.0 frame ≡ entered_link page.new (link seat.old.me.0 frame)) }
+    ensures others { IfOk result (λ _. (g : ℕ) → g ≢ frame → link seat.new.me.0 g ≡ link seat.old.me.0 g) }
+    ensures work { IfErr result (λ _. KeepsWork seat.old.me.0 seat.new.me.0) }
     ensures left { IfErr result (λ why. seat.new.me.0 ≡ as_counted (refused_view why seat.old.me.0) seat.new.me.0) }
     ensures did { IfOk result (λ lsn. Inserts (relations_of table.now) frame tag page.new lsn seat.old.me.0 seat.new.me.0) }
     ensures cause { IfErr result (InsertRefused (relations_of table.now) frame tag page.old seat.old.me.0 seat.new.me.0) }

@@ -1,4 +1,4 @@
-use Rattle.wal_flush.proofs.Views.{flushes, unflushed}
+use Rattle.wal_flush.proofs.Views.{sees, flushes, flushed_work, unflushed, unflushed_work}
 use Rattle.wal_flush.proofs.flushes.flush_to.Goals as goal
 
 pub returns-in-Ok-clause-did : goal.returns-in-Ok-clause-did
@@ -30,3 +30,9 @@ returns-in-Err-clause-cause g c = (
     work = record { loaded = c.take_end-end.new.seat.me.0; worked = c.sync-result.new.seat.me.0; opens = c.take_end-end.ensures.did; work = c.in-Err.ensures.cause; leaves = c.leave_turn.ensures.did };
   },
 )
+
+pub returns-in-Ok-clause-work : goal.returns-in-Ok-clause-work
+returns-in-Ok-clause-work g c = flushed_work _ _ _ (returns-in-Ok-clause-did g c)
+
+pub returns-in-Err-clause-work : goal.returns-in-Err-clause-work
+returns-in-Err-clause-work g c = unflushed_work _ _ _ (returns-in-Err-clause-left g c)
