@@ -1,4 +1,4 @@
-use Rattle.wal_flush.proofs.Views.{sees, flushes, flushed_work, unflushed, unflushed_work}
+use Rattle.wal_flush.proofs.Views.{flushes, flushed_work, unflushed, unflushed_work}
 use Rattle.wal_flush.proofs.flushes.flush_to.Goals as goal
 
 pub returns-in-Ok-clause-did : goal.returns-in-Ok-clause-did
