@@ -1,0 +1,5 @@
+pub mod PagePositions
+pub mod LogSteps
+pub mod Records
+pub mod Views
+pub mod Inserting

@@ -1,0 +1,165 @@
+-- What inserts and flushes make of a view.
+use Rattle.std.proofs.Common.{◌≡◌, ◌≢◌, ℕ, ◌+◌, ◌<◌, Bool, true, false, List, [], ◌∷◌, ◌++◌, Option, None, length, get_or-set_same, get_or-set_other, refl, sym, ap, ◌∙◌, arith}
+use mathlib.Core.Logic.{inl, inr}
+use Rattle.block_tag.specs.declared.tag.Tag.{Tag}
+use Rattle.block_tag.specs.declared.catalogue.RelEntry.{RelEntry}
+use Rattle.block_tag.specs.Names.{packed_tag}
+use Rattle.page_layout.specs.Fields.{with_lsn}
+use Rattle.pin_core.specs.declared.view.DeviceCall.{DeviceCall}
+use Rattle.pin_core.specs.declared.view.DeviceCall.TheVariants.{LogAppend, LogSync}
+use Rattle.pin_core.specs.declared.view.Link.{Link}
+use Rattle.pin_core.specs.declared.view.LogChange.TheVariants.{Untouched}
+use Rattle.pin_core.specs.declared.view.LogHold.{LogHold}
+use Rattle.pin_core.specs.declared.view.Met.{Met}
+use Rattle.pin_core.specs.declared.view.View.{View}
+use Rattle.pin_core.specs.State.{Page, idle, link, no_log}
+use Rattle.history_core.specs.Device.{take_log, leave_log, log_out, append, sync_log, log_back}
+use Rattle.history_core.specs.Log.{record_size}
+use Rattle.history_core.specs.Steps.{has_loaded, stepped}
+use Rattle.frame_table.specs.Behind.{DidWord, load_flushed}
+use Rattle.frame_table.specs.Entering.{entered_link, view_entered}
+use Rattle.wal_flush.specs.declared.inserts.InsertError.{InsertError}
+use Rattle.wal_flush.specs.declared.inserts.InsertError.TheVariants as insert_error
+use Rattle.wal_flush.specs.declared.flushes.FlushLog.{FlushLog}
+use Rattle.wal_flush.specs.declared.flushes.FlushLog.TheVariants as flush_log
+use Rattle.wal_flush.specs.Latched.{KeepsWork, UnderLatch, as_counted, downed, faulted}
+use Rattle.wal_flush.specs.Inserts.{EnterRefused, Enters, inserted_view, refused_view}
+use Rattle.wal_flush.specs.Flushes.{Flushed, Flushes, Looks, still, again, SeesFlushed, SyncRefused, Syncs, Tries, as_looked, synced_view, unflushed_view}
+use Rattle.wal_flush.proofs.LogSteps.{quiet, counting, opens_view, leaves_view, free_log, appended_view, synced_view as after_sync, unappended_view, unsynced_view, down_view}
+
+-- but for steps and loads w is t, where it is x, and x is t so
+counted_as : (t w x : View) → w ≡ x → x ≡ as_counted t x → w ≡ as_counted t w
+counted_as t w x e f = e ∙ f ∙ ap (as_counted t) (sym e)
+
+-- the view once the latch is taken and the end loaded
+abbrev opened : ℕ → View → View
+opened end v = has_loaded end (quiet take_log v)
+
+-- it was so taken, this was done, and it was left
+around : (end : ℕ) (Work : View → View → Type 0) (v w : View) (u : UnderLatch end Work v w) (x : View → View) → u.worked ≡ x u.loaded → w ≡ quiet leave_log (x (opened end v))
+around end Work v w u x e = leaves_view u.worked w u.leaves ∙ ap (quiet leave_log) (e ∙ ap x (opens_view end v u.loaded u.opens))
+
+pub insert_view : (relations : List RelEntry) (f : ℕ) (tag : Tag) (start : ℕ) (p : Page) (v w : View) → UnderLatch start (Enters relations f tag start p) v w → v.log.held ≡ false → w ≡ as_counted (inserted_view f (packed_tag tag) p (start + record_size) v) w
+insert_view relations f tag start p v w u free = let a = u.work.appends in
+    let entered : View → View = λ x. view_entered f (packed_tag tag) p (start + record_size) (quiet (log_back false) (counting (append f (packed_tag tag) p a.bytes) (x.device_calls ++ LogAppend true ∷ []) x.met x.saw_down (quiet (log_out a.went.taken) x))) in
+    let big : View = quiet leave_log (entered (opened start v)) in
+    let e : w ≡ big = around start (Enters relations f tag start p) v w u entered (u.work.after ∙ ap (view_entered f (packed_tag tag) p (start + record_size)) (appended_view u.loaded a.out a.went f (packed_tag tag) p a.bytes u.work.home a.did)) in
+    counted_as (inserted_view f (packed_tag tag) p (start + record_size) v) w big e (λ i. record big { log = (sym (free_log v u.opens.held u.opens.takes free)) i })
+
+-- the link of the frame then, which is one
+pub inserted_link : (relations : List RelEntry) (f : ℕ) (tag : Tag) (start : ℕ) (p : Page) (v w : View) → UnderLatch start (Enters relations f tag start p) v w → v.log.held ≡ false → link w f ≡ entered_link p (link v f)
+inserted_link relations f tag start p v w u free = ap (λ (x : View). link x f) (insert_view relations f tag start p v w u free) ∙ get_or-set_same v.links f (entered_link p (link v f)) idle inside
+  where
+    inside : f < length v.links
+    inside = let d = u.work.did in let a = u.work.appends in let wide = (d.laws.invariant.pool.core.views.wide d.seat u.work.home d.there d.live).0 in
+        let same : u.work.home.links ≡ v.links = ap (λ (x : View). x.links) (appended_view u.loaded a.out a.went f (packed_tag tag) p a.bytes u.work.home a.did) ∙ ap (λ (x : View). x.links) (opens_view start v u.loaded u.opens) in
+        let long = ap (λ (l : List Link). length l) same in let low = d.inside in omega arith
+
+-- and those of other frames
+pub other_links : (relations : List RelEntry) (f : ℕ) (tag : Tag) (start : ℕ) (p : Page) (v w : View) → UnderLatch start (Enters relations f tag start p) v w → v.log.held ≡ false → (g : ℕ) → g ≢ f → link w g ≡ link v g
+other_links relations f tag start p v w u free g n = ap (λ (x : View). link x g) (insert_view relations f tag start p v w u free) ∙ get_or-set_other v.links f g (entered_link p (link v f)) idle n
+
+-- the latch that is left is as it was
+left_hold : (v : View) (a : Option (List ℕ)) → v.log ≡ no_log → a ≡ v.log.appended → record no_log { appended = a } ≡ v.log
+left_hold v a free e = ap (λ (x : Option (List ℕ)). record no_log { appended = x }) (e ∙ ap (λ (h : LogHold). h.appended) free) ∙ sym free
+
+pub unentered_view : (relations : List RelEntry) (f : ℕ) (tag : Tag) (p : Page) (end : ℕ) (why : InsertError) (v w : View) → UnderLatch end (EnterRefused relations f tag p end why) v w → v.log.held ≡ false → w ≡ as_counted (refused_view why v) w
+unentered_view relations f tag p end (insert_error.LogFull at) v w u free = let none = free_log v u.opens.held u.opens.takes free in
+    let big : View = quiet leave_log (opened end v) in
+    counted_as v w big (around end (EnterRefused relations f tag p end (insert_error.LogFull at)) v w u (λ x. x) u.work.2) (λ i. record big { log = (ap (λ (h : LogHold). record h { held = false; synced = false; end = None }) none ∙ sym none) i })
+unentered_view relations f tag p end (insert_error.LogDown at) v w u free = let none = free_log v u.opens.held u.opens.takes free in
+    let found : View → View = λ x. record (downed x) { log = record x.log { out = None; change = Untouched }; steps = u.worked.steps } in
+    let big : View = quiet leave_log (found (opened end v)) in
+    counted_as (downed v) w big (around end (EnterRefused relations f tag p end (insert_error.LogDown at)) v w u found (down_view at u.loaded u.worked u.work.2)) (λ i. record big { log = (left_hold v v.log.appended none refl) i })
+unentered_view relations f tag p end insert_error.LogFault v w u free = let none = free_log v u.opens.held u.opens.takes free in let b = u.work.1 in
+    let failed : View → View = λ x. record (faulted x) { log = record x.log { out = None; change = Untouched }; device_calls = x.device_calls ++ LogAppend false ∷ []; steps = u.worked.steps } in
+    let big : View = quiet leave_log (failed (opened end v)) in
+    counted_as (refused_view insert_error.LogFault v) w big (around end (EnterRefused relations f tag p end insert_error.LogFault) v w u failed (unappended_view u.loaded b.out b.went f (packed_tag tag) (with_lsn (end + record_size) p) b.part b.faults u.worked b.fails)) (λ i. record big { log = (left_hold v v.log.appended none refl) i })
+
+-- Flushes
+flushed_view : (end : ℕ) (v w : View) → UnderLatch end Syncs v w → v.log.held ≡ false → w ≡ as_counted (synced_view v) w
+flushed_view end v w u free = let none = free_log v u.opens.held u.opens.takes free in let b = u.work in
+    let done : View → View = λ x. stepped (quiet (log_back false) (counting sync_log (x.device_calls ++ LogSync true ∷ []) x.met x.saw_down (quiet (log_out b.went.taken) x))) in
+    let big : View = quiet leave_log (done (opened end v)) in
+    counted_as (synced_view v) w big (around end Syncs v w u done (b.raises.after ∙ ap stepped (after_sync u.loaded b.out b.went b.home b.syncs))) (λ i. record big { log = (left_hold v v.log.appended none refl) i })
+
+unsynced : (lsn end : ℕ) (why : FlushLog) (v w : View) → UnderLatch end (SyncRefused lsn end why) v w → v.log.held ≡ false → w ≡ as_counted (unflushed_view why v) w
+unsynced lsn end (flush_log.LogShort l at) v w u free = let none = free_log v u.opens.held u.opens.takes free in
+    let big : View = quiet leave_log (opened end v) in
+    counted_as v w big (around end (SyncRefused lsn end (flush_log.LogShort l at)) v w u (λ x. x) u.work.3) (λ i. record big { log = (ap (λ (h : LogHold). record h { held = false; synced = false; end = None }) none ∙ sym none) i })
+unsynced lsn end (flush_log.LogDown at) v w u free = let none = free_log v u.opens.held u.opens.takes free in
+    let found : View → View = λ x. record (downed x) { log = record x.log { out = None; change = Untouched }; steps = u.worked.steps } in
+    let big : View = quiet leave_log (found (opened end v)) in
+    counted_as (downed v) w big (around end (SyncRefused lsn end (flush_log.LogDown at)) v w u found (down_view at u.loaded u.worked u.work.2)) (λ i. record big { log = (left_hold v v.log.appended none refl) i })
+unsynced lsn end flush_log.LogFault v w u free = let none = free_log v u.opens.held u.opens.takes free in let b = u.work.1 in
+    let failed : View → View = λ x. record (faulted x) { log = record x.log { out = None; change = Untouched; appended = None }; device_calls = x.device_calls ++ LogSync false ∷ []; steps = u.worked.steps } in
+    let big : View = quiet leave_log (failed (opened end v)) in
+    counted_as (unflushed_view flush_log.LogFault v) w big (around end (SyncRefused lsn end flush_log.LogFault) v w u failed (unsynced_view u.loaded b.out b.went b.synced b.faults u.worked b.fails)) (λ i. record big { log = (sym none) i })
+
+-- the flushed position is looked at
+saw : (found : ℕ) (v w : View) → DidWord load_flushed v w found → w ≡ as_looked v w
+saw found v w d = d.after ∙ ap (as_looked v) (sym d.after)
+
+looks_view : (lsn : ℕ) (v w : View) → Looks lsn v w → w ≡ as_looked v w
+looks_view lsn v w still = refl
+looks_view lsn v w (again {u = u} before s) = saw s.found u w s.did ∙ ap (λ (x : View). as_looked x w) (looks_view lsn v u before)
+
+-- what was counted under the latch, between looks
+unlooked : (t w : View) → w ≡ as_counted t w → w ≡ as_looked t w
+unlooked t w e = e ∙ (λ i. record (as_counted t w) { flushed = (sym (ap (λ (x : View). x.flushed) e)) i })
+
+still_free : (found : ℕ) (v w : View) → DidWord load_flushed v w found → v.log.held ≡ false → w.log.held ≡ false
+still_free found v w d free = ap (λ (x : View). x.log.held) d.after ∙ free
+
+pub sees : (lsn : ℕ) (v w : View) → SeesFlushed lsn v w → Flushed lsn v w
+sees lsn v w s = inl (s, saw s.found v w s.did)
+
+pub flushes : (lsn : ℕ) (v w : View) → Flushes lsn v w → v.log.held ≡ false → Flushed lsn v w
+flushes lsn v w b free = let t = b.tried in let s = t.first in inr (b, of_looks)
+  where
+    of_looks : w ≡ as_looked (synced_view v) w
+    of_looks = let t = b.tried in let s = t.first in let a = b.awaits in
+        saw a.sees.found a.last w a.sees.did ∙ ap (λ (x : View). as_looked x w) (looks_view lsn b.synced a.last a.waits)
+        ∙ ap (λ (x : View). as_looked x w) (unlooked (synced_view t.looked) b.synced (flushed_view b.end t.looked b.synced t.work (still_free s.found v t.looked s.did free)))
+        ∙ ap (λ (x : View). as_looked (synced_view x) w) (saw s.found v t.looked s.did)
+
+pub unflushed : (lsn end : ℕ) (why : FlushLog) (v w : View) → Tries lsn end (SyncRefused lsn end why) v w → v.log.held ≡ false → w ≡ as_looked (unflushed_view why v) w
+unflushed lsn end why v w t free = let s = t.first in
+    unlooked (unflushed_view why t.looked) w (unsynced lsn end why t.looked w t.work (still_free s.found v t.looked s.did free)) ∙ of_why why
+  where
+    of_why : (why : FlushLog) → as_looked (unflushed_view why t.looked) w ≡ as_looked (unflushed_view why v) w
+    of_why (flush_log.LogShort l at) = ap (λ (x : View). as_looked x w) (saw t.first.found v t.looked t.first.did)
+    of_why (flush_log.LogDown at) = ap (λ (x : View). as_looked (downed x) w) (saw t.first.found v t.looked t.first.did)
+    of_why flush_log.LogFault = ap (λ (x : View). as_looked (unflushed_view flush_log.LogFault x) w) (saw t.first.found v t.looked t.first.did)
+
+-- what is as it was where but for looks only calls of devices and faults are counted
+counted_work : (v w : View) (calls : List DeviceCall) (met : Met) (down : Bool) → w ≡ as_looked (record v { device_calls = calls; met = met; saw_down = down }) w → KeepsWork v w
+counted_work v w calls met down e = record {
+  number = ap (λ (x : View). x.number) e;
+  next = ap (λ (x : View). x.next) e;
+  joined = ap (λ (x : View). x.joined) e;
+  emptied = ap (λ (x : View). x.emptied) e;
+  links = ap (λ (x : View). x.links) e;
+  partitions = ap (λ (x : View). x.partitions) e;
+  lanes = ap (λ (x : View). x.lanes) e;
+  log = ap (λ (x : View). x.log) e;
+  calls = ap (λ (x : View). x.calls) e;
+  front = ap (λ (x : View). x.front) e;
+  place_loads = ap (λ (x : View). x.place_loads) e;
+  upto = ap (λ (x : View). x.upto) e;
+  kept = ap (λ (x : View). x.kept) e;
+}
+
+pub flushed_work : (lsn : ℕ) (v w : View) → Flushed lsn v w → KeepsWork v w
+flushed_work lsn v w (inl s) = counted_work v w v.device_calls v.met v.saw_down s.1
+flushed_work lsn v w (inr s) = counted_work v w (v.device_calls ++ LogSync true ∷ []) v.met v.saw_down s.1
+
+pub unflushed_work : (why : FlushLog) (v w : View) → w ≡ as_looked (unflushed_view why v) w → KeepsWork v w
+unflushed_work (flush_log.LogShort l at) v w e = counted_work v w v.device_calls v.met v.saw_down e
+unflushed_work (flush_log.LogDown at) v w e = counted_work v w v.device_calls v.met true e
+unflushed_work flush_log.LogFault v w e = counted_work v w (v.device_calls ++ LogSync false ∷ []) (record v.met { logs = v.met.logs + 1 }) true e
+
+pub refused_work : (why : InsertError) (v w : View) → w ≡ as_counted (refused_view why v) w → KeepsWork v w
+refused_work (insert_error.LogFull at) v w e = counted_work v w v.device_calls v.met v.saw_down (unlooked v w e)
+refused_work (insert_error.LogDown at) v w e = counted_work v w v.device_calls v.met true (unlooked (downed v) w e)
+refused_work insert_error.LogFault v w e = counted_work v w (v.device_calls ++ LogAppend false ∷ []) (record v.met { logs = v.met.logs + 1 }) true (unlooked (refused_view insert_error.LogFault v) w e)

@@ -1,0 +1,92 @@
+-- The log is flushed, or why not.
+use Rattle.std.specs.Prelude.{◌≡◌, ℕ, ◌<◌, ◌≤◌, true, false, [], ◌∷◌, ◌++◌}
+use mathlib.Core.Logic.{◌⊎◌}
+use Rattle.pin_core.specs.declared.view.DeviceCall.TheVariants.{LogSync}
+use Rattle.pin_core.specs.declared.view.View.{View}
+use Rattle.history_core.specs.Device.{sync_log, fail_sync, log_back}
+use Rattle.frame_table.specs.Behind.{DidWord, load_flushed, raise_flushed}
+use Rattle.frame_table.specs.LogWork.{DidTwo}
+use Rattle.wal_flush.specs.declared.flushes.FlushLog.{FlushLog}
+use Rattle.wal_flush.specs.declared.flushes.FlushLog.TheVariants.{LogShort, LogDown, LogFault}
+use Rattle.wal_flush.specs.Latched.{FindsDown, GoesOutUp, UnderLatch, downed, faulted}
+
+-- The flushed position was loaded, and it is at `lsn` or behind it
+pub record SeesFlushed (lsn : ℕ) (v w : View) : Type 0 where
+  pub found : ℕ
+  pub did : DidWord load_flushed v w found
+  pub enough : lsn ≤ found
+
+-- it is before `lsn`
+pub record SeesUnflushed (lsn : ℕ) (v w : View) : Type 0 where
+  pub found : ℕ
+  pub did : DidWord load_flushed v w found
+  pub before : found < lsn
+
+-- so it was, any number of times
+pub data Looks (lsn : ℕ) : View → View → Type 0 where
+  still : {v : View} → Looks lsn v v
+  again : {v u w : View} → Looks lsn v u → SeesUnflushed lsn u w → Looks lsn v w
+
+-- It was loaded until it was at `lsn` or behind it
+pub record Awaits (lsn : ℕ) (v w : View) : Type 0 where
+  pub last : View
+  pub waits : Looks lsn v last
+  pub sees : SeesFlushed lsn last w
+
+-- The one call of the log was a sync, which was done, and the flushed position was raised to the log's end
+pub record Syncs (v w : View) : Type 0 where
+  pub out : View
+  pub home : View
+  pub found : ℕ
+  pub went : GoesOutUp v out
+  pub syncs : DidTwo sync_log (log_back false) out home
+  pub raises : DidWord raise_flushed home w found
+
+-- The one call of the log was a sync, which failed
+pub record FailsToSync (v w : View) : Type 0 where
+  pub out : View
+  pub synced : ℕ
+  pub faults : ℕ
+  pub went : GoesOutUp v out
+  pub fails : DidTwo (fail_sync synced faults) (log_back true) out w
+
+-- Why the log is not flushed up to `lsn` where it ends at `end`, and what was done
+abbrev pub SyncRefused : ℕ → ℕ → FlushLog → View → View → Type 0
+SyncRefused lsn end (LogShort l e) v w = (l ≡ lsn) × (e ≡ end) × (end < lsn) × (w ≡ v)
+SyncRefused lsn end (LogDown at) v w = (at ≡ end) × (lsn ≤ end) × FindsDown at v w
+SyncRefused lsn end LogFault v w = (lsn ≤ end) × FailsToSync v w
+
+-- The flushed position was loaded, and was before `lsn`; then this was done under the log's latch, where the log ends at `end`
+pub record Tries (lsn end : ℕ) (Work : View → View → Type 0) (v w : View) : Type 0 where
+  pub looked : View
+  pub first : SeesUnflushed lsn v looked
+  pub work : UnderLatch end Work looked w
+
+abbrev pub FlushRefused : ℕ → View → View → FlushLog → Type 0
+FlushRefused lsn v w why = (end : ℕ) × Tries lsn end (SyncRefused lsn end why) v w
+
+-- The log, which ends at `lsn` or behind it, was synced once, and then the flushed position was awaited
+pub record Flushes (lsn : ℕ) (v w : View) : Type 0 where
+  pub end : ℕ
+  pub synced : View
+  pub within : lsn ≤ end
+  pub tried : Tries lsn end Syncs v synced
+  pub awaits : Awaits lsn synced w
+
+-- the view v, with the steps and loads that w counts, and the flushed position that w has seen
+abbrev pub as_looked : View → View → View
+as_looked v w = record v { steps = w.steps; loads = w.loads; flushed = w.flushed }
+
+-- the view after a sync
+abbrev pub synced_view : View → View
+synced_view v = record v { device_calls = v.device_calls ++ LogSync true ∷ [] }
+
+-- The log is flushed up to `lsn`: it was so already, and the view called no device, or one sync was done
+abbrev pub Flushed : ℕ → View → View → Type 0
+Flushed lsn v w = (SeesFlushed lsn v w × (w ≡ as_looked v w)) ⊎ (Flushes lsn v w × (w ≡ as_looked (synced_view v) w))
+
+-- the view after a refusal
+abbrev pub unflushed_view : FlushLog → View → View
+unflushed_view (LogShort lsn end) v = v
+unflushed_view (LogDown at) v = downed v
+unflushed_view LogFault v = record (faulted v) { device_calls = v.device_calls ++ LogSync false ∷ [] }

@@ -1,0 +1,3 @@
+pub mod Latched
+pub mod Inserts
+pub mod Flushes

@@ -1,0 +1,117 @@
+//! Flushes (`XLogFlush`).
+ghost use Rattle.std.specs.Prelude.{◌≡◌, ◌<◌, ◌≤◌, false, IfErr, IfOk, MatchResult};
+ghost use Rattle.table_rule.specs.declared.turn.Turn.TheVariants.{Log};
+ghost use Rattle.frame_table.specs.Sees.{CanTurn, IsSeat, SameSeat};
+ghost use Rattle.frame_table.specs.Turning.{MayLeave};
+ghost use Rattle.wal_flush.specs.Latched.{KeepsWork, opened_log};
+ghost use Rattle.wal_flush.specs.Flushes.{Awaits, Flushed, FlushRefused, SyncRefused, Syncs, as_looked, unflushed_view};
+
+use crate::outings::{take_end, take_log};
+use atomic_table::Seat;
+use frame_table::{FrameTable, Turn, Value};
+use log_device::LogDevice;
+use page_layout::Lsn;
+use pin_core::View;
+use segment_store::BlockLane;
+use std::sync::Wait;
+use thiserror::Error;
+
+/// Why the log was not flushed.
+#[derive(Clone, Copy, PartialEq, Eq, Debug, Error)]
+pub enum FlushLog {
+    /// The position asked for is behind the log's end.
+    #[error("the log ends at {end}, before {lsn}")]
+    LogShort { lsn: Lsn, end: Lsn },
+    /// A call of the log failed before, where the log ended here.
+    #[error("the log is down at {at}")]
+    LogDown { at: Lsn },
+    /// The sync failed: the log is down from now on.
+    #[error("the log failed")]
+    LogFault,
+}
+
+/// Syncs the log, and raises the flushed position to its end, as it was loaded under the latch.
+fn sync<L: BlockLane, G: LogDevice>(
+    table: &FrameTable<L, G>,
+    seat: &mut Seat<Value<L, G>, View>,
+    lsn: Lsn,
+    end: Lsn,
+) -> Result<(), FlushLog>
+    requires seat { CanTurn table.now seat.old Log }
+    requires held { seat.old.me.0.log ≡ opened_log end }
+    ensures seat { SameSeat seat.old seat.new }
+    ensures can { CanTurn table.now seat.new Log }
+    ensures leaves { MayLeave Log seat.new.me.0 }
+    ensures synced { IfOk result (λ _. (lsn ≤ end) × Syncs seat.old.me.0 seat.new.me.0) }
+    ensures cause { IfErr result (λ why. SyncRefused lsn end why seat.old.me.0 seat.new.me.0) }
+{
+    if lsn > end {
+        return Err(FlushLog::LogShort { lsn, end });
+    }
+    let mut log = match take_log(table, seat) {
+        Ok(log) => log,
+        Err(at) => return Err(FlushLog::LogDown { at }),
+    };
+    let result = log.sync(end);
+    table.log_back(seat, log);
+    match result {
+        Ok(()) => {
+            table.raise_flushed(seat, end);
+            Ok(())
+        }
+        Err(_failed) => Err(FlushLog::LogFault),
+    }
+}
+
+/// Loads the flushed position until it is at `lsn` or behind it. Once it was raised so far the first load shows it, since it never falls; but what this backend knows of it is what it loads.
+fn await_flushed<L: BlockLane, G: LogDevice, R: Wait>(
+    table: &FrameTable<L, G>,
+    rt: &R,
+    seat: &mut Seat<Value<L, G>, View>,
+    lsn: Lsn,
+)
+    requires { IsSeat table.now seat.old }
+    ensures seat { SameSeat seat.old seat.new }
+    ensures flushed { lsn ≤ seat.new.me.0.flushed }
+    ensures did { Awaits lsn seat.old.me.0 seat.new.me.0 }
+{
+    for _ in rt.forever() {
+        if lsn <= table.load_flushed(seat) {
+            return;
+        }
+    }
+    unreachable!()
+}
+
+/// Makes the log durable up to the position `lsn`, and the backend has seen the flushed position at `lsn` or behind it then (`XLogFlush`).
+///
+/// Where the flushed position is so far already no device is called. Else it waits for the log's latch, and makes one sync at most. It refuses where the log ends before `lsn`, then where it is down, then where the sync fails.
+pub fn flush_to<L: BlockLane, G: LogDevice, R: Wait>(
+    table: &FrameTable<L, G>,
+    rt: &R,
+    seat: &mut Seat<Value<L, G>, View>,
+    lsn: Lsn,
+) -> Result<(), FlushLog>
+    requires seat { IsSeat table.now seat.old }
+    requires free { seat.old.me.0.log.held ≡ false }
+    ensures seat { SameSeat seat.old seat.new }
+    ensures work { KeepsWork seat.old.me.0 seat.new.me.0 }
+    ensures flushed { MatchResult result (λ _. lsn ≤ seat.new.me.0.flushed) (λ _. seat.new.me.0.flushed < lsn) }
+    ensures left { IfErr result (λ why. seat.new.me.0 ≡ as_looked (unflushed_view why seat.old.me.0) seat.new.me.0) }
+    ensures did { IfOk result (λ _. Flushed lsn seat.old.me.0 seat.new.me.0) }
+    ensures cause { IfErr result (FlushRefused lsn seat.old.me.0 seat.new.me.0) }
+{
+    if lsn <= table.load_flushed(seat) {
+        return Ok(());
+    }
+    let end = take_end(table, rt, seat);
+    let result = sync(table, seat, lsn, end);
+    table.leave_turn(seat, Turn::Log);
+    match result {
+        Ok(()) => {
+            await_flushed(table, rt, seat, lsn);
+            Ok(())
+        }
+        Err(why) => Err(why),
+    }
+}

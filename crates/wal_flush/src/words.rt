@@ -1,0 +1,38 @@
+//! The log's two positions.
+ghost use Rattle.std.specs.Prelude.{◌≡◌, ◌≤◌};
+ghost use Rattle.frame_table.specs.Behind.{DidWord, load_end, load_flushed, view_of};
+ghost use Rattle.frame_table.specs.Sees.{IsSeat, SameSeat};
+
+use atomic_table::Seat;
+use frame_table::{EndLoad, FrameTable, Value};
+use log_device::LogDevice;
+use page_layout::Lsn;
+use pin_core::View;
+use segment_store::BlockLane;
+
+/// The log's end, as it is loaded (`GetXLogInsertRecPtr`).
+pub fn log_end<L: BlockLane, G: LogDevice>(
+    table: &FrameTable<L, G>,
+    seat: &mut Seat<Value<L, G>, View>,
+) -> Lsn
+    requires { IsSeat table.now seat.old }
+    ensures seat { SameSeat seat.old seat.new }
+    ensures view { seat.new.me.0 ≡ view_of load_end result seat.old.me.0 }
+    ensures front { seat.old.me.0.front ≤ result }
+    ensures did { DidWord load_end seat.old.me.0 seat.new.me.0 result }
+{
+    table.load_log_end(seat, EndLoad::Plain)
+}
+
+/// The position up to which the log is flushed, as it is loaded (`GetFlushRecPtr`).
+pub fn flushed<L: BlockLane, G: LogDevice>(
+    table: &FrameTable<L, G>,
+    seat: &mut Seat<Value<L, G>, View>,
+) -> Lsn
+    requires { IsSeat table.now seat.old }
+    ensures seat { SameSeat seat.old seat.new }
+    ensures view { seat.new.me.0 ≡ view_of load_flushed result seat.old.me.0 }
+    ensures did { DidWord load_flushed seat.old.me.0 seat.new.me.0 result }
+{
+    table.load_flushed(seat)
+}
