@@ -1,5 +1,5 @@
 -- How a frame is chosen, and why none is (`StrategyGetBuffer`).
-use Rattle.std.specs.Prelude.{◌≡◌, ℕ, ◌-◌, ◌<◌, ◌≤◌, ◌%◌, zero, suc, Bool, true, false, List, [], ◌∷◌, ◌++◌, Option, Some, None, option_map, if◌then◌else◌}
+use Rattle.std.specs.Prelude.{◌≡◌, ℕ, ◌+◌, ◌-◌, ◌<◌, ◌≤◌, ◌%◌, Bool, true, false, List, [], ◌∷◌, ◌++◌, Option, Some, None, option_map, if◌then◌else◌}
 use Rattle.std.specs.Option.{option_and_then}
 use mathlib.Core.Logic.{◌⊎◌}
 use Rattle.state_word.specs.declared.word.StateWord.{StateWord}
@@ -51,21 +51,25 @@ pub record Leaves (limit f : ℕ) (v w : View) : Type 0 where
 abbrev pub usage_allowed : Bool → ℕ
 usage_allowed from_ring = if from_ring then 1 else 0
 
--- What stands at the ring's place is not taken: nothing, or no frame of the n, or one that was left
+-- The frame f is not taken: it is none of the n, or it was left
+pub data Skips (n limit f : ℕ) (v w : View) : Type 0 where
+  beyond : n ≤ f → w ≡ v → Skips n limit f v w
+  unfit : f < n → Leaves limit f v w → Skips n limit f v w
+
+-- Nothing stands at the ring's place, or a frame that is not taken
 pub data LeavesRing (n : ℕ) (place : Option ℕ) (v w : View) : Type 0 where
   empty : place ≡ None → w ≡ v → LeavesRing n place v w
-  beyond : (f : ℕ) → place ≡ Some f → n ≤ f → w ≡ v → LeavesRing n place v w
-  unfit : (f : ℕ) → place ≡ Some f → f < n → Leaves 1 f v w → LeavesRing n place v w
+  tried : (f : ℕ) → place ≡ Some f → Skips n 1 f v w → LeavesRing n place v w
 
--- the view v became w as frames of the free list were left
+-- the view v became w as frames of the free list were not taken
 pub data LeavesFree (n : ℕ) : View → View → Type 0 where
   still : {v : View} → LeavesFree n v v
-  again : {v u w : View} (f : ℕ) → LeavesFree n v u → f < n → Leaves 0 f u w → LeavesFree n v w
+  again : {v u w : View} (f : ℕ) → LeavesFree n v u → Skips n 0 f u w → LeavesFree n v w
 
 -- The frames below a number were loaded in order, with these words, each of which shows a pin; and at each load the backend pinned just what it pinned at `entry`
 pub data Counts (entry v : View) : ℕ → View → List ℕ → Type 0 where
   nothing : Counts entry v 0 v []
-  one_more : {f : ℕ} {u w : View} {words : List ℕ} (word : ℕ) → Counts entry v f u words → SamePins entry u → Did looking f u w word → 0 < (fields word).pins → Counts entry v (suc f) w (words ++ word ∷ [])
+  one_more : {f : ℕ} {u w : View} {words : List ℕ} (word : ℕ) → Counts entry v f u words → SamePins entry u → Did looking f u w word → 0 < (fields word).pins → Counts entry v (f + 1) w (words ++ word ∷ [])
 
 -- The frame f, below n, is the first in a census that no backend pins
 pub record FindsUnpinned (n f : ℕ) (v w : View) : Type 0 where

@@ -1,6 +1,5 @@
 -- What a choice leaves of the view.
 use Rattle.std.specs.Prelude.{◌≡◌, ◌≢◌, ℕ}
-use Rattle.pin_core.specs.declared.view.Link.{Link}
 use Rattle.pin_core.specs.declared.view.View.{View}
 use Rattle.pin_core.specs.State.{link}
 use Rattle.frame_table.specs.Sees.{Looked, SameSelf, locked_link}

@@ -44,7 +44,7 @@ fn keep_place(ring: &mut Option<Ring>, held: &Held)
     }
 }
 
-/// Takes the frame of the ring's place, if it is one of the pool and fit (`GetBufferFromRing`).
+/// Takes the frame of the ring's place, if there is one and it is fit (`GetBufferFromRing`).
 fn from_ring<L: BlockLane, G: LogDevice, R: Wait>(
     table: &FrameTable<L, G>,
     rt: &R,
@@ -58,11 +58,7 @@ fn from_ring<L: BlockLane, G: LogDevice, R: Wait>(
     ensures takes { IfSome result (λ held. Takes 1 held seat.old.me.0 seat.new.me.0) }
     ensures leaves { IfNone result (LeavesRing (frames_of table.now) place seat.old.me.0 seat.new.me.0) }
 {
-    let frame = place?;
-    if frame >= table.frames() {
-        return None;
-    }
-    try_frame(table, rt, seat, frame, true)
+    try_frame(table, rt, seat, place?, true)
 }
 
 /// Takes the first frame of the free list that is fit. Those before it are off the list.
@@ -81,10 +77,7 @@ fn from_free_list<L: BlockLane, G: LogDevice, R: Wait>(
 {
     for _ in rt.forever() {
         let frame = sweep.take(rt)?;
-        // the list may be of another pool, and it is a hint alone
-        if frame < table.frames()
-            && let Some(held) = try_frame(table, rt, seat, frame, false)
-        {
+        if let Some(held) = try_frame(table, rt, seat, frame, false) {
             return Some(held);
         }
     }
@@ -123,9 +116,13 @@ pub fn victim<L: BlockLane, G: LogDevice, R: Wait>(
 {
     census.clear();
     let place = next_place(ring);
-    let held = choose(table, rt, seat, sweep, census, place)?;
-    keep_place(ring, &held);
-    Ok(held)
+    match choose(table, rt, seat, sweep, census, place) {
+        Ok(held) => {
+            keep_place(ring, &held);
+            Ok(held)
+        }
+        Err(why) => Err(why),
+    }
 }
 
 /// Asks the ring's place, the free list and the clock, in this order.

@@ -6,6 +6,7 @@ use std::alloc::Global;
 use std::sync::{Mutex, Wait};
 
 /// The free list of a pool, which the backends share (`BufferStrategyControl`).
+#[derive(Drop)]
 pub struct Sweep {
     list: Mutex<FreeList>,
 }
