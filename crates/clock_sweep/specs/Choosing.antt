@@ -12,8 +12,8 @@ use Rattle.frame_table.specs.Tells.{Did, DidHeld, Looks, looking}
 use Rattle.frame_table.specs.Behind.{DidWord, add_hand}
 use Rattle.access_rings.specs.RingState.{RingState, frame_at_current, ring_after_keep, ring_after_next}
 use Rattle.clock_sweep.specs.declared.held.Held.{Held}
-use Rattle.clock_sweep.specs.declared.taking.Treated.{Treated}
-use Rattle.clock_sweep.specs.declared.taking.Treated.TheVariants.{Chosen, Passed}
+use Rattle.clock_sweep.specs.declared.clock.Treated.{Treated}
+use Rattle.clock_sweep.specs.declared.clock.Treated.TheVariants.{Chosen, Passed}
 use Rattle.clock_sweep.specs.Keeping.{SamePins}
 
 -- The header of the frame f was locked, after loads, and its word is held

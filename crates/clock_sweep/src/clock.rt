@@ -3,19 +3,18 @@ ghost use Rattle.std.specs.Prelude.{◌≡◌, ◌<◌, ◌≤◌, ℕ, false, I
 ghost use Rattle.pin_core.specs.declared.view.View.{View};
 ghost use Rattle.pin_core.specs.Steps.{HoldsNoHeader};
 ghost use Rattle.frame_table.specs.Behind.{DidWord, load_hand, view_of};
-ghost use Rattle.frame_table.specs.Sees.{IsSeat, SameSeat, frames_of};
+ghost use Rattle.frame_table.specs.Sees.{CanStep, IsSeat, SameSeat, frames_of};
 ghost use Rattle.clock_sweep.specs.CensusList.{new_census};
-ghost use Rattle.clock_sweep.specs.Choosing.{Comes, Counts, FindsUnpinned, NextIs, Sweeps, Takes};
+ghost use Rattle.clock_sweep.specs.Choosing.{Comes, Counts, FindsUnpinned, NextIs, Sweeps, Takes, Treats};
 
 use crate::census::Census;
 use crate::held::{Held, NoUnpinned};
-use crate::taking::{Treated, treat};
 use atomic_table::Seat;
 use frame_table::{FrameTable, Value};
 use log_device::LogDevice;
 use pin_core::View;
 use segment_store::BlockLane;
-use state_word::pins;
+use state_word::{pins, usage};
 use std::sync::Wait;
 
 /// The next frame of the clock, and how many tries are left.
@@ -23,6 +22,14 @@ use std::sync::Wait;
 struct Next {
     frame: u32,
     tries: u32,
+}
+
+/// What the clock does with a frame.
+enum Treated {
+    /// It is the victim.
+    Chosen(Held),
+    /// The clock goes on, with so many tries left.
+    Passed(u32),
 }
 
 /// The clock's hand, as it was loaded: it counts up, and points at its remainder by the number of frames.
@@ -92,6 +99,36 @@ fn next_frame<L: BlockLane, G: LogDevice>(
     Some(Next {
         frame: (hand % u64::from(table.frames())) as u32,
         tries,
+    })
+}
+
+/// A tick of the clock at a frame, with so many tries left.
+fn treat<L: BlockLane, G: LogDevice, R: Wait>(
+    table: &FrameTable<L, G>,
+    rt: &R,
+    seat: &mut Seat<Value<L, G>, View>,
+    frame: u32,
+    tries: u32,
+) -> Treated
+    requires seat { CanStep table.now seat.old frame }
+    requires headless { HoldsNoHeader seat.old.me.0 }
+    requires tries { 0 < tries }
+    ensures seat { SameSeat seat.old seat.new }
+    ensures treats { Treats (frames_of table.now) frame tries seat.old.me.0 seat.new.me.0 result }
+{
+    let word = table.lock_header(rt, seat, frame);
+    if pins(word) != 0 {
+        table.unlock_header(seat, frame);
+        return Treated::Passed(tries - 1);
+    }
+    if usage(word) != 0 {
+        table.lower_usage(seat, frame);
+        return Treated::Passed(table.frames());
+    }
+    Treated::Chosen(Held {
+        frame,
+        word,
+        from_ring: false,
     })
 }
 

@@ -1,10 +1,10 @@
-//! What is done with a frame that the choice comes to: each decision is made under its header.
+//! A frame of the ring, or of the free list, is taken: that is decided under its header.
 ghost use Rattle.std.specs.Prelude.{◌≡◌, ◌<◌, ◌≤◌, IfNone, IfSome};
 ghost use Rattle.std.specs.Bool.{OnFalse, OnTrue};
 ghost use Rattle.state_word.specs.Fields.{fields};
 ghost use Rattle.pin_core.specs.Steps.{HoldsNoHeader};
-ghost use Rattle.frame_table.specs.Sees.{CanStep, IsSeat, SameSeat, frames_of};
-ghost use Rattle.clock_sweep.specs.Choosing.{IsFit, IsUnfit, Skips, Takes, Treats, usage_allowed};
+ghost use Rattle.frame_table.specs.Sees.{IsSeat, SameSeat, frames_of};
+ghost use Rattle.clock_sweep.specs.Choosing.{IsFit, IsUnfit, Skips, Takes, usage_allowed};
 
 use crate::held::Held;
 use atomic_table::Seat;
@@ -14,14 +14,6 @@ use pin_core::View;
 use segment_store::BlockLane;
 use state_word::{pins, usage};
 use std::sync::Wait;
-
-/// What the clock does with a frame.
-pub(crate) enum Treated {
-    /// It is the victim.
-    Chosen(Held),
-    /// The clock goes on, with so many tries left.
-    Passed(u32),
-}
 
 /// Whether no backend pins a frame, and its usage count is low enough: 0, or at most 1 where it comes from the ring.
 fn is_fit(word: u64, from_ring: bool) -> bool
@@ -61,34 +53,4 @@ pub(crate) fn try_frame<L: BlockLane, G: LogDevice, R: Wait>(
     }
     table.unlock_header(seat, frame);
     None
-}
-
-/// A tick of the clock at a frame, with so many tries left.
-pub(crate) fn treat<L: BlockLane, G: LogDevice, R: Wait>(
-    table: &FrameTable<L, G>,
-    rt: &R,
-    seat: &mut Seat<Value<L, G>, View>,
-    frame: u32,
-    tries: u32,
-) -> Treated
-    requires seat { CanStep table.now seat.old frame }
-    requires headless { HoldsNoHeader seat.old.me.0 }
-    requires tries { 0 < tries }
-    ensures seat { SameSeat seat.old seat.new }
-    ensures treats { Treats (frames_of table.now) frame tries seat.old.me.0 seat.new.me.0 result }
-{
-    let word = table.lock_header(rt, seat, frame);
-    if pins(word) != 0 {
-        table.unlock_header(seat, frame);
-        return Treated::Passed(tries - 1);
-    }
-    if usage(word) != 0 {
-        table.lower_usage(seat, frame);
-        return Treated::Passed(table.frames());
-    }
-    Treated::Chosen(Held {
-        frame,
-        word,
-        from_ring: false,
-    })
 }

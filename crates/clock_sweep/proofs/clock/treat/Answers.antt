@@ -1,7 +1,7 @@
 use Rattle.std.proofs.Common.{arith, refl}
 use Rattle.clock_sweep.specs.Choosing.{lowers, leaves}
 use Rattle.clock_sweep.proofs.Keeping.{holds, locks_of}
-use Rattle.clock_sweep.proofs.taking.treat.Goals as goal
+use Rattle.clock_sweep.proofs.clock.treat.Goals as goal
 
 pub unlock_header-requires-clause-held : goal.unlock_header-requires-clause-held
 unlock_header-requires-clause-held g c = holds _ _ _ _ (locks_of _ _ _ _ c.lock_header-word.ensures.did) c.requires.headless
