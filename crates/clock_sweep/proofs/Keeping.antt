@@ -1,0 +1,291 @@
+-- What the steps of a choice leave of the view.
+use Rattle.std.proofs.Common.{◌≡◌, ◌≢◌, ℕ, Option, IfNone, Result, Ok, Err, IfOk, IfErr, ◌<◌, ◌≤◌, List, [], ◌∷◌, length, Bool, true, false, Some, None, sym, refl, ap, ◌∙◌, subst, arith, length-append}
+use mathlib.Core.Logic.{dite}
+use native.Mathlib.Decide.{ℕ_discrete}
+use Rattle.atomic_table.specs.declared.shared.Seat.{Seat}
+use Rattle.state_word.specs.Fields.{fields, locked_fields}
+use Rattle.pin_core.specs.declared.view.View.{View}
+use Rattle.pin_core.specs.declared.view.Link.{Link}
+use Rattle.pin_core.specs.State.{link}
+use Rattle.pin_core.specs.Kinds as pin
+use Rattle.pin_core.specs.Steps.{HoldsNoHeader}
+use Rattle.history_core.specs.State.{State}
+use Rattle.table_rule.specs.declared.value.Value.{Value}
+use Rattle.frame_table.specs.declared.table.FrameTable.{FrameTable}
+use Rattle.frame_table.specs.Kinds.{pins, view_after}
+use Rattle.frame_table.specs.Behind.{DidWord, add_hand}
+use Rattle.frame_table.specs.Sees.{CanStep, Holds, IsSeat, Looked, SameSeat, frames_of, locked_link, unlocked_link}
+use Rattle.frame_table.specs.Tells.{Did, DidHeld, Looks, still, again, looking}
+use Rattle.frame_table.proofs.Told.{touches, link_is, looked, looked_on, looked_same, locked_after, looks_touch, looks_link, touches_none}
+use Rattle.clock_sweep.specs.Keeping.{SameAside, Keeps, GetsHeader, SamePins}
+use Rattle.clock_sweep.specs.Choosing as choice
+use Rattle.clock_sweep.specs.Choosing.{Locks, Leaves, Skips, LeavesRing, LeavesFree, Counts, FindsUnpinned, NextIs, Passes, Sweeps, Comes, Chooses, FindsNone, Takes}
+use Rattle.clock_sweep.specs.declared.held.Held.{Held}
+
+-- what steps leave apart from frames
+pub aside_none : (v : View) → SameAside v v
+aside_none v = record { self = (touches_none 0 v).self; partitions = refl; marked = refl; had_output = refl; last_ended = refl }
+
+pub aside_on : (v u w : View) → SameAside v u → SameAside u w → SameAside v w
+aside_on v u w a b = record {
+  self = record {
+    number = b.self.number ∙ a.self.number;
+    next = b.self.next ∙ a.self.next;
+    joined = b.self.joined ∙ a.self.joined;
+    emptied = b.self.emptied ∙ a.self.emptied;
+    lanes = b.self.lanes ∙ a.self.lanes;
+    log = b.self.log ∙ a.self.log;
+    flushed = b.self.flushed ∙ a.self.flushed;
+    calls = b.self.calls ∙ a.self.calls;
+    front = b.self.front ∙ a.self.front;
+    place_loads = b.self.place_loads ∙ a.self.place_loads;
+    upto = b.self.upto ∙ a.self.upto;
+    kept = b.self.kept ∙ a.self.kept;
+    device_calls = b.self.device_calls ∙ a.self.device_calls;
+    met = b.self.met ∙ a.self.met;
+    saw_down = b.self.saw_down ∙ a.self.saw_down;
+  };
+  partitions = b.partitions ∙ a.partitions;
+  marked = b.marked ∙ a.marked;
+  had_output = b.had_output ∙ a.had_output;
+  last_ended = b.last_ended ∙ a.last_ended;
+}
+
+-- a step of a kind that names no pair
+module _ (k : pin.Kind) (none : (s : State) (f : ℕ) (v : View) → (view_after (pins k) s f v).partitions ≡ v.partitions) (f found : ℕ) (v w : View) (d : Did (pins k) f v w found) where
+  pub aside : SameAside v w
+  aside = let t = touches (pins k) none f found v w d in record {
+    self = t.self;
+    partitions = t.partitions;
+    marked = ap (λ (x : View). x.dirtied_or_synced) d.after;
+    had_output = ap (λ (x : View). x.had_output) d.after;
+    last_ended = ap (λ (x : View). x.last_ended) d.after;
+  }
+
+  pub others : (g : ℕ) → g ≢ f → link w g ≡ link v g
+  others = (touches (pins k) none f found v w d).others
+
+-- a view that keeps all, one step after the other
+pub keeps_none : (v : View) → Keeps v v
+keeps_none v = record { aside = aside_none v; links = λ g. looked_same (link v g) (link v g) refl }
+
+pub keeps_on : (v u w : View) → Keeps v u → Keeps u w → Keeps v w
+keeps_on v u w a b = record { aside = aside_on v u w a.aside b.aside; links = λ g. looked_on (link v g) (link u g) (link w g) (a.links g) (b.links g) }
+
+pub keeps_same : (v w : View) → w ≡ v → Keeps v w
+keeps_same v w e = subst (Keeps v) (sym e) (keeps_none v)
+
+pub headless_on : (v w : View) → Keeps v w → HoldsNoHeader v → HoldsNoHeader w
+headless_on v w a none g = (a.links g).header ∙ none g
+
+pub same_pins : (v w : View) → Keeps v w → SamePins v w
+same_pins v w a g = (a.links g).role
+
+-- loads
+pub keeps_looking : (f found : ℕ) (v w : View) → Did looking f v w found → Keeps v w
+keeps_looking f found v w d = record {
+  aside = aside pin.load_state (λ s g x. refl) f found v w d;
+  links = λ g. dite (ℕ_discrete g f)
+      (λ e. subst (λ (x : ℕ). Looked (link v x) (link w x)) (sym e) (looked f found v w d))
+      (λ n. looked_same (link v g) (link w g) (others pin.load_state (λ s h x. refl) f found v w d g n));
+}
+
+pub keeps_looks : (f : ℕ) (v w : View) → Looks f v w → Keeps v w
+keeps_looks f v w still = keeps_none v
+keeps_looks f v w (again {u = u} found before d) = keeps_on v u w (keeps_looks f v u before) (keeps_looking f found u w d)
+
+-- the hand moves on
+pub keeps_hand : (found : ℕ) (v w : View) → DidWord add_hand v w found → Keeps v w
+keeps_hand found v w d = subst (Keeps v) (sym d.after) record {
+  aside = record {
+    self = record { number = refl; next = refl; joined = refl; emptied = refl; lanes = refl; log = refl; flushed = refl; calls = refl; front = refl; place_loads = refl; upto = refl; kept = refl; device_calls = refl; met = refl; saw_down = refl };
+    partitions = refl;
+    marked = refl;
+    had_output = refl;
+    last_ended = refl;
+  };
+  links = λ g. looked_same (link v g) (link v g) refl;
+}
+
+-- the header of a frame is locked, and given up
+pub locks_of : (f word : ℕ) (v w : View) → ((u : View) × (was : ℕ) × Looks f v u × Did (pins pin.lock_header) f u w was × (fields word ≡ locked_fields (fields was))) → Locks f v w word
+locks_of f word v w a = record { before = a.0; was = a.1; looks = a.2; did = a.3; held = a.4 }
+
+module _ (f word : ℕ) (v w : View) (locks : Locks f v w word) where
+  pub gets : GetsHeader f word v w
+  gets = let before = looks_touch f v locks.before locks.looks in record {
+    aside = aside_on v locks.before w (keeps_looks f v locks.before locks.looks).aside (aside pin.lock_header (λ s g x. refl) f locks.was locks.before w locks.did);
+    here = locked_after f locks.was word v locks.before w locks.looks locks.did locks.held;
+    others = λ g n. looked_same (link v g) (link w g) (others pin.lock_header (λ s h x. refl) f locks.was locks.before w locks.did g n ∙ before.others g n);
+  }
+
+  -- no tag word is stored where no header is held
+  pub settled : HoldsNoHeader v → (link w f).pending ≡ false
+  settled none = gets.here.pending ∙ sym (looks_link f v locks.before locks.looks).pending ∙ of_pending (link locks.before f).pending refl
+    where
+      of_pending : (b : Bool) → (link locks.before f).pending ≡ b → b ≡ false
+      of_pending false e = refl
+      of_pending true e = absurd (((locks.did.laws.invariant.pool.core.grid.cells locks.did.seat locks.before f locks.did.there locks.did.inside).pending e).held ((looks_link f v locks.before locks.looks).header ∙ none f))
+
+  pub holds : HoldsNoHeader v → Holds (link w f)
+  holds none = record {
+    held = λ e. let no : Some (fields word) ≡ None = sym gets.here.header ∙ e in absurd (cc);
+    settled = settled none;
+  }
+
+pub unlocked_back : (word : ℕ) (l m o : Link) → Looked (locked_link word l) m → Looked (unlocked_link m) o → l.header ≡ None → Looked l o
+unlocked_back word l m o a b none = record {
+  role = b.role ∙ a.role;
+  tag = b.tag ∙ a.tag;
+  ring = b.ring ∙ a.ring;
+  header = b.header ∙ sym none;
+  pending = b.pending ∙ a.pending;
+  content = b.content ∙ a.content;
+  copying = b.copying ∙ a.copying;
+  dirtied = b.dirtied ∙ a.dirtied;
+  unapplied = b.unapplied ∙ a.unapplied;
+  copied = b.copied ∙ a.copied;
+  io = b.io ∙ a.io;
+  read = b.read ∙ a.read;
+  read_is_home = b.read_is_home ∙ a.read_is_home;
+  last_write = b.last_write ∙ a.last_write;
+  out = b.out ∙ a.out;
+  overwritten = b.overwritten ∙ a.overwritten;
+  waits = λ w. b.waits (a.waits w);
+}
+
+pub gives_up : (f word : ℕ) (v u w : View) → GetsHeader f word v u → HoldsNoHeader v → SameAside u w → ((g : ℕ) → g ≢ f → link w g ≡ link u g) → Looked (unlocked_link (link u f)) (link w f) → Keeps v w
+gives_up f word v u w a none beside same here = record {
+  aside = aside_on v u w a.aside beside;
+  links = λ g. dite (ℕ_discrete g f)
+      (λ e. subst (λ (x : ℕ). Looked (link v x) (link w x)) (sym e) (unlocked_back word (link v f) (link u f) (link w f) a.here here (none f)))
+      (λ n. looked_on (link v g) (link u g) (link w g) (a.others g n) (looked_same (link u g) (link w g) (same g n)));
+}
+
+pub unlocks_keep : (f word found : ℕ) (v u w : View) → Locks f v u word → HoldsNoHeader v → Did (pins pin.unlock_header) f u w found → Keeps v w
+unlocks_keep f word found v u w locks none d = gives_up f word v u w (gets f word v u locks) none
+    (aside pin.unlock_header (λ s g x. refl) f found u w d)
+    (others pin.unlock_header (λ s g x. refl) f found u w d)
+    (looked_same (unlocked_link (link u f)) (link w f) (link_is (pins pin.unlock_header) f found u w d))
+
+unlocked_looked : (l m : Link) → Looked l m → Looked (unlocked_link l) (unlocked_link m)
+unlocked_looked l m a = record { role = a.role; tag = a.tag; ring = a.ring; header = refl; pending = a.pending; content = a.content; copying = a.copying; dirtied = a.dirtied; unapplied = a.unapplied; copied = a.copied; io = a.io; read = a.read; read_is_home = a.read_is_home; last_write = a.last_write; out = a.out; overwritten = a.overwritten; waits = a.waits }
+
+pub lowers_keep : (f word : ℕ) (v u w : View) → Locks f v u word → HoldsNoHeader v → DidHeld (pins pin.lower_usage) f u w → Keeps v w
+lowers_keep f word v u w locks none d = let b = d.between in let loaded = keeps_looking f d.word u b d.looked in gives_up f word v u w (gets f word v u locks) none
+    (aside_on u b w loaded.aside (aside pin.lower_usage (λ s g x. refl) f d.now b w d.did))
+    (λ g n. others pin.lower_usage (λ s h x. refl) f d.now b w d.did g n ∙ others pin.load_state (λ s h x. refl) f d.word u b d.looked g n)
+    (subst (Looked (unlocked_link (link u f))) (sym (link_is (pins pin.lower_usage) f d.now b w d.did)) (unlocked_looked (link u f) (link b f) (loaded.links f)))
+
+pub leaves_keep : (limit f : ℕ) (v w : View) → Leaves limit f v w → HoldsNoHeader v → Keeps v w
+leaves_keep limit f v w l none = unlocks_keep f l.word l.found v l.under w l.locks none l.unlocks
+
+pub skips_keep : (n limit f : ℕ) (v w : View) → Skips n limit f v w → HoldsNoHeader v → Keeps v w
+skips_keep n limit f v w (choice.beyond over same) none = keeps_same v w same
+skips_keep n limit f v w (choice.unfit low l) none = leaves_keep limit f v w l none
+
+pub ring_keeps : (n : ℕ) (place : Option ℕ) (v w : View) → LeavesRing n place v w → HoldsNoHeader v → Keeps v w
+ring_keeps n place v w (choice.empty e same) none = keeps_same v w same
+ring_keeps n place v w (choice.tried f e s) none = skips_keep n 1 f v w s none
+
+pub list_keeps : (n : ℕ) (v w : View) → LeavesFree n v w → HoldsNoHeader v → Keeps v w
+list_keeps n v w choice.still none = keeps_none v
+list_keeps n v w (choice.again {u = u} f before s) none = let a = list_keeps n v u before none in keeps_on v u w a (skips_keep n 0 f u w s (headless_on v u a none))
+
+-- a census
+pub counts_keep : (entry v : View) (k : ℕ) (w : View) (words : List ℕ) → Counts entry v k w words → Keeps v w
+counts_keep entry v k w words choice.nothing = keeps_none v
+counts_keep entry v k w words (choice.one_more {f = f} {u = u} {words = before} word c same d some) = keeps_on v u w (counts_keep entry v f u before c) (keeps_looking f word u w d)
+
+pub counts_from : (entry v : View) → SamePins entry v → (k : ℕ) (w : View) (words : List ℕ) → Counts v v k w words → Counts entry v k w words
+counts_from entry v first k w words choice.nothing = choice.nothing
+counts_from entry v first k w words (choice.one_more {f = f} {u = u} {words = before} word c same d some) = choice.one_more word (counts_from entry v first f u before c) (λ g. same g ∙ first g) d some
+
+pub counts_each : (entry v : View) (k : ℕ) (w : View) (words : List ℕ) → Counts entry v k w words → length words ≡ k
+counts_each entry v k w words choice.nothing = refl
+counts_each entry v k w words (choice.one_more {f = f} {u = u} {words = before} word c same d some) = let e = counts_each entry v f u before c in let g = length-append before (word ∷ []) in omega arith
+
+-- the clock
+pub next_keeps : (n tries : ℕ) (v w : View) (f left : ℕ) → NextIs n tries v w f left → Keeps v w
+next_keeps n tries v w f left (choice.ticked hand some d e same) = keeps_hand hand v w d
+next_keeps n tries v w f left (choice.counted e found same) = keeps_on v found.before w (counts_keep v v f found.before found.words found.counts) (keeps_looking f found.word found.before w found.did)
+
+pub passes_keep : (n f tries : ℕ) (v w : View) (left : ℕ) → Passes n f tries v w left → HoldsNoHeader v → Keeps v w
+passes_keep n f tries v w left (choice.lowers {u = u} {word = word} locks used d e) none = lowers_keep f word v u w locks none d
+passes_keep n f tries v w left (choice.leaves {u = u} {word = word} {found = found} locks some d e) none = unlocks_keep f word found v u w locks none d
+
+-- never more tries than frames
+pub passes_few : (n f tries : ℕ) (v w : View) (left : ℕ) → tries ≤ n → Passes n f tries v w left → left ≤ n
+passes_few n f tries v w left few (choice.lowers locks used d e) = omega arith
+passes_few n f tries v w left few (choice.leaves locks some d e) = omega arith
+
+pub sweeps_keep : (n : ℕ) (v w : View) (left : ℕ) → Sweeps n v w left → HoldsNoHeader v → Keeps v w
+sweeps_keep n v w left choice.starts none = keeps_none v
+sweeps_keep n v w left (choice.passes {u = u} {x = x} {tries = tries} {left = rest} f before next p) none = let a = sweeps_keep n v u tries before none in let b = keeps_on v u x a (next_keeps n tries u x f rest next) in keeps_on v x w b (passes_keep n f rest x w left p (headless_on v x b none))
+
+pub comes_keep : (n : ℕ) (v w : View) (f left : ℕ) → Comes n v w f left → HoldsNoHeader v → Keeps v w
+comes_keep n v w f left (u, tries, sweeps, next) none = keeps_on v u w (sweeps_keep n v u tries sweeps none) (next_keeps n tries u w f left next)
+
+-- the choice
+pub gets_on : (f word : ℕ) (v u w : View) → Keeps v u → GetsHeader f word u w → GetsHeader f word v w
+gets_on f word v u w a b = record {
+  aside = aside_on v u w a.aside b.aside;
+  here = looked_on (locked_link word (link v f)) (locked_link word (link u f)) (link w f) (relocked (link v f) (link u f) (a.links f)) b.here;
+  others = λ g n. looked_on (link v g) (link u g) (link w g) (a.links g) (b.others g n);
+}
+  where
+    relocked : (l m : Link) → Looked l m → Looked (locked_link word l) (locked_link word m)
+    relocked l m c = record { role = c.role; tag = c.tag; ring = c.ring; header = refl; pending = c.pending; content = c.content; copying = c.copying; dirtied = c.dirtied; unapplied = c.unapplied; copied = c.copied; io = c.io; read = c.read; read_is_home = c.read_is_home; last_write = c.last_write; out = c.out; overwritten = c.overwritten; waits = c.waits }
+
+pub takes_gets : (limit : ℕ) (held : Held) (v u w : View) → Keeps v u → Takes limit held u w → GetsHeader held.frame held.word v w
+takes_gets limit held v u w a t = gets_on held.frame held.word v u w a (gets held.frame held.word u w t.locks)
+
+pub chooses_gets : (n : ℕ) (place : Option ℕ) (v w : View) (held : Held) → Chooses n place v w held → HoldsNoHeader v → GetsHeader held.frame held.word v w
+chooses_gets n place v w held (choice.from_ring source e t) none = takes_gets 1 held v v w (keeps_none v) t
+chooses_gets n place v w held (choice.from_list {u = u} {x = x} source r l t) none = let a = ring_keeps n place v u r none in let b = keeps_on v u x a (list_keeps n u x l (headless_on v u a none)) in takes_gets 0 held v x w b t
+chooses_gets n place v w held (choice.by_clock {u = u} {x = x} {y = y} {left = left} source r l c t) none = let a = ring_keeps n place v u r none in let b = keeps_on v u x a (list_keeps n u x l (headless_on v u a none)) in
+    takes_gets 0 held v y w (keeps_on v x y b (comes_keep n x y held.frame left c (headless_on v x b none))) t
+
+pub none_keeps : (n : ℕ) (place : Option ℕ) (v w : View) (words : List ℕ) → FindsNone n place v w words → HoldsNoHeader v → Keeps v w
+none_keeps n place v w words k none = let a = ring_keeps n place v k.listed k.ring none in let b = keeps_on v k.listed k.started a (list_keeps n k.listed k.started k.free (headless_on v k.listed a none)) in let c = keeps_on v k.started k.tired b (sweeps_keep n k.started k.tired 0 k.clock (headless_on v k.started b none)) in
+    keeps_on v k.tired w c (counts_keep v k.tired n w words k.census)
+
+-- seats
+module _ {L G : Type 0} (t : FrameTable L G) where
+  pub seat_on : (s s' : Seat (Value L G) View) → IsSeat t s → SameSeat s s' → Keeps s.me.0 s'.me.0 → IsSeat t s'
+  seat_on s s' a same keeps = record { fits = same.table ∙ a.fits; live = keeps.aside.self.emptied ∙ a.live }
+
+  pub steps_at : (s : Seat (Value L G) View) (f : ℕ) → IsSeat t s → f < frames_of t → CanStep t s f
+  steps_at s f a low = record { fits = a.fits; live = a.live; inside = low }
+
+pub same_on : {L G : Type 0} (s s' s'' : Seat (Value L G) View) → SameSeat s s' → SameSeat s' s'' → SameSeat s s''
+same_on s s' s'' a b = record { table = b.table ∙ a.table; id = b.id ∙ a.id; hand = b.hand ∙ a.hand }
+
+pub same_none : {L G : Type 0} (s : Seat (Value L G) View) → SameSeat s s
+same_none s = record { table = refl; id = refl; hand = refl }
+
+-- what follows where there is nothing
+pub none_to : {A : Type 0} {P Q : Type 0} (o : Option A) → (P → Q) → IfNone o P → IfNone o Q
+none_to None to p = to p
+none_to (Some x) to p = p
+
+-- what follows from two facts of an answer
+pub ok_to : {A E : Type 0} {P Q R : A → Type 0} (r : Result A E) → ((x : A) → P x → Q x → R x) → IfOk r P → IfOk r Q → IfOk r R
+ok_to (Ok x) to p q = to x p q
+ok_to (Err e) to p q = p
+
+-- nothing was chosen
+pub finds_none : (n : ℕ) (place : Option ℕ) (v listed started w : View) (words : List ℕ) → HoldsNoHeader v → LeavesRing n place v listed → LeavesFree n listed started → (tired : View) × Sweeps n started tired 0 × Counts tired tired n w words → FindsNone n place v w words
+finds_none n place v listed started w words none r l (tired, s, c) = let a = ring_keeps n place v listed r none in let b = keeps_on v listed started a (list_keeps n listed started l (headless_on v listed a none)) in record {
+  listed = listed;
+  started = started;
+  tired = tired;
+  ring = r;
+  free = l;
+  clock = s;
+  census = counts_from v tired (same_pins v tired (keeps_on v started tired b (sweeps_keep n started tired 0 s (headless_on v started b none)))) n w words c;
+}
+
+pub err_to : {A E : Type 0} {P Q : E → Type 0} (r : Result A E) → ((e : E) → P e → Q e) → IfErr r P → IfErr r Q
+err_to (Ok x) to p = p
+err_to (Err e) to p = to e p

@@ -1,0 +1,4 @@
+pub mod FreeFrames
+pub mod CensusList
+pub mod Keeping
+pub mod Choosing

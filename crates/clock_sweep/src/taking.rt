@@ -1,0 +1,56 @@
+//! A frame of the ring, or of the free list, is taken: that is decided under its header.
+ghost use Rattle.std.specs.Prelude.{◌≡◌, ◌<◌, ◌≤◌, IfNone, IfSome};
+ghost use Rattle.std.specs.Bool.{OnFalse, OnTrue};
+ghost use Rattle.state_word.specs.Fields.{fields};
+ghost use Rattle.pin_core.specs.Steps.{HoldsNoHeader};
+ghost use Rattle.frame_table.specs.Sees.{IsSeat, SameSeat, frames_of};
+ghost use Rattle.clock_sweep.specs.Choosing.{IsFit, IsUnfit, Skips, Takes, usage_allowed};
+
+use crate::held::Held;
+use atomic_table::Seat;
+use frame_table::{FrameTable, Value};
+use log_device::LogDevice;
+use pin_core::View;
+use segment_store::BlockLane;
+use state_word::{pins, usage};
+use std::sync::Wait;
+
+/// Whether no backend pins a frame, and its usage count is low enough: 0, or at most 1 where it comes from the ring.
+fn is_fit(word: u64, from_ring: bool) -> bool
+    ensures fit { OnTrue result (IsFit (usage_allowed from_ring) (fields word)) }
+    ensures unfit { OnFalse result (IsUnfit (usage_allowed from_ring) (fields word)) }
+{
+    let most = if from_ring { 1 } else { 0 };
+    pins(word) == 0 && usage(word) <= most
+}
+
+/// Takes a frame of the ring, or of the free list, where it is one of the table's and fit (`GetBufferFromRing`).
+pub(crate) fn try_frame<L: BlockLane, G: LogDevice, R: Wait>(
+    table: &FrameTable<L, G>,
+    rt: &R,
+    seat: &mut Seat<Value<L, G>, View>,
+    frame: u32,
+    from_ring: bool,
+) -> Option<Held>
+    requires seat { IsSeat table.now seat.old }
+    requires headless { HoldsNoHeader seat.old.me.0 }
+    ensures seat { SameSeat seat.old seat.new }
+    ensures frame { IfSome result (λ held. (held.frame ≡ frame) × (held.from_ring ≡ from_ring)) }
+    ensures inside { IfSome result (λ _. frame < frames_of table.now) }
+    ensures takes { IfSome result (λ held. Takes (usage_allowed from_ring) held seat.old.me.0 seat.new.me.0) }
+    ensures skips { IfNone result (Skips (frames_of table.now) (usage_allowed from_ring) frame seat.old.me.0 seat.new.me.0) }
+{
+    if frame >= table.frames() {
+        return None;
+    }
+    let word = table.lock_header(rt, seat, frame);
+    if is_fit(word, from_ring) {
+        return Some(Held {
+            frame,
+            word,
+            from_ring,
+        });
+    }
+    table.unlock_header(seat, frame);
+    None
+}
