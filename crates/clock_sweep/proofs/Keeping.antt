@@ -151,7 +151,11 @@ unlocked_back word l m o a b none = record {
   last_write = b.last_write ∙ a.last_write;
   out = b.out ∙ a.out;
   overwritten = b.overwritten ∙ a.overwritten;
+  image = b.image ∙ a.image;
+  seen_valid = λ saw. b.seen_valid (a.seen_valid saw);
   waits = λ w. b.waits (a.waits w);
+  passed = λ p. b.passed (a.passed p);
+  listed = λ l. b.listed (a.listed l);
 }
 
 pub gives_up : (f word : ℕ) (v u w : View) → GetsHeader f word v u → HoldsNoHeader v → SameAside u w → ((g : ℕ) → g ≢ f → link w g ≡ link u g) → Looked (unlocked_link (link u f)) (link w f) → Keeps v w
@@ -169,7 +173,7 @@ unlocks_keep f word found v u w locks none d = gives_up f word v u w (gets f wor
     (looked_same (unlocked_link (link u f)) (link w f) (link_is (pins pin.unlock_header) f found u w d))
 
 unlocked_looked : (l m : Link) → Looked l m → Looked (unlocked_link l) (unlocked_link m)
-unlocked_looked l m a = record { role = a.role; tag = a.tag; ring = a.ring; header = refl; pending = a.pending; content = a.content; copying = a.copying; dirtied = a.dirtied; unapplied = a.unapplied; copied = a.copied; io = a.io; read = a.read; read_is_home = a.read_is_home; last_write = a.last_write; out = a.out; overwritten = a.overwritten; waits = a.waits }
+unlocked_looked l m a = record { role = a.role; tag = a.tag; ring = a.ring; header = refl; pending = a.pending; content = a.content; copying = a.copying; dirtied = a.dirtied; unapplied = a.unapplied; copied = a.copied; io = a.io; read = a.read; read_is_home = a.read_is_home; last_write = a.last_write; out = a.out; overwritten = a.overwritten; image = a.image; seen_valid = a.seen_valid; waits = a.waits; passed = a.passed; listed = a.listed }
 
 pub lowers_keep : (f word : ℕ) (v u w : View) → Locks f v u word → HoldsNoHeader v → DidHeld (pins pin.lower_usage) f u w → Keeps v w
 lowers_keep f word v u w locks none d = let b = d.between in let loaded = keeps_looking f d.word u b d.looked in gives_up f word v u w (gets f word v u locks) none
@@ -235,7 +239,7 @@ gets_on f word v u w a b = record {
 }
   where
     relocked : (l m : Link) → Looked l m → Looked (locked_link word l) (locked_link word m)
-    relocked l m c = record { role = c.role; tag = c.tag; ring = c.ring; header = refl; pending = c.pending; content = c.content; copying = c.copying; dirtied = c.dirtied; unapplied = c.unapplied; copied = c.copied; io = c.io; read = c.read; read_is_home = c.read_is_home; last_write = c.last_write; out = c.out; overwritten = c.overwritten; waits = c.waits }
+    relocked l m c = record { role = c.role; tag = c.tag; ring = c.ring; header = refl; pending = c.pending; content = c.content; copying = c.copying; dirtied = c.dirtied; unapplied = c.unapplied; copied = c.copied; io = c.io; read = c.read; read_is_home = c.read_is_home; last_write = c.last_write; out = c.out; overwritten = c.overwritten; image = c.image; seen_valid = c.seen_valid; waits = c.waits; passed = c.passed; listed = c.listed }
 
 pub takes_gets : (limit : ℕ) (held : Held) (v u w : View) → Keeps v u → Takes limit held u w → GetsHeader held.frame held.word v w
 takes_gets limit held v u w a t = gets_on held.frame held.word v u w a (gets held.frame held.word u w t.locks)

@@ -16,7 +16,9 @@ pub type Table = FrameTable<GoodLane, GoodLog>;
 pub type Place = Seat<Value<GoodLane, GoodLog>, View>;
 
 /// One relation of 64 blocks.
-fn catalog(alloc: Global) -> Result<Catalog, CatalogError> {
+fn catalog(alloc: Global) -> Result<Catalog, CatalogError>
+    ensures { IfOk result (λ catalog. catalog ≡ relations) }
+{
     let entry = RelEntry {
         tablespace: 0,
         database: 0,
