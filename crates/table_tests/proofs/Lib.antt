@@ -1,4 +1,5 @@
 pub mod Crossing
 pub mod Reading
 pub mod Seats
+pub mod Victims
 pub mod Working

@@ -31,7 +31,7 @@ use Rattle.table_tests.specs.Work.{IsCalm, LanesHome, PinsBlock, Reads}
 
 -- a read that has ended leaves nothing but the pin
 pub calm_finished : (tag : Tag) (l m : Link) → Reads tag l → Looked (finished_link l) m → IsCalm m
-calm_finished tag l m r a = record { no_header = a.header; no_content = a.content ∙ r.no_content; no_copy = a.copying ∙ r.no_copy; applied = a.unapplied ∙ r.settled; no_io = a.io; page_home = a.out ∙ r.home; no_wait = a.waits r.no_wait }
+calm_finished tag l m r a = record { no_header = a.header; no_content = a.content ∙ r.no_content; no_copy = a.copying ∙ r.no_copy; applied = a.unapplied ∙ r.settled; assigned = a.pending ∙ r.assigned; no_io = a.io; page_home = a.out ∙ r.home; no_wait = a.waits r.no_wait }
 
 pub pins_finished : (tag : Tag) (l m : Link) → Reads tag l → Looked (finished_link l) m → PinsBlock tag m
 pins_finished tag l m r a = (a.role ∙ r.pinned, a.tag ∙ r.remembered, a.pending ∙ r.assigned)

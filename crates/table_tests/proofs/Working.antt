@@ -47,10 +47,10 @@ module _ (l m : Link) (word : ℕ) (locked : Looked (locked_link word l) m) wher
   -- and after that
   module _ (c : IsCalm l) where
     pub calm_unlocked : (n : Link) → n ≡ unlocked_link m → IsCalm n
-    calm_unlocked n e = subst IsCalm (sym e) record { no_header = refl; no_content = locked.content ∙ c.no_content; no_copy = locked.copying ∙ c.no_copy; applied = locked.unapplied ∙ c.applied; no_io = locked.io ∙ c.no_io; page_home = locked.out ∙ c.page_home; no_wait = locked.waits c.no_wait }
+    calm_unlocked n e = subst IsCalm (sym e) record { no_header = refl; no_content = locked.content ∙ c.no_content; no_copy = locked.copying ∙ c.no_copy; applied = locked.unapplied ∙ c.applied; assigned = locked.pending ∙ c.assigned; no_io = locked.io ∙ c.no_io; page_home = locked.out ∙ c.page_home; no_wait = locked.waits c.no_wait }
 
     pub calm_victim : (n : Link) → Looked (victim_link m) n → IsCalm n
-    calm_victim n v = record { no_header = v.header; no_content = v.content ∙ locked.content ∙ c.no_content; no_copy = v.copying ∙ locked.copying ∙ c.no_copy; applied = v.unapplied ∙ locked.unapplied ∙ c.applied; no_io = v.io ∙ locked.io ∙ c.no_io; page_home = v.out ∙ locked.out ∙ c.page_home; no_wait = v.waits (locked.waits c.no_wait) }
+    calm_victim n v = record { no_header = v.header; no_content = v.content ∙ locked.content ∙ c.no_content; no_copy = v.copying ∙ locked.copying ∙ c.no_copy; applied = v.unapplied ∙ locked.unapplied ∙ c.applied; assigned = v.pending ∙ locked.pending ∙ c.assigned; no_io = v.io ∙ locked.io ∙ c.no_io; page_home = v.out ∙ locked.out ∙ c.page_home; no_wait = v.waits (locked.waits c.no_wait) }
 
     pub calm_assigned : (n o : Link) (tag : Option ℕ) → n ≡ stored_link m → Looked (assigned_link tag n) o → IsCalm o
     calm_assigned n o tag e a = record {
@@ -58,17 +58,18 @@ module _ (l m : Link) (word : ℕ) (locked : Looked (locked_link word l) m) wher
       no_content = a.content ∙ ap (λ (x : Link). x.content) e ∙ locked.content ∙ c.no_content;
       no_copy = a.copying ∙ ap (λ (x : Link). x.copying) e ∙ locked.copying ∙ c.no_copy;
       applied = a.unapplied ∙ ap (λ (x : Link). x.unapplied) e ∙ locked.unapplied ∙ c.applied;
+      assigned = a.pending;
       no_io = a.io ∙ ap (λ (x : Link). x.io) e ∙ locked.io ∙ c.no_io;
       page_home = a.out ∙ ap (λ (x : Link). x.out) e ∙ locked.out ∙ c.page_home;
       no_wait = a.waits (ap (λ (x : Link). x.waits) e ∙ locked.waits c.no_wait);
     }
 
 pub calm_unpinned : (l m : Link) → Looked (unpinned_link l) m → IsCalm l → IsCalm m
-calm_unpinned l m a c = record { no_header = a.header ∙ c.no_header; no_content = a.content ∙ c.no_content; no_copy = a.copying ∙ c.no_copy; applied = a.unapplied ∙ c.applied; no_io = a.io ∙ c.no_io; page_home = a.out ∙ c.page_home; no_wait = a.waits c.no_wait }
+calm_unpinned l m a c = record { no_header = a.header ∙ c.no_header; no_content = a.content ∙ c.no_content; no_copy = a.copying ∙ c.no_copy; applied = a.unapplied ∙ c.applied; assigned = a.pending ∙ c.assigned; no_io = a.io ∙ c.no_io; page_home = a.out ∙ c.page_home; no_wait = a.waits c.no_wait }
 
 -- a load leaves it so
 pub calm_looked : (l m : Link) → Looked l m → IsCalm l → IsCalm m
-calm_looked l m a c = record { no_header = a.header ∙ c.no_header; no_content = a.content ∙ c.no_content; no_copy = a.copying ∙ c.no_copy; applied = a.unapplied ∙ c.applied; no_io = a.io ∙ c.no_io; page_home = a.out ∙ c.page_home; no_wait = a.waits c.no_wait }
+calm_looked l m a c = record { no_header = a.header ∙ c.no_header; no_content = a.content ∙ c.no_content; no_copy = a.copying ∙ c.no_copy; applied = a.unapplied ∙ c.applied; assigned = a.pending ∙ c.assigned; no_io = a.io ∙ c.no_io; page_home = a.out ∙ c.page_home; no_wait = a.waits c.no_wait }
 
 -- what such a link, with a content lock, may give up
 pub drop_shared : (l m : Link) → IsCalm l → m ≡ shared_link l → CanDropShare m
@@ -210,24 +211,24 @@ module _ {L G : Type 0} (t : FrameTable L G) (f : ℕ) (s : Seat (Value L G) Vie
 
   -- a pin
   pub pinned_pins : (ring : Bool) (s' : Seat (Value L G) View) → SameSeat s s' → Touches f s.me.0 s'.me.0 → Looked (pinned_link ring (link s.me.0 f)) (link s'.me.0 f) → OnlyPins t s'
-  pinned_pins ring s' same touches looked = pins_touched s' same touches (calm_looked (pinned_link ring (link s.me.0 f)) (link s'.me.0 f) looked (let c = p.quiet.frames f in record { no_header = c.no_header; no_content = c.no_content; no_copy = c.no_copy; applied = c.applied; no_io = c.no_io; page_home = c.page_home; no_wait = c.no_wait }))
+  pinned_pins ring s' same touches looked = pins_touched s' same touches (calm_looked (pinned_link ring (link s.me.0 f)) (link s'.me.0 f) looked (let c = p.quiet.frames f in record { no_header = c.no_header; no_content = c.no_content; no_copy = c.no_copy; applied = c.applied; assigned = c.assigned; no_io = c.no_io; page_home = c.page_home; no_wait = c.no_wait }))
       (λ victim. let no : HandedOut ≡ Victim = sym looked.role ∙ victim in absurd (cc))
 
   -- two steps, after which the link is the same but for the content lock's notes
   module _ (s' s'' : Seat (Value L G) View) (same : SameSeat s s') (touches : Touches f s.me.0 s'.me.0) (again : SameSeat s' s'') (after : Touches f s'.me.0 s''.me.0) where
     pub pins_shared : link s'.me.0 f ≡ shared_link (link s.me.0 f) → link s''.me.0 f ≡ unshared_link (link s'.me.0 f) → OnlyPins t s''
     pins_shared shared given = let e = given ∙ ap unshared_link shared in let c = p.quiet.frames f in pins_touched s'' (same_on s s' s'' same again) (touches_on f s.me.0 s'.me.0 s''.me.0 touches after)
-        (subst IsCalm (sym e) record { no_header = c.no_header; no_content = refl; no_copy = c.no_copy; applied = c.applied; no_io = c.no_io; page_home = c.page_home; no_wait = c.no_wait })
+        (subst IsCalm (sym e) record { no_header = c.no_header; no_content = refl; no_copy = c.no_copy; applied = c.applied; assigned = c.assigned; no_io = c.no_io; page_home = c.page_home; no_wait = c.no_wait })
         (λ victim. p.no_victim f (sym (ap (λ (l : Link). l.role) e) ∙ victim))
 
     pub pins_exclusive : link s'.me.0 f ≡ exclusive_link (link s.me.0 f) → link s''.me.0 f ≡ unexclusive_link (link s'.me.0 f) → OnlyPins t s''
     pins_exclusive exclusive given = let e = given ∙ ap unexclusive_link exclusive in let c = p.quiet.frames f in pins_touched s'' (same_on s s' s'' same again) (touches_on f s.me.0 s'.me.0 s''.me.0 touches after)
-        (subst IsCalm (sym e) record { no_header = c.no_header; no_content = refl; no_copy = c.no_copy; applied = c.applied; no_io = c.no_io; page_home = c.page_home; no_wait = c.no_wait })
+        (subst IsCalm (sym e) record { no_header = c.no_header; no_content = refl; no_copy = c.no_copy; applied = c.applied; assigned = c.assigned; no_io = c.no_io; page_home = c.page_home; no_wait = c.no_wait })
         (λ victim. p.no_victim f (sym (ap (λ (l : Link). l.role) e) ∙ victim))
 
 -- a backend that has nothing at any frame
 pub calm_idle : (l : Link) → l ≡ idle → IsCalm l
-calm_idle l e = subst IsCalm (sym e) record { no_header = refl; no_content = refl; no_copy = refl; applied = refl; no_io = refl; page_home = refl; no_wait = refl }
+calm_idle l e = subst IsCalm (sym e) record { no_header = refl; no_content = refl; no_copy = refl; applied = refl; assigned = refl; no_io = refl; page_home = refl; no_wait = refl }
 
 pub pins_idle : {L G : Type 0} (t : FrameTable L G) (s : Seat (Value L G) View) → Rests t s → ((f : ℕ) → link s.me.0 f ≡ idle) → OnlyPins t s × PinsNone s
 pins_idle t s r links = (record {

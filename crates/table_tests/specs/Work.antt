@@ -28,6 +28,7 @@ pub record IsCalm (l : Link) : Type 0 where
   pub no_content : l.content ≡ Unlocked
   pub no_copy : l.copying ≡ false
   pub applied : l.unapplied ≡ false
+  pub assigned : l.pending ≡ false
   pub no_io : l.io ≡ Quiet
   pub page_home : l.out ≡ None
   pub no_wait : l.waits ≡ None

@@ -128,6 +128,7 @@ pub fn leave_block<R: Wait>(rt: &R, table: &Table, seat: &mut Place, frame: u32,
     requires frame { frame < frames_of table.now }
     requires block { HasBlock table.now tag }
     ensures closes { CanClose table.now seat.new }
+    ensures pins { OnlyPins table.now seat.new × PinsNone seat.new }
     ensures keeps { Keeps seat.old seat.new }
 {
     let Some(pin) = enter_block(rt, table, seat, frame, tag) else {

@@ -2,6 +2,8 @@
 #![tactic(auto)]
 
 #[cfg(test)]
+mod choosing;
+#[cfg(test)]
 mod devices;
 #[cfg(test)]
 mod entering;

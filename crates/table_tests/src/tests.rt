@@ -1,8 +1,10 @@
 //! Tables that are run.
+use crate::choosing::{choose, hand_of, use_frames};
 use crate::entering::leave_block;
 use crate::fixture::{block, table, word_of};
 use crate::locking::refusals;
 use crate::pinning::{pin_often, pin_together, refusal, refusal_of_two};
+use clock_sweep::{Census, Sweep};
 use content_locks::TryLock;
 use frame_table::TryPin;
 use page_layout::Page;
@@ -84,5 +86,35 @@ fn a_content_lock_that_another_has_is_busy(rt: HostRuntime) -> Result<(), Fail> 
     let exclusive = Some(TryLock::Busy { word: 262144 });
     let shared = Some(TryLock::Busy { word: 1 });
     assert_eq!(rt; refused, Some([(exclusive, exclusive), (None, shared)]));
+    Ok(())
+}
+
+#[test]
+fn fresh_frames_are_chosen_in_order(rt: HostRuntime) -> Result<(), Fail> {
+    let sweep = Sweep::build(rt.alloc(), 16)?;
+    let mut census = Census::build(rt.alloc(), 16)?;
+    let (table, mut seat) = table(rt.alloc())?;
+    let first = choose(&rt, &table, &mut seat, &sweep, &mut census);
+    let second = choose(&rt, &table, &mut seat, &sweep, &mut census);
+    let third = choose(&rt, &table, &mut seat, &sweep, &mut census);
+    let at = hand_of(&table, &mut seat);
+    let (_lanes, _log) = table.close(seat);
+    assert_eq!(rt; [first, second, third], [Some(0), Some(1), Some(2)]);
+    assert_eq!(rt; at, 0);
+    Ok(())
+}
+
+#[test]
+fn the_clock_lowers_usage_and_comes_round(rt: HostRuntime) -> Result<(), Fail> {
+    let sweep = Sweep::build(rt.alloc(), 16)?;
+    let mut census = Census::build(rt.alloc(), 16)?;
+    let (table, mut seat) = table(rt.alloc())?;
+    let used = use_frames(&rt, &table, &mut seat);
+    let chosen = choose(&rt, &table, &mut seat, &sweep, &mut census);
+    let at = hand_of(&table, &mut seat);
+    let word = word_of(&table, &mut seat, 15);
+    let (_lanes, _log) = table.close(seat);
+    assert_eq!(rt; (used, chosen, at), (16, Some(0), 17));
+    assert_eq!(rt; (pins(word), usage(word)), (0, 0));
     Ok(())
 }

@@ -1,0 +1,57 @@
+-- Seats that choose a victim.
+use Rattle.std.proofs.Common.{◌≡◌, ◌≢◌, ℕ, List, get_or, false, None, sym, refl, ap, ◌∙◌, subst}
+use mathlib.Core.Logic.{dite}
+use native.Mathlib.Decide.{ℕ_discrete}
+use Rattle.atomic_table.specs.declared.shared.Seat.{Seat}
+use Rattle.pin_core.specs.declared.view.View.{View}
+use Rattle.pin_core.specs.declared.view.Link.{Link}
+use Rattle.pin_core.specs.declared.view.LaneHold.{LaneHold}
+use Rattle.pin_core.specs.declared.view.LogHold.{LogHold}
+use Rattle.pin_core.specs.declared.view.PartitionHold.{PartitionHold}
+use Rattle.pin_core.specs.declared.view.Role.TheVariants.{Absent}
+use Rattle.pin_core.specs.State.{hold, lane_hold, link, no_lane}
+use Rattle.table_rule.specs.declared.value.Value.{Value}
+use Rattle.frame_table.specs.declared.table.FrameTable.{FrameTable}
+use Rattle.frame_table.specs.Sees.{SameSeat, SameSelf, Touches, unlocked_link}
+use Rattle.clock_sweep.specs.Keeping.{GetsHeader}
+use Rattle.clock_sweep.specs.Keeping as sweeping
+use Rattle.table_tests.specs.Work.{IsCalm, IsQuiet, Keeps, OnlyPins, PinsNone}
+use Rattle.table_tests.proofs.Working.{calm_looked, calm_unlocked, same_hold}
+
+module _ {L G : Type 0} (t : FrameTable L G) (s s' : Seat (Value L G) View) (p : OnlyPins t s) (none : PinsNone s) (same : SameSeat s s') where
+  -- no header was taken
+  pub kept_pins : sweeping.Keeps s.me.0 s'.me.0 → OnlyPins t s' × PinsNone s'
+  kept_pins k = (record {
+    quiet = record { fits = same.table ∙ p.quiet.fits; live = k.aside.self.emptied ∙ p.quiet.live; hand = same.hand ∙ p.quiet.hand; frames = λ f. calm_looked (link s.me.0 f) (link s'.me.0 f) (k.links f) (p.quiet.frames f); lanes = λ n. ap (λ (l : List LaneHold). (get_or l n no_lane).held) k.aside.self.lanes ∙ p.quiet.lanes n; log = ap (λ (h : LogHold). h.held) k.aside.self.log ∙ p.quiet.log };
+    no_victim = λ f victim. p.no_victim f (sym (k.links f).role ∙ victim);
+    partitions = λ q. ap (λ (x : PartitionHold). x.held) (same_hold s.me.0 s'.me.0 k.aside.partitions q) ∙ p.partitions q;
+  }, λ f. (k.links f).role ∙ none f)
+
+  -- one was taken, and given up again
+  module _ (f word : ℕ) (g : GetsHeader f word s.me.0 s'.me.0) where
+    module _ (s'' : Seat (Value L G) View) (again : SameSeat s' s'') (after : Touches f s'.me.0 s''.me.0) (unlocked : link s''.me.0 f ≡ unlocked_link (link s'.me.0 f)) where
+      here : (link s''.me.0 f).role ≡ Absent
+      here = ap (λ (l : Link). l.role) unlocked ∙ g.here.role ∙ none f
+
+      pins_none : PinsNone s''
+      pins_none h = dite (ℕ_discrete h f) (λ e. subst (λ (x : ℕ). (link s''.me.0 x).role ≡ Absent) (sym e) here) (λ n. ap (λ (l : Link). l.role) (after.others h n) ∙ (g.others h n).role ∙ none h)
+
+      pub unlocked_pins : OnlyPins t s'' × PinsNone s''
+      unlocked_pins = (record {
+        quiet = record {
+          fits = again.table ∙ same.table ∙ p.quiet.fits;
+          live = after.self.emptied ∙ g.aside.self.emptied ∙ p.quiet.live;
+          hand = again.hand ∙ same.hand ∙ p.quiet.hand;
+          frames = λ h. dite (ℕ_discrete h f)
+              (λ e. subst (λ (x : ℕ). IsCalm (link s''.me.0 x)) (sym e) (calm_unlocked (link s.me.0 f) (link s'.me.0 f) word g.here (p.quiet.frames f) (link s''.me.0 f) unlocked))
+              (λ n. subst IsCalm (sym (after.others h n)) (calm_looked (link s.me.0 h) (link s'.me.0 h) (g.others h n) (p.quiet.frames h)));
+          lanes = λ n. ap (λ (l : List LaneHold). (get_or l n no_lane).held) (after.self.lanes ∙ g.aside.self.lanes) ∙ p.quiet.lanes n;
+          log = ap (λ (x : LogHold). x.held) (after.self.log ∙ g.aside.self.log) ∙ p.quiet.log;
+        };
+        no_victim = λ h victim. p.no_victim h (none h ∙ sym (pins_none h) ∙ victim);
+        partitions = λ q. ap (λ (x : PartitionHold). x.held) (same_hold s'.me.0 s''.me.0 after.partitions q ∙ same_hold s.me.0 s'.me.0 g.aside.partitions q) ∙ p.partitions q;
+      }, pins_none)
+
+-- what such a call keeps of the seat
+pub keeps_aside : {L G : Type 0} (s s' : Seat (Value L G) View) → SameSeat s s' → SameSelf s.me.0 s'.me.0 → Keeps s s'
+keeps_aside s s' same self = record { table = same.table; id = same.id; joined = self.joined; next = self.next }
