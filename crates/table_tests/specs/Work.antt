@@ -4,7 +4,7 @@ use Rattle.atomic_table.specs.declared.shared.Seat.{Seat}
 use Rattle.block_tag.specs.declared.catalogue.RelEntry.{RelEntry}
 use Rattle.block_tag.specs.declared.tag.Tag.{Tag}
 use Rattle.block_tag.specs.Names.{names_block, packed_tag}
-use Rattle.pin_core.specs.declared.view.Content.TheVariants.{Unlocked}
+use Rattle.pin_core.specs.declared.view.Content.TheVariants.{Exclusive, Unlocked}
 use Rattle.pin_core.specs.declared.view.Io.TheVariants.{Input, Quiet}
 use Rattle.pin_core.specs.declared.view.Link.{Link}
 use Rattle.pin_core.specs.declared.view.MapChange.TheVariants.{Settled}
@@ -63,6 +63,20 @@ pub record Reads (tag : Tag) (l : Link) : Type 0 where
   pub settled : l.unapplied ≡ false
   pub no_copy : l.copying ≡ false
   pub assigned : l.pending ≡ false
+  pub no_wait : l.waits ≡ None
+
+-- It changes the page of the tag's block: it has the content lock exclusively, marked the frame dirty under it, and the page is home
+pub record Changes (tag : Tag) (l : Link) : Type 0 where
+  pub pinned : l.role ≡ HandedOut
+  pub remembered : l.tag ≡ Some (packed_tag tag)
+  pub assigned : l.pending ≡ false
+  pub seen : l.seen_valid ≡ true
+  pub no_header : l.header ≡ None
+  pub right : l.content ≡ Exclusive
+  pub dirtied : l.dirtied ≡ true
+  pub no_copy : l.copying ≡ false
+  pub no_io : l.io ≡ Quiet
+  pub home : l.out ≡ None
   pub no_wait : l.waits ≡ None
 
 -- its pin of the frame is one for its callers, of the tag's block

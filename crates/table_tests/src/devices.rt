@@ -1,6 +1,7 @@
 //! Devices for tests.
 use block_tag::Tag;
-use log_device::{Failed, LogDevice};
+use log_device::{Failed, FaultCount, LogDevice};
+use std::alloc::Global;
 use page_layout::Page;
 use segment_store::BlockLane;
 
@@ -38,30 +39,64 @@ impl BlockLane for GoodLane {
     ghost write_faults_fit = { λ _. search rules };
 }
 
-/// A log, likewise.
+/// A log whose contents contracts don't know. It has what was appended, and one of its calls may fail.
 #[derive(Drop)]
-pub struct GoodLog;
+pub struct TestLog {
+    pub bytes: Vec<u8>,
+    /// How many calls were made.
+    calls: u32,
+    /// Which call fails, counted from 1; none where this is 0.
+    failing: u32,
+    faults: FaultCount,
+}
 
-impl LogDevice for GoodLog {
+impl TestLog {
+    ghost use Rattle.std.specs.Prelude.{◌≡◌};
+
+    pub fn new(alloc: Global, failing: u32) -> TestLog {
+        TestLog {
+            bytes: Vec::new(alloc),
+            calls: 0,
+            failing,
+            faults: FaultCount::new(),
+        }
+    }
+
+    /// Whether this call is the one that fails.
+    fn fails(&mut self) -> bool
+        ensures { self.new.faults ≡ self.old.faults }
+    {
+        self.calls = self.calls.saturating_add(1);
+        self.calls == self.failing
+    }
+}
+
+impl LogDevice for TestLog {
     ghost use Rattle.std.specs.Prelude.{None};
-    ghost use Rattle.std.proofs.Common.{rules};
-    ghost use Prim.{search};
 
     ghost bytes = { λ _. None };
 
     ghost synced = { λ _. 0 };
 
-    ghost faults = { λ _. 0 };
+    ghost faults = { λ l. l.faults.count };
 
-    fn append(&mut self, _piece: &[u8]) -> Result<(), Failed> {
+    fn append(&mut self, piece: &[u8]) -> Result<(), Failed> {
+        if self.fails() || self.bytes.extend_from_slice(piece).is_err() {
+            self.faults.raise();
+            return Err(Failed);
+        }
         Ok(())
     }
 
     fn sync(&mut self) -> Result<(), Failed> {
+        if self.fails() {
+            self.faults.raise();
+            return Err(Failed);
+        }
         Ok(())
     }
 
-    ghost faults_fit = { λ _. search rules };
+    ghost faults_fit = { λ l. l.faults.fits };
 
     ghost synced_within = { λ _. tt };
 }

@@ -1,19 +1,20 @@
 //! A small table.
-ghost use Rattle.std.specs.Prelude.{◌≡◌, ◌<◌, IfOk};
+ghost use Rattle.std.specs.Prelude.{◌≡◌, ◌<◌, ◌≤◌, ◌^◌, IfOk};
 ghost use Rattle.frame_table.specs.Closes.{CanClose};
 ghost use Rattle.frame_table.specs.Sees.{frames_of};
 ghost use Rattle.table_tests.specs.Work.{HasBlock, IsSmall, OnlyPins, PinsNone, relations};
 
-use crate::devices::{GoodLane, GoodLog};
+use crate::devices::{GoodLane, TestLog};
 use atomic_table::Seat;
 use block_tag::{Catalog, CatalogError, Fork, RelEntry, RelNo, Tag};
 use frame_table::{BuildRefused, Config, FrameTable, Value};
+use page_layout::Page;
 use pin_core::View;
 use std::alloc::{AllocError, Global};
 
-pub type Table = FrameTable<GoodLane, GoodLog>;
+pub type Table = FrameTable<GoodLane, TestLog>;
 
-pub type Place = Seat<Value<GoodLane, GoodLog>, View>;
+pub type Place = Seat<Value<GoodLane, TestLog>, View>;
 
 /// One relation of 64 blocks.
 fn catalog(alloc: Global) -> Result<Catalog, CatalogError>
@@ -28,8 +29,19 @@ fn catalog(alloc: Global) -> Result<Catalog, CatalogError>
     Catalog::build(alloc, &[entry])
 }
 
-/// A table of 16 frames over one lane, for three backends, whose first one holds nothing.
+/// A table of 16 frames over one lane and a log that begins at 0, for three backends, whose first one holds nothing.
 pub fn table(alloc: Global) -> Result<(Table, Place), AllocError>
+    ensures small { IfOk result (λ t. IsSmall t.0) }
+    ensures pins { IfOk result (λ t. OnlyPins t.0 t.1 × PinsNone t.1) }
+    ensures closes { IfOk result (λ t. CanClose t.0 t.1) }
+    ensures alone { IfOk result (λ t. t.1.me.0.next ≡ 1) }
+{
+    table_over(alloc, TestLog::new(alloc, 0), 0)
+}
+
+/// The same over this log, which begins at `base`.
+pub fn table_over(alloc: Global, log: TestLog, base: u64) -> Result<(Table, Place), AllocError>
+    requires { base ≤ 2 ^ 62 }
     ensures small { IfOk result (λ t. IsSmall t.0) }
     ensures pins { IfOk result (λ t. OnlyPins t.0 t.1 × PinsNone t.1) }
     ensures closes { IfOk result (λ t. CanClose t.0 t.1) }
@@ -45,7 +57,7 @@ pub fn table(alloc: Global) -> Result<(Table, Place), AllocError>
     };
     let mut lanes = Vec::new(alloc);
     lanes.push(GoodLane)?;
-    match FrameTable::build(alloc, config, catalog, lanes, GoodLog, 0) {
+    match FrameTable::build(alloc, config, catalog, lanes, log, base) {
         Ok(built) => Ok(built),
         Err(BuildRefused { lanes, log }) => {
             drop(lanes);
@@ -75,4 +87,20 @@ pub fn word_of(table: &Table, seat: &mut Place, frame: u32) -> u64
     ensures { CanClose table.now seat.new }
 {
     table.look(seat, frame)
+}
+
+/// The header and the line pointer of a page with one item of four bytes: log position 0/16B3740, lower 28, upper 8184, special 8192.
+const FRONT: [u8; 28] = [
+    0x00, 0x00, 0x00, 0x00, 0x40, 0x37, 0x6b, 0x01, 0x00, 0x00, 0x00, 0x00, 0x1c, 0x00, 0xf8, 0x1f,
+    0x00, 0x20, 0x04, 0x20, 0x00, 0x00, 0x00, 0x00, 0xf8, 0x9f, 0x08, 0x00,
+];
+
+/// A page with one item, whose first byte is this.
+pub fn one_item(alloc: Global, item: u8) -> Result<Page, AllocError> {
+    let mut bytes = [0u8; 8192];
+    bytes[..28].copy_from_slice(&FRONT);
+    bytes[8184] = item;
+    let mut page = Page::zeroed(alloc)?;
+    page.fill(&bytes);
+    Ok(page)
 }

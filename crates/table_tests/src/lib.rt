@@ -14,6 +14,8 @@ mod loading;
 #[cfg(test)]
 mod locking;
 #[cfg(test)]
+mod logging;
+#[cfg(test)]
 mod pinning;
 #[cfg(test)]
 mod tests;

@@ -13,7 +13,7 @@ use Rattle.table_rule.specs.contracts.value.Value as value
 use Rattle.pin_core.specs.contracts.view.View as view
 use Rattle.frame_table.specs.contracts.table.FrameTable as table
 use Rattle.table_tests.specs.contracts.devices.GoodLane as lane
-use Rattle.table_tests.specs.contracts.devices.GoodLog as log
+use Rattle.table_tests.specs.contracts.devices.TestLog as log
 use Rattle.atomic_table.specs.contracts.shared.Seat as seat
 use Rattle.table_tests.proofs.Crossing.{shared_sync, lease_sync, seat_send}
 use Rattle.table_tests.proofs.pinning.pin_together.Lts.{arg-1-1}

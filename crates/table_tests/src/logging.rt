@@ -1,0 +1,94 @@
+//! Pages that become entries of the log.
+ghost use Rattle.std.specs.Prelude.{◌≡◌, ◌<◌, Some, false, true};
+ghost use Rattle.page_layout.specs.Soundness.{is_new_page, is_sound_page};
+ghost use Rattle.pin_core.specs.State.{link};
+ghost use Rattle.frame_table.specs.Closes.{CanClose};
+ghost use Rattle.frame_table.specs.Sees.{frames_of};
+ghost use Rattle.table_tests.specs.Work.{Changes, HasBlock, IsQuietBeside, Keeps, KeepsBeside, OnlyPins, PinsBlock, PinsNone, SameLatches};
+
+use crate::entering::enter_block;
+use crate::fixture::{Place, Table};
+use crate::loading::load_block;
+use block_tag::Tag;
+use content_locks::{exclusive, page_back, page_out, unexclusive};
+use page_layout::Page;
+use std::sync::Wait;
+use wal_flush::{FlushLog, InsertError, flush_to, insert};
+
+/// The image of the backend's entry becomes the frame's page.
+fn apply(table: &Table, seat: &mut Place, frame: u32, page: &Page, _tag: Tag)
+    requires quiet { IsQuietBeside table.now frame seat.old }
+    requires frame { frame < frames_of table.now }
+    requires changes { Changes _tag (link seat.old.me.0 frame) }
+    requires entered { (link seat.old.me.0 frame).unapplied ≡ true }
+    requires image { (link seat.old.me.0 frame).image ≡ Some page.now }
+    ensures quiet { IsQuietBeside table.now frame seat.new }
+    ensures keeps { KeepsBeside frame seat.old seat.new }
+    ensures latches { SameLatches seat.old.me.0 seat.new.me.0 }
+    ensures changes { Changes _tag (link seat.new.me.0 frame) }
+    ensures applied { (link seat.new.me.0 frame).unapplied ≡ false }
+{
+    let mut out = page_out(table, seat, frame);
+    out.copy_from(page);
+    page_back(table, seat, frame, out);
+}
+
+/// Inserts the page into the log, and puts it into the frame.
+fn enter_page<R: Wait>(
+    rt: &R,
+    table: &Table,
+    seat: &mut Place,
+    frame: u32,
+    tag: Tag,
+    page: &mut Page,
+) -> Result<u64, InsertError>
+    requires quiet { IsQuietBeside table.now frame seat.old }
+    requires frame { frame < frames_of table.now }
+    requires block { HasBlock table.now tag }
+    requires changes { Changes tag (link seat.old.me.0 frame) }
+    requires applied { (link seat.old.me.0 frame).unapplied ≡ false }
+    requires sound { is_sound_page page.old ≡ true }
+    requires used { is_new_page page.old ≡ false }
+    ensures quiet { IsQuietBeside table.now frame seat.new }
+    ensures keeps { KeepsBeside frame seat.old seat.new }
+    ensures latches { SameLatches seat.old.me.0 seat.new.me.0 }
+    ensures changes { Changes tag (link seat.new.me.0 frame) }
+    ensures applied { (link seat.new.me.0 frame).unapplied ≡ false }
+{
+    match insert(table, rt, seat, frame, tag, page) {
+        Ok(lsn) => {
+            apply(table, seat, frame, page, tag);
+            Ok(lsn)
+        }
+        Err(why) => Err(why),
+    }
+}
+
+/// Puts a page into its block's frame, over the log: the frame is marked dirty first. None for a page that isn't sound, or is new.
+pub fn put<R: Wait>(
+    rt: &R,
+    table: &Table,
+    seat: &mut Place,
+    frame: u32,
+    tag: Tag,
+    page: &mut Page,
+) -> Option<Result<u64, InsertError>>
+    requires pins { OnlyPins table.now seat.old }
+    requires frame { frame < frames_of table.now }
+    requires block { HasBlock table.now tag }
+    requires pinned { PinsBlock tag (link seat.old.me.0 frame) }
+    requires seen { (link seat.old.me.0 frame).seen_valid ≡ true }
+    ensures pins { OnlyPins table.now seat.new }
+    ensures keeps { KeepsBeside frame seat.old seat.new }
+    ensures pinned { PinsBlock tag (link seat.new.me.0 frame) }
+    ensures seen { (link seat.new.me.0 frame).seen_valid ≡ true }
+{
+    if page.is_new() || !page.is_sound() {
+        return None;
+    }
+    exclusive(table, rt, seat, frame);
+    table.mark_dirty(rt, seat, frame);
+    let entered = enter_page(rt, table, seat, frame, tag, page);
+    unexclusive(table, seat, frame);
+    Some(entered)
+}
