@@ -231,28 +231,39 @@ pub calm_idle : (l : Link) → l ≡ idle → IsCalm l
 calm_idle l e = subst IsCalm (sym e) record { no_header = refl; no_content = refl; no_copy = refl; applied = refl; assigned = refl; no_io = refl; page_home = refl; no_wait = refl }
 
 pub pins_idle : {L G : Type 0} (t : FrameTable L G) (s : Seat (Value L G) View) → Rests t s → ((f : ℕ) → link s.me.0 f ≡ idle) → OnlyPins t s × PinsNone s
-pins_idle t s r links = (record {
-  quiet = record { fits = r.fits; live = r.live; hand = r.hand; frames = λ f. calm_idle (link s.me.0 f) (links f); lanes = r.free.lanes; log = r.free.log };
-  no_victim = λ f victim. (let no : Absent ≡ Victim = sym (r.free.frames f).no_pin ∙ victim in absurd (cc));
-  partitions = r.free.partitions;
-}, λ f. (r.free.frames f).no_pin)
+pins_idle t s r links = (
+  record {
+    quiet = record { fits = r.fits; live = r.live; hand = r.hand; frames = λ f. calm_idle (link s.me.0 f) (links f); lanes = r.free.lanes; log = r.free.log };
+    no_victim = λ f victim. (let no : Absent ≡ Victim = sym (r.free.frames f).no_pin ∙ victim in absurd (cc));
+    partitions = r.free.partitions;
+  },
+  λ f. (r.free.frames f).no_pin,
+)
 
 -- who pins nothing, and holds pins alone, holds nothing
 pub rests_pins : {L G : Type 0} (t : FrameTable L G) (s : Seat (Value L G) View) → OnlyPins t s → PinsNone s → Rests t s
-rests_pins t s p none = record { fits = p.quiet.fits; live = p.quiet.live; hand = p.quiet.hand; free = record {
-  frames = λ f. let c = p.quiet.frames f in record { no_pin = none f; no_header = c.no_header; no_content = c.no_content; no_io = c.no_io; page_home = c.page_home; no_wait = c.no_wait };
-  partitions = p.partitions;
-  lanes = p.quiet.lanes;
-  log = p.quiet.log;
-} }
+rests_pins t s p none = record {
+  fits = p.quiet.fits;
+  live = p.quiet.live;
+  hand = p.quiet.hand;
+  free = record {
+    frames = λ f. let c = p.quiet.frames f in record { no_pin = none f; no_header = c.no_header; no_content = c.no_content; no_io = c.no_io; page_home = c.page_home; no_wait = c.no_wait };
+    partitions = p.partitions;
+    lanes = p.quiet.lanes;
+    log = p.quiet.log;
+  };
+}
 
 -- the first backend's seat once it has given another one its number
 pub pins_kept : {L G : Type 0} (t : FrameTable L G) (s s' : Seat (Value L G) View) → OnlyPins t s × PinsNone s → SameSeat s s' → s'.me.0 ≡ kept_view s.me.0 → OnlyPins t s' × PinsNone s'
-pins_kept t s s' (p, none) same kept = (record {
-  quiet = record { fits = same.table ∙ p.quiet.fits; live = ap (λ (v : View). v.emptied) kept ∙ p.quiet.live; hand = same.hand ∙ p.quiet.hand; frames = λ f. subst (λ (v : View). IsCalm (link v f)) (sym kept) (p.quiet.frames f); lanes = λ n. ap (λ (v : View). (lane_hold v n).held) kept ∙ p.quiet.lanes n; log = ap (λ (v : View). v.log.held) kept ∙ p.quiet.log };
-  no_victim = λ f victim. p.no_victim f (sym (ap (λ (v : View). (link v f).role) kept) ∙ victim);
-  partitions = λ q. ap (λ (v : View). (hold v q).held) kept ∙ p.partitions q;
-}, λ f. ap (λ (v : View). (link v f).role) kept ∙ none f)
+pins_kept t s s' (p, none) same kept = (
+  record {
+    quiet = record { fits = same.table ∙ p.quiet.fits; live = ap (λ (v : View). v.emptied) kept ∙ p.quiet.live; hand = same.hand ∙ p.quiet.hand; frames = λ f. subst (λ (v : View). IsCalm (link v f)) (sym kept) (p.quiet.frames f); lanes = λ n. ap (λ (v : View). (lane_hold v n).held) kept ∙ p.quiet.lanes n; log = ap (λ (v : View). v.log.held) kept ∙ p.quiet.log };
+    no_victim = λ f victim. p.no_victim f (sym (ap (λ (v : View). (link v f).role) kept) ∙ victim);
+    partitions = λ q. ap (λ (v : View). (hold v q).held) kept ∙ p.partitions q;
+  },
+  λ f. ap (λ (v : View). (link v f).role) kept ∙ none f,
+)
 
 -- where the frame isn't pinned, and no other one was, none is
 pub none_still : {L G : Type 0} (f : ℕ) (s s' : Seat (Value L G) View) → PinsNone s → KeepsBeside f s s' → (link s'.me.0 f).role ≡ Absent → PinsNone s'

@@ -10,9 +10,7 @@ use crate::entering::enter_block;
 use crate::fixture::{Place, Table};
 use crate::loading::load_block;
 use block_tag::Tag;
-use content_locks::{
-    TryLock, exclusive, share, try_exclusive, try_share, unexclusive, unshare,
-};
+use content_locks::{TryLock, exclusive, share, try_exclusive, try_share, unexclusive, unshare};
 use frame_table::Pin;
 use page_layout::Page;
 use state_word::{Flag, has};
