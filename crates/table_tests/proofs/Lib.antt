@@ -1,4 +1,5 @@
 pub mod Crossing
+pub mod Logged
 pub mod Reading
 pub mod Seats
 pub mod Victims

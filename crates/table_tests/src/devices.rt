@@ -1,9 +1,9 @@
 //! Devices for tests.
 use block_tag::Tag;
 use log_device::{Failed, FaultCount, LogDevice};
-use std::alloc::Global;
 use page_layout::Page;
 use segment_store::BlockLane;
+use std::alloc::Global;
 
 /// A lane whose contents aren't known, and whose calls are all good.
 #[derive(Drop)]

@@ -4,7 +4,7 @@ ghost use Rattle.page_layout.specs.Soundness.{is_new_page, is_sound_page};
 ghost use Rattle.pin_core.specs.State.{link};
 ghost use Rattle.frame_table.specs.Closes.{CanClose};
 ghost use Rattle.frame_table.specs.Sees.{frames_of};
-ghost use Rattle.table_tests.specs.Work.{Changes, HasBlock, IsQuietBeside, Keeps, KeepsBeside, OnlyPins, PinsBlock, PinsNone, SameLatches};
+ghost use Rattle.table_tests.specs.Work.{Changes, HasBlock, IsQuietBeside, KeepsBeside, OnlyPins, PinsBlock, PinsNone, SameLatches};
 
 use crate::entering::enter_block;
 use crate::fixture::{Place, Table};
@@ -91,4 +91,64 @@ pub fn put<R: Wait>(
     let entered = enter_page(rt, table, seat, frame, tag, page);
     unexclusive(table, seat, frame);
     Some(entered)
+}
+
+/// Flushes the log up to a position, where the backend pins the frame for a block.
+fn flush<R: Wait>(
+    rt: &R,
+    table: &Table,
+    seat: &mut Place,
+    _frame: u32,
+    _tag: Tag,
+    lsn: u64,
+) -> Result<(), FlushLog>
+    requires pins { OnlyPins table.now seat.old }
+    requires pinned { PinsBlock _tag (link seat.old.me.0 _frame) }
+    requires seen { (link seat.old.me.0 _frame).seen_valid ≡ true }
+    ensures pins { OnlyPins table.now seat.new }
+    ensures keeps { KeepsBeside _frame seat.old seat.new }
+    ensures pinned { PinsBlock _tag (link seat.new.me.0 _frame) }
+    ensures seen { (link seat.new.me.0 _frame).seen_valid ≡ true }
+{
+    flush_to(table, rt, seat, lsn)
+}
+
+/// What came of two puts of a page, and of two flushes between them.
+#[derive(Clone, Copy, PartialEq, Debug)]
+pub struct Tries {
+    pub first: Option<Result<u64, InsertError>>,
+    pub flushed: Result<(), FlushLog>,
+    pub again: Result<(), FlushLog>,
+    pub second: Option<Result<u64, InsertError>>,
+}
+
+/// Brings a block into a frame, and puts a page there twice, with two flushes up to `lsn` between. None where the block didn't come.
+pub fn put_twice<R: Wait>(
+    rt: &R,
+    table: &Table,
+    seat: &mut Place,
+    frame: u32,
+    tag: Tag,
+    page: &mut Page,
+    lsn: u64,
+) -> Option<Tries>
+    requires closes { CanClose table.now seat.old }
+    requires pins { OnlyPins table.now seat.old × PinsNone seat.old }
+    requires frame { frame < frames_of table.now }
+    requires block { HasBlock table.now tag }
+    ensures closes { CanClose table.now seat.new }
+{
+    let pin = enter_block(rt, table, seat, frame, tag)?;
+    load_block(rt, table, seat, frame, tag, page);
+    let first = put(rt, table, seat, frame, tag, page);
+    let flushed = flush(rt, table, seat, frame, tag, lsn);
+    let again = flush(rt, table, seat, frame, tag, lsn);
+    let second = put(rt, table, seat, frame, tag, page);
+    table.unpin(rt, seat, pin);
+    Some(Tries {
+        first,
+        flushed,
+        again,
+        second,
+    })
 }

@@ -1,8 +1,10 @@
 //! Tables that are run.
 use crate::choosing::{choose, hand_of, use_frames};
+use crate::devices::TestLog;
 use crate::entering::leave_block;
-use crate::fixture::{block, table, word_of};
+use crate::fixture::{FRONT, block, one_item, table, table_over, word_of};
 use crate::locking::refusals;
+use crate::logging::{Tries, put_twice};
 use crate::pinning::{pin_often, pin_together, refusal, refusal_of_two};
 use clock_sweep::{Census, Sweep};
 use content_locks::TryLock;
@@ -10,6 +12,7 @@ use frame_table::TryPin;
 use page_layout::Page;
 use state_word::{pins, usage};
 use std::test::Fail;
+use wal_flush::{FlushLog, InsertError, begin_log};
 
 #[test]
 fn a_fresh_frame_has_no_tag(rt: HostRuntime) -> Result<(), Fail> {
@@ -116,5 +119,109 @@ fn the_clock_lowers_usage_and_comes_round(rt: HostRuntime) -> Result<(), Fail> {
     let (_lanes, _log) = table.close(seat);
     assert_eq!(rt; (used, chosen, at), (16, Some(0), 17));
     assert_eq!(rt; (pins(word), usage(word)), (0, 0));
+    Ok(())
+}
+
+/// The record of the block 5 that starts here, with a page of one item whose position ends it.
+fn push_record(bytes: &mut Vec<u8>, start: [u8; 2], end: [u8; 2], item: u8) -> Result<(), Fail> {
+    let mut page = [0u8; 8192];
+    page[..28].copy_from_slice(&FRONT);
+    page[4..8].copy_from_slice(&[end[0], end[1], 0, 0]);
+    page[8184] = item;
+    bytes.extend_from_slice(&[1, 0, 0, 0, 0, 0, 0, 0, 0, 0, 0, 0, 0, 0x40, 0, 0])?;
+    bytes.extend_from_slice(&[0, 0, 0, 0, 5, 0, 0, 0])?;
+    bytes.extend_from_slice(&[start[0], start[1], 0, 0, 0, 0, 0, 0])?;
+    bytes.extend_from_slice(&page)?;
+    Ok(())
+}
+
+#[test]
+fn two_inserts_are_two_records(rt: HostRuntime) -> Result<(), Fail> {
+    let mut log = TestLog::new(rt.alloc(), 0);
+    let begun = begin_log(&mut log, 0);
+    let mut page = one_item(rt.alloc(), 7)?;
+    let (table, mut seat) = table_over(rt.alloc(), log, 0)?;
+    let tag = block(&table, 5);
+    let tries = put_twice(&rt, &table, &mut seat, 3, tag, &mut page, 8224);
+    let (_lanes, log) = table.close(seat);
+    let mut expected = Vec::new(rt.alloc());
+    expected.extend_from_slice(b"PGBUFLOG\0\0\0\0\0\0\0\0")?;
+    push_record(&mut expected, [0, 0], [0x20, 0x20], 7)?;
+    push_record(&mut expected, [0x20, 0x20], [0x40, 0x40], 7)?;
+    assert_eq!(rt; begun, Ok(()));
+    assert_eq!(rt;
+        tries,
+        Some(Tries {
+            first: Some(Ok(8224)),
+            flushed: Ok(()),
+            again: Ok(()),
+            second: Some(Ok(16448)),
+        })
+    );
+    assert_eq!(rt; page.lsn(), 16448);
+    assert_eq!(rt; log.bytes.len(), 16464);
+    assert!(rt; log.bytes == expected);
+    Ok(())
+}
+
+#[test]
+fn the_last_position_fills_the_log(rt: HostRuntime) -> Result<(), Fail> {
+    let mut page = one_item(rt.alloc(), 7)?;
+    let end = 0x4000_0000_0000_0000;
+    let log = TestLog::new(rt.alloc(), 0);
+    let (table, mut seat) = table_over(rt.alloc(), log, end - 8224)?;
+    let tag = block(&table, 5);
+    let tries = put_twice(&rt, &table, &mut seat, 3, tag, &mut page, end);
+    let (_lanes, _log) = table.close(seat);
+    assert_eq!(rt;
+        tries,
+        Some(Tries {
+            first: Some(Ok(end)),
+            flushed: Ok(()),
+            again: Ok(()),
+            second: Some(Err(InsertError::LogFull { end })),
+        })
+    );
+    Ok(())
+}
+
+#[test]
+fn a_log_is_down_after_an_append_that_failed(rt: HostRuntime) -> Result<(), Fail> {
+    let mut page = one_item(rt.alloc(), 7)?;
+    let log = TestLog::new(rt.alloc(), 1);
+    let (table, mut seat) = table_over(rt.alloc(), log, 0)?;
+    let tag = block(&table, 5);
+    let tries = put_twice(&rt, &table, &mut seat, 3, tag, &mut page, 8224);
+    let (_lanes, _log) = table.close(seat);
+    let short = Err(FlushLog::LogShort { lsn: 8224, end: 0 });
+    assert_eq!(rt;
+        tries,
+        Some(Tries {
+            first: Some(Err(InsertError::LogFault)),
+            flushed: short,
+            again: short,
+            second: Some(Err(InsertError::LogDown { at: 0 })),
+        })
+    );
+    Ok(())
+}
+
+#[test]
+fn a_log_is_down_after_a_sync_that_failed(rt: HostRuntime) -> Result<(), Fail> {
+    let mut page = one_item(rt.alloc(), 7)?;
+    let log = TestLog::new(rt.alloc(), 2);
+    let (table, mut seat) = table_over(rt.alloc(), log, 0)?;
+    let tag = block(&table, 5);
+    let tries = put_twice(&rt, &table, &mut seat, 3, tag, &mut page, 8224);
+    let (_lanes, _log) = table.close(seat);
+    assert_eq!(rt;
+        tries,
+        Some(Tries {
+            first: Some(Ok(8224)),
+            flushed: Err(FlushLog::LogFault),
+            again: Err(FlushLog::LogDown { at: 8224 }),
+            second: Some(Err(InsertError::LogDown { at: 8224 })),
+        })
+    );
     Ok(())
 }
