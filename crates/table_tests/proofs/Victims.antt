@@ -12,52 +12,50 @@ use Rattle.pin_core.specs.declared.view.Role.TheVariants.{Absent}
 use Rattle.pin_core.specs.State.{hold, lane_hold, link, no_lane}
 use Rattle.table_rule.specs.declared.value.Value.{Value}
 use Rattle.frame_table.specs.declared.table.FrameTable.{FrameTable}
-use Rattle.frame_table.specs.Sees.{SameSeat, SameSelf, Touches, unlocked_link}
+use Rattle.frame_table.specs.Sees.{Looked, SameSeat, SameSelf, Touches, unlocked_link, unpinned_link}
 use Rattle.clock_sweep.specs.Keeping.{GetsHeader}
 use Rattle.clock_sweep.specs.Keeping as sweeping
-use Rattle.table_tests.specs.Work.{IsCalm, IsQuiet, Keeps, OnlyPins, PinsNone}
+use Rattle.table_tests.specs.Work.{IsCalm, Keeps, KeepsBeside, OnlyPins, SamePins}
 use Rattle.table_tests.proofs.Working.{calm_looked, calm_unlocked, same_hold}
 
-module _ {L G : Type 0} (t : FrameTable L G) (s s' : Seat (Value L G) View) (p : OnlyPins t s) (none : PinsNone s) (same : SameSeat s s') where
+module _ {L G : Type 0} (t : FrameTable L G) (s s' : Seat (Value L G) View) (p : OnlyPins t s) (same : SameSeat s s') where
   -- no header was taken
-  pub kept_pins : sweeping.Keeps s.me.0 s'.me.0 → OnlyPins t s' × PinsNone s'
-  kept_pins k = (
-    record {
-      quiet = record { fits = same.table ∙ p.quiet.fits; live = k.aside.self.emptied ∙ p.quiet.live; hand = same.hand ∙ p.quiet.hand; frames = λ f. calm_looked (link s.me.0 f) (link s'.me.0 f) (k.links f) (p.quiet.frames f); lanes = λ n. ap (λ (l : List LaneHold). (get_or l n no_lane).held) k.aside.self.lanes ∙ p.quiet.lanes n; log = ap (λ (h : LogHold). h.held) k.aside.self.log ∙ p.quiet.log };
-      no_victim = λ f victim. p.no_victim f (sym (k.links f).role ∙ victim);
-      partitions = λ q. ap (λ (x : PartitionHold). x.held) (same_hold s.me.0 s'.me.0 k.aside.partitions q) ∙ p.partitions q;
-    },
-    λ f. (k.links f).role ∙ none f,
-  )
+  pub kept_pins : sweeping.Keeps s.me.0 s'.me.0 → OnlyPins t s' × SamePins s s'
+  kept_pins k = (record {
+    quiet = record { fits = same.table ∙ p.quiet.fits; live = k.aside.self.emptied ∙ p.quiet.live; hand = same.hand ∙ p.quiet.hand; frames = λ f. calm_looked (link s.me.0 f) (link s'.me.0 f) (k.links f) (p.quiet.frames f); lanes = λ n. ap (λ (l : List LaneHold). (get_or l n no_lane).held) k.aside.self.lanes ∙ p.quiet.lanes n; log = ap (λ (h : LogHold). h.held) k.aside.self.log ∙ p.quiet.log };
+    no_victim = λ f victim. p.no_victim f (sym (k.links f).role ∙ victim);
+    partitions = λ q. ap (λ (x : PartitionHold). x.held) (same_hold s.me.0 s'.me.0 k.aside.partitions q) ∙ p.partitions q;
+  }, λ f. (k.links f).role)
 
   -- one was taken, and given up again
-  module _ (f word : ℕ) (g : GetsHeader f word s.me.0 s'.me.0) where
-    module _ (s'' : Seat (Value L G) View) (again : SameSeat s' s'') (after : Touches f s'.me.0 s''.me.0) (unlocked : link s''.me.0 f ≡ unlocked_link (link s'.me.0 f)) where
-      here : (link s''.me.0 f).role ≡ Absent
-      here = ap (λ (l : Link). l.role) unlocked ∙ g.here.role ∙ none f
+  module _ (f word : ℕ) (g : GetsHeader f word s.me.0 s'.me.0) (s'' : Seat (Value L G) View) (again : SameSeat s' s'') (after : Touches f s'.me.0 s''.me.0) (unlocked : link s''.me.0 f ≡ unlocked_link (link s'.me.0 f)) where
+    pins_same : SamePins s s''
+    pins_same h = dite (ℕ_discrete h f)
+        (λ e. subst (λ (x : ℕ). (link s''.me.0 x).role ≡ (link s.me.0 x).role) (sym e) (ap (λ (l : Link). l.role) unlocked ∙ g.here.role))
+        (λ n. ap (λ (l : Link). l.role) (after.others h n) ∙ (g.others h n).role)
 
-      pins_none : PinsNone s''
-      pins_none h = dite (ℕ_discrete h f) (λ e. subst (λ (x : ℕ). (link s''.me.0 x).role ≡ Absent) (sym e) here) (λ n. ap (λ (l : Link). l.role) (after.others h n) ∙ (g.others h n).role ∙ none h)
-
-      pub unlocked_pins : OnlyPins t s'' × PinsNone s''
-      unlocked_pins = (
-        record {
-          quiet = record {
-            fits = again.table ∙ same.table ∙ p.quiet.fits;
-            live = after.self.emptied ∙ g.aside.self.emptied ∙ p.quiet.live;
-            hand = again.hand ∙ same.hand ∙ p.quiet.hand;
-            frames = λ h. dite (ℕ_discrete h f)
-                (λ e. subst (λ (x : ℕ). IsCalm (link s''.me.0 x)) (sym e) (calm_unlocked (link s.me.0 f) (link s'.me.0 f) word g.here (p.quiet.frames f) (link s''.me.0 f) unlocked))
-                (λ n. subst IsCalm (sym (after.others h n)) (calm_looked (link s.me.0 h) (link s'.me.0 h) (g.others h n) (p.quiet.frames h)));
-            lanes = λ n. ap (λ (l : List LaneHold). (get_or l n no_lane).held) (after.self.lanes ∙ g.aside.self.lanes) ∙ p.quiet.lanes n;
-            log = ap (λ (x : LogHold). x.held) (after.self.log ∙ g.aside.self.log) ∙ p.quiet.log;
-          };
-          no_victim = λ h victim. p.no_victim h (none h ∙ sym (pins_none h) ∙ victim);
-          partitions = λ q. ap (λ (x : PartitionHold). x.held) (same_hold s'.me.0 s''.me.0 after.partitions q ∙ same_hold s.me.0 s'.me.0 g.aside.partitions q) ∙ p.partitions q;
-        },
-        pins_none,
-      )
+    pub unlocked_pins : OnlyPins t s'' × SamePins s s''
+    unlocked_pins = (record {
+      quiet = record {
+        fits = again.table ∙ same.table ∙ p.quiet.fits;
+        live = after.self.emptied ∙ g.aside.self.emptied ∙ p.quiet.live;
+        hand = again.hand ∙ same.hand ∙ p.quiet.hand;
+        frames = λ h. dite (ℕ_discrete h f)
+            (λ e. subst (λ (x : ℕ). IsCalm (link s''.me.0 x)) (sym e) (calm_unlocked (link s.me.0 f) (link s'.me.0 f) word g.here (p.quiet.frames f) (link s''.me.0 f) unlocked))
+            (λ n. subst IsCalm (sym (after.others h n)) (calm_looked (link s.me.0 h) (link s'.me.0 h) (g.others h n) (p.quiet.frames h)));
+        lanes = λ n. ap (λ (l : List LaneHold). (get_or l n no_lane).held) (after.self.lanes ∙ g.aside.self.lanes) ∙ p.quiet.lanes n;
+        log = ap (λ (x : LogHold). x.held) (after.self.log ∙ g.aside.self.log) ∙ p.quiet.log;
+      };
+      no_victim = λ h victim. p.no_victim h (sym (pins_same h) ∙ victim);
+      partitions = λ q. ap (λ (x : PartitionHold). x.held) (same_hold s'.me.0 s''.me.0 after.partitions q ∙ same_hold s.me.0 s'.me.0 g.aside.partitions q) ∙ p.partitions q;
+    }, pins_same)
 
 -- what such a call keeps of the seat
 pub keeps_aside : {L G : Type 0} (s s' : Seat (Value L G) View) → SameSeat s s' → SameSelf s.me.0 s'.me.0 → Keeps s s'
 keeps_aside s s' same self = record { table = same.table; id = same.id; joined = self.joined; next = self.next }
+
+-- A frame is pinned, other steps keep the pins, and the pin is given up: the seat pins what it pinned
+pub pins_back : {L G : Type 0} (f h : ℕ) (s s' r s'' : Seat (Value L G) View) → h ≡ f → (link s.me.0 f).role ≡ Absent → KeepsBeside f s s' → SamePins s' r → Touches h r.me.0 s''.me.0 → Looked (unpinned_link (link r.me.0 h)) (link s''.me.0 h) → SamePins s s''
+pins_back f h s s' r s'' e absent keeps same there given g = dite (ℕ_discrete g f)
+    (λ x. subst (λ (z : ℕ). (link s''.me.0 z).role ≡ (link s.me.0 z).role) (sym x) (subst (λ (z : ℕ). (link s''.me.0 z).role ≡ Absent) e given.role ∙ sym absent))
+    (λ n. ap (λ (l : Link). l.role) (there.others g (λ x. n (x ∙ e))) ∙ same g ∙ ap (λ (l : Link). l.role) (keeps.others g n))

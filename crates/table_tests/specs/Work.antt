@@ -136,6 +136,10 @@ module _ {L G : Type 0} where
   abbrev pub PinsNone : Seat (Value L G) View → Type 0
   PinsNone s = (f : ℕ) → (link s.me.0 f).role ≡ Absent
 
+  -- it pins the frames that it pinned, and in the same way
+  abbrev pub SamePins : Seat (Value L G) View → Seat (Value L G) View → Type 0
+  SamePins s s' = (f : ℕ) → (link s'.me.0 f).role ≡ (link s.me.0 f).role
+
   -- after a call the seat is the one before it, and its backend took no seat in or out
   pub record Keeps (s s' : Seat (Value L G) View) : Type 0 where
     pub table : s'.table_id ≡ s.table_id

@@ -1,10 +1,12 @@
 //! Victims.
-ghost use Rattle.std.specs.Prelude.{◌≡◌, ◌≤◌};
+ghost use Rattle.std.specs.Prelude.{◌≡◌, ◌≤◌, ℕ};
+ghost use Rattle.pin_core.specs.declared.view.Role.TheVariants.{Absent};
+ghost use Rattle.pin_core.specs.State.{link};
 ghost use Rattle.frame_table.specs.Closes.{CanClose};
 ghost use Rattle.frame_table.specs.Sees.{frames_of};
-ghost use Rattle.table_tests.specs.Work.{IsSmall, Keeps, OnlyPins, PinsNone};
+ghost use Rattle.table_tests.specs.Work.{IsSmall, Keeps, OnlyPins, PinsNone, SamePins};
 
-use crate::entering::leave_block;
+use crate::entering::{enter_block, leave_block};
 use crate::fixture::{Place, Table, block};
 use clock_sweep::{Census, Sweep, hand, victim};
 use std::sync::Wait;
@@ -17,11 +19,11 @@ pub fn choose<R: Wait>(
     sweep: &Sweep,
     census: &mut Census,
 ) -> Option<u32>
-    requires closes { CanClose table.now seat.old }
-    requires pins { OnlyPins table.now seat.old × PinsNone seat.old }
+    requires pins { OnlyPins table.now seat.old }
     requires census { census.old.frames ≡ frames_of table.now }
-    ensures closes { CanClose table.now seat.new }
-    ensures pins { OnlyPins table.now seat.new × PinsNone seat.new }
+    ensures pins { OnlyPins table.now seat.new }
+    ensures same { SamePins seat.old seat.new }
+    ensures keeps { Keeps seat.old seat.new }
     ensures census { census.new.frames ≡ census.old.frames }
 {
     let mut ring = None;
@@ -33,6 +35,55 @@ pub fn choose<R: Wait>(
         }
         Err(_why) => None,
     }
+}
+
+/// The same where the backend pins the frames from this one on, for a block each, while it chooses.
+fn choose_beneath<R: Wait>(
+    rt: &R,
+    table: &Table,
+    seat: &mut Place,
+    sweep: &Sweep,
+    census: &mut Census,
+    frame: u32,
+) -> Option<u32>
+    requires small { IsSmall table.now }
+    requires frame { frame ≤ 16 }
+    requires pins { OnlyPins table.now seat.old }
+    requires absent { (f : ℕ) → frame ≤ f → (link seat.old.me.0 f).role ≡ Absent }
+    requires census { census.old.frames ≡ frames_of table.now }
+    ensures pins { OnlyPins table.now seat.new }
+    ensures same { SamePins seat.old seat.new }
+    ensures keeps { Keeps seat.old seat.new }
+    ensures census { census.new.frames ≡ census.old.frames }
+{
+    if frame == 16 {
+        return choose(rt, table, seat, sweep, census);
+    }
+    let pin = enter_block(rt, table, seat, frame, block(table, frame))?;
+    let chosen = choose_beneath(rt, table, seat, sweep, census, frame + 1);
+    table.unpin(rt, seat, pin);
+    chosen
+}
+
+/// What is chosen where no frame is pinned but those from this one on.
+pub fn choose_among<R: Wait>(
+    rt: &R,
+    table: &Table,
+    seat: &mut Place,
+    sweep: &Sweep,
+    census: &mut Census,
+    frame: u32,
+) -> Option<u32>
+    requires small { IsSmall table.now }
+    requires frame { frame ≤ 16 }
+    requires closes { CanClose table.now seat.old }
+    requires pins { OnlyPins table.now seat.old × PinsNone seat.old }
+    requires census { census.old.frames ≡ frames_of table.now }
+    ensures closes { CanClose table.now seat.new }
+    ensures pins { OnlyPins table.now seat.new × PinsNone seat.new }
+    ensures census { census.new.frames ≡ census.old.frames }
+{
+    choose_beneath(rt, table, seat, sweep, census, frame)
 }
 
 /// Each frame gets a block, and its pin is given up: its usage count is 1 then. How many got one.

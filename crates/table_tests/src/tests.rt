@@ -1,5 +1,5 @@
 //! Tables that are run.
-use crate::choosing::{choose, hand_of, use_frames};
+use crate::choosing::{choose_among, hand_of, use_frames};
 use crate::devices::TestLog;
 use crate::entering::leave_block;
 use crate::fixture::{FRONT, block, one_item, table, table_over, word_of};
@@ -97,9 +97,9 @@ fn fresh_frames_are_chosen_in_order(rt: HostRuntime) -> Result<(), Fail> {
     let sweep = Sweep::build(rt.alloc(), 16)?;
     let mut census = Census::build(rt.alloc(), 16)?;
     let (table, mut seat) = table(rt.alloc())?;
-    let first = choose(&rt, &table, &mut seat, &sweep, &mut census);
-    let second = choose(&rt, &table, &mut seat, &sweep, &mut census);
-    let third = choose(&rt, &table, &mut seat, &sweep, &mut census);
+    let first = choose_among(&rt, &table, &mut seat, &sweep, &mut census, 16);
+    let second = choose_among(&rt, &table, &mut seat, &sweep, &mut census, 16);
+    let third = choose_among(&rt, &table, &mut seat, &sweep, &mut census, 16);
     let at = hand_of(&table, &mut seat);
     let (_lanes, _log) = table.close(seat);
     assert_eq!(rt; [first, second, third], [Some(0), Some(1), Some(2)]);
@@ -113,7 +113,7 @@ fn the_clock_lowers_usage_and_comes_round(rt: HostRuntime) -> Result<(), Fail> {
     let mut census = Census::build(rt.alloc(), 16)?;
     let (table, mut seat) = table(rt.alloc())?;
     let used = use_frames(&rt, &table, &mut seat);
-    let chosen = choose(&rt, &table, &mut seat, &sweep, &mut census);
+    let chosen = choose_among(&rt, &table, &mut seat, &sweep, &mut census, 16);
     let at = hand_of(&table, &mut seat);
     let word = word_of(&table, &mut seat, 15);
     let (_lanes, _log) = table.close(seat);
@@ -223,5 +223,34 @@ fn a_log_is_down_after_a_sync_that_failed(rt: HostRuntime) -> Result<(), Fail> {
             second: Some(Err(InsertError::LogDown { at: 8224 })),
         })
     );
+    Ok(())
+}
+
+#[test]
+fn the_one_unpinned_frame_is_found(rt: HostRuntime) -> Result<(), Fail> {
+    let sweep = Sweep::build(rt.alloc(), 16)?;
+    let mut census = Census::build(rt.alloc(), 16)?;
+    let (table, mut seat) = table(rt.alloc())?;
+    let tag = block(&table, 63);
+    let entered = leave_block(&rt, &table, &mut seat, 0, tag);
+    let chosen = choose_among(&rt, &table, &mut seat, &sweep, &mut census, 1);
+    let at = hand_of(&table, &mut seat);
+    let (_lanes, _log) = table.close(seat);
+    assert_eq!(rt; (entered, chosen, at), (true, Some(0), 17));
+    assert_eq!(rt; census.census().len(), 0);
+    Ok(())
+}
+
+#[test]
+fn a_census_shows_each_frame_pinned(rt: HostRuntime) -> Result<(), Fail> {
+    let sweep = Sweep::build(rt.alloc(), 16)?;
+    let mut census = Census::build(rt.alloc(), 16)?;
+    let (table, mut seat) = table(rt.alloc())?;
+    let chosen = choose_among(&rt, &table, &mut seat, &sweep, &mut census, 0);
+    let at = hand_of(&table, &mut seat);
+    let (_lanes, _log) = table.close(seat);
+    assert_eq!(rt; (chosen, at), (None, 16));
+    assert_eq!(rt; census.census().len(), 16);
+    assert!(rt; census.census().iter().all(|word| pins(*word) == 1));
     Ok(())
 }
