@@ -6,7 +6,11 @@ use Rattle.atomic_table.specs.declared.shared.Seat.{Seat}
 use Rattle.state_word.specs.Fields.{fields, locked_fields}
 use Rattle.pin_core.specs.declared.view.View.{View}
 use Rattle.pin_core.specs.declared.view.Link.{Link}
+use Rattle.pin_core.specs.declared.view.Role.{Role}
+use Rattle.pin_core.specs.declared.view.Role.TheVariants.{Absent, HandedOut, Victim}
 use Rattle.pin_core.specs.State.{link}
+use Rattle.pin_core.proofs.Schedules.{own_pins}
+use Rattle.state_word.specs.declared.word.StateWord.{StateWord}
 use Rattle.pin_core.specs.Kinds as pin
 use Rattle.pin_core.specs.Steps.{HoldsNoHeader}
 use Rattle.history_core.specs.State.{State}
@@ -249,6 +253,32 @@ chooses_gets n place v w held (choice.from_ring source e t) none = takes_gets 1 
 chooses_gets n place v w held (choice.from_list {u = u} {x = x} source r l t) none = let a = ring_keeps n place v u r none in let b = keeps_on v u x a (list_keeps n u x l (headless_on v u a none)) in takes_gets 0 held v x w b t
 chooses_gets n place v w held (choice.by_clock {u = u} {x = x} {y = y} {left = left} source r l c t) none = let a = ring_keeps n place v u r none in let b = keeps_on v u x a (list_keeps n u x l (headless_on v u a none)) in
     takes_gets 0 held v y w (keeps_on v x y b (comes_keep n x y held.frame left c (headless_on v x b none))) t
+
+-- a frame that no backend pins isn't pinned by this one
+takes_absent : (limit : ℕ) (held : Held) (v w : View) → Takes limit held v w → (link w held.frame).role ≡ Absent
+takes_absent limit held v w t = ap (λ (l : Link). l.role) (link_is (pins pin.lock_header) held.frame t.locks.was t.locks.before w t.locks.did) ∙ of_role (link t.locks.before held.frame).role refl
+  where
+    none : (t.locks.did.state.pool.core.frame held.frame).word.pins ≡ 0
+    none = ap (λ (x : StateWord). x.pins) t.locks.did.says ∙ sym (ap (λ (x : StateWord). x.pins) t.locks.held) ∙ t.fit.unpinned
+
+    some : (link t.locks.before held.frame).role ≢ Absent → 0 < (t.locks.did.state.pool.core.frame held.frame).word.pins
+    some pinned = own_pins t.locks.did.state.pool.core t.locks.did.laws.invariant.pool.core t.locks.did.seat held.frame t.locks.before t.locks.did.there t.locks.did.inside pinned
+
+    of_role : (r : Role) → (link t.locks.before held.frame).role ≡ r → r ≡ Absent
+    of_role Absent e = refl
+    of_role HandedOut e = let a = some (λ no. let x : HandedOut ≡ Absent = sym e ∙ no in absurd (cc)) in absurd (omega (arith, a, none))
+    of_role Victim e = let a = some (λ no. let x : Victim ≡ Absent = sym e ∙ no in absurd (cc)) in absurd (omega (arith, a, none))
+
+pub chooses_absent : (n : ℕ) (place : Option ℕ) (v w : View) (held : Held) → Chooses n place v w held → GetsHeader held.frame held.word v w → (link v held.frame).role ≡ Absent
+chooses_absent n place v w held (choice.from_ring source e t) g = sym g.here.role ∙ takes_absent 1 held v w t
+chooses_absent n place v w held (choice.from_list {u = u} {x = x} source r l t) g = sym g.here.role ∙ takes_absent 0 held x w t
+chooses_absent n place v w held (choice.by_clock {u = u} {x = x} {y = y} {left = left} source r l c t) g = sym g.here.role ∙ takes_absent 0 held y w t
+
+-- what was taken from the ring stands at its place
+pub chooses_place : (n : ℕ) (place : Option ℕ) (v w : View) (held : Held) → Chooses n place v w held → held.from_ring ≡ true → place ≡ Some held.frame
+chooses_place n place v w held (choice.from_ring source e t) ring = e
+chooses_place n place v w held (choice.from_list source r l t) ring = let no : false ≡ true = sym source ∙ ring in absurd (cc)
+chooses_place n place v w held (choice.by_clock source r l c t) ring = let no : false ≡ true = sym source ∙ ring in absurd (cc)
 
 pub none_keeps : (n : ℕ) (place : Option ℕ) (v w : View) (words : List ℕ) → FindsNone n place v w words → HoldsNoHeader v → Keeps v w
 none_keeps n place v w words k none = let a = ring_keeps n place v k.listed k.ring none in let b = keeps_on v k.listed k.started a (list_keeps n k.listed k.started k.free (headless_on v k.listed a none)) in let c = keeps_on v k.started k.tired b (sweeps_keep n k.started k.tired 0 k.clock (headless_on v k.started b none)) in

@@ -2,6 +2,8 @@
 ghost use Rattle.std.specs.Prelude.{◌≡◌, ◌<◌, ◌≤◌, ℕ, IfErr, IfNone, IfOk, IfSome, Some, true, false, length};
 ghost use Rattle.state_word.specs.Fields.{fields};
 ghost use Rattle.pin_core.specs.declared.view.View.{View};
+ghost use Rattle.pin_core.specs.declared.view.Role.TheVariants.{Absent};
+ghost use Rattle.pin_core.specs.State.{link};
 ghost use Rattle.pin_core.specs.Steps.{HoldsNoHeader};
 ghost use Rattle.frame_table.specs.Sees.{IsSeat, SameSeat, frames_of};
 ghost use Rattle.clock_sweep.specs.CensusList.{new_census};
@@ -103,8 +105,10 @@ pub fn victim<L: BlockLane, G: LogDevice, R: Wait>(
     ensures seat { SameSeat seat.old seat.new }
     ensures inside { IfOk result (λ held. held.frame < frames_of table.now) }
     ensures held { IfOk result (λ held. GetsHeader held.frame held.word seat.old.me.0 seat.new.me.0) }
+    ensures absent { IfOk result (λ held. (link seat.old.me.0 held.frame).role ≡ Absent) }
     ensures fit { IfOk result (λ held. IsFit (usage_allowed held.from_ring) (fields held.word)) }
     ensures kept { IfOk result (λ held. ring.new ≡ ring_keeping held.from_ring held.frame (ring_gone_on ring.old)) }
+    ensures stands { IfOk result (λ held. held.from_ring ≡ true → frame_at_place ring.new ≡ Some held.frame) }
     ensures did { IfOk result (Chooses (frames_of table.now) (frame_at_place (ring_gone_on ring.old)) seat.old.me.0 seat.new.me.0) }
     ensures no_census { IfOk result (λ _. census.new ≡ new_census (frames_of table.now)) }
     ensures frames { IfErr result (λ why. why.frames ≡ frames_of table.now) }

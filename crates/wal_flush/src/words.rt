@@ -1,7 +1,7 @@
 //! The log's two positions.
 ghost use Rattle.std.specs.Prelude.{◌≡◌, ◌≤◌};
 ghost use Rattle.frame_table.specs.Behind.{DidWord, load_end, load_flushed, view_of};
-ghost use Rattle.frame_table.specs.Sees.{IsSeat, SameSeat};
+ghost use Rattle.frame_table.specs.Sees.{IsSeat, SameSeat, base_of};
 
 use atomic_table::Seat;
 use frame_table::{EndLoad, FrameTable, Value};
@@ -19,6 +19,7 @@ pub fn log_end<L: BlockLane, G: LogDevice>(
     ensures seat { SameSeat seat.old seat.new }
     ensures view { seat.new.me.0 ≡ view_of load_end result seat.old.me.0 }
     ensures front { seat.old.me.0.front ≤ result }
+    ensures base { base_of table.now ≤ result }
     ensures did { DidWord load_end seat.old.me.0 seat.new.me.0 result }
 {
     table.load_log_end(seat, EndLoad::Plain)
@@ -32,6 +33,7 @@ pub fn flushed<L: BlockLane, G: LogDevice>(
     requires { IsSeat table.now seat.old }
     ensures seat { SameSeat seat.old seat.new }
     ensures view { seat.new.me.0 ≡ view_of load_flushed result seat.old.me.0 }
+    ensures flushed { seat.old.me.0.flushed ≤ result }
     ensures did { DidWord load_flushed seat.old.me.0 seat.new.me.0 result }
 {
     table.load_flushed(seat)
