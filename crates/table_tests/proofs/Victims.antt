@@ -21,11 +21,14 @@ use Rattle.table_tests.proofs.Working.{calm_looked, calm_unlocked, same_hold}
 module _ {L G : Type 0} (t : FrameTable L G) (s s' : Seat (Value L G) View) (p : OnlyPins t s) (same : SameSeat s s') where
   -- no header was taken
   pub kept_pins : sweeping.Keeps s.me.0 s'.me.0 → OnlyPins t s' × SamePins s s'
-  kept_pins k = (record {
-    quiet = record { fits = same.table ∙ p.quiet.fits; live = k.aside.self.emptied ∙ p.quiet.live; hand = same.hand ∙ p.quiet.hand; frames = λ f. calm_looked (link s.me.0 f) (link s'.me.0 f) (k.links f) (p.quiet.frames f); lanes = λ n. ap (λ (l : List LaneHold). (get_or l n no_lane).held) k.aside.self.lanes ∙ p.quiet.lanes n; log = ap (λ (h : LogHold). h.held) k.aside.self.log ∙ p.quiet.log };
-    no_victim = λ f victim. p.no_victim f (sym (k.links f).role ∙ victim);
-    partitions = λ q. ap (λ (x : PartitionHold). x.held) (same_hold s.me.0 s'.me.0 k.aside.partitions q) ∙ p.partitions q;
-  }, λ f. (k.links f).role)
+  kept_pins k = (
+    record {
+      quiet = record { fits = same.table ∙ p.quiet.fits; live = k.aside.self.emptied ∙ p.quiet.live; hand = same.hand ∙ p.quiet.hand; frames = λ f. calm_looked (link s.me.0 f) (link s'.me.0 f) (k.links f) (p.quiet.frames f); lanes = λ n. ap (λ (l : List LaneHold). (get_or l n no_lane).held) k.aside.self.lanes ∙ p.quiet.lanes n; log = ap (λ (h : LogHold). h.held) k.aside.self.log ∙ p.quiet.log };
+      no_victim = λ f victim. p.no_victim f (sym (k.links f).role ∙ victim);
+      partitions = λ q. ap (λ (x : PartitionHold). x.held) (same_hold s.me.0 s'.me.0 k.aside.partitions q) ∙ p.partitions q;
+    },
+    λ f. (k.links f).role,
+  )
 
   -- one was taken, and given up again
   module _ (f word : ℕ) (g : GetsHeader f word s.me.0 s'.me.0) (s'' : Seat (Value L G) View) (again : SameSeat s' s'') (after : Touches f s'.me.0 s''.me.0) (unlocked : link s''.me.0 f ≡ unlocked_link (link s'.me.0 f)) where
@@ -35,20 +38,23 @@ module _ {L G : Type 0} (t : FrameTable L G) (s s' : Seat (Value L G) View) (p :
         (λ n. ap (λ (l : Link). l.role) (after.others h n) ∙ (g.others h n).role)
 
     pub unlocked_pins : OnlyPins t s'' × SamePins s s''
-    unlocked_pins = (record {
-      quiet = record {
-        fits = again.table ∙ same.table ∙ p.quiet.fits;
-        live = after.self.emptied ∙ g.aside.self.emptied ∙ p.quiet.live;
-        hand = again.hand ∙ same.hand ∙ p.quiet.hand;
-        frames = λ h. dite (ℕ_discrete h f)
-            (λ e. subst (λ (x : ℕ). IsCalm (link s''.me.0 x)) (sym e) (calm_unlocked (link s.me.0 f) (link s'.me.0 f) word g.here (p.quiet.frames f) (link s''.me.0 f) unlocked))
-            (λ n. subst IsCalm (sym (after.others h n)) (calm_looked (link s.me.0 h) (link s'.me.0 h) (g.others h n) (p.quiet.frames h)));
-        lanes = λ n. ap (λ (l : List LaneHold). (get_or l n no_lane).held) (after.self.lanes ∙ g.aside.self.lanes) ∙ p.quiet.lanes n;
-        log = ap (λ (x : LogHold). x.held) (after.self.log ∙ g.aside.self.log) ∙ p.quiet.log;
-      };
-      no_victim = λ h victim. p.no_victim h (sym (pins_same h) ∙ victim);
-      partitions = λ q. ap (λ (x : PartitionHold). x.held) (same_hold s'.me.0 s''.me.0 after.partitions q ∙ same_hold s.me.0 s'.me.0 g.aside.partitions q) ∙ p.partitions q;
-    }, pins_same)
+    unlocked_pins = (
+      record {
+        quiet = record {
+          fits = again.table ∙ same.table ∙ p.quiet.fits;
+          live = after.self.emptied ∙ g.aside.self.emptied ∙ p.quiet.live;
+          hand = again.hand ∙ same.hand ∙ p.quiet.hand;
+          frames = λ h. dite (ℕ_discrete h f)
+              (λ e. subst (λ (x : ℕ). IsCalm (link s''.me.0 x)) (sym e) (calm_unlocked (link s.me.0 f) (link s'.me.0 f) word g.here (p.quiet.frames f) (link s''.me.0 f) unlocked))
+              (λ n. subst IsCalm (sym (after.others h n)) (calm_looked (link s.me.0 h) (link s'.me.0 h) (g.others h n) (p.quiet.frames h)));
+          lanes = λ n. ap (λ (l : List LaneHold). (get_or l n no_lane).held) (after.self.lanes ∙ g.aside.self.lanes) ∙ p.quiet.lanes n;
+          log = ap (λ (x : LogHold). x.held) (after.self.log ∙ g.aside.self.log) ∙ p.quiet.log;
+        };
+        no_victim = λ h victim. p.no_victim h (sym (pins_same h) ∙ victim);
+        partitions = λ q. ap (λ (x : PartitionHold). x.held) (same_hold s'.me.0 s''.me.0 after.partitions q ∙ same_hold s.me.0 s'.me.0 g.aside.partitions q) ∙ p.partitions q;
+      },
+      pins_same,
+    )
 
 -- what such a call keeps of the seat
 pub keeps_aside : {L G : Type 0} (s s' : Seat (Value L G) View) → SameSeat s s' → SameSelf s.me.0 s'.me.0 → Keeps s s'

@@ -1,5 +1,5 @@
 //! Victims.
-ghost use Rattle.std.specs.Prelude.{◌≡◌, ◌≤◌, ℕ};
+ghost use Rattle.std.specs.Prelude.{◌≡◌, ◌<◌, ◌≤◌, ℕ};
 ghost use Rattle.pin_core.specs.declared.view.Role.TheVariants.{Absent};
 ghost use Rattle.pin_core.specs.State.{link};
 ghost use Rattle.frame_table.specs.Closes.{CanClose};
@@ -101,6 +101,33 @@ pub fn use_frames<R: Wait>(rt: &R, table: &Table, seat: &mut Place) -> u32
         }
     }
     used
+}
+
+/// Pins a frame that has a tag, and gives it up.
+fn touch<R: Wait>(rt: &R, table: &Table, seat: &mut Place, frame: u32) -> bool
+    requires pins { OnlyPins table.now seat.old × PinsNone seat.old }
+    requires frame { frame < frames_of table.now }
+    ensures pins { OnlyPins table.now seat.new × PinsNone seat.new }
+    ensures keeps { Keeps seat.old seat.new }
+{
+    let Ok(pin) = table.try_pin(seat, frame, false) else {
+        return false;
+    };
+    table.unpin(rt, seat, pin);
+    true
+}
+
+/// The same this many times: the usage count grows by as much, up to 5.
+pub fn touch_often<R: Wait>(rt: &R, table: &Table, seat: &mut Place, frame: u32, times: u32)
+    requires closes { CanClose table.now seat.old }
+    requires pins { OnlyPins table.now seat.old × PinsNone seat.old }
+    requires frame { frame < frames_of table.now }
+    ensures closes { CanClose table.now seat.new }
+    ensures pins { OnlyPins table.now seat.new × PinsNone seat.new }
+{
+    for _ in 0..times {
+        touch(rt, table, seat, frame);
+    }
 }
 
 /// Where the clock's hand stands.

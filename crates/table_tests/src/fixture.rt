@@ -84,7 +84,9 @@ pub fn block(_table: &Table, number: u32) -> Tag
 pub fn word_of(table: &Table, seat: &mut Place, frame: u32) -> u64
     requires closes { CanClose table.now seat.old }
     requires frame { frame < frames_of table.now }
-    ensures { CanClose table.now seat.new }
+    ensures closes { CanClose table.now seat.new }
+    ensures pins { OnlyPins table.now seat.old → OnlyPins table.now seat.new }
+    ensures none { PinsNone seat.old → PinsNone seat.new }
 {
     table.look(seat, frame)
 }

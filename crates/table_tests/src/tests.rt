@@ -1,5 +1,5 @@
 //! Tables that are run.
-use crate::choosing::{choose_among, hand_of, use_frames};
+use crate::choosing::{choose_among, hand_of, touch_often, use_frames};
 use crate::devices::TestLog;
 use crate::entering::leave_block;
 use crate::fixture::{FRONT, block, one_item, table, table_over, word_of};
@@ -233,10 +233,13 @@ fn the_one_unpinned_frame_is_found(rt: HostRuntime) -> Result<(), Fail> {
     let (table, mut seat) = table(rt.alloc())?;
     let tag = block(&table, 63);
     let entered = leave_block(&rt, &table, &mut seat, 0, tag);
+    touch_often(&rt, &table, &mut seat, 0, 9);
+    let usage_before = usage(word_of(&table, &mut seat, 0));
     let chosen = choose_among(&rt, &table, &mut seat, &sweep, &mut census, 1);
     let at = hand_of(&table, &mut seat);
     let (_lanes, _log) = table.close(seat);
-    assert_eq!(rt; (entered, chosen, at), (true, Some(0), 17));
+    assert_eq!(rt; (entered, usage_before), (true, 5));
+    assert_eq!(rt; (chosen, at), (Some(0), 81));
     assert_eq!(rt; census.census().len(), 0);
     Ok(())
 }

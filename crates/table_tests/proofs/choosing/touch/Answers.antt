@@ -1,0 +1,10 @@
+use Rattle.table_tests.proofs.Working.{keeps_touched, none_given_up, pinned_pins, pins_given_up}
+use Rattle.table_tests.proofs.choosing.touch.Goals as goal
+
+pub returns-clause-pins : goal.returns-clause-pins
+returns-clause-pins g c =
+    let a = c.try_pin.ensures in
+    let u = c.unpin.ensures in
+    let keeps = keeps_touched _ _ a.seat c.args.frame a.touches.self a.touches.others in
+    let p = pinned_pins _ _ _ c.requires.pins.0 _ _ a.seat a.touches c.in-Ok.ensures.pinned in
+    (pins_given_up _ _ _ _ _ _ c.in-Ok.ensures.pin c.requires.pins.0.no_victim keeps p.quiet p.partitions u.seat u.touches u.unpinned, none_given_up _ _ _ c.try_pin.new.seat c.unpin.new.seat c.in-Ok.ensures.pin c.requires.pins.1 keeps u.touches u.unpinned)
