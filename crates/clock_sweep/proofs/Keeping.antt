@@ -1,5 +1,7 @@
 -- What the steps of a choice leave of the view.
 use Rattle.std.proofs.Common.{◌≡◌, ◌≢◌, ℕ, Option, IfNone, Result, Ok, Err, IfOk, IfErr, ◌<◌, ◌≤◌, List, [], ◌∷◌, length, Bool, true, false, Some, None, sym, refl, ap, ◌∙◌, subst, arith, length-append}
+use Rattle.std.specs.List.{All}
+use Rattle.std.proofs.lemmas.List.Elements.{All-nil, All-push}
 use mathlib.Core.Logic.{dite}
 use native.Mathlib.Decide.{ℕ_discrete}
 use Rattle.atomic_table.specs.declared.shared.Seat.{Seat}
@@ -209,9 +211,13 @@ pub counts_from : (entry v : View) → SamePins entry v → (k : ℕ) (w : View)
 counts_from entry v first k w words choice.nothing = choice.nothing
 counts_from entry v first k w words (choice.one_more {f = f} {u = u} {words = before} word c same d some) = choice.one_more word (counts_from entry v first f u before c) (λ g. same g ∙ first g) d some
 
-pub counts_each : (entry v : View) (k : ℕ) (w : View) (words : List ℕ) → Counts entry v k w words → length words ≡ k
-counts_each entry v k w words choice.nothing = refl
-counts_each entry v k w words (choice.one_more {f = f} {u = u} {words = before} word c same d some) = let e = counts_each entry v f u before c in let g = length-append before (word ∷ []) in omega arith
+pub counts_length : (entry v : View) (k : ℕ) (w : View) (words : List ℕ) → Counts entry v k w words → length words ≡ k
+counts_length entry v k w words choice.nothing = refl
+counts_length entry v k w words (choice.one_more {f = f} {u = u} {words = before} word c same d some) = let e = counts_length entry v f u before c in let g = length-append before (word ∷ []) in omega arith
+
+pub counts_pinned : (entry v : View) (k : ℕ) (w : View) (words : List ℕ) → Counts entry v k w words → All (λ word. 0 < (fields word).pins) words
+counts_pinned entry v k w words choice.nothing = All-nil (λ word. 0 < (fields word).pins)
+counts_pinned entry v k w words (choice.one_more {f = f} {u = u} {words = before} word c same d some) = All-push (λ x. 0 < (fields x).pins) before word (counts_pinned entry v f u before c) some
 
 -- the clock
 pub next_keeps : (n tries : ℕ) (v w : View) (f left : ℕ) → NextIs n tries v w f left → Keeps v w

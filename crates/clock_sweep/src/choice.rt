@@ -1,5 +1,6 @@
 //! The choice of a victim.
 ghost use Rattle.std.specs.Prelude.{◌≡◌, ◌<◌, ◌≤◌, ℕ, IfErr, IfNone, IfOk, IfSome, Some, true, false, length};
+ghost use Rattle.std.specs.List.{All};
 ghost use Rattle.state_word.specs.Fields.{fields};
 ghost use Rattle.pin_core.specs.declared.view.View.{View};
 ghost use Rattle.pin_core.specs.declared.view.Role.TheVariants.{Absent};
@@ -115,7 +116,8 @@ pub fn victim<L: BlockLane, G: LogDevice, R: Wait>(
     ensures left { IfErr result (λ _. Keeps seat.old.me.0 seat.new.me.0) }
     ensures passed { IfErr result (λ _. ring.new ≡ ring_gone_on ring.old) }
     ensures cause { IfErr result (λ _. FindsNone (frames_of table.now) (frame_at_place (ring_gone_on ring.old)) seat.old.me.0 seat.new.me.0 census.new.words) }
-    ensures each { IfErr result (λ _. length census.new.words ≡ frames_of table.now) }
+    ensures counted { IfErr result (λ _. length census.new.words ≡ frames_of table.now) }
+    ensures pinned { IfErr result (λ _. All (λ word. 0 < (fields word).pins) census.new.words) }
     ensures room { census.new.frames ≡ census.old.frames }
 {
     census.clear();

@@ -22,7 +22,7 @@ use log_device::LogDevice;
 use pin_core::View;
 use segment_store::BlockLane;
 use std::marker::Brand;
-use table_rule::{LogCall, NotedLog, Turn, Value, end_place};
+use table_rule::{NotedLog, Turn, Value, end_place};
 
 impl<L: BlockLane, G: LogDevice> FrameTable<L, G> {
     /// The slot of the log.
@@ -74,7 +74,7 @@ impl<L: BlockLane, G: LogDevice> FrameTable<L, G> {
         seat: &mut Seat<Value<L, G>, View>,
         place: usize,
         slot: usize,
-        mut log: NotedLog<G>,
+        log: NotedLog<G>,
     )
         requires known { (D.call ≡ log.call) × (D.bytes ≡ G.bytes log.device) × (D.faults ≡ G.faults log.device) }
         requires place { (place ≡ latch_place (frames_of self.now) Log) × (slot ≡ slot_of (frames_of self.now) (Of Log)) }
@@ -86,8 +86,8 @@ impl<L: BlockLane, G: LogDevice> FrameTable<L, G> {
         ensures hand { seat.new.me.1 ≡ rest seat.old.me.1 }
         ensures came { LogCame G.bytes G.synced G.faults log seat.old.me.0 seat.new.me.0 }
     {
-        log.call = LogCall::Untouched;
-        let away = self.table.shared.exchange(seat, slot, Value::Log(log));
+        let home = log.settled();
+        let away = self.table.shared.exchange(seat, slot, Value::Log(home));
         let Value::Away = away else { unreachable!() };
         self.table.shared.load::<LogBack<D>>(seat, place);
     }

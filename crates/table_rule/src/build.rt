@@ -6,8 +6,8 @@ ghost use Rattle.table_rule.specs.declared.value.Value.{Value};
 ghost use Rattle.table_rule.specs.declared.value.Value.TheVariants as value;
 ghost use Rattle.table_rule.specs.Laid.{AddsMaps, AreBlank, AreFresh, AreOpening, AreSlots, EndsWith, IsPlain, IsRoom, home_lane, lanes_in, zero_page};
 
-use crate::noted_lane::{LaneCall, NotedLane};
-use crate::noted_log::{LogCall, NotedLog};
+use crate::noted_lane::NotedLane;
+use crate::noted_log::NotedLog;
 use crate::value::{Mapped, Value};
 use block_tag::PARTITIONS;
 use page_layout::Page;
@@ -123,8 +123,7 @@ fn put_lanes<L, G>(slots: &mut Vec<Value<L, G>>, lanes: &mut Vec<L>)
 {
     lanes.reverse();
     while let Some(lane) = lanes.pop() {
-        let call = LaneCall::Untouched;
-        put(slots, Value::Lane(NotedLane { device: lane, call }));
+        put(slots, Value::Lane(NotedLane::new(lane)));
     }
 }
 
@@ -167,13 +166,7 @@ impl Room {
         put_maps(slots, maps, _frames as usize);
         put_lanes(slots, &mut lanes);
         put_aways(slots, aways);
-        let log = NotedLog {
-            device: log,
-            down: None,
-            buffer,
-            call: LogCall::Untouched,
-        };
-        put(slots, Value::Log(log));
+        put(slots, Value::Log(NotedLog::new(log, buffer)));
         put(slots, Value::Lanes(lanes));
     }
 }

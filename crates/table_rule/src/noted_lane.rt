@@ -40,24 +40,31 @@ pub enum LaneCall {
 
 /// A lane, and the call of it that was made since it went out.
 pub struct NotedLane<L> {
-    pub device: L,
-    pub call: LaneCall,
+    device: L,
+    call: LaneCall,
 }
 
 impl<L> NotedLane<L> {
+    /// A lane that wasn't called.
+    pub(crate) fn new(device: L) -> NotedLane<L>
+        ensures { result ≡ record { device = device; call = lane_call.Untouched } }
+    {
+        NotedLane {
+            device,
+            call: LaneCall::Untouched,
+        }
+    }
+
     /// The lane without the note of a call.
     pub fn settled(self) -> NotedLane<L>
         ensures device { result.device ≡ self.device }
         ensures call { result.call ≡ lane_call.Untouched }
     {
-        NotedLane {
-            device: self.into_device(),
-            call: LaneCall::Untouched,
-        }
+        NotedLane::new(self.into_device())
     }
 
     /// The lane itself.
-    pub fn into_device(self) -> L
+    pub(crate) fn into_device(self) -> L
         ensures { result ≡ self.device }
     {
         let NotedLane {

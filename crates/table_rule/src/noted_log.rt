@@ -38,12 +38,12 @@ pub enum LogCall {
 
 /// The log, and the call of it that was made since it went out.
 pub struct NotedLog<G> {
-    pub device: G,
+    device: G,
     /// Once a call has failed, the log is down for good: this is the log's end as it was then.
-    pub down: Option<u64>,
+    down: Option<u64>,
     /// Room for one record.
-    pub buffer: Vec<u8>,
-    pub call: LogCall,
+    buffer: Vec<u8>,
+    call: LogCall,
 }
 
 /// Puts bytes behind those in a buffer that has room.
@@ -93,8 +93,20 @@ fn put_name(buffer: &mut Vec<u8>, entry: RelEntry, tag: Tag)
 }
 
 impl<G> NotedLog<G> {
+    /// A log that is up and wasn't called, with room for a record.
+    pub(crate) fn new(device: G, buffer: Vec<u8>) -> NotedLog<G>
+        ensures { result ≡ record { device = device; down = None; buffer = buffer; call = log_call.Untouched } }
+    {
+        NotedLog {
+            device,
+            down: None,
+            buffer,
+            call: LogCall::Untouched,
+        }
+    }
+
     /// The log itself.
-    pub fn into_device(self) -> G
+    pub(crate) fn into_device(self) -> G
         ensures { result ≡ self.device }
     {
         let NotedLog {
@@ -104,6 +116,21 @@ impl<G> NotedLog<G> {
             call: _call,
         } = self;
         device
+    }
+
+    /// Where the log ended as a call of it failed; None while none has.
+    pub fn down(&self) -> Option<u64>
+        ensures { result ≡ self.now.down }
+    {
+        self.down
+    }
+
+    /// The log without the note of a call.
+    pub fn settled(mut self) -> NotedLog<G>
+        ensures { result ≡ record self { call = log_call.Untouched } }
+    {
+        self.call = LogCall::Untouched;
+        self
     }
 
     /// Fills the buffer with the record of a block's page, which starts at this position of the log (`XLogInsert`).

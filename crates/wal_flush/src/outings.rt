@@ -56,7 +56,7 @@ pub(crate) fn take_log<L: BlockLane, G: LogDevice>(
     ensures down { IfErr result (λ at. FindsDown at seat.old.me.0 seat.new.me.0) }
 {
     let log = table.log_out(seat);
-    let Some(at) = log.down else {
+    let Some(at) = log.down() else {
         return Ok(log);
     };
     table.log_back(seat, log);

@@ -1,14 +1,14 @@
 use Rattle.std.proofs.Common.{[], ◌∷◌, ◌++◌, arith, refl, sym, subst, ap, ◌∙◌}
 use Rattle.clock_sweep.specs.CensusList.{CensusList}
 use Rattle.clock_sweep.specs.Choosing.{Counts, nothing, one_more}
-use Rattle.clock_sweep.proofs.Keeping.{counts_each, counts_keep, same_none, same_on, same_pins}
+use Rattle.clock_sweep.proofs.Keeping.{counts_length, counts_keep, same_none, same_on, same_pins}
 use Rattle.clock_sweep.proofs.clock.take_census.Goals as goal
 
 pub loop-frame-init : goal.loop-frame-init
 loop-frame-init g c = record { seat = same_none _; counts = subst (Counts _ _ 0 _) (sym (ap (λ (x : CensusList). x.words) c.requires.census)) nothing; room = refl }
 
 pub note-requires : goal.note-requires
-note-requires g c = let i = c.loop-frame.invariant in let e = counts_each _ _ _ _ _ i.counts in let r = ap (λ (x : CensusList). x.frames) c.requires.census in let n = c.frames-frame-end.ensures in omega arith
+note-requires g c = let i = c.loop-frame.invariant in let e = counts_length _ _ _ _ _ i.counts in let r = ap (λ (x : CensusList). x.frames) c.requires.census in let n = c.frames-frame-end.ensures in omega arith
 
 pub loop-frame-preserved : goal.loop-frame-preserved
 loop-frame-preserved g c = let i = c.loop-frame.invariant in record {

@@ -1,4 +1,5 @@
-use Rattle.std.proofs.Common.{arith, ap, ℕ, ◌-◌, ◌++◌, length, replicate, ◌∙◌}
+use Rattle.std.proofs.Common.{arith, ap, ℕ, ◌-◌, [], ◌∷◌, ◌++◌, length, replicate, ◌∙◌}
+use Rattle.table_rule.specs.declared.noted_log.NotedLog.{NotedLog}
 use Rattle.table_rule.specs.declared.value.Value.{Value}
 use Rattle.table_rule.specs.declared.value.Value.TheVariants as value
 use Rattle.table_rule.proofs.Laying.{laid_all}
@@ -18,5 +19,5 @@ returns g c = let m = c.put_maps.ensures.items in let laid = c.requires.laid in 
   list = c.put_lanes.new.lanes;
   empty = kept.0;
   list_room = (let k = kept.1 in omega arith);
-  is = laid_all _ _ _ _ _ _ _ _ _ _ _ _ _ _ _ c.requires.room.0 laid.counted c.put_pages.ensures.items m.is c.put_lanes.ensures.items (c.put_aways.ensures.items ∙ ap (λ (k : ℕ). c.put_lanes.new.slots.items ++ replicate k (away g.row.L.Denot g.row.G.Denot)) {x = 16 - c.len-aways.result} {y = 16 - length c.args.lanes.items} (let z = c.len-aways.ensures in omega arith)) c.put.ensures.items c.put-2.ensures.items;
+  is = laid_all _ _ _ _ _ _ _ _ _ _ _ _ _ _ _ c.requires.room.0 laid.counted c.put_pages.ensures.items m.is c.put_lanes.ensures.items (c.put_aways.ensures.items ∙ ap (λ (k : ℕ). c.put_lanes.new.slots.items ++ replicate k (away g.row.L.Denot g.row.G.Denot)) {x = 16 - c.len-aways.result} {y = 16 - length c.args.lanes.items} (let z = c.len-aways.ensures in omega arith)) (c.put.ensures.items ∙ ap (λ (x : NotedLog g.row.G.Denot). c.put_aways.new.slots.items ++ value.Log x ∷ []) c.new.ensures) c.put-2.ensures.items;
 }
