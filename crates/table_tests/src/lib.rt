@@ -1,21 +1,13 @@
-//! Tests of the table's crates, with threads: they run what the contracts below say.
+//! Passes over a small table, which tests run and must-fail edits turn.
 #![tactic(auto)]
 
-#[cfg(test)]
-mod choosing;
-#[cfg(test)]
-mod devices;
-#[cfg(test)]
-mod entering;
-#[cfg(test)]
-mod fixture;
-#[cfg(test)]
-mod loading;
-#[cfg(test)]
-mod locking;
-#[cfg(test)]
-mod logging;
-#[cfg(test)]
-mod pinning;
+pub mod choosing;
+pub mod devices;
+pub mod entering;
+pub mod fixture;
+pub mod loading;
+pub mod locking;
+pub mod logging;
+pub mod pinning;
 #[cfg(test)]
 mod tests;
