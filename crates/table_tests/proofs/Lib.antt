@@ -1,6 +1,9 @@
 pub mod Crossing
+pub mod Finding
+pub mod Joining
 pub mod Logged
 pub mod Reading
 pub mod Seats
+pub mod Sending
 pub mod Victims
 pub mod Working

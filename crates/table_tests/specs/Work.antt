@@ -1,5 +1,5 @@
 -- What seats have between the steps of a test.
-use Rattle.std.specs.Prelude.{◌≡◌, ◌≢◌, ℕ, true, false, List, [], ◌∷◌, None, Some}
+use Rattle.std.specs.Prelude.{◌≡◌, ◌≢◌, ℕ, ◌+◌, ◌<◌, true, false, List, [], ◌∷◌, None, Some}
 use Rattle.atomic_table.specs.declared.shared.Seat.{Seat}
 use Rattle.block_tag.specs.declared.catalogue.RelEntry.{RelEntry}
 use Rattle.block_tag.specs.declared.tag.Tag.{Tag}
@@ -17,6 +17,7 @@ use Rattle.table_rule.specs.Blocks.{has_block}
 use Rattle.table_rule.specs.declared.value.Value.{Value}
 use Rattle.frame_table.specs.declared.table.FrameTable.{FrameTable}
 use Rattle.frame_table.specs.Sees.{Fits, frames_of, lanes_in, relations_of}
+use Rattle.table_tests.specs.declared.copying.Course.{Course}
 
 -- the one relation of the tests' tables: its number is 16384, and its main fork has 64 blocks
 abbrev pub relations : List RelEntry
@@ -93,13 +94,19 @@ module _ {L G : Type 0} where
   abbrev pub backends_of : FrameTable L G → ℕ
   backends_of t = t.table.shared.key.config.backends
 
-  -- the table of the tests: 16 frames, three backends, one lane, and the one relation
+  -- the table of the tests: 16 frames, four backends, one lane, and the one relation
   abbrev pub IsSmall : FrameTable L G → Type 0
-  IsSmall t = (frames_of t ≡ 16) × (backends_of t ≡ 3) × (lanes_in t ≡ 1) × (relations_of t ≡ relations)
+  IsSmall t = (frames_of t ≡ 16) × (backends_of t ≡ 4) × (lanes_in t ≡ 1) × (relations_of t ≡ relations)
 
   -- the table has one lane, and the tag is of a block that it has
   abbrev pub HasBlock : FrameTable L G → Tag → Type 0
   HasBlock t tag = (names_block tag ≡ true) × (has_block (relations_of t) tag ≡ true) × (lanes_in t ≡ 1)
+
+  -- The seat is the first backend's, and n of those that it gave a number aren't joined into it
+  pub record IsFirst (t : FrameTable L G) (n : ℕ) (s : Seat (Value L G) View) : Type 0 where
+    pub fits : Fits t s
+    pub first : s.id ≡ 0
+    pub away : s.me.0.joined + n + 1 ≡ s.me.0.next
 
   -- The seat is one of the table, and holds nothing
   pub record Rests (t : FrameTable L G) (s : Seat (Value L G) View) : Type 0 where
@@ -151,3 +158,17 @@ module _ {L G : Type 0} where
   pub record KeepsBeside (f : ℕ) (s s' : Seat (Value L G) View) : Type 0 where
     pub self : Keeps s s'
     pub others : (g : ℕ) → g ≢ f → link s'.me.0 g ≡ link s.me.0 g
+
+  -- The seat may change the page of the course's block, and change it again: it pins its frame for the block, and has seen the page there
+  pub record ChangesOn (t : FrameTable L G) (c : Course) (s : Seat (Value L G) View) : Type 0 where
+    pub pins : OnlyPins t s
+    pub frame : c.frame < frames_of t
+    pub block : HasBlock t c.tag
+    pub pinned : PinsBlock c.tag (link s.me.0 c.frame)
+    pub seen : (link s.me.0 c.frame).seen_valid ≡ true
+
+  -- and it may copy that page
+  pub record CopiesOn (t : FrameTable L G) (c : Course) (s : Seat (Value L G) View) : Type 0 where
+    pub pins : OnlyPins t s
+    pub frame : c.frame < frames_of t
+    pub sees : SeesPage (link s.me.0 c.frame)

@@ -8,16 +8,18 @@ ghost use Rattle.table_tests.specs.Work.{IsSmall, Keeps, OnlyPins, PinsNone, Sam
 
 use crate::entering::{enter_block, leave_block};
 use crate::fixture::{Place, Table, block};
+use access_rings::Ring;
 use clock_sweep::{Census, Sweep, hand, victim};
 use std::sync::Wait;
 
 /// The frame that is chosen; its header is unlocked again. None where each frame was seen pinned.
-pub fn choose<R: Wait>(
+fn choose<R: Wait>(
     rt: &R,
     table: &Table,
     seat: &mut Place,
     sweep: &Sweep,
     census: &mut Census,
+    ring: &mut Option<Ring>,
 ) -> Option<u32>
     requires pins { OnlyPins table.now seat.old }
     requires census { census.old.frames ≡ frames_of table.now }
@@ -26,8 +28,7 @@ pub fn choose<R: Wait>(
     ensures keeps { Keeps seat.old seat.new }
     ensures census { census.new.frames ≡ census.old.frames }
 {
-    let mut ring = None;
-    match victim(table, rt, seat, sweep, census, &mut ring) {
+    match victim(table, rt, seat, sweep, census, ring) {
         Ok(held) => {
             let frame = held.into_frame();
             table.unlock_header(seat, frame);
@@ -57,7 +58,7 @@ fn choose_beneath<R: Wait>(
     ensures census { census.new.frames ≡ census.old.frames }
 {
     if frame == 16 {
-        return choose(rt, table, seat, sweep, census);
+        return choose(rt, table, seat, sweep, census, &mut None);
     }
     let pin = enter_block(rt, table, seat, frame, block(table, frame))?;
     let chosen = choose_beneath(rt, table, seat, sweep, census, frame + 1);
@@ -84,6 +85,30 @@ pub fn choose_among<R: Wait>(
     ensures census { census.new.frames ≡ census.old.frames }
 {
     choose_beneath(rt, table, seat, sweep, census, frame)
+}
+
+/// What is chosen last, of so many choices.
+pub fn choose_often<R: Wait>(
+    rt: &R,
+    table: &Table,
+    seat: &mut Place,
+    sweep: &Sweep,
+    census: &mut Census,
+    ring: &mut Option<Ring>,
+    times: u32,
+) -> Option<u32>
+    requires closes { CanClose table.now seat.old }
+    requires pins { OnlyPins table.now seat.old × PinsNone seat.old }
+    requires census { census.old.frames ≡ frames_of table.now }
+    ensures closes { CanClose table.now seat.new }
+    ensures pins { OnlyPins table.now seat.new × PinsNone seat.new }
+    ensures census { census.new.frames ≡ census.old.frames }
+{
+    let mut chosen = None;
+    for _ in 0..times {
+        chosen = choose(rt, table, seat, sweep, census, ring);
+    }
+    chosen
 }
 
 /// Each frame gets a block, and its pin is given up: its usage count is 1 then. How many got one.

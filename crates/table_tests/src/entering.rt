@@ -137,3 +137,49 @@ pub fn leave_block<R: Wait>(rt: &R, table: &Table, seat: &mut Place, frame: u32,
     table.unpin(rt, seat, pin);
     true
 }
+
+/// Pins the frame that the map gives for a block, under its partition's latch.
+fn pin_mapped<R: Wait>(rt: &R, table: &Table, seat: &mut Place, tag: Tag) -> Option<Pin>
+    requires quiet { IsQuiet table.now seat.old }
+    requires none { PinsNone seat.old }
+    requires block { HasBlock table.now tag }
+    requires inside { IsInside (partition_number tag) seat.old.me.0 }
+    requires latch { Holds Settled seat.old.me.0 (partition_number tag) }
+    ensures quiet { IsQuiet table.now seat.new }
+    ensures inside { IsInside (partition_number tag) seat.new.me.0 }
+    ensures latches { KeepsOthers (partition_number tag) seat.old.me.0 seat.new.me.0 }
+    ensures pinned { IfSome result (λ p. (p.frame < frames_of table.now) × PinsBlock tag (link seat.new.me.0 p.frame) × KeepsBeside p.frame seat.old seat.new) }
+    ensures lacking { IfNone result (PinsNone seat.new × Keeps seat.old seat.new) }
+{
+    let frame = find(table, seat, &tag)?;
+    Some(table.pin(rt, seat, tag, frame, false))
+}
+
+/// Pins a block that has a frame (`BufferAlloc`, where the block is found). None where it has none.
+pub fn pin_found<R: Wait>(rt: &R, table: &Table, seat: &mut Place, tag: Tag) -> Option<Pin>
+    requires pins { OnlyPins table.now seat.old × PinsNone seat.old }
+    requires block { HasBlock table.now tag }
+    ensures pins { OnlyPins table.now seat.new }
+    ensures pinned { IfSome result (λ p. (p.frame < frames_of table.now) × PinsBlock tag (link seat.new.me.0 p.frame) × KeepsBeside p.frame seat.old seat.new) }
+    ensures lacking { IfNone result (PinsNone seat.new × Keeps seat.old seat.new) }
+{
+    let partition = tag.partition();
+    take_turn(table, seat, rt, partition);
+    let pinned = pin_mapped(rt, table, seat, tag);
+    give_turn(table, seat, partition);
+    pinned
+}
+
+/// The frame of a block, if it has one. Its pin is given up.
+pub fn frame_of<R: Wait>(rt: &R, table: &Table, seat: &mut Place, tag: Tag) -> Option<u32>
+    requires closes { CanClose table.now seat.old }
+    requires pins { OnlyPins table.now seat.old × PinsNone seat.old }
+    requires block { HasBlock table.now tag }
+    ensures closes { CanClose table.now seat.new }
+    ensures pins { OnlyPins table.now seat.new × PinsNone seat.new }
+{
+    let pin = pin_found(rt, table, seat, tag)?;
+    let frame = pin.frame();
+    table.unpin(rt, seat, pin);
+    Some(frame)
+}

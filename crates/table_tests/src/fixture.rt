@@ -29,7 +29,7 @@ fn catalog(alloc: Global) -> Result<Catalog, CatalogError>
     Catalog::build(alloc, &[entry])
 }
 
-/// A table of 16 frames over one lane and a log that begins at 0, for three backends, whose first one holds nothing.
+/// A table of 16 frames over one lane and a log that begins at 0, for four backends, whose first one holds nothing.
 pub fn table(alloc: Global) -> Result<(Table, Place), AllocError>
     ensures small { IfOk result (λ t. IsSmall t.0) }
     ensures pins { IfOk result (λ t. OnlyPins t.0 t.1 × PinsNone t.1) }
@@ -52,7 +52,7 @@ pub fn table_over(alloc: Global, log: TestLog, base: u64) -> Result<(Table, Plac
     };
     let config = Config {
         frames: 16,
-        backends: 3,
+        backends: 4,
         lanes: 1,
     };
     let mut lanes = Vec::new(alloc);

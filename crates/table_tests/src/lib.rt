@@ -2,6 +2,7 @@
 #![tactic(auto)]
 
 pub mod choosing;
+pub mod copying;
 pub mod devices;
 pub mod entering;
 pub mod fixture;

@@ -97,7 +97,7 @@ pub fn refused_by_shared<R: Wait>(
 }
 
 /// Pins a frame whose page is there.
-fn pin_page<R: Wait>(rt: &R, table: &Table, seat: &mut Place, frame: u32) -> Option<Pin>
+pub fn pin_page<R: Wait>(rt: &R, table: &Table, seat: &mut Place, frame: u32) -> Option<Pin>
     requires pins { OnlyPins table.now seat.old × PinsNone seat.old }
     requires frame { frame < frames_of table.now }
     ensures pins { OnlyPins table.now seat.new }

@@ -80,6 +80,33 @@ pub fn refusal_of_two<R: Wait>(
 }
 
 /// Two backends pin a frame in threads of their own, each so often. How often each was refused.
+fn pin_pair<R: Threads + Wait + Sync>(
+    rt: &R,
+    table: &Table,
+    first: &mut Place,
+    second: &mut Place,
+    frame: u32,
+    times: u32,
+) -> (u32, u32)
+    requires rests { Rests table.now first.old × Rests table.now second.old }
+    requires frame { frame < frames_of table.now }
+    ensures rests { Rests table.now first.new × Rests table.now second.new }
+    ensures keeps { Keeps first.old first.new × Keeps second.old second.new }
+{
+    join_mut(
+        rt,
+        &mut || -> u32
+            requires { IsSync R.row × Rests table.now first.now × (frame < frames_of table.now) }
+            ensures { Rests table.entry.now first.exit.now × Keeps first.entry.now first.exit.now }
+        { pin_often(rt, table, first, frame, times) },
+        &mut || -> u32
+            requires { IsSync R.row × Rests table.now second.now × (frame < frames_of table.now) }
+            ensures { Rests table.entry.now second.exit.now × Keeps second.entry.now second.exit.now }
+        { pin_often(rt, table, second, frame, times) },
+    )
+}
+
+/// The same for the first backend and one that comes and goes.
 pub fn pin_together<R: Threads + Wait + Sync>(
     rt: &R,
     table: &Table,
@@ -93,17 +120,78 @@ pub fn pin_together<R: Threads + Wait + Sync>(
     ensures { CanClose table.now seat.new }
 {
     let mut other = table.split(seat);
+    let refused = pin_pair(rt, table, seat, &mut other, frame, times);
+    table.join(seat, other);
+    refused
+}
+
+/// Three backends, in threads of their own: how often the first was refused, and the two others.
+fn pin_three<R: Threads + Wait + Sync>(
+    rt: &R,
+    table: &Table,
+    first: &mut Place,
+    second: &mut Place,
+    third: &mut Place,
+    frame: u32,
+    times: u32,
+) -> (u32, (u32, u32))
+    requires rests { Rests table.now first.old × Rests table.now second.old × Rests table.now third.old }
+    requires frame { frame < frames_of table.now }
+    ensures rests { Rests table.now first.new × Rests table.now second.new × Rests table.now third.new }
+    ensures keeps { Keeps first.old first.new × Keeps second.old second.new × Keeps third.old third.new }
+{
+    join_mut(
+        rt,
+        &mut || -> u32
+            requires { IsSync R.row × Rests table.now first.now × (frame < frames_of table.now) }
+            ensures { Rests table.entry.now first.exit.now × Keeps first.entry.now first.exit.now }
+        { pin_often(rt, table, first, frame, times) },
+        &mut || -> (u32, u32)
+            requires { IsSync R.row × Rests table.now second.now × Rests table.now third.now × (frame < frames_of table.now) }
+            ensures { Rests table.entry.now second.exit.now × Keeps second.entry.now second.exit.now × Rests table.entry.now third.exit.now × Keeps third.entry.now third.exit.now }
+        { pin_pair(rt, table, second, third, frame, times) },
+    )
+}
+
+/// The first backend pins a frame while three others, which come and go, do, each so often in a thread of its own: how often it was refused, and the three.
+pub fn pin_by_four<R: Threads + Wait + Sync>(
+    rt: &R,
+    table: &Table,
+    seat: &mut Place,
+    frame: u32,
+    times: u32,
+) -> (u32, (u32, (u32, u32)))
+    requires closes { CanClose table.now seat.old }
+    requires alone { (seat.old.me.0.next ≡ 1) × (3 < backends_of table.now) }
+    requires frame { frame < frames_of table.now }
+    ensures { CanClose table.now seat.new }
+{
+    let mut second = table.split(seat);
+    let mut third = table.split(seat);
+    let mut fourth = table.split(seat);
     let refused = join_mut(
         rt,
         &mut || -> u32
             requires { IsSync R.row × Rests table.now seat.now × (frame < frames_of table.now) }
             ensures { Rests table.entry.now seat.exit.now × Keeps seat.entry.now seat.exit.now }
         { pin_often(rt, table, seat, frame, times) },
-        &mut || -> u32
-            requires { IsSync R.row × Rests table.now other × (frame < frames_of table.now) }
-            ensures { Rests table.entry.now other.exit × Keeps other.entry other.exit }
-        { pin_often(rt, table, &mut other, frame, times) },
+        &mut || -> (u32, (u32, u32))
+            requires { IsSync R.row × Rests table.now second × Rests table.now third × Rests table.now fourth × (frame < frames_of table.now) }
+            ensures { Rests table.entry.now second.exit × Keeps second.entry second.exit × Rests table.entry.now third.exit × Keeps third.entry third.exit × Rests table.entry.now fourth.exit × Keeps fourth.entry fourth.exit }
+        {
+            pin_three(
+                rt,
+                table,
+                &mut second,
+                &mut third,
+                &mut fourth,
+                frame,
+                times,
+            )
+        },
     );
-    table.join(seat, other);
+    table.join(seat, second);
+    table.join(seat, third);
+    table.join(seat, fourth);
     refused
 }

@@ -1,11 +1,13 @@
 //! Tables that are run.
-use crate::choosing::{choose_among, hand_of, touch_often, use_frames};
+use crate::choosing::{choose_among, choose_often, hand_of, touch_often, use_frames};
+use crate::copying::{Copied, Course, copy_together};
 use crate::devices::TestLog;
-use crate::entering::leave_block;
+use crate::entering::{frame_of, leave_block};
 use crate::fixture::{FRONT, block, one_item, table, table_over, word_of};
 use crate::locking::refusals;
 use crate::logging::{Tries, put_twice};
-use crate::pinning::{pin_often, pin_together, refusal, refusal_of_two};
+use crate::pinning::{pin_by_four, pin_often, pin_together, refusal, refusal_of_two};
+use access_rings::{Ring, RingKind};
 use clock_sweep::{Census, Sweep};
 use content_locks::TryLock;
 use frame_table::TryPin;
@@ -80,6 +82,58 @@ fn two_threads_leave_no_pin(rt: HostRuntime) -> Result<(), Fail> {
 }
 
 #[test]
+fn four_threads_leave_no_pin(rt: HostRuntime) -> Result<(), Fail> {
+    let (table, mut first) = table(rt.alloc())?;
+    let tag = block(&table, 7);
+    let entered = leave_block(&rt, &table, &mut first, 3, tag);
+    let refused = pin_by_four(&rt, &table, &mut first, 3, 100000);
+    let word = word_of(&table, &mut first, 3);
+    let (_lanes, _log) = table.close(first);
+    assert!(rt; entered);
+    assert!(rt; refused.0 < 100000 && refused.1.0 < 100000);
+    assert!(rt; refused.1.1.0 < 100000 && refused.1.1.1 < 100000);
+    assert_eq!(rt; (pins(word), usage(word)), (0, 5));
+    Ok(())
+}
+
+#[test]
+fn a_block_has_one_frame(rt: HostRuntime) -> Result<(), Fail> {
+    let (table, mut seat) = table(rt.alloc())?;
+    let tag = block(&table, 7);
+    let other = block(&table, 8);
+    let before = frame_of(&rt, &table, &mut seat, tag);
+    let first = leave_block(&rt, &table, &mut seat, 3, tag);
+    let second = leave_block(&rt, &table, &mut seat, 5, tag);
+    let found = frame_of(&rt, &table, &mut seat, tag);
+    let lacking = frame_of(&rt, &table, &mut seat, other);
+    let (_lanes, _log) = table.close(seat);
+    assert_eq!(rt; (before, first, second), (None, true, false));
+    assert_eq!(rt; (found, lacking), (Some(3), None));
+    Ok(())
+}
+
+#[test]
+fn copies_beside_changes_are_whole(rt: HostRuntime) -> Result<(), Fail> {
+    let (table, mut first) = table(rt.alloc())?;
+    let course = Course {
+        frame: 3,
+        tag: block(&table, 7),
+        times: 10000,
+    };
+    let copied = copy_together(&rt, &table, &mut first, course, rt.alloc());
+    let (_lanes, log) = table.close(first);
+    assert_eq!(rt;
+        copied,
+        Some(Copied {
+            changes: Some(10000),
+            torn: (Some(0), Some(0)),
+        })
+    );
+    assert_eq!(rt; log.bytes.len(), 82240000);
+    Ok(())
+}
+
+#[test]
 fn a_content_lock_that_another_has_is_busy(rt: HostRuntime) -> Result<(), Fail> {
     let mut page = Page::zeroed(rt.alloc())?;
     let (table, mut first) = table(rt.alloc())?;
@@ -104,6 +158,46 @@ fn fresh_frames_are_chosen_in_order(rt: HostRuntime) -> Result<(), Fail> {
     let (_lanes, _log) = table.close(seat);
     assert_eq!(rt; [first, second, third], [Some(0), Some(1), Some(2)]);
     assert_eq!(rt; at, 0);
+    Ok(())
+}
+
+#[test]
+fn the_free_list_goes_on_past_a_used_frame(rt: HostRuntime) -> Result<(), Fail> {
+    let sweep = Sweep::build(rt.alloc(), 16)?;
+    let mut census = Census::build(rt.alloc(), 16)?;
+    let (table, mut seat) = table(rt.alloc())?;
+    let tag = block(&table, 63);
+    let entered = leave_block(&rt, &table, &mut seat, 0, tag);
+    let chosen = choose_often(&rt, &table, &mut seat, &sweep, &mut census, &mut None, 1);
+    let at = hand_of(&table, &mut seat);
+    let (_lanes, _log) = table.close(seat);
+    assert_eq!(rt; (entered, chosen, at), (true, Some(1), 0));
+    Ok(())
+}
+
+#[test]
+fn the_clock_is_asked_once_the_free_list_is_empty(rt: HostRuntime) -> Result<(), Fail> {
+    let sweep = Sweep::build(rt.alloc(), 16)?;
+    let mut census = Census::build(rt.alloc(), 16)?;
+    let (table, mut seat) = table(rt.alloc())?;
+    let last = choose_often(&rt, &table, &mut seat, &sweep, &mut census, &mut None, 16);
+    let next = choose_often(&rt, &table, &mut seat, &sweep, &mut census, &mut None, 1);
+    let at = hand_of(&table, &mut seat);
+    let (_lanes, _log) = table.close(seat);
+    assert_eq!(rt; (last, next, at), (Some(15), Some(0), 1));
+    Ok(())
+}
+
+#[test]
+fn a_ring_of_two_places_comes_round(rt: HostRuntime) -> Result<(), Fail> {
+    let sweep = Sweep::build(rt.alloc(), 16)?;
+    let mut census = Census::build(rt.alloc(), 16)?;
+    let mut ring = Some(Ring::build(rt.alloc(), RingKind::Vacuum, 16)?);
+    let (table, mut seat) = table(rt.alloc())?;
+    let second = choose_often(&rt, &table, &mut seat, &sweep, &mut census, &mut ring, 2);
+    let third = choose_often(&rt, &table, &mut seat, &sweep, &mut census, &mut ring, 1);
+    let (_lanes, _log) = table.close(seat);
+    assert_eq!(rt; (second, third), (Some(1), Some(0)));
     Ok(())
 }
 
