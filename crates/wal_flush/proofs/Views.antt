@@ -109,7 +109,7 @@ unsynced lsn end (flush_log.LogDown at) v w u free = let none = free_log v u.ope
 unsynced lsn end flush_log.LogFault v w u free = let none = free_log v u.opens.held u.opens.takes free in let a = u.work in let b = a.work in
     let failed : View → View = λ x. record (faulted x) { log = record x.log { out = None; change = Untouched; appended = None }; device_calls = x.device_calls ++ LogSync false ∷ []; steps = u.worked.steps } in
     let big : View = quiet leave_log (failed (after_look a.second.found (opened end v))) in
-    looked_as (unflushed_view flush_log.LogFault v) w big (around end (HolderRefused lsn end flush_log.LogFault) v w u (λ x. failed (after_look a.second.found x)) (unsynced_view a.looked b.out b.went b.synced b.faults u.worked b.fails ∙ ap failed a.second.did.after)) (λ i. record big { log = (sym none) i })
+    looked_as (unflushed_view flush_log.LogFault v) w big (around end (HolderRefused lsn end flush_log.LogFault) v w u (λ x. failed (after_look a.second.found x)) (unsynced_view a.looked b.out b.went b.went.taken.synced b.faults u.worked b.fails ∙ ap failed a.second.did.after)) (λ i. record big { log = (sym none) i })
 
 -- the flushed position is looked at
 saw : (found : ℕ) (v w : View) → DidWord load_flushed v w found → w ≡ as_looked v w
@@ -170,6 +170,9 @@ counted_work v w calls met down e = record {
   place_loads = ap (λ (x : View). x.place_loads) e;
   upto = ap (λ (x : View). x.upto) e;
   kept = ap (λ (x : View). x.kept) e;
+  dirtied_or_synced = ap (λ (x : View). x.dirtied_or_synced) e;
+  had_output = ap (λ (x : View). x.had_output) e;
+  last_ended = ap (λ (x : View). x.last_ended) e;
 }
 
 pub flushed_work : (lsn : ℕ) (v w : View) → Flushed lsn v w → KeepsWork v w

@@ -43,13 +43,12 @@ pub record Syncs (v w : View) : Type 0 where
   pub syncs : DidTwo sync_log (log_back false) out home
   pub raises : DidWord raise_flushed home w found
 
--- The one call of the log was a sync, which failed
+-- The one call of the log was a sync, which failed: as many of its bytes are durable as when it went out
 pub record FailsToSync (v w : View) : Type 0 where
   pub out : View
-  pub synced : ℕ
   pub faults : ℕ
   pub went : GoesOutUp v out
-  pub fails : DidTwo (fail_sync synced faults) (log_back true) out w
+  pub fails : DidTwo (fail_sync went.taken.synced faults) (log_back true) out w
 
 -- Under the log's latch, where the log ends at `end`, the flushed position was loaded once more, and was at `lsn` or behind it by then
 pub record FindsFlushed (lsn end : ℕ) (v w : View) : Type 0 where
