@@ -23,7 +23,7 @@ use Rattle.wal_flush.specs.declared.flushes.FlushLog.{FlushLog}
 use Rattle.wal_flush.specs.declared.flushes.FlushLog.TheVariants as flush_log
 use Rattle.wal_flush.specs.Latched.{KeepsWork, UnderLatch, as_counted, downed, faulted}
 use Rattle.wal_flush.specs.Inserts.{EnterRefused, Enters, inserted_view, refused_view}
-use Rattle.wal_flush.specs.Flushes.{FindsFlushed, Flushed, already, under_latch, by_sync, Flushes, HolderRefused, Looks, still, again, SeesFlushed, SeesUnflushed, StillUnflushed, SyncRefused, Syncs, Tries, WasFlushed, as_looked, synced_view, unflushed_view}
+use Rattle.wal_flush.specs.Flushes.{FindsFlushed, Flushed, already, meanwhile, by_sync, Flushes, HolderRefused, Looks, still, again, SeesFlushed, SeesUnflushed, StillUnflushed, SyncRefused, Syncs, Tries, WasFlushed, as_looked, synced_view, unflushed_view}
 use Rattle.wal_flush.proofs.LogSteps.{quiet, counting, opens_view, leaves_view, free_log, appended_view, synced_view as after_sync, unappended_view, unsynced_view, down_view}
 
 -- but for steps and loads w is t, where it is x, and x is t so
@@ -131,7 +131,7 @@ sees lsn v w s = already s (saw s.found v w s.did)
 
 pub was_flushed : (lsn : ℕ) (v w : View) → WasFlushed lsn v w → v.log.held ≡ false → Flushed lsn v w
 was_flushed lsn v w b free = let t = b.tried in let s = t.first in
-    under_latch b (found_view lsn b.end t.looked w t.work (still_free s.found v t.looked s.did free) ∙ ap (λ (x : View). as_looked x w) (saw s.found v t.looked s.did))
+    meanwhile b (found_view lsn b.end t.looked w t.work (still_free s.found v t.looked s.did free) ∙ ap (λ (x : View). as_looked x w) (saw s.found v t.looked s.did))
 
 pub flushes : (lsn : ℕ) (v w : View) → Flushes lsn v w → v.log.held ≡ false → Flushed lsn v w
 flushes lsn v w b free = let t = b.tried in let s = t.first in let a = b.awaits in by_sync b (
@@ -177,7 +177,7 @@ counted_work v w calls met down e = record {
 
 pub flushed_work : (lsn : ℕ) (v w : View) → Flushed lsn v w → KeepsWork v w
 flushed_work lsn v w (already s e) = counted_work v w v.device_calls v.met v.saw_down e
-flushed_work lsn v w (under_latch s e) = counted_work v w v.device_calls v.met v.saw_down e
+flushed_work lsn v w (meanwhile s e) = counted_work v w v.device_calls v.met v.saw_down e
 flushed_work lsn v w (by_sync s e) = counted_work v w (v.device_calls ++ LogSync true ∷ []) v.met v.saw_down e
 
 pub unflushed_work : (why : FlushLog) (v w : View) → w ≡ as_looked (unflushed_view why v) w → KeepsWork v w

@@ -43,7 +43,7 @@ pub record Syncs (v w : View) : Type 0 where
   pub syncs : DidTwo sync_log (log_back false) out home
   pub raises : DidWord raise_flushed home w found
 
--- The one call of the log was a sync, which failed: as many of its bytes are durable as when it went out
+-- The one call of the log was a sync, which failed: no more of the log's bytes are taken as durable than when it went out
 pub record FailsToSync (v w : View) : Type 0 where
   pub out : View
   pub faults : ℕ
@@ -107,10 +107,10 @@ as_looked v w = record v { steps = w.steps; loads = w.loads; flushed = w.flushed
 abbrev pub synced_view : View → View
 synced_view v = record v { device_calls = v.device_calls ++ LogSync true ∷ [] }
 
--- The log is flushed up to `lsn`: it was so already, or was once the latch was taken, and the view called no device; or one sync was done
+-- The log is flushed up to `lsn`: it was so already, or was once the latch was taken, and no device was called; or one sync was done
 pub data Flushed (lsn : ℕ) (v w : View) : Type 0 where
   already : SeesFlushed lsn v w → w ≡ as_looked v w → Flushed lsn v w
-  under_latch : WasFlushed lsn v w → w ≡ as_looked v w → Flushed lsn v w
+  meanwhile : WasFlushed lsn v w → w ≡ as_looked v w → Flushed lsn v w
   by_sync : Flushes lsn v w → w ≡ as_looked (synced_view v) w → Flushed lsn v w
 
 -- the view after a refusal
