@@ -152,3 +152,43 @@ pub fn put_twice<R: Wait>(
         second,
     })
 }
+
+/// What came of two puts of a page, and of two flushes behind them.
+#[derive(Clone, Copy, PartialEq, Debug)]
+pub struct LateFlushes {
+    pub first: Option<Result<u64, InsertError>>,
+    pub second: Option<Result<u64, InsertError>>,
+    pub flushed: Result<(), FlushLog>,
+    pub base: Result<(), FlushLog>,
+}
+
+/// Brings a block into a frame, puts a page there twice, and flushes up to `lsn` then, and up to where the log began. None where the block didn't come.
+pub fn flush_late<R: Wait>(
+    rt: &R,
+    table: &Table,
+    seat: &mut Place,
+    frame: u32,
+    tag: Tag,
+    page: &mut Page,
+    lsn: u64,
+) -> Option<LateFlushes>
+    requires closes { CanClose table.now seat.old }
+    requires pins { OnlyPins table.now seat.old × PinsNone seat.old }
+    requires frame { frame < frames_of table.now }
+    requires block { HasBlock table.now tag }
+    ensures closes { CanClose table.now seat.new }
+{
+    let pin = enter_block(rt, table, seat, frame, tag)?;
+    load_block(rt, table, seat, frame, tag, page);
+    let first = put(rt, table, seat, frame, tag, page);
+    let second = put(rt, table, seat, frame, tag, page);
+    let flushed = flush(rt, table, seat, frame, tag, lsn);
+    let base = flush(rt, table, seat, frame, tag, 0);
+    table.unpin(rt, seat, pin);
+    Some(LateFlushes {
+        first,
+        second,
+        flushed,
+        base,
+    })
+}

@@ -5,7 +5,7 @@ use crate::devices::TestLog;
 use crate::entering::{frame_of, leave_block};
 use crate::fixture::{FRONT, block, one_item, table, table_over, word_of};
 use crate::locking::refusals;
-use crate::logging::{Tries, put_twice};
+use crate::logging::{LateFlushes, Tries, flush_late, put_twice};
 use crate::pinning::{pin_by_four, pin_often, pin_together, refusal, refusal_of_two};
 use access_rings::{Ring, RingKind};
 use clock_sweep::{Census, Sweep};
@@ -317,6 +317,27 @@ fn a_log_is_down_after_a_sync_that_failed(rt: HostRuntime) -> Result<(), Fail> {
             second: Some(Err(InsertError::LogDown { at: 8224 })),
         })
     );
+    Ok(())
+}
+
+#[test]
+fn an_append_that_failed_leaves_the_first_insert_unflushed(rt: HostRuntime) -> Result<(), Fail> {
+    let mut page = one_item(rt.alloc(), 7)?;
+    let log = TestLog::new(rt.alloc(), 2);
+    let (table, mut seat) = table_over(rt.alloc(), log, 0)?;
+    let tag = block(&table, 5);
+    let tries = flush_late(&rt, &table, &mut seat, 3, tag, &mut page, 8224);
+    let (_lanes, _log) = table.close(seat);
+    assert_eq!(rt;
+        tries,
+        Some(LateFlushes {
+            first: Some(Ok(8224)),
+            second: Some(Err(InsertError::LogFault)),
+            flushed: Err(FlushLog::LogDown { at: 8224 }),
+            base: Ok(()),
+        })
+    );
+    assert_eq!(rt; page.lsn(), 8224);
     Ok(())
 }
 

@@ -1,6 +1,5 @@
 -- What inserts and flushes make of a view.
-use Rattle.std.proofs.Common.{◌≡◌, ◌≢◌, ℕ, ◌+◌, ◌<◌, Bool, true, false, List, [], ◌∷◌, ◌++◌, Option, None, length, get_or-set_same, get_or-set_other, refl, sym, ap, ◌∙◌, arith}
-use mathlib.Core.Logic.{inl, inr}
+use Rattle.std.proofs.Common.{◌≡◌, ◌≢◌, ℕ, ◌+◌, ◌<◌, ◌≤◌, Bool, true, false, List, [], ◌∷◌, ◌++◌, Option, None, length, get_or-set_same, get_or-set_other, refl, sym, ap, ◌∙◌, arith}
 use Rattle.block_tag.specs.declared.tag.Tag.{Tag}
 use Rattle.block_tag.specs.declared.catalogue.RelEntry.{RelEntry}
 use Rattle.block_tag.specs.Names.{packed_tag}
@@ -16,7 +15,7 @@ use Rattle.pin_core.specs.State.{Page, idle, link, no_log}
 use Rattle.history_core.specs.Device.{take_log, leave_log, log_out, append, sync_log, log_back}
 use Rattle.history_core.specs.Log.{record_size}
 use Rattle.history_core.specs.Steps.{has_loaded, stepped}
-use Rattle.frame_table.specs.Behind.{DidWord, load_flushed}
+use Rattle.frame_table.specs.Behind.{DidWord, load_flushed, view_of}
 use Rattle.frame_table.specs.Entering.{entered_link, view_entered}
 use Rattle.wal_flush.specs.declared.inserts.InsertError.{InsertError}
 use Rattle.wal_flush.specs.declared.inserts.InsertError.TheVariants as insert_error
@@ -24,7 +23,7 @@ use Rattle.wal_flush.specs.declared.flushes.FlushLog.{FlushLog}
 use Rattle.wal_flush.specs.declared.flushes.FlushLog.TheVariants as flush_log
 use Rattle.wal_flush.specs.Latched.{KeepsWork, UnderLatch, as_counted, downed, faulted}
 use Rattle.wal_flush.specs.Inserts.{EnterRefused, Enters, inserted_view, refused_view}
-use Rattle.wal_flush.specs.Flushes.{Flushed, Flushes, Looks, still, again, SeesFlushed, SyncRefused, Syncs, Tries, as_looked, synced_view, unflushed_view}
+use Rattle.wal_flush.specs.Flushes.{FindsFlushed, Flushed, already, meanwhile, by_sync, Flushes, HolderRefused, Looks, still, again, SeesFlushed, SeesUnflushed, StillUnflushed, SyncRefused, Syncs, Tries, WasFlushed, as_looked, synced_view, unflushed_view}
 use Rattle.wal_flush.proofs.LogSteps.{quiet, counting, opens_view, leaves_view, free_log, appended_view, synced_view as after_sync, unappended_view, unsynced_view, down_view}
 
 -- but for steps and loads w is t, where it is x, and x is t so
@@ -77,24 +76,40 @@ unentered_view relations f tag p end insert_error.LogFault v w u free = let none
     counted_as (refused_view insert_error.LogFault v) w big (around end (EnterRefused relations f tag p end insert_error.LogFault) v w u failed (unappended_view u.loaded b.out b.went f (packed_tag tag) (with_lsn (end + record_size) p) b.part b.faults u.worked b.fails)) (λ i. record big { log = (left_hold v v.log.appended none refl) i })
 
 -- Flushes
-flushed_view : (end : ℕ) (v w : View) → UnderLatch end Syncs v w → v.log.held ≡ false → w ≡ as_counted (synced_view v) w
-flushed_view end v w u free = let none = free_log v u.opens.held u.opens.takes free in let b = u.work in
-    let done : View → View = λ x. stepped (quiet (log_back false) (counting sync_log (x.device_calls ++ LogSync true ∷ []) x.met x.saw_down (quiet (log_out b.went.taken) x))) in
-    let big : View = quiet leave_log (done (opened end v)) in
-    counted_as (synced_view v) w big (around end Syncs v w u done (b.raises.after ∙ ap stepped (after_sync u.loaded b.out b.went b.home b.syncs))) (λ i. record big { log = (left_hold v v.log.appended none refl) i })
+looked_as : (t w x : View) → w ≡ x → x ≡ as_looked t x → w ≡ as_looked t w
+looked_as t w x e f = e ∙ f ∙ ap (as_looked t) (sym e)
 
-unsynced : (lsn end : ℕ) (why : FlushLog) (v w : View) → UnderLatch end (SyncRefused lsn end why) v w → v.log.held ≡ false → w ≡ as_counted (unflushed_view why v) w
+-- the flushed position was loaded
+abbrev after_look : ℕ → View → View
+after_look found v = view_of load_flushed found v
+
+-- the latch is left as it was taken
+opened_left : (v : View) → v.log ≡ no_log → record v.log { held = false; synced = false; end = None } ≡ v.log
+opened_left v none = ap (λ (h : LogHold). record h { held = false; synced = false; end = None }) none ∙ sym none
+
+found_view : (lsn end : ℕ) (v w : View) → UnderLatch end (FindsFlushed lsn end) v w → v.log.held ≡ false → w ≡ as_looked v w
+found_view lsn end v w u free = let none = free_log v u.opens.held u.opens.takes free in let s = u.work.sees in
+    let big : View = quiet leave_log (after_look s.found (opened end v)) in
+    looked_as v w big (around end (FindsFlushed lsn end) v w u (after_look s.found) s.did.after) (λ i. record big { log = opened_left v none i })
+
+flushed_view : (lsn end : ℕ) (v w : View) → UnderLatch end (StillUnflushed lsn end Syncs) v w → v.log.held ≡ false → w ≡ as_looked (synced_view v) w
+flushed_view lsn end v w u free = let none = free_log v u.opens.held u.opens.takes free in let a = u.work in let b = a.work in
+    let done : View → View = λ x. stepped (quiet (log_back false) (counting sync_log (x.device_calls ++ LogSync true ∷ []) x.met x.saw_down (quiet (log_out b.went.taken) x))) in
+    let big : View = quiet leave_log (done (after_look a.second.found (opened end v))) in
+    looked_as (synced_view v) w big (around end (StillUnflushed lsn end Syncs) v w u (λ x. done (after_look a.second.found x)) (b.raises.after ∙ ap stepped (after_sync a.looked b.out b.went b.home b.syncs) ∙ ap done a.second.did.after)) (λ i. record big { log = (left_hold v v.log.appended none refl) i })
+
+unsynced : (lsn end : ℕ) (why : FlushLog) (v w : View) → UnderLatch end (HolderRefused lsn end why) v w → v.log.held ≡ false → w ≡ as_looked (unflushed_view why v) w
 unsynced lsn end (flush_log.LogShort l at) v w u free = let none = free_log v u.opens.held u.opens.takes free in
     let big : View = quiet leave_log (opened end v) in
-    counted_as v w big (around end (SyncRefused lsn end (flush_log.LogShort l at)) v w u (λ x. x) u.work.3) (λ i. record big { log = (ap (λ (h : LogHold). record h { held = false; synced = false; end = None }) none ∙ sym none) i })
-unsynced lsn end (flush_log.LogDown at) v w u free = let none = free_log v u.opens.held u.opens.takes free in
+    looked_as v w big (around end (HolderRefused lsn end (flush_log.LogShort l at)) v w u (λ x. x) u.work.3) (λ i. record big { log = opened_left v none i })
+unsynced lsn end (flush_log.LogDown at) v w u free = let none = free_log v u.opens.held u.opens.takes free in let a = u.work in
     let found : View → View = λ x. record (downed x) { log = record x.log { out = None; change = Untouched }; steps = u.worked.steps } in
-    let big : View = quiet leave_log (found (opened end v)) in
-    counted_as (downed v) w big (around end (SyncRefused lsn end (flush_log.LogDown at)) v w u found (down_view at u.loaded u.worked u.work.2)) (λ i. record big { log = (left_hold v v.log.appended none refl) i })
-unsynced lsn end flush_log.LogFault v w u free = let none = free_log v u.opens.held u.opens.takes free in let b = u.work.1 in
+    let big : View = quiet leave_log (found (after_look a.second.found (opened end v))) in
+    looked_as (downed v) w big (around end (HolderRefused lsn end (flush_log.LogDown at)) v w u (λ x. found (after_look a.second.found x)) (down_view at a.looked u.worked a.work.1 ∙ ap found a.second.did.after)) (λ i. record big { log = (left_hold v v.log.appended none refl) i })
+unsynced lsn end flush_log.LogFault v w u free = let none = free_log v u.opens.held u.opens.takes free in let a = u.work in let b = a.work in
     let failed : View → View = λ x. record (faulted x) { log = record x.log { out = None; change = Untouched; appended = None }; device_calls = x.device_calls ++ LogSync false ∷ []; steps = u.worked.steps } in
-    let big : View = quiet leave_log (failed (opened end v)) in
-    counted_as (unflushed_view flush_log.LogFault v) w big (around end (SyncRefused lsn end flush_log.LogFault) v w u failed (unsynced_view u.loaded b.out b.went b.synced b.faults u.worked b.fails)) (λ i. record big { log = (sym none) i })
+    let big : View = quiet leave_log (failed (after_look a.second.found (opened end v))) in
+    looked_as (unflushed_view flush_log.LogFault v) w big (around end (HolderRefused lsn end flush_log.LogFault) v w u (λ x. failed (after_look a.second.found x)) (unsynced_view a.looked b.out b.went b.went.taken.synced b.faults u.worked b.fails ∙ ap failed a.second.did.after)) (λ i. record big { log = (sym none) i })
 
 -- the flushed position is looked at
 saw : (found : ℕ) (v w : View) → DidWord load_flushed v w found → w ≡ as_looked v w
@@ -112,25 +127,32 @@ still_free : (found : ℕ) (v w : View) → DidWord load_flushed v w found → v
 still_free found v w d free = ap (λ (x : View). x.log.held) d.after ∙ free
 
 pub sees : (lsn : ℕ) (v w : View) → SeesFlushed lsn v w → Flushed lsn v w
-sees lsn v w s = inl (s, saw s.found v w s.did)
+sees lsn v w s = already s (saw s.found v w s.did)
+
+pub was_flushed : (lsn : ℕ) (v w : View) → WasFlushed lsn v w → v.log.held ≡ false → Flushed lsn v w
+was_flushed lsn v w b free = let t = b.tried in let s = t.first in
+    meanwhile b (found_view lsn b.end t.looked w t.work (still_free s.found v t.looked s.did free) ∙ ap (λ (x : View). as_looked x w) (saw s.found v t.looked s.did))
 
 pub flushes : (lsn : ℕ) (v w : View) → Flushes lsn v w → v.log.held ≡ false → Flushed lsn v w
-flushes lsn v w b free = let t = b.tried in let s = t.first in inr (b, of_looks)
-  where
-    of_looks : w ≡ as_looked (synced_view v) w
-    of_looks = let t = b.tried in let s = t.first in let a = b.awaits in
-        saw a.sees.found a.last w a.sees.did ∙ ap (λ (x : View). as_looked x w) (looks_view lsn b.synced a.last a.waits)
-        ∙ ap (λ (x : View). as_looked x w) (unlooked (synced_view t.looked) b.synced (flushed_view b.end t.looked b.synced t.work (still_free s.found v t.looked s.did free)))
-        ∙ ap (λ (x : View). as_looked (synced_view x) w) (saw s.found v t.looked s.did)
+flushes lsn v w b free = let t = b.tried in let s = t.first in let a = b.awaits in by_sync b (
+    saw a.sees.found a.last w a.sees.did ∙ ap (λ (x : View). as_looked x w) (looks_view lsn b.synced a.last a.waits)
+    ∙ ap (λ (x : View). as_looked x w) (flushed_view lsn b.end t.looked b.synced t.work (still_free s.found v t.looked s.did free))
+    ∙ ap (λ (x : View). as_looked (synced_view x) w) (saw s.found v t.looked s.did))
 
-pub unflushed : (lsn end : ℕ) (why : FlushLog) (v w : View) → Tries lsn end (SyncRefused lsn end why) v w → v.log.held ≡ false → w ≡ as_looked (unflushed_view why v) w
+pub unflushed : (lsn end : ℕ) (why : FlushLog) (v w : View) → Tries lsn end (HolderRefused lsn end why) v w → v.log.held ≡ false → w ≡ as_looked (unflushed_view why v) w
 unflushed lsn end why v w t free = let s = t.first in
-    unlooked (unflushed_view why t.looked) w (unsynced lsn end why t.looked w t.work (still_free s.found v t.looked s.did free)) ∙ of_why why
+    unsynced lsn end why t.looked w t.work (still_free s.found v t.looked s.did free) ∙ of_why why
   where
     of_why : (why : FlushLog) → as_looked (unflushed_view why t.looked) w ≡ as_looked (unflushed_view why v) w
     of_why (flush_log.LogShort l at) = ap (λ (x : View). as_looked x w) (saw t.first.found v t.looked t.first.did)
     of_why (flush_log.LogDown at) = ap (λ (x : View). as_looked (downed x) w) (saw t.first.found v t.looked t.first.did)
     of_why flush_log.LogFault = ap (λ (x : View). as_looked (unflushed_view flush_log.LogFault x) w) (saw t.first.found v t.looked t.first.did)
+
+-- a sync that was refused, after the second look
+pub holder_refused : (lsn end : ℕ) (why : FlushLog) (v u w : View) → lsn ≤ end → SeesUnflushed lsn v u → SyncRefused end why u w → HolderRefused lsn end why v w
+holder_refused lsn end (flush_log.LogShort l at) v u w within s none = absurd none
+holder_refused lsn end (flush_log.LogDown at) v u w within s down = record { within = within; looked = u; second = s; work = down }
+holder_refused lsn end flush_log.LogFault v u w within s failed = record { within = within; looked = u; second = s; work = failed }
 
 -- what is as it was where but for looks only calls of devices and faults are counted
 counted_work : (v w : View) (calls : List DeviceCall) (met : Met) (down : Bool) → w ≡ as_looked (record v { device_calls = calls; met = met; saw_down = down }) w → KeepsWork v w
@@ -148,11 +170,15 @@ counted_work v w calls met down e = record {
   place_loads = ap (λ (x : View). x.place_loads) e;
   upto = ap (λ (x : View). x.upto) e;
   kept = ap (λ (x : View). x.kept) e;
+  dirtied_or_synced = ap (λ (x : View). x.dirtied_or_synced) e;
+  had_output = ap (λ (x : View). x.had_output) e;
+  last_ended = ap (λ (x : View). x.last_ended) e;
 }
 
 pub flushed_work : (lsn : ℕ) (v w : View) → Flushed lsn v w → KeepsWork v w
-flushed_work lsn v w (inl s) = counted_work v w v.device_calls v.met v.saw_down s.1
-flushed_work lsn v w (inr s) = counted_work v w (v.device_calls ++ LogSync true ∷ []) v.met v.saw_down s.1
+flushed_work lsn v w (already s e) = counted_work v w v.device_calls v.met v.saw_down e
+flushed_work lsn v w (meanwhile s e) = counted_work v w v.device_calls v.met v.saw_down e
+flushed_work lsn v w (by_sync s e) = counted_work v w (v.device_calls ++ LogSync true ∷ []) v.met v.saw_down e
 
 pub unflushed_work : (why : FlushLog) (v w : View) → w ≡ as_looked (unflushed_view why v) w → KeepsWork v w
 unflushed_work (flush_log.LogShort l at) v w e = counted_work v w v.device_calls v.met v.saw_down e

@@ -1,11 +1,12 @@
 -- The log is flushed, or why not.
 use Rattle.std.specs.Prelude.{◌≡◌, ℕ, ◌<◌, ◌≤◌, true, false, [], ◌∷◌, ◌++◌}
-use mathlib.Core.Logic.{◌⊎◌}
 use Rattle.pin_core.specs.declared.view.DeviceCall.TheVariants.{LogSync}
 use Rattle.pin_core.specs.declared.view.View.{View}
 use Rattle.history_core.specs.Device.{sync_log, fail_sync, log_back}
 use Rattle.frame_table.specs.Behind.{DidWord, load_flushed, raise_flushed}
 use Rattle.frame_table.specs.LogWork.{DidTwo}
+use Rattle.wal_flush.specs.declared.flushes.FlushedBy.{FlushedBy}
+use Rattle.wal_flush.specs.declared.flushes.FlushedBy.TheVariants.{Another, Holder}
 use Rattle.wal_flush.specs.declared.flushes.FlushLog.{FlushLog}
 use Rattle.wal_flush.specs.declared.flushes.FlushLog.TheVariants.{LogShort, LogDown, LogFault}
 use Rattle.wal_flush.specs.Latched.{FindsDown, GoesOutUp, UnderLatch, downed, faulted}
@@ -42,19 +43,40 @@ pub record Syncs (v w : View) : Type 0 where
   pub syncs : DidTwo sync_log (log_back false) out home
   pub raises : DidWord raise_flushed home w found
 
--- The one call of the log was a sync, which failed
+-- The one call of the log was a sync, which failed: no more of the log's bytes are taken as durable than when it went out
 pub record FailsToSync (v w : View) : Type 0 where
   pub out : View
-  pub synced : ℕ
   pub faults : ℕ
   pub went : GoesOutUp v out
-  pub fails : DidTwo (fail_sync synced faults) (log_back true) out w
+  pub fails : DidTwo (fail_sync went.taken.synced faults) (log_back true) out w
 
--- Why the log is not flushed up to `lsn` where it ends at `end`, and what was done
-abbrev pub SyncRefused : ℕ → ℕ → FlushLog → View → View → Type 0
-SyncRefused lsn end (LogShort l e) v w = (l ≡ lsn) × (e ≡ end) × (end < lsn) × (w ≡ v)
-SyncRefused lsn end (LogDown at) v w = (at ≡ end) × (lsn ≤ end) × FindsDown at v w
-SyncRefused lsn end LogFault v w = (lsn ≤ end) × FailsToSync v w
+-- Under the log's latch, where the log ends at `end`, the flushed position was loaded once more, and was at `lsn` or behind it by then
+pub record FindsFlushed (lsn end : ℕ) (v w : View) : Type 0 where
+  pub within : lsn ≤ end
+  pub sees : SeesFlushed lsn v w
+
+-- or it was before `lsn` still, and then this was done
+pub record StillUnflushed (lsn end : ℕ) (Work : View → View → Type 0) (v w : View) : Type 0 where
+  pub within : lsn ≤ end
+  pub looked : View
+  pub second : SeesUnflushed lsn v looked
+  pub work : Work looked w
+
+-- What the holder of the latch did where it found the log flushed up to `lsn`, or flushed it
+abbrev pub HolderFlushed : ℕ → ℕ → FlushedBy → View → View → Type 0
+HolderFlushed lsn end Another v w = FindsFlushed lsn end v w
+HolderFlushed lsn end Holder v w = StillUnflushed lsn end Syncs v w
+
+-- Why the log, which ends at `end`, is not synced, and what was done
+abbrev pub SyncRefused : ℕ → FlushLog → View → View → Type 0
+SyncRefused end (LogShort l e) v w = ⊥
+SyncRefused end (LogDown at) v w = (at ≡ end) × FindsDown at v w
+SyncRefused end LogFault v w = FailsToSync v w
+
+-- Why the holder of the latch doesn't flush the log up to `lsn`: the log ends before that; or it doesn't, the flushed position was before `lsn` still, and no sync was done
+abbrev pub HolderRefused : ℕ → ℕ → FlushLog → View → View → Type 0
+HolderRefused lsn end (LogShort l e) v w = (l ≡ lsn) × (e ≡ end) × (end < lsn) × (w ≡ v)
+HolderRefused lsn end why v w = StillUnflushed lsn end (SyncRefused end why) v w
 
 -- The flushed position was loaded, and was before `lsn`; then this was done under the log's latch, where the log ends at `end`
 pub record Tries (lsn end : ℕ) (Work : View → View → Type 0) (v w : View) : Type 0 where
@@ -63,14 +85,18 @@ pub record Tries (lsn end : ℕ) (Work : View → View → Type 0) (v w : View) 
   pub work : UnderLatch end Work looked w
 
 abbrev pub FlushRefused : ℕ → View → View → FlushLog → Type 0
-FlushRefused lsn v w why = (end : ℕ) × Tries lsn end (SyncRefused lsn end why) v w
+FlushRefused lsn v w why = (end : ℕ) × Tries lsn end (HolderRefused lsn end why) v w
 
--- The log, which ends at `lsn` or behind it, was synced once, and then the flushed position was awaited
+-- The log, which ends at `lsn` or behind it, was not flushed so far at first, and was once its latch was taken
+pub record WasFlushed (lsn : ℕ) (v w : View) : Type 0 where
+  pub end : ℕ
+  pub tried : Tries lsn end (FindsFlushed lsn end) v w
+
+-- It was not then either: it was synced once, and then the flushed position was awaited
 pub record Flushes (lsn : ℕ) (v w : View) : Type 0 where
   pub end : ℕ
   pub synced : View
-  pub within : lsn ≤ end
-  pub tried : Tries lsn end Syncs v synced
+  pub tried : Tries lsn end (StillUnflushed lsn end Syncs) v synced
   pub awaits : Awaits lsn synced w
 
 -- the view v, with the steps and loads that w counts, and the flushed position that w has seen
@@ -81,9 +107,11 @@ as_looked v w = record v { steps = w.steps; loads = w.loads; flushed = w.flushed
 abbrev pub synced_view : View → View
 synced_view v = record v { device_calls = v.device_calls ++ LogSync true ∷ [] }
 
--- The log is flushed up to `lsn`: it was so already, and the view called no device, or one sync was done
-abbrev pub Flushed : ℕ → View → View → Type 0
-Flushed lsn v w = (SeesFlushed lsn v w × (w ≡ as_looked v w)) ⊎ (Flushes lsn v w × (w ≡ as_looked (synced_view v) w))
+-- The log is flushed up to `lsn`: it was so already, or was once the latch was taken, and no device was called; or one sync was done
+pub data Flushed (lsn : ℕ) (v w : View) : Type 0 where
+  already : SeesFlushed lsn v w → w ≡ as_looked v w → Flushed lsn v w
+  meanwhile : WasFlushed lsn v w → w ≡ as_looked v w → Flushed lsn v w
+  by_sync : Flushes lsn v w → w ≡ as_looked (synced_view v) w → Flushed lsn v w
 
 -- the view after a refusal
 abbrev pub unflushed_view : FlushLog → View → View

@@ -1,5 +1,5 @@
 -- A page is inserted into the log, or why not.
-use Rattle.std.specs.Prelude.{◌≡◌, ℕ, ◌+◌, ◌<◌, ◌≤◌, true, false, List, [], ◌∷◌, ◌++◌, slice_set, Some}
+use Rattle.std.specs.Prelude.{◌≡◌, ℕ, ◌+◌, ◌<◌, ◌≤◌, true, false, List, [], ◌∷◌, ◌++◌, slice_set, Some, None}
 use Rattle.block_tag.specs.declared.tag.Tag.{Tag}
 use Rattle.block_tag.specs.declared.catalogue.RelEntry.{RelEntry}
 use Rattle.block_tag.specs.Names.{names_block, packed_tag}
@@ -51,14 +51,17 @@ pub record Enters (relations : List RelEntry) (f : ℕ) (tag : Tag) (start : ℕ
   pub did : DidEnter f p home w
   pub after : w ≡ view_entered f (packed_tag tag) p (start + record_size) home
 
--- The one call of the log was the append of such a record, and it failed, with a first part of the record behind the log
+-- The one call of the log was the append of such a record, and it failed: a part, the first bytes of the record, is behind the log; where the log's contents aren't known it is []
 pub record FailsToAppend (relations : List RelEntry) (f : ℕ) (tag : Tag) (start : ℕ) (p : Page) (v w : View) : Type 0 where
   pub out : View
   pub bytes : List ℕ
   pub part : List ℕ
+  pub rest : List ℕ
   pub faults : ℕ
   pub is_record : IsRecord relations tag start p bytes
+  pub begins : part ++ rest ≡ bytes
   pub went : GoesOutUp v out
+  pub unknown : went.taken.bytes ≡ None → part ≡ []
   pub fails : DidTwo (fail_append f (packed_tag tag) p part faults) (log_back true) out w
 
 -- Why the page p is not entered where the log ends at `end`, and what was done

@@ -53,7 +53,7 @@ downed v = record v { saw_down = true }
 abbrev pub faulted : View → View
 faulted v = record (downed v) { met = record v.met { logs = v.met.logs + 1 } }
 
--- What a call of the log leaves as it was, but where an entry is made: all that the view has of frames, partitions, lanes and the log, and what it has read and written
+-- What a call of the log leaves as it was, but where an entry is made: all that the view has of frames, partitions, lanes and the log, what it has read and written, whether it has dirtied a frame or synced a lane, whether it has had an output right, and how its last input or output ended
 pub record KeepsWork (v w : View) : Type 0 where
   pub number : w.number ≡ v.number
   pub next : w.next ≡ v.next
@@ -68,3 +68,6 @@ pub record KeepsWork (v w : View) : Type 0 where
   pub place_loads : w.place_loads ≡ v.place_loads
   pub upto : w.upto ≡ v.upto
   pub kept : w.kept ≡ v.kept
+  pub dirtied_or_synced : w.dirtied_or_synced ≡ v.dirtied_or_synced
+  pub had_output : w.had_output ≡ v.had_output
+  pub last_ended : w.last_ended ≡ v.last_ended

@@ -4,7 +4,7 @@ ghost use Rattle.table_rule.specs.declared.turn.Turn.TheVariants.{Log};
 ghost use Rattle.frame_table.specs.Sees.{CanTurn, IsSeat, SameSeat};
 ghost use Rattle.frame_table.specs.Turning.{MayLeave};
 ghost use Rattle.wal_flush.specs.Latched.{KeepsWork, opened_log};
-ghost use Rattle.wal_flush.specs.Flushes.{Awaits, Flushed, FlushRefused, SyncRefused, Syncs, as_looked, unflushed_view};
+ghost use Rattle.wal_flush.specs.Flushes.{Awaits, Flushed, FlushRefused, HolderFlushed, HolderRefused, SyncRefused, Syncs, as_looked, unflushed_view};
 
 use crate::outings::{take_end, take_log};
 use atomic_table::Seat;
@@ -30,11 +30,18 @@ pub enum FlushLog {
     LogFault,
 }
 
+/// Who flushed the log as far as was asked for.
+enum FlushedBy {
+    /// Another backend, before the latch was taken.
+    Another,
+    /// The holder of the latch, by a sync.
+    Holder,
+}
+
 /// Syncs the log, and raises the flushed position to its end, as it was loaded under the latch.
 fn sync<L: BlockLane, G: LogDevice>(
     table: &FrameTable<L, G>,
     seat: &mut Seat<Value<L, G>, View>,
-    lsn: Lsn,
     end: Lsn,
 ) -> Result<(), FlushLog>
     requires seat { CanTurn table.now seat.old Log }
@@ -42,12 +49,10 @@ fn sync<L: BlockLane, G: LogDevice>(
     ensures seat { SameSeat seat.old seat.new }
     ensures can { CanTurn table.now seat.new Log }
     ensures leaves { MayLeave Log seat.new.me.0 }
-    ensures synced { IfOk result (λ _. (lsn ≤ end) × Syncs seat.old.me.0 seat.new.me.0) }
-    ensures cause { IfErr result (λ why. SyncRefused lsn end why seat.old.me.0 seat.new.me.0) }
+    ensures flushed { seat.new.me.0.flushed ≡ seat.old.me.0.flushed }
+    ensures synced { IfOk result (λ _. Syncs seat.old.me.0 seat.new.me.0) }
+    ensures cause { IfErr result (λ why. SyncRefused end why seat.old.me.0 seat.new.me.0) }
 {
-    if lsn > end {
-        return Err(FlushLog::LogShort { lsn, end });
-    }
     let mut log = match take_log(table, seat) {
         Ok(log) => log,
         Err(at) => return Err(FlushLog::LogDown { at }),
@@ -60,6 +65,34 @@ fn sync<L: BlockLane, G: LogDevice>(
             Ok(())
         }
         Err(_failed) => Err(FlushLog::LogFault),
+    }
+}
+
+/// Looks at the flushed position once more, under the latch, and syncs the log where no other backend has flushed it as far as `lsn` meanwhile.
+fn flush_held<L: BlockLane, G: LogDevice>(
+    table: &FrameTable<L, G>,
+    seat: &mut Seat<Value<L, G>, View>,
+    lsn: Lsn,
+    end: Lsn,
+) -> Result<FlushedBy, FlushLog>
+    requires seat { CanTurn table.now seat.old Log }
+    requires held { seat.old.me.0.log ≡ opened_log end }
+    ensures seat { SameSeat seat.old seat.new }
+    ensures can { CanTurn table.now seat.new Log }
+    ensures leaves { MayLeave Log seat.new.me.0 }
+    ensures flushed { IfOk result (λ by. HolderFlushed lsn end by seat.old.me.0 seat.new.me.0) }
+    ensures unflushed { IfErr result (λ _. seat.old.me.0.flushed < lsn → seat.new.me.0.flushed < lsn) }
+    ensures cause { IfErr result (λ why. HolderRefused lsn end why seat.old.me.0 seat.new.me.0) }
+{
+    if lsn > end {
+        return Err(FlushLog::LogShort { lsn, end });
+    }
+    if lsn <= table.load_flushed(seat) {
+        return Ok(FlushedBy::Another);
+    }
+    match sync(table, seat, end) {
+        Ok(()) => Ok(FlushedBy::Holder),
+        Err(why) => Err(why),
     }
 }
 
@@ -85,7 +118,7 @@ fn await_flushed<L: BlockLane, G: LogDevice, R: Wait>(
 
 /// Makes the log durable up to the position `lsn`, and the backend has seen the flushed position at `lsn` or behind it then (`XLogFlush`).
 ///
-/// Where the flushed position is so far already no device is called. Else it waits for the log's latch, and makes one sync at most. It refuses where the log ends before `lsn`, then where it is down, then where the sync fails.
+/// Where the flushed position is so far already no device is called. Else it waits for the log's latch and looks once more: where another backend has flushed the log so far meanwhile no device is called either, whether the log is down by then or not. Else it makes one sync at most. It refuses where the log ends before `lsn`; then, where it isn't flushed so far under the latch, where it is down, and where the sync fails.
 pub fn flush_to<L: BlockLane, G: LogDevice, R: Wait>(
     table: &FrameTable<L, G>,
     rt: &R,
@@ -105,13 +138,16 @@ pub fn flush_to<L: BlockLane, G: LogDevice, R: Wait>(
         return Ok(());
     }
     let end = take_end(table, rt, seat);
-    let result = sync(table, seat, lsn, end);
+    let result = flush_held(table, seat, lsn, end);
     table.leave_turn(seat, Turn::Log);
     match result {
-        Ok(()) => {
-            await_flushed(table, rt, seat, lsn);
-            Ok(())
-        }
+        Ok(by) => match by {
+            FlushedBy::Another => Ok(()),
+            FlushedBy::Holder => {
+                await_flushed(table, rt, seat, lsn);
+                Ok(())
+            }
+        },
         Err(why) => Err(why),
     }
 }

@@ -1,24 +1,41 @@
-use Rattle.wal_flush.proofs.Views.{flushes, flushed_work, unflushed, unflushed_work}
+use Rattle.std.proofs.Common.{subst}
+use Rattle.wal_flush.specs.declared.flushes.FlushedBy.{FlushedBy}
+use Rattle.wal_flush.specs.Flushes.{HolderFlushed}
+use Rattle.wal_flush.proofs.Views.{flushes, flushed_work, unflushed, unflushed_work, was_flushed}
 use Rattle.wal_flush.proofs.flushes.flush_to.Goals as goal
 
-pub returns-in-Ok-clause-did : goal.returns-in-Ok-clause-did
-returns-in-Ok-clause-did g c = let s = c.in-Ok.ensures.synced in flushes _ _ _ record {
+pub returns-in-Another-clause-did : goal.returns-in-Another-clause-did
+returns-in-Another-clause-did g c = let h = c.flush_held-result.new.seat.me.0 in was_flushed _ _ _ record {
   end = c.take_end-end.result;
-  synced = c.leave_turn.new.seat.me.0;
-  within = s.0;
   tried = record {
     looked = c.load_flushed.new.seat.me.0;
     first = record { found = c.load_flushed.result; did = c.load_flushed.ensures.did; before = c.if-lsn-load_flushed.false };
-    work = record { loaded = c.take_end-end.new.seat.me.0; worked = c.sync-result.new.seat.me.0; opens = c.take_end-end.ensures.did; work = s.1; leaves = c.leave_turn.ensures.did };
+    work = record {
+      loaded = c.take_end-end.new.seat.me.0;
+      worked = h;
+      opens = c.take_end-end.ensures.did;
+      work = subst (λ (by : FlushedBy). HolderFlushed c.args.lsn c.take_end-end.result by c.take_end-end.new.seat.me.0 h) c.in-Another.is c.in-Ok.ensures.flushed;
+      leaves = c.leave_turn.ensures.did;
+    };
   };
-  awaits = c.await_flushed.ensures.did;
 } c.requires.free
 
-pub returns-in-Err-clause-left : goal.returns-in-Err-clause-left
-returns-in-Err-clause-left g c = unflushed _ c.take_end-end.result _ _ _ record {
-  looked = c.load_flushed.new.seat.me.0;
-  first = record { found = c.load_flushed.result; did = c.load_flushed.ensures.did; before = c.if-lsn-load_flushed.false };
-  work = record { loaded = c.take_end-end.new.seat.me.0; worked = c.sync-result.new.seat.me.0; opens = c.take_end-end.ensures.did; work = c.in-Err.ensures.cause; leaves = c.leave_turn.ensures.did };
+pub returns-in-Holder-clause-did : goal.returns-in-Holder-clause-did
+returns-in-Holder-clause-did g c = let h = c.flush_held-result.new.seat.me.0 in flushes _ _ _ record {
+  end = c.take_end-end.result;
+  synced = c.leave_turn.new.seat.me.0;
+  tried = record {
+    looked = c.load_flushed.new.seat.me.0;
+    first = record { found = c.load_flushed.result; did = c.load_flushed.ensures.did; before = c.if-lsn-load_flushed.false };
+    work = record {
+      loaded = c.take_end-end.new.seat.me.0;
+      worked = h;
+      opens = c.take_end-end.ensures.did;
+      work = subst (λ (by : FlushedBy). HolderFlushed c.args.lsn c.take_end-end.result by c.take_end-end.new.seat.me.0 h) c.in-Holder.is c.in-Ok.ensures.flushed;
+      leaves = c.leave_turn.ensures.did;
+    };
+  };
+  awaits = c.await_flushed.ensures.did;
 } c.requires.free
 
 pub returns-in-Err-clause-cause : goal.returns-in-Err-clause-cause
@@ -27,12 +44,19 @@ returns-in-Err-clause-cause g c = (
   record {
     looked = c.load_flushed.new.seat.me.0;
     first = record { found = c.load_flushed.result; did = c.load_flushed.ensures.did; before = c.if-lsn-load_flushed.false };
-    work = record { loaded = c.take_end-end.new.seat.me.0; worked = c.sync-result.new.seat.me.0; opens = c.take_end-end.ensures.did; work = c.in-Err.ensures.cause; leaves = c.leave_turn.ensures.did };
+    work = record { loaded = c.take_end-end.new.seat.me.0; worked = c.flush_held-result.new.seat.me.0; opens = c.take_end-end.ensures.did; work = c.in-Err.ensures.cause; leaves = c.leave_turn.ensures.did };
   },
 )
 
-pub returns-in-Ok-clause-work : goal.returns-in-Ok-clause-work
-returns-in-Ok-clause-work g c = flushed_work _ _ _ (returns-in-Ok-clause-did g c)
+pub returns-in-Err-clause-left : goal.returns-in-Err-clause-left
+unfolding returns-in-Err-clause-cause
+returns-in-Err-clause-left g c = unflushed _ c.take_end-end.result _ _ _ (returns-in-Err-clause-cause g c).1 c.requires.free
+
+pub returns-in-Another-clause-work : goal.returns-in-Another-clause-work
+returns-in-Another-clause-work g c = flushed_work _ _ _ (returns-in-Another-clause-did g c)
+
+pub returns-in-Holder-clause-work : goal.returns-in-Holder-clause-work
+returns-in-Holder-clause-work g c = flushed_work _ _ _ (returns-in-Holder-clause-did g c)
 
 pub returns-in-Err-clause-work : goal.returns-in-Err-clause-work
 returns-in-Err-clause-work g c = unflushed_work _ _ _ (returns-in-Err-clause-left g c)

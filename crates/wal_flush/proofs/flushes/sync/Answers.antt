@@ -1,7 +1,12 @@
-use Rattle.std.proofs.Common.{ap, arith}
+use Rattle.std.proofs.Common.{ap}
 use Rattle.pin_core.specs.declared.view.LogHold.{LogHold}
 use Rattle.wal_flush.proofs.LogSteps.{down_at_end}
+use Rattle.wal_flush.proofs.Records.{came_unsynced}
 use Rattle.wal_flush.proofs.flushes.sync.Goals as goal
 
 pub returns-in-Err-clause-cause : goal.returns-in-Err-clause-cause
-returns-in-Err-clause-cause g c = let down = c.in-Err.ensures.down in (down_at_end _ _ _ _ down (ap (λ (h : LogHold). h.end) c.requires.held), omega arith, down)
+returns-in-Err-clause-cause g c = let down = c.in-Err.ensures.down in (down_at_end _ _ _ _ down (ap (λ (h : LogHold). h.end) c.requires.held), down)
+
+pub returns-in-Err-result-clause-cause : goal.returns-in-Err-result-clause-cause
+returns-in-Err-result-clause-cause g c = let o = c.in-Ok.ensures in
+    came_unsynced g.G.LogDevice.bytes g.G.LogDevice.synced g.G.LogDevice.faults c.in-Ok.log _ c.take_log.new.seat.me.0 o.went o.up c.sync-result.new.self _ c.in-Err-result.ensures.call c.log_back.ensures.came

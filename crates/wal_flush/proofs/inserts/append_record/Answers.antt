@@ -33,15 +33,12 @@ returns-in-Ok-result-clause-appended g c = let o = c.in-Ok.ensures in record {
 }
 
 pub returns-in-Err-result-clause-cause : goal.returns-in-Err-result-clause-cause
-returns-in-Err-result-clause-cause g c = let o = c.in-Ok.ensures in let torn = came_torn _ _ _ _ c.log_back.ensures.came.taken _ _ _ _ _ c.in-Err-result.ensures.call c.log_back.ensures.came.did in (
+returns-in-Err-result-clause-cause g c = let o = c.in-Ok.ensures in (
   c.requires.room,
-  subst (λ (p : Page). FailsToAppend (relations_of c.args.table.now) c.args.frame c.args.tag c.args.end p c.args.seat.now.me.0 c.log_back.new.seat.me.0) c.set_lsn.ensures.bytes record {
-    out = c.take_log.new.seat.me.0;
-    bytes = c.write_record.new.self.buffer.items;
-    part = torn.0;
-    faults = g.G.LogDevice.faults c.append-result.new.self.device;
-    is_record = record { entry = c.relation_of-entry.result; listed = c.relation_of-entry.ensures; is = c.write_record.ensures.«record» };
-    went = went_up _ _ _ _ _ _ o.went o.up;
-    fails = torn.1;
-  },
+  subst (λ (p : Page). FailsToAppend (relations_of c.args.table.now) c.args.frame c.args.tag c.args.end p c.args.seat.now.me.0 c.log_back.new.seat.me.0) c.set_lsn.ensures.bytes
+      (came_torn g.G.LogDevice.bytes g.G.LogDevice.synced g.G.LogDevice.faults c.in-Ok.log _ c.take_log.new.seat.me.0 o.went o.up _ c.args.frame c.args.tag c.args.end c.set_lsn.new.self c.write_record.new.self.buffer.items c.append-result.new.self _
+      record { entry = c.relation_of-entry.result; listed = c.relation_of-entry.ensures; is = c.write_record.ensures.«record» }
+      c.in-Err-result.ensures.call
+      (subst (λ (d : g.row.G.Denot). LogDid g.G.LogDevice.bytes g.G.LogDevice.synced g.G.LogDevice.faults d c.append-result.new.self.device c.append-result.new.self.call) c.write_record.ensures.device c.append-result.ensures.did)
+      c.log_back.ensures.came),
 )
