@@ -4,3 +4,4 @@ pub mod Reading
 pub mod Seats
 pub mod Victims
 pub mod Working
+pub mod Written

@@ -11,3 +11,4 @@ pub mod logging;
 pub mod pinning;
 #[cfg(test)]
 mod tests;
+pub mod writing;
