@@ -1,6 +1,7 @@
 pub mod Crossing
 pub mod Logged
 pub mod Reading
+pub mod Returned
 pub mod Seats
 pub mod Victims
 pub mod Working

@@ -7,18 +7,22 @@ ghost use Rattle.pin_core.specs.declared.view.DeviceCall.TheVariants.{LaneWrite}
 ghost use Rattle.pin_core.specs.declared.view.Io.TheVariants.{Output, Quiet};
 ghost use Rattle.pin_core.specs.declared.view.LastWrite.TheVariants.{Done};
 ghost use Rattle.pin_core.specs.State.{link};
+ghost use Rattle.frame_table.specs.Closes.{CanClose};
 ghost use Rattle.frame_table.specs.Sees.{frames_of};
 ghost use Rattle.table_tests.specs.Outputs.{FrameAnswer, PageAnswer, Shares};
-ghost use Rattle.table_tests.specs.Work.{HasBlock, IsQuietBeside, KeepsBeside, LanesHome, OnlyPins, PinsBlock, SameLatches};
+ghost use Rattle.table_tests.specs.Work.{HasBlock, IsQuietBeside, KeepsBeside, LanesHome, OnlyPins, PinsBlock, PinsNone, SameLatches};
 
+use crate::entering::enter_block;
 use crate::fixture::{Place, Table};
+use crate::loading::load_block;
+use crate::logging::put;
 use block_tag::Tag;
 use content_locks::{IoRight, copy_out, end_io, share, start_io, unshare};
 use frame_table::Turn;
 use page_layout::Page;
 use state_word::IoEnd;
 use std::sync::Wait;
-use wal_flush::{FlushLog, flush_to};
+use wal_flush::{FlushLog, InsertError, flush_to};
 
 /// Why a frame was not written.
 #[derive(Clone, Copy, PartialEq, Eq, Debug)]
@@ -177,4 +181,36 @@ pub fn flush_frame<R: Wait>(
         Ok(()) => Ok(true),
         Err(why) => Err(why),
     }
+}
+
+/// What came of a put of a page, and of two flushes of its frame.
+#[derive(Clone, Copy, PartialEq, Debug)]
+pub struct Flushes {
+    pub put: Option<Result<u64, InsertError>>,
+    pub first: Result<bool, FlushError>,
+    pub second: Result<bool, FlushError>,
+}
+
+/// Brings a block into a frame, puts a page there, and flushes the frame twice. None where the block didn't come.
+pub fn flush_twice<R: Wait>(
+    rt: &R,
+    table: &Table,
+    seat: &mut Place,
+    frame: u32,
+    tag: Tag,
+    page: &mut Page,
+) -> Option<Flushes>
+    requires closes { CanClose table.now seat.old }
+    requires pins { OnlyPins table.now seat.old × PinsNone seat.old }
+    requires frame { frame < frames_of table.now }
+    requires block { HasBlock table.now tag }
+    ensures closes { CanClose table.now seat.new }
+{
+    let pin = enter_block(rt, table, seat, frame, tag)?;
+    load_block(rt, table, seat, frame, tag, page);
+    let put = put(rt, table, seat, frame, tag, page);
+    let first = flush_frame(rt, table, seat, frame, tag, page);
+    let second = flush_frame(rt, table, seat, frame, tag, page);
+    table.unpin(rt, seat, pin);
+    Some(Flushes { put, first, second })
 }
