@@ -1,5 +1,5 @@
 -- Lanes that come back with a call.
-use Rattle.std.proofs.Common.{◌≡◌, ℕ, ◌%◌, Bool, true, Some, List, sym, ap, subst, arith}
+use Rattle.std.proofs.Common.{◌≡◌, ℕ, ◌%◌, Bool, true, List, sym, ap, subst, arith}
 use Rattle.std.specs.Prelude.{MatchResult, Result, Ok, Err}
 use Rattle.block_tag.specs.declared.catalogue.RelEntry.{RelEntry}
 use Rattle.block_tag.specs.declared.tag.Tag.{Tag}

@@ -1,7 +1,7 @@
 -- Seats that write a page to its lane.
-use Rattle.std.proofs.Common.{◌≡◌, ◌≤◌, ℕ, Bool, true, false, None, [], List, ◌∷◌, ◌++◌, append-nil, get_or, sym, refl, ap, ◌∙◌, subst}
+use Rattle.std.proofs.Common.{◌≡◌, ◌≤◌, ℕ, Bool, true, false, [], List, ◌∷◌, ◌++◌, append-nil, get_or, sym, refl, ap, ◌∙◌, subst}
 use Rattle.std.specs.Prelude.{MatchResult, Result, Ok, Err}
-use mathlib.Core.Logic.{◌⊎◌, inl, inr}
+use mathlib.Core.Logic.{inl, inr}
 use Rattle.atomic_table.specs.declared.shared.Seat.{Seat}
 use Rattle.block_tag.specs.declared.tag.Tag.{Tag}
 use Rattle.block_tag.specs.Names.{packed_tag}
@@ -15,7 +15,7 @@ use Rattle.pin_core.specs.declared.view.Link.{Link}
 use Rattle.pin_core.specs.declared.view.LaneHold.{LaneHold}
 use Rattle.pin_core.specs.declared.view.PartitionHold.{PartitionHold}
 use Rattle.pin_core.specs.declared.view.Role.TheVariants.{HandedOut, Victim}
-use Rattle.pin_core.specs.State.{Page, hold, lane_hold, link, no_lane}
+use Rattle.pin_core.specs.State.{Page, link, no_lane}
 use Rattle.table_rule.specs.declared.value.Value.{Value}
 use Rattle.frame_table.specs.declared.table.FrameTable.{FrameTable}
 use Rattle.table_rule.specs.declared.noted_lane.LaneCall.{LaneCall}
