@@ -3,7 +3,9 @@ pub mod Finding
 pub mod Joining
 pub mod Logged
 pub mod Reading
+pub mod Returned
 pub mod Seats
 pub mod Sending
 pub mod Victims
 pub mod Working
+pub mod Written

@@ -12,18 +12,18 @@ use Rattle.log_device.specs.declared.device.LogDevice as log_device
 use Rattle.table_rule.specs.contracts.value.Value as value
 use Rattle.pin_core.specs.contracts.view.View as view
 use Rattle.frame_table.specs.contracts.table.FrameTable as table
-use Rattle.table_tests.specs.contracts.devices.GoodLane as lane
+use Rattle.table_tests.specs.contracts.devices.TestLane as lane
 use Rattle.table_tests.specs.contracts.devices.TestLog as log
 use Rattle.table_tests.specs.contracts.copying.Course as course
 use Rattle.std.specs.contracts.alloc.Global as global
 use Rattle.atomic_table.specs.contracts.shared.Seat as seat
 use Rattle.table_tests.proofs.Crossing.{shared_sync, lease_sync, seat_send}
 
-good_lanes_cross : IsSend lane.the_row
-good_lanes_cross = search (sendable, crosses, over.crosses) depth 30
+lanes_cross : IsSend lane.the_row
+lanes_cross = search (sendable, crosses, over.crosses) depth 30
 
 values_cross : IsSend (value.the_row lane.the_row log.the_row)
-values_cross = search (sendable, crosses, over.crosses, good_lanes_cross) depth 30 fits 20000
+values_cross = search (sendable, crosses, over.crosses, lanes_cross) depth 30 fits 20000
 
 pub tables_shared : (a : block_lane.Ghosts lane.the_row.Denot) (b : log_device.Ghosts log.the_row.Denot) → IsSync (table.the_row lane.the_row log.the_row a b)
 tables_shared a b = search (sendable, crosses, over.crosses, values_cross, shared_sync, lease_sync, frees) depth 40 fits 20000

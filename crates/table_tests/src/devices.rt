@@ -5,11 +5,27 @@ use page_layout::Page;
 use segment_store::BlockLane;
 use std::alloc::Global;
 
-/// A lane whose contents aren't known, and whose calls are all good.
+/// A lane whose contents contracts don't know. It counts its writes, and one of them may fail.
 #[derive(Drop)]
-pub struct GoodLane;
+pub struct TestLane {
+    /// How many writes were made.
+    pub writes: u32,
+    /// Which write fails, counted from 1; none where this is 0.
+    failing: u32,
+    faults: FaultCount,
+}
 
-impl BlockLane for GoodLane {
+impl TestLane {
+    pub fn new(failing: u32) -> TestLane {
+        TestLane {
+            writes: 0,
+            failing,
+            faults: FaultCount::new(),
+        }
+    }
+}
+
+impl BlockLane for TestLane {
     ghost use Rattle.std.specs.Prelude.{None, false};
     ghost use Rattle.std.proofs.Common.{rules};
     ghost use Prim.{search};
@@ -20,13 +36,18 @@ impl BlockLane for GoodLane {
 
     ghost read_faults = { λ _. 0 };
 
-    ghost write_faults = { λ _. 0 };
+    ghost write_faults = { λ l. l.faults.count };
 
     fn read(&mut self, _tag: Tag, _page: &mut Page) -> Result<(), Failed> {
         Ok(())
     }
 
     fn write(&mut self, _tag: Tag, _page: &Page) -> Result<(), Failed> {
+        self.writes = self.writes.saturating_add(1);
+        if self.writes == self.failing {
+            self.faults.raise();
+            return Err(Failed);
+        }
         Ok(())
     }
 
@@ -36,7 +57,7 @@ impl BlockLane for GoodLane {
 
     ghost read_faults_fit = { λ _. search rules };
 
-    ghost write_faults_fit = { λ _. search rules };
+    ghost write_faults_fit = { λ l. l.faults.fits };
 }
 
 /// A log whose contents contracts don't know. It has what was appended, and one of its calls may fail.

@@ -4,7 +4,7 @@ ghost use Rattle.frame_table.specs.Closes.{CanClose};
 ghost use Rattle.frame_table.specs.Sees.{frames_of};
 ghost use Rattle.table_tests.specs.Work.{HasBlock, IsSmall, OnlyPins, PinsNone, relations};
 
-use crate::devices::{GoodLane, TestLog};
+use crate::devices::{TestLane, TestLog};
 use atomic_table::Seat;
 use block_tag::{Catalog, CatalogError, Fork, RelEntry, RelNo, Tag};
 use frame_table::{BuildRefused, Config, FrameTable, Value};
@@ -12,9 +12,9 @@ use page_layout::Page;
 use pin_core::View;
 use std::alloc::{AllocError, Global};
 
-pub type Table = FrameTable<GoodLane, TestLog>;
+pub type Table = FrameTable<TestLane, TestLog>;
 
-pub type Place = Seat<Value<GoodLane, TestLog>, View>;
+pub type Place = Seat<Value<TestLane, TestLog>, View>;
 
 /// One relation of 64 blocks.
 fn catalog(alloc: Global) -> Result<Catalog, CatalogError>
@@ -47,6 +47,22 @@ pub fn table_over(alloc: Global, log: TestLog, base: u64) -> Result<(Table, Plac
     ensures closes { IfOk result (λ t. CanClose t.0 t.1) }
     ensures alone { IfOk result (λ t. t.1.me.0.next ≡ 1) }
 {
+    table_on(alloc, TestLane::new(0), log, base)
+}
+
+/// The same on this lane.
+pub fn table_on(
+    alloc: Global,
+    lane: TestLane,
+    log: TestLog,
+    base: u64,
+) -> Result<(Table, Place), AllocError>
+    requires { base ≤ 2 ^ 62 }
+    ensures small { IfOk result (λ t. IsSmall t.0) }
+    ensures pins { IfOk result (λ t. OnlyPins t.0 t.1 × PinsNone t.1) }
+    ensures closes { IfOk result (λ t. CanClose t.0 t.1) }
+    ensures alone { IfOk result (λ t. t.1.me.0.next ≡ 1) }
+{
     let Ok(catalog) = catalog(alloc) else {
         return Err(AllocError);
     };
@@ -56,7 +72,7 @@ pub fn table_over(alloc: Global, log: TestLog, base: u64) -> Result<(Table, Plac
         lanes: 1,
     };
     let mut lanes = Vec::new(alloc);
-    lanes.push(GoodLane)?;
+    lanes.push(lane)?;
     match FrameTable::build(alloc, config, catalog, lanes, log, base) {
         Ok(built) => Ok(built),
         Err(BuildRefused { lanes, log }) => {

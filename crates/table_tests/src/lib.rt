@@ -12,3 +12,4 @@ pub mod logging;
 pub mod pinning;
 #[cfg(test)]
 mod tests;
+pub mod writing;

@@ -1,12 +1,13 @@
 //! Tables that are run.
 use crate::choosing::{choose_among, choose_often, hand_of, touch_often, use_frames};
 use crate::copying::{Copied, Course, copy_together};
-use crate::devices::TestLog;
+use crate::devices::{TestLane, TestLog};
 use crate::entering::{frame_of, leave_block};
-use crate::fixture::{FRONT, block, one_item, table, table_over, word_of};
+use crate::fixture::{FRONT, block, one_item, table, table_on, table_over, word_of};
 use crate::locking::refusals;
 use crate::logging::{LateFlushes, Tries, flush_late, put_twice};
 use crate::pinning::{pin_by_four, pin_often, pin_together, refusal, refusal_of_two};
+use crate::writing::{FlushError, Flushes, flush_twice};
 use access_rings::{Ring, RingKind};
 use clock_sweep::{Census, Sweep};
 use content_locks::TryLock;
@@ -338,6 +339,85 @@ fn an_append_that_failed_leaves_the_first_insert_unflushed(rt: HostRuntime) -> R
         })
     );
     assert_eq!(rt; page.lsn(), 8224);
+    Ok(())
+}
+
+#[test]
+fn a_dirty_frame_is_written_once(rt: HostRuntime) -> Result<(), Fail> {
+    let mut page = one_item(rt.alloc(), 7)?;
+    let (table, mut seat) = table(rt.alloc())?;
+    let tag = block(&table, 5);
+    let flushes = flush_twice(&rt, &table, &mut seat, 3, tag, &mut page);
+    let (lanes, log) = table.close(seat);
+    assert_eq!(rt;
+        flushes,
+        Some(Flushes {
+            put: Some(Ok(8224)),
+            first: Ok(true),
+            second: Ok(false),
+        })
+    );
+    assert_eq!(rt; lanes.first().map(|lane| lane.writes), Some(1));
+    assert_eq!(rt; (page.lsn(), log.bytes.len()), (8224, 8224));
+    Ok(())
+}
+
+#[test]
+fn a_clean_frame_is_not_written(rt: HostRuntime) -> Result<(), Fail> {
+    let mut page = Page::zeroed(rt.alloc())?;
+    let (table, mut seat) = table(rt.alloc())?;
+    let tag = block(&table, 5);
+    let flushes = flush_twice(&rt, &table, &mut seat, 3, tag, &mut page);
+    let (lanes, _log) = table.close(seat);
+    assert_eq!(rt;
+        flushes,
+        Some(Flushes {
+            put: None,
+            first: Ok(false),
+            second: Ok(false),
+        })
+    );
+    assert_eq!(rt; lanes.first().map(|lane| lane.writes), Some(0));
+    Ok(())
+}
+
+#[test]
+fn no_page_is_written_before_its_log(rt: HostRuntime) -> Result<(), Fail> {
+    let mut page = one_item(rt.alloc(), 7)?;
+    let log = TestLog::new(rt.alloc(), 2);
+    let (table, mut seat) = table_over(rt.alloc(), log, 0)?;
+    let tag = block(&table, 5);
+    let flushes = flush_twice(&rt, &table, &mut seat, 3, tag, &mut page);
+    let (lanes, _log) = table.close(seat);
+    assert_eq!(rt;
+        flushes,
+        Some(Flushes {
+            put: Some(Ok(8224)),
+            first: Err(FlushError::Log(FlushLog::LogFault)),
+            second: Err(FlushError::Log(FlushLog::LogDown { at: 8224 })),
+        })
+    );
+    assert_eq!(rt; lanes.first().map(|lane| lane.writes), Some(0));
+    Ok(())
+}
+
+#[test]
+fn a_frame_stays_dirty_after_a_write_that_failed(rt: HostRuntime) -> Result<(), Fail> {
+    let mut page = one_item(rt.alloc(), 7)?;
+    let log = TestLog::new(rt.alloc(), 0);
+    let (table, mut seat) = table_on(rt.alloc(), TestLane::new(1), log, 0)?;
+    let tag = block(&table, 5);
+    let flushes = flush_twice(&rt, &table, &mut seat, 3, tag, &mut page);
+    let (lanes, _log) = table.close(seat);
+    assert_eq!(rt;
+        flushes,
+        Some(Flushes {
+            put: Some(Ok(8224)),
+            first: Err(FlushError::WriteFault),
+            second: Ok(true),
+        })
+    );
+    assert_eq!(rt; lanes.first().map(|lane| lane.writes), Some(2));
     Ok(())
 }
 

@@ -1,4 +1,4 @@
-use Rattle.std.proofs.Common.{rules, List, ℕ, get_or, ap, sym, subst, ◌∙◌}
+use Rattle.std.proofs.Common.{rules, List, get_or, ap, sym, subst, ◌∙◌}
 use Rattle.atomic_table.specs.Table.{rest}
 use Rattle.pin_core.specs.declared.view.View.{View}
 use Rattle.pin_core.specs.declared.view.Link.{Link}
@@ -6,6 +6,7 @@ use Rattle.pin_core.specs.declared.view.LogHold.{LogHold}
 use Rattle.pin_core.specs.State.{idle, link}
 use Rattle.table_tests.specs.Work.{IsCalm, Reads}
 use Rattle.table_tests.proofs.Reading.{lane_free, lanes_free, lanes_home, read_call, reads_noted}
+use Rattle.table_tests.proofs.Returned.{in_one_lane, may_note_read, may_return}
 use Rattle.table_tests.proofs.loading.read_lane.Goals as goal
 
 pub lane_out-lane-requires-clause-held : goal.lane_out-lane-requires-clause-held
@@ -32,3 +33,11 @@ returns-clause-reads g c =
     let out : Reads c.args.tag (link c.lane_out-lane.new.seat.me.0 c.args.frame) = subst (λ (l : List Link). Reads c.args.tag (get_or l c.args.frame idle)) (sym (ap (λ (v : View). v.links) c.lane_out-lane.ensures.view ∙ c.take_turn.ensures.work.links)) c.requires.reads in
     let back = reads_noted c.args.frame c.args.tag c.read-read.new.self.call c.lane_out-lane.new.seat.me.0 c.lane_back.new.seat.me.0 (read_call _ _ _ _ _ c.read-read.ensures.call) c.lane_back.ensures.noted out in
     subst (λ (l : List Link). Reads c.args.tag (get_or l c.args.frame idle)) (sym c.leave_turn.ensures.work.links) back
+
+pub lane_back-requires-clause-may : goal.lane_back-requires-clause-may
+lane_back-requires-clause-may g c =
+    let o = c.lane_out-lane.ensures in
+    let b = c.requires.block in
+    let out : Reads c.args.tag (link c.lane_out-lane.new.seat.me.0 c.args.frame) = subst (λ (l : List Link). Reads c.args.tag (get_or l c.args.frame idle)) (sym (ap (λ (v : View). v.links) o.view ∙ c.take_turn.ensures.work.links)) c.requires.reads in
+    may_return _ _ _ _ _ _ c.lane_out-lane.new.seat.me.0 c.lane_out-lane.result.device c.read-read.new.self o.out.here o.taken c.read-read.ensures.did
+    (may_note_read _ _ _ c.lane_out-lane.new.seat.me.0 c.args.frame c.args.tag c.read-read.new.page (in_one_lane _ _ _ b.2 b.0 b.1) c.read-read.new.self.call c.read-read.result record { right = out.right; fresh = out.fresh; remembered = out.remembered } c.read-read.ensures.call)

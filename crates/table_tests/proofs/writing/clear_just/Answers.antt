@@ -1,0 +1,10 @@
+use Rattle.std.proofs.Common.{List, get_or, ap, ◌∙◌}
+use Rattle.pin_core.specs.declared.view.LaneHold.{LaneHold}
+use Rattle.pin_core.specs.State.{no_lane}
+use Rattle.table_tests.proofs.Reading.{home_free}
+use Rattle.table_tests.proofs.Written.{home_kept}
+use Rattle.table_tests.proofs.writing.clear_just.Goals as goal
+
+pub returns-clause-home : goal.returns-clause-home
+returns-clause-home g c = let k = c.lock_header-word.ensures in let u = c.clear_just_dirtied.ensures in let d = u.did in
+    home_kept c.lock_header-word.new.seat.me.0 c.clear_just_dirtied.new.seat.me.0 u.touches.self.lanes (home_free d.state d.laws d.seat c.lock_header-word.new.seat.me.0 d.there d.live (λ n. ap (λ (l : List LaneHold). (get_or l n no_lane).held) k.touches.self.lanes ∙ c.requires.quiet.lanes n))

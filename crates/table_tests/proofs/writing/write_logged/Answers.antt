@@ -1,0 +1,18 @@
+use Rattle.std.proofs.Common.{true, false}
+use Rattle.table_tests.proofs.Logged.{work_beside}
+use Rattle.table_tests.proofs.Written.{refused_at, wrote_flushed}
+use Rattle.table_tests.proofs.writing.write_logged.Goals as goal
+
+pub returns-in-Err-clause-quiet : goal.returns-in-Err-clause-quiet
+returns-in-Err-clause-quiet g c = let e = c.in-Err.ensures in work_beside _ _ _ e.seat e.work _ c.requires.quiet
+
+pub returns-in-Err-clause-answer : goal.returns-in-Err-clause-answer
+returns-in-Err-clause-answer g c = let e = c.in-Err.ensures in refused_at _ _ _ c.args.seat.now.me.0 c.flush_to-flushed.new.seat.me.0 c.lsn.ensures e.cause e.left
+
+pub returns-then-write_lane-clause-answer : goal.returns-then-write_lane-clause-answer
+returns-then-write_lane-clause-answer g c = let e = c.in_default.ensures in let w = c.write_lane.ensures in
+    wrote_flushed true _ _ _ _ c.args.seat.now.me.0 c.flush_to-flushed.new.seat.me.0 c.write_lane.new.seat.me.0 c.if-write_lane.true c.lsn.ensures e.did e.flushed w.calls w.flushed
+
+pub returns-else-write_lane-clause-answer : goal.returns-else-write_lane-clause-answer
+returns-else-write_lane-clause-answer g c = let e = c.in_default.ensures in let w = c.write_lane.ensures in
+    wrote_flushed false _ _ _ _ c.args.seat.now.me.0 c.flush_to-flushed.new.seat.me.0 c.write_lane.new.seat.me.0 c.if-write_lane.false c.lsn.ensures e.did e.flushed w.calls w.flushed
