@@ -1,7 +1,8 @@
 -- Seats that write a page to its lane.
-use Rattle.std.proofs.Common.{◌≡◌, ◌≤◌, ℕ, Bool, true, false, [], List, ◌∷◌, ◌++◌, append-nil, get_or, sym, refl, ap, ◌∙◌, subst}
+use Rattle.std.proofs.Common.{None, ◌≡◌, ◌≤◌, ℕ, Bool, true, false, [], List, ◌∷◌, ◌++◌, append-nil, get_or, sym, refl, ap, ◌∙◌, subst}
 use Rattle.std.specs.Prelude.{MatchResult, Result, Ok, Err}
-use mathlib.Core.Logic.{inl, inr}
+use native.Mathlib.Decide.{ℕ_discrete}
+use mathlib.Core.Logic.{dite, inl, inr}
 use Rattle.atomic_table.specs.declared.shared.Seat.{Seat}
 use Rattle.block_tag.specs.declared.tag.Tag.{Tag}
 use Rattle.block_tag.specs.Names.{packed_tag}
@@ -15,6 +16,7 @@ use Rattle.pin_core.specs.declared.view.Link.{Link}
 use Rattle.pin_core.specs.declared.view.LaneHold.{LaneHold}
 use Rattle.pin_core.specs.declared.view.PartitionHold.{PartitionHold}
 use Rattle.pin_core.specs.declared.view.Role.TheVariants.{HandedOut, Victim}
+use Rattle.pin_core.specs.Steps.{HoldsNoHeader}
 use Rattle.pin_core.specs.State.{Page, link, no_lane}
 use Rattle.table_rule.specs.declared.value.Value.{Value}
 use Rattle.frame_table.specs.declared.table.FrameTable.{FrameTable}
@@ -29,7 +31,7 @@ use Rattle.wal_flush.specs.declared.flushes.FlushLog.TheVariants.{LogShort, LogD
 use Rattle.wal_flush.specs.Flushes.{Flushed, FlushRefused, as_looked, unflushed_view}
 use Rattle.table_tests.specs.declared.writing.FlushError.{FlushError}
 use Rattle.table_tests.specs.declared.writing.FlushError.TheVariants.{Log, WriteFault}
-use Rattle.table_tests.specs.Outputs.{FrameAnswer, LogRefused, PageAnswer, Shares, Wrote, syncs_of}
+use Rattle.table_tests.specs.Outputs.{FrameAnswer, LogRefused, PageAnswer, Shares, WritesLogged, Wrote, syncs_of}
 use Rattle.table_tests.specs.Work.{IsCalm, IsQuietBeside, KeepsBeside, LanesHome, OnlyPins, PinsBlock, SameLatches}
 use Rattle.table_tests.proofs.Working.{beside_on, beside_still, keeps_touched, only_pins, quiet_at, quiet_beside, same_hold}
 
@@ -159,3 +161,16 @@ keeps_two f s s' s'' same touches again after = (
 
 pub quiet_two : {L G : Type 0} (t : FrameTable L G) (f : ℕ) (s s' s'' : Seat (Value L G) View) → OnlyPins t s → SameSeat s s' → Touches f s.me.0 s'.me.0 → SameSeat s' s'' → Touches f s'.me.0 s''.me.0 → IsQuietBeside t f s''
 quiet_two t f s s' s'' p same touches again after = beside_still t s' s'' again f (beside_still t s s' same f (quiet_beside t s f p.quiet) touches.self touches.others) after.self after.others
+
+-- the lane was called after a flush of the log
+pub writes_logged : (done took : Bool) (tag : Tag) (page : Page) (lsn : ℕ) (v u w : View) → took ≡ done → lsn ≡ lsn_of page → Flushed lsn v u → lsn ≤ u.flushed → w.device_calls ≡ u.device_calls ++ LaneWrite 0 (packed_tag tag) page took ∷ [] → WritesLogged done tag page v w
+writes_logged done took tag page lsn v u w is at did first calls = record {
+  flushed = u;
+  logs = subst (λ (n : ℕ). Flushed n v u) at did;
+  log_first = subst (λ (n : ℕ). n ≤ u.flushed) at first;
+  calls = subst (λ (b : Bool). w.device_calls ≡ u.device_calls ++ LaneWrite 0 (packed_tag tag) page b ∷ []) is calls;
+}
+
+-- who holds no header at the frame holds none
+pub headless : {L G : Type 0} (t : FrameTable L G) (f : ℕ) (s : Seat (Value L G) View) → IsQuietBeside t f s → (link s.me.0 f).header ≡ None → HoldsNoHeader s.me.0
+headless t f s q here g = dite (ℕ_discrete g f) (λ e. subst (λ (x : ℕ). (link s.me.0 x).header ≡ None) (sym e) here) (λ n. (q.others g n).no_header)

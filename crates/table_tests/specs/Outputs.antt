@@ -3,6 +3,8 @@ use Rattle.std.specs.Prelude.{◌≡◌, ℕ, ◌≤◌, Bool, true, false, List
 use Rattle.block_tag.specs.declared.tag.Tag.{Tag}
 use Rattle.block_tag.specs.Names.{packed_tag}
 use Rattle.page_layout.specs.Fields.{lsn_of}
+use Rattle.state_word.specs.declared.word.IoEnd.{IoEnd}
+use Rattle.state_word.specs.declared.word.IoEnd.TheVariants.{WriteOk, Bad}
 use Rattle.pin_core.specs.declared.view.Content.TheVariants.{Shared}
 use Rattle.pin_core.specs.declared.view.DeviceCall.{DeviceCall}
 use Rattle.pin_core.specs.declared.view.DeviceCall.TheVariants.{LaneWrite, LogSync}
@@ -14,10 +16,10 @@ use Rattle.pin_core.specs.State.{Page}
 use Rattle.page_core.specs.Kinds as paged
 use Rattle.frame_table.specs.Kinds.{pages}
 use Rattle.frame_table.specs.Tells.{Did}
-use Rattle.content_locks.specs.Io.{FindsNothing}
-use Rattle.content_locks.specs.Locks.{Locks}
+use Rattle.content_locks.specs.Io.{BeginsIo, EndsIo, FindsNothing, LocksHeader}
+use Rattle.content_locks.specs.Locks.{Copies, Locks}
 use Rattle.wal_flush.specs.declared.flushes.FlushLog.{FlushLog}
-use Rattle.wal_flush.specs.Flushes.{FlushRefused, unflushed_view}
+use Rattle.wal_flush.specs.Flushes.{Flushed, FlushRefused, unflushed_view}
 use Rattle.table_tests.specs.declared.writing.FlushError.{FlushError}
 use Rattle.table_tests.specs.declared.writing.FlushError.TheVariants.{Log, WriteFault}
 
@@ -75,3 +77,59 @@ FrameAnswer tag page f v w (Ok true) = Wrote true tag page v w
 FrameAnswer tag page f v w (Ok false) = FindsClean f v w
 FrameAnswer tag page f v w (Err (Log why)) = LogRefused why page v w
 FrameAnswer tag page f v w (Err WriteFault) = Wrote false tag page v w
+
+-- BM_JUST_DIRTIED was cleared under the header
+pub record ClearsJust (f : ℕ) (v w : View) : Type 0 where
+  pub under : View
+  pub was : ℕ
+  pub word : ℕ
+  pub locks : LocksHeader f v under was
+  pub did : Did (pages paged.clear_just_dirtied) f under w word
+
+-- The log was flushed up to the page's position, and then the lane was called
+pub record WritesLogged (done : Bool) (tag : Tag) (page : Page) (v w : View) : Type 0 where
+  pub flushed : View
+  pub logs : Flushed (lsn_of page) v flushed
+  pub log_first : lsn_of page ≤ flushed.flushed
+  pub calls : w.device_calls ≡ flushed.device_calls ++ LaneWrite 0 (packed_tag tag) page done ∷ []
+
+-- what was done of that
+abbrev pub PageSteps : Tag → Page → View → View → Result Unit FlushError → Type 0
+PageSteps tag page v w (Ok done) = WritesLogged true tag page v w
+PageSteps tag page v w (Err (Log why)) = FlushRefused (lsn_of page) v w why
+PageSteps tag page v w (Err WriteFault) = WritesLogged false tag page v w
+
+-- BM_JUST_DIRTIED was cleared, then the page copied, then this done with the copy, and then the write ended
+pub record WritesCopy (Work : View → View → Type 0) (end : IoEnd) (page : Page) (f : ℕ) (v w : View) : Type 0 where
+  pub cleared : View
+  pub copied : View
+  pub tried : View
+  pub clears : ClearsJust f v cleared
+  pub copies : Copies f page cleared copied
+  pub work : Work copied tried
+  pub ends : EndsIo end f tried w
+
+-- how a write ends
+abbrev pub end_of : Result Unit FlushError → IoEnd
+end_of (Ok done) = WriteOk
+end_of (Err why) = Bad
+
+abbrev pub OutSteps : Tag → Page → ℕ → View → View → Result Unit FlushError → Type 0
+OutSteps tag page f v w result = WritesCopy (λ a b. PageSteps tag page a b result) (end_of result) page f v w
+
+-- The content lock was shared, the write began, this was done, and the lock given up
+pub record UnderShare (Work : View → View → Type 0) (f : ℕ) (v w : View) : Type 0 where
+  pub shared : View
+  pub begun : View
+  pub ended : View
+  pub was : ℕ
+  pub shares : Locks paged.share f v shared
+  pub begins : BeginsIo false f shared begun
+  pub work : Work begun ended
+  pub unshares : Did (pages paged.unshare) f ended w was
+
+-- what was done for a frame
+abbrev pub FrameSteps : Tag → Page → ℕ → View → View → Result Bool FlushError → Type 0
+FrameSteps tag page f v w (Ok true) = UnderShare (λ a b. OutSteps tag page f a b (Ok tt)) f v w
+FrameSteps tag page f v w (Ok false) = FindsClean f v w
+FrameSteps tag page f v w (Err why) = UnderShare (λ a b. OutSteps tag page f a b (Err why)) f v w

@@ -9,7 +9,7 @@ ghost use Rattle.pin_core.specs.declared.view.LastWrite.TheVariants.{Done};
 ghost use Rattle.pin_core.specs.State.{link};
 ghost use Rattle.frame_table.specs.Closes.{CanClose};
 ghost use Rattle.frame_table.specs.Sees.{frames_of};
-ghost use Rattle.table_tests.specs.Outputs.{FrameAnswer, PageAnswer, Shares};
+ghost use Rattle.table_tests.specs.Outputs.{ClearsJust, FrameAnswer, FrameSteps, OutSteps, PageAnswer, PageSteps, Shares};
 ghost use Rattle.table_tests.specs.Work.{HasBlock, IsQuietBeside, KeepsBeside, LanesHome, OnlyPins, PinsBlock, PinsNone, SameLatches};
 
 use crate::entering::enter_block;
@@ -44,6 +44,7 @@ fn clear_just<R: Wait>(rt: &R, table: &Table, seat: &mut Place, frame: u32, _tag
     ensures latches { SameLatches seat.old.me.0 seat.new.me.0 }
     ensures writes { Shares Output _tag (link seat.new.me.0 frame) }
     ensures calls { seat.new.me.0.device_calls ≡ seat.old.me.0.device_calls }
+    ensures did { ClearsJust frame seat.old.me.0 seat.new.me.0 }
 {
     let word = table.lock_header(rt, seat, frame);
     table.clear_just_dirtied(seat, frame, word);
@@ -104,6 +105,7 @@ fn write_logged<R: Wait>(
     ensures writes { Shares Output tag (link seat.new.me.0 frame) }
     ensures done { IfOk result (λ _. (link seat.new.me.0 frame).last_write ≡ Done) }
     ensures answer { PageAnswer tag page.now seat.old.me.0 seat.new.me.0 result }
+    ensures did { PageSteps tag page.now seat.old.me.0 seat.new.me.0 result }
 {
     let flushed = flush_to(table, rt, seat, page.lsn());
     if let Err(why) = flushed {
@@ -134,6 +136,7 @@ fn write_out<R: Wait>(
     ensures latches { SameLatches seat.old.me.0 seat.new.me.0 }
     ensures shares { Shares Quiet tag (link seat.new.me.0 right.frame) }
     ensures answer { PageAnswer tag page.new seat.old.me.0 seat.new.me.0 result }
+    ensures did { OutSteps tag page.new right.frame seat.old.me.0 seat.new.me.0 result }
 {
     let frame = right.frame();
     clear_just(rt, table, seat, frame, tag);
@@ -169,6 +172,7 @@ pub fn flush_frame<R: Wait>(
     ensures pinned { PinsBlock tag (link seat.new.me.0 frame) }
     ensures seen { (link seat.new.me.0 frame).seen_valid ≡ true }
     ensures answer { FrameAnswer tag page.new frame seat.old.me.0 seat.new.me.0 result }
+    ensures did { FrameSteps tag page.new frame seat.old.me.0 seat.new.me.0 result }
 {
     share(table, rt, seat, frame);
     let Some(right) = start_io(table, rt, seat, frame, false) else {

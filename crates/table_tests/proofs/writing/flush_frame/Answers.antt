@@ -2,7 +2,8 @@ use Rattle.std.proofs.Common.{ℕ, ap, subst, sym, ◌∙◌}
 use Rattle.pin_core.specs.declared.view.Io.TheVariants.{Quiet}
 use Rattle.pin_core.specs.declared.view.Link.{Link}
 use Rattle.pin_core.specs.State.{link}
-use Rattle.table_tests.specs.Outputs.{Shares}
+use Rattle.std.specs.Prelude.{Ok, Err}
+use Rattle.table_tests.specs.Outputs.{OutSteps, Shares}
 use Rattle.table_tests.specs.Work.{IsQuietBeside, KeepsBeside}
 use Rattle.table_tests.proofs.Working.{beside_on}
 use Rattle.table_tests.proofs.Written.{drop_quiet, frame_between, keeps_left, keeps_two, pins_left, quiet_two, shares_looked, shares_taken}
@@ -65,3 +66,30 @@ returns-in-Err-clause-keeps g c = let s = c.share.ensures in let a = c.start_io.
 pub returns-in-Err-clause-answer : goal.returns-in-Err-clause-answer
 returns-in-Err-clause-answer g c = let u = c.unshare-2.ensures in
     frame_between c.args.tag c.write_out-written.new.page c.args.frame c.args.seat.now.me.0 c.start_io.new.seat.me.0 c.write_out-written.new.seat.me.0 c.unshare-2.new.seat.me.0 c.in-Err.why (c.start_io.ensures.touches.self.device_calls ∙ c.share.ensures.touches.self.device_calls) c.in-Err.ensures.answer u.touches.self.device_calls u.touches.self.flushed
+
+pub returns-in_default-clause-did : goal.returns-in_default-clause-did
+returns-in_default-clause-did g c = returns-in_default-clause-answer g c
+
+pub returns-in-Ok-clause-did : goal.returns-in-Ok-clause-did
+returns-in-Ok-clause-did g c = let u = c.unshare-2.ensures.did in record {
+  shared = c.share.new.seat.me.0;
+  begun = c.start_io.new.seat.me.0;
+  ended = c.write_out-written.new.seat.me.0;
+  was = u.0;
+  shares = c.share.ensures.did;
+  begins = c.in-Some.ensures.did;
+  work = subst (λ (f : ℕ). OutSteps c.args.tag c.write_out-written.new.page f c.start_io.new.seat.me.0 c.write_out-written.new.seat.me.0 (Ok c.in-Ok.field-0)) c.in-Some.ensures.right.0 c.in-Ok.ensures.did;
+  unshares = u.1;
+}
+
+pub returns-in-Err-clause-did : goal.returns-in-Err-clause-did
+returns-in-Err-clause-did g c = let u = c.unshare-2.ensures.did in record {
+  shared = c.share.new.seat.me.0;
+  begun = c.start_io.new.seat.me.0;
+  ended = c.write_out-written.new.seat.me.0;
+  was = u.0;
+  shares = c.share.ensures.did;
+  begins = c.in-Some.ensures.did;
+  work = subst (λ (f : ℕ). OutSteps c.args.tag c.write_out-written.new.page f c.start_io.new.seat.me.0 c.write_out-written.new.seat.me.0 (Err c.in-Err.why)) c.in-Some.ensures.right.0 c.in-Err.ensures.did;
+  unshares = u.1;
+}

@@ -1,6 +1,7 @@
-use Rattle.std.proofs.Common.{true, false}
+use Rattle.std.proofs.Common.{ℕ, subst, true, false}
+use Rattle.wal_flush.specs.Flushes.{FlushRefused}
 use Rattle.table_tests.proofs.Logged.{work_beside}
-use Rattle.table_tests.proofs.Written.{refused_at, wrote_flushed}
+use Rattle.table_tests.proofs.Written.{refused_at, writes_logged, wrote_flushed}
 use Rattle.table_tests.proofs.writing.write_logged.Goals as goal
 
 pub returns-in-Err-clause-quiet : goal.returns-in-Err-clause-quiet
@@ -16,3 +17,14 @@ returns-then-write_lane-clause-answer g c = let e = c.in_default.ensures in let 
 pub returns-else-write_lane-clause-answer : goal.returns-else-write_lane-clause-answer
 returns-else-write_lane-clause-answer g c = let e = c.in_default.ensures in let w = c.write_lane.ensures in
     wrote_flushed false _ _ _ _ c.args.seat.now.me.0 c.flush_to-flushed.new.seat.me.0 c.write_lane.new.seat.me.0 c.if-write_lane.false c.lsn.ensures e.did e.flushed w.calls w.flushed
+
+pub returns-in-Err-clause-did : goal.returns-in-Err-clause-did
+returns-in-Err-clause-did g c = subst (λ (n : ℕ). FlushRefused n c.args.seat.now.me.0 c.flush_to-flushed.new.seat.me.0 c.in-Err.why) c.lsn.ensures c.in-Err.ensures.cause
+
+pub returns-then-write_lane-clause-did : goal.returns-then-write_lane-clause-did
+returns-then-write_lane-clause-did g c = let e = c.in_default.ensures in
+    writes_logged true _ _ _ _ c.args.seat.now.me.0 c.flush_to-flushed.new.seat.me.0 c.write_lane.new.seat.me.0 c.if-write_lane.true c.lsn.ensures e.did e.flushed c.write_lane.ensures.calls
+
+pub returns-else-write_lane-clause-did : goal.returns-else-write_lane-clause-did
+returns-else-write_lane-clause-did g c = let e = c.in_default.ensures in
+    writes_logged false _ _ _ _ c.args.seat.now.me.0 c.flush_to-flushed.new.seat.me.0 c.write_lane.new.seat.me.0 c.if-write_lane.false c.lsn.ensures e.did e.flushed c.write_lane.ensures.calls

@@ -1,8 +1,10 @@
 use Rattle.std.proofs.Common.{ℕ, subst, ◌∙◌}
 use Rattle.std.specs.Prelude.{Err}
-use Rattle.table_tests.specs.Work.{IsQuietBeside}
-use Rattle.table_tests.proofs.Working.{beside_still}
-use Rattle.table_tests.proofs.Written.{answer_between}
+use Rattle.content_locks.specs.Locks.{Copies}
+use Rattle.table_tests.specs.Outputs.{ClearsJust}
+use Rattle.table_tests.specs.Work.{IsQuietBeside, KeepsBeside}
+use Rattle.table_tests.proofs.Working.{beside_on, beside_still, keeps_touched, same_hold}
+use Rattle.table_tests.proofs.Written.{answer_between, headless}
 use Rattle.table_tests.proofs.writing.write_out.Goals as goal
 
 pub returns-in-Ok-clause-quiet : goal.returns-in-Ok-clause-quiet
@@ -16,3 +18,46 @@ returns-in-Err-clause-quiet g c = let w = c.write_logged.ensures in let e = c.en
 pub returns-in-Err-clause-answer : goal.returns-in-Err-clause-answer
 returns-in-Err-clause-answer g c = let e = c.end_io-in-Err.ensures in
     answer_between c.args.tag c.copy_out.new.page c.args.seat.now.me.0 c.copy_out.new.seat.me.0 c.write_logged.new.seat.me.0 c.end_io-in-Err.new.seat.me.0 (Err c.in-Err.why) (c.copy_out.ensures.touches.self.device_calls ∙ c.clear_just.ensures.calls) c.in-Err.ensures.answer e.touches.self.device_calls e.touches.self.flushed
+
+pub returns-in-Ok-clause-did : goal.returns-in-Ok-clause-did
+returns-in-Ok-clause-did g c = let here = c.frame-frame.ensures in record {
+  cleared = c.clear_just.new.seat.me.0;
+  copied = c.copy_out.new.seat.me.0;
+  tried = c.write_logged.new.seat.me.0;
+  clears = subst (λ (f : ℕ). ClearsJust f c.args.seat.now.me.0 c.clear_just.new.seat.me.0) here c.clear_just.ensures.did;
+  copies = subst (λ (f : ℕ). Copies f c.copy_out.new.page c.clear_just.new.seat.me.0 c.copy_out.new.seat.me.0) here c.copy_out.ensures.did;
+  work = c.in-Ok.ensures.did;
+  ends = c.end_io.ensures.did;
+}
+
+pub returns-in-Err-clause-did : goal.returns-in-Err-clause-did
+returns-in-Err-clause-did g c = let here = c.frame-frame.ensures in record {
+  cleared = c.clear_just.new.seat.me.0;
+  copied = c.copy_out.new.seat.me.0;
+  tried = c.write_logged.new.seat.me.0;
+  clears = subst (λ (f : ℕ). ClearsJust f c.args.seat.now.me.0 c.clear_just.new.seat.me.0) here c.clear_just.ensures.did;
+  copies = subst (λ (f : ℕ). Copies f c.copy_out.new.page c.clear_just.new.seat.me.0 c.copy_out.new.seat.me.0) here c.copy_out.ensures.did;
+  work = c.in-Err.ensures.did;
+  ends = c.end_io-in-Err.ensures.did;
+}
+
+pub end_io-requires-in-Err-clause-headless : goal.end_io-requires-in-Err-clause-headless
+end_io-requires-in-Err-clause-headless g c = let w = c.write_logged.ensures in headless _ _ c.write_logged.new.seat w.quiet w.writes.no_header
+
+pub returns-in-Ok-clause-keeps : goal.returns-in-Ok-clause-keeps
+returns-in-Ok-clause-keeps g c = let o = c.copy_out.ensures in let e = c.end_io.ensures in
+    beside_on _ _ c.write_logged.new.seat _
+    (subst (λ (f : ℕ). KeepsBeside f c.args.seat.now c.write_logged.new.seat) c.frame-frame.ensures (beside_on _ _ c.copy_out.new.seat _ (beside_on _ _ c.clear_just.new.seat _ c.clear_just.ensures.keeps (keeps_touched _ _ o.seat _ o.touches.self o.touches.others)) c.write_logged.ensures.keeps))
+    (keeps_touched _ _ e.seat _ e.touches.self e.touches.others)
+
+pub returns-in-Ok-clause-latches : goal.returns-in-Ok-clause-latches
+returns-in-Ok-clause-latches g c = λ q. same_hold c.write_logged.new.seat.me.0 c.end_io.new.seat.me.0 c.end_io.ensures.touches.partitions q ∙ c.write_logged.ensures.latches q ∙ same_hold c.clear_just.new.seat.me.0 c.copy_out.new.seat.me.0 c.copy_out.ensures.touches.partitions q ∙ c.clear_just.ensures.latches q
+
+pub returns-in-Err-clause-keeps : goal.returns-in-Err-clause-keeps
+returns-in-Err-clause-keeps g c = let o = c.copy_out.ensures in let e = c.end_io-in-Err.ensures in
+    beside_on _ _ c.write_logged.new.seat _
+    (subst (λ (f : ℕ). KeepsBeside f c.args.seat.now c.write_logged.new.seat) c.frame-frame.ensures (beside_on _ _ c.copy_out.new.seat _ (beside_on _ _ c.clear_just.new.seat _ c.clear_just.ensures.keeps (keeps_touched _ _ o.seat _ o.touches.self o.touches.others)) c.write_logged.ensures.keeps))
+    (keeps_touched _ _ e.seat _ e.touches.self e.touches.others)
+
+pub returns-in-Err-clause-latches : goal.returns-in-Err-clause-latches
+returns-in-Err-clause-latches g c = λ q. same_hold c.write_logged.new.seat.me.0 c.end_io-in-Err.new.seat.me.0 c.end_io-in-Err.ensures.touches.partitions q ∙ c.write_logged.ensures.latches q ∙ same_hold c.clear_just.new.seat.me.0 c.copy_out.new.seat.me.0 c.copy_out.ensures.touches.partitions q ∙ c.clear_just.ensures.latches q
