@@ -1,6 +1,5 @@
 pub mod Crossing
 pub mod Finding
-pub mod Joining
 pub mod Logged
 pub mod Reading
 pub mod Returned

@@ -15,6 +15,7 @@ use Rattle.frame_table.specs.Closes.{CanClose}
 use Rattle.frame_table.specs.Sees.{CanStep, Fits, Holds, Looked, SameSeat, Touches, frames_of, locked_link, pinned_link, unlocked_link, unpinned_link}
 use Rattle.frame_table.proofs.Resting.{rests_on, free_unpinned, new_rests}
 use Rattle.frame_table.proofs.Told.{looks_link, touches_on}
+use Rattle.clock_sweep.proofs.Keeping.{same_on}
 use Rattle.table_tests.specs.Work.{Keeps, Rests}
 
 module _ {L G : Type 0} (t : FrameTable L G) where
@@ -39,9 +40,6 @@ keeps_step s s' f same touches = record { table = same.table; id = same.id; join
 
 pub keeps_on : {L G : Type 0} (s s' s'' : Seat (Value L G) View) → Keeps s s' → Keeps s' s'' → Keeps s s''
 keeps_on s s' s'' a b = record { table = b.table ∙ a.table; id = b.id ∙ a.id; joined = b.joined ∙ a.joined; next = b.next ∙ a.next }
-
-pub same_on : {L G : Type 0} (s s' s'' : Seat (Value L G) View) → SameSeat s s' → SameSeat s' s'' → SameSeat s s''
-same_on s s' s'' a b = record { table = b.table ∙ a.table; id = b.id ∙ a.id; hand = b.hand ∙ a.hand }
 
 -- a pin that was taken and given up leaves a seat that holds nothing
 pub rests_unpinned : {L G : Type 0} (t : FrameTable L G) (s s' s'' : Seat (Value L G) View) (f h : ℕ) (ring : Bool) → h ≡ f → Rests t s → SameSeat s s' → Touches f s.me.0 s'.me.0 → Looked (pinned_link ring (link s.me.0 f)) (link s'.me.0 f) → SameSeat s' s'' → Touches h s'.me.0 s''.me.0 → Looked (unpinned_link (link s'.me.0 h)) (link s''.me.0 h) → Rests t s''

@@ -32,7 +32,7 @@ use Rattle.frame_table.specs.Tells.{kept_view}
 use Rattle.frame_table.specs.Turning.{DidTurn, IsTurned, MapStep, SameWork, back_hold}
 use Rattle.map_partitions.specs.Partition.{Holds}
 use Rattle.frame_table.proofs.Told.{touches_on}
-use Rattle.table_tests.proofs.Seats.{same_on}
+use Rattle.clock_sweep.proofs.Keeping.{same_on}
 use Rattle.table_tests.specs.Work.{IsCalm, IsInside, IsQuiet, IsQuietBeside, KeepsBeside, KeepsOthers, OnlyPins, PinsNone, Rests}
 
 -- The link of a frame, before its header was locked and under the lock

@@ -2,7 +2,7 @@
 use Rattle.std.proofs.Common.{None, ◌≡◌, ◌≤◌, ℕ, Bool, true, false, [], List, ◌∷◌, ◌++◌, append-nil, get_or, sym, refl, ap, ◌∙◌, subst}
 use Rattle.std.specs.Prelude.{MatchResult, Result, Ok, Err}
 use native.Mathlib.Decide.{ℕ_discrete}
-use mathlib.Core.Logic.{dite, inl, inr}
+use mathlib.Core.Logic.{dite}
 use Rattle.atomic_table.specs.declared.shared.Seat.{Seat}
 use Rattle.block_tag.specs.declared.tag.Tag.{Tag}
 use Rattle.block_tag.specs.Names.{packed_tag}
@@ -28,6 +28,7 @@ use Rattle.frame_table.specs.LaneWork.{IsNoted, unwritten_link, written_link}
 use Rattle.frame_table.specs.Sees.{Looked, SameSeat, Touches}
 use Rattle.wal_flush.specs.declared.flushes.FlushLog.{FlushLog}
 use Rattle.wal_flush.specs.declared.flushes.FlushLog.TheVariants.{LogShort, LogDown, LogFault}
+use Rattle.wal_flush.specs.Flushes as flushes
 use Rattle.wal_flush.specs.Flushes.{Flushed, FlushRefused, as_looked, unflushed_view}
 use Rattle.table_tests.specs.declared.writing.FlushError.{FlushError}
 use Rattle.table_tests.specs.declared.writing.FlushError.TheVariants.{Log, WriteFault}
@@ -88,9 +89,13 @@ wrote_flushed done took tag page lsn v u w is at did first calls flushed = of_fl
     written : (before : List DeviceCall) → u.device_calls ≡ before → w.device_calls ≡ before ++ LaneWrite 0 (packed_tag tag) page done ∷ []
     written before e = subst (λ (l : List DeviceCall). w.device_calls ≡ l ++ LaneWrite 0 (packed_tag tag) page done ∷ []) e (subst (λ (b : Bool). w.device_calls ≡ u.device_calls ++ LaneWrite 0 (packed_tag tag) page b ∷ []) is calls)
 
+    unsynced : u ≡ as_looked v u → Wrote done tag page v w
+    unsynced same = record { synced = false; calls = written (v.device_calls ++ []) (ap (λ (x : View). x.device_calls) same ∙ sym (append-nil v.device_calls)); log_first = log_first }
+
     of_flushed : Flushed lsn v u → Wrote done tag page v w
-    of_flushed (inl (sees, same)) = record { synced = false; calls = written (v.device_calls ++ []) (ap (λ (x : View). x.device_calls) same ∙ sym (append-nil v.device_calls)); log_first = log_first }
-    of_flushed (inr (flushes, same)) = record { synced = true; calls = written (v.device_calls ++ LogSync true ∷ []) (ap (λ (x : View). x.device_calls) same); log_first = log_first }
+    of_flushed (flushes.already sees same) = unsynced same
+    of_flushed (flushes.meanwhile was same) = unsynced same
+    of_flushed (flushes.by_sync did same) = record { synced = true; calls = written (v.device_calls ++ LogSync true ∷ []) (ap (λ (x : View). x.device_calls) same); log_first = log_first }
 
 -- steps before it and after it that call no device
 pub wrote_between : (done : Bool) (tag : Tag) (page : Page) (v u x w : View) → u.device_calls ≡ v.device_calls → Wrote done tag page u x → w.device_calls ≡ x.device_calls → w.flushed ≡ x.flushed → Wrote done tag page v w

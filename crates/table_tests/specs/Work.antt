@@ -1,5 +1,5 @@
 -- What seats have between the steps of a test.
-use Rattle.std.specs.Prelude.{◌≡◌, ◌≢◌, ℕ, ◌+◌, ◌<◌, true, false, List, [], ◌∷◌, None, Some}
+use Rattle.std.specs.Prelude.{◌≡◌, ◌≢◌, ℕ, ◌<◌, true, false, List, [], ◌∷◌, None, Some}
 use Rattle.atomic_table.specs.declared.shared.Seat.{Seat}
 use Rattle.block_tag.specs.declared.catalogue.RelEntry.{RelEntry}
 use Rattle.block_tag.specs.declared.tag.Tag.{Tag}
@@ -101,12 +101,6 @@ module _ {L G : Type 0} where
   -- the table has one lane, and the tag is of a block that it has
   abbrev pub HasBlock : FrameTable L G → Tag → Type 0
   HasBlock t tag = (names_block tag ≡ true) × (has_block (relations_of t) tag ≡ true) × (lanes_in t ≡ 1)
-
-  -- The seat is the first backend's, and n of those that it gave a number aren't joined into it
-  pub record IsFirst (t : FrameTable L G) (n : ℕ) (s : Seat (Value L G) View) : Type 0 where
-    pub fits : Fits t s
-    pub first : s.id ≡ 0
-    pub away : s.me.0.joined + n + 1 ≡ s.me.0.next
 
   -- The seat is one of the table, and holds nothing
   pub record Rests (t : FrameTable L G) (s : Seat (Value L G) View) : Type 0 where

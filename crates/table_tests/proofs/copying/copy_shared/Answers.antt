@@ -4,7 +4,7 @@ use Rattle.frame_table.specs.Content.{shared_link, unshared_link}
 use Rattle.content_locks.specs.Locks.{copied_link}
 use Rattle.frame_table.proofs.Told.{touches_on}
 use Rattle.table_tests.specs.Work.{IsCalm}
-use Rattle.table_tests.proofs.Seats.{same_on}
+use Rattle.clock_sweep.proofs.Keeping.{same_on}
 use Rattle.table_tests.proofs.Working.{not_victim, pins_touched}
 use Rattle.table_tests.proofs.copying.copy_shared.Goals as goal
 
