@@ -1,5 +1,5 @@
 -- A block that was looked up, and pinned where it was found.
-use Rattle.std.proofs.Common.{◌≡◌, ◌≢◌, ℕ, ◌<◌, Bool, Option, Some, None, IfSome, IfNone, false, sym, refl, ap, ◌∙◌, subst}
+use Rattle.std.proofs.Common.{◌≡◌, ℕ, ◌<◌, Bool, Option, Some, None, IfSome, IfNone, false, sym, refl, ap, ◌∙◌}
 use Rattle.atomic_table.specs.declared.shared.Seat.{Seat}
 use Rattle.block_tag.specs.declared.tag.Tag.{Tag}
 use Rattle.pin_core.specs.declared.view.View.{View}

@@ -1,5 +1,5 @@
 -- Seats that work with the log.
-use Rattle.std.proofs.Common.{◌≡◌, ◌≢◌, ℕ, Bool, false, List, get_or, sym, refl, ap, ◌∙◌, subst}
+use Rattle.std.proofs.Common.{◌≡◌, ◌≢◌, ℕ, false, List, get_or, sym, refl, ap, ◌∙◌, subst}
 use Rattle.atomic_table.specs.declared.shared.Seat.{Seat}
 use Rattle.block_tag.specs.declared.tag.Tag.{Tag}
 use Rattle.pin_core.specs.declared.view.View.{View}
@@ -7,7 +7,7 @@ use Rattle.pin_core.specs.declared.view.Link.{Link}
 use Rattle.pin_core.specs.declared.view.LaneHold.{LaneHold}
 use Rattle.pin_core.specs.declared.view.LogHold.{LogHold}
 use Rattle.pin_core.specs.declared.view.PartitionHold.{PartitionHold}
-use Rattle.pin_core.specs.State.{hold, idle, lane_hold, link, no_lane}
+use Rattle.pin_core.specs.State.{idle, link, no_lane}
 use Rattle.table_rule.specs.declared.value.Value.{Value}
 use Rattle.frame_table.specs.declared.table.FrameTable.{FrameTable}
 use Rattle.frame_table.specs.Content.{unexclusive_link}

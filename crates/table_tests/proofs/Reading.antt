@@ -1,5 +1,5 @@
 -- Seats that read a page into a frame.
-use Rattle.std.proofs.Common.{◌≡◌, ◌≢◌, ◌<◌, ℕ, Bool, true, false, Option, Some, None, List, get_or, length, sym, refl, ap, ◌∙◌, subst, arith}
+use Rattle.std.proofs.Common.{◌≡◌, ◌≢◌, ℕ, true, false, Option, Some, None, List, get_or, sym, refl, ap, ◌∙◌, subst, arith}
 use Rattle.std.specs.Prelude.{MatchResult, Result, Ok, Err}
 use Rattle.std.proofs.lemmas.List.{get_or_past}
 use mathlib.Core.Logic.{dite}
@@ -7,7 +7,6 @@ use mathlib.Core.Option.{some}
 use lib.ListN.{get_elem?}
 use native.Mathlib.Decide.{ℕ_discrete, dec_lt}
 use Rattle.block_tag.specs.declared.tag.Tag.{Tag}
-use Rattle.pin_core.specs.declared.view.Io.TheVariants.{Input, Quiet}
 use Rattle.pin_core.specs.declared.view.View.{View}
 use Rattle.pin_core.specs.declared.view.Link.{Link}
 use Rattle.pin_core.specs.declared.view.LaneHold.{LaneHold}
@@ -17,8 +16,8 @@ use Rattle.page_core.specs.Steps.{IsWriteOf}
 use Rattle.history_core.specs.State.{State}
 use Rattle.history_core.specs.Laws.{Laws}
 use Rattle.table_rule.specs.declared.turn.Turn.TheVariants.{Lane}
-use Rattle.frame_table.specs.Kinds.{FrameKind, pages, pins}
-use Rattle.frame_table.specs.Content.{begun_link, finished_link}
+use Rattle.frame_table.specs.Kinds.{FrameKind, pages}
+use Rattle.frame_table.specs.Content.{finished_link}
 use Rattle.table_rule.specs.declared.noted_lane.LaneCall.{LaneCall}
 use Rattle.table_rule.specs.declared.noted_lane.LaneCall.TheVariants as lane_call
 use Rattle.table_rule.specs.LaneCalls.{NotesRead}

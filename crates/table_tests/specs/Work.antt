@@ -8,8 +8,7 @@ use Rattle.pin_core.specs.declared.view.Content.TheVariants.{Exclusive, Unlocked
 use Rattle.pin_core.specs.declared.view.Io.TheVariants.{Input, Quiet}
 use Rattle.pin_core.specs.declared.view.Link.{Link}
 use Rattle.pin_core.specs.declared.view.MapChange.TheVariants.{Settled}
-use Rattle.pin_core.specs.declared.view.Role.{Role}
-use Rattle.pin_core.specs.declared.view.Role.TheVariants.{Absent, HandedOut, Victim}
+use Rattle.pin_core.specs.declared.view.Role.TheVariants.{Absent, HandedOut}
 use Rattle.pin_core.specs.declared.view.View.{View}
 use Rattle.pin_core.specs.State.{hold, lane_hold, link}
 use Rattle.pin_core.specs.Steps.{HasNoVictim, HoldsNothing}

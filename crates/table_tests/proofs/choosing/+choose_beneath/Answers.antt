@@ -1,4 +1,4 @@
-use Rattle.std.proofs.Common.{ℕ, ◌<◌, ◌≤◌, ◌+◌, ◌-◌, arith, ap, sym, rules, ◌≡◌, ◌∙◌}
+use Rattle.std.proofs.Common.{arith, ap, sym, rules, ◌≡◌, ◌∙◌}
 use Rattle.pin_core.specs.declared.view.Link.{Link}
 use Rattle.pin_core.specs.declared.view.Role.TheVariants.{Absent, Victim}
 use Rattle.table_tests.proofs.Victims.{pins_back}

@@ -1,7 +1,7 @@
 use Rattle.std.proofs.Common.{ℕ, sym, subst}
 use Rattle.clock_sweep.specs.Keeping.{GetsHeader}
 use Rattle.table_tests.proofs.Seats.{keeps_on}
-use Rattle.table_tests.proofs.Victims.{keeps_aside, kept_pins, unlocked_pins}
+use Rattle.table_tests.proofs.Victims.{keeps_aside, unlocked_pins}
 use Rattle.table_tests.proofs.choosing.choose.Goals as goal
 
 pub returns-in-Ok-clause-pins : goal.returns-in-Ok-clause-pins

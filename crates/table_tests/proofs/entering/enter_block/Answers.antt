@@ -1,10 +1,7 @@
-use Rattle.std.proofs.Common.{◌≡◌, ℕ, ap, sym, subst, ◌∙◌}
-use Rattle.pin_core.specs.declared.view.Link.{Link}
+use Rattle.std.proofs.Common.{ℕ, ap, sym, subst, ◌∙◌}
 use Rattle.pin_core.specs.declared.view.PartitionHold.{PartitionHold}
-use Rattle.pin_core.specs.State.{hold, link}
-use Rattle.frame_table.specs.Sees.{Looked, unpinned_link}
 use Rattle.table_tests.specs.Work.{IsInside, KeepsOthers}
-use Rattle.table_tests.proofs.Working.{beside_on, beside_still, calm_unpinned, free_left, inside_taken, keeps_touched, keeps_worked, links_worked, not_victim, only_pins, pins_given_up, quiet_at, quiet_beside, quiet_worked, same_hold}
+use Rattle.table_tests.proofs.Working.{beside_on, free_left, inside_taken, keeps_worked, links_worked, not_victim, only_pins, pins_given_up, quiet_worked, same_hold}
 use Rattle.table_tests.proofs.entering.enter_block.Goals as goal
 
 pub enter_where_lacking-entered-requires-clause-inside : goal.enter_where_lacking-entered-requires-clause-inside

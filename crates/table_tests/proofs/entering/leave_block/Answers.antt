@@ -1,6 +1,6 @@
 use Rattle.std.proofs.Common.{rules}
 use Rattle.table_tests.proofs.Seats.{closes_still}
-use Rattle.table_tests.proofs.Working.{none_given_up, none_still, pins_given_up, rests_pins}
+use Rattle.table_tests.proofs.Working.{none_given_up, pins_given_up, rests_pins}
 use Rattle.table_tests.proofs.entering.leave_block.Goals as goal
 
 pub returns-clause-keeps : goal.returns-clause-keeps

@@ -1,4 +1,4 @@
-use Rattle.std.proofs.Common.{ℕ, ap, sym, subst}
+use Rattle.std.proofs.Common.{ℕ, sym, subst}
 use Rattle.table_tests.specs.Work.{IsInside, KeepsOthers}
 use Rattle.table_tests.proofs.Finding.{found_pins, lacks_between, none_to, pins_between, some_to}
 use Rattle.table_tests.proofs.Working.{free_left, inside_taken, quiet_worked}

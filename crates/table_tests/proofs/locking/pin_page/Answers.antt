@@ -1,4 +1,4 @@
-use Rattle.std.proofs.Common.{◌≡◌, ℕ, ap, subst, sym, ◌∙◌}
+use Rattle.std.proofs.Common.{◌≡◌, ℕ, subst, sym, ◌∙◌}
 use Rattle.pin_core.specs.declared.view.Role.TheVariants.{Absent, HandedOut}
 use Rattle.pin_core.specs.State.{link}
 use Rattle.frame_table.specs.Sees.{CanUnpin}

@@ -1,5 +1,5 @@
 use Rattle.std.proofs.Common.{arith}
-use Rattle.table_tests.proofs.Seats.{closes_joined, rests_first, rests_new}
+use Rattle.table_tests.proofs.Seats.{closes_joined, rests_new}
 use Rattle.table_tests.proofs.Working.{pins_idle, pins_kept, rests_pins}
 use Rattle.table_tests.proofs.locking.refusals.Goals as goal
 

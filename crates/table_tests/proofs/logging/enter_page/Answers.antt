@@ -1,4 +1,4 @@
-use Rattle.std.proofs.Common.{ℕ, ap, ◌∙◌}
+use Rattle.std.proofs.Common.{ap, ◌∙◌}
 use Rattle.pin_core.specs.declared.view.View.{View}
 use Rattle.pin_core.specs.State.{hold}
 use Rattle.table_tests.specs.Work.{KeepsBeside}

@@ -2,9 +2,8 @@ use Rattle.std.proofs.Common.{ap, sym, ◌≡◌, ◌∙◌}
 use Rattle.pin_core.specs.declared.view.Link.{Link}
 use Rattle.pin_core.specs.declared.view.PartitionHold.{PartitionHold}
 use Rattle.pin_core.specs.declared.view.Role.TheVariants.{HandedOut, Victim}
-use Rattle.pin_core.specs.State.{link}
 use Rattle.table_tests.proofs.Logged.{calm_unlocked_page}
-use Rattle.table_tests.proofs.Working.{beside_on, beside_still, keeps_touched, not_victim, only_pins, quiet_at, same_hold}
+use Rattle.table_tests.proofs.Working.{beside_on, beside_still, keeps_touched, only_pins, quiet_at, same_hold}
 use Rattle.table_tests.proofs.logging.put.Goals as goal
 
 pub returns-clause-keeps : goal.returns-clause-keeps
