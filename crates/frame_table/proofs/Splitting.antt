@@ -53,7 +53,7 @@ module _ {L G : Type 0} (d : Devices L G) (o : Opening L G) where
     list = h.list;
   }
 
-  pub splits_there : (base id : ℕ) (v : View) → base ≡ o.base → id ≡ 0 → v.next < o.config.backends → Splits (Held d o) id v (kept_view v) (split_view base v)
+  pub splits_there : (base id : ℕ) (v : View) → base ≡ o.base → id ≡ 0 → v.next < o.config.passes → Splits (Held d o) id v (kept_view v) (split_view base v)
   splits_there base id v based first room t h there = let s = h.state in let core = s.pool.core in
       let here : get_elem? core.views 0 ≡ some v = ap (λ (l : List View). get_elem? l 0) (sym h.shows.views) ∙ ap (get_elem? t.views) (sym first) ∙ there in
       let base_is : base ≡ core.base = based ∙ sym h.shows.fixed.base ∙ sym h.laws.invariant.based in

@@ -28,7 +28,7 @@ impl<L: BlockLane, G: LogDevice> FrameTable<L, G> {
         base: u64,
     ) -> Result<(FrameTable<L, G>, Seat<Value<L, G>, View>), BuildRefused<L, G>>
         requires frames { config.frames ≤ 4096 }
-        requires backends { (1 ≤ config.backends) × (config.backends ≤ 64) }
+        requires backends { (1 ≤ config.passes) × (config.passes ≤ 64) }
         requires lanes { (1 ≤ config.lanes) × (config.lanes ≤ 16) × (length lanes.items ≡ config.lanes) }
         requires base { base ≤ 2 ^ 62 }
         requires devices { AreLanes (devices L.contents L.failed_writes L.read_faults L.write_faults G.bytes G.synced G.faults) catalog lanes.items }

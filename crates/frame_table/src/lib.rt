@@ -1,6 +1,6 @@
 //! The table that the backends share: the frames, the partitions of the mapping table, the lanes and the log in one `atomic_table`, whose rule is the law of `history_core`.
 //!
-//! Each call is one step of the protocol, after loads where it tests or waits, and says which. docs/PROTOCOL.md tells the steps in words.
+//! Each call is one step of the protocol, or the call of a device and its return, after loads where it tests or waits, and says which. docs/PROTOCOL.md tells the steps in words.
 #![tactic(auto)]
 
 mod build;

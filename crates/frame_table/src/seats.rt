@@ -18,7 +18,7 @@ impl<L: BlockLane, G: LogDevice> FrameTable<L, G> {
     fn split_at<J: Known>(&self, seat: &mut Seat<Value<L, G>, View>) -> Seat<Value<L, G>, View>
         requires known { J.base ≡ self.now.table.shared.key.base }
         requires seat { Fits self.now seat.old × (seat.old.id ≡ 0) }
-        requires room { seat.old.me.0.next < self.now.table.shared.key.config.backends }
+        requires room { seat.old.me.0.next < self.now.table.shared.key.config.passes }
         ensures seat { SameSeat seat.old seat.new }
         ensures kept { seat.new.me.0 ≡ kept_view seat.old.me.0 }
         ensures fits { Fits self.now result }
@@ -30,7 +30,7 @@ impl<L: BlockLane, G: LogDevice> FrameTable<L, G> {
     /// A seat for a new backend, by the first one: it has the first one's next number, and holds nothing.
     pub fn split(&self, seat: &mut Seat<Value<L, G>, View>) -> Seat<Value<L, G>, View>
         requires seat { Fits self.now seat.old × (seat.old.id ≡ 0) }
-        requires room { seat.old.me.0.next < self.now.table.shared.key.config.backends }
+        requires room { seat.old.me.0.next < self.now.table.shared.key.config.passes }
         ensures seat { SameSeat seat.old seat.new }
         ensures kept { seat.new.me.0 ≡ kept_view seat.old.me.0 }
         ensures fits { Fits self.now result }

@@ -268,7 +268,7 @@ module _ {L G : Type 0} (d : Devices L G) (n : ℕ) (lanes : List L) (log : G) (
 
 module _ {L G : Type 0} (d : Devices L G) (o : Opening L G) where
   abbrev config_of : pin_state.Config
-  config_of = record { frames = o.config.frames; partitions = 128; partition_of = tag_partition; is_block = is_block o.catalog.value; lanes = o.config.lanes; backends = o.config.backends; base = o.base }
+  config_of = record { frames = o.config.frames; partitions = 128; partition_of = tag_partition; is_block = is_block o.catalog.value; lanes = o.config.lanes; backends = o.config.passes; base = o.base }
 
   abbrev start : State
   start = history.opening config_of (store_of d o.catalog.value o.lanes.value.items o.log.value o.base) zero_page
@@ -302,7 +302,7 @@ module _ {L G : Type 0} (d : Devices L G) (o : Opening L G) where
   free words h w count (turn.Lane q) low = in_latches words n o.base w (3 * n + 128 + q) (128 + q) (omega arith) (let a = h.few in omega arith)
   free words h w count turn.Log low = in_latches words n o.base w (3 * n + 144) 144 refl (omega arith)
 
-  pub opens_there : (words : List ℕ) (ys : List (Value L G)) → AreOpening words o.config.frames o.base → AreSlots o.config.frames o.lanes.value.items o.log.value ys → 0 < o.config.backends → o.config.backends ≤ 64 → 0 < o.config.lanes → length o.lanes.value.items ≡ o.config.lanes
+  pub opens_there : (words : List ℕ) (ys : List (Value L G)) → AreOpening words o.config.frames o.base → AreSlots o.config.frames o.lanes.value.items o.log.value ys → 0 < o.config.passes → o.config.passes ≤ 64 → 0 < o.config.lanes → length o.lanes.value.items ≡ o.config.lanes
       → o.base ≤ 4611686018427387904 → AreLanes d o.catalog.value o.lanes.value.items → IsNewLog {L = L} {G = G} d o.base o.log.value → Held d o (opening words ys (starting o))
   opens_there words ys w h some_backend few_backends some_lane count based are new = record {
     state = start;
@@ -342,7 +342,7 @@ module _ {L G : Type 0} (d : Devices L G) (o : Opening L G) where
   }
 
   -- the same, where the devices are given beside the key
-  pub opens_built : (words : List ℕ) (ys : List (Value L G)) (rs : List RelEntry) (ls : List L) (log : G) → o.catalog.value ≡ rs → o.lanes.value.items ≡ ls → o.log.value ≡ log → AreOpening words o.config.frames o.base → AreSlots o.config.frames ls log ys → 0 < o.config.backends → o.config.backends ≤ 64 → 0 < o.config.lanes
+  pub opens_built : (words : List ℕ) (ys : List (Value L G)) (rs : List RelEntry) (ls : List L) (log : G) → o.catalog.value ≡ rs → o.lanes.value.items ≡ ls → o.log.value ≡ log → AreOpening words o.config.frames o.base → AreSlots o.config.frames ls log ys → 0 < o.config.passes → o.config.passes ≤ 64 → 0 < o.config.lanes
       → length ls ≡ o.config.lanes → o.base ≤ 4611686018427387904 → AreLanes d rs ls → IsNewLog {L = L} {G = G} d o.base log → Held d o (opening words ys (starting o))
   opens_built words ys rs ls log same_relations same_lanes same_log w h some_backend few_backends some_lane count based are new = opens_there words ys w
       (subst (λ (l : List L). AreSlots o.config.frames l o.log.value ys) (sym same_lanes) (subst (λ (x : G). AreSlots o.config.frames ls x ys) (sym same_log) h))

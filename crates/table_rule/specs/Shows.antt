@@ -171,7 +171,7 @@ module _ {L G : Type 0} where
   -- What was fixed when the table was opened
   pub record IsOpened (d : Devices L G) (o : Opening L G) (s : State) : Type 0 where
     pub frames : s.pool.core.frames ≡ o.config.frames
-    pub backends : s.pool.core.backends ≡ o.config.backends
+    pub backends : s.pool.core.backends ≡ o.config.passes
     pub base : s.log.base ≡ o.base
     pub partitions : s.pool.core.partitions ≡ 128
     pub partition_of : s.pool.core.partition_of ≡ tag_partition
@@ -181,7 +181,7 @@ module _ {L G : Type 0} where
     pub lanes : s.lanes ≡ o.config.lanes
     pub lane_of : s.lane_of ≡ tag_lane o.config.lanes
     -- there are at most 64 backends, and 16 lanes
-    pub few_backends : o.config.backends ≤ 64
+    pub few_backends : o.config.passes ≤ 64
     pub few_lanes : o.config.lanes ≤ 16
     -- the pages and the counts of the devices at the start
     pub known : (q : ℕ) (l : L) (word : ℕ) → get_elem? o.lanes.value.items q ≡ some l → tag_lane o.config.lanes word ≡ q → s.known word ≡ is_some (d.contents l)

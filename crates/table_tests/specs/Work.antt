@@ -91,7 +91,7 @@ pub record SeesPage (l : Link) : Type 0 where
 
 module _ {L G : Type 0} where
   abbrev pub backends_of : FrameTable L G → ℕ
-  backends_of t = t.table.shared.key.config.backends
+  backends_of t = t.table.shared.key.config.passes
 
   -- the table of the tests: 16 frames, four backends, one lane, and the one relation
   abbrev pub IsSmall : FrameTable L G → Type 0

@@ -7,7 +7,7 @@ ghost use Rattle.frame_table.specs.Sees.{frames_of};
 ghost use Rattle.table_tests.specs.Work.{IsSmall, Keeps, OnlyPins, PinsNone, SamePins};
 
 use crate::entering::{enter_block, leave_block};
-use crate::fixture::{Place, Table, block};
+use crate::fixture::{Table, TableSeat, block};
 use access_rings::Ring;
 use clock_sweep::{Census, Sweep, hand, victim};
 use std::sync::Wait;
@@ -16,7 +16,7 @@ use std::sync::Wait;
 fn choose<R: Wait>(
     rt: &R,
     table: &Table,
-    seat: &mut Place,
+    seat: &mut TableSeat,
     sweep: &Sweep,
     census: &mut Census,
     ring: &mut Option<Ring>,
@@ -42,7 +42,7 @@ fn choose<R: Wait>(
 fn choose_beneath<R: Wait>(
     rt: &R,
     table: &Table,
-    seat: &mut Place,
+    seat: &mut TableSeat,
     sweep: &Sweep,
     census: &mut Census,
     frame: u32,
@@ -70,7 +70,7 @@ fn choose_beneath<R: Wait>(
 pub fn choose_among<R: Wait>(
     rt: &R,
     table: &Table,
-    seat: &mut Place,
+    seat: &mut TableSeat,
     sweep: &Sweep,
     census: &mut Census,
     frame: u32,
@@ -91,7 +91,7 @@ pub fn choose_among<R: Wait>(
 pub fn choose_often<R: Wait>(
     rt: &R,
     table: &Table,
-    seat: &mut Place,
+    seat: &mut TableSeat,
     sweep: &Sweep,
     census: &mut Census,
     ring: &mut Option<Ring>,
@@ -112,7 +112,7 @@ pub fn choose_often<R: Wait>(
 }
 
 /// Each frame gets a block, and its pin is given up: its usage count is 1 then. How many got one.
-pub fn use_frames<R: Wait>(rt: &R, table: &Table, seat: &mut Place) -> u32
+pub fn use_frames<R: Wait>(rt: &R, table: &Table, seat: &mut TableSeat) -> u32
     requires small { IsSmall table.now }
     requires closes { CanClose table.now seat.old }
     requires pins { OnlyPins table.now seat.old × PinsNone seat.old }
@@ -129,7 +129,7 @@ pub fn use_frames<R: Wait>(rt: &R, table: &Table, seat: &mut Place) -> u32
 }
 
 /// Pins a frame that has a tag, and gives it up.
-fn touch<R: Wait>(rt: &R, table: &Table, seat: &mut Place, frame: u32) -> bool
+fn touch<R: Wait>(rt: &R, table: &Table, seat: &mut TableSeat, frame: u32) -> bool
     requires pins { OnlyPins table.now seat.old × PinsNone seat.old }
     requires frame { frame < frames_of table.now }
     ensures pins { OnlyPins table.now seat.new × PinsNone seat.new }
@@ -143,7 +143,7 @@ fn touch<R: Wait>(rt: &R, table: &Table, seat: &mut Place, frame: u32) -> bool
 }
 
 /// The same this many times: the usage count grows by as much, up to 5.
-pub fn touch_often<R: Wait>(rt: &R, table: &Table, seat: &mut Place, frame: u32, times: u32)
+pub fn touch_often<R: Wait>(rt: &R, table: &Table, seat: &mut TableSeat, frame: u32, times: u32)
     requires closes { CanClose table.now seat.old }
     requires pins { OnlyPins table.now seat.old × PinsNone seat.old }
     requires frame { frame < frames_of table.now }
@@ -156,7 +156,7 @@ pub fn touch_often<R: Wait>(rt: &R, table: &Table, seat: &mut Place, frame: u32,
 }
 
 /// Where the clock's hand stands.
-pub fn hand_of(table: &Table, seat: &mut Place) -> u64
+pub fn hand_of(table: &Table, seat: &mut TableSeat) -> u64
     requires closes { CanClose table.now seat.old }
     ensures { CanClose table.now seat.new }
 {

@@ -7,7 +7,7 @@ ghost use Rattle.frame_table.specs.Sees.{frames_of};
 ghost use Rattle.table_tests.specs.Work.{ChangesOn, CopiesOn, HasBlock, Keeps, KeepsBeside, OnlyPins, PinsBlock, PinsNone, SeesPage, backends_of};
 
 use crate::entering::enter_block;
-use crate::fixture::{FRONT, Place, Table};
+use crate::fixture::{FRONT, Table, TableSeat};
 use crate::loading::load_block;
 use crate::locking::pin_page;
 use crate::logging::put;
@@ -37,17 +37,24 @@ fn number_next(page: &mut Page) {
     page.fill(&bytes);
 }
 
-/// Whether a page is such a one, and has the position of its entry's end; or is all zeros.
-fn is_whole(page: &Page) -> bool {
+/// Whether a page is such a one, and has the position of its entry's end.
+fn is_numbered(page: &Page) -> bool {
     let number = (page.lsn() / RECORD_SIZE % 256) as u8;
-    page.lsn() % RECORD_SIZE == 0 && page.bytes()[28..].iter().all(|byte| *byte == number)
+    page.lsn() % RECORD_SIZE == 0
+        && page.bytes()[8..28] == FRONT[8..]
+        && page.bytes()[28..].iter().all(|byte| *byte == number)
+}
+
+/// Whether a page is such a one, or the one that was there before, which is new.
+fn is_whole(page: &Page) -> bool {
+    page.is_new() || is_numbered(page)
 }
 
 /// Puts such pages, one after the other, and counts those that became entries.
 fn change_often<R: Wait>(
     rt: &R,
     table: &Table,
-    seat: &mut Place,
+    seat: &mut TableSeat,
     course: Course,
     alloc: Global,
 ) -> Option<u32>
@@ -69,7 +76,7 @@ fn change_often<R: Wait>(
 }
 
 /// Copies the page of a frame, under the content lock, shared.
-fn copy_shared<R: Wait>(rt: &R, table: &Table, seat: &mut Place, frame: u32, page: &mut Page)
+fn copy_shared<R: Wait>(rt: &R, table: &Table, seat: &mut TableSeat, frame: u32, page: &mut Page)
     requires pins { OnlyPins table.now seat.old }
     requires frame { frame < frames_of table.now }
     requires sees { SeesPage (link seat.old.me.0 frame) }
@@ -86,7 +93,7 @@ fn copy_shared<R: Wait>(rt: &R, table: &Table, seat: &mut Place, frame: u32, pag
 fn copy_often<R: Wait>(
     rt: &R,
     table: &Table,
-    seat: &mut Place,
+    seat: &mut TableSeat,
     course: Course,
     alloc: Global,
 ) -> Option<u32>
@@ -111,8 +118,8 @@ fn copy_often<R: Wait>(
 fn copy_both<R: Threads + Wait + Sync>(
     rt: &R,
     table: &Table,
-    first: &mut Place,
-    second: &mut Place,
+    first: &mut TableSeat,
+    second: &mut TableSeat,
     course: Course,
     alloc: Global,
 ) -> (Option<u32>, Option<u32>)
@@ -145,9 +152,9 @@ pub struct Copied {
 fn copy_beside<R: Threads + Wait + Sync>(
     rt: &R,
     table: &Table,
-    writer: &mut Place,
-    first: &mut Place,
-    second: &mut Place,
+    writer: &mut TableSeat,
+    first: &mut TableSeat,
+    second: &mut TableSeat,
     course: Course,
     alloc: Global,
 ) -> Copied
@@ -176,9 +183,9 @@ fn copy_beside<R: Threads + Wait + Sync>(
 fn copy_second<R: Threads + Wait + Sync>(
     rt: &R,
     table: &Table,
-    writer: &mut Place,
-    first: &mut Place,
-    second: &mut Place,
+    writer: &mut TableSeat,
+    first: &mut TableSeat,
+    second: &mut TableSeat,
     course: Course,
     alloc: Global,
 ) -> Option<Copied>
@@ -199,9 +206,9 @@ fn copy_second<R: Threads + Wait + Sync>(
 fn copy_pinned<R: Threads + Wait + Sync>(
     rt: &R,
     table: &Table,
-    writer: &mut Place,
-    first: &mut Place,
-    second: &mut Place,
+    writer: &mut TableSeat,
+    first: &mut TableSeat,
+    second: &mut TableSeat,
     course: Course,
     alloc: Global,
 ) -> Option<Copied>
@@ -222,9 +229,9 @@ fn copy_pinned<R: Threads + Wait + Sync>(
 fn copy_at<R: Threads + Wait + Sync>(
     rt: &R,
     table: &Table,
-    writer: &mut Place,
-    first: &mut Place,
-    second: &mut Place,
+    writer: &mut TableSeat,
+    first: &mut TableSeat,
+    second: &mut TableSeat,
     course: Course,
     alloc: Global,
 ) -> Option<Copied>
@@ -251,7 +258,7 @@ fn copy_at<R: Threads + Wait + Sync>(
 pub fn copy_together<R: Threads + Wait + Sync>(
     rt: &R,
     table: &Table,
-    seat: &mut Place,
+    seat: &mut TableSeat,
     course: Course,
     alloc: Global,
 ) -> Option<Copied>

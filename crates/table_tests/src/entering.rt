@@ -10,7 +10,7 @@ ghost use Rattle.frame_table.specs.Closes.{CanClose};
 ghost use Rattle.frame_table.specs.Sees.{Lacks, Touches, frames_of};
 ghost use Rattle.table_tests.specs.Work.{HasBlock, IsInside, IsQuiet, Keeps, KeepsBeside, KeepsOthers, OnlyPins, PinsBlock, PinsNone};
 
-use crate::fixture::{Place, Table};
+use crate::fixture::{Table, TableSeat};
 use block_tag::Tag;
 use frame_table::Pin;
 use map_partitions::{enter, find, give_turn, take_turn};
@@ -18,7 +18,7 @@ use state_word::{Flag, has, pins};
 use std::sync::Wait;
 
 /// Takes a victim's pin of a frame that has neither pins nor a tag.
-fn pin_free<R: Wait>(rt: &R, table: &Table, seat: &mut Place, frame: u32) -> Option<Pin>
+fn pin_free<R: Wait>(rt: &R, table: &Table, seat: &mut TableSeat, frame: u32) -> Option<Pin>
     requires pins { OnlyPins table.now seat.old }
     requires absent { (link seat.old.me.0 frame).role ≡ Absent }
     requires frame { frame < frames_of table.now }
@@ -38,7 +38,7 @@ fn pin_free<R: Wait>(rt: &R, table: &Table, seat: &mut Place, frame: u32) -> Opt
 }
 
 /// Stores a block's tag in the frame that the backend has as a victim, and enters it into the map, where the frame is free still.
-fn store_block<R: Wait>(rt: &R, table: &Table, seat: &mut Place, frame: u32, tag: Tag) -> bool
+fn store_block<R: Wait>(rt: &R, table: &Table, seat: &mut TableSeat, frame: u32, tag: Tag) -> bool
     requires quiet { IsQuiet table.now seat.old }
     requires frame { frame < frames_of table.now }
     requires block { HasBlock table.now tag }
@@ -68,7 +68,7 @@ fn store_block<R: Wait>(rt: &R, table: &Table, seat: &mut Place, frame: u32, tag
 fn enter_where_lacking<R: Wait>(
     rt: &R,
     table: &Table,
-    seat: &mut Place,
+    seat: &mut TableSeat,
     frame: u32,
     tag: Tag,
 ) -> bool
@@ -95,7 +95,7 @@ fn enter_where_lacking<R: Wait>(
 pub fn enter_block<R: Wait>(
     rt: &R,
     table: &Table,
-    seat: &mut Place,
+    seat: &mut TableSeat,
     frame: u32,
     tag: Tag,
 ) -> Option<Pin>
@@ -122,7 +122,13 @@ pub fn enter_block<R: Wait>(
 }
 
 /// A block comes into a frame, and the backend gives its pin up.
-pub fn leave_block<R: Wait>(rt: &R, table: &Table, seat: &mut Place, frame: u32, tag: Tag) -> bool
+pub fn leave_block<R: Wait>(
+    rt: &R,
+    table: &Table,
+    seat: &mut TableSeat,
+    frame: u32,
+    tag: Tag,
+) -> bool
     requires closes { CanClose table.now seat.old }
     requires pins { OnlyPins table.now seat.old × PinsNone seat.old }
     requires frame { frame < frames_of table.now }
@@ -139,7 +145,7 @@ pub fn leave_block<R: Wait>(rt: &R, table: &Table, seat: &mut Place, frame: u32,
 }
 
 /// Pins the frame that the map gives for a block, under its partition's latch.
-fn pin_mapped<R: Wait>(rt: &R, table: &Table, seat: &mut Place, tag: Tag) -> Option<Pin>
+fn pin_mapped<R: Wait>(rt: &R, table: &Table, seat: &mut TableSeat, tag: Tag) -> Option<Pin>
     requires quiet { IsQuiet table.now seat.old }
     requires none { PinsNone seat.old }
     requires block { HasBlock table.now tag }
@@ -156,7 +162,7 @@ fn pin_mapped<R: Wait>(rt: &R, table: &Table, seat: &mut Place, tag: Tag) -> Opt
 }
 
 /// Pins a block that has a frame (`BufferAlloc`, where the block is found). None where it has none.
-pub fn pin_found<R: Wait>(rt: &R, table: &Table, seat: &mut Place, tag: Tag) -> Option<Pin>
+pub fn pin_found<R: Wait>(rt: &R, table: &Table, seat: &mut TableSeat, tag: Tag) -> Option<Pin>
     requires pins { OnlyPins table.now seat.old × PinsNone seat.old }
     requires block { HasBlock table.now tag }
     ensures pins { OnlyPins table.now seat.new }
@@ -171,7 +177,7 @@ pub fn pin_found<R: Wait>(rt: &R, table: &Table, seat: &mut Place, tag: Tag) -> 
 }
 
 /// The frame of a block, if it has one. Its pin is given up.
-pub fn frame_of<R: Wait>(rt: &R, table: &Table, seat: &mut Place, tag: Tag) -> Option<u32>
+pub fn frame_of<R: Wait>(rt: &R, table: &Table, seat: &mut TableSeat, tag: Tag) -> Option<u32>
     requires closes { CanClose table.now seat.old }
     requires pins { OnlyPins table.now seat.old × PinsNone seat.old }
     requires block { HasBlock table.now tag }

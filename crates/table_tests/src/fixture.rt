@@ -14,7 +14,7 @@ use std::alloc::{AllocError, Global};
 
 pub type Table = FrameTable<TestLane, TestLog>;
 
-pub type Place = Seat<Value<TestLane, TestLog>, View>;
+pub type TableSeat = Seat<Value<TestLane, TestLog>, View>;
 
 /// One relation of 64 blocks.
 fn catalog(alloc: Global) -> Result<Catalog, CatalogError>
@@ -30,7 +30,7 @@ fn catalog(alloc: Global) -> Result<Catalog, CatalogError>
 }
 
 /// A table of 16 frames over one lane and a log that begins at 0, for four backends, whose first one holds nothing.
-pub fn table(alloc: Global) -> Result<(Table, Place), AllocError>
+pub fn table(alloc: Global) -> Result<(Table, TableSeat), AllocError>
     ensures small { IfOk result (λ t. IsSmall t.0) }
     ensures pins { IfOk result (λ t. OnlyPins t.0 t.1 × PinsNone t.1) }
     ensures closes { IfOk result (λ t. CanClose t.0 t.1) }
@@ -40,7 +40,7 @@ pub fn table(alloc: Global) -> Result<(Table, Place), AllocError>
 }
 
 /// The same over this log, which begins at `base`.
-pub fn table_over(alloc: Global, log: TestLog, base: u64) -> Result<(Table, Place), AllocError>
+pub fn table_over(alloc: Global, log: TestLog, base: u64) -> Result<(Table, TableSeat), AllocError>
     requires { base ≤ 2 ^ 62 }
     ensures small { IfOk result (λ t. IsSmall t.0) }
     ensures pins { IfOk result (λ t. OnlyPins t.0 t.1 × PinsNone t.1) }
@@ -56,7 +56,7 @@ pub fn table_on(
     lane: TestLane,
     log: TestLog,
     base: u64,
-) -> Result<(Table, Place), AllocError>
+) -> Result<(Table, TableSeat), AllocError>
     requires { base ≤ 2 ^ 62 }
     ensures small { IfOk result (λ t. IsSmall t.0) }
     ensures pins { IfOk result (λ t. OnlyPins t.0 t.1 × PinsNone t.1) }
@@ -68,7 +68,7 @@ pub fn table_on(
     };
     let config = Config {
         frames: 16,
-        backends: 4,
+        passes: 4,
         lanes: 1,
     };
     let mut lanes = Vec::new(alloc);
@@ -97,7 +97,7 @@ pub fn block(_table: &Table, number: u32) -> Tag
 }
 
 /// The state word of a frame.
-pub fn word_of(table: &Table, seat: &mut Place, frame: u32) -> u64
+pub fn word_of(table: &Table, seat: &mut TableSeat, frame: u32) -> u64
     requires closes { CanClose table.now seat.old }
     requires frame { frame < frames_of table.now }
     ensures closes { CanClose table.now seat.new }

@@ -5,7 +5,7 @@ ghost use Rattle.pin_core.specs.State.{link};
 ghost use Rattle.frame_table.specs.Sees.{frames_of};
 ghost use Rattle.table_tests.specs.Work.{HasBlock, IsQuiet, IsQuietBeside, KeepsBeside, LanesHome, OnlyPins, PinsBlock, Reads, SameLatches};
 
-use crate::fixture::{Place, Table};
+use crate::fixture::{Table, TableSeat};
 use block_tag::Tag;
 use content_locks::{IoRight, end_io, page_back, page_out, start_io};
 use frame_table::Turn;
@@ -17,7 +17,7 @@ use std::sync::Wait;
 fn read_lane<R: Wait>(
     rt: &R,
     table: &Table,
-    seat: &mut Place,
+    seat: &mut TableSeat,
     frame: u32,
     tag: Tag,
     page: &mut Page,
@@ -43,7 +43,7 @@ fn read_lane<R: Wait>(
 }
 
 /// The page that the lane gave becomes the frame's.
-fn put_page(table: &Table, seat: &mut Place, frame: u32, page: &Page, _tag: Tag)
+fn put_page(table: &Table, seat: &mut TableSeat, frame: u32, page: &Page, _tag: Tag)
     requires quiet { IsQuietBeside table.now frame seat.old }
     requires frame { frame < frames_of table.now }
     requires reads { Reads _tag (link seat.old.me.0 frame) }
@@ -66,7 +66,7 @@ fn put_page(table: &Table, seat: &mut Place, frame: u32, page: &Page, _tag: Tag)
 fn read_in<R: Wait>(
     rt: &R,
     table: &Table,
-    seat: &mut Place,
+    seat: &mut TableSeat,
     right: IoRight,
     tag: Tag,
     page: &mut Page,
@@ -94,7 +94,7 @@ fn read_in<R: Wait>(
 pub fn load_block<R: Wait>(
     rt: &R,
     table: &Table,
-    seat: &mut Place,
+    seat: &mut TableSeat,
     frame: u32,
     tag: Tag,
     page: &mut Page,

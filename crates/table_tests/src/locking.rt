@@ -7,7 +7,7 @@ ghost use Rattle.frame_table.specs.Sees.{frames_of};
 ghost use Rattle.table_tests.specs.Work.{HasBlock, Keeps, KeepsBeside, OnlyPins, PinsNone, SeesPage, backends_of};
 
 use crate::entering::enter_block;
-use crate::fixture::{Place, Table};
+use crate::fixture::{Table, TableSeat};
 use crate::loading::load_block;
 use block_tag::Tag;
 use content_locks::{TryLock, exclusive, share, try_exclusive, try_share, unexclusive, unshare};
@@ -17,7 +17,7 @@ use state_word::{Flag, has};
 use std::sync::Wait;
 
 /// Why the content lock isn't taken, shared; where it is, it is given up again.
-fn share_refused(table: &Table, seat: &mut Place, frame: u32) -> Option<TryLock>
+fn share_refused(table: &Table, seat: &mut TableSeat, frame: u32) -> Option<TryLock>
     requires pins { OnlyPins table.now seat.old }
     requires frame { frame < frames_of table.now }
     requires sees { SeesPage (link seat.old.me.0 frame) }
@@ -35,7 +35,7 @@ fn share_refused(table: &Table, seat: &mut Place, frame: u32) -> Option<TryLock>
 }
 
 /// Likewise, exclusively.
-fn exclusive_refused(table: &Table, seat: &mut Place, frame: u32) -> Option<TryLock>
+fn exclusive_refused(table: &Table, seat: &mut TableSeat, frame: u32) -> Option<TryLock>
     requires pins { OnlyPins table.now seat.old }
     requires frame { frame < frames_of table.now }
     requires sees { SeesPage (link seat.old.me.0 frame) }
@@ -56,8 +56,8 @@ fn exclusive_refused(table: &Table, seat: &mut Place, frame: u32) -> Option<TryL
 pub fn refused_by_exclusive<R: Wait>(
     rt: &R,
     table: &Table,
-    holder: &mut Place,
-    seat: &mut Place,
+    holder: &mut TableSeat,
+    seat: &mut TableSeat,
     frame: u32,
 ) -> (Option<TryLock>, Option<TryLock>)
     requires pins { OnlyPins table.now holder.old × OnlyPins table.now seat.old }
@@ -78,8 +78,8 @@ pub fn refused_by_exclusive<R: Wait>(
 pub fn refused_by_shared<R: Wait>(
     rt: &R,
     table: &Table,
-    holder: &mut Place,
-    seat: &mut Place,
+    holder: &mut TableSeat,
+    seat: &mut TableSeat,
     frame: u32,
 ) -> (Option<TryLock>, Option<TryLock>)
     requires pins { OnlyPins table.now holder.old × OnlyPins table.now seat.old }
@@ -97,7 +97,7 @@ pub fn refused_by_shared<R: Wait>(
 }
 
 /// Pins a frame whose page is there.
-pub fn pin_page<R: Wait>(rt: &R, table: &Table, seat: &mut Place, frame: u32) -> Option<Pin>
+pub fn pin_page<R: Wait>(rt: &R, table: &Table, seat: &mut TableSeat, frame: u32) -> Option<Pin>
     requires pins { OnlyPins table.now seat.old × PinsNone seat.old }
     requires frame { frame < frames_of table.now }
     ensures pins { OnlyPins table.now seat.new }
@@ -120,8 +120,8 @@ pub fn pin_page<R: Wait>(rt: &R, table: &Table, seat: &mut Place, frame: u32) ->
 fn refusals_beside<R: Wait>(
     rt: &R,
     table: &Table,
-    holder: &mut Place,
-    seat: &mut Place,
+    holder: &mut TableSeat,
+    seat: &mut TableSeat,
     frame: u32,
 ) -> Option<[(Option<TryLock>, Option<TryLock>); 2]>
     requires pins { OnlyPins table.now holder.old × OnlyPins table.now seat.old × PinsNone seat.old }
@@ -142,8 +142,8 @@ fn refusals_beside<R: Wait>(
 fn refusals_at<R: Wait>(
     rt: &R,
     table: &Table,
-    holder: &mut Place,
-    seat: &mut Place,
+    holder: &mut TableSeat,
+    seat: &mut TableSeat,
     frame: u32,
     tag: Tag,
     page: &mut Page,
@@ -167,7 +167,7 @@ fn refusals_at<R: Wait>(
 pub fn refusals<R: Wait>(
     rt: &R,
     table: &Table,
-    seat: &mut Place,
+    seat: &mut TableSeat,
     frame: u32,
     tag: Tag,
     page: &mut Page,

@@ -7,16 +7,16 @@ ghost use Rattle.frame_table.specs.Sees.{frames_of};
 ghost use Rattle.table_tests.specs.Work.{Changes, HasBlock, IsQuietBeside, KeepsBeside, OnlyPins, PinsBlock, PinsNone, SameLatches};
 
 use crate::entering::enter_block;
-use crate::fixture::{Place, Table};
+use crate::fixture::{Table, TableSeat};
 use crate::loading::load_block;
 use block_tag::Tag;
 use content_locks::{exclusive, page_back, page_out, unexclusive};
 use page_layout::Page;
 use std::sync::Wait;
-use wal_flush::{FlushLog, InsertError, flush_to, insert};
+use wal_flush::{FlushLog, InsertError, flush_to, flushed, insert, log_end};
 
 /// The image of the backend's entry becomes the frame's page.
-fn apply(table: &Table, seat: &mut Place, frame: u32, page: &Page, _tag: Tag)
+fn apply(table: &Table, seat: &mut TableSeat, frame: u32, page: &Page, _tag: Tag)
     requires quiet { IsQuietBeside table.now frame seat.old }
     requires frame { frame < frames_of table.now }
     requires changes { Changes _tag (link seat.old.me.0 frame) }
@@ -37,7 +37,7 @@ fn apply(table: &Table, seat: &mut Place, frame: u32, page: &Page, _tag: Tag)
 fn enter_page<R: Wait>(
     rt: &R,
     table: &Table,
-    seat: &mut Place,
+    seat: &mut TableSeat,
     frame: u32,
     tag: Tag,
     page: &mut Page,
@@ -68,7 +68,7 @@ fn enter_page<R: Wait>(
 pub fn put<R: Wait>(
     rt: &R,
     table: &Table,
-    seat: &mut Place,
+    seat: &mut TableSeat,
     frame: u32,
     tag: Tag,
     page: &mut Page,
@@ -97,7 +97,7 @@ pub fn put<R: Wait>(
 fn flush<R: Wait>(
     rt: &R,
     table: &Table,
-    seat: &mut Place,
+    seat: &mut TableSeat,
     _frame: u32,
     _tag: Tag,
     lsn: u64,
@@ -113,6 +113,15 @@ fn flush<R: Wait>(
     flush_to(table, rt, seat, lsn)
 }
 
+/// The log's end, and the position up to which it is flushed.
+pub fn positions(table: &Table, seat: &mut TableSeat) -> (u64, u64)
+    requires closes { CanClose table.now seat.old }
+    ensures { CanClose table.now seat.new }
+{
+    let end = log_end(table, seat);
+    (end, flushed(table, seat))
+}
+
 /// What came of two puts of a page, and of two flushes between them.
 #[derive(Clone, Copy, PartialEq, Debug)]
 pub struct Tries {
@@ -126,7 +135,7 @@ pub struct Tries {
 pub fn put_twice<R: Wait>(
     rt: &R,
     table: &Table,
-    seat: &mut Place,
+    seat: &mut TableSeat,
     frame: u32,
     tag: Tag,
     page: &mut Page,
@@ -166,7 +175,7 @@ pub struct LateFlushes {
 pub fn flush_late<R: Wait>(
     rt: &R,
     table: &Table,
-    seat: &mut Place,
+    seat: &mut TableSeat,
     frame: u32,
     tag: Tag,
     page: &mut Page,

@@ -5,13 +5,13 @@ ghost use Rattle.frame_table.specs.Closes.{CanClose};
 ghost use Rattle.frame_table.specs.Sees.{frames_of};
 ghost use Rattle.table_tests.specs.Work.{Keeps, Rests, backends_of};
 
-use crate::fixture::{Place, Table};
+use crate::fixture::{Table, TableSeat};
 use frame_table::TryPin;
 use std::sync::Wait;
 use std::thread::{Threads, join_mut};
 
 /// Pins a frame and gives it up, or says why it wasn't pinned.
-pub fn refusal<R: Wait>(rt: &R, table: &Table, seat: &mut Place, frame: u32) -> Option<TryPin>
+pub fn refusal<R: Wait>(rt: &R, table: &Table, seat: &mut TableSeat, frame: u32) -> Option<TryPin>
     requires rests { Rests table.now seat.old }
     requires frame { frame < frames_of table.now }
     ensures rests { Rests table.now seat.new }
@@ -30,8 +30,8 @@ pub fn refusal<R: Wait>(rt: &R, table: &Table, seat: &mut Place, frame: u32) -> 
 pub fn refusal_beside<R: Wait>(
     rt: &R,
     table: &Table,
-    seat: &mut Place,
-    other: &mut Place,
+    seat: &mut TableSeat,
+    other: &mut TableSeat,
     frame: u32,
 ) -> Option<TryPin>
     requires rests { Rests table.now seat.old × Rests table.now other.old }
@@ -46,7 +46,13 @@ pub fn refusal_beside<R: Wait>(
 }
 
 /// Pins a frame this many times, and counts how often it was refused.
-pub fn pin_often<R: Wait>(rt: &R, table: &Table, seat: &mut Place, frame: u32, times: u32) -> u32
+pub fn pin_often<R: Wait>(
+    rt: &R,
+    table: &Table,
+    seat: &mut TableSeat,
+    frame: u32,
+    times: u32,
+) -> u32
     requires rests { Rests table.now seat.old }
     requires frame { frame < frames_of table.now }
     ensures rests { Rests table.now seat.new }
@@ -65,7 +71,7 @@ pub fn pin_often<R: Wait>(rt: &R, table: &Table, seat: &mut Place, frame: u32, t
 pub fn refusal_of_two<R: Wait>(
     rt: &R,
     table: &Table,
-    seat: &mut Place,
+    seat: &mut TableSeat,
     frame: u32,
 ) -> Option<TryPin>
     requires closes { CanClose table.now seat.old }
@@ -83,8 +89,8 @@ pub fn refusal_of_two<R: Wait>(
 fn pin_pair<R: Threads + Wait + Sync>(
     rt: &R,
     table: &Table,
-    first: &mut Place,
-    second: &mut Place,
+    first: &mut TableSeat,
+    second: &mut TableSeat,
     frame: u32,
     times: u32,
 ) -> (u32, u32)
@@ -110,7 +116,7 @@ fn pin_pair<R: Threads + Wait + Sync>(
 pub fn pin_together<R: Threads + Wait + Sync>(
     rt: &R,
     table: &Table,
-    seat: &mut Place,
+    seat: &mut TableSeat,
     frame: u32,
     times: u32,
 ) -> (u32, u32)
@@ -129,9 +135,9 @@ pub fn pin_together<R: Threads + Wait + Sync>(
 fn pin_three<R: Threads + Wait + Sync>(
     rt: &R,
     table: &Table,
-    first: &mut Place,
-    second: &mut Place,
-    third: &mut Place,
+    first: &mut TableSeat,
+    second: &mut TableSeat,
+    third: &mut TableSeat,
     frame: u32,
     times: u32,
 ) -> (u32, (u32, u32))
@@ -157,7 +163,7 @@ fn pin_three<R: Threads + Wait + Sync>(
 pub fn pin_by_four<R: Threads + Wait + Sync>(
     rt: &R,
     table: &Table,
-    seat: &mut Place,
+    seat: &mut TableSeat,
     frame: u32,
     times: u32,
 ) -> (u32, (u32, (u32, u32)))

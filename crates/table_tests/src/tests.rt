@@ -5,7 +5,7 @@ use crate::devices::{TestLane, TestLog};
 use crate::entering::{frame_of, leave_block};
 use crate::fixture::{FRONT, block, one_item, table, table_on, table_over, word_of};
 use crate::locking::refusals;
-use crate::logging::{LateFlushes, Tries, flush_late, put_twice};
+use crate::logging::{LateFlushes, Tries, flush_late, positions, put_twice};
 use crate::pinning::{pin_by_four, pin_often, pin_together, refusal, refusal_of_two};
 use crate::writing::{FlushError, Flushes, flush_twice};
 use access_rings::{Ring, RingKind};
@@ -339,6 +339,38 @@ fn an_append_that_failed_leaves_the_first_insert_unflushed(rt: HostRuntime) -> R
         })
     );
     assert_eq!(rt; page.lsn(), 8224);
+    Ok(())
+}
+
+#[test]
+fn a_log_is_begun_by_one_append(rt: HostRuntime) -> Result<(), Fail> {
+    let mut page = one_item(rt.alloc(), 7)?;
+    let mut log = TestLog::new(rt.alloc(), 2);
+    let begun = begin_log(&mut log, 0);
+    let (table, mut seat) = table_over(rt.alloc(), log, 0)?;
+    let tag = block(&table, 5);
+    let tries = put_twice(&rt, &table, &mut seat, 3, tag, &mut page, 0);
+    let (_lanes, log) = table.close(seat);
+    assert_eq!(rt; begun, Ok(()));
+    assert_eq!(rt;
+        tries.and_then(|tries| tries.first),
+        Some(Err(InsertError::LogFault))
+    );
+    assert_eq!(rt; log.bytes.len(), 16);
+    Ok(())
+}
+
+#[test]
+fn a_flush_raises_the_flushed_position_to_the_end(rt: HostRuntime) -> Result<(), Fail> {
+    let mut page = one_item(rt.alloc(), 7)?;
+    let (table, mut seat) = table(rt.alloc())?;
+    let tag = block(&table, 5);
+    let before = positions(&table, &mut seat);
+    let tries = put_twice(&rt, &table, &mut seat, 3, tag, &mut page, 1);
+    let after = positions(&table, &mut seat);
+    let (_lanes, _log) = table.close(seat);
+    assert_eq!(rt; tries.map(|tries| tries.flushed), Some(Ok(())));
+    assert_eq!(rt; (before, after), ((0, 0), (16448, 8224)));
     Ok(())
 }
 

@@ -13,7 +13,7 @@ ghost use Rattle.table_tests.specs.Outputs.{ClearsJust, FrameAnswer, FrameSteps,
 ghost use Rattle.table_tests.specs.Work.{HasBlock, IsQuietBeside, KeepsBeside, LanesHome, OnlyPins, PinsBlock, PinsNone, SameLatches};
 
 use crate::entering::enter_block;
-use crate::fixture::{Place, Table};
+use crate::fixture::{Table, TableSeat};
 use crate::loading::load_block;
 use crate::logging::put;
 use block_tag::Tag;
@@ -34,7 +34,7 @@ pub enum FlushError {
 }
 
 /// Clears BM_JUST_DIRTIED under the header, so that who dirties the frame from now on is seen as the write ends.
-fn clear_just<R: Wait>(rt: &R, table: &Table, seat: &mut Place, frame: u32, _tag: Tag)
+fn clear_just<R: Wait>(rt: &R, table: &Table, seat: &mut TableSeat, frame: u32, _tag: Tag)
     requires quiet { IsQuietBeside table.now frame seat.old }
     requires frame { frame < frames_of table.now }
     requires writes { Shares Output _tag (link seat.old.me.0 frame) }
@@ -54,7 +54,7 @@ fn clear_just<R: Wait>(rt: &R, table: &Table, seat: &mut Place, frame: u32, _tag
 fn write_lane<R: Wait>(
     rt: &R,
     table: &Table,
-    seat: &mut Place,
+    seat: &mut TableSeat,
     frame: u32,
     tag: Tag,
     page: &Page,
@@ -87,7 +87,7 @@ fn write_lane<R: Wait>(
 fn write_logged<R: Wait>(
     rt: &R,
     table: &Table,
-    seat: &mut Place,
+    seat: &mut TableSeat,
     frame: u32,
     tag: Tag,
     page: &Page,
@@ -122,7 +122,7 @@ fn write_logged<R: Wait>(
 fn write_out<R: Wait>(
     rt: &R,
     table: &Table,
-    seat: &mut Place,
+    seat: &mut TableSeat,
     right: IoRight,
     tag: Tag,
     page: &mut Page,
@@ -157,7 +157,7 @@ fn write_out<R: Wait>(
 pub fn flush_frame<R: Wait>(
     rt: &R,
     table: &Table,
-    seat: &mut Place,
+    seat: &mut TableSeat,
     frame: u32,
     tag: Tag,
     page: &mut Page,
@@ -199,7 +199,7 @@ pub struct Flushes {
 pub fn flush_twice<R: Wait>(
     rt: &R,
     table: &Table,
-    seat: &mut Place,
+    seat: &mut TableSeat,
     frame: u32,
     tag: Tag,
     page: &mut Page,
