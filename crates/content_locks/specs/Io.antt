@@ -2,7 +2,7 @@
 use Rattle.std.specs.Prelude.{◌≡◌, ◌≢◌, ℕ, Bool, not, true, false, None}
 use Rattle.state_word.specs.declared.word.IoEnd.{IoEnd}
 use Rattle.state_word.specs.declared.word.StateWord.{StateWord}
-use Rattle.state_word.specs.Fields.{fields}
+use Rattle.state_word.specs.Fields.{fields, io_ended_fields, unlocked_fields}
 use Rattle.pin_core.specs.declared.view.Content.TheVariants.{Shared}
 use Rattle.pin_core.specs.declared.view.Role.TheVariants.{HandedOut, Absent}
 use Rattle.pin_core.specs.declared.view.Io.TheVariants.{Input, Output}
@@ -14,7 +14,7 @@ use Rattle.page_core.specs.Kinds as paged
 use Rattle.page_core.specs.Kinds.{EndsAs}
 use Rattle.frame_table.specs.declared.io_right.IoRight.{IoRight}
 use Rattle.frame_table.specs.Kinds.{pages, pins}
-use Rattle.frame_table.specs.Sees.{Looked, MarksBegun, SameMarks}
+use Rattle.frame_table.specs.Sees.{Looked, MarksBegun, MarksEnded, SameMarks}
 use Rattle.frame_table.specs.Tells.{Did, Looks, looking}
 use Rattle.frame_table.specs.Content.{begun_link, start_of}
 use Rattle.content_locks.specs.declared.io.TryIo.{TryIo}
@@ -81,13 +81,14 @@ pub record FindsNothing (input : Bool) (f : ℕ) (v w : View) : Type 0 where
   pub looks : Did looking f under looked seen
   pub unlocks : Did (pins unlock_header) f looked w word
 
--- The header was locked, and the read, or the write, ended
+-- The header was locked, and the read, or the write, ended; what is marked of it is made of the word that was held
 pub record EndsIo (end : IoEnd) (f : ℕ) (v w : View) : Type 0 where
   pub under : View
   pub was : ℕ
   pub word : ℕ
   pub locks : LocksHeader f v under was
   pub did : Did (pages (paged.end_io end)) f under w word
+  pub marks : MarksEnded (unlocked_fields (io_ended_fields end (fields word))) v w
 
 -- what one try leaves, and why
 abbrev pub TriedIo : Bool → ℕ → View → View → TryIo → Type 0

@@ -110,7 +110,7 @@ pub fn end_io<L: BlockLane, G: LogDevice, R: Wait>(
     requires view { CanEndIo end (link seat.old.me.0 right.frame) }
     ensures seat { SameSeat seat.old seat.new }
     ensures touches { Touches right.frame seat.old.me.0 seat.new.me.0 }
-    ensures marks { (ends : EndsIo end right.frame seat.old.me.0 seat.new.me.0) × MarksEnded (unlocked_fields (io_ended_fields end (fields ends.word))) seat.old.me.0 seat.new.me.0 }
+    ensures marks { (word : ℕ) × MarksEnded (unlocked_fields (io_ended_fields end (fields word))) seat.old.me.0 seat.new.me.0 }
     ensures ended { Looked (finished_link (link seat.old.me.0 right.frame)) (link seat.new.me.0 right.frame) }
     ensures did { EndsIo end right.frame seat.old.me.0 seat.new.me.0 }
 {

@@ -1,11 +1,17 @@
 use Rattle.std.proofs.Common.{ℕ, subst}
-use Rattle.content_locks.specs.Io.{LocksHeader}
-use Rattle.content_locks.proofs.InOut.{can_finish, no_write_still, finished_back}
 use Rattle.frame_table.proofs.Marks.{ended_marks_on}
+use Rattle.content_locks.specs.Io.{LocksHeader}
 use Rattle.content_locks.proofs.io.end_io.Goals as goal
 
 pub returns-clause-marks : goal.returns-clause-marks
-returns-clause-marks g c = let d = c.lock_header-word.ensures.did in (
-  record { under = c.lock_header-word.new.seat.me.0; was = d.1; word = c.lock_header-word.result; locks = subst (λ (f : ℕ). LocksHeader f c.args.seat.now.me.0 c.lock_header-word.new.seat.me.0 d.1) c.frame.ensures record { before = d.0; looks = d.2; did = d.3 }; did = c.finish_io.ensures.did },
-  ended_marks_on _ _ _ _ c.lock_header-word.ensures.marks c.finish_io.ensures.marks,
-)
+returns-clause-marks g c = (c.lock_header-word.result, ended_marks_on _ _ _ _ c.lock_header-word.ensures.marks c.finish_io.ensures.marks)
+
+pub returns-clause-did : goal.returns-clause-did
+returns-clause-did g c = let d = c.lock_header-word.ensures.did in record {
+  under = c.lock_header-word.new.seat.me.0;
+  was = d.1;
+  word = c.lock_header-word.result;
+  locks = subst (λ (f : ℕ). LocksHeader f c.args.seat.now.me.0 c.lock_header-word.new.seat.me.0 d.1) c.frame.ensures record { before = d.0; looks = d.2; did = d.3 };
+  did = c.finish_io.ensures.did;
+  marks = ended_marks_on _ _ _ _ c.lock_header-word.ensures.marks c.finish_io.ensures.marks;
+}
