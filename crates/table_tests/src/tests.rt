@@ -365,12 +365,11 @@ fn a_flush_raises_the_flushed_position_to_the_end(rt: HostRuntime) -> Result<(),
     let mut page = one_item(rt.alloc(), 7)?;
     let (table, mut seat) = table(rt.alloc())?;
     let tag = block(&table, 5);
-    let before = positions(&table, &mut seat);
     let tries = put_twice(&rt, &table, &mut seat, 3, tag, &mut page, 1);
-    let after = positions(&table, &mut seat);
+    let positions = positions(&table, &mut seat);
     let (_lanes, _log) = table.close(seat);
     assert_eq!(rt; tries.map(|tries| tries.flushed), Some(Ok(())));
-    assert_eq!(rt; (before, after), ((0, 0), (16448, 8224)));
+    assert_eq!(rt; positions, (16448, 8224));
     Ok(())
 }
 
