@@ -1,5 +1,5 @@
 -- A lane goes out with its holder, and comes back with the call that was made of it.
-use Rattle.std.proofs.Common.{◌≡◌, ◌≢◌, ℕ, ◌+◌, ◌<◌, ◌≤◌, ◌%◌, ◌^◌, Bool, true, false, Some, None, List, [], ◌∷◌, get_or, set, length, get_or-set_same, get_or-set_other, append-nil, sym, refl, ap, ◌∙◌, subst, arith}
+use Rattle.std.proofs.Common.{max, ◌≡◌, ◌≢◌, ℕ, ◌+◌, ◌<◌, ◌≤◌, ◌%◌, ◌^◌, Bool, true, false, Some, None, List, [], ◌∷◌, get_or, set, length, get_or-set_same, get_or-set_other, append-nil, sym, refl, ap, ◌∙◌, subst, arith}
 use Rattle.std.proofs.Math.Nat.{mod-eq_of_lt}
 use Rattle.std.proofs.Math.ListN.{get_or-eq_default}
 use Rattle.std.specs.declared.snapshot.Snapshot.{Snapshot}
@@ -32,7 +32,7 @@ use Rattle.pin_core.specs.declared.view.TakenLane.{TakenLane}
 use Rattle.pin_core.specs.State.{Frame, Page, link, lane_hold, no_lane, idle, sum_of_met}
 use Rattle.pin_core.specs.Tallies.{flag_weight}
 use Rattle.history_core.specs.State.{State, Lane}
-use Rattle.history_core.specs.Lanes.{LaneKind, lane_out, fail_read, write_block, fail_write, sync_lane, fail_sync, lane_back, CanReturnLane, CountsFault, CanCall, LaneLink, is_failed_read, is_failed_write, lane_after, lane_hold_after, Rises}
+use Rattle.history_core.specs.Lanes.{swept_by, LaneKind, lane_out, fail_read, write_block, fail_write, sync_lane, fail_sync, lane_back, CanReturnLane, CountsFault, CanCall, LaneLink, is_failed_read, is_failed_write, lane_after, lane_hold_after, Rises}
 use Rattle.history_core.specs.Steps.{Event, Run}
 use Rattle.history_core.specs.Steps as steps
 use Rattle.history_core.specs.Laws.{Laws}
@@ -165,7 +165,7 @@ module _ {L G : Type 0} (d : Devices L G) (o : Opening L G) where
           moves = subst (λ (w : View). Moves d o h.state comes.next id me.0 w (place.Of (turn.Lane q))) (out_view_is q taken me.0 held unnoted) comes.moves
 
           is_away : IsHome (place.Of (turn.Lane q)) (set h.state.pool.core.views id (out_view q taken me.0)) → ⊥
-          is_away all_home = let wide = h.laws.invariant.wide id me.0 here live in let no : true ≡ false = sym (ap (λ (x : LaneHold). is_some x.out) (get_or-set_same me.0.lanes q (out_lane taken me.0.flushed) no_lane (let z = low in omega arith))) ∙ all_home id (out_view q taken me.0) (set_here h.state.pool.core.views id me.0 (out_view q taken me.0) here) in absurd (cc)
+          is_away all_home = let wide = h.laws.invariant.wide id me.0 here live in let no : true ≡ false = sym (ap (λ (x : LaneHold). is_some x.out) (get_or-set_same me.0.lanes q (out_lane taken me.0.flushed (lane_hold me.0 q)) no_lane (let z = low in omega arith))) ∙ all_home id (out_view q taken me.0) (set_here h.state.pool.core.views id me.0 (out_view q taken me.0) here) in absurd (cc)
       of_value (value.Page p) home gives_it = absurd gives_it
       of_value (value.Map m) home gives_it = absurd gives_it
       of_value (value.Log g) home gives_it = absurd gives_it
@@ -219,11 +219,11 @@ module _ {L G : Type 0} (d : Devices L G) (o : Opening L G) where
     in_view = let wide = h.laws.invariant.wide id v h.there h.live in let low = h.below in omega arith
 
     -- no fault is counted, or one is
-    quiet : (now : Lane) (c : LaneChange) → now.read_faults ≡ ln.read_faults → now.write_faults ≡ ln.write_faults → CanReturnLane false now (record hold { change = c })
-    quiet now c reads writes = record { out = not_home; counts = λ taken e. subst (λ (t : TakenLane). CountsFault false t now c) (same_Some _ _ (sym m.out ∙ e)) record { failed = λ no. absurd (cc); read_rose = λ lt. absurd (omega (arith, reads_same, reads)); write_rose = λ lt. absurd (omega (arith, writes_same, writes)) } }
+    quiet : (now : Lane) (c : LaneChange) → is_failed_write c ≡ false → now.read_faults ≡ ln.read_faults → now.write_faults ≡ ln.write_faults → CanReturnLane false now (record hold { change = c })
+    quiet now c good reads writes = record { out = not_home; counts = λ taken e. subst (λ (t : TakenLane). CountsFault false t now c) (same_Some _ _ (sym m.out ∙ e)) record { failed = λ no. absurd (cc); all = λ yes. absurd (cc); read_rose = λ lt. absurd (omega (arith, reads_same, reads)); write_rose = λ lt. absurd (omega (arith, writes_same, writes)) } }
 
     faulty : (now : Lane) (c : LaneChange) → (is_failed_read c || is_failed_write c) ≡ true → CanReturnLane true now (record hold { change = c })
-    faulty now c failed = record { out = not_home; counts = λ taken e. record { failed = λ yes. failed; read_rose = λ lt. refl; write_rose = λ lt. refl } }
+    faulty now c failed = record { out = not_home; counts = λ taken e. record { failed = λ yes. failed; all = λ yes. refl; read_rose = λ lt. refl; write_rose = λ lt. refl } }
 
     read_rises : Rose (d.read_faults m.before) (d.read_faults after) → Rises ln.read_faults (d.read_faults after)
     read_rises rose = subst (λ (n : ℕ). Rises n (d.read_faults after)) (sym reads_same) (rises (d.read_faults m.before) (d.read_faults after) (reads_fit m.before) (reads_fit after) rose)
@@ -285,13 +285,13 @@ module _ {L G : Type 0} (d : Devices L G) (o : Opening L G) where
         now_right : (link (written_view k s q f v) f).io ≡ Output
         now_right = ap (λ (x : Link). x.io) (written_link_is d o k s id q f v write_links) ∙ can.right
 
-        now_change : (c : LaneChange) → lane_hold_after k v.flushed hold ≡ record hold { change = c } → (lane_hold (written_view k s q f v) q).change ≡ c
+        now_change : (c : LaneChange) → lane_hold_after k v.flushed (swept_by v) hold ≡ record hold { change = c } → (lane_hold (written_view k s q f v) q).change ≡ c
         now_change c e = ap (λ (x : LaneHold). x.change) (written_hold_is d o k s id q f v h ∙ e)
 
       wrote : LaneDid (lanes_of d) m.before after (Written f tag page) → Returns s id q v (back_events (lanes_of d) q after (Written f tag page) id) (back_view (lanes_of d) q after (Written f tag page) v) after
       wrote did = let word : ℕ = packed_tag tag in let k : LaneKind = write_block f word p in returns_as s id q v _ _ _ after (view_written k (lane_change.Written f word p) false true s id q f v in_view write_links refl refl refl) record {
         lane = lane_after k ln;
-        comes = writes_noted d o k false s id q f v h write_frames can_call (refl, can_write p refl write_page) (record { taken = refl; reads = refl; writes = refl }) (quiet (lane_after k ln) (lane_change.Written f word p) refl refl) true
+        comes = writes_noted d o k false s id q f v h write_frames can_call (refl, can_write p refl write_page) (record { taken = refl; reads = refl; writes = refl }) (quiet (lane_after k ln) (lane_change.Written f word p) refl refl refl) true
             (p, record { was_written = now_change k (lane_change.Written f word p) refl ∙ ap (λ (n : ℕ). lane_change.Written f n p) (sym (now_tag k)); lane = now_lane k; page = now_page k; right = record { right = now_right k } });
         is = took_page d o.catalog.value o.config.lanes q m.before after ln (lane_after k ln) was refl (reads_same ∙ sym did.1.reads) (writes_same ∙ sym did.1.writes) tag p block did.0 refl refl;
       }
@@ -308,29 +308,29 @@ module _ {L G : Type 0} (d : Devices L G) (o : Opening L G) where
     returns : (c : LaneCall) → LaneDid (lanes_of d) m.before after c → MayNote o.catalog.value o.config.lanes q c v → Returns s id q v (back_events (lanes_of d) q after c id) (back_view (lanes_of d) q after c v) after
     returns Untouched did may = record {
       lane = ln;
-      comes = one_step d o (lane_back false) s id q v h (quiet ln hold.change refl refl) (subst (λ (c : LaneChange). steps.NoWrite c) (sym m.once) tt) (record { taken = refl; reads = refl; writes = refl });
+      comes = one_step d o (lane_back false) s id q v h (quiet ln hold.change (ap is_failed_write m.once) refl refl) (subst (λ (c : LaneChange). steps.NoWrite c) (sym m.once) tt) (record { taken = refl; reads = refl; writes = refl });
       is = subst (λ (x : L). IsLane d o.catalog.value o.config.lanes q x ln) (sym did) was;
     }
     returns (Read f tag page) did may = let word : ℕ = packed_tag tag in let inside = in_frames f (right_in_view v f Input may.1.right (λ e. absurd (cc))) in
         returns_as s id q v _ _ _ after (view_read word page.value s id q f v in_view) record {
           lane = ln;
-          comes = reads_noted d o word page.value s id q f v h inside (record { call = can_call; given = gave_stored tag page.value may.0 did.2 }) (number_placed s q tag h.opened may.0) (quiet ln (lane_change.Read word page.value) refl refl) (tag_there f word inside may.1.remembered) may.1.right may.1.fresh;
+          comes = reads_noted d o word page.value s id q f v h inside (record { call = can_call; given = gave_stored tag page.value may.0 did.2 }) (number_placed s q tag h.opened may.0) (quiet ln (lane_change.Read word page.value) refl refl refl) (tag_there f word inside may.1.remembered) may.1.right may.1.fresh;
           is = kept_lane d o.catalog.value o.config.lanes q m.before after ln ln was refl (reads_same ∙ sym did.1.reads) (writes_same ∙ sym did.1.writes) did.0 refl refl;
         }
     returns (ReadFailed tag) did may = let word : ℕ = packed_tag tag in let k : LaneKind = fail_read word (d.read_faults after) in
-        returns_as s id q v _ _ _ after (view_alone k (lane_change.ReadFailed word) true q v in_view refl refl) record {
+        returns_as s id q v _ _ _ after (view_alone k (lane_hold v q) (lane_change.ReadFailed word) true q v in_view refl refl) record {
           lane = lane_after k ln;
           comes = calls_alone d o k true s id q v h (record { call = can_call; rises = read_rises did.1.reads }) (number_placed s q tag h.opened may) (record { taken = refl; reads = refl; writes = refl }) (faulty (lane_after k ln) (lane_change.ReadFailed word) refl) tt;
           is = kept_lane d o.catalog.value o.config.lanes q m.before after ln (lane_after k ln) was refl refl (writes_same ∙ sym did.1.writes) did.0 refl refl;
         }
     returns (Written f tag page) did may = wrote f tag page may.0 may.1 did
     returns (WriteFailed f tag page) did may = write_failed f tag page may.0 may.1 did
-    returns Synced did may = returns_as s id q v _ _ _ after (view_alone sync_lane lane_change.Synced false q v in_view refl refl) record {
+    returns Synced did may = returns_as s id q v _ _ _ after (view_alone sync_lane (record (lane_hold v q) { swept = max (lane_hold v q).swept (swept_by v) }) lane_change.Synced false q v in_view refl refl) record {
       lane = lane_after sync_lane ln;
-      comes = calls_alone d o sync_lane false s id q v h can_call tt (record { taken = refl; reads = refl; writes = refl }) (quiet (lane_after sync_lane ln) lane_change.Synced refl refl) tt;
+      comes = calls_alone d o sync_lane false s id q v h can_call tt (record { taken = refl; reads = refl; writes = refl }) (let x = quiet (lane_after sync_lane ln) lane_change.Synced refl refl refl in record { out = x.out; counts = x.counts }) tt;
       is = kept_lane d o.catalog.value o.config.lanes q m.before after ln (lane_after sync_lane ln) was refl (reads_same ∙ sym did.1.reads) (writes_same ∙ sym did.1.writes) did.0 refl refl;
     }
-    returns SyncFailed did may = let k : LaneKind = fail_sync (d.write_faults after) in returns_as s id q v _ _ _ after (view_alone k lane_change.SyncFailed true q v in_view refl refl) record {
+    returns SyncFailed did may = let k : LaneKind = fail_sync (d.write_faults after) in returns_as s id q v _ _ _ after (view_alone k (lane_hold v q) lane_change.SyncFailed true q v in_view refl refl) record {
       lane = lane_after k ln;
       comes = calls_alone d o k true s id q v h (record { call = can_call; rises = write_rises did.1.writes }) tt (record { taken = refl; reads = refl; writes = refl }) (faulty (lane_after k ln) lane_change.SyncFailed refl) tt;
       is = kept_lane d o.catalog.value o.config.lanes q m.before after ln (lane_after k ln) was refl (reads_same ∙ sym did.1.reads) refl did.0 refl refl;
@@ -431,6 +431,6 @@ module _ (relations : List RelEntry) (lanes q f : ℕ) (tag : Tag) (page : Page)
   write_may (Err x) Synced can wrong = absurd wrong
   write_may (Err x) SyncFailed can wrong = absurd wrong
 
-pub may_return : {L : Type 0} (d : LaneDevices L) (known : Bool) (relations : List RelEntry) (lanes q flushed : ℕ) (v : View) (before : L) (l : NotedLane L) → lane_hold v q ≡ out_lane (taken_of d relations lanes q before) flushed → IsTaken d known relations lanes q before → LaneDid d before l.device l.call → MayNote relations lanes q l.call v
+pub may_return : {L : Type 0} (d : LaneDevices L) (known : Bool) (relations : List RelEntry) (lanes q flushed : ℕ) (h : LaneHold) (v : View) (before : L) (l : NotedLane L) → lane_hold v q ≡ out_lane (taken_of d relations lanes q before) flushed h → IsTaken d known relations lanes q before → LaneDid d before l.device l.call → MayNote relations lanes q l.call v
     → MayReturn d known relations lanes q v l
-may_return d known relations lanes q flushed v before l hold taken did may = record { before = before; out = ap (λ (h : LaneHold). h.out) hold; once = ap (λ (h : LaneHold). h.change) hold; taken = taken; did = did; may = may }
+may_return d known relations lanes q flushed h v before l hold taken did may = record { before = before; out = ap (λ (h : LaneHold). h.out) hold; once = ap (λ (h : LaneHold). h.change) hold; taken = taken; did = did; may = may }

@@ -9,6 +9,7 @@ pub mod Seeing
 pub mod Told
 pub mod Marks
 pub mod Splitting
+pub mod Stored
 pub mod Resting
 pub mod Behind
 pub mod Origins
@@ -27,4 +28,5 @@ pub mod LogDevices
 pub mod LogNames
 pub mod LogWork
 pub mod Entering
+pub mod Events
 pub mod LogCalling

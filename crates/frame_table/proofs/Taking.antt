@@ -25,6 +25,7 @@ use Rattle.page_core.specs.Steps as page_steps
 use Rattle.history_core.specs.State.{State}
 use Rattle.history_core.specs.State as history
 use Rattle.history_core.specs.Lanes as lanes
+use Rattle.history_core.specs.Lanes.{swept_by}
 use Rattle.history_core.specs.Steps.{Step, pools}
 use Rattle.history_core.specs.Steps as steps
 use Rattle.grid.proofs.Lists.{put_here, put_else, put_at}
@@ -72,9 +73,9 @@ lane_same : (takes : Bool) (ln : history.Lane) → SameLane ln (lanes.lane_after
 lane_same true ln = record { known = refl; stored = refl; failed = refl; reads = refl; writes = refl; reads_at_start = refl; writes_at_start = refl }
 lane_same false ln = record { known = refl; stored = refl; failed = refl; reads = refl; writes = refl; reads_at_start = refl; writes_at_start = refl }
 
-lane_out_same : (takes : Bool) (flushed : ℕ) (ln : history.Lane) (h : LaneHold) → (lanes.lane_hold_after (lane_kind takes) flushed h).out ≡ h.out
-lane_out_same true flushed ln h = refl
-lane_out_same false flushed ln h = refl
+lane_out_same : (takes : Bool) (flushed swept : ℕ) (ln : history.Lane) (h : LaneHold) → (lanes.lane_hold_after (lane_kind takes) flushed swept h).out ≡ h.out
+lane_out_same true flushed swept ln h = refl
+lane_out_same false flushed swept ln h = refl
 
 -- two latches with one word are one
 same_latch : (n lanes : ℕ) (x y : Turn) → lanes ≤ 16 → HasTurn lanes x → HasTurn lanes y → latch_place n x ≡ latch_place n y → x ≡ y
@@ -112,7 +113,7 @@ turned_out takes (Partition p) s v (place.Of (Lane q)) = refl
 turned_out takes (Partition p) s v (place.Of Log) = refl
 turned_out takes (Lane p) s v (place.Page f) = refl
 turned_out takes (Lane p) s v (place.Of (Partition q)) = refl
-turned_out takes (Lane p) s v (place.Of (Lane q)) = ap (λ (z : Option TakenLane). is_some z) (same_at (λ (h : LaneHold). h.out) v.lanes p q (lanes.lane_hold_after (lane_kind takes) v.flushed (lane_hold v p)) no_lane (lane_out_same takes v.flushed (s.lane p) (lane_hold v p)))
+turned_out takes (Lane p) s v (place.Of (Lane q)) = ap (λ (z : Option TakenLane). is_some z) (same_at (λ (h : LaneHold). h.out) v.lanes p q (lanes.lane_hold_after (lane_kind takes) v.flushed (swept_by v) (lane_hold v p)) no_lane (lane_out_same takes v.flushed (swept_by v) (s.lane p) (lane_hold v p)))
 turned_out takes (Lane p) s v (place.Of Log) = refl
 turned_out takes Log s v (place.Page f) = refl
 turned_out takes Log s v (place.Of (Partition q)) = refl
@@ -311,8 +312,8 @@ turn_work takes x v w d = subst (SameWork v) (sym d.after) (work_after takes x d
 
 turned_so : (takes : Bool) (x : Turn) (s : State) (v : View) → IsInside x s → length v.partitions ≡ s.pool.core.partitions → length v.lanes ≡ s.lanes → IsTurned takes x v (view_turned takes x s v)
 turned_so takes (Partition p) s v inside parts_wide lanes_wide = (get_or-set_same v.partitions p (parts.hold_after (part_kind takes) (hold v p)) no_partition (omega arith), (λ q n. get_or-set_other v.partitions p q (parts.hold_after (part_kind takes) (hold v p)) no_partition n), refl, refl)
-turned_so true (Lane q) s v inside parts_wide lanes_wide = (get_or-set_same v.lanes q (lanes.lane_hold_after (lane_kind true) v.flushed (lane_hold v q)) no_lane (omega arith), (λ r n. get_or-set_other v.lanes q r (lanes.lane_hold_after (lane_kind true) v.flushed (lane_hold v q)) no_lane n), refl, refl)
-turned_so false (Lane q) s v inside parts_wide lanes_wide = (get_or-set_same v.lanes q (lanes.lane_hold_after (lane_kind false) v.flushed (lane_hold v q)) no_lane (omega arith), (λ r n. get_or-set_other v.lanes q r (lanes.lane_hold_after (lane_kind false) v.flushed (lane_hold v q)) no_lane n), refl, refl)
+turned_so true (Lane q) s v inside parts_wide lanes_wide = (get_or-set_same v.lanes q (lanes.lane_hold_after (lane_kind true) v.flushed (swept_by v) (lane_hold v q)) no_lane (omega arith), (λ r n. get_or-set_other v.lanes q r (lanes.lane_hold_after (lane_kind true) v.flushed (swept_by v) (lane_hold v q)) no_lane n), refl, refl)
+turned_so false (Lane q) s v inside parts_wide lanes_wide = (get_or-set_same v.lanes q (lanes.lane_hold_after (lane_kind false) v.flushed (swept_by v) (lane_hold v q)) no_lane (omega arith), (λ r n. get_or-set_other v.lanes q r (lanes.lane_hold_after (lane_kind false) v.flushed (swept_by v) (lane_hold v q)) no_lane n), refl, refl)
 turned_so takes Log s v inside parts_wide lanes_wide = (refl, refl, refl)
 
 pub turn_after : (takes : Bool) (x : Turn) (v w : View) → DidTurn takes x v w → IsTurned takes x v w

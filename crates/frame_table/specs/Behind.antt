@@ -11,7 +11,7 @@ use Rattle.pin_core.specs.State.{Page, link}
 use Rattle.history_core.specs.State.{State, next_hand}
 use Rattle.history_core.specs.Laws.{Laws}
 use Rattle.history_core.specs.Steps as steps
-use Rattle.history_core.specs.Steps.{Event, aside, stepped, looked, has_loaded, has_begun, has_read}
+use Rattle.history_core.specs.Steps.{Event, aside, stepped, ticked, looked, has_loaded, has_begun, has_read}
 use Rattle.table_rule.specs.declared.value.Value.{Value}
 use Rattle.table_rule.specs.Layout.{end_place, flushed_place, hand_place}
 
@@ -89,7 +89,7 @@ view_of begin_checkpoint found v = has_begun found (looked (seen.LogEnd found) v
 view_of load_flushed found v = looked (seen.Flushed found) (record v { flushed = found })
 view_of raise_flushed found v = stepped v
 view_of load_hand found v = looked (seen.Hand found) v
-view_of add_hand found v = stepped v
+view_of add_hand found v = ticked v
 
 -- the flushed position and the hand after it
 abbrev pub flushed_of : WordKind → State → ℕ

@@ -1,5 +1,5 @@
 -- A lane goes out with the holder of its latch, and comes back with the call that was made of it.
-use Rattle.std.specs.Prelude.{◌≡◌, ◌≢◌, ℕ, ◌+◌, ◌≤◌, Bool, true, false, List, [], ◌∷◌, ◌++◌, slice_set, Some, None, is_some, ◌||◌}
+use Rattle.std.specs.Prelude.{◌≡◌, ◌≢◌, ℕ, ◌+◌, ◌≤◌, Bool, true, false, List, [], ◌∷◌, ◌++◌, max, slice_set, Some, None, is_some, ◌||◌}
 use mathlib.Core.Option.{some}
 use mathlib.Core.Option as slot
 use lib.ListN.{get_elem?}
@@ -22,7 +22,7 @@ use Rattle.pin_core.specs.declared.view.View.{View}
 use Rattle.pin_core.specs.State.{Page, link, lane_hold, sum_of_met}
 use Rattle.page_core.specs.Kinds.{note_read, note_write}
 use Rattle.history_core.specs.State.{State}
-use Rattle.history_core.specs.Lanes.{lane_out, read_block, fail_read, write_block, fail_write, sync_lane, fail_sync, lane_back}
+use Rattle.history_core.specs.Lanes.{lane_out, read_block, fail_read, write_block, fail_write, sync_lane, fail_sync, lane_back, swept_by}
 use Rattle.history_core.specs.Steps.{Event, Run}
 use Rattle.history_core.specs.Steps as steps
 use Rattle.history_core.specs.Laws.{Laws}
@@ -61,15 +61,15 @@ abbrev pub out_events : ℕ → TakenLane → ℕ → List Event
 out_events q taken i = steps.lane i q (lane_out taken) ∷ []
 
 -- what the view has of the latch while the lane is out, and once it is back
-abbrev pub out_lane : TakenLane → ℕ → LaneHold
-out_lane taken flushed = record { held = true; out = Some taken; change = lane_change.Untouched; flushed = flushed }
+abbrev pub out_lane : TakenLane → ℕ → LaneHold → LaneHold
+out_lane taken flushed h = record h { held = true; out = Some taken; change = lane_change.Untouched; flushed = flushed }
 
 abbrev pub back_lane : LaneHold → LaneHold
 back_lane h = record h { out = None; change = lane_change.Untouched }
 
 -- what is made of the view
 abbrev pub out_view : ℕ → TakenLane → View → View
-out_view q taken v = record v { lanes = slice_set v.lanes q (out_lane taken v.flushed); steps = v.steps + 1 }
+out_view q taken v = record v { lanes = slice_set v.lanes q (out_lane taken v.flushed (lane_hold v q)); steps = v.steps + 1 }
 
 -- The call, and what is noted of it at a frame
 module _ {L : Type 0} (d : LaneDevices L) (q : ℕ) (after : L) where
@@ -126,11 +126,16 @@ is_sync Synced = true
 is_sync SyncFailed = true
 is_sync _ = false
 
+-- what the view has of the latch after the call: a sync sweeps the lane
+abbrev pub swept_lane : LaneCall → View → LaneHold → LaneHold
+swept_lane Synced v h = record h { swept = max h.swept (swept_by v) }
+swept_lane _ v h = h
+
 -- What the return makes of the view
 abbrev pub back_view : {L : Type 0} → LaneDevices L → ℕ → L → LaneCall → View → View
 back_view d q after call v = record v {
   links = links_of call v;
-  lanes = slice_set v.lanes q (back_lane (lane_hold v q));
+  lanes = slice_set v.lanes q (back_lane (swept_lane call v (lane_hold v q)));
   steps = v.steps + steps_of call;
   device_calls = v.device_calls ++ calls_of d q after call;
   met = sum_of_met v.met (met_of call);

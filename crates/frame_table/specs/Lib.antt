@@ -11,3 +11,4 @@ pub mod LaneWork
 pub mod Entering
 pub mod LogWork
 pub mod Values
+pub mod Stores

@@ -9,7 +9,7 @@ ghost use Rattle.table_rule.specs.declared.value.Value.TheVariants as value;
 ghost use Rattle.table_rule.specs.LaneCalls.{lane_devices};
 ghost use Rattle.table_rule.specs.Layout.{latch_place, slot_of};
 ghost use Rattle.frame_table.specs.Sees.{CanTurn, frames_of, lanes_in, opened_of, relations_of};
-ghost use Rattle.frame_table.specs.LaneWork.{DidSteps, IsNoted, IsTakenFrom, LaneStep, MayReturnTo, WentOut, back_events, back_lane, back_view, out_events, out_lane, out_view, taken_at, was_known};
+ghost use Rattle.frame_table.specs.LaneWork.{DidSteps, IsNoted, IsTakenFrom, LaneStep, MayReturnTo, WentOut, back_events, back_lane, back_view, out_events, out_lane, out_view, swept_lane, taken_at, was_known};
 
 use crate::lane_plays::{AtLane, Back, LaneOut, Returns};
 use crate::table::FrameTable;
@@ -57,7 +57,7 @@ impl<L: BlockLane, G: LogDevice> FrameTable<L, G> {
         ensures untouched { result.call ≡ Untouched }
         ensures taken { IsTakenFrom (lane_devices L.contents L.failed_writes L.read_faults L.write_faults) self.now lane result.device }
         ensures view { seat.new.me.0 ≡ out_view lane (taken_at (lane_devices L.contents L.failed_writes L.read_faults L.write_faults) self.now lane result.device) seat.old.me.0 }
-        ensures out { LaneStep lane (out_lane (taken_at (lane_devices L.contents L.failed_writes L.read_faults L.write_faults) self.now lane result.device) seat.old.me.0.flushed) seat.old.me.0 seat.new.me.0 }
+        ensures out { LaneStep lane (out_lane (taken_at (lane_devices L.contents L.failed_writes L.read_faults L.write_faults) self.now lane result.device) seat.old.me.0.flushed (lane_hold seat.old.me.0 lane)) seat.old.me.0 seat.new.me.0 }
         ensures did { DidSteps (out_events lane (taken_at (lane_devices L.contents L.failed_writes L.read_faults L.write_faults) self.now lane result.device)) seat.old.me.0 seat.new.me.0 }
     {
         let place = self.latch(Turn::Lane(lane));
@@ -100,7 +100,7 @@ impl<L: BlockLane, G: LogDevice> FrameTable<L, G> {
         ensures seat { (seat.new.table_id ≡ seat.old.table_id) × (seat.new.id ≡ seat.old.id) }
         ensures hand { seat.new.me.1 ≡ rest seat.old.me.1 }
         ensures view { seat.new.me.0 ≡ back_view (lane_devices L.contents L.failed_writes L.read_faults L.write_faults) lane noted.device noted.call seat.old.me.0 }
-        ensures back { LaneStep lane (back_lane (lane_hold seat.old.me.0 lane)) seat.old.me.0 seat.new.me.0 }
+        ensures back { LaneStep lane (back_lane (swept_lane noted.call seat.old.me.0 (lane_hold seat.old.me.0 lane))) seat.old.me.0 seat.new.me.0 }
         ensures noted { IsNoted noted.call seat.old.me.0 seat.new.me.0 }
         ensures did { DidSteps (back_events (lane_devices L.contents L.failed_writes L.read_faults L.write_faults) lane noted.device noted.call) seat.old.me.0 seat.new.me.0 }
     {

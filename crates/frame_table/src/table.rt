@@ -1,6 +1,14 @@
 //! The table.
-ghost use Rattle.std.specs.Prelude.{◌≡◌, ◌≤◌, length};
+ghost use Rattle.std.specs.Prelude.{◌≡◌, ◌≢◌, ◌≤◌, Bool, length};
+ghost use Rattle.state_word.specs.Fields.{dirtied_fields, io_ended_fields, pinned_fields, unlocked_fields, usage_down_fields};
+ghost use Rattle.state_word.specs.declared.word.IoEnd.{IoEnd};
+ghost use Rattle.pin_core.specs.Kinds as pin_kinds;
+ghost use Rattle.page_core.specs.Kinds as page_kinds;
 ghost use Rattle.table_rule.specs.Layout as layout;
+ghost use Rattle.table_rule.specs.Shows.{devices};
+ghost use Rattle.frame_table.specs.Kinds as kinds;
+ghost use Rattle.frame_table.specs.Kinds.{FrameKind, pages, part_of, pins};
+ghost use Rattle.frame_table.specs.Stores.{HandMustMove, Makes, MustStore};
 
 use atomic_table::Table;
 use block_tag::Catalog;
@@ -36,6 +44,16 @@ impl<L: BlockLane, G: LogDevice> FrameTable<L, G> {
     {
         &self.catalog
     }
+
+    /// What each call at a state word has to store, whatever the table is at that moment: whoever keeps the table's rule and tells of a step stores the word that the step makes of the word found. So with the clock's hand.
+    pub fn words_must_be_stored(&self)
+        ensures each { (k : FrameKind) → part_of k ≡ kinds.state_word → k ≢ pins pin_kinds.load_state → MustStore (devices L.contents L.failed_writes L.read_faults L.write_faults G.bytes G.synced G.faults) self.now.table.shared.key k (Makes k) }
+        ensures pin { (ring : Bool) → MustStore (devices L.contents L.failed_writes L.read_faults L.write_faults G.bytes G.synced G.faults) self.now.table.shared.key (pins (pin_kinds.pin ring)) (λ f found left. left ≡ pinned_fields ring found) }
+        ensures lowered { MustStore (devices L.contents L.failed_writes L.read_faults L.write_faults G.bytes G.synced G.faults) self.now.table.shared.key (pins pin_kinds.lower_usage) (λ f found left. left ≡ unlocked_fields (usage_down_fields found)) }
+        ensures ended { (end : IoEnd) → MustStore (devices L.contents L.failed_writes L.read_faults L.write_faults G.bytes G.synced G.faults) self.now.table.shared.key (pages (page_kinds.end_io end)) (λ f found left. left ≡ unlocked_fields (io_ended_fields end found)) }
+        ensures dirtied { MustStore (devices L.contents L.failed_writes L.read_faults L.write_faults G.bytes G.synced G.faults) self.now.table.shared.key (pages page_kinds.mark_dirty) (λ f found left. left ≡ dirtied_fields found) }
+        ensures hand { HandMustMove (devices L.contents L.failed_writes L.read_faults L.write_faults G.bytes G.synced G.faults) self.now.table.shared.key }
+    {}
 }
 
 /// There was no memory. The devices come back.

@@ -23,8 +23,8 @@ use Rattle.page_core.specs.Kinds.{Kind, Allowed, frame_after, dirties, starts_ou
 use Rattle.page_core.specs.Steps as page_steps
 use Rattle.history_core.specs.State.{Lane, State, Store, failed, opening}
 use Rattle.history_core.specs.Lanes as lane_kinds
-use Rattle.history_core.specs.Lanes.{LaneKind, LaneAllowed, lane_after, lane_hold_after, met_by, fault_of, syncs, is_failed_write}
-use Rattle.history_core.specs.Steps.{LaneAlone, Writes, Notes, Step, pools, lanes, writes, notes, logs, enters, reads, loads_end, begins, loads_flushed, raises, adds_hand, loads_hand, Event, Run, rests, goes, stepped, looked, aside, pool_after, logged_noting, pool_noting, paged, laned, has_loaded, has_read, has_begun, has_written}
+use Rattle.history_core.specs.Lanes.{swept_by, LaneKind, LaneAllowed, lane_after, lane_hold_after, met_by, fault_of, syncs, is_failed_write}
+use Rattle.history_core.specs.Steps.{LaneAlone, Writes, Notes, Step, pools, lanes, writes, notes, logs, enters, reads, loads_end, begins, loads_flushed, raises, adds_hand, loads_hand, Event, Run, rests, goes, stepped, ticked, looked, aside, pool_after, logged_noting, pool_noting, paged, laned, has_loaded, has_read, has_begun, has_written}
 use Rattle.history_core.specs.Log.{record_size}
 use Rattle.history_core.specs.Device as log_kinds
 use Rattle.history_core.specs.Device.{LogKind, view_logged}
@@ -96,17 +96,17 @@ no_fault true lane_change.Synced e = refl
 no_fault false change e = refl
 
 -- a step at a lane that is no failed write and no sync leaves the view quiet
-still_no_fault : (k : LaneKind) (s : State) (q : ℕ) (loaded : ℕ) (x : LaneHold) → LaneAlone k s q x → syncs k ≡ false → is_failed_write x.change ≡ false → (is_failed_write (lane_hold_after k loaded x).change ≡ false) × ((met_by k x).writes ≡ 0)
-still_no_fault lane_kinds.take_lane s q loaded x a e h = (h, refl)
-still_no_fault lane_kinds.leave_lane s q loaded x a e h = (h, refl)
-still_no_fault (lane_kinds.lane_out taken) s q loaded x a e h = (h, refl)
-still_no_fault (lane_kinds.read_block tag p) s q loaded x a e h = (refl, refl)
-still_no_fault (lane_kinds.fail_read tag faults) s q loaded x a e h = (refl, refl)
-still_no_fault (lane_kinds.write_block f tag p) s q loaded x a e h = absurd a
-still_no_fault (lane_kinds.fail_write f tag p faults) s q loaded x a e h = absurd a
-still_no_fault lane_kinds.sync_lane s q loaded x a e h = absurd (cc)
-still_no_fault (lane_kinds.fail_sync faults) s q loaded x a e h = absurd (cc)
-still_no_fault (lane_kinds.lane_back noted) s q loaded x a e h = (refl, no_fault noted x.change h)
+still_no_fault : (k : LaneKind) (s : State) (q : ℕ) (loaded swept : ℕ) (x : LaneHold) → LaneAlone k s q x → syncs k ≡ false → is_failed_write x.change ≡ false → (is_failed_write (lane_hold_after k loaded swept x).change ≡ false) × ((met_by k x).writes ≡ 0)
+still_no_fault lane_kinds.take_lane s q loaded swept x a e h = (h, refl)
+still_no_fault lane_kinds.leave_lane s q loaded swept x a e h = (h, refl)
+still_no_fault (lane_kinds.lane_out taken) s q loaded swept x a e h = (h, refl)
+still_no_fault (lane_kinds.read_block tag p) s q loaded swept x a e h = (refl, refl)
+still_no_fault (lane_kinds.fail_read tag faults) s q loaded swept x a e h = (refl, refl)
+still_no_fault (lane_kinds.write_block f tag p) s q loaded swept x a e h = absurd a
+still_no_fault (lane_kinds.fail_write f tag p faults) s q loaded swept x a e h = absurd a
+still_no_fault lane_kinds.sync_lane s q loaded swept x a e h = absurd (cc)
+still_no_fault (lane_kinds.fail_sync faults) s q loaded swept x a e h = absurd (cc)
+still_no_fault (lane_kinds.lane_back noted) s q loaded swept x a e h = (refl, no_fault noted x.change h)
 
 either_false : (a b : Bool) → a ≡ false → b ≡ false → (a || b) ≡ false
 either_false false false x y = refl
@@ -223,8 +223,8 @@ module _ (s : State) (h : Invariant s) (m : MarksLaw s) where
 
   lanes_marks : (i q : ℕ) (k : LaneKind) (v : View) → get_elem? views i ≡ some v → LaneAlone k s q (lane_hold v q) → MarksLaw (record s { pool = aside s.pool i (stepped (laned k q v v)); lane = put s.lane q (lane_after k (s.lane q)) })
   lanes_marks i q k v there alone none = let w : View = stepped (laned k q v v) in let more = or_more v.dirtied_or_synced (syncs k) in
-      let x = one_view i v w there more (λ quiet z. let y = quiet.views i v there in let c = still_no_fault k s q v.flushed (lane_hold v q) alone (or_right v.dirtied_or_synced (syncs k) (unmarked (v.dirtied_or_synced || syncs k) z)) (y.out q) in
-      laned_quiet v w q (lane_hold_after k v.flushed (lane_hold v q)) y.output (let l = y.met in let r = c.1 in omega arith) refl c.0 y) none in let holds = no_write_holds k s q (lane_hold v q) (s.lane q) alone in record {
+      let x = one_view i v w there more (λ quiet z. let y = quiet.views i v there in let c = still_no_fault k s q v.flushed (swept_by v) (lane_hold v q) alone (or_right v.dirtied_or_synced (syncs k) (unmarked (v.dirtied_or_synced || syncs k) z)) (y.out q) in
+      laned_quiet v w q (lane_hold_after k v.flushed (swept_by v) (lane_hold v q)) y.output (let l = y.met in let r = c.1 in omega arith) refl c.0 y) none in let holds = no_write_holds k s q (lane_hold v q) (s.lane q) alone in record {
         frames = x.0.frames;
         blocks = same_failed s q (lane_after k (s.lane q)) holds.failed x.0.blocks;
         views = x.1;
@@ -257,7 +257,7 @@ module _ (s : State) (h : Invariant s) (m : MarksLaw s) where
       → MarksLaw (record s { pool = pool_after k (pool_noting k s f) i f (laned (lane_kinds.lane_back noted) q v (paged k (pool_noting k s f) f v)); lane = put s.lane q (s.lane q) })
   notes_marks i q f noted k v there inside what none = let fr = s.pool.core.frame f in let b = block_of (logged_noting k s f) fr.tag in let w : View = laned (lane_kinds.lane_back noted) q v (paged k (pool_noting k s f) f v) in
       let more : mark_weight v ≤ mark_weight w = (let a = or_more v.dirtied_or_synced (dirties k) in let c = or_more (v.dirtied_or_synced || dirties k) false in omega arith) in let plain = notes_nothing k what in
-      let x = one_view i v w there more (λ quiet z. let y = quiet.views i v there in laned_quiet v w q (lane_hold_after (lane_kinds.lane_back noted) v.flushed (lane_hold v q)) (either_false v.had_output (starts_output k) y.output plain.1) (let l = y.met in let r = no_fault noted (lane_hold v q).change (y.out q) in omega arith) refl refl y) none in record {
+      let x = one_view i v w there more (λ quiet z. let y = quiet.views i v there in laned_quiet v w q (lane_hold_after (lane_kinds.lane_back noted) v.flushed (swept_by v) (lane_hold v q)) (either_false v.had_output (starts_output k) y.output plain.1) (let l = y.met in let r = no_fault noted (lane_hold v q).change (y.out q) in omega arith) refl refl y) none in record {
         frames = quiet_put s.pool.core.frame s.pool.core.frames f (frame_after k b fr) x.0.frames (pages_clean k b fr plain.0 (x.0.frames f inside));
         blocks = same_failed s q (s.lane q) refl x.0.blocks;
         views = x.1;
@@ -304,7 +304,7 @@ marks_kept (reads {s = s} i f tag p v there live inside a) h m = aside_marks s h
 marks_kept (loads_end {s = s} i v there live) h m = aside_marks s h m i v (has_loaded s.end v) there (omega arith) refl refl refl
 marks_kept (begins {s = s} i v there live) h m = aside_marks s h m i v (has_begun s.end (looked (seen.LogEnd s.end) v)) there (omega arith) refl refl refl
 marks_kept (loads_flushed {s = s} i v there live) h m = aside_marks s h m i v (looked (seen.Flushed s.flushed) (record v { flushed = s.flushed })) there (omega arith) refl refl refl
-marks_kept (adds_hand {s = s} i v there live) h m = λ none. let x = aside_marks s h m i v (stepped v) there (omega arith) refl refl refl none in record { frames = x.frames; blocks = x.blocks; views = x.views }
+marks_kept (adds_hand {s = s} i v there live) h m = λ none. let x = aside_marks s h m i v (ticked v) there (omega arith) refl refl refl none in record { frames = x.frames; blocks = x.blocks; views = x.views }
 marks_kept (loads_hand {s = s} i v there live) h m = aside_marks s h m i v (looked (seen.Hand s.hand) v) there (omega arith) refl refl refl
 marks_kept (raises {s = s} i v there live synced) h m = λ none. let x = aside_marks s h m i v (stepped v) there (omega arith) refl refl refl none in record { frames = x.frames; blocks = x.blocks; views = x.views }
 

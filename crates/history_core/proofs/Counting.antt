@@ -17,7 +17,7 @@ use Rattle.history_core.specs.State.{Lane, State, Store, fresh_lane, opening}
 use Rattle.history_core.specs.Lanes as lane_kinds
 use Rattle.pin_core.specs.declared.view.LaneChange.{LaneChange}
 use Rattle.pin_core.specs.declared.view.LaneChange.TheVariants as lane_change
-use Rattle.history_core.specs.Lanes.{LaneKind, LaneAllowed, lane_after, lane_hold_after, met_by, fault_of, is_failed_read, is_failed_write}
+use Rattle.history_core.specs.Lanes.{swept_by, LaneKind, LaneAllowed, lane_after, lane_hold_after, met_by, fault_of, is_failed_read, is_failed_write}
 use Rattle.history_core.specs.Device.{HasRisen}
 use Rattle.history_core.specs.Counts.{all_met, Known, CountTally, holders, failed_reads, failed_writes, unfailed, count_weigh, HoldCounts, count_shape, count_part, known_of, Counted, CountsLaw}
 use Rattle.pin_core.specs.declared.view.Seen.TheVariants as seen
@@ -25,7 +25,7 @@ use Rattle.page_core.specs.Kinds.{begin_write, make_entry}
 use Rattle.history_core.specs.Log.{record_size}
 use Rattle.history_core.specs.Device as log_kinds
 use Rattle.history_core.specs.Device.{LogKind, view_logged}
-use Rattle.history_core.specs.Steps.{Event, stepped, looked, pool_noting, paged, laned, has_loaded, has_read, has_begun, has_written, Step, pools, lanes, writes, notes, logs, enters, reads, loads_end, begins, loads_flushed, raises, adds_hand, loads_hand, Run, rests, goes}
+use Rattle.history_core.specs.Steps.{Event, stepped, ticked, looked, pool_noting, paged, laned, has_loaded, has_read, has_begun, has_written, Step, pools, lanes, writes, notes, logs, enters, reads, loads_end, begins, loads_flushed, raises, adds_hand, loads_hand, Run, rests, goes}
 use Rattle.history_core.specs.Invariant.{Invariant}
 use Rattle.history_core.proofs.Counts.{known, more, counts_kept, count_stays, other_link, risen_later}
 use Rattle.history_core.proofs.LogCounting.{log_counting, log_counts_open}
@@ -65,6 +65,7 @@ stays_more k d ln h = record {
     writes = count_stays ln.write_faults_at_start ln.write_faults (t failed_writes) k.met.writes d.writes (t' failed_writes) (omega arith) q.1.writes;
     split = omega arith;
     failed_rose = q.1.failed_rose;
+    failed_met = λ tag e z. let x = q.1.failed_met tag e (omega arith) in omega arith;
   };
   cell = λ t q le c. other_link k d ln ln h refl refl (λ x. x) (λ x. x) c.1;
   others = λ t u m q c le e. other_link k d ln ln m refl refl (λ x. x) (λ x. x) e.1;
@@ -78,22 +79,22 @@ module _ (s : State) (h : Invariant s) (m : LanesCounted s) where
   all_known = both_grids (record { columns = λ f below. record { taken = (h.lanes.columns f below).taken }; cells = h.lanes.cells }) m.lanes
 
   -- one lane and one view change
-  laned_grid : (i q : ℕ) (k : LaneKind) (v w : View) → get_elem? views i ≡ some v → v.emptied ≡ false → q < s.lanes → LaneAllowed k (s.lane q) (lane_hold v q) → w.lanes ≡ set v.lanes q (lane_hold_after k v.flushed (lane_hold v q)) → w.met ≡ sum_of_met v.met (met_by k (lane_hold v q))
+  laned_grid : (i q : ℕ) (k : LaneKind) (v w : View) → get_elem? views i ≡ some v → v.emptied ≡ false → q < s.lanes → LaneAllowed k (s.lane q) (lane_hold v q) → w.lanes ≡ set v.lanes q (lane_hold_after k v.flushed (swept_by v) (lane_hold v q)) → w.met ≡ sum_of_met v.met (met_by k (lane_hold v q))
       → Grid count_shape count_part s.lanes (put s.lane q (lane_after k (s.lane q))) (λ _. record { flushed = s.flushed; met = all_met (set views i w) }) (set views i w)
-  laned_grid i q k v w there live inside a holds met = let d : Met = met_by k (lane_hold v q) in let ln : Lane = lane_after k (s.lane q) in let l : LaneHold = lane_hold_after k v.flushed (lane_hold v q) in
+  laned_grid i q k v w there live inside a holds met = let d : Met = met_by k (lane_hold v q) in let ln : Lane = lane_after k (s.lane q) in let l : LaneHold = lane_hold_after k v.flushed (swept_by v) (lane_hold v q) in
       subst (λ (x : Met). Grid count_shape count_part s.lanes (put s.lane q ln) (λ _. record { flushed = s.flushed; met = x }) (set views i w)) (sym (met_set views i v w d there met))
       (sweep count_shape known count_part s.lanes s.lane (put s.lane q ln) (λ _. known_of s) (λ _. more (known_of s) d) views i v w all_known there (λ g below. dite (ℕ_discrete g q)
       (λ (e : g ≡ q). subst (λ (x : Lane × LaneHold). Keeps count_shape known count_part (known_of s) (more (known_of s) d) tt tt (s.lane g) (lane_hold v g) x.0 x.1)
       (λ j. (sym (put_at s.lane q ln g e) j, sym (subst (λ (z : ℕ). lane_hold w z ≡ l) (sym e) here) j))
-      (subst (λ (z : ℕ). Keeps count_shape known count_part (known_of s) (more (known_of s) d) tt tt (s.lane z) (lane_hold v z) ln l) (sym e) (counts_kept (known_of s) v.flushed (s.lane q) (lane_hold v q) k a)))
+      (subst (λ (z : ℕ). Keeps count_shape known count_part (known_of s) (more (known_of s) d) tt tt (s.lane z) (lane_hold v z) ln l) (sym e) (counts_kept (known_of s) v.flushed (swept_by v) (s.lane q) (lane_hold v q) k a)))
       (λ (o : g ≢ q). subst (λ (x : Lane × LaneHold). Keeps count_shape known count_part (known_of s) (more (known_of s) d) tt tt (s.lane g) (lane_hold v g) x.0 x.1)
       (λ j. (sym (put_else s.lane q ln g o) j, sym (there_else g o) j)) (stays_more (known_of s) d (s.lane g) (lane_hold v g)))))
     where
-      here : lane_hold w q ≡ lane_hold_after k v.flushed (lane_hold v q)
-      here = ap (λ (x : List LaneHold). lane_hold (record w { lanes = x }) q) holds ∙ get_or-set_same v.lanes q (lane_hold_after k v.flushed (lane_hold v q)) no_lane (subst (λ (z : ℕ). q < z) (sym (h.wide i v there live)) inside)
+      here : lane_hold w q ≡ lane_hold_after k v.flushed (swept_by v) (lane_hold v q)
+      here = ap (λ (x : List LaneHold). lane_hold (record w { lanes = x }) q) holds ∙ get_or-set_same v.lanes q (lane_hold_after k v.flushed (swept_by v) (lane_hold v q)) no_lane (subst (λ (z : ℕ). q < z) (sym (h.wide i v there live)) inside)
 
       there_else : (g : ℕ) → g ≢ q → lane_hold w g ≡ lane_hold v g
-      there_else g o = ap (λ (x : List LaneHold). lane_hold (record w { lanes = x }) g) holds ∙ get_or-set_other v.lanes q g (lane_hold_after k v.flushed (lane_hold v q)) no_lane o
+      there_else g o = ap (λ (x : List LaneHold). lane_hold (record w { lanes = x }) g) holds ∙ get_or-set_other v.lanes q g (lane_hold_after k v.flushed (swept_by v) (lane_hold v q)) no_lane o
 
   -- a view changes elsewhere
   unlaned : (i : ℕ) (v w : View) → get_elem? views i ≡ some v → w.lanes ≡ v.lanes → w.met ≡ v.met → Grid count_shape count_part s.lanes s.lane (λ _. record { flushed = s.flushed; met = all_met (set views i w) }) (set views i w)
@@ -154,7 +155,7 @@ zero_or_more zero = inl refl
 zero_or_more (suc n) = inr (omega arith)
 
 -- the law after a step at the lane q, where the view becomes w
-laned_counts : (s : State) (h : Invariant s) (m : LanesCounted s) (i q : ℕ) (k : LaneKind) (v w : View) → get_elem? s.pool.core.views i ≡ some v → v.emptied ≡ false → q < s.lanes → LaneAllowed k (s.lane q) (lane_hold v q) → w.lanes ≡ set v.lanes q (lane_hold_after k v.flushed (lane_hold v q)) → w.met ≡ sum_of_met v.met (met_by k (lane_hold v q))
+laned_counts : (s : State) (h : Invariant s) (m : LanesCounted s) (i q : ℕ) (k : LaneKind) (v w : View) → get_elem? s.pool.core.views i ≡ some v → v.emptied ≡ false → q < s.lanes → LaneAllowed k (s.lane q) (lane_hold v q) → w.lanes ≡ set v.lanes q (lane_hold_after k v.flushed (swept_by v) (lane_hold v q)) → w.met ≡ sum_of_met v.met (met_by k (lane_hold v q))
     → Counted s.lanes (put s.lane q (lane_after k (s.lane q))) s.flushed (set s.pool.core.views i w)
 laned_counts s h m i q k v w there live low a holds met = let lane' : ℕ → Lane = put s.lane q (lane_after k (s.lane q)) in let d : Met = met_by k (lane_hold v q) in let vs' : List View = set s.pool.core.views i w in
     let sums : all_met vs' ≡ sum_of_met (all_met s.pool.core.views) d = met_set s.pool.core.views i v w d there met in let cells = m.lanes.cells i v q there low in
@@ -187,6 +188,7 @@ forgets k ln h free = record {
         writes = record { least = q.1.writes.least; is_met = λ o. q.1.writes.is_met (omega arith) };
         split = omega arith;
         failed_rose = q.1.failed_rose;
+        failed_met = λ tag e z. let x = q.1.failed_met tag e (omega arith) in omega arith;
       };
   cell = λ t q le c. no_counts k ln;
   others = λ t u m q c le e. e.1;
@@ -258,7 +260,7 @@ lane_counting (reads {s = s} i f tag p v there live inside a) h m = unlaned_coun
 lane_counting (loads_end {s = s} i v there live) h m = unlaned_counts s h m i v (has_loaded s.end v) there refl refl refl refl
 lane_counting (begins {s = s} i v there live) h m = unlaned_counts s h m i v (has_begun s.end (looked (seen.LogEnd s.end) v)) there refl refl refl refl
 lane_counting (loads_flushed {s = s} i v there live) h m = unlaned_counts s h m i v (looked (seen.Flushed s.flushed) (record v { flushed = s.flushed })) there refl refl refl refl
-lane_counting (adds_hand {s = s} i v there live) h m = let x = unlaned_counts s h m i v (stepped v) there refl refl refl refl in record { lanes = record { columns = x.lanes.columns; cells = x.lanes.cells }; reads_rose = x.reads_rose; writes_rose = x.writes_rose }
+lane_counting (adds_hand {s = s} i v there live) h m = let x = unlaned_counts s h m i v (ticked v) there refl refl refl refl in record { lanes = record { columns = x.lanes.columns; cells = x.lanes.cells }; reads_rose = x.reads_rose; writes_rose = x.writes_rose }
 lane_counting (loads_hand {s = s} i v there live) h m = unlaned_counts s h m i v (looked (seen.Hand s.hand) v) there refl refl refl refl
 lane_counting (raises {s = s} i v there live synced) h m = let x = unlaned_counts s h m i v (stepped v) there refl refl refl refl in record { lanes = record { columns = x.lanes.columns; cells = x.lanes.cells }; reads_rose = x.reads_rose; writes_rose = x.writes_rose }
 
@@ -277,6 +279,7 @@ lane_counts_open c store page = let w : View = first_view c.base c.frames c.part
       writes = record { least = omega arith; is_met = λ e lt. absurd (omega arith) };
       split = (let a = none_at q holders in let b = none_at q unfailed in let d = none_at q failed_reads in let e = none_at q failed_writes in omega arith);
       failed_rose = λ tag e. absurd (cc);
+      failed_met = λ tag e. absurd (cc);
     };
     cells = λ i v q there below. subst (λ (x : View). HoldCounts (all_met (w ∷ [])) (fresh_lane c.base store q) (lane_hold x q)) (at_only w v i there).0
         (subst (HoldCounts (all_met (w ∷ [])) (fresh_lane c.base store q)) (sym (lane_new c.frames c.partitions c.lanes 0 c.base q)) (no_counts (record { flushed = c.base; met = all_met (w ∷ []) }) (fresh_lane c.base store q)));

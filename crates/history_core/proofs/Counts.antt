@@ -27,8 +27,8 @@ known = both lane_part count_part
 abbrev pub more : Known → Met → Known
 more k d = record k { met = sum_of_met k.met d }
 
-abbrev pub Keeps_by : LaneKind → Known → Met → ℕ → Lane → LaneHold → Type 0
-Keeps_by kind k d loaded ln h = Keeps count_shape known count_part k (more k d) tt tt ln h (lane_after kind ln) (lane_hold_after kind loaded h)
+abbrev pub Keeps_by : LaneKind → Known → Met → ℕ → ℕ → Lane → LaneHold → Type 0
+Keeps_by kind k d loaded swept ln h = Keeps count_shape known count_part k (more k d) tt tt ln h (lane_after kind ln) (lane_hold_after kind loaded swept h)
 
 -- a count that a failed call makes rise
 count_fails : (start now later out met d : ℕ) → CountLaw start now out met → Rises now later → CountLaw start later (out + 1) (met + d)
@@ -124,12 +124,12 @@ write_counted true change.Synced e f = absurd (cc)
 write_counted true change.SyncFailed e f = omega arith
 write_counted false c e f = absurd (cc)
 
-module _ (k : Known) (loaded : ℕ) (ln : Lane) (h : LaneHold) where
+module _ (k : Known) (loaded swept : ℕ) (ln : Lane) (h : LaneHold) where
   abbrev none : Met
   none = record { reads = 0; writes = 0; logs = 0 }
 
   -- a kind that leaves the counts, and what failed of the view
-  module _ (kind : LaneKind) (ln' : Lane) (h' : LaneHold) (is_lane : lane_after kind ln ≡ ln') (is_hold : lane_hold_after kind loaded h ≡ h') (r : ln'.read_faults ≡ ln.read_faults) (w : ln'.write_faults ≡ ln.write_faults) (r0 : ln'.read_faults_at_start ≡ ln.read_faults_at_start) (w0 : ln'.write_faults_at_start ≡ ln.write_faults_at_start)
+  module _ (kind : LaneKind) (ln' : Lane) (h' : LaneHold) (is_lane : lane_after kind ln ≡ ln') (is_hold : lane_hold_after kind loaded swept h ≡ h') (r : ln'.read_faults ≡ ln.read_faults) (w : ln'.write_faults ≡ ln.write_faults) (r0 : ln'.read_faults_at_start ≡ ln.read_faults_at_start) (w0 : ln'.write_faults_at_start ≡ ln.write_faults_at_start)
       (fr : is_failed_read h'.change ≡ is_failed_read h.change) (fw : is_failed_write h'.change ≡ is_failed_write h.change) (bad : (tag : ℕ) → ln'.failed tag ≡ true → ln.failed tag ≡ true) (sane' : IsSane h → IsSane h') where
     column_same : (t t' : CountTally → ℕ) → LaneCounts k.met ln t → LaneLink k.flushed ln h → ((j : CountTally) → t' j + count_weigh j h ≡ t j + count_weigh j h') → LaneCounts (more k none).met ln' t'
     column_same t t' q c sums = record {
@@ -137,25 +137,26 @@ module _ (k : Known) (loaded : ℕ) (ln : Lane) (h : LaneHold) where
       writes = (let x = ap flag_weight fw in let y = sums failed_writes in let z = q.writes in record { least = (let a = z.least in omega arith); is_met = λ e lt. let a = z.is_met (omega arith) (omega arith) in omega arith });
       split = split_kept t t' h h' q.split sums (sane k.flushed ln h c) (sane' (sane k.flushed ln h c));
       failed_rose = λ tag e other. let x = q.failed_rose tag (bad tag e) (λ z. other (w ∙ z)) in omega (arith, w, w0, x);
+      failed_met = λ tag e z. let x = ap flag_weight fw in let y = sums failed_writes in let a = q.failed_met tag (bad tag e) (omega arith) in omega arith;
     }
 
-  take_lane_counts : LaneAllowed lanes.take_lane ln h → Keeps_by lanes.take_lane k none loaded ln h
+  take_lane_counts : LaneAllowed lanes.take_lane ln h → Keeps_by lanes.take_lane k none loaded swept ln h
   take_lane_counts a = record {
-    column = λ t t' q c sums le _. column_same lanes.take_lane (lane_after lanes.take_lane ln) (lane_hold_after lanes.take_lane loaded h) refl refl refl refl refl refl refl refl (λ tag e. e) (λ x e. absurd (cc)) t t' q.1 c.0 sums;
+    column = λ t t' q c sums le _. column_same lanes.take_lane (lane_after lanes.take_lane ln) (lane_hold_after lanes.take_lane loaded swept h) refl refl refl refl refl refl refl refl (λ tag e. e) (λ x e. absurd (cc)) t t' q.1 c.0 sums;
     cell = λ t q le c. record { read_rose = c.1.read_rose; write_rose = c.1.write_rose; taken_reads = λ taken e lt. let x = c.1.taken_reads taken e lt in omega arith; taken_writes = λ taken e lt. let x = c.1.taken_writes taken e lt in omega arith };
     others = λ t u m q c le e. other_link k none ln (lane_after lanes.take_lane ln) m refl refl (λ x. x) (λ x. x) e.1;
   }
 
-  leave_lane_counts : LaneAllowed lanes.leave_lane ln h → Keeps_by lanes.leave_lane k none loaded ln h
+  leave_lane_counts : LaneAllowed lanes.leave_lane ln h → Keeps_by lanes.leave_lane k none loaded swept ln h
   leave_lane_counts a = record {
-    column = λ t t' q c sums le _. column_same lanes.leave_lane (lane_after lanes.leave_lane ln) (lane_hold_after lanes.leave_lane loaded h) refl refl refl refl refl refl refl refl (λ tag e. e) (λ x e. c.0.hold.home a.home) t t' q.1 c.0 sums;
+    column = λ t t' q c sums le _. column_same lanes.leave_lane (lane_after lanes.leave_lane ln) (lane_hold_after lanes.leave_lane loaded swept h) refl refl refl refl refl refl refl refl (λ tag e. e) (λ x e. c.0.hold.home a.home) t t' q.1 c.0 sums;
     cell = λ t q le c. record { read_rose = c.1.read_rose; write_rose = c.1.write_rose; taken_reads = λ taken e lt. let x = c.1.taken_reads taken e lt in omega arith; taken_writes = λ taken e lt. let x = c.1.taken_writes taken e lt in omega arith };
     others = λ t u m q c le e. other_link k none ln (lane_after lanes.leave_lane ln) m refl refl (λ x. x) (λ x. x) e.1;
   }
 
-  lane_out_counts : (taken : TakenLane) → LaneAllowed (lanes.lane_out taken) ln h → Keeps_by (lanes.lane_out taken) k none loaded ln h
+  lane_out_counts : (taken : TakenLane) → LaneAllowed (lanes.lane_out taken) ln h → Keeps_by (lanes.lane_out taken) k none loaded swept ln h
   lane_out_counts taken a = record {
-    column = λ t t' q c sums le _. column_same (lanes.lane_out taken) (lane_after (lanes.lane_out taken) ln) (lane_hold_after (lanes.lane_out taken) loaded h) refl refl refl refl refl refl refl refl (λ tag e. e) (λ x. x) t t' q.1 c.0 sums;
+    column = λ t t' q c sums le _. column_same (lanes.lane_out taken) (lane_after (lanes.lane_out taken) ln) (lane_hold_after (lanes.lane_out taken) loaded swept h) refl refl refl refl refl refl refl refl (λ tag e. e) (λ x. x) t t' q.1 c.0 sums;
     cell = λ t q le c. let still = c.0.hold.home a.home in let free = none_failed k.met ln t h q.0 q.1 le a.held (ap is_failed_read still) (ap is_failed_write still) in record {
       read_rose = c.1.read_rose;
       write_rose = c.1.write_rose;
@@ -165,80 +166,88 @@ module _ (k : Known) (loaded : ℕ) (ln : Lane) (h : LaneHold) where
     others = λ t u m q c le e. other_link k none ln (lane_after (lanes.lane_out taken) ln) m refl refl (λ x. x) (λ x. x) e.1;
   }
 
-  read_block_counts : (tag : ℕ) (p : Page) → LaneAllowed (lanes.read_block tag p) ln h → Keeps_by (lanes.read_block tag p) k none loaded ln h
+  read_block_counts : (tag : ℕ) (p : Page) → LaneAllowed (lanes.read_block tag p) ln h → Keeps_by (lanes.read_block tag p) k none loaded swept ln h
   read_block_counts tag p a = record {
-    column = λ t t' q c sums le _. column_same (lanes.read_block tag p) (lane_after (lanes.read_block tag p) ln) (lane_hold_after (lanes.read_block tag p) loaded h) refl refl refl refl refl refl (sym (ap is_failed_read a.call.once)) (sym (ap is_failed_write a.call.once)) (λ tag e. e) (λ x e. absurd (a.call.out (c.0.hold.resting e))) t t' q.1 c.0 sums;
+    column = λ t t' q c sums le _. column_same (lanes.read_block tag p) (lane_after (lanes.read_block tag p) ln) (lane_hold_after (lanes.read_block tag p) loaded swept h) refl refl refl refl refl refl (sym (ap is_failed_read a.call.once)) (sym (ap is_failed_write a.call.once)) (λ tag e. e) (λ x e. absurd (a.call.out (c.0.hold.resting e))) t t' q.1 c.0 sums;
     cell = λ t q le c. record { read_rose = λ e. absurd (cc); write_rose = λ e. absurd (cc); taken_reads = λ taken e lt. let x = c.1.taken_reads taken e lt in omega arith; taken_writes = λ taken e lt. let x = c.1.taken_writes taken e lt in omega arith };
     others = λ t u m q c le e. other_link k none ln (lane_after (lanes.read_block tag p) ln) m refl refl (λ x. x) (λ x. x) e.1;
   }
 
-  write_block_counts : (f tag : ℕ) (p : Page) → LaneAllowed (lanes.write_block f tag p) ln h → Keeps_by (lanes.write_block f tag p) k none loaded ln h
+  write_block_counts : (f tag : ℕ) (p : Page) → LaneAllowed (lanes.write_block f tag p) ln h → Keeps_by (lanes.write_block f tag p) k none loaded swept ln h
   write_block_counts f tag p a = record {
-    column = λ t t' q c sums le _. column_same (lanes.write_block f tag p) (lane_after (lanes.write_block f tag p) ln) (lane_hold_after (lanes.write_block f tag p) loaded h) refl refl refl refl refl refl (sym (ap is_failed_read a.once)) (sym (ap is_failed_write a.once)) (λ t e. still_bad ln.failed tag t e) (λ x e. absurd (a.out (c.0.hold.resting e))) t t' q.1 c.0 sums;
+    column = λ t t' q c sums le _. column_same (lanes.write_block f tag p) (lane_after (lanes.write_block f tag p) ln) (lane_hold_after (lanes.write_block f tag p) loaded swept h) refl refl refl refl refl refl (sym (ap is_failed_read a.once)) (sym (ap is_failed_write a.once)) (λ t e. still_bad ln.failed tag t e) (λ x e. absurd (a.out (c.0.hold.resting e))) t t' q.1 c.0 sums;
     cell = λ t q le c. record { read_rose = λ e. absurd (cc); write_rose = λ e. absurd (cc); taken_reads = λ taken e lt. let x = c.1.taken_reads taken e lt in omega arith; taken_writes = λ taken e lt. let x = c.1.taken_writes taken e lt in omega arith };
     others = λ t u m q c le e. other_link k none ln (lane_after (lanes.write_block f tag p) ln) m refl refl (λ x. x) (λ x. x) e.1;
   }
 
-  sync_lane_counts : LaneAllowed lanes.sync_lane ln h → Keeps_by lanes.sync_lane k none loaded ln h
+  sync_lane_counts : LaneAllowed lanes.sync_lane ln h → Keeps_by lanes.sync_lane k none loaded swept ln h
   sync_lane_counts a = record {
-    column = λ t t' q c sums le _. column_same lanes.sync_lane (lane_after lanes.sync_lane ln) (lane_hold_after lanes.sync_lane loaded h) refl refl refl refl refl refl (sym (ap is_failed_read a.once)) (sym (ap is_failed_write a.once)) (λ tag e. e) (λ x e. absurd (a.out (c.0.hold.resting e))) t t' q.1 c.0 sums;
+    column = λ t t' q c sums le _. column_same lanes.sync_lane (lane_after lanes.sync_lane ln) (lane_hold_after lanes.sync_lane loaded swept h) refl refl refl refl refl refl (sym (ap is_failed_read a.once)) (sym (ap is_failed_write a.once)) (λ tag e. e) (λ x e. absurd (a.out (c.0.hold.resting e))) t t' q.1 c.0 sums;
     cell = λ t q le c. record { read_rose = λ e. absurd (cc); write_rose = λ e. absurd (cc); taken_reads = λ taken e lt. let x = c.1.taken_reads taken e lt in omega arith; taken_writes = λ taken e lt. let x = c.1.taken_writes taken e lt in omega arith };
     others = λ t u m q c le e. other_link k none ln (lane_after lanes.sync_lane ln) m refl refl (λ x. x) (λ x. x) e.1;
   }
 
-  fail_read_counts : (tag faults : ℕ) → LaneAllowed (lanes.fail_read tag faults) ln h → Keeps_by (lanes.fail_read tag faults) k none loaded ln h
+  fail_read_counts : (tag faults : ℕ) → LaneAllowed (lanes.fail_read tag faults) ln h → Keeps_by (lanes.fail_read tag faults) k none loaded swept ln h
   fail_read_counts tag faults a = record {
     column = λ t t' q c sums le _. let x = ap flag_weight (ap is_failed_read a.call.once) in let y = ap flag_weight (ap is_failed_write a.call.once) in let z = sums failed_reads in let v = sums failed_writes in record {
       reads = record { least = risen_least ln.read_faults_at_start ln.read_faults faults q.1.reads.least a.rises; is_met = λ e. absurd (omega arith) };
       writes = record { least = q.1.writes.least; is_met = λ e lt. let b = q.1.writes.is_met (omega arith) lt in omega arith };
-      split = split_kept t t' h (lane_hold_after (lanes.fail_read tag faults) loaded h) q.1.split sums (sane k.flushed ln h c.0) (λ e. absurd (a.call.out (c.0.hold.resting e)));
+      split = split_kept t t' h (lane_hold_after (lanes.fail_read tag faults) loaded swept h) q.1.split sums (sane k.flushed ln h c.0) (λ e. absurd (a.call.out (c.0.hold.resting e)));
       failed_rose = q.1.failed_rose;
+      failed_met = λ tag e z. let b = q.1.failed_met tag e (omega arith) in omega arith;
     };
     cell = λ t q le c. record { read_rose = λ e. risen ln.read_faults_at_start ln.read_faults faults q.1.reads.least a.rises; write_rose = λ e. absurd (cc); taken_reads = λ taken e lt. let x = c.1.taken_reads taken e lt in omega arith; taken_writes = λ taken e lt. let x = c.1.taken_writes taken e lt in omega arith };
     others = λ t u m q c le e. other_link k none ln (lane_after (lanes.fail_read tag faults) ln) m refl refl (risen_later ln.read_faults_at_start ln.read_faults faults a.rises) (λ x. x) e.1;
   }
 
-  fail_write_counts : (f tag : ℕ) (p : Page) (faults : ℕ) → LaneAllowed (lanes.fail_write f tag p faults) ln h → Keeps_by (lanes.fail_write f tag p faults) k none loaded ln h
+  fail_write_counts : (f tag : ℕ) (p : Page) (faults : ℕ) → LaneAllowed (lanes.fail_write f tag p faults) ln h → Keeps_by (lanes.fail_write f tag p faults) k none loaded swept ln h
   fail_write_counts f tag p faults a = record {
     column = λ t t' q c sums le _. let x = ap flag_weight (ap is_failed_read a.call.once) in let y = ap flag_weight (ap is_failed_write a.call.once) in let z = sums failed_reads in let v = sums failed_writes in record {
       writes = record { least = risen_least ln.write_faults_at_start ln.write_faults faults q.1.writes.least a.rises; is_met = λ e. absurd (omega arith) };
       reads = record { least = q.1.reads.least; is_met = λ e lt. let b = q.1.reads.is_met (omega arith) lt in omega arith };
-      split = split_kept t t' h (lane_hold_after (lanes.fail_write f tag p faults) loaded h) q.1.split sums (sane k.flushed ln h c.0) (λ e. absurd (a.call.out (c.0.hold.resting e)));
+      split = split_kept t t' h (lane_hold_after (lanes.fail_write f tag p faults) loaded swept h) q.1.split sums (sane k.flushed ln h c.0) (λ e. absurd (a.call.out (c.0.hold.resting e)));
       failed_rose = λ t e. risen ln.write_faults_at_start ln.write_faults faults q.1.writes.least a.rises;
+      failed_met = λ t e z. absurd (omega arith);
     };
     cell = λ t q le c. record { write_rose = λ e. risen ln.write_faults_at_start ln.write_faults faults q.1.writes.least a.rises; read_rose = λ e. absurd (cc); taken_reads = λ taken e lt. let x = c.1.taken_reads taken e lt in omega arith; taken_writes = λ taken e lt. let x = c.1.taken_writes taken e lt in omega arith };
     others = λ t u m q c le e. other_link k none ln (lane_after (lanes.fail_write f tag p faults) ln) m refl refl (λ x. x) (risen_later ln.write_faults_at_start ln.write_faults faults a.rises) e.1;
   }
 
-  fail_sync_counts : (faults : ℕ) → LaneAllowed (lanes.fail_sync faults) ln h → Keeps_by (lanes.fail_sync faults) k none loaded ln h
+  fail_sync_counts : (faults : ℕ) → LaneAllowed (lanes.fail_sync faults) ln h → Keeps_by (lanes.fail_sync faults) k none loaded swept ln h
   fail_sync_counts faults a = record {
     column = λ t t' q c sums le _. let x = ap flag_weight (ap is_failed_read a.call.once) in let y = ap flag_weight (ap is_failed_write a.call.once) in let z = sums failed_reads in let v = sums failed_writes in record {
       writes = record { least = risen_least ln.write_faults_at_start ln.write_faults faults q.1.writes.least a.rises; is_met = λ e. absurd (omega arith) };
       reads = record { least = q.1.reads.least; is_met = λ e lt. let b = q.1.reads.is_met (omega arith) lt in omega arith };
-      split = split_kept t t' h (lane_hold_after (lanes.fail_sync faults) loaded h) q.1.split sums (sane k.flushed ln h c.0) (λ e. absurd (a.call.out (c.0.hold.resting e)));
+      split = split_kept t t' h (lane_hold_after (lanes.fail_sync faults) loaded swept h) q.1.split sums (sane k.flushed ln h c.0) (λ e. absurd (a.call.out (c.0.hold.resting e)));
       failed_rose = λ t e. risen ln.write_faults_at_start ln.write_faults faults q.1.writes.least a.rises;
+      failed_met = λ t e z. absurd (omega arith);
     };
     cell = λ t q le c. record { write_rose = λ e. risen ln.write_faults_at_start ln.write_faults faults q.1.writes.least a.rises; read_rose = λ e. absurd (cc); taken_reads = λ taken e lt. let x = c.1.taken_reads taken e lt in omega arith; taken_writes = λ taken e lt. let x = c.1.taken_writes taken e lt in omega arith };
     others = λ t u m q c le e. other_link k none ln (lane_after (lanes.fail_sync faults) ln) m refl refl (λ x. x) (risen_later ln.write_faults_at_start ln.write_faults faults a.rises) e.1;
   }
 
-  lane_back_counts : (noted : Bool) → LaneAllowed (lanes.lane_back noted) ln h → Keeps_by (lanes.lane_back noted) k (fault_of noted h.change) loaded ln h
+  lane_back_counts : (noted : Bool) → LaneAllowed (lanes.lane_back noted) ln h → Keeps_by (lanes.lane_back noted) k (fault_of noted h.change) loaded swept ln h
   lane_back_counts noted a = record {
     column = λ t t' q c sums le _. by_taken t t' q.1 c.0 c.1 sums h.out refl;
     cell = λ t q le c. record { read_rose = λ e. absurd (cc); write_rose = λ e. absurd (cc); taken_reads = λ taken e. absurd (cc); taken_writes = λ taken e. absurd (cc) };
     others = λ t u m q c le e. other_link k (fault_of noted h.change) ln ln m refl refl (λ x. x) (λ x. x) e.1;
   }
     where
-      by_taken : (t t' : CountTally → ℕ) → LaneCounts k.met ln t → LaneLink k.flushed ln h → HoldCounts k.met ln h → ((j : CountTally) → t' j + count_weigh j h ≡ t j + count_weigh j (lane_hold_after (lanes.lane_back noted) loaded h)) → (o : Option TakenLane) → h.out ≡ o → LaneCounts (more k (fault_of noted h.change)).met ln t'
+      by_failed : {A : Type 0} (b : Bool) → is_failed_write h.change ≡ b → (is_failed_write h.change ≡ true → A) → (is_failed_write h.change ≡ false → A) → A
+      by_failed true e x y = x e
+      by_failed false e x y = y e
+
+      by_taken : (t t' : CountTally → ℕ) → LaneCounts k.met ln t → LaneLink k.flushed ln h → HoldCounts k.met ln h → ((j : CountTally) → t' j + count_weigh j h ≡ t j + count_weigh j (lane_hold_after (lanes.lane_back noted) loaded swept h)) → (o : Option TakenLane) → h.out ≡ o → LaneCounts (more k (fault_of noted h.change)).met ln t'
       by_taken t t' q c l sums None e = absurd (a.out e)
       by_taken t t' q c l sums (Some taken) e = let counts = c.counts taken e in let rule = a.counts taken e in let x = sums failed_reads in let y = sums failed_writes in record {
         reads = count_back ln.read_faults_at_start ln.read_faults (t failed_reads) k.met.reads taken.read_faults (fault_of noted h.change).reads (t' failed_reads) (is_failed_read h.change) q.reads counts.reads (l.taken_reads taken e) (λ lt. read_counted noted h.change (rule.read_rose lt) (failed_if (is_failed_read h.change) (λ z. counts.reads z) lt)) (omega arith);
         writes = count_back ln.write_faults_at_start ln.write_faults (t failed_writes) k.met.writes taken.write_faults (fault_of noted h.change).writes (t' failed_writes) (is_failed_write h.change) q.writes counts.writes (l.taken_writes taken e) (λ lt. write_counted noted h.change (rule.write_rose lt) (failed_if (is_failed_write h.change) (λ z. counts.writes z) lt)) (omega arith);
-        split = split_kept t t' h (lane_hold_after (lanes.lane_back noted) loaded h) q.split sums (sane k.flushed ln h c) (λ w. refl);
+        split = split_kept t t' h (lane_hold_after (lanes.lane_back noted) loaded swept h) q.split sums (sane k.flushed ln h c) (λ w. refl);
         failed_rose = q.failed_rose;
+        failed_met = λ tag bad z. by_failed (is_failed_write h.change) refl (λ f. let b = write_counted noted h.change (rule.all f) f in omega arith) (λ f. let g = ap flag_weight f in let b = q.failed_met tag bad (omega arith) in omega arith);
       }
 
-  pub counts_kept : (kind : LaneKind) → LaneAllowed kind ln h → Keeps_by kind k (met_by kind h) loaded ln h
+  pub counts_kept : (kind : LaneKind) → LaneAllowed kind ln h → Keeps_by kind k (met_by kind h) loaded swept ln h
   counts_kept lanes.take_lane a = take_lane_counts a
   counts_kept lanes.leave_lane a = leave_lane_counts a
   counts_kept (lanes.lane_out taken) a = lane_out_counts taken a

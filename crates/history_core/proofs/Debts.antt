@@ -1,5 +1,5 @@
 -- What a change of a frame, of the lanes or of a view makes of the debts of checkpoints.
-use Rattle.std.proofs.Common.{◌≡◌, ◌≢◌, ◌⊎◌, ℕ, ◌<◌, ◌≤◌, Bool, true, false, ◌||◌, ◌&&◌, not, List, set, Option, sym, refl, ap, ◌∙◌, subst, ⊎_elim, arith}
+use Rattle.std.proofs.Common.{◌≡◌, ◌≢◌, ◌⊎◌, ℕ, ◌<◌, ◌≤◌, Bool, true, false, ◌||◌, ◌&&◌, not, List, set, Option, sym, refl, ◌∙◌, subst, ⊎_elim, arith}
 use mathlib.Core.Logic.{dite}
 use mathlib.Core.Option.{some}
 use native.Mathlib.Decide.{ℕ_discrete}
@@ -33,8 +33,8 @@ pub data Moves (t : Taken) (fr fr' : Frame) : Type 0 where
 
 module _ (t : Taken) where
   settled_moves : (fr fr' : Frame) (upto : ℕ) (passed listed : Bool) → Moves t fr fr' → IsSettled t fr upto passed listed → IsSettled t fr' upto passed listed
-  settled_moves fr fr' upto passed listed (settles current) h = λ p named ok k e at tagged le lt. let x = current named k e at tagged in absurd (omega arith)
-  settled_moves fr fr' upto passed listed (stays same needed dirty) h = λ p named ok k e at tagged le lt. let x = h p (λ z. named (same ∙ z)) (ap t.failed (sym same) ∙ ok) k e at (tagged ∙ same) le (subst (λ (z : ℕ). t.upto z < end_of e) same lt) in (needed x.0, x.1)
+  settled_moves fr fr' upto passed listed (settles current) h = λ p named k e at tagged le lt. let x = current named k e at tagged in absurd (omega arith)
+  settled_moves fr fr' upto passed listed (stays same needed dirty) h = λ p named k e at tagged le lt. let x = h p (λ z. named (same ∙ z)) k e at (tagged ∙ same) le (subst (λ (z : ℕ). t.upto z < end_of e) same lt) in (needed x.0, x.1)
 
   clean_moves : (fr fr' : Frame) → Moves t fr fr' → (fr.tag ≢ no_tag → fr.word.dirty ≡ false → IsCurrent t fr.tag) → fr'.tag ≢ no_tag → fr'.word.dirty ≡ false → IsCurrent t fr'.tag
   clean_moves fr fr' (settles current) h named clean = current named
@@ -79,11 +79,11 @@ module _ (t : Taken) where
 
     -- a load passes a frame that isn't dirty, and takes one off the list that doesn't carry BM_CHECKPOINT_NEEDED
     loaded : (fr.tag ≢ no_tag → fr.word.dirty ≡ false → IsCurrent t fr.tag) → LinkDebt t fr upto l → IsSettled t fr upto (l.passed || not fr.word.dirty) (l.listed && fr.word.checkpoint_needed)
-    loaded clean h p named ok k e at tagged le lt = by_dirty fr.word.dirty refl
+    loaded clean h p named k e at tagged le lt = by_dirty fr.word.dirty refl
       where
         by_dirty : (b : Bool) → fr.word.dirty ≡ b → (fr.word.checkpoint_needed ≡ true) × ((l.listed && fr.word.checkpoint_needed) ≡ true)
         by_dirty false z = let x = clean named z k e at tagged in absurd (omega arith)
-        by_dirty true z = let x = h.settled (or_left l.passed fr.word.dirty p z) named ok k e at tagged le lt in (x.0, both_true l.listed fr.word.checkpoint_needed x.1 x.0)
+        by_dirty true z = let x = h.settled (or_left l.passed fr.word.dirty p z) named k e at tagged le lt in (x.0, both_true l.listed fr.word.checkpoint_needed x.1 x.0)
           where
             or_left : (a b : Bool) → (a || not b) ≡ true → b ≡ true → a ≡ true
             or_left true b y w = refl
@@ -140,7 +140,7 @@ module _ (t : Taken) where
     pages_move (kinds.end_io Bad) x a h = stays refl (λ e. e) (λ e. e)
 
     pub pages_link : (k : Kind) → IsPlain k → Allowed k b fr l → LinkDebt t fr upto l → LinkDebt t (frame_after k b fr) upto (link_after k b fr l)
-    pages_link kinds.need_checkpoint x a h = record { settled = λ p named ok k e at tagged le lt. (refl, refl); done = h.done }
+    pages_link kinds.need_checkpoint x a h = record { settled = λ p named k e at tagged le lt. (refl, refl); done = h.done }
     pages_link (kinds.end_io end) x a h = link_moves fr (frame_after (kinds.end_io end) b fr) upto l (link_after (kinds.end_io end) b fr l) (pages_move (kinds.end_io end) x a h) (record { passed = refl; listed = refl; done = λ e. absurd (cc) }) h
     pages_link kinds.load_content x a h = h
     pages_link kinds.mark_dirty x a h = link_moves fr (frame_after kinds.mark_dirty b fr) upto l (link_after kinds.mark_dirty b fr l) (pages_move kinds.mark_dirty x a h) (record { passed = refl; listed = refl; done = λ e. e }) h
@@ -235,7 +235,7 @@ module _ (t t' : Taken) (same : t'.entries ≡ t.entries) (grows : (tag : ℕ) �
   current_later tag h k e at tagged = let x = h k e (still_there k e at) tagged in let y = grows tag in omega arith
 
   settled_later : (fr : Frame) (upto : ℕ) (passed listed : Bool) → IsSettled t fr upto passed listed → IsSettled t' fr upto passed listed
-  settled_later fr upto passed listed h p named ok k e at tagged le lt = ⊎_elim (λ (z : t.failed fr.tag ≡ false). let y = grows fr.tag in h p named z k e (still_there k e at) tagged le (omega arith)) (λ (z : IsCurrent t' fr.tag). let x = z k e at tagged in absurd (omega arith)) (good fr.tag ok)
+  settled_later fr upto passed listed h p named k e at tagged le lt = let y = grows fr.tag in h p named k e (still_there k e at) tagged le (omega arith)
 
   pub debts_later : (n : ℕ) (frame : ℕ → Frame) (end : ℕ) (logged : ℕ → Option Page) (views : List View) → Debts t n frame end logged views → Debts t' n frame end logged views
   debts_later n frame end logged views h = record {

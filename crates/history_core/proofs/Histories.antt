@@ -19,7 +19,7 @@ use Rattle.page_core.proofs.Histories.{flag_count}
 use Rattle.history_core.specs.Log.{Entry, record_size, cell, cut}
 use Rattle.history_core.specs.State.{Lane, State, stored}
 use Rattle.history_core.specs.Lanes as lane_kinds
-use Rattle.history_core.specs.Lanes.{LaneKind, LaneAllowed, lane_after, lane_hold_after}
+use Rattle.history_core.specs.Lanes.{swept_by, LaneKind, LaneAllowed, lane_after, lane_hold_after}
 use Rattle.history_core.specs.Device.{appenders, log_weigh, resting_weight}
 use Rattle.history_core.specs.Device as log
 use Rattle.history_core.specs.Homes.{IsUnframed}
@@ -161,7 +161,7 @@ module _ (s : State) (h : Invariant s) where
   )
 
   pub go_out_flushed : LanesGoOutFlushed s
-  go_out_flushed _ _ taken t (lanes i n k v there live low a alone) = let l : LaneHold = lane_hold_after k v.flushed (lane_hold v n) in let w : View = stepped (laned k n v v) in (
+  go_out_flushed _ _ taken t (lanes i n k v there live low a alone) = let l : LaneHold = lane_hold_after k v.flushed (swept_by v) (lane_hold v n) in let w : View = stepped (laned k n v v) in (
     v,
     w,
     there,

@@ -18,9 +18,9 @@ use Rattle.page_core.specs.Kinds.{begin_write, make_entry}
 use Rattle.history_core.specs.Log.{record_size}
 use Rattle.history_core.specs.State.{State}
 use Rattle.history_core.specs.Lanes as lane_kinds
-use Rattle.history_core.specs.Lanes.{LaneKind, lane_back, lane_hold_after}
+use Rattle.history_core.specs.Lanes.{swept_by, LaneKind, lane_back, lane_hold_after}
 use Rattle.history_core.specs.Device.{view_logged}
-use Rattle.history_core.specs.Steps.{Event, pool, lane, stepped, looked, pool_noting, paged, laned, has_loaded, has_read, has_begun, has_written, Writes, Step, pools, lanes, writes, notes, enters, reads, loads_end, begins, loads_flushed, raises, adds_hand, loads_hand, logs}
+use Rattle.history_core.specs.Steps.{Event, pool, lane, stepped, ticked, looked, pool_noting, paged, laned, has_loaded, has_read, has_begun, has_written, Writes, Step, pools, lanes, writes, notes, enters, reads, loads_end, begins, loads_flushed, raises, adds_hand, loads_hand, logs}
 use Rattle.history_core.specs.Histories.{LeavesHold, HasKeptFlushed, HoldsKeepFlushed}
 use Rattle.grid.proofs.Lists.{set_here, set_else, at_longer}
 
@@ -58,17 +58,17 @@ pages_keep (page_steps.cores x) j n v at leaves = pins_keep x j n v at leaves
 pages_keep (page_steps.touches {s = s} i f k u there live inside a around) j n v at leaves = set_stays s.core.views i j n u (paged k s f u) v there (λ e. refl) at
 
 -- a kind at the lane m leaves what the view keeps with the lane n
-lane_keeps : (k : LaneKind) (i m j n : ℕ) (u : View) → LeavesHold (lane i m k) j n → j ≡ i → kept (set u.lanes m (lane_hold_after k u.flushed (lane_hold u m))) n ≡ kept u.lanes n
-lane_keeps (lane_kinds.lane_out taken) i m j n u leaves e = ap (λ (x : LaneHold). x.flushed) (get_or-set_other u.lanes m n (lane_hold_after (lane_kinds.lane_out taken) u.flushed (lane_hold u m)) no_lane (λ same. leaves (e, same)))
-lane_keeps lane_kinds.take_lane i m j n u leaves e = set_keeps u.lanes m n (lane_hold_after lane_kinds.take_lane u.flushed (lane_hold u m)) refl
-lane_keeps lane_kinds.leave_lane i m j n u leaves e = set_keeps u.lanes m n (lane_hold_after lane_kinds.leave_lane u.flushed (lane_hold u m)) refl
-lane_keeps (lane_kinds.read_block tag p) i m j n u leaves e = set_keeps u.lanes m n (lane_hold_after (lane_kinds.read_block tag p) u.flushed (lane_hold u m)) refl
-lane_keeps (lane_kinds.fail_read tag faults) i m j n u leaves e = set_keeps u.lanes m n (lane_hold_after (lane_kinds.fail_read tag faults) u.flushed (lane_hold u m)) refl
-lane_keeps (lane_kinds.write_block f tag p) i m j n u leaves e = set_keeps u.lanes m n (lane_hold_after (lane_kinds.write_block f tag p) u.flushed (lane_hold u m)) refl
-lane_keeps (lane_kinds.fail_write f tag p faults) i m j n u leaves e = set_keeps u.lanes m n (lane_hold_after (lane_kinds.fail_write f tag p faults) u.flushed (lane_hold u m)) refl
-lane_keeps lane_kinds.sync_lane i m j n u leaves e = set_keeps u.lanes m n (lane_hold_after lane_kinds.sync_lane u.flushed (lane_hold u m)) refl
-lane_keeps (lane_kinds.fail_sync faults) i m j n u leaves e = set_keeps u.lanes m n (lane_hold_after (lane_kinds.fail_sync faults) u.flushed (lane_hold u m)) refl
-lane_keeps (lane_kinds.lane_back noted) i m j n u leaves e = set_keeps u.lanes m n (lane_hold_after (lane_kinds.lane_back noted) u.flushed (lane_hold u m)) refl
+lane_keeps : (k : LaneKind) (i m j n : ℕ) (u : View) → LeavesHold (lane i m k) j n → j ≡ i → kept (set u.lanes m (lane_hold_after k u.flushed (swept_by u) (lane_hold u m))) n ≡ kept u.lanes n
+lane_keeps (lane_kinds.lane_out taken) i m j n u leaves e = ap (λ (x : LaneHold). x.flushed) (get_or-set_other u.lanes m n (lane_hold_after (lane_kinds.lane_out taken) u.flushed (swept_by u) (lane_hold u m)) no_lane (λ same. leaves (e, same)))
+lane_keeps lane_kinds.take_lane i m j n u leaves e = set_keeps u.lanes m n (lane_hold_after lane_kinds.take_lane u.flushed (swept_by u) (lane_hold u m)) refl
+lane_keeps lane_kinds.leave_lane i m j n u leaves e = set_keeps u.lanes m n (lane_hold_after lane_kinds.leave_lane u.flushed (swept_by u) (lane_hold u m)) refl
+lane_keeps (lane_kinds.read_block tag p) i m j n u leaves e = set_keeps u.lanes m n (lane_hold_after (lane_kinds.read_block tag p) u.flushed (swept_by u) (lane_hold u m)) refl
+lane_keeps (lane_kinds.fail_read tag faults) i m j n u leaves e = set_keeps u.lanes m n (lane_hold_after (lane_kinds.fail_read tag faults) u.flushed (swept_by u) (lane_hold u m)) refl
+lane_keeps (lane_kinds.write_block f tag p) i m j n u leaves e = set_keeps u.lanes m n (lane_hold_after (lane_kinds.write_block f tag p) u.flushed (swept_by u) (lane_hold u m)) refl
+lane_keeps (lane_kinds.fail_write f tag p faults) i m j n u leaves e = set_keeps u.lanes m n (lane_hold_after (lane_kinds.fail_write f tag p faults) u.flushed (swept_by u) (lane_hold u m)) refl
+lane_keeps lane_kinds.sync_lane i m j n u leaves e = set_keeps u.lanes m n (lane_hold_after lane_kinds.sync_lane u.flushed (swept_by u) (lane_hold u m)) refl
+lane_keeps (lane_kinds.fail_sync faults) i m j n u leaves e = set_keeps u.lanes m n (lane_hold_after (lane_kinds.fail_sync faults) u.flushed (swept_by u) (lane_hold u m)) refl
+lane_keeps (lane_kinds.lane_back noted) i m j n u leaves e = set_keeps u.lanes m n (lane_hold_after (lane_kinds.lane_back noted) u.flushed (swept_by u) (lane_hold u m)) refl
 
 -- a write of a frame's page takes no lane out
 write_leaves : (k : LaneKind) (s : State) (i m f j n : ℕ) (h : LaneHold) (l : _) → Writes k s m f h l → LeavesHold (lane i m k) j n
@@ -94,7 +94,7 @@ step_keeps (reads {s = s} i f tag p u there live inside a) j n v at leaves = set
 step_keeps (loads_end {s = s} i u there live) j n v at leaves = set_stays s.pool.core.views i j n u (has_loaded s.end u) v there (λ e. refl) at
 step_keeps (loads_flushed {s = s} i u there live) j n v at leaves = set_stays s.pool.core.views i j n u (looked (seen.Flushed s.flushed) (record u { flushed = s.flushed })) v there (λ e. refl) at
 step_keeps (begins {s = s} i u there live) j n v at leaves = set_stays s.pool.core.views i j n u (has_begun s.end (looked (seen.LogEnd s.end) u)) v there (λ e. refl) at
-step_keeps (adds_hand {s = s} i u there live) j n v at leaves = set_stays s.pool.core.views i j n u (stepped u) v there (λ e. refl) at
+step_keeps (adds_hand {s = s} i u there live) j n v at leaves = set_stays s.pool.core.views i j n u (ticked u) v there (λ e. refl) at
 step_keeps (loads_hand {s = s} i u there live) j n v at leaves = set_stays s.pool.core.views i j n u (looked (seen.Hand s.hand) u) v there (λ e. refl) at
 step_keeps (raises {s = s} i u there live synced) j n v at leaves = set_stays s.pool.core.views i j n u (stepped u) v there (λ e. refl) at
 

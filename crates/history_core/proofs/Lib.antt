@@ -27,5 +27,7 @@ pub mod Spending
 pub mod Outings
 pub mod PinsStay
 pub mod Promises
-pub mod Laws
+pub mod Trail
 pub mod Lasting
+pub mod Sweeping
+pub mod Laws

@@ -170,7 +170,7 @@ filled = goes (pools (page_steps.cores (pin_steps.turns 0 0 take_turn (view_of m
     (goes (lanes 0 0 take_lane (view_of m12) refl refl (lit< tt) (record { free = refl }) tt)
     (goes (lanes 0 0 (lane_out sample_lane) (view_of m13) refl refl (lit< tt) goes_out tt)
     (goes (lanes 0 0 (read_block 7 sample_page) (view_of m14) refl refl (lit< tt) (record { call = record { out = λ e. cc; once = refl }; given = λ e. refl }) refl)
-    (goes (notes 0 0 0 false (note_read sample_page) (view_of m15) refl refl (lit< tt) (lit< tt) (record { out = λ e. cc; counts = λ taken e. record { failed = λ z. absurd (cc); read_rose = λ z. below taken.read_faults z; write_rose = λ z. below taken.write_faults z } }) (record { was_read = refl; lane = refl; right = refl; fresh = refl }))
+    (goes (notes 0 0 0 false (note_read sample_page) (view_of m15) refl refl (lit< tt) (lit< tt) (record { out = λ e. cc; counts = λ taken e. record { failed = λ z. absurd (cc); all = λ z. absurd (cc); read_rose = λ z. below taken.read_faults z; write_rose = λ z. below taken.write_faults z } }) (record { was_read = refl; lane = refl; right = refl; fresh = refl }))
     (goes (lanes 0 0 leave_lane (view_of m16) refl refl (lit< tt) (record { held = refl; home = refl }) tt)
     (goes (pools (page_steps.touches 0 0 page_out (view_of m17) refl refl (lit< tt) (record { page_home = refl; shared = λ e. absurd (cc); unlocked = λ e. refl }) tt) tt)
     (goes (pools (page_steps.touches 0 0 (overwrite_read sample_page) (view_of m18) refl refl (lit< tt) (record { out = λ e. cc; once = refl; right = refl; read = refl }) tt) tt)

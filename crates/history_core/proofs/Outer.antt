@@ -7,7 +7,7 @@ use Rattle.pin_core.specs.declared.view.View.{View}
 use Rattle.pin_core.specs.State.{Page, no_lane, no_log, lane_hold, new_view, emptied_view, joined_view}
 use Rattle.history_core.specs.Log.{Log}
 use Rattle.history_core.specs.State.{Lane}
-use Rattle.history_core.specs.Lanes.{LaneKind, LaneAllowed, lane_after, lane_hold_after, LaneLink, lane_shape, lane_part}
+use Rattle.history_core.specs.Lanes.{swept_by, LaneKind, LaneAllowed, lane_after, lane_hold_after, LaneLink, lane_shape, lane_part}
 use Rattle.history_core.specs.Invariant.{HistoryLaw}
 use Rattle.history_core.specs.State.{Device}
 use Rattle.history_core.specs.Device.{Written, LogTally, holders, appenders, log_weigh, log_shape, log_part}
@@ -77,13 +77,13 @@ module _ (known : ℕ → Bool) (origin : ℕ → Page) (log : Log) (n : ℕ) (l
       }
 
   -- a step at a lane, with more of the view changed
-  pub lanes_touched : (i q : ℕ) (k : LaneKind) (v w : View) → get_elem? views i ≡ some v → v.emptied ≡ false → q < n → LaneAllowed k (lane q) (lane_hold v q) → w.lanes ≡ set v.lanes q (lane_hold_after k v.flushed (lane_hold v q))
+  pub lanes_touched : (i q : ℕ) (k : LaneKind) (v w : View) → get_elem? views i ≡ some v → v.emptied ≡ false → q < n → LaneAllowed k (lane q) (lane_hold v q) → w.lanes ≡ set v.lanes q (lane_hold_after k v.flushed (swept_by v) (lane_hold v q))
       → Grid lane_shape lane_part n (put lane q (lane_after k (lane q))) (λ _. flushed) (set views i w)
-  lanes_touched i q k v w there live inside a lanes = let l : LaneHold = lane_hold_after k v.flushed (lane_hold v q) in
+  lanes_touched i q k v w there live inside a lanes = let l : LaneHold = lane_hold_after k v.flushed (swept_by v) (lane_hold v q) in
       touch lane_shape lane_part lane_part n lane (λ _. flushed) (λ _. flushed) views i q v w (lane_after k (lane q)) l h.lanes h.lanes there inside
       (record {
         own = refl;
         here = ap (λ (x : List LaneHold). lane_hold (record w { lanes = x }) q) lanes ∙ get_or-set_same v.lanes q l no_lane (subst (λ (m : ℕ). q < m) (sym (h.wide i v there live)) inside);
         else = λ g other. ap (λ (x : List LaneHold). lane_hold (record w { lanes = x }) g) lanes ∙ get_or-set_other v.lanes q g l no_lane other;
       })
-      (λ g below other. refl) (lane_keeps v.flushed flushed (lane q) (lane_hold v q) (h.history.calls i v there).loaded k a)
+      (λ g below other. refl) (lane_keeps v.flushed (swept_by v) flushed (lane q) (lane_hold v q) (h.history.calls i v there).loaded k a)

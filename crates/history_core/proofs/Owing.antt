@@ -37,7 +37,7 @@ use Rattle.history_core.specs.Lanes.{LaneKind, lane_after}
 use Rattle.history_core.specs.Device.{view_logged}
 use Rattle.history_core.specs.Invariant.{Invariant}
 use Rattle.history_core.specs.Debts.{Taken, IsCurrent, IsSettled, LinkDebt, ViewDebts, Debts, has_passed, has_listed, taken_of, DebtsLaw}
-use Rattle.history_core.specs.Steps.{Event, IsPlain, Writes, Notes, CanEnter, has_loaded, has_begun, new_entry, logged_noting, pool_noting, stepped, looked, paged, laned, has_read, has_written, Step, pools, lanes, writes, notes, logs, enters, reads, loads_end, begins, loads_flushed, raises, adds_hand, loads_hand, Run, rests, goes}
+use Rattle.history_core.specs.Steps.{Event, IsPlain, Writes, Notes, CanEnter, has_loaded, has_begun, new_entry, logged_noting, pool_noting, stepped, ticked, looked, paged, laned, has_read, has_written, Step, pools, lanes, writes, notes, logs, enters, reads, loads_end, begins, loads_flushed, raises, adds_hand, loads_hand, Run, rests, goes}
 use Rattle.history_core.proofs.Beginning.{BegunHere, link_begun}
 use Rattle.history_core.proofs.Blocks.{plain_block, tag_goes, written_is_logged}
 use Rattle.history_core.proofs.Calls.{at_both}
@@ -263,7 +263,7 @@ module _ (s : State) (h : Invariant s) (d : DebtsLaw s) (i f : ℕ) (p : Page) (
   current_longer z other c k e at tagged = ⊎_elim (λ (y : get_elem? s.log.entries k ≡ some e). c k e y tagged) (λ (y : (entry ≡ e) × (k ≡ length s.log.entries)). absurd (other (sym tagged ∙ ap (λ (w : Entry). w.tag) (sym y.0)))) (at_end s.log.entries entry e k at)
 
   settled_longer : (fr : Frame) (upto : ℕ) (passed listed : Bool) → upto ≤ s.end → IsSettled (taken_of s) fr upto passed listed → IsSettled longer fr upto passed listed
-  settled_longer fr upto passed listed begun c been given ok k e at tagged le lt = ⊎_elim (λ (y : get_elem? s.log.entries k ≡ some e). c been given ok k e y tagged le lt)
+  settled_longer fr upto passed listed begun c been given k e at tagged le lt = ⊎_elim (λ (y : get_elem? s.log.entries k ≡ some e). c been given k e y tagged le lt)
       (λ (y : (entry ≡ e) × (k ≡ length s.log.entries)). let z : s.end + record_size ≡ end_of e = ap end_of y.0 in absurd (omega arith)) (at_end s.log.entries entry e k at)
 
   -- no output of the block is under way
@@ -319,7 +319,7 @@ debts_kept (begins {s = s} i v there live) h d = let w : View = has_begun s.end 
       kept = x.kept;
     })
 debts_kept (loads_flushed {s = s} i v there live) h d = aside_owe s h d i v (looked (seen.Flushed s.flushed) (record v { flushed = s.flushed })) there refl refl refl
-debts_kept (adds_hand {s = s} i v there live) h d = aside_owe s h d i v (stepped v) there refl refl refl
+debts_kept (adds_hand {s = s} i v there live) h d = aside_owe s h d i v (ticked v) there refl refl refl
 debts_kept (loads_hand {s = s} i v there live) h d = aside_owe s h d i v (looked (seen.Hand s.hand) v) there refl refl refl
 debts_kept (raises {s = s} i v there live synced) h d = aside_owe s h d i v (stepped v) there refl refl refl
 

@@ -1,15 +1,17 @@
 -- What a checkpoint says at its end.
-use Rattle.std.proofs.Common.{◌≡◌, ◌≢◌, inl, inr, ℕ, ◌<◌, ◌≤◌, Bool, true, false, sym, refl, ap, ◌∙◌, subst, ⊎_elim, arith}
+use Rattle.std.proofs.Common.{◌≡◌, ◌≢◌, inl, inr, ℕ, ◌<◌, ◌≤◌, Bool, true, false, sym, refl, ◌∙◌, subst, ⊎_elim, arith}
 use Rattle.std.proofs.lemmas.Bool.{cases_lt}
 use mathlib.Core.Option.{some}
 use lib.ListN.{get_elem?}
-use Rattle.pin_core.specs.State.{no_tag, link}
+use Rattle.pin_core.specs.declared.view.Checkpoint.{Checkpoint}
+use Rattle.pin_core.specs.State.{no_tag, link, lane_hold}
+use Rattle.history_core.specs.Swept.{IsSwept, has_swept, SweptLaw}
 use Rattle.history_core.specs.Log.{Entry, end_of}
 use Rattle.history_core.specs.State.{State, stored_upto, failed}
 use Rattle.history_core.specs.Homes.{IsUnframed}
 use Rattle.history_core.specs.Invariant.{Invariant}
 use Rattle.history_core.specs.Debts.{has_passed, has_listed, IsSettled, taken_of, DebtsLaw}
-use Rattle.history_core.specs.Promises.{GrantsAreAlone, IsInLane, IsUnwritten, AreStored, CheckpointsStore}
+use Rattle.history_core.specs.Promises.{GrantsAreAlone, IsInLane, IsUnwritten, AreStored, AreSynced, SweepsStore, CheckpointsStore}
 use Rattle.pin_core.specs.Steps as pin_steps
 use Rattle.page_core.specs.Steps as page_steps
 use Rattle.page_core.proofs.Histories.{cleanup_alone}
@@ -40,7 +42,7 @@ module _ (s : State) (h : Invariant s) (d : DebtsLaw s) where
   all_stored upto passed listed settled ended k e at low = let named = d.named k e at in either (failed s e.tag) (λ bad. inr (unwritten e named bad)) (λ ok. inl (in_lane k e at ok (⊎_elim
       (λ (behind : stored_upto s e.tag < end_of e). ⊎_elim
       (λ (x : (f : ℕ) × (f < s.pool.core.frames) × ((s.pool.core.frame f).tag ≡ e.tag)). let done = ended x.0 x.1 in
-      absurd (apart (settled x.0 x.1 done.0 (λ z. named (sym x.2 ∙ z)) (ap (failed s) x.2 ∙ ok) k e at (sym x.2) low (subst (λ (t : ℕ). stored_upto s t < end_of e) (sym x.2) behind)).1 done.1))
+      absurd (apart (settled x.0 x.1 done.0 (λ z. named (sym x.2 ∙ z)) k e at (sym x.2) low (subst (λ (t : ℕ). stored_upto s t < end_of e) (sym x.2) behind)).1 done.1))
       (λ (none : IsUnframed s.pool.core.frames s.pool.core.frame e.tag). d.unframed e.tag named none k e at refl)
       (framed s.pool.core.frames s.pool.core.frame e.tag))
       (λ (there : end_of e ≤ stored_upto s e.tag). there) (cases_lt (stored_upto s e.tag) (end_of e)))))
@@ -50,6 +52,18 @@ module _ (s : State) (h : Invariant s) (d : DebtsLaw s) where
     own = λ i v there ended. all_stored v.upto (λ f. (link v f).passed) (λ f. (link v f).listed) (λ f below. ((d.each i v there).own f below).settled) ended;
     kept = λ i k v c there at ended. all_stored c.upto (has_passed c) (has_listed c) (λ f below. (d.each i v there).kept k f c at below) ended;
   }
+
+  -- what is durable in its lane is in it, or the block's last write failed
+  pub sweeps : SweptLaw s → SweepsStore s
+  sweeps m i upto v there low = let durable = all_synced (⊎_elim
+      (λ (x : (n : ℕ) → n < s.lanes → upto ≤ (lane_hold v n).swept). λ n below. ((lane_hold v n).swept, x n below, (m.each i v there).own n))
+      (λ (x : (k : ℕ) × (c : Checkpoint) × (get_elem? v.kept k ≡ some c) × ((n : ℕ) → n < s.lanes → upto ≤ has_swept c n)). λ n below. (has_swept x.1 n, x.3 n below, (m.each i v there).kept x.0 n x.1 x.2)) low) in (
+        durable,
+        λ k e at upto. let x = durable k e at upto in let y = m.below (s.lane_of e.tag) e.tag in either (failed s e.tag) (λ bad. inr (unwritten e (d.named k e at) bad)) (λ ok. inl (in_lane k e at ok (omega arith))),
+      )
+    where
+      all_synced : ((n : ℕ) → n < s.lanes → (p : ℕ) × (upto ≤ p) × IsSwept s n p) → AreSynced s upto
+      all_synced h2 k e at low = let x = h2 (s.lane_of e.tag) (h.placed e.tag) in let y = x.1 in x.2.durable k e at refl (omega arith)
 
 -- the load is of a frame that is there
 pub grants_alone : (s : State) → Invariant s → GrantsAreAlone s

@@ -193,7 +193,7 @@ writes_out p is = goes (pools (page_steps.touches 0 0 share (view_of (q19 p)) re
     (goes (lanes 0 0 take_lane (view_of (q24 p)) refl refl (lit< tt) (record { free = refl }) tt)
     (goes (lanes 0 0 (lane_out sample_lane) (view_of (q25 p)) refl refl (lit< tt) (takes_out p) tt)
     (goes (writes 0 0 0 (write_block 0 7 p) (view_of (q26 p)) refl refl (lit< tt) (lit< tt) (record { out = λ e. cc; once = refl }) (refl, record { tagged = refl; lane = refl; page = refl; right = record { right = refl }; log_first = is_flushed p is }))
-    (goes (notes 0 0 0 false (note_write true) (view_of (q27 p)) refl refl (lit< tt) (lit< tt) (record { out = λ e. cc; counts = λ taken e. record { failed = λ z. absurd (cc); read_rose = λ z. below taken.read_faults z; write_rose = λ z. below taken.write_faults z } }) (p, record { was_written = refl; lane = refl; page = refl; right = record { right = refl } }))
+    (goes (notes 0 0 0 false (note_write true) (view_of (q27 p)) refl refl (lit< tt) (lit< tt) (record { out = λ e. cc; counts = λ taken e. record { failed = λ z. absurd (cc); all = λ z. absurd (cc); read_rose = λ z. below taken.read_faults z; write_rose = λ z. below taken.write_faults z } }) (p, record { was_written = refl; lane = refl; page = refl; right = record { right = refl } }))
     (goes (lanes 0 0 leave_lane (view_of (q28 p)) refl refl (lit< tt) (record { held = refl; home = refl }) tt)
     (goes (pools (page_steps.cores (pin_steps.touches 0 0 pins.lock_header (view_of (q29 p)) refl refl (lit< tt) (record { unlocked = refl }) (at_frame (λ (l : Link). l.header ≡ None) (view_of (q29 p)) _ refl refl refl))) tt)
     (goes (pools (page_steps.touches 0 0 (end_io WriteOk) (view_of (q30 p)) refl refl (lit< tt) (record { held = refl; page_home = λ e. absurd (cc); ends = record { right = refl; written = refl } }) (none_out p)) tt)

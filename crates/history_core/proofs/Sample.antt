@@ -71,7 +71,7 @@ sample = (
     (goes (lanes 0 0 take_lane (view_of sample_start) refl refl (lit< tt) (record { free = refl }) tt)
         (goes (lanes 0 0 (lane_out sample_lane) (view_of s1) refl refl (lit< tt) goes_out tt)
         (goes (lanes 0 0 (read_block 7 sample_page) (view_of s2) refl refl (lit< tt) (record { call = record { out = λ e. cc; once = refl }; given = λ e. refl }) refl)
-        (goes (lanes 0 0 (lane_back false) (view_of s3) refl refl (lit< tt) (record { out = λ e. cc; counts = λ taken e. record { failed = λ z. absurd (cc); read_rose = λ z. absurd (grind (arith, e, z)); write_rose = λ z. absurd (grind (arith, e, z)) } }) tt)
+        (goes (lanes 0 0 (lane_back false) (view_of s3) refl refl (lit< tt) (record { out = λ e. cc; counts = λ taken e. record { failed = λ z. absurd (cc); all = λ z. absurd (cc); read_rose = λ z. absurd (grind (arith, e, z)); write_rose = λ z. absurd (grind (arith, e, z)) } }) tt)
         (goes (lanes 0 0 leave_lane (view_of s4) refl refl (lit< tt) (record { held = refl; home = refl }) tt)
         rests))))),
     (goes (logs 0 take_log (view_of s5) refl refl (record { free = refl }) tt)

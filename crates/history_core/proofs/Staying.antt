@@ -18,7 +18,7 @@ use Rattle.history_core.specs.Log.{record_size}
 use Rattle.history_core.specs.State.{State}
 use Rattle.history_core.specs.Lanes.{lane_back}
 use Rattle.history_core.specs.Device.{view_logged}
-use Rattle.history_core.specs.Steps.{Event, pool, stepped, looked, pool_noting, paged, laned, has_loaded, has_read, has_begun, has_written, Step, pools, lanes, writes, notes, enters, reads, loads_end, begins, loads_flushed, raises, adds_hand, loads_hand, logs}
+use Rattle.history_core.specs.Steps.{Event, pool, stepped, ticked, looked, pool_noting, paged, laned, has_loaded, has_read, has_begun, has_written, Step, pools, lanes, writes, notes, enters, reads, loads_end, begins, loads_flushed, raises, adds_hand, loads_hand, logs}
 use Rattle.history_core.specs.Histories.{LeavesCalls, HasCallsOf, CallsStay}
 use Rattle.grid.proofs.Lists.{set_here, set_else, at_longer}
 
@@ -59,7 +59,7 @@ step_stays (reads {s = s} i f tag p u there live inside a) j v at leaves = other
 step_stays (loads_end {s = s} i u there live) j v at leaves = set_stays s.pool.core.views i j u (has_loaded s.end u) v there refl refl at
 step_stays (begins {s = s} i u there live) j v at leaves = set_stays s.pool.core.views i j u (has_begun s.end (looked (seen.LogEnd s.end) u)) v there refl refl at
 step_stays (loads_flushed {s = s} i u there live) j v at leaves = set_stays s.pool.core.views i j u (looked (seen.Flushed s.flushed) (record u { flushed = s.flushed })) v there refl refl at
-step_stays (adds_hand {s = s} i u there live) j v at leaves = set_stays s.pool.core.views i j u (stepped u) v there refl refl at
+step_stays (adds_hand {s = s} i u there live) j v at leaves = set_stays s.pool.core.views i j u (ticked u) v there refl refl at
 step_stays (loads_hand {s = s} i u there live) j v at leaves = set_stays s.pool.core.views i j u (looked (seen.Hand s.hand) u) v there refl refl at
 step_stays (raises {s = s} i u there live synced) j v at leaves = set_stays s.pool.core.views i j u (stepped u) v there refl refl at
 

@@ -40,10 +40,10 @@ use Rattle.page_core.proofs.Stepping.{new_none}
 use Rattle.history_core.specs.Log.{Entry, IsImage, record_size, cell, log_bytes, record_bytes}
 use Rattle.history_core.specs.State.{Lane, Device, State, next_hand, stored, stored_upto, failed}
 use Rattle.history_core.specs.Lanes as lane_kinds
-use Rattle.history_core.specs.Lanes.{LaneKind, LaneAllowed, lane_after, lane_hold_after, LaneLink, lane_shape, lane_part}
+use Rattle.history_core.specs.Lanes.{swept_by, LaneKind, LaneAllowed, lane_after, lane_hold_after, LaneLink, lane_shape, lane_part}
 use Rattle.history_core.specs.Homes.{Home, home_of, IsClean, HomeLink, home_shape, home_part, IsUnframed, IsFlushedCell}
 use Rattle.history_core.specs.Invariant.{HistoryLaw, written_of, Invariant}
-use Rattle.history_core.specs.Steps.{Event, IsPlain, PoolAllowed, stepped, looked, aside, pool_after, pool_noting, CanNoteLaneRead, paged, laned, LaneAlone, CanWrite, Writes, Notes, new_entry, CanEnter, CanRead, has_loaded, has_read, has_begun, has_written, Step, pools, lanes, writes, notes, enters, reads, loads_end, begins, loads_flushed, raises, adds_hand, loads_hand, logs, Run, rests, goes}
+use Rattle.history_core.specs.Steps.{Event, IsPlain, PoolAllowed, stepped, ticked, looked, aside, pool_after, pool_noting, CanNoteLaneRead, paged, laned, LaneAlone, CanWrite, Writes, Notes, new_entry, CanEnter, CanRead, has_loaded, has_read, has_begun, has_written, Step, pools, lanes, writes, notes, enters, reads, loads_end, begins, loads_flushed, raises, adds_hand, loads_hand, logs, Run, rests, goes}
 use Rattle.history_core.specs.Device.{LogKind, take_log, leave_log, log_out, append, fail_append, sync_log, fail_sync, log_back, see_down, LogAllowed, device_after, view_logged, log_weigh, log_shape, log_part}
 use Rattle.history_core.proofs.Device.{log_keeps, enter_keeps, end_keeps, synced_all}
 use Rattle.history_core.proofs.Calls.{SameCalls, history_same, history_read, history_written, history_loaded, history_raised}
@@ -265,13 +265,13 @@ pools_step s h (page_steps.cores x) a = others_step s h x
 pools_step s h (page_steps.touches i f k v there live inside a around) plain = page_step s h i f k v there live inside a around plain
 
 -- the laws of the calls and the lanes after a step at a lane
-laned_outer : (s : State) (h : Invariant s) (i q : ℕ) (k : LaneKind) (v w : View) → get_elem? s.pool.core.views i ≡ some v → v.emptied ≡ false → q < s.lanes → LaneAllowed k (s.lane q) (lane_hold v q) → SameCalls v w → w.emptied ≡ v.emptied → w.lanes ≡ set v.lanes q (lane_hold_after k v.flushed (lane_hold v q)) → w.log ≡ v.log → w.saw_down ≡ v.saw_down
+laned_outer : (s : State) (h : Invariant s) (i q : ℕ) (k : LaneKind) (v w : View) → get_elem? s.pool.core.views i ≡ some v → v.emptied ≡ false → q < s.lanes → LaneAllowed k (s.lane q) (lane_hold v q) → SameCalls v w → w.emptied ≡ v.emptied → w.lanes ≡ set v.lanes q (lane_hold_after k v.flushed (swept_by v) (lane_hold v q)) → w.log ≡ v.log → w.saw_down ≡ v.saw_down
     → Outer s.known s.origin s.log s.lanes (put s.lane q (lane_after k (s.lane q))) s.flushed (written_of s) s.device (set s.pool.core.views i w)
 laned_outer s h i q k v w there live low a same emptied holds unlogged saw = record {
   device = steady log_shape log_part 1 (λ _. s.device) (λ _. written_of s) s.pool.core.views h.device i v w there saw (λ g. unlogged);
   history = history_same s.known s.origin s.log s.flushed s.pool.core.views h.history i v w there same;
   lanes = lanes_touched s.known s.origin s.log s.lanes s.lane s.flushed (written_of s) s.device s.pool.core.views (outer_of s h) i q k v w there live low a holds;
-  wide = wide_set s.lanes s.pool.core.views h.wide i v w there emptied (ap (λ (x : List LaneHold). length x) holds ∙ length-set v.lanes q (lane_hold_after k v.flushed (lane_hold v q)));
+  wide = wide_set s.lanes s.pool.core.views h.wide i v w there emptied (ap (λ (x : List LaneHold). length x) holds ∙ length-set v.lanes q (lane_hold_after k v.flushed (swept_by v) (lane_hold v q)));
 }
 
 -- The kind k notes something at the frame f, where `logged` is what is known of the blocks' pages by then
@@ -677,7 +677,7 @@ step_keeps (begins {s = s} i v there live) h = let w : View = has_begun s.end (l
 step_keeps (loads_flushed {s = s} i v there live) h = let w : View = looked (seen.Flushed s.flushed) (record v { flushed = s.flushed }) in with_view s h i v w there (record { backend = record { emptied = refl; number = refl; next = refl; links = refl; partitions = refl }; joined = refl; links = refl; partitions = refl }) refl refl refl
     (history_loaded s.known s.origin s.log s.flushed s.pool.core.views h.history i v w there refl refl refl refl refl refl refl)
 step_keeps (raises {s = s} i v there live synced) h = raises_step s h i v there synced
-step_keeps (adds_hand {s = s} i v there live) h = let w : View = stepped v in handed (with_view s h i v w there (record { backend = record { emptied = refl; number = refl; next = refl; links = refl; partitions = refl }; joined = refl; links = refl; partitions = refl }) refl refl refl
+step_keeps (adds_hand {s = s} i v there live) h = let w : View = ticked v in handed (with_view s h i v w there (record { backend = record { emptied = refl; number = refl; next = refl; links = refl; partitions = refl }; joined = refl; links = refl; partitions = refl }) refl refl refl
     (history_same s.known s.origin s.log s.flushed s.pool.core.views h.history i v w there (record { calls = refl; front = refl; joined = refl; flushed = refl; emptied = refl; number = refl; kept = refl }))) (next_hand s.hand)
 step_keeps (loads_hand {s = s} i v there live) h = let w : View = looked (seen.Hand s.hand) v in with_view s h i v w there (record { backend = record { emptied = refl; number = refl; next = refl; links = refl; partitions = refl }; joined = refl; links = refl; partitions = refl }) refl refl refl
     (history_same s.known s.origin s.log s.flushed s.pool.core.views h.history i v w there (record { calls = refl; front = refl; joined = refl; flushed = refl; emptied = refl; number = refl; kept = refl }))

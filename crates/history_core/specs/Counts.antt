@@ -61,6 +61,8 @@ pub record LaneCounts (m : Met) (ln : Lane) (t : CountTally → ℕ) : Type 0 wh
   pub split : t holders ≡ t unfailed + t failed_reads + t failed_writes
   -- where a block's last write failed, the count of failed writes rose
   pub failed_rose : (tag : ℕ) → ln.failed tag ≡ true → HasRisen ln.write_faults_at_start ln.write_faults
+  -- and some view counts a fault, or has a failed call out
+  pub failed_met : (tag : ℕ) → ln.failed tag ≡ true → t failed_writes ≡ 0 → 0 < m.writes
 
 -- and of what a view has out
 pub record HoldCounts (m : Met) (ln : Lane) (h : LaneHold) : Type 0 where

@@ -30,9 +30,9 @@ pub record Taken : Type 0 where
 abbrev pub IsCurrent : Taken → ℕ → Type 0
 IsCurrent t tag = (k : ℕ) (e : Entry) → get_elem? t.entries k ≡ some e → e.tag ≡ tag → end_of e ≤ t.upto tag
 
--- A frame that a checkpoint has passed, which began where the log ended at `upto`: an entry of the frame's block up to there that isn't in the lane, whose last write didn't fail, is still to be written. The frame carries BM_CHECKPOINT_NEEDED then, and is one that the checkpoint has listed
+-- A frame that a checkpoint has passed, which began where the log ended at `upto`: an entry of the frame's block up to there that isn't in the lane is still to be written. The frame carries BM_CHECKPOINT_NEEDED then, and is one that the checkpoint has listed
 abbrev pub IsSettled : Taken → Frame → ℕ → Bool → Bool → Type 0
-IsSettled t fr upto passed listed = passed ≡ true → fr.tag ≢ no_tag → t.failed fr.tag ≡ false → (k : ℕ) (e : Entry) → get_elem? t.entries k ≡ some e → e.tag ≡ fr.tag → end_of e ≤ upto → t.upto fr.tag < end_of e → (fr.word.checkpoint_needed ≡ true) × (listed ≡ true)
+IsSettled t fr upto passed listed = passed ≡ true → fr.tag ≢ no_tag → (k : ℕ) (e : Entry) → get_elem? t.entries k ≡ some e → e.tag ≡ fr.tag → end_of e ≤ upto → t.upto fr.tag < end_of e → (fr.word.checkpoint_needed ≡ true) × (listed ≡ true)
 
 -- What holds of the checkpoint of a view, which began at `upto`, and of what the view has at a frame
 pub record LinkDebt (t : Taken) (fr : Frame) (upto : ℕ) (l : Link) : Type 0 where

@@ -1,5 +1,5 @@
 -- The latches of the lanes: the kinds of step at one, and what holds of it.
-use Rattle.std.specs.Prelude.{◌≡◌, ◌≢◌, ℕ, ◌<◌, ◌≤◌, Bool, true, false, List, [], ◌∷◌, ◌++◌, max, Some, None, slice_set, ◌||◌}
+use Rattle.std.specs.Prelude.{◌≡◌, ◌≢◌, ℕ, ◌<◌, ◌≤◌, Bool, true, false, List, [], ◌∷◌, ◌++◌, max, Some, None, slice_set, ◌||◌, ◌&&◌, not, if◌then◌else◌}
 use mathlib.Core.Option.{some}
 use lib.ListN.{get_elem?}
 use Rattle.page_layout.specs.Fields.{lsn_of}
@@ -10,6 +10,7 @@ use Rattle.pin_core.specs.declared.view.TakenLane.{TakenLane}
 use Rattle.pin_core.specs.declared.view.LaneHold.{LaneHold}
 use Rattle.pin_core.specs.declared.view.DeviceCall.{DeviceCall}
 use Rattle.pin_core.specs.declared.view.DeviceCall.TheVariants as device
+use Rattle.pin_core.specs.declared.view.Link.{Link}
 use Rattle.pin_core.specs.declared.view.Met.{Met}
 use Rattle.pin_core.specs.declared.view.View.{View}
 use Rattle.pin_core.specs.State.{Page, lane_hold, sum_of_met}
@@ -88,6 +89,8 @@ pub record CanReadBlock (tag : ℕ) (page : Page) (ln : Lane) (h : LaneHold) : T
 -- a fault is counted only for a call that failed, and is where its count rose
 pub record CountsFault (noted : Bool) (taken : TakenLane) (ln : Lane) (change : LaneChange) : Type 0 where
   pub failed : noted ≡ true → (is_failed_read change || is_failed_write change) ≡ true
+  -- each write or sync that failed is counted
+  pub all : is_failed_write change ≡ true → noted ≡ true
   pub read_rose : taken.read_faults < ln.read_faults → noted ≡ true
   pub write_rose : taken.write_faults < ln.write_faults → noted ≡ true
 
@@ -117,18 +120,27 @@ lane_after sync_lane ln = record ln { synced_upto = ln.stored_upto }
 lane_after (fail_sync n) ln = record ln { write_faults = n }
 lane_after _ ln = ln
 
--- What a kind makes of what the view has of the latch, where `flushed` is the flushed position as the view had loaded it
-abbrev pub lane_hold_after : LaneKind → ℕ → LaneHold → LaneHold
-lane_hold_after take_lane flushed h = record h { held = true }
-lane_hold_after leave_lane flushed h = record h { held = false }
-lane_hold_after (lane_out taken) flushed h = record h { out = Some taken; flushed = flushed }
-lane_hold_after (read_block tag page) flushed h = record h { change = Read tag page }
-lane_hold_after (fail_read tag n) flushed h = record h { change = ReadFailed tag }
-lane_hold_after (write_block f tag p) flushed h = record h { change = Written f tag p }
-lane_hold_after (fail_write f tag p n) flushed h = record h { change = WriteFailed f tag }
-lane_hold_after sync_lane flushed h = record h { change = Synced }
-lane_hold_after (fail_sync n) flushed h = record h { change = SyncFailed }
-lane_hold_after (lane_back noted) flushed h = record h { out = None; change = Untouched }
+-- whether a checkpoint has passed the frame of each link, and none is left that it has still to write
+abbrev pub all_ended : List Link → Bool
+all_ended [] = true
+all_ended (l ∷ ls) = l.passed && not l.listed && all_ended ls
+
+-- the position where a view's checkpoint began, if it has nothing left to write
+abbrev pub swept_by : View → ℕ
+swept_by v = if all_ended v.links then v.upto else 0
+
+-- What a kind makes of what the view has of the latch, where `flushed` is the flushed position as the view had loaded it, and `swept` the position where its checkpoint began, if nothing is left to write of it
+abbrev pub lane_hold_after : LaneKind → ℕ → ℕ → LaneHold → LaneHold
+lane_hold_after take_lane flushed swept h = record h { held = true }
+lane_hold_after leave_lane flushed swept h = record h { held = false }
+lane_hold_after (lane_out taken) flushed swept h = record h { out = Some taken; flushed = flushed }
+lane_hold_after (read_block tag page) flushed swept h = record h { change = Read tag page }
+lane_hold_after (fail_read tag n) flushed swept h = record h { change = ReadFailed tag }
+lane_hold_after (write_block f tag p) flushed swept h = record h { change = Written f tag p }
+lane_hold_after (fail_write f tag p n) flushed swept h = record h { change = WriteFailed f tag }
+lane_hold_after sync_lane flushed swept h = record h { change = Synced; swept = max h.swept swept }
+lane_hold_after (fail_sync n) flushed swept h = record h { change = SyncFailed }
+lane_hold_after (lane_back noted) flushed swept h = record h { out = None; change = Untouched }
 
 -- the device call that a kind is, at the lane n
 abbrev pub calls_by : LaneKind → ℕ → List DeviceCall
@@ -157,9 +169,9 @@ syncs (fail_sync n) = true
 syncs _ = false
 
 -- What a kind at the lane n makes of the view, beside the number of its steps
-abbrev pub lane_changed : LaneKind → ℕ → LaneHold → View → View
-lane_changed k n h v = record v {
-  lanes = slice_set v.lanes n (lane_hold_after k v.flushed h);
+abbrev pub lane_changed : LaneKind → ℕ → ℕ → LaneHold → View → View
+lane_changed k n swept h v = record v {
+  lanes = slice_set v.lanes n (lane_hold_after k v.flushed swept h);
   device_calls = v.device_calls ++ calls_by k n;
   met = sum_of_met v.met (met_by k h);
   dirtied_or_synced = v.dirtied_or_synced || syncs k;

@@ -7,8 +7,13 @@ use Rattle.history_core.specs.Debts.{DebtsLaw}
 use Rattle.history_core.specs.Rest.{RestLaw}
 use Rattle.history_core.specs.Outings.{OutingsLaw}
 use Rattle.history_core.specs.Spent.{SpentLaw}
+use Rattle.history_core.specs.Trail.{TrailLaw}
+use Rattle.history_core.specs.Histories.{IsReached}
+use Rattle.history_core.specs.Swept.{SweptLaw}
 
 pub record Laws (s : State) : Type 0 where
+  -- events lead to it, from the start of a buffer pool; what follows is what holds of each such state
+  pub reached : IsReached s
   -- of pins, headers, tags, maps, content locks, pages, lanes, the log and the calls
   pub invariant : Invariant s
   -- of what must have happened before there can be a fault of writing
@@ -23,3 +28,7 @@ pub record Laws (s : State) : Type 0 where
   pub outings : OutingsLaw s
   -- of what is left of backends that were joined into the first
   pub spent : SpentLaw s
+  -- of the state words, which the views fix
+  pub trail : TrailLaw s
+  -- of what backends have made durable in the lanes
+  pub swept : SweptLaw s

@@ -16,5 +16,7 @@ pub mod Put
 pub mod Spent
 pub mod Outings
 pub mod Promises
+pub mod Trail
 pub mod Laws
 pub mod Lasting
+pub mod Swept

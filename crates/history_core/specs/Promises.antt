@@ -4,7 +4,7 @@ use mathlib.Core.Option.{some}
 use lib.ListN.{get_elem?}
 use Rattle.pin_core.specs.declared.view.Checkpoint.{Checkpoint}
 use Rattle.pin_core.specs.declared.view.View.{View}
-use Rattle.pin_core.specs.State.{link}
+use Rattle.pin_core.specs.State.{link, lane_hold}
 use Rattle.pin_core.specs.declared.view.Role.TheVariants.{Absent}
 use Rattle.pin_core.specs.declared.view.Content.TheVariants.{Unlocked, Exclusive}
 use Rattle.pin_core.specs.Kinds.{unpin, load_state}
@@ -12,7 +12,8 @@ use Rattle.pin_core.specs.Steps as pin_steps
 use Rattle.pin_core.specs.Schedules.{IsHandedOut, KeepsTag}
 use Rattle.page_core.specs.Steps as page_steps
 use Rattle.history_core.specs.Log.{Entry, end_of, cell, cut, head_size}
-use Rattle.history_core.specs.State.{State, stored, failed}
+use Rattle.history_core.specs.State.{State, stored, synced_upto, failed}
+use Rattle.history_core.specs.Swept.{has_swept}
 use Rattle.history_core.specs.Debts.{has_passed, has_listed}
 use Rattle.history_core.specs.Steps.{Event, pool, Step, Run}
 
@@ -52,6 +53,14 @@ pub record IsUnwritten (s : State) (e : Entry) : Type 0 where
 -- each entry that ends at the position `upto` or before it is in its block's lane, or its block's last write failed
 abbrev pub AreStored : State → ℕ → Type 0
 AreStored s upto = (k : ℕ) (e : Entry) → get_elem? s.log.entries k ≡ some e → end_of e ≤ upto → IsInLane s e ⊎ IsUnwritten s e
+
+-- up to the position `upto` all entries are durable in the lanes
+abbrev pub AreSynced : State → ℕ → Type 0
+AreSynced s upto = (k : ℕ) (e : Entry) → get_elem? s.log.entries k ≡ some e → end_of e ≤ upto → end_of e ≤ synced_upto s e.tag
+
+-- A backend that has swept each lane up to the position `upto`, also one that was joined into another
+abbrev pub SweepsStore : State → Type 0
+SweepsStore s = (i upto : ℕ) (v : View) → get_elem? s.pool.core.views i ≡ some v → ((n : ℕ) → n < s.lanes → upto ≤ (lane_hold v n).swept) ⊎ ((k : ℕ) × (c : Checkpoint) × (get_elem? v.kept k ≡ some c) × ((n : ℕ) → n < s.lanes → upto ≤ has_swept c n)) → AreSynced s upto × AreStored s upto
 
 -- What a checkpoint says at its end, when it has passed every frame and none is left that it has still to write: its own, or that of a backend that was joined into another
 pub record CheckpointsStore (s : State) : Type 0 where

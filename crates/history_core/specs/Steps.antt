@@ -24,7 +24,7 @@ use Rattle.page_core.specs.Steps as page_steps
 use Rattle.page_core.specs.Steps.{logged_after}
 use Rattle.history_core.specs.Log.{Entry, record_size, record_bytes}
 use Rattle.history_core.specs.State.{State, last_position, next_hand}
-use Rattle.history_core.specs.Lanes.{LaneKind, read_block, fail_read, write_block, fail_write, lane_back, LaneAllowed, lane_after, lane_changed}
+use Rattle.history_core.specs.Lanes.{LaneKind, read_block, fail_read, write_block, fail_write, lane_back, LaneAllowed, lane_after, lane_changed, swept_by}
 use Rattle.history_core.specs.Device.{LogKind, append, fail_append, LogAllowed, device_after, view_logged}
 use Rattle.grid.specs.Shape.{put}
 
@@ -69,6 +69,10 @@ PoolAllowed (page_steps.at i f k) = IsPlain k
 abbrev pub stepped : View → View
 stepped v = record v { steps = v.steps + 1 }
 
+-- and after it moved the clock's hand on
+abbrev pub ticked : View → View
+ticked v = record v { steps = v.steps + 1; ticks = v.ticks + 1 }
+
 -- a view after a load
 abbrev pub looked : Seen → View → View
 looked seen v = record v { loads = v.loads ++ load_of v seen ∷ [] }
@@ -90,7 +94,7 @@ paged k s f v = let fr = s.core.frame f in pages.view_after k f (block_of s.logg
 
 -- what a step of the kind k at the lane n makes of the view w, where the view was v
 abbrev pub laned : LaneKind → ℕ → View → View → View
-laned k n v w = lane_changed k n (lane_hold v n) w
+laned k n v w = lane_changed k n (swept_by v) (lane_hold v n) w
 
 -- The kinds at a lane that touch no frame: a call other than a write, and a return without a write
 abbrev pub NoWrite : LaneChange → Type 0
@@ -248,7 +252,7 @@ pub data Step : Event → State → State → Type 0 where
   loads_flushed : {s : State} (i : ℕ) (v : View) → get_elem? s.pool.core.views i ≡ some v → v.emptied ≡ false → Step (load_flushed i) s (record s { pool = aside s.pool i (looked (seen.Flushed s.flushed) (record v { flushed = s.flushed })) })
   -- under the log's latch, after a sync
   raises : {s : State} (i : ℕ) (v : View) → get_elem? s.pool.core.views i ≡ some v → v.emptied ≡ false → v.log.synced ≡ true → Step (raise_flushed i) s (record s { pool = aside s.pool i (stepped v); flushed = max s.flushed s.end })
-  adds_hand : {s : State} (i : ℕ) (v : View) → get_elem? s.pool.core.views i ≡ some v → v.emptied ≡ false → Step (add_hand i) s (record s { pool = aside s.pool i (stepped v); hand = next_hand s.hand })
+  adds_hand : {s : State} (i : ℕ) (v : View) → get_elem? s.pool.core.views i ≡ some v → v.emptied ≡ false → Step (add_hand i) s (record s { pool = aside s.pool i (ticked v); hand = next_hand s.hand })
   loads_hand : {s : State} (i : ℕ) (v : View) → get_elem? s.pool.core.views i ≡ some v → v.emptied ≡ false → Step (load_hand i) s (record s { pool = aside s.pool i (looked (seen.Hand s.hand) v) })
 
 -- the events lead from one state to the other

@@ -3,14 +3,15 @@
 //! Nothing here runs. The types are those of `pin_core`; the kinds of step, the law that they keep and the lists of steps are in `specs/`, and docs/PROTOCOL.md tells them in words.
 #![tactic(auto)]
 
-ghost use Rattle.std.specs.Prelude.{ℕ, ◌<◌, List};
+ghost use Rattle.std.specs.Prelude.{◌≡◌, ℕ, ◌<◌, List};
 ghost use Rattle.pin_core.specs.State.{CanOpen, Config, Page};
 ghost use Rattle.pin_core.specs.Schedules.{TagsAreUnique, PinsRemember};
 ghost use Rattle.page_core.specs.Histories.{CleanupIsAlone};
 ghost use Rattle.history_core.specs.State.{CanStore, State, Store, opening};
 ghost use Rattle.history_core.specs.Laws.{Laws};
 ghost use Rattle.history_core.specs.Lasting.{LogGrows, OpeningStays};
-ghost use Rattle.history_core.specs.Promises.{CheckpointsStore, GrantsAreAlone, PinnedTagsStay};
+ghost use Rattle.history_core.specs.Promises.{CheckpointsStore, GrantsAreAlone, PinnedTagsStay, SweepsStore};
+ghost use Rattle.history_core.specs.Trail.{HasSameWords, ListedIsMade};
 ghost use Rattle.history_core.specs.Steps.{Event, Run};
 ghost use Rattle.history_core.specs.Sample.{SampleRuns};
 ghost use Rattle.history_core.specs.Miss.{MissRuns};
@@ -85,6 +86,21 @@ pub fn cleanup_is_granted()
 /// The end of a checkpoint (`CheckPointBuffers`): each entry of the log up to where it began is durable and in its block's lane, or that block's last write failed, and its frame is valid and dirty.
 pub fn checkpoints_store()
     ensures { (s : State) → Laws s → CheckpointsStore s }
+{}
+
+/// The end of a checkpoint's syncs: where a backend has swept each lane up to a position, each entry of the log up to there is durable in its block's lane.
+pub fn sweeps_store()
+    ensures { (s : State) → Laws s → SweepsStore s }
+{}
+
+/// What the backends list of the changes of the state words, and count of the moves of the clock's hand, fixes each frame's state word and where the hand stands.
+pub fn lists_fix_words()
+    ensures { (s : State) (t : State) → Laws s → Laws t → s.pool.core.views ≡ t.pool.core.views → HasSameWords s t }
+{}
+
+/// A change of a state word that a backend lists is made, and one that none lists is not, and so with the moves of the clock's hand.
+pub fn listed_changes_are_made()
+    ensures { (s : State) (t : State) → Laws s → Laws t → ListedIsMade s t }
 {}
 
 /// An example: a backend reads a block from its lane, and makes the log durable.

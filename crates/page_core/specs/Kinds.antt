@@ -16,7 +16,8 @@ use Rattle.pin_core.specs.declared.view.Seen.TheVariants as seen
 use Rattle.pin_core.specs.declared.view.Link.{Link}
 use Rattle.pin_core.specs.declared.view.View.{View}
 use Rattle.pin_core.specs.State.{Frame, Page}
-use Rattle.pin_core.specs.Kinds.{released, load_of}
+use Rattle.pin_core.specs.Kinds.{released, load_of, changed}
+use Rattle.pin_core.specs.declared.view.WordChange.{WordChange}
 use Rattle.page_layout.specs.Soundness.{is_new_page, is_sound_page}
 use Rattle.page_core.specs.State.{Block}
 
@@ -321,6 +322,18 @@ abbrev pub seen_by : Kind → ℕ → Frame → List Seen
 seen_by load_content f fr = seen.Content f fr.sharers fr.exclusive fr.copying ∷ []
 seen_by _ f fr = []
 
+-- the changes of state words after a kind at the frame f
+abbrev pub changes_after : Kind → ℕ → Block → Frame → List WordChange → List WordChange
+changes_after mark_dirty f b fr changes = changed f fr (frame_after mark_dirty b fr).word changes
+changes_after start_input f b fr changes = changed f fr (frame_after start_input b fr).word changes
+changes_after start_output f b fr changes = changed f fr (frame_after start_output b fr).word changes
+changes_after clear_just_dirtied f b fr changes = changed f fr (frame_after clear_just_dirtied b fr).word changes
+changes_after (end_io end) f b fr changes = changed f fr (frame_after (end_io end) b fr).word changes
+changes_after (set_waiter number) f b fr changes = changed f fr (frame_after (set_waiter number) b fr).word changes
+changes_after clear_waiter f b fr changes = changed f fr (frame_after clear_waiter b fr).word changes
+changes_after need_checkpoint f b fr changes = changed f fr (frame_after need_checkpoint b fr).word changes
+changes_after _ f b fr changes = changes
+
 -- how many steps other than loads a kind is
 abbrev pub steps_of : Kind → ℕ
 steps_of load_content = 0
@@ -331,6 +344,7 @@ abbrev pub view_after : Kind → ℕ → Block → Frame → Link → View → V
 view_after k f b fr l v = record v {
   links = slice_set v.links f (link_after k b fr l);
   loads = v.loads ++ map (load_of v) (seen_by k f fr);
+  changes = changes_after k f b fr v.changes;
   steps = v.steps + steps_of k;
   dirtied_or_synced = v.dirtied_or_synced || dirties k;
   had_output = v.had_output || starts_output k;

@@ -12,6 +12,7 @@ use Rattle.pin_core.specs.declared.view.PartitionHold.{PartitionHold}
 use Rattle.pin_core.specs.declared.view.Seen.{Seen}
 use Rattle.pin_core.specs.declared.view.Seen.TheVariants as seen
 use Rattle.pin_core.specs.declared.view.Load.{Load}
+use Rattle.pin_core.specs.declared.view.WordChange.{WordChange}
 use Rattle.pin_core.specs.declared.view.Link.{Link}
 use Rattle.pin_core.specs.declared.view.View.{View}
 use Rattle.pin_core.specs.State.{Frame, Partition, no_tag, is_tag, hold, is_pin}
@@ -202,6 +203,18 @@ seen_by load_state f fr = seen.State f fr.word ∷ []
 seen_by load_tag f fr = seen.Tag f fr.tag ∷ []
 seen_by _ f fr = []
 
+-- the changes of state words, where the one of the frame f became `left`
+abbrev pub changed : ℕ → Frame → StateWord → List WordChange → List WordChange
+changed f fr left changes = changes ++ record { frame = f; found = fr.word; left = left } ∷ []
+
+-- and after a kind at it
+abbrev pub changes_after : Kind → ℕ → Frame → List WordChange → List WordChange
+changes_after load_state f fr changes = changes
+changes_after (store_tag tag) f fr changes = changes
+changes_after erase_tag f fr changes = changes
+changes_after load_tag f fr changes = changes
+changes_after k f fr changes = changed f fr (frame_after k fr).word changes
+
 -- how many steps other than loads a kind is
 abbrev pub steps_of : Kind → ℕ
 steps_of load_state = 0
@@ -236,5 +249,6 @@ view_after k partition_of f fr l v = record v {
   links = slice_set v.links f (link_after k fr l);
   partitions = holds_naming (named_by k f fr) partition_of v;
   loads = v.loads ++ map (load_of v) (seen_by k f fr);
+  changes = changes_after k f fr v.changes;
   steps = v.steps + steps_of k;
 }

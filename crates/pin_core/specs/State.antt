@@ -100,7 +100,7 @@ abbrev pub no_partition : PartitionHold
 no_partition = record { held = false; change = Settled; out = None; changed = false; seen = None }
 
 abbrev pub no_lane : LaneHold
-no_lane = record { held = false; out = None; change = lane_change.Untouched; flushed = 0 }
+no_lane = record { held = false; out = None; change = lane_change.Untouched; flushed = 0; swept = 0 }
 
 abbrev pub no_log : LogHold
 no_log = record { held = false; out = None; change = log_change.Untouched; appended = None; synced = false; end = None }
@@ -143,7 +143,9 @@ new_view number base frames partitions lanes = record {
   front = base;
   place_loads = 0;
   steps = 0;
+  ticks = 0;
   loads = [];
+  changes = [];
   upto = 0;
   kept = [];
   device_calls = [];
@@ -167,13 +169,15 @@ sum_of_met a b = record { reads = a.reads + b.reads; writes = a.writes + b.write
 
 -- the checkpoint of a view, as it is kept when the view is joined into the first
 abbrev pub kept_checkpoint : View → Checkpoint
-kept_checkpoint u = record { number = u.number; upto = u.upto; passed = map (λ (l : Link). l.passed) u.links; listed = map (λ (l : Link). l.listed) u.links }
+kept_checkpoint u = record { number = u.number; upto = u.upto; passed = map (λ (l : Link). l.passed) u.links; listed = map (λ (l : Link). l.listed) u.links; swept = map (λ (h : LaneHold). h.swept) u.lanes }
 
 -- the first view v with what it keeps of the view u
 abbrev pub joined_view : View → View → View
 joined_view v u = record v {
   joined = v.joined + 1;
   calls = v.calls ++ u.calls;
+  changes = v.changes ++ u.changes;
+  ticks = v.ticks + u.ticks;
   front = max v.front u.front;
   kept = v.kept ++ kept_checkpoint u ∷ u.kept;
   met = sum_of_met v.met u.met;

@@ -135,6 +135,8 @@ pub struct LaneHold {
     pub change: LaneChange,
     /// The flushed position as the backend had loaded it when the lane went out.
     pub flushed: u64,
+    /// The largest position where a checkpoint of the backend began that had nothing left to write as the backend synced the lane, or 0.
+    pub swept: u64,
 }
 
 /// The one call of the log that a backend made while the log was out.
@@ -224,6 +226,13 @@ pub struct Load {
     pub steps: u64,
 }
 
+/// One change of a frame's state word: the word as the backend found it, and as it left it.
+pub struct WordChange {
+    pub frame: u64,
+    pub found: StateWord,
+    pub left: StateWord,
+}
+
 /// One call of a device, and whether it was done.
 pub enum DeviceCall {
     LaneRead {
@@ -264,6 +273,8 @@ pub struct Checkpoint {
     pub passed: [bool; 0],
     /// For each frame, whether it is one that has still to be written.
     pub listed: [bool; 0],
+    /// For each lane, the largest position where a checkpoint began that had nothing left to write as the lane was synced, or 0.
+    pub swept: [u64; 0],
 }
 
 /// What one backend knows and has done.
@@ -293,8 +304,12 @@ pub struct View {
     pub place_loads: u64,
     /// How many steps other than loads the backend made.
     pub steps: u64,
+    /// How many times it moved the clock's hand on.
+    pub ticks: u64,
     /// The loads, in order.
     pub loads: [Load; 0],
+    /// The changes of state words, in order.
+    pub changes: [WordChange; 0],
     /// The log end at which the backend's checkpoint began, or 0.
     pub upto: u64,
     /// The checkpoints of the backends that were joined into this one.

@@ -21,7 +21,7 @@ use Rattle.frame_table.specs.Content.{finished_link}
 use Rattle.table_rule.specs.declared.noted_lane.LaneCall.{LaneCall}
 use Rattle.table_rule.specs.declared.noted_lane.LaneCall.TheVariants as lane_call
 use Rattle.table_rule.specs.LaneCalls.{NotesRead}
-use Rattle.frame_table.specs.LaneWork.{IsNoted, LaneStep, back_lane, read_link}
+use Rattle.frame_table.specs.LaneWork.{IsNoted, LaneStep, read_link}
 use Rattle.frame_table.specs.Sees.{Looked}
 use Rattle.frame_table.specs.Tells.{Did}
 use Rattle.frame_table.specs.Turning.{IsTurned}
@@ -44,10 +44,10 @@ module _ (q : ℕ) (v u : View) (home : LanesHome v) (taken : IsTurned true (Lan
   pub lane_free : ((lane_hold u q).held ≡ true) × ((lane_hold u q).out ≡ None)
   lane_free = (ap (λ (h : LaneHold). h.held) taken.0, ap (λ (h : LaneHold). h.out) taken.0 ∙ home q)
 
-  module _ (x y w : View) (h : LaneHold) (out : LaneStep q h u x) (back : LaneStep q (back_lane (lane_hold x q)) x y) (left : IsTurned false (Lane q) y w) where
+  module _ (x y w : View) (h : LaneHold) {k : LaneHold} (out : LaneStep q h u x) (back : LaneStep q k x y) (gone : k.out ≡ None) (left : IsTurned false (Lane q) y w) where
     pub lanes_home : LanesHome w
     lanes_home n = dite (ℕ_discrete n q)
-        (λ e. subst (λ (z : ℕ). (lane_hold w z).out ≡ None) (sym e) (ap (λ (k : LaneHold). k.out) (left.0 ∙ ap (λ (k : LaneHold). record k { held = false }) back.here)))
+        (λ e. subst (λ (z : ℕ). (lane_hold w z).out ≡ None) (sym e) (ap (λ (k : LaneHold). k.out) (left.0 ∙ ap (λ (k : LaneHold). record k { held = false }) back.here) ∙ gone))
         (λ o. ap (λ (k : LaneHold). k.out) (left.1 n o ∙ back.others n o ∙ out.others n o ∙ taken.1 n o) ∙ home n)
 
     pub lanes_free : ((n : ℕ) → (lane_hold v n).held ≡ false) → (n : ℕ) → (lane_hold w n).held ≡ false

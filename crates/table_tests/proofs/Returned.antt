@@ -6,7 +6,7 @@ use Rattle.block_tag.specs.declared.tag.Tag.{Tag}
 use Rattle.block_tag.specs.Names.{hash_of, lane_number, names_block}
 use Rattle.pin_core.specs.declared.view.LaneHold.{LaneHold}
 use Rattle.pin_core.specs.declared.view.View.{View}
-use Rattle.pin_core.specs.State.{Page, lane_hold, link}
+use Rattle.pin_core.specs.State.{Page, lane_hold, link, no_lane}
 use Rattle.table_rule.specs.Blocks.{has_block}
 use Rattle.table_rule.specs.declared.noted_lane.LaneCall.{LaneCall}
 use Rattle.table_rule.specs.declared.noted_lane.LaneCall.TheVariants as lane_call
@@ -67,5 +67,5 @@ module _ (relations : List RelEntry) (lanes q : ℕ) (v : View) (f : ℕ) (tag :
   may_note_write call (Err x) can n = failed_noted call can n
 
 -- a lane that went out, and was called once, may come back
-pub may_return : {L : Type 0} (d : LaneDevices L) (known : Bool) (relations : List RelEntry) (lanes q flushed : ℕ) (v : View) (before : L) (l : NotedLane L) → lane_hold v q ≡ out_lane (taken_of d relations lanes q before) flushed → IsTaken d known relations lanes q before → LaneDid d before l.device l.call → MayNote relations lanes q l.call v → MayReturn d known relations lanes q v l
-may_return d known relations lanes q flushed v before l out taken did may = record { before = before; out = ap (λ (h : LaneHold). h.out) out; once = ap (λ (h : LaneHold). h.change) out; taken = taken; did = did; may = may }
+pub may_return : {L : Type 0} (d : LaneDevices L) (known : Bool) (relations : List RelEntry) (lanes q flushed swept : ℕ) (v : View) (before : L) (l : NotedLane L) → lane_hold v q ≡ record (out_lane (taken_of d relations lanes q before) flushed no_lane) { swept = swept } → IsTaken d known relations lanes q before → LaneDid d before l.device l.call → MayNote relations lanes q l.call v → MayReturn d known relations lanes q v l
+may_return d known relations lanes q flushed swept v before l out taken did may = record { before = before; out = ap (λ (h : LaneHold). h.out) out; once = ap (λ (h : LaneHold). h.change) out; taken = taken; did = did; may = may }

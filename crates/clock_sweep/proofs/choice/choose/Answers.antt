@@ -18,3 +18,6 @@ returns-clause-did g c = ok_to _ (λ held source comes. by_clock source c.in_def
 
 pub returns-clause-cause : goal.returns-clause-cause
 returns-clause-cause g c = err_to _ (λ why none. finds_none _ _ _ _ _ _ _ c.requires.headless c.in_default.ensures.leaves c.in_default-from_free_list.ensures.leaves none) c.from_clock.ensures.none
+
+pub from_free_list-requires-clause-headless : goal.from_free_list-requires-clause-headless
+from_free_list-requires-clause-headless g c = headless_on _ _ (ring_keeps _ _ _ _ c.in_default.ensures.leaves c.requires.headless) c.requires.headless

@@ -1,4 +1,4 @@
-use Rattle.std.proofs.Common.{rules, List, get_or, ap, sym, subst, ◌∙◌}
+use Rattle.std.proofs.Common.{rules, refl, List, get_or, ap, sym, subst, ◌∙◌}
 use Rattle.atomic_table.specs.Table.{rest}
 use Rattle.pin_core.specs.declared.view.View.{View}
 use Rattle.pin_core.specs.declared.view.Link.{Link}
@@ -16,7 +16,7 @@ pub returns-clause-keeps : goal.returns-clause-keeps
 returns-clause-keeps g c = search rules
 
 pub returns-clause-home : goal.returns-clause-home
-returns-clause-home g c = lanes_home _ c.args.seat.now.me.0 c.take_turn.new.seat.me.0 c.requires.home c.take_turn.ensures.turned c.lane_out-lane.new.seat.me.0 c.lane_back.new.seat.me.0 c.leave_turn.new.seat.me.0 _ c.lane_out-lane.ensures.out c.lane_back.ensures.back c.leave_turn.ensures.turned
+returns-clause-home g c = lanes_home _ c.args.seat.now.me.0 c.take_turn.new.seat.me.0 c.requires.home c.take_turn.ensures.turned c.lane_out-lane.new.seat.me.0 c.lane_back.new.seat.me.0 c.leave_turn.new.seat.me.0 _ c.lane_out-lane.ensures.out c.lane_back.ensures.back refl c.leave_turn.ensures.turned
 
 pub returns-clause-quiet : goal.returns-clause-quiet
 returns-clause-quiet g c = let q = c.requires.quiet in let k = returns-clause-keeps g c in record {
@@ -24,7 +24,7 @@ returns-clause-quiet g c = let q = c.requires.quiet in let k = returns-clause-ke
   live = c.leave_turn.ensures.work.emptied ∙ ap (λ (v : View). v.emptied) c.lane_back.ensures.view ∙ ap (λ (v : View). v.emptied) c.lane_out-lane.ensures.view ∙ c.take_turn.ensures.work.emptied ∙ q.live;
   hand = c.leave_turn.ensures.seat.hand ∙ c.lane_back.ensures.hand ∙ ap rest c.lane_out-lane.ensures.hand ∙ c.take_turn.ensures.seat.hand ∙ q.hand;
   others = λ f n. subst IsCalm (sym (k.others f n)) (q.others f n);
-  lanes = lanes_free _ c.args.seat.now.me.0 c.take_turn.new.seat.me.0 c.requires.home c.take_turn.ensures.turned c.lane_out-lane.new.seat.me.0 c.lane_back.new.seat.me.0 c.leave_turn.new.seat.me.0 _ c.lane_out-lane.ensures.out c.lane_back.ensures.back c.leave_turn.ensures.turned q.lanes;
+  lanes = lanes_free _ c.args.seat.now.me.0 c.take_turn.new.seat.me.0 c.requires.home c.take_turn.ensures.turned c.lane_out-lane.new.seat.me.0 c.lane_back.new.seat.me.0 c.leave_turn.new.seat.me.0 _ c.lane_out-lane.ensures.out c.lane_back.ensures.back refl c.leave_turn.ensures.turned q.lanes;
   log = ap (λ (h : LogHold). h.held) (c.leave_turn.ensures.turned.3 ∙ c.lane_back.ensures.back.log ∙ c.lane_out-lane.ensures.out.log ∙ c.take_turn.ensures.turned.3) ∙ q.log;
 }
 
@@ -39,5 +39,5 @@ lane_back-requires-clause-may g c =
     let o = c.lane_out-lane.ensures in
     let b = c.requires.block in
     let out : Reads c.args.tag (link c.lane_out-lane.new.seat.me.0 c.args.frame) = subst (λ (l : List Link). Reads c.args.tag (get_or l c.args.frame idle)) (sym (ap (λ (v : View). v.links) o.view ∙ c.take_turn.ensures.work.links)) c.requires.reads in
-    may_return _ _ _ _ _ _ c.lane_out-lane.new.seat.me.0 c.lane_out-lane.result.device c.read-read.new.self o.out.here o.taken c.read-read.ensures.did
+    may_return _ _ _ _ _ _ _ c.lane_out-lane.new.seat.me.0 c.lane_out-lane.result.device c.read-read.new.self o.out.here o.taken c.read-read.ensures.did
     (may_note_read _ _ _ c.lane_out-lane.new.seat.me.0 c.args.frame c.args.tag c.read-read.new.page (in_one_lane _ _ _ b.2 b.0 b.1) c.read-read.new.self.call c.read-read.result record { right = out.right; fresh = out.fresh; remembered = out.remembered } c.read-read.ensures.call)

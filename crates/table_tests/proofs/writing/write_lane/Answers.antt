@@ -1,4 +1,4 @@
-use Rattle.std.proofs.Common.{rules, ◌≤◌, List, ℕ, get_or, ap, sym, subst, ◌∙◌}
+use Rattle.std.proofs.Common.{rules, refl, ◌≤◌, List, ℕ, get_or, ap, sym, subst, ◌∙◌}
 use Rattle.atomic_table.specs.Table.{rest}
 use Rattle.pin_core.specs.declared.view.Io.TheVariants.{Output}
 use Rattle.pin_core.specs.declared.view.View.{View}
@@ -23,7 +23,7 @@ returns-clause-quiet g c = let q = c.requires.quiet in let k = returns-clause-ke
   live = c.leave_turn.ensures.work.emptied ∙ ap (λ (v : View). v.emptied) c.lane_back.ensures.view ∙ ap (λ (v : View). v.emptied) c.lane_out-lane.ensures.view ∙ c.take_turn.ensures.work.emptied ∙ q.live;
   hand = c.leave_turn.ensures.seat.hand ∙ c.lane_back.ensures.hand ∙ ap rest c.lane_out-lane.ensures.hand ∙ c.take_turn.ensures.seat.hand ∙ q.hand;
   others = λ f n. subst IsCalm (sym (k.others f n)) (q.others f n);
-  lanes = lanes_free _ c.args.seat.now.me.0 c.take_turn.new.seat.me.0 c.requires.home c.take_turn.ensures.turned c.lane_out-lane.new.seat.me.0 c.lane_back.new.seat.me.0 c.leave_turn.new.seat.me.0 _ c.lane_out-lane.ensures.out c.lane_back.ensures.back c.leave_turn.ensures.turned q.lanes;
+  lanes = lanes_free _ c.args.seat.now.me.0 c.take_turn.new.seat.me.0 c.requires.home c.take_turn.ensures.turned c.lane_out-lane.new.seat.me.0 c.lane_back.new.seat.me.0 c.leave_turn.new.seat.me.0 _ c.lane_out-lane.ensures.out c.lane_back.ensures.back refl c.leave_turn.ensures.turned q.lanes;
   log = ap (λ (h : LogHold). h.held) (c.leave_turn.ensures.turned.3 ∙ c.lane_back.ensures.back.log ∙ c.lane_out-lane.ensures.out.log ∙ c.take_turn.ensures.turned.3) ∙ q.log;
 }
 
@@ -39,7 +39,7 @@ lane_back-requires-clause-may g c =
     let b = c.requires.block in
     let links = ap (λ (v : View). v.links) o.view ∙ c.take_turn.ensures.work.links in
     let out : Shares Output c.args.tag (link c.lane_out-lane.new.seat.me.0 c.args.frame) = subst (λ (l : List Link). Shares Output c.args.tag (get_or l c.args.frame idle)) (sym links) c.requires.writes in
-    may_return _ _ _ _ _ _ c.lane_out-lane.new.seat.me.0 c.lane_out-lane.result.device c.write-written.new.self o.out.here o.taken c.write-written.ensures.did
+    may_return _ _ _ _ _ _ _ c.lane_out-lane.new.seat.me.0 c.lane_out-lane.result.device c.write-written.new.self o.out.here o.taken c.write-written.ensures.did
     (may_note_write _ _ _ c.lane_out-lane.new.seat.me.0 c.args.frame c.args.tag c.args.page.now (in_one_lane _ _ _ b.2 b.0 b.1) c.write-written.new.self.call c.write-written.result record {
       right = out.right;
       copied = ap (λ (l : List Link). (get_or l c.args.frame idle).copied) links ∙ c.requires.copied;

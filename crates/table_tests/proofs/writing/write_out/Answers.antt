@@ -1,10 +1,12 @@
 use Rattle.std.proofs.Common.{ℕ, subst, ◌∙◌}
 use Rattle.std.specs.Prelude.{Err}
 use Rattle.content_locks.specs.Locks.{Copies}
-use Rattle.table_tests.specs.Outputs.{ClearsJust}
+use Rattle.pin_core.specs.declared.view.Io.TheVariants.{Output}
+use Rattle.pin_core.specs.State.{link}
+use Rattle.table_tests.specs.Outputs.{ClearsJust, Shares}
 use Rattle.table_tests.specs.Work.{IsQuietBeside, KeepsBeside}
 use Rattle.table_tests.proofs.Working.{beside_on, beside_still, keeps_touched, same_hold}
-use Rattle.table_tests.proofs.Written.{answer_between, headless}
+use Rattle.table_tests.proofs.Written.{answer_between, headless, shares_finished}
 use Rattle.table_tests.proofs.writing.write_out.Goals as goal
 
 pub returns-in-Ok-clause-quiet : goal.returns-in-Ok-clause-quiet
@@ -61,3 +63,12 @@ returns-in-Err-clause-keeps g c = let o = c.copy_out.ensures in let e = c.end_io
 
 pub returns-in-Err-clause-latches : goal.returns-in-Err-clause-latches
 returns-in-Err-clause-latches g c = λ q. same_hold c.write_logged.new.seat.me.0 c.end_io-in-Err.new.seat.me.0 c.end_io-in-Err.ensures.touches.partitions q ∙ c.write_logged.ensures.latches q ∙ same_hold c.clear_just.new.seat.me.0 c.copy_out.new.seat.me.0 c.copy_out.ensures.touches.partitions q ∙ c.clear_just.ensures.latches q
+
+pub write_logged-requires-clause-quiet : goal.write_logged-requires-clause-quiet
+write_logged-requires-clause-quiet g c = let o = c.copy_out.ensures in beside_still _ _ _ o.seat _ c.clear_just.ensures.quiet o.touches.self o.touches.others
+
+pub returns-in-Ok-clause-shares : goal.returns-in-Ok-clause-shares
+returns-in-Ok-clause-shares g c = shares_finished _ _ _ (subst (λ (f : ℕ). Shares Output c.args.tag (link c.write_logged.new.seat.me.0 f)) c.frame-frame.ensures c.write_logged.ensures.writes) c.end_io.ensures.ended
+
+pub returns-in-Err-clause-shares : goal.returns-in-Err-clause-shares
+returns-in-Err-clause-shares g c = shares_finished _ _ _ (subst (λ (f : ℕ). Shares Output c.args.tag (link c.write_logged.new.seat.me.0 f)) c.frame-frame.ensures c.write_logged.ensures.writes) c.end_io-in-Err.ensures.ended

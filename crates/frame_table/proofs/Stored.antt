@@ -1,0 +1,108 @@
+-- What a step stores: whatever the proof of an operation on a state word, where it tells a kind the word becomes what the kind makes of it.
+use Rattle.std.proofs.Common.{◌≡◌, ◌≢◌, ℕ, ◌*◌, ◌%◌, Bool, List, [], ◌∷◌, ◌++◌, get_or, set, get_or-set_same, sym, refl, ap, ◌∙◌, subst, arith}
+use mathlib.Core.Option.{some}
+use lib.ListN.{get_elem?}
+use Rattle.state_word.specs.declared.word.StateWord.{StateWord}
+use Rattle.state_word.specs.declared.word.IoEnd.{IoEnd}
+use Rattle.state_word.specs.Fields.{fields, pinned_fields, unlocked_fields, usage_down_fields, io_ended_fields, dirtied_fields}
+use Rattle.pin_core.specs.declared.view.View.{View}
+use Rattle.pin_core.specs.Kinds as pin
+use Rattle.page_core.specs.Kinds as paged
+use Rattle.history_core.specs.State.{State, next_hand}
+use Rattle.history_core.specs.Trail.{Follows}
+use Rattle.history_core.proofs.Trail.{Ticks, next_tick, next_word}
+use Rattle.table_rule.specs.declared.opening.Opening.{Opening}
+use Rattle.table_rule.specs.Layout.{hand_place}
+use Rattle.table_rule.specs.Shows.{Devices}
+use Rattle.frame_table.specs.Behind.{DidWord, add_hand}
+use Rattle.frame_table.specs.Kinds.{Part, state_word, FrameKind, pins, pages, part_of, frame_after, view_after}
+use Rattle.frame_table.specs.Stores.{Makes, MustStore, HandMustMove}
+use Rattle.frame_table.specs.Tells.{part_place, SaysOf, Did}
+
+-- each kind at the state word but a load lists the change
+lists_change : (k : FrameKind) → part_of k ≡ state_word → k ≢ pins pin.load_state → (s : State) (f : ℕ) (v : View) → (view_after k s f v).changes ≡ v.changes ++ record { frame = f; found = (s.pool.core.frame f).word; left = (frame_after k s f).word } ∷ []
+lists_change (pins pin.load_state) at loads s f v = absurd (loads refl)
+lists_change (pins (pin.pin ring)) at loads s f v = refl
+lists_change (pins (pin.pin_mapped tag ring)) at loads s f v = refl
+lists_change (pins pin.unpin) at loads s f v = refl
+lists_change (pins pin.lock_header) at loads s f v = refl
+lists_change (pins pin.unlock_header) at loads s f v = refl
+lists_change (pins (pin.store_tag tag)) at loads s f v = absurd (cc)
+lists_change (pins pin.erase_tag) at loads s f v = absurd (cc)
+lists_change (pins pin.load_tag) at loads s f v = absurd (cc)
+lists_change (pins pin.pin_victim) at loads s f v = refl
+lists_change (pins pin.lower_usage) at loads s f v = refl
+lists_change (pins pin.assign) at loads s f v = refl
+lists_change (pins pin.clear) at loads s f v = refl
+lists_change (pages paged.load_content) at loads s f v = absurd (cc)
+lists_change (pages paged.mark_dirty) at loads s f v = refl
+lists_change (pages paged.share) at loads s f v = absurd (cc)
+lists_change (pages paged.exclude) at loads s f v = absurd (cc)
+lists_change (pages paged.unshare) at loads s f v = absurd (cc)
+lists_change (pages paged.unexclude) at loads s f v = absurd (cc)
+lists_change (pages paged.take_copy) at loads s f v = absurd (cc)
+lists_change (pages paged.leave_copy) at loads s f v = absurd (cc)
+lists_change (pages paged.page_out) at loads s f v = absurd (cc)
+lists_change (pages paged.overwrite_logged) at loads s f v = absurd (cc)
+lists_change (pages (paged.overwrite_read p)) at loads s f v = absurd (cc)
+lists_change (pages paged.page_back) at loads s f v = absurd (cc)
+lists_change (pages (paged.note_read p)) at loads s f v = absurd (cc)
+lists_change (pages paged.begin_write) at loads s f v = absurd (cc)
+lists_change (pages (paged.note_write done)) at loads s f v = absurd (cc)
+lists_change (pages (paged.make_entry p)) at loads s f v = absurd (cc)
+lists_change (pages paged.start_input) at loads s f v = refl
+lists_change (pages paged.start_output) at loads s f v = refl
+lists_change (pages paged.clear_just_dirtied) at loads s f v = refl
+lists_change (pages (paged.end_io end)) at loads s f v = refl
+lists_change (pages (paged.set_waiter number)) at loads s f v = refl
+lists_change (pages paged.clear_waiter) at loads s f v = refl
+lists_change (pages paged.need_checkpoint) at loads s f v = refl
+
+module _ {L G : Type 0} (d : Devices L G) (o : Opening L G) where
+  -- What an operation on a state word stores, if it keeps the rule and tells the kind k, in any table: what k makes of a frame with the word found
+  pub must_store : (k : FrameKind) → part_of k ≡ state_word → k ≢ pins pin.load_state → MustStore d o k (Makes k)
+  must_store k part moves choice slots id f a b g me t at below h0 allows is =
+      let n : ℕ = get_or t.words (3 * f) 0 in
+      let h = h0.held in
+      let r = allows t h h0.wide h0.there h0.small in
+      let w : View = r.0 in
+      let h' = r.3 in
+      let did : Did k f me.0 w n = subst (λ (j : FrameKind). Did j f me.0 w n) is (r.4.1 f (ap (λ (p : Part). part_place p f) (sym at))) in
+      let was : (did.state.pool.core.frame f).word ≡ fields n = subst (λ (p : Part). SaysOf p n (did.state.pool.core.frame f)) part did.says in
+      let listed : w.changes ≡ me.0.changes ++ record { frame = f; found = (did.state.pool.core.frame f).word; left = (frame_after k did.state f).word } ∷ [] = ap (λ (v : View). v.changes) did.after ∙ lists_change k part moves did.state f me.0 in
+      let here : get_elem? h.state.pool.core.views id ≡ some me.0 = ap (λ (l : List View). get_elem? l id) (sym h.shows.views) ∙ h0.there in
+      let trail : Follows h'.state.pool.core.frame (set h.state.pool.core.views id w) = subst (Follows h'.state.pool.core.frame) (sym h'.shows.views ∙ ap (λ (l : List View). set l id w) h.shows.views) h'.laws.trail.words in
+      let shown : (h'.state.pool.core.frame f).word ≡ fields (g n) = (h'.shows.frame f below).word ∙ ap fields (get_or-set_same t.words (3 * f) (g n) 0 (let e = h.shows.words in omega arith)) in
+      record {
+        state = did.state;
+        was = was;
+        is = sym shown ∙ next_word h.state.pool.core.frame h'.state.pool.core.frame h.state.pool.core.views id f me.0 w (did.state.pool.core.frame f).word (frame_after k did.state f).word h.laws.trail.words trail here listed (was ∙ sym (h.shows.frame f below).word);
+      }
+
+  -- a pin, a pass of the clock, the end of input or output, and a change of the page
+  pub pin_stores : (ring : Bool) → MustStore d o (pins (pin.pin ring)) (λ f found left. left ≡ pinned_fields ring found)
+  pin_stores ring choice slots id f a b g me t at below h allows is = let m = must_store (pins (pin.pin ring)) refl (λ x. cc) choice slots id f a b g me t at below h allows is in m.is ∙ ap (pinned_fields ring) m.was
+
+  pub lower_stores : MustStore d o (pins pin.lower_usage) (λ f found left. left ≡ unlocked_fields (usage_down_fields found))
+  lower_stores choice slots id f a b g me t at below h allows is = let m = must_store (pins pin.lower_usage) refl (λ x. cc) choice slots id f a b g me t at below h allows is in m.is ∙ ap (λ (w : StateWord). unlocked_fields (usage_down_fields w)) m.was
+
+  pub end_stores : (end : IoEnd) → MustStore d o (pages (paged.end_io end)) (λ f found left. left ≡ unlocked_fields (io_ended_fields end found))
+  end_stores end choice slots id f a b g me t at below h allows is = let m = must_store (pages (paged.end_io end)) refl (λ x. cc) choice slots id f a b g me t at below h allows is in m.is ∙ ap (λ (w : StateWord). unlocked_fields (io_ended_fields end w)) m.was
+
+  pub dirty_stores : MustStore d o (pages paged.mark_dirty) (λ f found left. left ≡ dirtied_fields found)
+  dirty_stores choice slots id f a b g me t at below h allows is = let m = must_store (pages paged.mark_dirty) refl (λ x. cc) choice slots id f a b g me t at below h allows is in m.is ∙ ap dirtied_fields m.was
+
+  -- and what an operation on the clock's hand stores, if it keeps the rule and tells a move of the hand
+  pub hand_moves : HandMustMove d o
+  hand_moves slots id a b g me t h0 allows =
+      let at : ℕ = hand_place o.config.frames in
+      let n : ℕ = get_or t.words at 0 in
+      let h = h0.held in
+      let r = allows t h h0.wide h0.there h0.small in
+      let w : View = r.0 in
+      let h' = r.3 in
+      let did : DidWord add_hand me.0 w n = r.4.1 in
+      let here : get_elem? h.state.pool.core.views id ≡ some me.0 = ap (λ (l : List View). get_elem? l id) (sym h.shows.views) ∙ h0.there in
+      let moved : h'.state.hand ≡ Ticks (set h.state.pool.core.views id w) % 18446744073709551616 = h'.laws.trail.hand ∙ ap (λ (l : List View). Ticks l % 18446744073709551616) (sym h'.shows.views ∙ ap (λ (l : List View). set l id w) h.shows.views) in
+      let shown : g n ≡ h'.state.hand = sym (get_or-set_same t.words at (g n) 0 (let e = h.shows.words in omega arith)) ∙ h'.shows.latches.hand in
+      shown ∙ next_tick h.state.hand h'.state.hand h.state.pool.core.views id me.0 w h.laws.trail.hand moved here (ap (λ (v : View). v.ticks) did.after) ∙ ap next_hand (sym h.shows.latches.hand)

@@ -1,0 +1,20 @@
+use Rattle.frame_table.proofs.Stored.{must_store, pin_stores, lower_stores, end_stores, dirty_stores, hand_moves}
+use Rattle.frame_table.proofs.table.FrameTable.words_must_be_stored.Goals as goal
+
+pub returns-clause-each : goal.returns-clause-each
+returns-clause-each g c = must_store _ _
+
+pub returns-clause-pin : goal.returns-clause-pin
+returns-clause-pin g c = pin_stores _ _
+
+pub returns-clause-lowered : goal.returns-clause-lowered
+returns-clause-lowered g c = lower_stores _ _
+
+pub returns-clause-ended : goal.returns-clause-ended
+returns-clause-ended g c = end_stores _ _
+
+pub returns-clause-dirtied : goal.returns-clause-dirtied
+returns-clause-dirtied g c = dirty_stores _ _
+
+pub returns-clause-hand : goal.returns-clause-hand
+returns-clause-hand g c = hand_moves _ _

@@ -1,0 +1,250 @@
+-- Each step keeps the trail of the state words, and the views fix these words.
+use Rattle.std.proofs.Common.{◌≡◌, ◌≢◌, ◌⊎◌, inl, inr, ℕ, ◌+◌, ◌%◌, Bool, true, false, List, [], ◌∷◌, ◌++◌, length, set, cond, eqb, eq-eqb, ne_eqb, sym, refl, ap, ◌∙◌, subst, ⊎_elim, arith}
+use mathlib.Core.Logic.{dite}
+use mathlib.Core.Option.{some}
+use native.Mathlib.Decide.{ℕ_discrete}
+use lib.ListN.{get_elem?}
+use Rattle.state_word.specs.declared.word.StateWord.{StateWord}
+use Rattle.state_word.proofs.Words.{same_record}
+use Rattle.pin_core.specs.declared.view.Seen.TheVariants as seen
+use Rattle.pin_core.specs.declared.view.View.{View}
+use Rattle.pin_core.specs.declared.view.WordChange.{WordChange}
+use Rattle.pin_core.specs.State.{Config, Frame, Page, link, hold, first_view, new_view, emptied_view, joined_view}
+use Rattle.pin_core.specs.State as pins
+use Rattle.pin_core.specs.Tallies.{flag_weight}
+use Rattle.pin_core.specs.Kinds as pin_kinds
+use Rattle.pin_core.specs.Turns.{view_turned}
+use Rattle.pin_core.specs.Steps as pin_steps
+use Rattle.page_core.specs.State.{Block, block_of}
+use Rattle.page_core.specs.Steps as page_steps
+use Rattle.page_core.specs.Kinds as kinds
+use Rattle.page_core.specs.Kinds.{begin_write, make_entry}
+use Rattle.history_core.specs.Log.{record_size}
+use Rattle.history_core.specs.Lanes.{lane_back}
+use Rattle.history_core.specs.Device.{view_logged}
+use Rattle.history_core.specs.State.{State, Store, next_hand, opening}
+use Rattle.history_core.specs.Trail.{sum_found, sum_left, Follows, TrailLaw, HasSameWords, ListedIsMade}
+use Rattle.history_core.specs.Steps.{Event, stepped, ticked, looked, pool_noting, paged, laned, has_loaded, has_begun, has_read, has_written, Step, pools, lanes, writes, notes, logs, enters, reads, loads_end, begins, loads_flushed, raises, adds_hand, loads_hand}
+use Rattle.grid.specs.Shape.{put, total}
+use Rattle.grid.proofs.Lists.{put_at, put_else, set_else}
+use Rattle.grid.proofs.Sums.{total-set, total-snoc}
+
+-- sums over two lists, one behind the other
+found_both : (g : StateWord → ℕ) (f : ℕ) (a b : List WordChange) → sum_found g f (a ++ b) ≡ sum_found g f a + sum_found g f b
+unfolding sum_found
+found_both g f [] b = omega arith
+found_both g f (c ∷ a) b = let h = found_both g f a b in omega arith
+
+left_both : (g : StateWord → ℕ) (f : ℕ) (a b : List WordChange) → sum_left g f (a ++ b) ≡ sum_left g f a + sum_left g f b
+unfolding sum_left
+left_both g f [] b = omega arith
+left_both g f (c ∷ a) b = let h = left_both g f a b in omega arith
+
+found_none : (g : StateWord → ℕ) (f : ℕ) → sum_found g f [] ≡ 0
+unfolding sum_found
+found_none g f = refl
+
+left_none : (g : StateWord → ℕ) (f : ℕ) → sum_left g f [] ≡ 0
+unfolding sum_left
+left_none g f = refl
+
+found_one : (g : StateWord → ℕ) (f : ℕ) (c : WordChange) → sum_found g f (c ∷ []) ≡ cond (eqb f c.frame) (g c.found) 0
+unfolding sum_found
+found_one g f c = omega arith
+
+left_one : (g : StateWord → ℕ) (f : ℕ) (c : WordChange) → sum_left g f (c ∷ []) ≡ cond (eqb f c.frame) (g c.left) 0
+unfolding sum_left
+left_one g f c = omega arith
+
+-- A step changes no state word, or lists its change
+record Lists (f : ℕ) (a b : StateWord) (before after : List WordChange) : Type 0 where
+  is : ((b ≡ a) × (after ≡ before)) ⊎ (after ≡ before ++ record { frame = f; found = a; left = b } ∷ [])
+
+lists_none : (f : ℕ) (a : StateWord) (cs : List WordChange) → Lists f a a cs cs
+lists_none f a cs = record { is = inl (refl, refl) }
+
+lists_one : (f : ℕ) (a b : StateWord) (cs : List WordChange) → Lists f a b cs (cs ++ record { frame = f; found = a; left = b } ∷ [])
+lists_one f a b cs = record { is = inr refl }
+
+pins_list : (k : pin_kinds.Kind) (f : ℕ) (fr : Frame) (cs : List WordChange) → Lists f fr.word (pin_kinds.frame_after k fr).word cs (pin_kinds.changes_after k f fr cs)
+pins_list pin_kinds.load_state f fr cs = lists_none f fr.word cs
+pins_list (pin_kinds.pin ring) f fr cs = lists_one f fr.word (pin_kinds.frame_after (pin_kinds.pin ring) fr).word cs
+pins_list (pin_kinds.pin_mapped tag ring) f fr cs = lists_one f fr.word (pin_kinds.frame_after (pin_kinds.pin_mapped tag ring) fr).word cs
+pins_list pin_kinds.unpin f fr cs = lists_one f fr.word (pin_kinds.frame_after pin_kinds.unpin fr).word cs
+pins_list pin_kinds.lock_header f fr cs = lists_one f fr.word (pin_kinds.frame_after pin_kinds.lock_header fr).word cs
+pins_list pin_kinds.unlock_header f fr cs = lists_one f fr.word (pin_kinds.frame_after pin_kinds.unlock_header fr).word cs
+pins_list (pin_kinds.store_tag tag) f fr cs = lists_none f fr.word cs
+pins_list pin_kinds.erase_tag f fr cs = lists_none f fr.word cs
+pins_list pin_kinds.load_tag f fr cs = lists_none f fr.word cs
+pins_list pin_kinds.pin_victim f fr cs = lists_one f fr.word (pin_kinds.frame_after pin_kinds.pin_victim fr).word cs
+pins_list pin_kinds.lower_usage f fr cs = lists_one f fr.word (pin_kinds.frame_after pin_kinds.lower_usage fr).word cs
+pins_list pin_kinds.assign f fr cs = lists_one f fr.word (pin_kinds.frame_after pin_kinds.assign fr).word cs
+pins_list pin_kinds.clear f fr cs = lists_one f fr.word (pin_kinds.frame_after pin_kinds.clear fr).word cs
+
+pages_list : (k : kinds.Kind) (f : ℕ) (b : Block) (fr : Frame) (cs : List WordChange) → Lists f fr.word (kinds.frame_after k b fr).word cs (kinds.changes_after k f b fr cs)
+pages_list kinds.load_content f b fr cs = lists_none f fr.word cs
+pages_list kinds.mark_dirty f b fr cs = lists_one f fr.word (kinds.frame_after kinds.mark_dirty b fr).word cs
+pages_list kinds.share f b fr cs = lists_none f fr.word cs
+pages_list kinds.exclude f b fr cs = lists_none f fr.word cs
+pages_list kinds.unshare f b fr cs = lists_none f fr.word cs
+pages_list kinds.unexclude f b fr cs = lists_none f fr.word cs
+pages_list kinds.take_copy f b fr cs = lists_none f fr.word cs
+pages_list kinds.leave_copy f b fr cs = lists_none f fr.word cs
+pages_list kinds.page_out f b fr cs = lists_none f fr.word cs
+pages_list kinds.overwrite_logged f b fr cs = lists_none f fr.word cs
+pages_list (kinds.overwrite_read p) f b fr cs = lists_none f fr.word cs
+pages_list kinds.page_back f b fr cs = lists_none f fr.word cs
+pages_list (kinds.note_read p) f b fr cs = lists_none f fr.word cs
+pages_list kinds.begin_write f b fr cs = lists_none f fr.word cs
+pages_list (kinds.note_write done) f b fr cs = lists_none f fr.word cs
+pages_list (kinds.make_entry p) f b fr cs = lists_none f fr.word cs
+pages_list kinds.start_input f b fr cs = lists_one f fr.word (kinds.frame_after kinds.start_input b fr).word cs
+pages_list kinds.start_output f b fr cs = lists_one f fr.word (kinds.frame_after kinds.start_output b fr).word cs
+pages_list kinds.clear_just_dirtied f b fr cs = lists_one f fr.word (kinds.frame_after kinds.clear_just_dirtied b fr).word cs
+pages_list (kinds.end_io end) f b fr cs = lists_one f fr.word (kinds.frame_after (kinds.end_io end) b fr).word cs
+pages_list (kinds.set_waiter number) f b fr cs = lists_one f fr.word (kinds.frame_after (kinds.set_waiter number) b fr).word cs
+pages_list kinds.clear_waiter f b fr cs = lists_one f fr.word (kinds.frame_after kinds.clear_waiter b fr).word cs
+pages_list kinds.need_checkpoint f b fr cs = lists_one f fr.word (kinds.frame_after kinds.need_checkpoint b fr).word cs
+
+abbrev one : ℕ → StateWord → StateWord → List WordChange
+one f a b = record { frame = f; found = a; left = b } ∷ []
+
+-- what is left of what a step lists, and what is found, differ as the word before it and after it do
+lists_move : (g : StateWord → ℕ) (f : ℕ) (frame : ℕ → Frame) (fr' : Frame) (before after : List WordChange) → Lists f (frame f).word fr'.word before after → (h : ℕ) → (sum_left g h after + g (frame h).word) + sum_found g h before ≡ (sum_left g h before + g (put frame f fr' h).word) + sum_found g h after
+lists_move g f frame fr' before after l h = ⊎_elim
+    (λ (x : (fr'.word ≡ (frame f).word) × (after ≡ before)). subst (λ (cs : List WordChange). (sum_left g h cs + g (frame h).word) + sum_found g h before ≡ (sum_left g h before + g (put frame f fr' h).word) + sum_found g h cs) (sym x.1) (let e = ap g (same x.0) in omega arith))
+    (λ (x : after ≡ before ++ record { frame = f; found = (frame f).word; left = fr'.word } ∷ []). subst (λ (cs : List WordChange). (sum_left g h cs + g (frame h).word) + sum_found g h before ≡ (sum_left g h before + g (put frame f fr' h).word) + sum_found g h cs) (sym x) added)
+    l.is
+  where
+    same : fr'.word ≡ (frame f).word → (put frame f fr' h).word ≡ (frame h).word
+    same e = dite (ℕ_discrete h f) (λ is. ap (λ (x : Frame). x.word) (put_at frame f fr' h is) ∙ e ∙ ap (λ (z : ℕ). (frame z).word) (sym is)) (λ o. ap (λ (x : Frame). x.word) (put_else frame f fr' h o))
+
+    added : (sum_left g h (before ++ one f (frame f).word fr'.word) + g (frame h).word) + sum_found g h before ≡ (sum_left g h before + g (put frame f fr' h).word) + sum_found g h (before ++ one f (frame f).word fr'.word)
+    added = let a = left_both g h before (one f (frame f).word fr'.word) in let b = found_both g h before (one f (frame f).word fr'.word) in dite (ℕ_discrete h f)
+        (λ (is : h ≡ f). let t = eq-eqb h f is in let x : sum_left g h (one f (frame f).word fr'.word) ≡ g fr'.word = left_one g h (record { frame = f; found = (frame f).word; left = fr'.word }) ∙ ap (λ (q : Bool). cond q (g fr'.word) 0) t in
+        let y : sum_found g h (one f (frame f).word fr'.word) ≡ g (frame f).word = found_one g h (record { frame = f; found = (frame f).word; left = fr'.word }) ∙ ap (λ (q : Bool). cond q (g (frame f).word) 0) t in
+        let p : g (put frame f fr' h).word ≡ g fr'.word = ap (λ (z : Frame). g z.word) (put_at frame f fr' h is) in let q : g (frame h).word ≡ g (frame f).word = ap (λ (z : ℕ). g (frame z).word) is in omega arith)
+        (λ (o : h ≢ f). let t = ne_eqb h f o in let x : sum_left g h (one f (frame f).word fr'.word) ≡ 0 = left_one g h (record { frame = f; found = (frame f).word; left = fr'.word }) ∙ ap (λ (q : Bool). cond q (g fr'.word) 0) t in
+        let y : sum_found g h (one f (frame f).word fr'.word) ≡ 0 = found_one g h (record { frame = f; found = (frame f).word; left = fr'.word }) ∙ ap (λ (q : Bool). cond q (g (frame f).word) 0) t in
+        let p : g (put frame f fr' h).word ≡ g (frame h).word = ap (λ (z : Frame). g z.word) (put_else frame f fr' h o) in omega arith)
+
+-- a step at a frame
+moves : (frame : ℕ → Frame) (views : List View) → Follows frame views → (i f : ℕ) (v w : View) (fr' : Frame) → get_elem? views i ≡ some v → Lists f (frame f).word fr'.word v.changes w.changes → Follows (put frame f fr') (set views i w)
+moves frame views m i f v w fr' there l g h = let a = total-set (λ (x : View). sum_left g h x.changes) views i v w there in let b = total-set (λ (x : View). sum_found g h x.changes) views i v w there in let c = m g h in let e = lists_move g f frame fr' v.changes w.changes l h in omega arith
+
+-- a step elsewhere
+rests_aside : (frame : ℕ → Frame) (views : List View) → Follows frame views → (i : ℕ) (v w : View) → get_elem? views i ≡ some v → w.changes ≡ v.changes → Follows frame (set views i w)
+rests_aside frame views m i v w there same g h = let a = total-set (λ (x : View). sum_left g h x.changes) views i v w there in let b = total-set (λ (x : View). sum_found g h x.changes) views i v w there in let c = m g h in
+    let p : sum_left g h w.changes ≡ sum_left g h v.changes = ap (sum_left g h) same in let q : sum_found g h w.changes ≡ sum_found g h v.changes = ap (sum_found g h) same in omega arith
+
+pools_trail : (s : State) → Follows s.pool.core.frame s.pool.core.views → {e : pin_steps.Event} {core' : pins.State} → pin_steps.Step e s.pool.core core' → Follows core'.frame core'.views
+pools_trail s m (pin_steps.touches i f k v there live inside a around) = moves s.pool.core.frame s.pool.core.views m i f v (pin_kinds.view_after k s.pool.core.partition_of f (s.pool.core.frame f) (link v f) v) (pin_kinds.frame_after k (s.pool.core.frame f)) there (pins_list k f (s.pool.core.frame f) v.changes)
+pools_trail s m (pin_steps.turns i p k v there live below a) = rests_aside s.pool.core.frame s.pool.core.views m i v (view_turned k p (hold v p) v) there refl
+pools_trail s m (pin_steps.splits v there room) = let w : View = record v { next = v.next + 1 } in let b : View = new_view v.next s.pool.core.base (length v.links) (length v.partitions) (length v.lanes) in let x = rests_aside s.pool.core.frame s.pool.core.views m 0 v w there refl in
+    λ g h. let a = total-snoc (λ (y : View). sum_left g h y.changes) (set s.pool.core.views 0 w) b in let c = total-snoc (λ (y : View). sum_found g h y.changes) (set s.pool.core.views 0 w) b in let p = left_none g h in let q = found_none g h in let y = x g h in omega arith
+pools_trail s m (pin_steps.joins j v u there other here live free) = let w : View = joined_view v u in let vs : List View = set s.pool.core.views 0 w in let also = set_else s.pool.core.views 0 j w other ∙ here in
+    λ g h. let a = total-set (λ (y : View). sum_left g h y.changes) s.pool.core.views 0 v w there in let b = total-set (λ (y : View). sum_found g h y.changes) s.pool.core.views 0 v w there in
+    let c = total-set (λ (y : View). sum_left g h y.changes) vs j u emptied_view also in let e = total-set (λ (y : View). sum_found g h y.changes) vs j u emptied_view also in
+    let p = left_none g h in let q = found_none g h in let x = left_both g h v.changes u.changes in let z = found_both g h v.changes u.changes in let y = m g h in omega arith
+
+words_kept : {e : Event} {s t : State} → Step e s t → Follows s.pool.core.frame s.pool.core.views → Follows t.pool.core.frame t.pool.core.views
+words_kept (pools {s = s} (page_steps.cores x) a) m = pools_trail s m x
+words_kept (pools {s = s} (page_steps.touches i f k v there live inside a around) plain) m = let b : Block = block_of s.pool.logged (s.pool.core.frame f).tag in moves s.pool.core.frame s.pool.core.views m i f v (paged k s.pool f v) (kinds.frame_after k b (s.pool.core.frame f)) there (pages_list k f b (s.pool.core.frame f) v.changes)
+words_kept (lanes {s = s} i q k v there live low a alone) m = rests_aside s.pool.core.frame s.pool.core.views m i v (stepped (laned k q v v)) there refl
+words_kept (writes {s = s} i q f k v there live low inside a x) m = moves s.pool.core.frame s.pool.core.views m i f v (laned k q v (paged begin_write s.pool f v)) (s.pool.core.frame f) there (lists_none f (s.pool.core.frame f).word v.changes)
+words_kept (notes {s = s} i q f noted k v there live low inside a x) m = let b : Block = block_of (pool_noting k s f).logged (s.pool.core.frame f).tag in moves s.pool.core.frame s.pool.core.views m i f v (laned (lane_back noted) q v (paged k (pool_noting k s f) f v)) (kinds.frame_after k b (s.pool.core.frame f)) there (pages_list k f b (s.pool.core.frame f) v.changes)
+words_kept (logs {s = s} i k v there live a record_is) m = rests_aside s.pool.core.frame s.pool.core.views m i v (view_logged k v) there refl
+words_kept (enters {s = s} i f p v there live inside x) m = moves s.pool.core.frame s.pool.core.views m i f v (has_written (s.end + record_size) (s.pool.core.frame f).tag p (paged (make_entry p) s.pool f v)) (s.pool.core.frame f) there (lists_none f (s.pool.core.frame f).word v.changes)
+words_kept (reads {s = s} i f tag p v there live inside a) m = rests_aside s.pool.core.frame s.pool.core.views m i v (looked (seen.LogEnd s.end) (has_read s.end tag p v)) there refl
+words_kept (loads_end {s = s} i v there live) m = rests_aside s.pool.core.frame s.pool.core.views m i v (has_loaded s.end v) there refl
+words_kept (begins {s = s} i v there live) m = rests_aside s.pool.core.frame s.pool.core.views m i v (has_begun s.end (looked (seen.LogEnd s.end) v)) there refl
+words_kept (loads_flushed {s = s} i v there live) m = rests_aside s.pool.core.frame s.pool.core.views m i v (looked (seen.Flushed s.flushed) (record v { flushed = s.flushed })) there refl
+words_kept (raises {s = s} i v there live synced) m = rests_aside s.pool.core.frame s.pool.core.views m i v (stepped v) there refl
+words_kept (adds_hand {s = s} i v there live) m = rests_aside s.pool.core.frame s.pool.core.views m i v (ticked v) there refl
+words_kept (loads_hand {s = s} i v there live) m = rests_aside s.pool.core.frame s.pool.core.views m i v (looked (seen.Hand s.hand) v) there refl
+
+-- the moves that the views count
+abbrev pub Ticks : List View → ℕ
+Ticks views = total (λ (v : View). v.ticks) views
+
+-- the hand after one move more
+hand_on : (n : ℕ) → next_hand (n % 18446744073709551616) ≡ (n + 1) % 18446744073709551616
+hand_on n = let r : ℕ = n % 18446744073709551616 in dite (ℕ_discrete r 18446744073709551615)
+    (λ (e : r ≡ 18446744073709551615). ap (λ (b : Bool). cond b 0 (r + 1)) (eq-eqb r 18446744073709551615 e) ∙ omega arith)
+    (λ (o : r ≢ 18446744073709551615). ap (λ (b : Bool). cond b 0 (r + 1)) (ne_eqb r 18446744073709551615 o) ∙ omega arith)
+
+same_ticks : (views : List View) (i : ℕ) (v w : View) → get_elem? views i ≡ some v → w.ticks ≡ v.ticks → Ticks (set views i w) ≡ Ticks views
+same_ticks views i v w there e = let a = total-set (λ (x : View). x.ticks) views i v w there in omega arith
+
+pools_ticks : (s : State) → {e : pin_steps.Event} {core' : pins.State} → pin_steps.Step e s.pool.core core' → Ticks core'.views ≡ Ticks s.pool.core.views
+pools_ticks s (pin_steps.touches i f k v there live inside a around) = same_ticks s.pool.core.views i v (pin_kinds.view_after k s.pool.core.partition_of f (s.pool.core.frame f) (link v f) v) there refl
+pools_ticks s (pin_steps.turns i p k v there live below a) = same_ticks s.pool.core.views i v (view_turned k p (hold v p) v) there refl
+pools_ticks s (pin_steps.splits v there room) = let w : View = record v { next = v.next + 1 } in let b : View = new_view v.next s.pool.core.base (length v.links) (length v.partitions) (length v.lanes) in let a = total-snoc (λ (y : View). y.ticks) (set s.pool.core.views 0 w) b in let x = same_ticks s.pool.core.views 0 v w there refl in omega arith
+pools_ticks s (pin_steps.joins j v u there other here live free) = let w : View = joined_view v u in let vs : List View = set s.pool.core.views 0 w in let also = set_else s.pool.core.views 0 j w other ∙ here in
+    let a = total-set (λ (y : View). y.ticks) s.pool.core.views 0 v w there in let c = total-set (λ (y : View). y.ticks) vs j u emptied_view also in omega arith
+
+hand_kept : {e : Event} {s t : State} → Step e s t → s.hand ≡ Ticks s.pool.core.views % 18446744073709551616 → t.hand ≡ Ticks t.pool.core.views % 18446744073709551616
+hand_kept (pools {s = s} (page_steps.cores x) a) m = m ∙ ap (λ (n : ℕ). n % 18446744073709551616) (sym (pools_ticks s x))
+hand_kept (pools {s = s} (page_steps.touches i f k v there live inside a around) plain) m = m ∙ ap (λ (n : ℕ). n % 18446744073709551616) (sym (same_ticks s.pool.core.views i v (paged k s.pool f v) there refl))
+hand_kept (lanes {s = s} i q k v there live low a alone) m = m ∙ ap (λ (n : ℕ). n % 18446744073709551616) (sym (same_ticks s.pool.core.views i v (stepped (laned k q v v)) there refl))
+hand_kept (writes {s = s} i q f k v there live low inside a x) m = m ∙ ap (λ (n : ℕ). n % 18446744073709551616) (sym (same_ticks s.pool.core.views i v (laned k q v (paged begin_write s.pool f v)) there refl))
+hand_kept (notes {s = s} i q f noted k v there live low inside a x) m = m ∙ ap (λ (n : ℕ). n % 18446744073709551616) (sym (same_ticks s.pool.core.views i v (laned (lane_back noted) q v (paged k (pool_noting k s f) f v)) there refl))
+hand_kept (logs {s = s} i k v there live a record_is) m = m ∙ ap (λ (n : ℕ). n % 18446744073709551616) (sym (same_ticks s.pool.core.views i v (view_logged k v) there refl))
+hand_kept (enters {s = s} i f p v there live inside x) m = m ∙ ap (λ (n : ℕ). n % 18446744073709551616) (sym (same_ticks s.pool.core.views i v (has_written (s.end + record_size) (s.pool.core.frame f).tag p (paged (make_entry p) s.pool f v)) there refl))
+hand_kept (reads {s = s} i f tag p v there live inside a) m = m ∙ ap (λ (n : ℕ). n % 18446744073709551616) (sym (same_ticks s.pool.core.views i v (looked (seen.LogEnd s.end) (has_read s.end tag p v)) there refl))
+hand_kept (loads_end {s = s} i v there live) m = m ∙ ap (λ (n : ℕ). n % 18446744073709551616) (sym (same_ticks s.pool.core.views i v (has_loaded s.end v) there refl))
+hand_kept (begins {s = s} i v there live) m = m ∙ ap (λ (n : ℕ). n % 18446744073709551616) (sym (same_ticks s.pool.core.views i v (has_begun s.end (looked (seen.LogEnd s.end) v)) there refl))
+hand_kept (loads_flushed {s = s} i v there live) m = m ∙ ap (λ (n : ℕ). n % 18446744073709551616) (sym (same_ticks s.pool.core.views i v (looked (seen.Flushed s.flushed) (record v { flushed = s.flushed })) there refl))
+hand_kept (raises {s = s} i v there live synced) m = m ∙ ap (λ (n : ℕ). n % 18446744073709551616) (sym (same_ticks s.pool.core.views i v (stepped v) there refl))
+hand_kept (loads_hand {s = s} i v there live) m = m ∙ ap (λ (n : ℕ). n % 18446744073709551616) (sym (same_ticks s.pool.core.views i v (looked (seen.Hand s.hand) v) there refl))
+hand_kept (adds_hand {s = s} i v there live) m = ap next_hand m ∙ hand_on (Ticks s.pool.core.views) ∙ ap (λ (n : ℕ). n % 18446744073709551616) (let a = total-set (λ (y : View). y.ticks) s.pool.core.views i v (ticked v) there in omega arith)
+
+pub trail_kept : {e : Event} {s t : State} → Step e s t → TrailLaw s → TrailLaw t
+trail_kept x m = record { words = words_kept x m.words; hand = hand_kept x m.hand }
+
+pub trail_open : (c : Config) (store : Store) (page : Page) → TrailLaw (opening c store page)
+unfolding total sum_left sum_found
+trail_open c store page = record { words = λ g f. omega arith; hand = refl }
+
+-- two words that weigh the same by each measure are one
+weighed : (a b : Bool) → flag_weight a ≡ flag_weight b → a ≡ b
+weighed true true e = refl
+weighed true false e = absurd (omega arith)
+weighed false true e = absurd (omega arith)
+weighed false false e = refl
+
+pub same_measures : (a b : StateWord) → ((g : StateWord → ℕ) → g a ≡ g b) → a ≡ b
+same_measures a b h = same_record a b (h (λ w. w.pins)) (h (λ w. w.usage)) (weighed a.locked b.locked (h (λ w. flag_weight w.locked))) (weighed a.dirty b.dirty (h (λ w. flag_weight w.dirty))) (weighed a.valid b.valid (h (λ w. flag_weight w.valid)))
+    (weighed a.tag_valid b.tag_valid (h (λ w. flag_weight w.tag_valid))) (weighed a.in_progress b.in_progress (h (λ w. flag_weight w.in_progress))) (weighed a.failed b.failed (h (λ w. flag_weight w.failed))) (weighed a.just_dirtied b.just_dirtied (h (λ w. flag_weight w.just_dirtied)))
+    (weighed a.awaited b.awaited (h (λ w. flag_weight w.awaited))) (weighed a.checkpoint_needed b.checkpoint_needed (h (λ w. flag_weight w.checkpoint_needed))) (weighed a.permanent b.permanent (h (λ w. flag_weight w.permanent))) (h (λ w. w.waiter))
+
+-- The views fix each frame's state word
+pub words_fixed : (frame frame' : ℕ → Frame) (views : List View) → Follows frame views → Follows frame' views → (f : ℕ) → (frame f).word ≡ (frame' f).word
+words_fixed frame frame' views a b f = same_measures (frame f).word (frame' f).word (λ g. let x = a g f in let y = b g f in omega arith)
+
+-- where one view lists one change more, of a frame's word as it was, the frame has the word that was left
+pub next_word : (frame frame' : ℕ → Frame) (views : List View) (i f : ℕ) (v w : View) (found left : StateWord) → Follows frame views → Follows frame' (set views i w) → get_elem? views i ≡ some v → w.changes ≡ v.changes ++ record { frame = f; found = found; left = left } ∷ [] → found ≡ (frame f).word → (frame' f).word ≡ left
+next_word frame frame' views i f v w found left m m' there listed was = same_measures (frame' f).word left (λ g. let a = total-set (λ (x : View). sum_left g f x.changes) views i v w there in let b = total-set (λ (x : View). sum_found g f x.changes) views i v w there in let c = m g f in let e = m' g f in
+    let t = eq-eqb f f refl in
+    let x : sum_left g f w.changes ≡ sum_left g f v.changes + g left = ap (sum_left g f) listed ∙ left_both g f v.changes (one f found left) ∙ ap (λ (n : ℕ). sum_left g f v.changes + n) (left_one g f (record { frame = f; found = found; left = left }) ∙ ap (λ (q : Bool). cond q (g left) 0) t) in
+    let y : sum_found g f w.changes ≡ sum_found g f v.changes + g found = ap (sum_found g f) listed ∙ found_both g f v.changes (one f found left) ∙ ap (λ (n : ℕ). sum_found g f v.changes + n) (found_one g f (record { frame = f; found = found; left = left }) ∙ ap (λ (q : Bool). cond q (g found) 0) t) in
+    let z = ap g was in omega arith)
+
+-- where one view counts one move more, the hand has moved on
+pub next_tick : (hand hand' : ℕ) (views : List View) (i : ℕ) (v w : View) → hand ≡ Ticks views % 18446744073709551616 → hand' ≡ Ticks (set views i w) % 18446744073709551616 → get_elem? views i ≡ some v → w.ticks ≡ v.ticks + 1 → hand' ≡ next_hand hand
+next_tick hand hand' views i v w e e' there more = e' ∙ ap (λ (n : ℕ). n % 18446744073709551616) (let a = total-set (λ (y : View). y.ticks) views i v w there in omega arith) ∙ sym (hand_on (Ticks views)) ∙ ap next_hand (sym e)
+
+-- So of two states
+pub words_same : (s t : State) → TrailLaw s → TrailLaw t → s.pool.core.views ≡ t.pool.core.views → HasSameWords s t
+words_same s t a b same = record {
+  words = words_fixed t.pool.core.frame s.pool.core.frame t.pool.core.views b.words (subst (Follows s.pool.core.frame) same a.words);
+  hand = b.hand ∙ ap (λ (l : List View). Ticks l % 18446744073709551616) (sym same) ∙ sym a.hand;
+}
+
+pub listed_made : (s t : State) → TrailLaw s → TrailLaw t → ListedIsMade s t
+listed_made s t a b i v w there views = let words : Follows t.pool.core.frame (set s.pool.core.views i w) = subst (Follows t.pool.core.frame) views b.words in let hand : t.hand ≡ Ticks (set s.pool.core.views i w) % 18446744073709551616 = b.hand ∙ ap (λ (l : List View). Ticks l % 18446744073709551616) views in record {
+  still = λ same. words_fixed t.pool.core.frame s.pool.core.frame (set s.pool.core.views i w) words (rests_aside s.pool.core.frame s.pool.core.views a.words i v w there same);
+  changed = λ f c listed at was. next_word s.pool.core.frame t.pool.core.frame s.pool.core.views i f v w c.found c.left a.words words there (listed ∙ ap (λ (g : ℕ). v.changes ++ record c { frame = g } ∷ []) at) was;
+  unmoved = λ same. hand ∙ ap (λ (n : ℕ). n % 18446744073709551616) (same_ticks s.pool.core.views i v w there same) ∙ sym a.hand;
+  moved = λ more. next_tick s.hand t.hand s.pool.core.views i v w a.hand hand there more;
+}
