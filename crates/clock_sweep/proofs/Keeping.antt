@@ -21,52 +21,24 @@ use Rattle.frame_table.specs.declared.table.FrameTable.{FrameTable}
 use Rattle.frame_table.specs.Kinds.{pins, view_after}
 use Rattle.frame_table.specs.Behind.{DidWord, add_hand}
 use Rattle.frame_table.specs.Sees.{CanStep, Holds, IsSeat, Looked, SameSeat, frames_of, locked_link, unlocked_link}
-use Rattle.frame_table.specs.Tells.{Did, DidHeld, Looks, still, again, looking}
+use Rattle.frame_table.specs.Tells.{Did, Looks, still, again, looking}
 use Rattle.frame_table.proofs.Told.{touches, link_is, looked, looked_on, looked_same, locked_after, looks_touch, looks_link, touches_none}
-use Rattle.clock_sweep.specs.Keeping.{SameAside, Keeps, GetsHeader, SamePins}
+use Rattle.clock_sweep.specs.Keeping.{SameAside, aside_of, Keeps, GetsHeader, SamePins}
 use Rattle.clock_sweep.specs.Choosing as choice
 use Rattle.clock_sweep.specs.Choosing.{Locks, Leaves, Skips, LeavesRing, LeavesFree, Counts, FindsUnpinned, NextIs, Passes, Sweeps, Comes, Chooses, FindsNone, Takes}
 use Rattle.clock_sweep.specs.declared.held.Held.{Held}
 
 -- what steps leave apart from frames
 pub aside_none : (v : View) → SameAside v v
-aside_none v = record { self = (touches_none 0 v).self; partitions = refl; marked = refl; had_output = refl; last_ended = refl }
+aside_none v = refl
 
 pub aside_on : (v u w : View) → SameAside v u → SameAside u w → SameAside v w
-aside_on v u w a b = record {
-  self = record {
-    number = b.self.number ∙ a.self.number;
-    next = b.self.next ∙ a.self.next;
-    joined = b.self.joined ∙ a.self.joined;
-    emptied = b.self.emptied ∙ a.self.emptied;
-    lanes = b.self.lanes ∙ a.self.lanes;
-    log = b.self.log ∙ a.self.log;
-    flushed = b.self.flushed ∙ a.self.flushed;
-    calls = b.self.calls ∙ a.self.calls;
-    front = b.self.front ∙ a.self.front;
-    place_loads = b.self.place_loads ∙ a.self.place_loads;
-    upto = b.self.upto ∙ a.self.upto;
-    kept = b.self.kept ∙ a.self.kept;
-    device_calls = b.self.device_calls ∙ a.self.device_calls;
-    met = b.self.met ∙ a.self.met;
-    saw_down = b.self.saw_down ∙ a.self.saw_down;
-  };
-  partitions = b.partitions ∙ a.partitions;
-  marked = b.marked ∙ a.marked;
-  had_output = b.had_output ∙ a.had_output;
-  last_ended = b.last_ended ∙ a.last_ended;
-}
+aside_on v u w a b = b ∙ a
 
 -- a step of a kind that names no pair
 module _ (k : pin.Kind) (none : (s : State) (f : ℕ) (v : View) → (view_after (pins k) s f v).partitions ≡ v.partitions) (f found : ℕ) (v w : View) (d : Did (pins k) f v w found) where
   pub aside : SameAside v w
-  aside = let t = touches (pins k) none f found v w d in record {
-    self = t.self;
-    partitions = t.partitions;
-    marked = ap (λ (x : View). x.dirtied_or_synced) d.after;
-    had_output = ap (λ (x : View). x.had_output) d.after;
-    last_ended = ap (λ (x : View). x.last_ended) d.after;
-  }
+  aside = ap aside_of d.after ∙ (λ i. record (aside_of v) { partitions = none d.state f v i })
 
   pub others : (g : ℕ) → g ≢ f → link w g ≡ link v g
   others = (touches (pins k) none f found v w d).others
@@ -103,13 +75,7 @@ keeps_looks f v w (again {u = u} found before d) = keeps_on v u w (keeps_looks f
 -- the hand moves on
 pub keeps_hand : (found : ℕ) (v w : View) → DidWord add_hand v w found → Keeps v w
 keeps_hand found v w d = subst (Keeps v) (sym d.after) record {
-  aside = record {
-    self = record { number = refl; next = refl; joined = refl; emptied = refl; lanes = refl; log = refl; flushed = refl; calls = refl; front = refl; place_loads = refl; upto = refl; kept = refl; device_calls = refl; met = refl; saw_down = refl };
-    partitions = refl;
-    marked = refl;
-    had_output = refl;
-    last_ended = refl;
-  };
+  aside = refl;
   links = λ g. looked_same (link v g) (link v g) refl;
 }
 
@@ -181,11 +147,11 @@ unlocks_keep f word found v u w locks none d = gives_up f word v u w (gets f wor
 unlocked_looked : (l m : Link) → Looked l m → Looked (unlocked_link l) (unlocked_link m)
 unlocked_looked l m a = record { role = a.role; tag = a.tag; ring = a.ring; header = refl; pending = a.pending; content = a.content; copying = a.copying; dirtied = a.dirtied; unapplied = a.unapplied; copied = a.copied; io = a.io; read = a.read; read_is_home = a.read_is_home; last_write = a.last_write; out = a.out; overwritten = a.overwritten; image = a.image; seen_valid = a.seen_valid; waits = a.waits; passed = a.passed; listed = a.listed }
 
-pub lowers_keep : (f word : ℕ) (v u w : View) → Locks f v u word → HoldsNoHeader v → DidHeld (pins pin.lower_usage) f u w → Keeps v w
-lowers_keep f word v u w locks none d = let b = d.between in let loaded = keeps_looking f d.word u b d.looked in gives_up f word v u w (gets f word v u locks) none
-    (aside_on u b w loaded.aside (aside pin.lower_usage (λ s g x. refl) f d.now b w d.did))
-    (λ g n. others pin.lower_usage (λ s h x. refl) f d.now b w d.did g n ∙ others pin.load_state (λ s h x. refl) f d.word u b d.looked g n)
-    (subst (Looked (unlocked_link (link u f))) (sym (link_is (pins pin.lower_usage) f d.now b w d.did)) (unlocked_looked (link u f) (link b f) (loaded.links f)))
+pub lowers_keep : (f word : ℕ) (v u w : View) → Locks f v u word → HoldsNoHeader v → Did (pins pin.lower_usage) f u w word → Keeps v w
+lowers_keep f word v u w locks none d = gives_up f word v u w (gets f word v u locks) none
+    (aside pin.lower_usage (λ s g x. refl) f word u w d)
+    (others pin.lower_usage (λ s h x. refl) f word u w d)
+    (looked_same (unlocked_link (link u f)) (link w f) (link_is (pins pin.lower_usage) f word u w d))
 
 pub leaves_keep : (limit f : ℕ) (v w : View) → Leaves limit f v w → HoldsNoHeader v → Keeps v w
 leaves_keep limit f v w l none = unlocks_keep f l.word l.found v l.under w l.locks none l.unlocks
@@ -293,7 +259,7 @@ none_keeps n place v w words k none = let a = ring_keeps n place v k.listed k.ri
 -- seats
 module _ {L G : Type 0} (t : FrameTable L G) where
   pub seat_on : (s s' : Seat (Value L G) View) → IsSeat t s → SameSeat s s' → Keeps s.me.0 s'.me.0 → IsSeat t s'
-  seat_on s s' a same keeps = record { fits = same.table ∙ a.fits; live = keeps.aside.self.emptied ∙ a.live }
+  seat_on s s' a same keeps = record { fits = same.table ∙ a.fits; live = ap (λ (x : View). x.emptied) keeps.aside ∙ a.live }
 
   pub steps_at : (s : Seat (Value L G) View) (f : ℕ) → IsSeat t s → f < frames_of t → CanStep t s f
   steps_at s f a low = record { fits = a.fits; live = a.live; inside = low }

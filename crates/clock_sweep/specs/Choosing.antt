@@ -8,7 +8,7 @@ use Rattle.pin_core.specs.declared.view.View.{View}
 use Rattle.pin_core.specs.Kinds.{lock_header, unlock_header, lower_usage}
 use Rattle.frame_table.specs.Kinds.{pins}
 use Rattle.frame_table.specs.Sees.{IsUsed}
-use Rattle.frame_table.specs.Tells.{Did, DidHeld, Looks, looking}
+use Rattle.frame_table.specs.Tells.{Did, Looks, looking}
 use Rattle.frame_table.specs.Behind.{DidWord, add_hand}
 use Rattle.access_rings.specs.RingState.{RingState, frame_at_current, ring_after_keep, ring_after_next}
 use Rattle.clock_sweep.specs.declared.held.Held.{Held}
@@ -88,7 +88,7 @@ pub data NextIs (n tries : ℕ) (v w : View) (f left : ℕ) : Type 0 where
 
 -- The clock passes the frame f with so many tries left, and so many are left then: a frame that no backend pins loses one of its usage count and gives all tries back, and a pinned one takes a try
 pub data Passes (n f tries : ℕ) (v w : View) (left : ℕ) : Type 0 where
-  lowers : {u : View} {word : ℕ} → Locks f v u word → IsUsed (fields word) → DidHeld (pins lower_usage) f u w → left ≡ n → Passes n f tries v w left
+  lowers : {u : View} {word : ℕ} → Locks f v u word → IsUsed (fields word) → Did (pins lower_usage) f u w word → left ≡ n → Passes n f tries v w left
   leaves : {u : View} {word found : ℕ} → Locks f v u word → 0 < (fields word).pins → Did (pins unlock_header) f u w found → left ≡ tries - 1 → Passes n f tries v w left
 
 -- the view v became w as the clock passed frames, and so many tries are left

@@ -1,16 +1,16 @@
 -- What a choice leaves of the view.
-use Rattle.std.specs.Prelude.{◌≡◌, ◌≢◌, ℕ}
+use Rattle.std.specs.Prelude.{◌≡◌, ◌≢◌, ℕ, []}
 use Rattle.pin_core.specs.declared.view.View.{View}
 use Rattle.pin_core.specs.State.{link}
-use Rattle.frame_table.specs.Sees.{Looked, SameSelf, locked_link}
+use Rattle.frame_table.specs.Sees.{Looked, locked_link}
 
--- The view has all that it had apart from frames: no partition is another, and no mark
-pub record SameAside (v w : View) : Type 0 where
-  pub self : SameSelf v w
-  pub partitions : w.partitions ≡ v.partitions
-  pub marked : w.dirtied_or_synced ≡ v.dirtied_or_synced
-  pub had_output : w.had_output ≡ v.had_output
-  pub last_ended : w.last_ended ≡ v.last_ended
+-- What a choice leaves of a view: all but its links, and what it lists and counts of steps, loads, changed words and moves of the hand
+abbrev pub aside_of : View → View
+aside_of v = record v { links = []; steps = 0; ticks = 0; loads = []; changes = [] }
+
+-- the view has all that it had apart from frames: no partition is another, and no mark
+abbrev pub SameAside : View → View → Type 0
+SameAside v w = aside_of w ≡ aside_of v
 
 -- The view has at each frame what it had, but for what loads note
 pub record Keeps (v w : View) : Type 0 where

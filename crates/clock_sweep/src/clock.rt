@@ -122,7 +122,7 @@ fn treat<L: BlockLane, G: LogDevice, R: Wait>(
         return Treated::Passed(tries - 1);
     }
     if usage(word) != 0 {
-        table.lower_usage(seat, frame);
+        table.lower_usage(seat, frame, word);
         return Treated::Passed(table.frames());
     }
     Treated::Chosen(Held {

@@ -7,6 +7,7 @@ use Rattle.pin_core.specs.declared.view.Io.{Io}
 use Rattle.pin_core.specs.declared.view.Io.TheVariants.{Quiet, Input, Output}
 use Rattle.pin_core.specs.declared.view.Link.{Link}
 use Rattle.pin_core.specs.declared.view.View.{View}
+use Rattle.page_layout.specs.Soundness.{is_sound_page}
 use Rattle.pin_core.specs.State.{Page, link}
 use Rattle.page_core.specs.Kinds as paged
 use Rattle.frame_table.specs.Kinds.{FrameKind, pages}
@@ -108,3 +109,11 @@ module _ (f found : ℕ) (v w : View) (p : Page) (d : Did (pages paged.page_out)
       ∙ ap (λ (b : Bool). cond b (applied_link p (record (link v f) { out = None })) (read_home (link v f).io (link v f).read (record (link v f) { out = None; copied = paged.copied_after (link v f).content false p (link v f).copied }))) may.settled
       ∙ home (link v f).io (link v f).read (record (link v f) { out = None; copied = paged.copied_after (link v f).content false p (link v f).copied }) busy
       ∙ (λ i. record (link v f) { out = sym may.home i; copied = noted (link v f).content (link v f).copied may.right i })
+
+-- the page of a frame whose content lock the view has is sound
+pub copy_sound : (f went : ℕ) (page : Page) (v u : View) → Did (pages paged.page_out) f v u went → (link v f).content ≢ Unlocked → (link u f).out ≡ Some page → is_sound_page page ≡ true
+copy_sound f went page v u d right out = subst (λ (p : Page). is_sound_page p ≡ true) (same_page (d.state.pool.core.frame f).page page (sym (ap (λ (l : Link). l.out) (link_is (pages paged.page_out) f went v u d)) ∙ out))
+    ((d.laws.invariant.pool.pages.columns f d.inside).sound ((d.laws.invariant.pool.pages.cells d.seat v f d.there d.inside).content right).1)
+  where
+    same_page : (p q : Page) → Some p ≡ Some q → p ≡ q
+    same_page p q e = cc

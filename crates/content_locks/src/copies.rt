@@ -1,6 +1,7 @@
 //! Copies of pages.
 ghost use Rattle.std.specs.Prelude.{◌≡◌, ◌∷◌, ℕ, None, true};
 ghost use Rattle.atomic_table.specs.Table.{rest};
+ghost use Rattle.page_layout.specs.Soundness.{is_sound_page};
 ghost use Rattle.pin_core.specs.declared.view.Content.TheVariants.{Shared};
 ghost use Rattle.pin_core.specs.State.{link};
 ghost use Rattle.page_core.specs.Kinds as kinds;
@@ -81,6 +82,7 @@ fn copy_page<L: BlockLane, G: LogDevice>(
     ensures touches { Touches frame seat.old.me.0 seat.new.me.0 }
     ensures marks { SameMarks seat.old.me.0 seat.new.me.0 }
     ensures copied { link seat.new.me.0 frame ≡ copied_link page.new (link seat.old.me.0 frame) }
+    ensures sound { is_sound_page page.new ≡ true }
     ensures did { CopiesPage frame page.new seat.old.me.0 seat.new.me.0 }
 {
     let out = table.page_out(seat, frame);
@@ -88,7 +90,7 @@ fn copy_page<L: BlockLane, G: LogDevice>(
     table.page_back(seat, frame, out);
 }
 
-/// Copies the page of a frame under the content lock that the backend has. The copy is noted, and is the frame's page for as long as the lock is held. Sharers copy one after the other.
+/// Copies the page of a frame, which is sound, under the content lock that the backend has. The copy is noted, and is the frame's page for as long as the lock is held. Sharers copy one after the other.
 pub fn copy_out<L: BlockLane, G: LogDevice, R: Wait>(
     table: &FrameTable<L, G>,
     rt: &R,
@@ -102,6 +104,7 @@ pub fn copy_out<L: BlockLane, G: LogDevice, R: Wait>(
     ensures touches { Touches frame seat.old.me.0 seat.new.me.0 }
     ensures marks { SameMarks seat.old.me.0 seat.new.me.0 }
     ensures copied { link seat.new.me.0 frame ≡ copied_link page.new (link seat.old.me.0 frame) }
+    ensures sound { is_sound_page page.new ≡ true }
     ensures did { Copies frame page.new seat.old.me.0 seat.new.me.0 }
 {
     if is_exclusive(table.look_content(seat, frame)) {

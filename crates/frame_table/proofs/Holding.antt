@@ -45,7 +45,7 @@ use Rattle.frame_table.specs.Tells.{Tried, if_found, Did, DidHeld, always, looki
 use Rattle.frame_table.proofs.Frames.{Asks}
 use Rattle.frame_table.proofs.Acting.{acts}
 use Rattle.frame_table.proofs.Words.{swaps, AsksWord, stores}
-use Rattle.frame_table.proofs.Told.{looks_link, self_after, links_after, touches, touches_on, link_is, looked}
+use Rattle.frame_table.proofs.Told.{looks_link, self_after, grows, links_after, touches, touches_on, link_is, looked}
 
 -- numbers that are alike at a place have the same bit there
 same_bit : (place v w : ℕ) → v / 2 ^ place % 2 ≡ w / 2 ^ place % 2 → bit place v ≡ bit place w
@@ -69,17 +69,6 @@ held_word s id f v laws there inside held = of_header (link v f).header refl
     of_header : (w : Option StateWord) → (link v f).header ≡ w → (link v f).header ≡ Some (s.pool.core.frame f).word
     of_header None e = absurd (held e)
     of_header (Some w) e = e ∙ ap (λ (x : StateWord). Some x) (sym ((laws.invariant.pool.core.grid.cells id v f there inside).header w e))
-
-some_same : (a b : StateWord) → Some a ≡ Some b → a ≡ b
-some_same a b e = cc
-
--- after a load the header's word is the number that was loaded
-pub word_loaded : (f n : ℕ) (v u : View) → Did looking f v u n → (link v f).header ≢ None → (link u f).header ≡ Some (fields n)
-word_loaded f n v u d held = (looked f n v u d).header ∙ held_word d.state d.seat f v d.laws d.there d.inside held ∙ ap (λ (w : StateWord). Some w) d.says
-
--- and what the view knew of it holds of the number
-pub knows_loaded : (P : StateWord → Type 0) (f n : ℕ) (v u : View) → Did looking f v u n → HoldsWord P (link v f) → P (fields n)
-knows_loaded P f n v u d h = subst P d.says (h.knows (d.state.pool.core.frame f).word (held_word d.state d.seat f v d.laws d.there d.inside h.held))
 
 module _ {L G : Type 0} (d : Devices L G) (o : Opening L G) where
   -- a store of the state word under the header, which holds the number `was`
@@ -240,33 +229,9 @@ module _ {L G : Type 0} (d : Devices L G) (o : Opening L G) where
             out = refl;
           }
 
--- What follows from such steps
-pub held_touches : (k : FrameKind) → ((s : State) (f : ℕ) (v : View) → (view_after k s f v).partitions ≡ v.partitions) → (f : ℕ) (v w : View) → DidHeld k f v w → Touches f v w
-held_touches k aside f v w d = touches_on f v d.between w (touches looking (λ s g x. refl) f d.word v d.between d.looked) (touches k aside f d.now d.between w d.did)
-
-victim_looked : (l m : Link) → Looked l m → Looked (victim_link l) (victim_link m)
-victim_looked l m a = record { role = refl; tag = a.tag; ring = refl; header = refl; pending = a.pending; content = a.content; copying = a.copying; dirtied = a.dirtied; unapplied = a.unapplied; copied = a.copied; io = a.io; read = a.read; read_is_home = a.read_is_home; last_write = a.last_write; out = a.out; overwritten = a.overwritten; image = a.image; seen_valid = a.seen_valid; waits = a.waits; passed = a.passed; listed = a.listed }
-
-unlocked_looked : (l m : Link) → Looked l m → Looked (unlocked_link l) (unlocked_link m)
-unlocked_looked l m a = record { role = a.role; tag = a.tag; ring = a.ring; header = refl; pending = a.pending; content = a.content; copying = a.copying; dirtied = a.dirtied; unapplied = a.unapplied; copied = a.copied; io = a.io; read = a.read; read_is_home = a.read_is_home; last_write = a.last_write; out = a.out; overwritten = a.overwritten; image = a.image; seen_valid = a.seen_valid; waits = a.waits; passed = a.passed; listed = a.listed }
-
-assigned_looked : (tag : Option ℕ) (l m : Link) → Looked l m → Looked (assigned_link tag l) (assigned_link tag m)
-assigned_looked tag l m a = record { role = refl; tag = refl; ring = a.ring; header = refl; pending = refl; content = a.content; copying = a.copying; dirtied = a.dirtied; unapplied = a.unapplied; copied = a.copied; io = a.io; read = a.read; read_is_home = a.read_is_home; last_write = a.last_write; out = a.out; overwritten = a.overwritten; image = a.image; seen_valid = a.seen_valid; waits = a.waits; passed = a.passed; listed = a.listed }
-
-cleared_looked : (l m : Link) → Looked l m → Looked (cleared_link l) (cleared_link m)
-cleared_looked l m a = record { role = a.role; tag = a.tag; ring = a.ring; header = refl; pending = refl; content = a.content; copying = a.copying; dirtied = a.dirtied; unapplied = a.unapplied; copied = a.copied; io = a.io; read = a.read; read_is_home = a.read_is_home; last_write = a.last_write; out = a.out; overwritten = a.overwritten; image = a.image; seen_valid = a.seen_valid; waits = a.waits; passed = a.passed; listed = a.listed }
-
-pub victim_after : (f : ℕ) (v w : View) → DidHeld (pins pin.pin_victim) f v w → Looked (victim_link (link v f)) (link w f)
-victim_after f v w d = subst (Looked (victim_link (link v f))) (sym (link_is (pins pin.pin_victim) f d.now d.between w d.did)) (victim_looked (link v f) (link d.between f) (looked f d.word v d.between d.looked))
-
-pub lowered_after : (f : ℕ) (v w : View) → DidHeld (pins pin.lower_usage) f v w → Looked (unlocked_link (link v f)) (link w f)
-lowered_after f v w d = subst (Looked (unlocked_link (link v f))) (sym (link_is (pins pin.lower_usage) f d.now d.between w d.did)) (unlocked_looked (link v f) (link d.between f) (looked f d.word v d.between d.looked))
-
-pub assigned_after : (f : ℕ) (v w : View) → DidHeld (pins pin.assign) f v w → Looked (assigned_link (link w f).tag (link v f)) (link w f)
-assigned_after f v w d = let tag : Option ℕ = Some (d.did.state.pool.core.frame f).tag in subst (λ (m : Link). Looked (assigned_link m.tag (link v f)) m) (sym (link_is (pins pin.assign) f d.now d.between w d.did)) (assigned_looked tag (link v f) (link d.between f) (looked f d.word v d.between d.looked))
-
-pub cleared_after : (f : ℕ) (v w : View) → DidHeld (pins pin.clear) f v w → Looked (cleared_link (link v f)) (link w f)
-cleared_after f v w d = subst (Looked (cleared_link (link v f))) (sym (link_is (pins pin.clear) f d.now d.between w d.did)) (cleared_looked (link v f) (link d.between f) (looked f d.word v d.between d.looked))
+-- what is left of the pin that was assigned
+pub assigned_after : (f word : ℕ) (v w : View) → Did (pins pin.assign) f v w word → link w f ≡ assigned_link (link w f).tag (link v f)
+assigned_after f word v w d = subst (λ (m : Link). m ≡ assigned_link m.tag (link v f)) (sym (link_is (pins pin.assign) f word v w d)) refl
 
 -- the frame of a pair that a view is entering has the tag
 entering_there : (s : State) (id f p tag : ℕ) (v : View) → Laws s → get_elem? s.pool.core.views id ≡ some v → v.emptied ≡ false → f < s.pool.core.frames → (hold v p).change ≡ Entering tag f → (hold v p).changed ≡ false → (s.pool.core.frame f).tag ≡ tag
@@ -282,15 +247,14 @@ entering_there s id f p tag v laws there live inside enters unchanged = dite (de
     of_held owed resting low true e = of_owed low (sym (owed e) ∙ ap (λ (c : Bool). owed_by c (hold v p).change) unchanged ∙ enters)
     of_held owed resting low false e = let no : Entering tag f ≡ Settled = sym enters ∙ (resting e).1 in absurd (cc)
 
-pub assigned_tag : (f : ℕ) (v w : View) → DidHeld (pins pin.assign) f v w → (p tag : ℕ) → (hold v p).change ≡ Entering tag f → (hold v p).changed ≡ false → (link w f).tag ≡ Some tag
-assigned_tag f v w d p tag enters unchanged = let e : d.between.partitions ≡ v.partitions = (touches looking (λ s g x. refl) f d.word v d.between d.looked).partitions in let same : hold d.between p ≡ hold v p = ap (λ (l : List PartitionHold). get_or l p no_partition) e in
-    ap (λ (l : Link). l.tag) (link_is (pins pin.assign) f d.now d.between w d.did)
-    ∙ ap (λ (t : ℕ). Some t) (entering_there d.did.state d.did.seat f p tag d.between d.did.laws d.did.there d.did.live d.did.inside (ap (λ (h : PartitionHold). h.change) same ∙ enters) (ap (λ (h : PartitionHold). h.changed) same ∙ unchanged))
+pub assigned_tag : (f word : ℕ) (v w : View) → Did (pins pin.assign) f v w word → (p tag : ℕ) → (hold v p).change ≡ Entering tag f → (hold v p).changed ≡ false → (link w f).tag ≡ Some tag
+assigned_tag f word v w d p tag enters unchanged = ap (λ (l : Link). l.tag) (link_is (pins pin.assign) f word v w d) ∙ ap (λ (t : ℕ). Some t) (entering_there d.state d.seat f p tag v d.laws d.there d.live d.inside enters unchanged)
 
 -- after a store of a tag word
 pub stored_self : (tag : Option Tag) (f now : ℕ) (v w : View) → Did (storing tag) f v w now → Stores f v w
 stored_self tag f now v w d = record {
   self = subst (SameSelf v) (sym d.after) (self_after (storing tag) d.state f v);
+  grows = grows (storing tag) f now v w d;
   others = λ g n. ap (λ (x : View). link x g) d.after ∙ ap (λ (l : List Link). get_or l g idle) (links_after (storing tag) d.state f v) ∙ get_or-set_other v.links f g (link_after (storing tag) d.state f v) idle n;
 }
 

@@ -38,7 +38,7 @@ use Rattle.table_rule.specs.declared.turn.Turn.TheVariants.{Partition, Lane, Log
 use Rattle.table_rule.specs.Layout.{latch_place, slot_of}
 use Rattle.history_core.specs.Laws.{Laws}
 use Rattle.table_rule.specs.Shows.{is_taken, is_out, IsHome, AreApart, entry_of, Devices, Gives, GivesEntries, GivesMap, HasValue, IsOpened, Shows, Held}
-use Rattle.frame_table.specs.Turning.{AreBelow, DidMap, ComesBack, as_it_was, entered, left_out, MayComeBack, HasNamed, HasRoomFor, IsMap, map_went, map_came, MapStep, SameWork, is_named, back_hold}
+use Rattle.frame_table.specs.Turning.{AreBelow, DidMap, ComesBack, as_it_was, entered, left_out, MayComeBack, HasNamed, HasRoomFor, IsMap, map_went, map_came, MapStep, SameWork, work_of, is_named, back_hold}
 use Rattle.history_core.proofs.Laws.{laws_kept}
 use Rattle.frame_table.proofs.Frames.{put_keeps, set_twice}
 use Rattle.frame_table.proofs.Moving.{Moves, shows_back, shows_moved, shows_out, words_none}
@@ -277,7 +277,7 @@ out_named entries p v w d unchanged = has_named d.state d.seat p v d.laws d.ther
 
 -- What a step at a partition makes of the view
 pub map_work : (k : parts.TurnKind) (p : ℕ) (v w : View) → DidMap k p v w → SameWork v w
-map_work k p v w d = subst (SameWork v) (sym d.after) record { number = refl; next = refl; joined = refl; emptied = refl; links = refl; flushed = refl; calls = refl; front = refl; loads = refl; place_loads = refl; upto = refl; kept = refl; device_calls = refl; met = refl; saw_down = refl; dirtied_or_synced = refl; had_output = refl; last_ended = refl }
+map_work k p v w d = ap work_of d.after
 
 pub map_stepped : (k : parts.TurnKind) (p : ℕ) (v w : View) → DidMap k p v w → MapStep p (parts.hold_after k (hold v p)) v w
 map_stepped k p v w d = subst (MapStep p (parts.hold_after k (hold v p)) v) (sym d.after) record {
@@ -288,7 +288,7 @@ map_stepped k p v w d = subst (MapStep p (parts.hold_after k (hold v p)) v) (sym
 }
 
 work_on : (v u w : View) → SameWork v u → SameWork u w → SameWork v w
-work_on v u w a b = record { number = b.number ∙ a.number; next = b.next ∙ a.next; joined = b.joined ∙ a.joined; emptied = b.emptied ∙ a.emptied; links = b.links ∙ a.links; flushed = b.flushed ∙ a.flushed; calls = b.calls ∙ a.calls; front = b.front ∙ a.front; loads = b.loads ∙ a.loads; place_loads = b.place_loads ∙ a.place_loads; upto = b.upto ∙ a.upto; kept = b.kept ∙ a.kept; device_calls = b.device_calls ∙ a.device_calls; met = b.met ∙ a.met; saw_down = b.saw_down ∙ a.saw_down; dirtied_or_synced = b.dirtied_or_synced ∙ a.dirtied_or_synced; had_output = b.had_output ∙ a.had_output; last_ended = b.last_ended ∙ a.last_ended }
+work_on v u w a b = b ∙ a
 
 steps_on : (p : ℕ) (h h' : PartitionHold) (v u w : View) → MapStep p h v u → MapStep p h' u w → MapStep p h' v w
 steps_on p h h' v u w a b = record { here = b.here; others = λ q n. b.others q n ∙ a.others q n; lanes = b.lanes ∙ a.lanes; log = b.log ∙ a.log }

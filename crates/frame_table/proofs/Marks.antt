@@ -16,8 +16,8 @@ use Rattle.history_core.specs.State.{State}
 use Rattle.frame_table.specs.Content.{start_of}
 use Rattle.frame_table.specs.Kinds.{FrameKind, pins, pages, view_after}
 use Rattle.frame_table.specs.PageWork.{ReturnsBy, by_input, overwriting}
-use Rattle.frame_table.specs.Sees.{MarksBegun, MarksDirty, MarksEnded, SameMarks}
-use Rattle.frame_table.specs.Tells.{Did, DidHeld, Looks, Tried, still, again, looking}
+use Rattle.frame_table.specs.Sees.{Marks, MarksBegun, MarksDirty, MarksEnded, SameMarks, marks_of}
+use Rattle.frame_table.specs.Tells.{Did, Looks, Tried, still, again, looking}
 
 -- a kind that marks nothing
 pub record IsUnmarked (k : paged.Kind) : Type 0 where
@@ -30,11 +30,11 @@ MarksNothing (pins k) = Unit {0}
 MarksNothing (pages k) = IsUnmarked k
 
 marks_after : (k : FrameKind) → MarksNothing k → (s : State) (f : ℕ) (v : View) → SameMarks v (view_after k s f v)
-marks_after (pins k) m s f v = record { dirtied_or_synced = refl; had_output = refl; last_ended = refl }
-marks_after (pages k) m s f v = record {
-  dirtied_or_synced = ap (λ (b : Bool). v.dirtied_or_synced || b) m.clean ∙ or-false v.dirtied_or_synced;
-  had_output = ap (λ (b : Bool). v.had_output || b) m.quiet ∙ or-false v.had_output;
-  last_ended = m.open_ended (s.pool.core.frame f) v.last_ended;
+marks_after (pins k) m s f v = refl
+marks_after (pages k) m s f v i = record {
+  dirtied_or_synced = (ap (λ (b : Bool). v.dirtied_or_synced || b) m.clean ∙ or-false v.dirtied_or_synced) i;
+  had_output = (ap (λ (b : Bool). v.had_output || b) m.quiet ∙ or-false v.had_output) i;
+  last_ended = m.open_ended (s.pool.core.frame f) v.last_ended i;
 }
 
 -- a step of such a kind
@@ -42,10 +42,10 @@ pub did_marks : (k : FrameKind) → MarksNothing k → (f found : ℕ) (v w : Vi
 did_marks k m f found v w d = subst (SameMarks v) (sym d.after) (marks_after k m d.state f v)
 
 pub marks_on : (v u w : View) → SameMarks v u → SameMarks u w → SameMarks v w
-marks_on v u w a b = record { dirtied_or_synced = b.dirtied_or_synced ∙ a.dirtied_or_synced; had_output = b.had_output ∙ a.had_output; last_ended = b.last_ended ∙ a.last_ended }
+marks_on v u w a b = b ∙ a
 
 pub marks_none : (v : View) → SameMarks v v
-marks_none v = record { dirtied_or_synced = refl; had_output = refl; last_ended = refl }
+marks_none v = refl
 
 -- loads, and a step after them
 pub looks_marks : (f : ℕ) (v w : View) → Looks f v w → SameMarks v w
@@ -54,9 +54,6 @@ looks_marks f v w (again {u = u} found l d) = marks_on v u w (looks_marks f v u 
 
 pub tried_marks : (k : FrameKind) → MarksNothing k → (f : ℕ) (v w : View) → Tried k f v w true → SameMarks v w
 tried_marks k m f v w t = marks_on v t.0 w (looks_marks f v t.0 t.2) (did_marks k m f t.1 t.0 w t.3)
-
-pub held_marks : (k : FrameKind) → MarksNothing k → (f : ℕ) (v w : View) → DidHeld k f v w → SameMarks v w
-held_marks k m f v w d = marks_on v d.between w (did_marks looking tt f d.word v d.between d.looked) (did_marks k m f d.now d.between w d.did)
 
 -- a page comes back, after it was overwritten or as it was
 returned : (f found : ℕ) (v w : View) → Did (pages paged.page_back) f v w found → SameMarks v w
@@ -77,38 +74,23 @@ back_marks l f found v w r = back_by l.unapplied l.io l.read f found v w r
 
 -- a frame is marked dirty, after loads
 pub dirtied_marks : (f : ℕ) (v w : View) → Tried (pages paged.mark_dirty) f v w true → MarksDirty v w
-dirtied_marks f v w t = let before = looks_marks f v t.0 t.2 in record {
-  dirtied_or_synced = ap (λ (x : View). x.dirtied_or_synced) t.3.after ∙ or-true t.0.dirtied_or_synced;
-  had_output = ap (λ (x : View). x.had_output) t.3.after ∙ or-false t.0.had_output ∙ before.had_output;
-  last_ended = ap (λ (x : View). x.last_ended) t.3.after ∙ before.last_ended;
-}
+dirtied_marks f v w t = ap marks_of t.3.after
+    ∙ (λ i. record (marks_of t.0) { dirtied_or_synced = or-true t.0.dirtied_or_synced i; had_output = or-false t.0.had_output i })
+    ∙ ap (λ (m : Marks). record m { dirtied_or_synced = true }) (looks_marks f v t.0 t.2)
 
 -- a read or a write of a page begins
 pub begun_marks : (input : Bool) (f found : ℕ) (v w : View) → Did (pages (start_of input)) f v w found → MarksBegun input v w
-begun_marks true f found v w d = record {
-  dirtied_or_synced = ap (λ (x : View). x.dirtied_or_synced) d.after ∙ or-false v.dirtied_or_synced;
-  reads = λ e. ap (λ (x : View). x.had_output) d.after ∙ or-false v.had_output;
-  writes = λ e. absurd (let no : true ≡ false = e in cc);
-  last_ended = ap (λ (x : View). x.last_ended) d.after;
-}
-begun_marks false f found v w d = record {
-  dirtied_or_synced = ap (λ (x : View). x.dirtied_or_synced) d.after ∙ or-false v.dirtied_or_synced;
-  reads = λ e. absurd (let no : false ≡ true = e in cc);
-  writes = λ e. ap (λ (x : View). x.had_output) d.after ∙ or-true v.had_output;
-  last_ended = ap (λ (x : View). x.last_ended) d.after;
-}
+begun_marks true f found v w d = ap marks_of d.after ∙ (λ i. record (marks_of v) { dirtied_or_synced = or-false v.dirtied_or_synced i })
+begun_marks false f found v w d = ap marks_of d.after ∙ (λ i. record (marks_of v) { dirtied_or_synced = or-false v.dirtied_or_synced i; had_output = v.had_output || true })
 
 -- and ends
 pub ended_marks : (end : IoEnd) (f word : ℕ) (v w : View) → Did (pages (paged.end_io end)) f v w word → MarksEnded (unlocked_fields (io_ended_fields end (fields word))) v w
-ended_marks end f word v w d = record {
-  dirtied_or_synced = ap (λ (x : View). x.dirtied_or_synced) d.after ∙ or-false v.dirtied_or_synced;
-  had_output = ap (λ (x : View). x.had_output) d.after ∙ or-false v.had_output;
-  last_ended = ap (λ (x : View). x.last_ended) d.after ∙ ap (λ (x : StateWord). Some (unlocked_fields (io_ended_fields end x))) d.says;
-}
+ended_marks end f word v w d = ap marks_of d.after
+    ∙ (λ i. record { dirtied_or_synced = or-false v.dirtied_or_synced i; had_output = or-false v.had_output i; last_ended = Some (unlocked_fields (io_ended_fields end (d.says i))) })
 
 -- after steps that mark nothing
 pub begun_marks_on : (input : Bool) (v u w : View) → SameMarks v u → MarksBegun input u w → MarksBegun input v w
-begun_marks_on input v u w a b = record { dirtied_or_synced = b.dirtied_or_synced ∙ a.dirtied_or_synced; reads = λ e. b.reads e ∙ a.had_output; writes = b.writes; last_ended = b.last_ended ∙ a.last_ended }
+begun_marks_on input v u w a b = b ∙ ap (λ (m : Marks). record m { had_output = m.had_output || not input }) a
 
 pub ended_marks_on : (stored : StateWord) (v u w : View) → SameMarks v u → MarksEnded stored u w → MarksEnded stored v w
-ended_marks_on stored v u w a b = record { dirtied_or_synced = b.dirtied_or_synced ∙ a.dirtied_or_synced; had_output = b.had_output ∙ a.had_output; last_ended = b.last_ended }
+ended_marks_on stored v u w a b = b ∙ ap (λ (m : Marks). record m { last_ended = Some stored }) a

@@ -48,8 +48,8 @@ pub rests_on : (f : ℕ) (v w : View) → Touches f v w → IsFree (link w f) �
 rests_on f v w t here h = record {
   frames = λ g. dite (ℕ_discrete g f) (λ e. subst (λ (x : ℕ). IsFree (link w x)) (sym e) here) (λ n. subst IsFree (sym (t.others g n)) (h.frames g));
   partitions = λ p. ap (λ (l : List PartitionHold). (get_or l p no_partition).held) t.partitions ∙ h.partitions p;
-  lanes = λ n. ap (λ (l : List LaneHold). (get_or l n no_lane).held) t.self.lanes ∙ h.lanes n;
-  log = ap (λ l. l.held) t.self.log ∙ h.log;
+  lanes = λ n. ap (λ (l : List LaneHold). (get_or l n no_lane).held) (ap (λ (x : View). x.lanes) t.self) ∙ h.lanes n;
+  log = ap (λ l. l.held) (ap (λ (x : View). x.log) t.self) ∙ h.log;
 }
 
 -- so it is after loads
@@ -73,9 +73,9 @@ module _ {L G : Type 0} (t : FrameTable L G) where
     fits = same.table ∙ c.fits;
     first = same.id ∙ c.first;
     hand = same.hand ∙ c.hand;
-    live = touches.self.emptied ∙ c.live;
+    live = ap (λ (x : View). x.emptied) touches.self ∙ c.live;
     free = rests_on f s.me.0 s'.me.0 touches free c.free;
-    joined = ap (λ (n : ℕ). n + 1) touches.self.joined ∙ c.joined ∙ sym touches.self.next;
+    joined = ap (λ (n : ℕ). n + 1) (ap (λ (x : View). x.joined) touches.self) ∙ c.joined ∙ sym (ap (λ (x : View). x.next) touches.self);
   }
 
 -- a pin that was taken and given up leaves nothing

@@ -1,5 +1,5 @@
 -- What callers know after loads.
-use Rattle.std.proofs.Common.{◌≡◌, ◌≢◌, ℕ, ◌/◌, ◌<◌, ◌%◌, ◌^◌, ◌==◌, nat_eq, Bool, true, false, Option, Some, None, sym, refl, ap, ◌∙◌, arith}
+use Rattle.std.proofs.Common.{◌≡◌, ◌≢◌, ℕ, ◌/◌, subst, refl, ◌<◌, ◌%◌, ◌^◌, ◌==◌, nat_eq, Bool, true, false, Option, Some, None, sym, ap, ◌∙◌, arith}
 use Rattle.std.specs.Prelude.{not, ◌||◌, ◌&&◌, if◌then◌else◌}
 use Rattle.std.proofs.Math.Bool.{and-false, or-true}
 use mathlib.Core.Logic.{dite}
@@ -7,7 +7,7 @@ use mathlib.Core.Option.{some}
 use native.Mathlib.Decide.{ℕ_discrete}
 use lib.ListN.{get_elem?}
 use Rattle.state_word.specs.declared.word.StateWord.{StateWord}
-use Rattle.state_word.specs.Fields.{fields, bit}
+use Rattle.state_word.specs.Fields.{fields, locked_fields, bit}
 use Rattle.pin_core.specs.declared.view.View.{View}
 use Rattle.pin_core.specs.declared.view.Link.{Link}
 use Rattle.pin_core.specs.declared.view.Role.{Role}
@@ -17,14 +17,60 @@ use Rattle.pin_core.specs.declared.view.Content.TheVariants.{Shared}
 use Rattle.pin_core.specs.State.{link}
 use Rattle.pin_core.specs.Tallies.{flag_weight}
 use Rattle.pin_core.specs.Kinds.{seen_valid_after, wait_after}
+use Rattle.pin_core.specs.Kinds as pin
+use Rattle.pin_core.specs.Invariant.{FrameLaw, LinkLaw}
+use Rattle.pin_core.proofs.Schedules.{few, own_pins}
 use Rattle.page_core.specs.Tallies.{sharers, copies, weigh, share_weight}
 use Rattle.grid.proofs.Sums.{term_le, total-none}
 use Rattle.history_core.specs.Laws.{Laws}
 use Rattle.history_core.specs.State.{State}
-use Rattle.frame_table.specs.Kinds.{FrameKind}
-use Rattle.frame_table.specs.Tells.{Did, looking}
+use Rattle.frame_table.specs.Kinds.{FrameKind, Part, part_of, pins, state_word}
+use Rattle.frame_table.specs.Sees.{IsWordOf, Looked}
+use Rattle.frame_table.specs.Tells.{Did, Looks, SaysOf, looking}
 use Rattle.frame_table.specs.Content.{looking_content, has_exclusive}
-use Rattle.frame_table.proofs.Told.{link_is, loads_link, seen_still}
+use Rattle.frame_table.proofs.Told.{link_is, loads_link, looks_link, seen_still}
+
+-- what the word shows that a step at a state word found
+pub word_seen : (k : FrameKind) → part_of k ≡ state_word → (f found : ℕ) (v w : View) → Did k f v w found → IsWordOf (link v f) (fields found)
+word_seen k part f found v w d = subst (IsWordOf (link v f)) (subst (λ (p : Part). SaysOf p found (d.state.pool.core.frame f)) part d.says) record {
+  dirty = column.dirty;
+  valid = column.valid;
+  usage = column.usage;
+  few = (let a = few d.state.pool.core d.laws.invariant.pool.core f d.inside in let c = d.few in omega arith);
+  pinned = own_pins d.state.pool.core d.laws.invariant.pool.core d.seat f v d.there d.inside;
+  remembered = λ some. of_tag some (link v f).tag refl;
+  seen = cell.seen;
+  output = λ writes. ((d.laws.invariant.pool.pages.cells d.seat v f d.there d.inside).output writes).0;
+}
+  where
+    column : FrameLaw (d.state.pool.core.frame f) _
+    column = d.laws.invariant.pool.core.grid.columns f d.inside
+
+    cell : LinkLaw (d.state.pool.core.frame f) (link v f)
+    cell = d.laws.invariant.pool.core.grid.cells d.seat v f d.there d.inside
+
+    of_tag : (link v f).tag ≢ None → (tag : Option ℕ) → (link v f).tag ≡ tag → (d.state.pool.core.frame f).word.tag_valid ≡ true
+    of_tag some None is = absurd (some is)
+    of_tag some (Some tag) is = (cell.remembers tag is).0.flagged
+
+-- and after loads, with the header locked
+word_looked : (l m : Link) (w : StateWord) → Looked l m → IsWordOf m w → IsWordOf l w
+word_looked l m w a x = record {
+  dirty = x.dirty;
+  valid = x.valid;
+  usage = x.usage;
+  few = x.few;
+  pinned = λ pinned. x.pinned (λ e. pinned (sym a.role ∙ e));
+  remembered = λ some. x.remembered (λ e. some (sym a.tag ∙ e));
+  seen = λ saw. x.seen (a.seen_valid saw);
+  output = λ writes. x.output (a.io ∙ writes);
+}
+
+pub word_locked : (f was word : ℕ) (v u w : View) → Looks f v u → Did (pins pin.lock_header) f u w was → fields word ≡ locked_fields (fields was) → IsWordOf (link v f) (fields word)
+word_locked f was word v u w looks d e = subst (IsWordOf (link v f)) (sym e) (held (word_looked (link v f) (link u f) (fields was) (looks_link f v u looks) (word_seen (pins pin.lock_header) refl f was u w d)))
+  where
+    held : IsWordOf (link v f) (fields was) → IsWordOf (link v f) (locked_fields (fields was))
+    held x = record { dirty = x.dirty; valid = x.valid; usage = x.usage; few = x.few; pinned = x.pinned; remembered = x.remembered; seen = x.seen; output = x.output }
 
 -- no tag word is stored where a view's pin is handed out
 pub handed_settled : (k : FrameKind) (f found : ℕ) (v w : View) → Did k f v w found → (link v f).role ≡ HandedOut → (link v f).pending ≡ false

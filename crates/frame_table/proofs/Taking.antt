@@ -38,7 +38,7 @@ use Rattle.table_rule.specs.declared.turn.Turn.TheVariants.{Partition, Lane, Log
 use Rattle.table_rule.specs.Layout.{latch_place}
 use Rattle.history_core.specs.Laws.{Laws}
 use Rattle.table_rule.specs.Shows.{ShowsFrame, ShowsLatches, is_taken, HasTurn, is_out, IsHome, Devices, IsOpened, Shows, Held}
-use Rattle.frame_table.specs.Turning.{MayLeave, TurnAllowed, IsInside, part_kind, lane_kind, log_kind, view_turned, state_turned, turn_event, DidTurn, SameWork, IsTurned, took, left}
+use Rattle.frame_table.specs.Turning.{MayLeave, TurnAllowed, IsInside, part_kind, lane_kind, log_kind, view_turned, state_turned, turn_event, DidTurn, SameWork, work_of, IsTurned, took, left}
 use Rattle.history_core.proofs.Laws.{laws_kept}
 use Rattle.frame_table.proofs.Frames.{frame_else, put_keeps, same_at, home_before, SameLane, SameDevice, lane_none, device_none, SameValues, gives_same}
 
@@ -299,16 +299,23 @@ no_met v i = record { reads = none_more v.met.reads i; writes = none_more v.met.
     none_more : (n : ℕ) → n + 0 ≡ n
     none_more n = omega arith
 
+-- a step at a lane's latch, or at the log's, calls no device, counts no fault and marks nothing
+lane_work : (v : View) → work_of (record v { device_calls = v.device_calls ++ []; met = sum_of_met v.met (record { reads = 0; writes = 0; logs = 0 }); dirtied_or_synced = v.dirtied_or_synced || false }) ≡ work_of v
+lane_work v i = record (work_of v) { device_calls = append-nil v.device_calls i; met = no_met v i; dirtied_or_synced = or-false v.dirtied_or_synced i }
+
+log_work : (v : View) → work_of (record v { device_calls = v.device_calls ++ []; met = sum_of_met v.met (record { reads = 0; writes = 0; logs = 0 }); saw_down = v.saw_down || false }) ≡ work_of v
+log_work v i = record (work_of v) { device_calls = append-nil v.device_calls i; met = no_met v i; saw_down = or-false v.saw_down i }
+
 -- what a step at a latch makes of the view
 work_after : (takes : Bool) (x : Turn) (s : State) (v : View) → SameWork v (view_turned takes x s v)
-work_after takes (Partition p) s v = record { number = refl; next = refl; joined = refl; emptied = refl; links = refl; flushed = refl; calls = refl; front = refl; loads = refl; place_loads = refl; upto = refl; kept = refl; device_calls = refl; met = refl; saw_down = refl; dirtied_or_synced = refl; had_output = refl; last_ended = refl }
-work_after true (Lane q) s v = record { number = refl; next = refl; joined = refl; emptied = refl; links = refl; flushed = refl; calls = refl; front = refl; loads = refl; place_loads = refl; upto = refl; kept = refl; device_calls = append-nil v.device_calls; met = no_met v; saw_down = refl; dirtied_or_synced = or-false v.dirtied_or_synced; had_output = refl; last_ended = refl }
-work_after false (Lane q) s v = record { number = refl; next = refl; joined = refl; emptied = refl; links = refl; flushed = refl; calls = refl; front = refl; loads = refl; place_loads = refl; upto = refl; kept = refl; device_calls = append-nil v.device_calls; met = no_met v; saw_down = refl; dirtied_or_synced = or-false v.dirtied_or_synced; had_output = refl; last_ended = refl }
-work_after true Log s v = record { number = refl; next = refl; joined = refl; emptied = refl; links = refl; flushed = refl; calls = refl; front = refl; loads = refl; place_loads = refl; upto = refl; kept = refl; device_calls = append-nil v.device_calls; met = no_met v; saw_down = or-false v.saw_down; dirtied_or_synced = refl; had_output = refl; last_ended = refl }
-work_after false Log s v = record { number = refl; next = refl; joined = refl; emptied = refl; links = refl; flushed = refl; calls = refl; front = refl; loads = refl; place_loads = refl; upto = refl; kept = refl; device_calls = append-nil v.device_calls; met = no_met v; saw_down = or-false v.saw_down; dirtied_or_synced = refl; had_output = refl; last_ended = refl }
+work_after takes (Partition p) s v = refl
+work_after true (Lane q) s v = lane_work v
+work_after false (Lane q) s v = lane_work v
+work_after true Log s v = log_work v
+work_after false Log s v = log_work v
 
 pub turn_work : (takes : Bool) (x : Turn) (v w : View) → DidTurn takes x v w → SameWork v w
-turn_work takes x v w d = subst (SameWork v) (sym d.after) (work_after takes x d.state v)
+turn_work takes x v w d = ap work_of d.after ∙ work_after takes x d.state v
 
 turned_so : (takes : Bool) (x : Turn) (s : State) (v : View) → IsInside x s → length v.partitions ≡ s.pool.core.partitions → length v.lanes ≡ s.lanes → IsTurned takes x v (view_turned takes x s v)
 turned_so takes (Partition p) s v inside parts_wide lanes_wide = (get_or-set_same v.partitions p (parts.hold_after (part_kind takes) (hold v p)) no_partition (omega arith), (λ q n. get_or-set_other v.partitions p q (parts.hold_after (part_kind takes) (hold v p)) no_partition n), refl, refl)

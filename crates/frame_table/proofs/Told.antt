@@ -1,11 +1,12 @@
 -- What follows from a step that was told.
-use Rattle.std.proofs.Common.{◌≡◌, ◌≢◌, ℕ, ◌<◌, nat_eq, cond, Bool, true, false, Some, None, get_or, set, List, get_or-set_same, get_or-set_other, sym, refl, ap, ◌∙◌, subst, arith, eq-eqb, ne_eqb}
+use Rattle.std.proofs.Common.{◌≡◌, ◌≢◌, ℕ, ◌<◌, nat_eq, cond, Bool, true, false, Some, None, get_or, set, map, List, [], ◌∷◌, ◌++◌, append_assoc, append-nil, get_or-set_same, get_or-set_other, sym, refl, ap, ◌∙◌, subst, ⊎_elim, arith, eq-eqb, ne_eqb}
 use Rattle.std.specs.Prelude.{not, ◌||◌, ◌&&◌}
 use mathlib.Core.Logic.{dite}
 use native.Mathlib.Decide.{ℕ_discrete}
 use Rattle.state_word.specs.declared.word.StateWord.{StateWord}
 use Rattle.state_word.specs.Fields.{fields, locked_fields}
 use Rattle.pin_core.specs.declared.view.View.{View}
+use Rattle.pin_core.specs.declared.view.WordChange.{WordChange}
 use Rattle.pin_core.specs.declared.view.Link.{Link}
 use Rattle.pin_core.specs.declared.view.Role.{Role}
 use Rattle.pin_core.specs.declared.view.Role.TheVariants.{Absent, HandedOut, Victim}
@@ -14,14 +15,47 @@ use Rattle.pin_core.specs.Kinds.{seen_valid_after, wait_after}
 use Rattle.pin_core.specs.Kinds as pin
 use Rattle.pin_core.specs.Steps.{HoldsNoHeader}
 use Rattle.pin_core.proofs.Schedules.{few, own_pins}
+use Rattle.page_core.specs.Kinds as paged
 use Rattle.history_core.specs.State.{State}
-use Rattle.frame_table.specs.Kinds.{FrameKind, pins, pages, part_of, load_of, link_after, view_after}
-use Rattle.frame_table.specs.Sees.{SameSelf, Touches, Looked, CanUnpin, loaded_link, pinned_link, unpinned_link, locked_link}
+use Rattle.history_core.proofs.Trail.{Lists, pins_list, pages_list}
+use Rattle.frame_table.specs.Kinds.{FrameKind, pins, pages, part_of, load_of, block_at, link_after, view_after}
+use Rattle.frame_table.specs.Sees.{SameSelf, Grows, Touches, Looked, CanUnpin, loaded_link, pinned_link, unpinned_link, locked_link}
 use Rattle.frame_table.specs.Tells.{Choice, choice_part, part_place, Did, Looks, still, again, Tried, if_found, if_unlocked, chosen, has_locked, looking}
 
 pub self_after : (k : FrameKind) (s : State) (f : ℕ) (v : View) → SameSelf v (view_after k s f v)
-self_after (pins k) s f v = record { number = refl; next = refl; joined = refl; emptied = refl; lanes = refl; log = refl; flushed = refl; calls = refl; front = refl; place_loads = refl; upto = refl; kept = refl; device_calls = refl; met = refl; saw_down = refl }
-self_after (pages k) s f v = record { number = refl; next = refl; joined = refl; emptied = refl; lanes = refl; log = refl; flushed = refl; calls = refl; front = refl; place_loads = refl; upto = refl; kept = refl; device_calls = refl; met = refl; saw_down = refl }
+self_after (pins k) s f v = refl
+self_after (pages k) s f v = refl
+
+-- what is listed is added to, and what is counted doesn't fall
+added_to : (f : ℕ) (a b : StateWord) (before after : List WordChange) → Lists f a b before after → (cs : List WordChange) × (after ≡ before ++ cs)
+added_to f a b before after l = ⊎_elim
+    (λ (x : (b ≡ a) × (after ≡ before)). ([], x.1 ∙ sym (append-nil before)))
+    (λ (x : after ≡ before ++ record { frame = f; found = a; left = b } ∷ []). (record { frame = f; found = a; left = b } ∷ [], x))
+    l.is
+
+grows_after : (k : FrameKind) (s : State) (f : ℕ) (v : View) → Grows v (view_after k s f v)
+grows_after (pins k) s f v = let fr = s.pool.core.frame f in record {
+  loads = (map (pin.load_of v) (pin.seen_by k f fr), refl);
+  changes = added_to f fr.word (pin.frame_after k fr).word v.changes (pin.changes_after k f fr v.changes) (pins_list k f fr v.changes);
+  steps = omega arith;
+}
+grows_after (pages k) s f v = let fr = s.pool.core.frame f in let b = block_at s f in record {
+  loads = (map (pin.load_of v) (paged.seen_by k f fr), refl);
+  changes = added_to f fr.word (paged.frame_after k b fr).word v.changes (paged.changes_after k f b fr v.changes) (pages_list k f b fr v.changes);
+  steps = omega arith;
+}
+
+pub grows : (k : FrameKind) (f found : ℕ) (v w : View) → Did k f v w found → Grows v w
+grows k f found v w d = subst (Grows v) (sym d.after) (grows_after k d.state f v)
+
+more : {A : Type 0} (a b c : List A) → (x : (xs : List A) × (b ≡ a ++ xs)) → (y : (ys : List A) × (c ≡ b ++ ys)) → (zs : List A) × (c ≡ a ++ zs)
+more a b c (xs, e) (ys, g) = (xs ++ ys, g ∙ ap (λ l. l ++ ys) e ∙ append_assoc a xs ys)
+
+pub grows_on : (v u w : View) → Grows v u → Grows u w → Grows v w
+grows_on v u w a b = record { loads = more v.loads u.loads w.loads a.loads b.loads; changes = more v.changes u.changes w.changes a.changes b.changes; steps = let x = a.steps in let y = b.steps in omega arith }
+
+pub grows_none : (v : View) → Grows v v
+grows_none v = record { loads = ([], sym (append-nil v.loads)); changes = ([], sym (append-nil v.changes)); steps = omega arith }
 
 pub links_after : (k : FrameKind) (s : State) (f : ℕ) (v : View) → (view_after k s f v).links ≡ set v.links f (link_after k s f v)
 links_after (pins k) s f v = refl
@@ -31,6 +65,7 @@ links_after (pages k) s f v = refl
 pub touches : (k : FrameKind) → ((s : State) (f : ℕ) (v : View) → (view_after k s f v).partitions ≡ v.partitions) → (f found : ℕ) (v w : View) → Did k f v w found → Touches f v w
 touches k none f found v w d = record {
   self = subst (SameSelf v) (sym d.after) (self_after k d.state f v);
+  grows = grows k f found v w d;
   partitions = ap (λ (x : View). x.partitions) d.after ∙ none d.state f v;
   others = λ g n. ap (λ (x : View). link x g) d.after ∙ ap (λ (l : List Link). get_or l g idle) (links_after k d.state f v) ∙ get_or-set_other v.links f g (link_after k d.state f v) idle n;
 }
@@ -41,34 +76,10 @@ link_is k f found v w d = ap (λ (x : View). link x f) d.after ∙ ap (λ (l : L
     ∙ get_or-set_same v.links f (link_after k d.state f v) idle (let wide = d.laws.invariant.pool.core.views.wide d.seat v d.there d.live in let inside = d.inside in omega (arith, wide.0))
 
 pub touches_on : (f : ℕ) (v u w : View) → Touches f v u → Touches f u w → Touches f v w
-touches_on f v u w a b = record {
-  self = record {
-    number = b.self.number ∙ a.self.number;
-    next = b.self.next ∙ a.self.next;
-    joined = b.self.joined ∙ a.self.joined;
-    emptied = b.self.emptied ∙ a.self.emptied;
-    lanes = b.self.lanes ∙ a.self.lanes;
-    log = b.self.log ∙ a.self.log;
-    flushed = b.self.flushed ∙ a.self.flushed;
-    calls = b.self.calls ∙ a.self.calls;
-    front = b.self.front ∙ a.self.front;
-    place_loads = b.self.place_loads ∙ a.self.place_loads;
-    upto = b.self.upto ∙ a.self.upto;
-    kept = b.self.kept ∙ a.self.kept;
-    device_calls = b.self.device_calls ∙ a.self.device_calls;
-    met = b.self.met ∙ a.self.met;
-    saw_down = b.self.saw_down ∙ a.self.saw_down;
-  };
-  partitions = b.partitions ∙ a.partitions;
-  others = λ g n. b.others g n ∙ a.others g n;
-}
+touches_on f v u w a b = record { self = b.self ∙ a.self; grows = grows_on v u w a.grows b.grows; partitions = b.partitions ∙ a.partitions; others = λ g n. b.others g n ∙ a.others g n }
 
 pub touches_none : (f : ℕ) (v : View) → Touches f v v
-touches_none f v = record {
-  self = record { number = refl; next = refl; joined = refl; emptied = refl; lanes = refl; log = refl; flushed = refl; calls = refl; front = refl; place_loads = refl; upto = refl; kept = refl; device_calls = refl; met = refl; saw_down = refl };
-  partitions = refl;
-  others = λ g n. refl;
-}
+touches_none f v = record { self = refl; grows = grows_none v; partitions = refl; others = λ g n. refl }
 
 pub looked_on : (l m n : Link) → Looked l m → Looked m n → Looked l n
 looked_on l m n a b = record {

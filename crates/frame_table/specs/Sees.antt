@@ -1,5 +1,5 @@
 -- What callers see of a table and of a seat.
-use Rattle.std.specs.Prelude.{◌≡◌, ◌≢◌, ℕ, ◌<◌, Bool, true, false, not, ◌||◌, ◌&&◌, List, Option, Some, None}
+use Rattle.std.specs.Prelude.{◌≡◌, ◌≢◌, ℕ, ◌<◌, ◌≤◌, Bool, true, false, not, ◌||◌, ◌&&◌, List, [], ◌++◌, Option, Some, None}
 use Rattle.state_word.specs.declared.word.StateWord.{StateWord}
 use Rattle.state_word.specs.Fields.{fields}
 use Rattle.block_tag.specs.declared.tag.Tag.{Tag}
@@ -8,9 +8,11 @@ use Rattle.block_tag.specs.Names.{names_block, packed_tag, partition_number}
 use Rattle.atomic_table.specs.declared.shared.Seat.{Seat}
 use Rattle.pin_core.specs.declared.view.View.{View}
 use Rattle.pin_core.specs.declared.view.Link.{Link}
+use Rattle.pin_core.specs.declared.view.Load.{Load}
+use Rattle.pin_core.specs.declared.view.WordChange.{WordChange}
 use Rattle.pin_core.specs.declared.view.Role.TheVariants.{Absent, HandedOut, Victim}
 use Rattle.pin_core.specs.declared.view.Content.TheVariants.{Unlocked}
-use Rattle.pin_core.specs.declared.view.Io.TheVariants.{Quiet}
+use Rattle.pin_core.specs.declared.view.Io.TheVariants.{Quiet, Output}
 use Rattle.pin_core.specs.declared.view.MapEntry.{MapEntry}
 use Rattle.pin_core.specs.declared.view.MapChange.{MapChange}
 use Rattle.pin_core.specs.declared.view.MapChange.TheVariants.{Settled, Entering, Leaving}
@@ -25,47 +27,40 @@ use Rattle.table_rule.specs.Blocks.{has_block}
 use Rattle.table_rule.specs.Layout.{tag_partition}
 use Rattle.table_rule.specs.Shows.{HasTurn}
 
--- What a view keeps of itself over a step at a frame
-pub record SameSelf (v w : View) : Type 0 where
-  pub number : w.number ≡ v.number
-  pub next : w.next ≡ v.next
-  pub joined : w.joined ≡ v.joined
-  pub emptied : w.emptied ≡ v.emptied
-  pub lanes : w.lanes ≡ v.lanes
-  pub log : w.log ≡ v.log
-  pub flushed : w.flushed ≡ v.flushed
-  pub calls : w.calls ≡ v.calls
-  pub front : w.front ≡ v.front
-  pub place_loads : w.place_loads ≡ v.place_loads
-  pub upto : w.upto ≡ v.upto
-  pub kept : w.kept ≡ v.kept
-  pub device_calls : w.device_calls ≡ v.device_calls
-  pub met : w.met ≡ v.met
-  pub saw_down : w.saw_down ≡ v.saw_down
+-- What a step at a frame leaves of a view: all but its links and partitions, its marks, and what it lists and counts of steps, loads and changed words
+abbrev pub self_of : View → View
+self_of v = record v { links = []; partitions = []; steps = 0; loads = []; changes = []; dirtied_or_synced = false; had_output = false; last_ended = None }
 
--- and of what it has marked, written and ended
-pub record SameMarks (v w : View) : Type 0 where
-  pub dirtied_or_synced : w.dirtied_or_synced ≡ v.dirtied_or_synced
-  pub had_output : w.had_output ≡ v.had_output
-  pub last_ended : w.last_ended ≡ v.last_ended
+abbrev pub SameSelf : View → View → Type 0
+SameSelf v w = self_of w ≡ self_of v
 
--- A view that marked a frame dirty, and one that began to read or to write a page
-pub record MarksDirty (v w : View) : Type 0 where
-  pub dirtied_or_synced : w.dirtied_or_synced ≡ true
-  pub had_output : w.had_output ≡ v.had_output
-  pub last_ended : w.last_ended ≡ v.last_ended
+-- What a view has marked, written and ended
+pub record Marks : Type 0 where
+  pub dirtied_or_synced : Bool
+  pub had_output : Bool
+  pub last_ended : Option StateWord
 
-pub record MarksBegun (input : Bool) (v w : View) : Type 0 where
-  pub dirtied_or_synced : w.dirtied_or_synced ≡ v.dirtied_or_synced
-  pub reads : input ≡ true → w.had_output ≡ v.had_output
-  pub writes : input ≡ false → w.had_output ≡ true
-  pub last_ended : w.last_ended ≡ v.last_ended
+abbrev pub marks_of : View → Marks
+marks_of v = record { dirtied_or_synced = v.dirtied_or_synced; had_output = v.had_output; last_ended = v.last_ended }
 
--- and one that ended it, with this word
-pub record MarksEnded (stored : StateWord) (v w : View) : Type 0 where
-  pub dirtied_or_synced : w.dirtied_or_synced ≡ v.dirtied_or_synced
-  pub had_output : w.had_output ≡ v.had_output
-  pub last_ended : w.last_ended ≡ Some stored
+abbrev pub SameMarks : View → View → Type 0
+SameMarks v w = marks_of w ≡ marks_of v
+
+-- A view that marked a frame dirty, one that began to read or to write a page, and one that ended it with this word
+abbrev pub MarksDirty : View → View → Type 0
+MarksDirty v w = marks_of w ≡ record (marks_of v) { dirtied_or_synced = true }
+
+abbrev pub MarksBegun : Bool → View → View → Type 0
+MarksBegun input v w = marks_of w ≡ record (marks_of v) { had_output = v.had_output || not input }
+
+abbrev pub MarksEnded : StateWord → View → View → Type 0
+MarksEnded stored v w = marks_of w ≡ record (marks_of v) { last_ended = Some stored }
+
+-- What a view lists is only added to, and what it counts doesn't fall
+pub record Grows (v w : View) : Type 0 where
+  pub loads : (ls : List Load) × (w.loads ≡ v.loads ++ ls)
+  pub changes : (cs : List WordChange) × (w.changes ≡ v.changes ++ cs)
+  pub steps : v.steps ≤ w.steps
 
 -- the link after a load of the state word, which is w: a pin sees BM_VALID, a wait goes on only while its number stands beside BM_PIN_COUNT_WAITER, and the checkpoint passes a frame that isn't dirty, and has no more to write one without BM_CHECKPOINT_NEEDED
 abbrev pub loaded_link : StateWord → Link → Link
@@ -75,6 +70,22 @@ loaded_link w l = record l {
   passed = l.passed || not w.dirty;
   listed = l.listed && w.checkpoint_needed;
 }
+
+-- What a state word shows of a frame at which a view has the link l
+pub record IsWordOf (l : Link) (w : StateWord) : Type 0 where
+  -- a dirty frame is valid, and a valid one has BM_TAG_VALID
+  pub dirty : w.dirty ≡ true → w.valid ≡ true
+  pub valid : w.valid ≡ true → w.tag_valid ≡ true
+  -- the usage count is at most 5 (BM_MAX_USAGE_COUNT)
+  pub usage : w.usage ≤ 5
+  -- there are at most 64 pins, one for each backend
+  pub few : w.pins ≤ 64
+  -- a frame that the view pins has a pin, and one whose tag it remembers, or whose BM_VALID it has seen, has these
+  pub pinned : l.role ≢ Absent → 0 < w.pins
+  pub remembered : l.tag ≢ None → w.tag_valid ≡ true
+  pub seen : l.seen_valid ≡ true → w.valid ≡ true
+  -- a frame to whose page the view has an output right is dirty
+  pub output : l.io ≡ Output → w.dirty ≡ true
 
 -- What loads of the state word leave of a link: all but what the pin has seen, a wait, and the checkpoint's notes
 pub record Looked (l m : Link) : Type 0 where
@@ -140,6 +151,11 @@ pub record HoldsWord (P : StateWord → Type 0) (l : Link) : Type 0 where
   pub held : l.header ≢ None
   pub knows : (w : StateWord) → l.header ≡ Some w → P w
 
+-- The view holds the header of a frame, its word is this number, and this is known of it
+pub record HoldsNumber (P : StateWord → Type 0) (word : ℕ) (l : Link) : Type 0 where
+  pub held : l.header ≡ Some (fields word)
+  pub knows : P (fields word)
+
 -- the frame has no pin, or a tag
 abbrev pub HasRoom : StateWord → Type 0
 HasRoom w = w.tag_valid ≡ false → w.pins ≡ 0
@@ -166,6 +182,10 @@ pub record MayChange (v : View) (p : ℕ) : Type 0 where
   pub unchanged : (hold v p).changed ≡ false
   -- it names no pair, in any partition
   pub settled : (q : ℕ) → (hold v q).change ≡ Settled
+
+-- a pin that remembers a tag remembers this one
+abbrev pub RemembersNoOther : ℕ → Link → Type 0
+RemembersNoOther tag l = (other : ℕ) → l.tag ≡ Some other → other ≡ tag
 
 -- The view has seen the map of the tag's partition, which is home again, and it lacks the tag
 pub record Lacks (v : View) (tag : ℕ) : Type 0 where
@@ -198,11 +218,6 @@ pub record CanErase (v : View) (f : ℕ) : Type 0 where
 abbrev pub CanStoreAs : List RelEntry → Option Tag → View → ℕ → Type 0
 CanStoreAs relations None v f = CanErase v f
 CanStoreAs relations (Some tag) v f = CanStore relations tag v f
-
--- The view has stored the tag word under the header, and the frame has BM_TAG_VALID or hasn't
-pub record HasStored (flag : Bool) (l : Link) : Type 0 where
-  pub word : HoldsWord (HasFlag flag) l
-  pub stored : l.pending ≡ true
 
 -- the links after the steps under a header
 abbrev pub victim_link : Link → Link
@@ -248,11 +263,13 @@ read_link tag l = record l { tag = tag_after l.pending l.role (tag_word tag) l.t
 -- A step at the frame f that may name a pair: the view has at other frames what it had
 pub record Stores (f : ℕ) (v w : View) : Type 0 where
   pub self : SameSelf v w
+  pub grows : Grows v w
   pub others : (g : ℕ) → g ≢ f → link w g ≡ link v g
 
 -- A step at the frame f: the view has at other frames, and at the partitions, what it had
 pub record Touches (f : ℕ) (v w : View) : Type 0 where
   pub self : SameSelf v w
+  pub grows : Grows v w
   pub partitions : w.partitions ≡ v.partitions
   pub others : (g : ℕ) → g ≢ f → link w g ≡ link v g
 

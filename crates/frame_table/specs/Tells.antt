@@ -113,11 +113,3 @@ split_view base v = new_view v.next base (length v.links) (length v.partitions) 
 abbrev pub storing : Option Tag → FrameKind
 storing None = pins pin.erase_tag
 storing (Some tag) = pins (pin.store_tag (packed_tag tag))
-
--- A step of the kind k under the header, after a load of the state word
-pub record DidHeld (k : FrameKind) (f : ℕ) (v w : View) : Type 0 where
-  pub between : View
-  pub word : ℕ
-  pub now : ℕ
-  pub looked : Did looking f v between word
-  pub did : Did k f between w now

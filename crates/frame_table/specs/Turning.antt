@@ -1,5 +1,5 @@
 -- The steps at latches: where they are allowed, and what they make of the state.
-use Rattle.std.specs.Prelude.{◌≡◌, ◌≢◌, ℕ, ◌<◌, ◌≤◌, Vec, vec_len, vec_capacity, Bool, true, false, List, ◌∷◌, map, Some, None}
+use Rattle.std.specs.Prelude.{◌≡◌, ◌≢◌, ℕ, ◌<◌, ◌≤◌, Vec, vec_len, vec_capacity, Bool, true, false, List, [], ◌∷◌, map, Some, None}
 use Rattle.std.specs.Global.{Global}
 use mathlib.Core.Option.{some}
 use lib.ListN.{get_elem?}
@@ -9,7 +9,7 @@ use Rattle.pin_core.specs.declared.view.MapChange.{MapChange}
 use Rattle.pin_core.specs.declared.view.MapChange.TheVariants.{Settled, Entering, Leaving}
 use Rattle.pin_core.specs.declared.view.PartitionHold.{PartitionHold}
 use Rattle.pin_core.specs.declared.view.View.{View}
-use Rattle.pin_core.specs.State.{hold, lane_hold}
+use Rattle.pin_core.specs.State.{hold, lane_hold, no_log}
 use Rattle.pin_core.specs.Turns as parts
 use Rattle.pin_core.specs.Steps as pin_steps
 use Rattle.page_core.specs.Steps as page_steps
@@ -88,26 +88,12 @@ pub record DidTurn (takes : Bool) (x : Turn) (v w : View) : Type 0 where
   pub allowed : TurnAllowed takes x state v
   pub after : w ≡ view_turned takes x state v
 
--- What a view keeps over it: all but what it has of latches, and the count of its steps
-pub record SameWork (v w : View) : Type 0 where
-  pub number : w.number ≡ v.number
-  pub next : w.next ≡ v.next
-  pub joined : w.joined ≡ v.joined
-  pub emptied : w.emptied ≡ v.emptied
-  pub links : w.links ≡ v.links
-  pub flushed : w.flushed ≡ v.flushed
-  pub calls : w.calls ≡ v.calls
-  pub front : w.front ≡ v.front
-  pub loads : w.loads ≡ v.loads
-  pub place_loads : w.place_loads ≡ v.place_loads
-  pub upto : w.upto ≡ v.upto
-  pub kept : w.kept ≡ v.kept
-  pub device_calls : w.device_calls ≡ v.device_calls
-  pub met : w.met ≡ v.met
-  pub saw_down : w.saw_down ≡ v.saw_down
-  pub dirtied_or_synced : w.dirtied_or_synced ≡ v.dirtied_or_synced
-  pub had_output : w.had_output ≡ v.had_output
-  pub last_ended : w.last_ended ≡ v.last_ended
+-- What a step at a latch leaves of a view: all but what it has of latches, and the count of its steps
+abbrev pub work_of : View → View
+work_of v = record v { partitions = []; lanes = []; log = no_log; steps = 0 }
+
+abbrev pub SameWork : View → View → Type 0
+SameWork v w = work_of w ≡ work_of v
 
 module _ {L G : Type 0} where
   -- where the latch was free it was taken, and else nothing happened

@@ -7,7 +7,7 @@ ghost use Rattle.pin_core.specs.State.{link};
 ghost use Rattle.pin_core.specs.Kinds as kinds;
 ghost use Rattle.pin_core.specs.Steps.{HoldsNoHeader};
 ghost use Rattle.frame_table.specs.Kinds.{pins};
-ghost use Rattle.frame_table.specs.Sees.{CanStep, CanUnpin, Holds, Looked, SameMarks, SameSeat, Touches, loaded_link, locked_link, pinned_link, unlocked_link, unpinned_link};
+ghost use Rattle.frame_table.specs.Sees.{CanStep, CanUnpin, Holds, IsWordOf, Looked, SameMarks, SameSeat, Touches, loaded_link, locked_link, pinned_link, unlocked_link, unpinned_link};
 ghost use Rattle.frame_table.specs.Tells.{Did, Looks, Refuses, Tried, chosen, has_locked, has_tag, if_found, if_unlocked, looking};
 
 use crate::pin::{Pin, TryPin};
@@ -34,6 +34,7 @@ impl<L: BlockLane, G: LogDevice> FrameTable<L, G> {
         ensures marks { SameMarks seat.old.me.0 seat.new.me.0 }
         ensures link { Looked (link seat.old.me.0 frame) (link seat.new.me.0 frame) }
         ensures loaded { link seat.new.me.0 frame ≡ loaded_link (fields result) (link seat.old.me.0 frame) }
+        ensures word { IsWordOf (link seat.old.me.0 frame) (fields result) }
         ensures seen { (link seat.old.me.0 frame).role ≡ HandedOut → (fields result).valid ≡ true → (link seat.new.me.0 frame).seen_valid ≡ true }
         ensures over { (fields result).awaited ≡ false → (link seat.new.me.0 frame).waits ≡ None }
         ensures passed { (fields result).dirty ≡ false → (link seat.new.me.0 frame).passed ≡ true }
@@ -155,6 +156,7 @@ impl<L: BlockLane, G: LogDevice> FrameTable<L, G> {
         ensures touches { Touches frame seat.old.me.0 seat.new.me.0 }
         ensures marks { SameMarks seat.old.me.0 seat.new.me.0 }
         ensures locked { Looked (locked_link result (link seat.old.me.0 frame)) (link seat.new.me.0 frame) }
+        ensures word { IsWordOf (link seat.old.me.0 frame) (fields result) }
         ensures did { (v : View) × (was : ℕ) × Looks frame seat.old.me.0 v × Did (pins kinds.lock_header) frame v seat.new.me.0 was × (fields result ≡ locked_fields (fields was)) }
     {
         for _ in rt.forever() {

@@ -1,5 +1,5 @@
 //! Calls at tag words, and calls under a buffer header.
-ghost use Rattle.std.specs.Prelude.{◌≡◌, ◌≢◌, ◌+◌, ◌<◌, ◌^◌, ℕ, true, false, Some, None, IfSome};
+ghost use Rattle.std.specs.Prelude.{◌≡◌, ◌≢◌, ◌+◌, ◌<◌, ◌≤◌, ◌^◌, ℕ, true, false, Some, None, IfSome};
 ghost use Rattle.state_word.specs.Fields.{fields, unlocked_fields};
 ghost use Rattle.block_tag.specs.Names.{names_block, packed_tag, unpacked_tag};
 ghost use Rattle.pin_core.specs.declared.view.View.{View};
@@ -10,8 +10,8 @@ ghost use Rattle.pin_core.specs.Kinds as kinds;
 ghost use Rattle.pin_core.specs.Steps.{HasNoVictim};
 ghost use Rattle.table_rule.specs.Blocks.{has_block, is_block};
 ghost use Rattle.frame_table.specs.Kinds.{pins};
-ghost use Rattle.frame_table.specs.Sees.{CanErase, CanStep, CanStore, CanStoreAs, HasRoom, HasStored, HoldsWord, IsAlone, IsUsed, Looked, NamesStored, SameMarks, SameSeat, Stores, Touches, assigned_link, cleared_link, partitions_stored, read_link, relations_of, stored_link, tag_word, unlocked_link, victim_link};
-ghost use Rattle.frame_table.specs.Tells.{Did, DidHeld, always, storing};
+ghost use Rattle.frame_table.specs.Sees.{CanErase, CanStep, CanStore, CanStoreAs, HasFlag, HasRoom, HoldsNumber, IsAlone, IsUsed, NamesStored, SameMarks, SameSeat, Stores, Touches, assigned_link, cleared_link, partitions_stored, read_link, relations_of, stored_link, tag_word, unlocked_link, victim_link};
+ghost use Rattle.frame_table.specs.Tells.{Did, always, storing};
 
 use crate::pin::Pin;
 use crate::plays::{Assign, Clear, Does, EraseTag, LoadTag, LowerUsage, Related, Step, VictimPin};
@@ -66,37 +66,36 @@ impl<L: BlockLane, G: LogDevice> FrameTable<L, G> {
         Tag::unpack(word)
     }
 
-    /// Pins the frame that the clock sweep chose, and unlocks its header (`GetVictimBuffer`).
-    pub fn victim_pin(&self, seat: &mut Seat<Value<L, G>, View>, frame: u32) -> Pin
+    /// Pins the frame that the clock sweep chose, and unlocks its header (`GetVictimBuffer`). The word is the one that is held.
+    pub fn victim_pin(&self, seat: &mut Seat<Value<L, G>, View>, frame: u32, word: u64) -> Pin
         requires seat { CanStep self.now seat.old frame }
-        requires held { HoldsWord HasRoom (link seat.old.me.0 frame) }
+        requires held { HoldsNumber HasRoom word (link seat.old.me.0 frame) }
+        requires few { (fields word).pins ≤ 64 }
         requires absent { (link seat.old.me.0 frame).role ≡ Absent }
         requires only { HasNoVictim seat.old.me.0 }
         ensures seat { SameSeat seat.old seat.new }
         ensures touches { Touches frame seat.old.me.0 seat.new.me.0 }
         ensures marks { SameMarks seat.old.me.0 seat.new.me.0 }
         ensures pin { result.frame ≡ frame }
-        ensures pinned { Looked (victim_link (link seat.old.me.0 frame)) (link seat.new.me.0 frame) }
-        ensures did { DidHeld (pins kinds.pin_victim) frame seat.old.me.0 seat.new.me.0 }
+        ensures pinned { link seat.new.me.0 frame ≡ victim_link (link seat.old.me.0 frame) }
+        ensures did { Did (pins kinds.pin_victim) frame seat.old.me.0 seat.new.me.0 word }
     {
-        let word = self.look(seat, frame);
         self.table
             .shared
             .swap::<Step<VictimPin>>(seat, state_place(frame), victim_pinned(word));
         Pin { frame }
     }
 
-    /// The clock sweep passes the frame: its usage count falls, and its header is unlocked (`StrategyGetBuffer`).
-    pub fn lower_usage(&self, seat: &mut Seat<Value<L, G>, View>, frame: u32)
+    /// The clock sweep passes the frame: its usage count falls, and its header is unlocked (`StrategyGetBuffer`). The word is the one that is held.
+    pub fn lower_usage(&self, seat: &mut Seat<Value<L, G>, View>, frame: u32, word: u64)
         requires seat { CanStep self.now seat.old frame }
-        requires held { HoldsWord IsUsed (link seat.old.me.0 frame) }
+        requires held { HoldsNumber IsUsed word (link seat.old.me.0 frame) }
         ensures seat { SameSeat seat.old seat.new }
         ensures touches { Touches frame seat.old.me.0 seat.new.me.0 }
         ensures marks { SameMarks seat.old.me.0 seat.new.me.0 }
-        ensures lowered { Looked (unlocked_link (link seat.old.me.0 frame)) (link seat.new.me.0 frame) }
-        ensures did { DidHeld (pins kinds.lower_usage) frame seat.old.me.0 seat.new.me.0 }
+        ensures lowered { link seat.new.me.0 frame ≡ unlocked_link (link seat.old.me.0 frame) }
+        ensures did { Did (pins kinds.lower_usage) frame seat.old.me.0 seat.new.me.0 word }
     {
-        let word = self.look(seat, frame);
         self.table
             .shared
             .swap::<Step<LowerUsage>>(seat, state_place(frame), unlock_with(usage_down(word)));
@@ -154,34 +153,34 @@ impl<L: BlockLane, G: LogDevice> FrameTable<L, G> {
         }
     }
 
-    /// A frame whose tag was stored gets `BM_TAG_VALID`, and its header is unlocked (`BufferAlloc`). The pin is the caller's from now on.
-    pub fn assign(&self, seat: &mut Seat<Value<L, G>, View>, frame: u32)
+    /// A frame whose tag was stored gets `BM_TAG_VALID`, and its header is unlocked (`BufferAlloc`). The pin is the caller's from now on. The word is the one that is held.
+    pub fn assign(&self, seat: &mut Seat<Value<L, G>, View>, frame: u32, word: u64)
         requires seat { CanStep self.now seat.old frame }
-        requires stored { HasStored false (link seat.old.me.0 frame) }
+        requires held { HoldsNumber (HasFlag false) word (link seat.old.me.0 frame) }
+        requires stored { (link seat.old.me.0 frame).pending ≡ true }
         ensures seat { SameSeat seat.old seat.new }
         ensures touches { Touches frame seat.old.me.0 seat.new.me.0 }
         ensures marks { SameMarks seat.old.me.0 seat.new.me.0 }
-        ensures assigned { Looked (assigned_link (link seat.new.me.0 frame).tag (link seat.old.me.0 frame)) (link seat.new.me.0 frame) }
+        ensures assigned { link seat.new.me.0 frame ≡ assigned_link (link seat.new.me.0 frame).tag (link seat.old.me.0 frame) }
         ensures tag { (p tag : ℕ) → (hold seat.old.me.0 p).change ≡ Entering tag frame → (hold seat.old.me.0 p).changed ≡ false → (link seat.new.me.0 frame).tag ≡ Some tag }
-        ensures did { DidHeld (pins kinds.assign) frame seat.old.me.0 seat.new.me.0 }
+        ensures did { Did (pins kinds.assign) frame seat.old.me.0 seat.new.me.0 word }
     {
-        let word = self.look(seat, frame);
         self.table
             .shared
             .swap::<Step<Assign>>(seat, state_place(frame), unlock_with(assigned(word)));
     }
 
-    /// A frame whose tag was taken away loses its flags, and its header is unlocked (`InvalidateVictimBuffer`).
-    pub fn clear(&self, seat: &mut Seat<Value<L, G>, View>, frame: u32)
+    /// A frame whose tag was taken away loses its flags, and its header is unlocked (`InvalidateVictimBuffer`). The word is the one that is held.
+    pub fn clear(&self, seat: &mut Seat<Value<L, G>, View>, frame: u32, word: u64)
         requires seat { CanStep self.now seat.old frame }
-        requires stored { HasStored true (link seat.old.me.0 frame) }
+        requires held { HoldsNumber (HasFlag true) word (link seat.old.me.0 frame) }
+        requires stored { (link seat.old.me.0 frame).pending ≡ true }
         ensures seat { SameSeat seat.old seat.new }
         ensures touches { Touches frame seat.old.me.0 seat.new.me.0 }
         ensures marks { SameMarks seat.old.me.0 seat.new.me.0 }
-        ensures cleared { Looked (cleared_link (link seat.old.me.0 frame)) (link seat.new.me.0 frame) }
-        ensures did { DidHeld (pins kinds.clear) frame seat.old.me.0 seat.new.me.0 }
+        ensures cleared { link seat.new.me.0 frame ≡ cleared_link (link seat.old.me.0 frame) }
+        ensures did { Did (pins kinds.clear) frame seat.old.me.0 seat.new.me.0 word }
     {
-        let word = self.look(seat, frame);
         self.table
             .shared
             .swap::<Step<Clear>>(seat, state_place(frame), unlock_with(cleared(word)));

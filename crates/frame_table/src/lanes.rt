@@ -44,6 +44,7 @@ impl<L: BlockLane, G: LogDevice> FrameTable<L, G> {
         ensures hand { seat.new.me.1 ≡ (slot, value.Away) ∷ seat.old.me.1 }
         ensures lane { WentOut (lane_devices L.contents L.failed_writes L.read_faults L.write_faults) self.now _lane result seat.old.me.0 seat.new.me.0 }
     {
+        // An exchange of a slot is no step of its own: the load is, and its value tells nothing.
         self.table.shared.load::<LaneOut<D>>(seat, place);
         self.table.shared.exchange(seat, slot, Value::Away)
     }
@@ -89,6 +90,7 @@ impl<L: BlockLane, G: LogDevice> FrameTable<L, G> {
         let home = noted.settled();
         let away = self.table.shared.exchange(seat, slot, Value::Lane(home));
         let Value::Away = away else { unreachable!() };
+        // An exchange of a slot is no step of its own: the load is, and its value tells nothing.
         self.table.shared.load::<Back<D>>(seat, place);
     }
 

@@ -46,6 +46,7 @@ impl<L: BlockLane, G: LogDevice> FrameTable<L, G> {
         ensures hand { seat.new.me.1 ≡ (slot, value.Away) ∷ seat.old.me.1 }
         ensures log { IsLogOut G.bytes G.synced G.faults result seat.old.me.0 seat.new.me.0 }
     {
+        // An exchange of a slot is no step of its own: the load is, and its value tells nothing.
         self.table.shared.load::<LogOut<D>>(seat, place);
         self.table.shared.exchange(seat, slot, Value::Away)
     }
@@ -89,6 +90,7 @@ impl<L: BlockLane, G: LogDevice> FrameTable<L, G> {
         let home = log.settled();
         let away = self.table.shared.exchange(seat, slot, Value::Log(home));
         let Value::Away = away else { unreachable!() };
+        // An exchange of a slot is no step of its own: the load is, and its value tells nothing.
         self.table.shared.load::<LogBack<D>>(seat, place);
     }
 

@@ -44,6 +44,7 @@ impl<L: BlockLane, G: LogDevice> FrameTable<L, G> {
         ensures hand { seat.new.me.1 ≡ (slot, value.Away) ∷ seat.old.me.1 }
         ensures map { (entries : List MapEntry) × IsMap (frames_of self.now) result entries × TakesPair (hold seat.old.me.0 _partition) result × DidMap (parts.map_out entries) _partition seat.old.me.0 seat.new.me.0 × GivesFrames (frames_of self.now) result }
     {
+        // An exchange of a slot is no step of its own: the load is, and its value tells nothing.
         self.table.shared.load::<MapOut<D>>(seat, place);
         self.table.shared.exchange(seat, slot, Value::Away)
     }
@@ -91,6 +92,7 @@ impl<L: BlockLane, G: LogDevice> FrameTable<L, G> {
     {
         let away = self.table.shared.exchange(seat, slot, Value::Map(entries));
         let Value::Away = away else { unreachable!() };
+        // An exchange of a slot is no step of its own: the load is, and its value tells nothing.
         self.table.shared.load::<MapBack<D>>(seat, place);
     }
 

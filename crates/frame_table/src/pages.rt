@@ -35,6 +35,7 @@ impl<L: BlockLane, G: LogDevice> FrameTable<L, G> {
         ensures hand { seat.new.me.1 ≡ (slot, value.Away) ∷ seat.old.me.1 }
         ensures page { (page : List ℕ) × (found : ℕ) × IsPage result page × ((link seat.new.me.0 _frame).out ≡ Some page) × Did (pages kinds.page_out) _frame seat.old.me.0 seat.new.me.0 found }
     {
+        // An exchange of a slot is no step of its own: the load is, and its value tells nothing.
         self.table
             .shared
             .load::<PageOut<D>>(seat, content_place(_frame));
@@ -76,6 +77,7 @@ impl<L: BlockLane, G: LogDevice> FrameTable<L, G> {
     {
         let away = self.table.shared.exchange(seat, slot, Value::Page(page));
         let Value::Away = away else { unreachable!() };
+        // An exchange of a slot is no step of its own: the load is, and its value tells nothing.
         self.table
             .shared
             .load::<PageBack<D>>(seat, content_place(_frame));

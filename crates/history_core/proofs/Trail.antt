@@ -57,8 +57,8 @@ unfolding sum_left
 left_one g f c = omega arith
 
 -- A step changes no state word, or lists its change
-record Lists (f : ℕ) (a b : StateWord) (before after : List WordChange) : Type 0 where
-  is : ((b ≡ a) × (after ≡ before)) ⊎ (after ≡ before ++ record { frame = f; found = a; left = b } ∷ [])
+pub record Lists (f : ℕ) (a b : StateWord) (before after : List WordChange) : Type 0 where
+  pub is : ((b ≡ a) × (after ≡ before)) ⊎ (after ≡ before ++ record { frame = f; found = a; left = b } ∷ [])
 
 lists_none : (f : ℕ) (a : StateWord) (cs : List WordChange) → Lists f a a cs cs
 lists_none f a cs = record { is = inl (refl, refl) }
@@ -66,7 +66,7 @@ lists_none f a cs = record { is = inl (refl, refl) }
 lists_one : (f : ℕ) (a b : StateWord) (cs : List WordChange) → Lists f a b cs (cs ++ record { frame = f; found = a; left = b } ∷ [])
 lists_one f a b cs = record { is = inr refl }
 
-pins_list : (k : pin_kinds.Kind) (f : ℕ) (fr : Frame) (cs : List WordChange) → Lists f fr.word (pin_kinds.frame_after k fr).word cs (pin_kinds.changes_after k f fr cs)
+pub pins_list : (k : pin_kinds.Kind) (f : ℕ) (fr : Frame) (cs : List WordChange) → Lists f fr.word (pin_kinds.frame_after k fr).word cs (pin_kinds.changes_after k f fr cs)
 pins_list pin_kinds.load_state f fr cs = lists_none f fr.word cs
 pins_list (pin_kinds.pin ring) f fr cs = lists_one f fr.word (pin_kinds.frame_after (pin_kinds.pin ring) fr).word cs
 pins_list (pin_kinds.pin_mapped tag ring) f fr cs = lists_one f fr.word (pin_kinds.frame_after (pin_kinds.pin_mapped tag ring) fr).word cs
@@ -81,7 +81,7 @@ pins_list pin_kinds.lower_usage f fr cs = lists_one f fr.word (pin_kinds.frame_a
 pins_list pin_kinds.assign f fr cs = lists_one f fr.word (pin_kinds.frame_after pin_kinds.assign fr).word cs
 pins_list pin_kinds.clear f fr cs = lists_one f fr.word (pin_kinds.frame_after pin_kinds.clear fr).word cs
 
-pages_list : (k : kinds.Kind) (f : ℕ) (b : Block) (fr : Frame) (cs : List WordChange) → Lists f fr.word (kinds.frame_after k b fr).word cs (kinds.changes_after k f b fr cs)
+pub pages_list : (k : kinds.Kind) (f : ℕ) (b : Block) (fr : Frame) (cs : List WordChange) → Lists f fr.word (kinds.frame_after k b fr).word cs (kinds.changes_after k f b fr cs)
 pages_list kinds.load_content f b fr cs = lists_none f fr.word cs
 pages_list kinds.mark_dirty f b fr cs = lists_one f fr.word (kinds.frame_after kinds.mark_dirty b fr).word cs
 pages_list kinds.share f b fr cs = lists_none f fr.word cs

@@ -1,15 +1,21 @@
 -- What a view knows of a partition's map.
-use Rattle.std.proofs.Common.{◌≡◌, ℕ, Bool, true, false, Option, Some, None, List, [], refl, ap, ◌∙◌, arith}
-use Rattle.std.specs.Prelude.{unwrap_or}
+use Rattle.std.proofs.Common.{◌≡◌, ℕ, Bool, true, false, Option, Some, None, List, [], refl, sym, ap, ◌∙◌, subst, arith}
+use Rattle.std.specs.Prelude.{IfSome, slice_index_or, unwrap_or}
+use mathlib.Core.Logic.{dite}
+use native.Mathlib.Decide.{ℕ_discrete}
 use Rattle.pin_core.specs.declared.view.View.{View}
 use Rattle.pin_core.specs.declared.view.MapEntry.{MapEntry}
-use Rattle.pin_core.specs.declared.view.MapChange.TheVariants.{Settled}
+use Rattle.pin_core.specs.declared.view.Link.{Link}
+use Rattle.pin_core.specs.declared.view.MapChange.{MapChange}
+use Rattle.pin_core.specs.declared.view.MapChange.TheVariants.{Settled, Leaving}
 use Rattle.pin_core.specs.declared.view.PartitionHold.{PartitionHold}
-use Rattle.pin_core.specs.State.{hold}
+use Rattle.pin_core.specs.State.{hold, idle, link}
+use Rattle.pin_core.specs.Maps.{PairLaw}
 use Rattle.pin_core.specs.Tallies.{flag_weight}
-use Rattle.pin_core.specs.Turns.{found, map_out}
+use Rattle.pin_core.specs.Turns.{found, map_out, owed_by}
 use Rattle.grid.proofs.Sums.{term_le}
 use Rattle.table_rule.specs.declared.turn.Turn.TheVariants.{Partition}
+use Rattle.frame_table.specs.Sees.{RemembersNoOther}
 use Rattle.frame_table.specs.Turning.{DidMap, DidTurn, IsTurned, MapStep, back_hold}
 use Rattle.map_partitions.specs.Partition.{Holds, entries_seen}
 
@@ -36,3 +42,32 @@ holds_free p v w d turned = record {
 
     rests : ((hold v p).out ≡ None) × ((hold v p).change ≡ Settled) × ((hold v p).changed ≡ false)
     rests = (d.laws.invariant.pool.core.turns.cells d.seat v p d.there d.inside).resting (free (hold v p).held refl)
+
+-- no pair is in change where the holder of the latch has named none
+none_owed : (b : Bool) (c : MapChange) → c ≡ Settled → owed_by b c ≡ Settled
+none_owed true c e = refl
+none_owed false c e = e
+
+-- the frame that the map gives then has the tag, so a pin there remembers no other
+pub remembers_no_other : (was : List MapEntry) (p tag f : ℕ) (v u : View) → DidMap (map_out was) p v u → Holds Settled v p → found was tag ≡ Some f → RemembersNoOther tag (link v f)
+remembers_no_other was p tag f v u d h gives other is = sym ((s.grid.cells d.seat v f d.there pair.inside).remembers other is).1 ∙ has_tag
+  where
+    s = d.laws.invariant.pool.core
+
+    at : (d.state.pool.core.partition p).map tag ≡ Some f
+    at = ap (λ (m : ℕ → Option ℕ). m tag) (sym d.allowed.entries_are) ∙ gives
+
+    pair = s.maps.mapped p tag f at
+
+    owed : (d.state.pool.core.partition p).owed ≡ Settled
+    owed = sym ((s.turns.cells d.seat v p d.there d.inside).owed h.held) ∙ none_owed (hold v p).changed (hold v p).change h.named
+
+    law : PairLaw ((d.state.pool.core.partition p).map tag) (d.state.pool.core.partition p).owed (d.state.pool.core.frame f).tag tag f
+    law = subst (λ (q : ℕ). PairLaw ((d.state.pool.core.partition q).map tag) (d.state.pool.core.partition q).owed (d.state.pool.core.frame f).tag tag f) pair.placed (s.maps.pairs tag f pair.named pair.inside)
+
+    has_tag : (d.state.pool.core.frame f).tag ≡ tag
+    has_tag = dite (ℕ_discrete (d.state.pool.core.frame f).tag tag) (λ e. e) (λ n. absurd (let no : Settled ≡ Leaving tag f = sym owed ∙ law.found at n in cc))
+
+pub found_remembers : (r : Option ℕ) (was : List MapEntry) (p tag : ℕ) (v u w : View) → DidMap (map_out was) p v u → Holds Settled v p → r ≡ found was tag → w.links ≡ v.links → IfSome r (λ f. RemembersNoOther tag (link w f))
+found_remembers None was p tag v u w d h e same = tt
+found_remembers (Some f) was p tag v u w d h e same = subst (λ (l : List Link). RemembersNoOther tag (slice_index_or l f idle)) (sym same) (remembers_no_other was p tag f v u d h (sym e))

@@ -3,10 +3,10 @@ ghost use Rattle.std.specs.Prelude.{◌≡◌, ◌<◌, List, Some, true, IfSome
 ghost use Rattle.block_tag.specs.Names.{names_block, packed_tag, partition_number};
 ghost use Rattle.pin_core.specs.declared.view.MapEntry.{MapEntry};
 ghost use Rattle.pin_core.specs.declared.view.MapChange.TheVariants.{Settled};
-ghost use Rattle.pin_core.specs.State.{hold};
+ghost use Rattle.pin_core.specs.State.{hold, link};
 ghost use Rattle.pin_core.specs.Turns.{found};
 ghost use Rattle.table_rule.specs.declared.turn.Turn.TheVariants.{Partition};
-ghost use Rattle.frame_table.specs.Sees.{CanTurn, Finds, Lacks, SameSeat, frames_of};
+ghost use Rattle.frame_table.specs.Sees.{CanTurn, Finds, Lacks, RemembersNoOther, SameSeat, frames_of};
 ghost use Rattle.frame_table.specs.Turning.{MapStep, SameWork, back_hold};
 ghost use Rattle.map_partitions.specs.Partition.{Holds, WentAndCame, entries_seen};
 
@@ -19,7 +19,7 @@ use pin_core::View;
 use segment_store::BlockLane;
 use table_rule::Value;
 
-/// The frame that the map gives for the tag, whose partition's latch the backend has (`BufTableLookup`).
+/// The frame that the map gives for the tag, whose partition's latch the backend has (`BufTableLookup`). Where the backend pins that frame and remembers a tag there, it is this tag.
 pub fn find<L: BlockLane, G: LogDevice>(
     table: &FrameTable<L, G>,
     seat: &mut Seat<Value<L, G>, View>,
@@ -33,6 +33,7 @@ pub fn find<L: BlockLane, G: LogDevice>(
     ensures found { result ≡ found (entries_seen seat.new.me.0 (partition_number tag.now)) (packed_tag tag.now) }
     ensures inside { IfSome result (λ frame. frame < frames_of table.now) }
     ensures finds { IfSome result (λ frame. Finds seat.new.me.0 (packed_tag tag.now) frame) }
+    ensures remembers { IfSome result (λ frame. RemembersNoOther (packed_tag tag.now) (link seat.new.me.0 frame)) }
     ensures lacks { IfNone result (Lacks seat.new.me.0 (packed_tag tag.now)) }
     ensures holds { Holds Settled seat.new.me.0 (partition_number tag.now) }
     ensures step { MapStep (partition_number tag.now) (back_hold (entries_seen seat.new.me.0 (partition_number tag.now)) (hold seat.old.me.0 (partition_number tag.now))) seat.old.me.0 seat.new.me.0 }

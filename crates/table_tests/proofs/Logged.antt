@@ -34,17 +34,17 @@ module _ {L G : Type 0} (t : FrameTable L G) (s s' : Seat (Value L G) View) (sam
 
   module _ (work : KeepsWork s.me.0 s'.me.0) where
     pub links_kept : (g : ℕ) → link s'.me.0 g ≡ link s.me.0 g
-    links_kept g = ap (λ (l : List Link). get_or l g idle) work.links
+    links_kept g = ap (λ (l : List Link). get_or l g idle) (ap (λ (x : View). x.links) work)
 
     pub work_beside : (f : ℕ) → IsQuietBeside t f s → IsQuietBeside t f s'
-    work_beside f q = beside_fields f q work.emptied work.lanes work.log (λ g n. links_kept g)
+    work_beside f q = beside_fields f q (ap (λ (x : View). x.emptied) work) (ap (λ (x : View). x.lanes) work) (ap (λ (x : View). x.log) work) (λ g n. links_kept g)
 
     pub work_keeps : (f : ℕ) → KeepsBeside f s s'
-    work_keeps f = record { self = record { table = same.table; id = same.id; joined = work.joined; next = work.next }; others = λ g n. links_kept g }
+    work_keeps f = record { self = record { table = same.table; id = same.id; joined = (ap (λ (x : View). x.joined) work); next = (ap (λ (x : View). x.next) work) }; others = λ g n. links_kept g }
 
     pub work_pins : OnlyPins t s → OnlyPins t s'
     work_pins p = record {
-      quiet = record { fits = same.table ∙ p.quiet.fits; live = work.emptied ∙ p.quiet.live; hand = same.hand ∙ p.quiet.hand; frames = λ f. subst IsCalm (sym (links_kept f)) (p.quiet.frames f); lanes = λ n. ap (λ (l : List LaneHold). (get_or l n no_lane).held) work.lanes ∙ p.quiet.lanes n; log = ap (λ (h : LogHold). h.held) work.log ∙ p.quiet.log };
+      quiet = record { fits = same.table ∙ p.quiet.fits; live = (ap (λ (x : View). x.emptied) work) ∙ p.quiet.live; hand = same.hand ∙ p.quiet.hand; frames = λ f. subst IsCalm (sym (links_kept f)) (p.quiet.frames f); lanes = λ n. ap (λ (l : List LaneHold). (get_or l n no_lane).held) (ap (λ (x : View). x.lanes) work) ∙ p.quiet.lanes n; log = ap (λ (h : LogHold). h.held) (ap (λ (x : View). x.log) work) ∙ p.quiet.log };
       no_victim = λ f victim. p.no_victim f (sym (ap (λ (l : Link). l.role) (links_kept f)) ∙ victim);
-      partitions = λ q. ap (λ (x : PartitionHold). x.held) (same_hold s.me.0 s'.me.0 work.partitions q) ∙ p.partitions q;
+      partitions = λ q. ap (λ (x : PartitionHold). x.held) (same_hold s.me.0 s'.me.0 (ap (λ (x : View). x.partitions) work) q) ∙ p.partitions q;
     }

@@ -23,7 +23,7 @@ module _ {L G : Type 0} (t : FrameTable L G) (s s' : Seat (Value L G) View) (p :
   pub kept_pins : sweeping.Keeps s.me.0 s'.me.0 → OnlyPins t s' × SamePins s s'
   kept_pins k = (
     record {
-      quiet = record { fits = same.table ∙ p.quiet.fits; live = k.aside.self.emptied ∙ p.quiet.live; hand = same.hand ∙ p.quiet.hand; frames = λ f. calm_looked (link s.me.0 f) (link s'.me.0 f) (k.links f) (p.quiet.frames f); lanes = λ n. ap (λ (l : List LaneHold). (get_or l n no_lane).held) k.aside.self.lanes ∙ p.quiet.lanes n; log = ap (λ (h : LogHold). h.held) k.aside.self.log ∙ p.quiet.log };
+      quiet = record { fits = same.table ∙ p.quiet.fits; live = ap (λ (x : View). x.emptied) k.aside ∙ p.quiet.live; hand = same.hand ∙ p.quiet.hand; frames = λ f. calm_looked (link s.me.0 f) (link s'.me.0 f) (k.links f) (p.quiet.frames f); lanes = λ n. ap (λ (l : List LaneHold). (get_or l n no_lane).held) (ap (λ (x : View). x.lanes) k.aside) ∙ p.quiet.lanes n; log = ap (λ (h : LogHold). h.held) (ap (λ (x : View). x.log) k.aside) ∙ p.quiet.log };
       no_victim = λ f victim. p.no_victim f (sym (k.links f).role ∙ victim);
       partitions = λ q. ap (λ (x : PartitionHold). x.held) (same_hold s.me.0 s'.me.0 k.aside.partitions q) ∙ p.partitions q;
     },
@@ -42,13 +42,13 @@ module _ {L G : Type 0} (t : FrameTable L G) (s s' : Seat (Value L G) View) (p :
       record {
         quiet = record {
           fits = again.table ∙ same.table ∙ p.quiet.fits;
-          live = after.self.emptied ∙ g.aside.self.emptied ∙ p.quiet.live;
+          live = ap (λ (x : View). x.emptied) after.self ∙ ap (λ (x : View). x.emptied) g.aside ∙ p.quiet.live;
           hand = again.hand ∙ same.hand ∙ p.quiet.hand;
           frames = λ h. dite (ℕ_discrete h f)
               (λ e. subst (λ (x : ℕ). IsCalm (link s''.me.0 x)) (sym e) (calm_unlocked (link s.me.0 f) (link s'.me.0 f) word g.here (p.quiet.frames f) (link s''.me.0 f) unlocked))
               (λ n. subst IsCalm (sym (after.others h n)) (calm_looked (link s.me.0 h) (link s'.me.0 h) (g.others h n) (p.quiet.frames h)));
-          lanes = λ n. ap (λ (l : List LaneHold). (get_or l n no_lane).held) (after.self.lanes ∙ g.aside.self.lanes) ∙ p.quiet.lanes n;
-          log = ap (λ (x : LogHold). x.held) (after.self.log ∙ g.aside.self.log) ∙ p.quiet.log;
+          lanes = λ n. ap (λ (l : List LaneHold). (get_or l n no_lane).held) (ap (λ (x : View). x.lanes) after.self ∙ ap (λ (x : View). x.lanes) g.aside) ∙ p.quiet.lanes n;
+          log = ap (λ (x : LogHold). x.held) (ap (λ (x : View). x.log) after.self ∙ ap (λ (x : View). x.log) g.aside) ∙ p.quiet.log;
         };
         no_victim = λ h victim. p.no_victim h (sym (pins_same h) ∙ victim);
         partitions = λ q. ap (λ (x : PartitionHold). x.held) (same_hold s'.me.0 s''.me.0 after.partitions q ∙ same_hold s.me.0 s'.me.0 g.aside.partitions q) ∙ p.partitions q;
@@ -58,7 +58,7 @@ module _ {L G : Type 0} (t : FrameTable L G) (s s' : Seat (Value L G) View) (p :
 
 -- what such a call keeps of the seat
 pub keeps_aside : {L G : Type 0} (s s' : Seat (Value L G) View) → SameSeat s s' → SameSelf s.me.0 s'.me.0 → Keeps s s'
-keeps_aside s s' same self = record { table = same.table; id = same.id; joined = self.joined; next = self.next }
+keeps_aside s s' same self = record { table = same.table; id = same.id; joined = ap (λ (x : View). x.joined) self; next = ap (λ (x : View). x.next) self }
 
 -- A frame is pinned, other steps keep the pins, and the pin is given up: the seat pins what it pinned
 pub pins_back : {L G : Type 0} (f h : ℕ) (s s' r s'' : Seat (Value L G) View) → h ≡ f → (link s.me.0 f).role ≡ Absent → KeepsBeside f s s' → SamePins s' r → Touches h r.me.0 s''.me.0 → Looked (unpinned_link (link r.me.0 h)) (link s''.me.0 h) → SamePins s s''

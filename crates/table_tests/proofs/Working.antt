@@ -98,20 +98,20 @@ module _ {L G : Type 0} (t : FrameTable L G) where
     pub beside_still : (f : ℕ) → IsQuietBeside t f s → SameSelf s.me.0 s'.me.0 → ((g : ℕ) → g ≢ f → link s'.me.0 g ≡ link s.me.0 g) → IsQuietBeside t f s'
     beside_still f q self others = record {
       fits = same.table ∙ q.fits;
-      live = self.emptied ∙ q.live;
+      live = ap (λ (x : View). x.emptied) self ∙ q.live;
       hand = same.hand ∙ q.hand;
       others = λ g n. subst IsCalm (sym (others g n)) (q.others g n);
-      lanes = λ n. ap (λ (l : List LaneHold). (get_or l n no_lane).held) self.lanes ∙ q.lanes n;
-      log = ap (λ (h : LogHold). h.held) self.log ∙ q.log;
+      lanes = λ n. ap (λ (l : List LaneHold). (get_or l n no_lane).held) (ap (λ (x : View). x.lanes) self) ∙ q.lanes n;
+      log = ap (λ (h : LogHold). h.held) (ap (λ (x : View). x.log) self) ∙ q.log;
     }
 
     -- a step under a partition's latch
     pub quiet_worked : IsQuiet t s → SameWork s.me.0 s'.me.0 → s'.me.0.lanes ≡ s.me.0.lanes → s'.me.0.log ≡ s.me.0.log → IsQuiet t s'
     quiet_worked q work lanes log = record {
       fits = same.table ∙ q.fits;
-      live = work.emptied ∙ q.live;
+      live = ap (λ (x : View). x.emptied) work ∙ q.live;
       hand = same.hand ∙ q.hand;
-      frames = λ f. subst IsCalm (sym (ap (λ (l : List Link). get_or l f idle) work.links)) (q.frames f);
+      frames = λ f. subst IsCalm (sym (ap (λ (l : List Link). get_or l f idle) (ap (λ (x : View). x.links) work))) (q.frames f);
       lanes = λ n. ap (λ (l : List LaneHold). (get_or l n no_lane).held) lanes ∙ q.lanes n;
       log = ap (λ (h : LogHold). h.held) log ∙ q.log;
     }
@@ -119,13 +119,13 @@ module _ {L G : Type 0} (t : FrameTable L G) where
 -- What seats keep
 module _ {L G : Type 0} (s s' : Seat (Value L G) View) (same : SameSeat s s') where
   pub keeps_touched : (f : ℕ) → SameSelf s.me.0 s'.me.0 → ((g : ℕ) → g ≢ f → link s'.me.0 g ≡ link s.me.0 g) → KeepsBeside f s s'
-  keeps_touched f self others = record { self = record { table = same.table; id = same.id; joined = self.joined; next = self.next }; others = others }
+  keeps_touched f self others = record { self = record { table = same.table; id = same.id; joined = ap (λ (x : View). x.joined) self; next = ap (λ (x : View). x.next) self }; others = others }
 
   pub links_worked : SameWork s.me.0 s'.me.0 → (g : ℕ) → link s'.me.0 g ≡ link s.me.0 g
-  links_worked work g = ap (λ (l : List Link). get_or l g idle) work.links
+  links_worked work g = ap (λ (l : List Link). get_or l g idle) (ap (λ (x : View). x.links) work)
 
   pub keeps_worked : (f : ℕ) → SameWork s.me.0 s'.me.0 → KeepsBeside f s s'
-  keeps_worked f work = record { self = record { table = same.table; id = same.id; joined = work.joined; next = work.next }; others = λ g n. links_worked work g }
+  keeps_worked f work = record { self = record { table = same.table; id = same.id; joined = ap (λ (x : View). x.joined) work; next = ap (λ (x : View). x.next) work }; others = λ g n. links_worked work g }
 
 pub beside_on : {L G : Type 0} (f : ℕ) (s s' s'' : Seat (Value L G) View) → KeepsBeside f s s' → KeepsBeside f s' s'' → KeepsBeside f s s''
 beside_on f s s' s'' a b = record { self = record { table = b.self.table ∙ a.self.table; id = b.self.id ∙ a.self.id; joined = b.self.joined ∙ a.self.joined; next = b.self.next ∙ a.self.next }; others = λ g n. b.others g n ∙ a.others g n }

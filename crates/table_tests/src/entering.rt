@@ -34,7 +34,7 @@ fn pin_free<R: Wait>(rt: &R, table: &Table, seat: &mut TableSeat, frame: u32) ->
         table.unlock_header(seat, frame);
         return None;
     }
-    Some(table.victim_pin(seat, frame))
+    Some(table.victim_pin(seat, frame, word))
 }
 
 /// Stores a block's tag in the frame that the backend has as a victim, and enters it into the map, where the frame is free still.
@@ -59,7 +59,7 @@ fn store_block<R: Wait>(rt: &R, table: &Table, seat: &mut TableSeat, frame: u32,
         return false;
     }
     table.store_tag(seat, frame, Some(tag));
-    table.assign(seat, frame);
+    table.assign(seat, frame, word);
     enter(table, seat, tag, frame);
     true
 }

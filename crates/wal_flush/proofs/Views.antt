@@ -21,7 +21,7 @@ use Rattle.wal_flush.specs.declared.inserts.InsertError.{InsertError}
 use Rattle.wal_flush.specs.declared.inserts.InsertError.TheVariants as insert_error
 use Rattle.wal_flush.specs.declared.flushes.FlushLog.{FlushLog}
 use Rattle.wal_flush.specs.declared.flushes.FlushLog.TheVariants as flush_log
-use Rattle.wal_flush.specs.Latched.{KeepsWork, UnderLatch, as_counted, downed, faulted}
+use Rattle.wal_flush.specs.Latched.{KeepsWork, kept_of, UnderLatch, as_counted, downed, faulted}
 use Rattle.wal_flush.specs.Inserts.{EnterRefused, Enters, inserted_view, refused_view}
 use Rattle.wal_flush.specs.Flushes.{FindsFlushed, Flushed, already, meanwhile, by_sync, Flushes, HolderRefused, Looks, still, again, SeesFlushed, SeesUnflushed, StillUnflushed, SyncRefused, Syncs, Tries, WasFlushed, as_looked, synced_view, unflushed_view}
 use Rattle.wal_flush.proofs.LogSteps.{quiet, counting, opens_view, leaves_view, free_log, appended_view, synced_view as after_sync, unappended_view, unsynced_view, down_view}
@@ -156,24 +156,7 @@ holder_refused lsn end flush_log.LogFault v u w within s failed = record { withi
 
 -- what is as it was where but for looks only calls of devices and faults are counted
 counted_work : (v w : View) (calls : List DeviceCall) (met : Met) (down : Bool) → w ≡ as_looked (record v { device_calls = calls; met = met; saw_down = down }) w → KeepsWork v w
-counted_work v w calls met down e = record {
-  number = ap (λ (x : View). x.number) e;
-  next = ap (λ (x : View). x.next) e;
-  joined = ap (λ (x : View). x.joined) e;
-  emptied = ap (λ (x : View). x.emptied) e;
-  links = ap (λ (x : View). x.links) e;
-  partitions = ap (λ (x : View). x.partitions) e;
-  lanes = ap (λ (x : View). x.lanes) e;
-  log = ap (λ (x : View). x.log) e;
-  calls = ap (λ (x : View). x.calls) e;
-  front = ap (λ (x : View). x.front) e;
-  place_loads = ap (λ (x : View). x.place_loads) e;
-  upto = ap (λ (x : View). x.upto) e;
-  kept = ap (λ (x : View). x.kept) e;
-  dirtied_or_synced = ap (λ (x : View). x.dirtied_or_synced) e;
-  had_output = ap (λ (x : View). x.had_output) e;
-  last_ended = ap (λ (x : View). x.last_ended) e;
-}
+counted_work v w calls met down e = ap kept_of e
 
 pub flushed_work : (lsn : ℕ) (v w : View) → Flushed lsn v w → KeepsWork v w
 flushed_work lsn v w (already s e) = counted_work v w v.device_calls v.met v.saw_down e

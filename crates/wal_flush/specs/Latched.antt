@@ -1,5 +1,5 @@
 -- What is done under the log's latch.
-use Rattle.std.specs.Prelude.{◌≡◌, ℕ, ◌+◌, true, false, Some, None}
+use Rattle.std.specs.Prelude.{◌≡◌, ℕ, ◌+◌, true, false, [], Some, None}
 use Rattle.pin_core.specs.declared.view.LogHold.{LogHold}
 use Rattle.pin_core.specs.declared.view.TakenLog.{TakenLog}
 use Rattle.pin_core.specs.declared.view.View.{View}
@@ -53,21 +53,9 @@ downed v = record v { saw_down = true }
 abbrev pub faulted : View → View
 faulted v = record (downed v) { met = record v.met { logs = v.met.logs + 1 } }
 
--- What a call of the log leaves as it was, but where an entry is made: all that the view has of frames, partitions, lanes and the log, what it has read and written, whether it has dirtied a frame or synced a lane, whether it has had an output right, and how its last input or output ended
-pub record KeepsWork (v w : View) : Type 0 where
-  pub number : w.number ≡ v.number
-  pub next : w.next ≡ v.next
-  pub joined : w.joined ≡ v.joined
-  pub emptied : w.emptied ≡ v.emptied
-  pub links : w.links ≡ v.links
-  pub partitions : w.partitions ≡ v.partitions
-  pub lanes : w.lanes ≡ v.lanes
-  pub log : w.log ≡ v.log
-  pub calls : w.calls ≡ v.calls
-  pub front : w.front ≡ v.front
-  pub place_loads : w.place_loads ≡ v.place_loads
-  pub upto : w.upto ≡ v.upto
-  pub kept : w.kept ≡ v.kept
-  pub dirtied_or_synced : w.dirtied_or_synced ≡ v.dirtied_or_synced
-  pub had_output : w.had_output ≡ v.had_output
-  pub last_ended : w.last_ended ≡ v.last_ended
+-- What a call of the log leaves of a view, but where an entry is made: all but what it lists and counts of steps and loads, the flushed position that it saw, its calls of devices, and the faults that it met
+abbrev pub kept_of : View → View
+kept_of v = record v { steps = 0; loads = []; flushed = 0; device_calls = []; met = record { reads = 0; writes = 0; logs = 0 }; saw_down = false }
+
+abbrev pub KeepsWork : View → View → Type 0
+KeepsWork v w = kept_of w ≡ kept_of v

@@ -1,4 +1,7 @@
-use Rattle.content_locks.proofs.Locking.{may_return, copied_back}
+use Rattle.std.proofs.Common.{ap}
+use Rattle.page_layout.specs.Soundness.{is_sound_page}
+use Rattle.pin_core.specs.declared.view.Link.{Link}
+use Rattle.content_locks.proofs.Locking.{may_return, copied_back, copy_sound}
 use Rattle.frame_table.proofs.Marks.{marks_on}
 use Rattle.content_locks.proofs.copies.copy_page.Goals as goal
 
@@ -10,3 +13,6 @@ returns-clause-copied g c = let o = c.page_out-out.ensures in rw c.copy_from.ens
 
 pub returns-clause-marks : goal.returns-clause-marks
 returns-clause-marks g c = marks_on _ _ _ c.page_out-out.ensures.marks c.page_back.ensures.marks
+
+pub returns-clause-sound : goal.returns-clause-sound
+returns-clause-sound g c = let o = c.page_out-out.ensures in rw c.copy_from.ensures (copy_sound _ o.did.0 _ _ _ o.did.1 c.requires.view.right (ap (λ (l : Link). l.out) o.out))

@@ -11,7 +11,7 @@ pub loop-init : goal.loop-init
 loop-init g c = record { seat = record { table = refl; id = refl; hand = refl }; looked = still }
 
 pub try_copy-requires-clause-seat : goal.try_copy-requires-clause-seat
-try_copy-requires-clause-seat g c = let a = c.requires.seat in let i = c.loop.invariant in record { fits = i.seat.table ∙ a.fits; live = (looks_touch _ _ _ i.looked).self.emptied ∙ a.live; inside = a.inside }
+try_copy-requires-clause-seat g c = let a = c.requires.seat in let i = c.loop.invariant in record { fits = i.seat.table ∙ a.fits; live = ap (λ (x : View). x.emptied) (looks_touch _ _ _ i.looked).self ∙ a.live; inside = a.inside }
 
 pub try_copy-requires-clause-view : goal.try_copy-requires-clause-view
 try_copy-requires-clause-view g c = ap (λ (l : Link). l.content) (looks_link _ _ _ c.loop.invariant.looked) ∙ c.requires.view

@@ -9,7 +9,7 @@ pub loop-init : goal.loop-init
 loop-init g c = record { seat = record { table = refl; id = refl; hand = refl }; touches = touches_none _ _; marks = marks_none _; waits = still; looked = looked_none _ }
 
 pub try_io-requires-clause-seat : goal.try_io-requires-clause-seat
-try_io-requires-clause-seat g c = let a = c.requires.seat in let i = c.loop.invariant in record { fits = i.seat.table ∙ a.fits; live = i.touches.self.emptied ∙ a.live; inside = a.inside }
+try_io-requires-clause-seat g c = let a = c.requires.seat in let i = c.loop.invariant in record { fits = i.seat.table ∙ a.fits; live = ap (λ (x : View). x.emptied) i.touches.self ∙ a.live; inside = a.inside }
 
 pub try_io-requires-clause-headless : goal.try_io-requires-clause-headless
 try_io-requires-clause-headless g c = let i = c.loop.invariant in headless_still _ _ _ i.touches i.looked c.requires.headless

@@ -11,7 +11,7 @@ pub loop-init : goal.loop-init
 loop-init g c = record { seat = record { table = refl; id = refl; hand = refl }; looked = still }
 
 pub try_exclusive-requires-clause-seat : goal.try_exclusive-requires-clause-seat
-try_exclusive-requires-clause-seat g c = let a = c.requires.seat in record { fits = c.loop.invariant.seat.table ∙ a.fits; live = (looks_touch _ _ _ c.loop.invariant.looked).self.emptied ∙ a.live; inside = a.inside }
+try_exclusive-requires-clause-seat g c = let a = c.requires.seat in record { fits = c.loop.invariant.seat.table ∙ a.fits; live = ap (λ (x : View). x.emptied) (looks_touch _ _ _ c.loop.invariant.looked).self ∙ a.live; inside = a.inside }
 
 pub try_exclusive-requires-clause-view : goal.try_exclusive-requires-clause-view
 try_exclusive-requires-clause-view g c = subst CanLock (sym (looks_link _ _ _ c.loop.invariant.looked)) c.requires.view

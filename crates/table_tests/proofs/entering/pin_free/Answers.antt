@@ -1,3 +1,4 @@
+use Rattle.frame_table.proofs.Told.{looked_same}
 use Rattle.table_tests.proofs.Seats.{holds_locked}
 use Rattle.table_tests.proofs.Working.{beside_still, calm_unlocked, calm_victim, quiet_at, quiet_beside}
 use Rattle.table_tests.proofs.entering.pin_free.Goals as goal
@@ -11,4 +12,4 @@ returns-then-pins-ne0-clause-quiet g c = let k = c.lock_header-word.ensures in l
 
 pub returns-clause-quiet : goal.returns-clause-quiet
 returns-clause-quiet g c = let k = c.lock_header-word.ensures in let u = c.victim_pin.ensures in let q = c.requires.pins.quiet in let a = beside_still _ _ _ k.seat _ (quiet_beside _ _ c.args.frame q) k.touches.self k.touches.others in
-    quiet_at _ _ _ (beside_still _ _ _ u.seat _ a u.touches.self u.touches.others) (calm_victim _ _ _ k.locked (q.frames c.args.frame) _ u.pinned)
+    quiet_at _ _ _ (beside_still _ _ _ u.seat _ a u.touches.self u.touches.others) (calm_victim _ _ _ k.locked (q.frames c.args.frame) _ (looked_same _ _ u.pinned))

@@ -3,6 +3,7 @@ use Rattle.state_word.specs.declared.word.StateWord.{StateWord}
 use Rattle.pin_core.specs.declared.view.Link.{Link}
 use Rattle.pin_core.specs.declared.view.PartitionHold.{PartitionHold}
 use Rattle.pin_core.specs.State.{link}
+use Rattle.frame_table.proofs.Told.{looked_same}
 use Rattle.table_tests.proofs.Seats.{holds_locked}
 use Rattle.table_tests.proofs.Working.{beside_on, beside_still, calm_assigned, calm_unlocked, entered_inside, entered_others, keeps_touched, keeps_worked, knows_word, links_worked, quiet_at, quiet_beside, quiet_worked, same_hold}
 use Rattle.table_tests.proofs.entering.store_block.Goals as goal
@@ -33,7 +34,7 @@ returns-clause-quiet g c =
     let one = beside_still _ _ _ k.seat _ (quiet_beside _ _ c.args.frame q) k.touches.self k.touches.others in
     let two = beside_still _ _ _ st.seat _ one st.stores.self st.stores.others in
     let three = beside_still _ _ _ a.seat _ two a.touches.self a.touches.others in
-    quiet_worked _ _ _ e.seat (quiet_at _ _ _ three (calm_assigned _ _ _ k.locked (q.frames c.args.frame) _ _ _ st.stored a.assigned)) e.work e.step.lanes e.step.log
+    quiet_worked _ _ _ e.seat (quiet_at _ _ _ three (calm_assigned _ _ _ k.locked (q.frames c.args.frame) _ _ _ st.stored (looked_same _ _ a.assigned))) e.work e.step.lanes e.step.log
 
 pub returns-clause-keeps : goal.returns-clause-keeps
 returns-clause-keeps g c =
@@ -55,4 +56,4 @@ returns-clause-stored g c =
     let names = c.store_tag.ensures.names in
     let same = links_worked _ _ c.enter.ensures.seat c.enter.ensures.work c.args.frame in
     let unchanged = ap (λ (h : PartitionHold). h.changed) (names.here) ∙ ap (λ (h : PartitionHold). h.changed) (same_hold c.args.seat.now.me.0 c.lock_header-word.new.seat.me.0 c.lock_header-word.ensures.touches.partitions _) ∙ c.requires.latch.unchanged in
-    (ap (λ (l : Link). l.role) same ∙ a.assigned.role, ap (λ (l : Link). l.tag) same ∙ a.tag _ _ (ap (λ (h : PartitionHold). h.change) names.here) unchanged, ap (λ (l : Link). l.pending) same ∙ a.assigned.pending)
+    (ap (λ (l : Link). l.role) same ∙ ap (λ (l : Link). l.role) a.assigned, ap (λ (l : Link). l.tag) same ∙ a.tag _ _ (ap (λ (h : PartitionHold). h.change) names.here) unchanged, ap (λ (l : Link). l.pending) same ∙ ap (λ (l : Link). l.pending) a.assigned)

@@ -37,7 +37,7 @@ read_in-requires-clause-reads g c =
     }
 
 pub read_in-requires-clause-home : goal.read_in-requires-clause-home
-read_in-requires-clause-home g c = begun_home _ _ _ c.start_io.new.seat.me.0 c.in-Some-start_io.ensures.did.did (λ n. ap (λ (l : List LaneHold). (get_or l n no_lane).held) c.start_io.ensures.touches.self.lanes ∙ c.loop.invariant.pins.quiet.lanes n)
+read_in-requires-clause-home g c = begun_home _ _ _ c.start_io.new.seat.me.0 c.in-Some-start_io.ensures.did.did (λ n. ap (λ (l : List LaneHold). (get_or l n no_lane).held) (ap (λ (x : View). x.lanes) c.start_io.ensures.touches.self) ∙ c.loop.invariant.pins.quiet.lanes n)
 
 pub loop-preserved : goal.loop-preserved
 loop-preserved g c =

@@ -21,7 +21,7 @@ returns-clause-home g c = lanes_home _ c.args.seat.now.me.0 c.take_turn.new.seat
 pub returns-clause-quiet : goal.returns-clause-quiet
 returns-clause-quiet g c = let q = c.requires.quiet in let k = returns-clause-keeps g c in record {
   fits = k.self.table ∙ q.fits;
-  live = c.leave_turn.ensures.work.emptied ∙ ap (λ (v : View). v.emptied) c.lane_back.ensures.view ∙ ap (λ (v : View). v.emptied) c.lane_out-lane.ensures.view ∙ c.take_turn.ensures.work.emptied ∙ q.live;
+  live = ap (λ (x : View). x.emptied) c.leave_turn.ensures.work ∙ ap (λ (v : View). v.emptied) c.lane_back.ensures.view ∙ ap (λ (v : View). v.emptied) c.lane_out-lane.ensures.view ∙ ap (λ (x : View). x.emptied) c.take_turn.ensures.work ∙ q.live;
   hand = c.leave_turn.ensures.seat.hand ∙ c.lane_back.ensures.hand ∙ ap rest c.lane_out-lane.ensures.hand ∙ c.take_turn.ensures.seat.hand ∙ q.hand;
   others = λ f n. subst IsCalm (sym (k.others f n)) (q.others f n);
   lanes = lanes_free _ c.args.seat.now.me.0 c.take_turn.new.seat.me.0 c.requires.home c.take_turn.ensures.turned c.lane_out-lane.new.seat.me.0 c.lane_back.new.seat.me.0 c.leave_turn.new.seat.me.0 _ c.lane_out-lane.ensures.out c.lane_back.ensures.back refl c.leave_turn.ensures.turned q.lanes;
@@ -30,14 +30,14 @@ returns-clause-quiet g c = let q = c.requires.quiet in let k = returns-clause-ke
 
 pub returns-clause-reads : goal.returns-clause-reads
 returns-clause-reads g c =
-    let out : Reads c.args.tag (link c.lane_out-lane.new.seat.me.0 c.args.frame) = subst (λ (l : List Link). Reads c.args.tag (get_or l c.args.frame idle)) (sym (ap (λ (v : View). v.links) c.lane_out-lane.ensures.view ∙ c.take_turn.ensures.work.links)) c.requires.reads in
+    let out : Reads c.args.tag (link c.lane_out-lane.new.seat.me.0 c.args.frame) = subst (λ (l : List Link). Reads c.args.tag (get_or l c.args.frame idle)) (sym (ap (λ (v : View). v.links) c.lane_out-lane.ensures.view ∙ ap (λ (x : View). x.links) c.take_turn.ensures.work)) c.requires.reads in
     let back = reads_noted c.args.frame c.args.tag c.read-read.new.self.call c.lane_out-lane.new.seat.me.0 c.lane_back.new.seat.me.0 (read_call _ _ _ _ _ c.read-read.ensures.call) c.lane_back.ensures.noted out in
-    subst (λ (l : List Link). Reads c.args.tag (get_or l c.args.frame idle)) (sym c.leave_turn.ensures.work.links) back
+    subst (λ (l : List Link). Reads c.args.tag (get_or l c.args.frame idle)) (sym (ap (λ (x : View). x.links) c.leave_turn.ensures.work)) back
 
 pub lane_back-requires-clause-may : goal.lane_back-requires-clause-may
 lane_back-requires-clause-may g c =
     let o = c.lane_out-lane.ensures in
     let b = c.requires.block in
-    let out : Reads c.args.tag (link c.lane_out-lane.new.seat.me.0 c.args.frame) = subst (λ (l : List Link). Reads c.args.tag (get_or l c.args.frame idle)) (sym (ap (λ (v : View). v.links) o.view ∙ c.take_turn.ensures.work.links)) c.requires.reads in
+    let out : Reads c.args.tag (link c.lane_out-lane.new.seat.me.0 c.args.frame) = subst (λ (l : List Link). Reads c.args.tag (get_or l c.args.frame idle)) (sym (ap (λ (v : View). v.links) o.view ∙ ap (λ (x : View). x.links) c.take_turn.ensures.work)) c.requires.reads in
     may_return _ _ _ _ _ _ _ c.lane_out-lane.new.seat.me.0 c.lane_out-lane.result.device c.read-read.new.self o.out.here o.taken c.read-read.ensures.did
     (may_note_read _ _ _ c.lane_out-lane.new.seat.me.0 c.args.frame c.args.tag c.read-read.new.page (in_one_lane _ _ _ b.2 b.0 b.1) c.read-read.new.self.call c.read-read.result record { right = out.right; fresh = out.fresh; remembered = out.remembered } c.read-read.ensures.call)

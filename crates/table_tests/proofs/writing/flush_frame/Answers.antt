@@ -31,7 +31,7 @@ returns-in_default-clause-answer g c = record {
   shares = c.share.ensures.did;
   finds = c.in_default.ensures.cause;
   unshares = c.unshare.ensures.did.1;
-  calls = c.unshare.ensures.touches.self.device_calls ∙ c.start_io.ensures.touches.self.device_calls ∙ c.share.ensures.touches.self.device_calls;
+  calls = ap (λ (x : View). x.device_calls) c.unshare.ensures.touches.self ∙ ap (λ (x : View). x.device_calls) c.start_io.ensures.touches.self ∙ ap (λ (x : View). x.device_calls) c.share.ensures.touches.self;
 }
 
 pub write_out-written-requires-clause-quiet : goal.write_out-written-requires-clause-quiet
@@ -65,7 +65,7 @@ returns-in-Err-clause-keeps g c = let s = c.share.ensures in let a = c.start_io.
 
 pub returns-in-Err-clause-answer : goal.returns-in-Err-clause-answer
 returns-in-Err-clause-answer g c = let u = c.unshare-2.ensures in
-    frame_between c.args.tag c.write_out-written.new.page c.args.frame c.args.seat.now.me.0 c.start_io.new.seat.me.0 c.write_out-written.new.seat.me.0 c.unshare-2.new.seat.me.0 c.in-Err.why (c.start_io.ensures.touches.self.device_calls ∙ c.share.ensures.touches.self.device_calls) c.in-Err.ensures.answer u.touches.self.device_calls u.touches.self.flushed
+    frame_between c.args.tag c.write_out-written.new.page c.args.frame c.args.seat.now.me.0 c.start_io.new.seat.me.0 c.write_out-written.new.seat.me.0 c.unshare-2.new.seat.me.0 c.in-Err.why (ap (λ (x : View). x.device_calls) c.start_io.ensures.touches.self ∙ ap (λ (x : View). x.device_calls) c.share.ensures.touches.self) c.in-Err.ensures.answer (ap (λ (x : View). x.device_calls) u.touches.self) (ap (λ (x : View). x.flushed) u.touches.self)
 
 pub returns-in_default-clause-did : goal.returns-in_default-clause-did
 returns-in_default-clause-did g c = returns-in_default-clause-answer g c

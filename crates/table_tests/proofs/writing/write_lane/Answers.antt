@@ -20,7 +20,7 @@ returns-clause-keeps g c = search rules
 pub returns-clause-quiet : goal.returns-clause-quiet
 returns-clause-quiet g c = let q = c.requires.quiet in let k = returns-clause-keeps g c in record {
   fits = k.self.table ∙ q.fits;
-  live = c.leave_turn.ensures.work.emptied ∙ ap (λ (v : View). v.emptied) c.lane_back.ensures.view ∙ ap (λ (v : View). v.emptied) c.lane_out-lane.ensures.view ∙ c.take_turn.ensures.work.emptied ∙ q.live;
+  live = ap (λ (x : View). x.emptied) c.leave_turn.ensures.work ∙ ap (λ (v : View). v.emptied) c.lane_back.ensures.view ∙ ap (λ (v : View). v.emptied) c.lane_out-lane.ensures.view ∙ ap (λ (x : View). x.emptied) c.take_turn.ensures.work ∙ q.live;
   hand = c.leave_turn.ensures.seat.hand ∙ c.lane_back.ensures.hand ∙ ap rest c.lane_out-lane.ensures.hand ∙ c.take_turn.ensures.seat.hand ∙ q.hand;
   others = λ f n. subst IsCalm (sym (k.others f n)) (q.others f n);
   lanes = lanes_free _ c.args.seat.now.me.0 c.take_turn.new.seat.me.0 c.requires.home c.take_turn.ensures.turned c.lane_out-lane.new.seat.me.0 c.lane_back.new.seat.me.0 c.leave_turn.new.seat.me.0 _ c.lane_out-lane.ensures.out c.lane_back.ensures.back refl c.leave_turn.ensures.turned q.lanes;
@@ -29,20 +29,20 @@ returns-clause-quiet g c = let q = c.requires.quiet in let k = returns-clause-ke
 
 pub returns-clause-writes : goal.returns-clause-writes
 returns-clause-writes g c =
-    let out : Shares Output c.args.tag (link c.lane_out-lane.new.seat.me.0 c.args.frame) = subst (λ (l : List Link). Shares Output c.args.tag (get_or l c.args.frame idle)) (sym (ap (λ (v : View). v.links) c.lane_out-lane.ensures.view ∙ c.take_turn.ensures.work.links)) c.requires.writes in
+    let out : Shares Output c.args.tag (link c.lane_out-lane.new.seat.me.0 c.args.frame) = subst (λ (l : List Link). Shares Output c.args.tag (get_or l c.args.frame idle)) (sym (ap (λ (v : View). v.links) c.lane_out-lane.ensures.view ∙ ap (λ (x : View). x.links) c.take_turn.ensures.work)) c.requires.writes in
     let back = shares_noted c.args.frame c.args.tag c.write-written.new.self.call c.lane_out-lane.new.seat.me.0 c.lane_back.new.seat.me.0 (write_call _ _ _ _ _ c.write-written.ensures.call) c.lane_back.ensures.noted out in
-    subst (λ (l : List Link). Shares Output c.args.tag (get_or l c.args.frame idle)) (sym c.leave_turn.ensures.work.links) back
+    subst (λ (l : List Link). Shares Output c.args.tag (get_or l c.args.frame idle)) (sym (ap (λ (x : View). x.links) c.leave_turn.ensures.work)) back
 
 pub lane_back-requires-clause-may : goal.lane_back-requires-clause-may
 lane_back-requires-clause-may g c =
     let o = c.lane_out-lane.ensures in
     let b = c.requires.block in
-    let links = ap (λ (v : View). v.links) o.view ∙ c.take_turn.ensures.work.links in
+    let links = ap (λ (v : View). v.links) o.view ∙ ap (λ (x : View). x.links) c.take_turn.ensures.work in
     let out : Shares Output c.args.tag (link c.lane_out-lane.new.seat.me.0 c.args.frame) = subst (λ (l : List Link). Shares Output c.args.tag (get_or l c.args.frame idle)) (sym links) c.requires.writes in
     may_return _ _ _ _ _ _ _ c.lane_out-lane.new.seat.me.0 c.lane_out-lane.result.device c.write-written.new.self o.out.here o.taken c.write-written.ensures.did
     (may_note_write _ _ _ c.lane_out-lane.new.seat.me.0 c.args.frame c.args.tag c.args.page.now (in_one_lane _ _ _ b.2 b.0 b.1) c.write-written.new.self.call c.write-written.result record {
       right = out.right;
       copied = ap (λ (l : List Link). (get_or l c.args.frame idle).copied) links ∙ c.requires.copied;
       remembered = out.remembered;
-      log_first = subst (λ (n : ℕ). lsn_of c.args.page.now ≤ n) (sym (ap (λ (h : LaneHold). h.flushed) o.out.here ∙ c.take_turn.ensures.work.flushed)) c.requires.log_first;
+      log_first = subst (λ (n : ℕ). lsn_of c.args.page.now ≤ n) (sym (ap (λ (h : LaneHold). h.flushed) o.out.here ∙ ap (λ (x : View). x.flushed) c.take_turn.ensures.work)) c.requires.log_first;
     } c.write-written.ensures.call)

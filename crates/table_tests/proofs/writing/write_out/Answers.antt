@@ -19,7 +19,7 @@ returns-in-Err-clause-quiet g c = let w = c.write_logged.ensures in let e = c.en
 
 pub returns-in-Err-clause-answer : goal.returns-in-Err-clause-answer
 returns-in-Err-clause-answer g c = let e = c.end_io-in-Err.ensures in
-    answer_between c.args.tag c.copy_out.new.page c.args.seat.now.me.0 c.copy_out.new.seat.me.0 c.write_logged.new.seat.me.0 c.end_io-in-Err.new.seat.me.0 (Err c.in-Err.why) (c.copy_out.ensures.touches.self.device_calls ∙ c.clear_just.ensures.calls) c.in-Err.ensures.answer e.touches.self.device_calls e.touches.self.flushed
+    answer_between c.args.tag c.copy_out.new.page c.args.seat.now.me.0 c.copy_out.new.seat.me.0 c.write_logged.new.seat.me.0 c.end_io-in-Err.new.seat.me.0 (Err c.in-Err.why) (ap (λ (x : View). x.device_calls) c.copy_out.ensures.touches.self ∙ c.clear_just.ensures.calls) c.in-Err.ensures.answer (ap (λ (x : View). x.device_calls) e.touches.self) (ap (λ (x : View). x.flushed) e.touches.self)
 
 pub returns-in-Ok-clause-did : goal.returns-in-Ok-clause-did
 returns-in-Ok-clause-did g c = let here = c.frame-frame.ensures in record {

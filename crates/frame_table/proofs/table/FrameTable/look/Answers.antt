@@ -2,7 +2,7 @@ use Rattle.std.proofs.Common.{rules, arith, refl}
 use Rattle.frame_table.specs.Tells.{looking}
 use Rattle.frame_table.proofs.Words.{looks}
 use Rattle.frame_table.proofs.Told.{touches, loads_link, looked}
-use Rattle.frame_table.proofs.Seeing.{handed_sees, need_not_write, passes_clean, sees_over}
+use Rattle.frame_table.proofs.Seeing.{handed_sees, need_not_write, passes_clean, sees_over, word_seen}
 use Rattle.frame_table.proofs.Marks.{did_marks}
 use Rattle.frame_table.proofs.table.FrameTable.look.Goals as goal
 
@@ -32,3 +32,6 @@ returns-clause-passed g c = passes_clean _ _ _ _ (c.load.ensures.2.1 c.args.fram
 
 pub returns-clause-written : goal.returns-clause-written
 returns-clause-written g c = need_not_write _ _ _ _ (c.load.ensures.2.1 c.args.frame c.state_place.ensures)
+
+pub returns-clause-word : goal.returns-clause-word
+returns-clause-word g c = word_seen looking refl _ _ _ _ (c.load.ensures.2.1 c.args.frame c.state_place.ensures)

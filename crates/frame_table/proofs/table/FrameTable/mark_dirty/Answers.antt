@@ -11,7 +11,7 @@ pub loop-init : goal.loop-init
 loop-init g c = record { seat = record { table = refl; id = refl; hand = refl }; looked = still }
 
 pub try_mark_dirty-requires-clause-seat : goal.try_mark_dirty-requires-clause-seat
-try_mark_dirty-requires-clause-seat g c = let a = c.requires.seat in record { fits = c.loop.invariant.seat.table ∙ a.fits; live = (looks_touch _ _ _ c.loop.invariant.looked).self.emptied ∙ a.live; inside = a.inside }
+try_mark_dirty-requires-clause-seat g c = let a = c.requires.seat in record { fits = c.loop.invariant.seat.table ∙ a.fits; live = ap (λ (x : View). x.emptied) (looks_touch _ _ _ c.loop.invariant.looked).self ∙ a.live; inside = a.inside }
 
 pub try_mark_dirty-requires-clause-right : goal.try_mark_dirty-requires-clause-right
 try_mark_dirty-requires-clause-right g c = (looks_link _ _ _ c.loop.invariant.looked).content ∙ c.requires.right
