@@ -24,7 +24,7 @@ use Rattle.page_core.specs.Steps as page_steps
 use Rattle.history_core.specs.State.{Lane, State, Store, failed, opening}
 use Rattle.history_core.specs.Lanes as lane_kinds
 use Rattle.history_core.specs.Lanes.{swept_by, LaneKind, LaneAllowed, lane_after, lane_hold_after, met_by, fault_of, syncs, is_failed_write}
-use Rattle.history_core.specs.Steps.{LaneAlone, Writes, Notes, Step, pools, lanes, writes, notes, logs, enters, reads, loads_end, begins, loads_flushed, raises, adds_hand, loads_hand, Event, Run, rests, goes, stepped, ticked, looked, aside, pool_after, logged_noting, pool_noting, paged, laned, has_loaded, has_read, has_begun, has_written}
+use Rattle.history_core.specs.Steps.{LaneAlone, Writes, Notes, Step, pools, lanes, writes, notes, logs, enters, reads, loads_end, begins, loads_flushed, raises, adds_hand, loads_hand, Event, Run, rests, goes, stepped, ticked, looked, aside, pool_after, logged_noting, pool_noting, paged, laned, has_loaded, has_read, has_begun, has_written, has_raised}
 use Rattle.history_core.specs.Log.{record_size}
 use Rattle.history_core.specs.Device as log_kinds
 use Rattle.history_core.specs.Device.{LogKind, view_logged}
@@ -306,7 +306,7 @@ marks_kept (begins {s = s} i v there live) h m = aside_marks s h m i v (has_begu
 marks_kept (loads_flushed {s = s} i v there live) h m = aside_marks s h m i v (looked (seen.Flushed s.flushed) (record v { flushed = s.flushed })) there (omega arith) refl refl refl
 marks_kept (adds_hand {s = s} i v there live) h m = λ none. let x = aside_marks s h m i v (ticked v) there (omega arith) refl refl refl none in record { frames = x.frames; blocks = x.blocks; views = x.views }
 marks_kept (loads_hand {s = s} i v there live) h m = aside_marks s h m i v (looked (seen.Hand s.hand) v) there (omega arith) refl refl refl
-marks_kept (raises {s = s} i v there live synced) h m = λ none. let x = aside_marks s h m i v (stepped v) there (omega arith) refl refl refl none in record { frames = x.frames; blocks = x.blocks; views = x.views }
+marks_kept (raises {s = s} i v there live synced) h m = λ none. let x = aside_marks s h m i v (has_raised s.end v) there (omega arith) refl refl refl none in record { frames = x.frames; blocks = x.blocks; views = x.views }
 
 pub marks_after : {es : List Event} {s t : State} → Run es s t → Invariant s → MarksLaw s → MarksLaw t
 marks_after rests h m = m

@@ -25,7 +25,7 @@ use Rattle.page_core.specs.Kinds.{begin_write, make_entry}
 use Rattle.history_core.specs.Log.{record_size}
 use Rattle.history_core.specs.Device as log_kinds
 use Rattle.history_core.specs.Device.{LogKind, view_logged}
-use Rattle.history_core.specs.Steps.{Event, stepped, ticked, looked, pool_noting, paged, laned, has_loaded, has_read, has_begun, has_written, Step, pools, lanes, writes, notes, logs, enters, reads, loads_end, begins, loads_flushed, raises, adds_hand, loads_hand, Run, rests, goes}
+use Rattle.history_core.specs.Steps.{Event, stepped, ticked, looked, pool_noting, paged, laned, has_loaded, has_read, has_begun, has_written, Step, pools, lanes, writes, notes, logs, enters, reads, loads_end, begins, loads_flushed, raises, adds_hand, loads_hand, Run, rests, goes, has_raised}
 use Rattle.history_core.specs.Invariant.{Invariant}
 use Rattle.history_core.proofs.Counts.{known, more, counts_kept, count_stays, other_link, risen_later}
 use Rattle.history_core.proofs.LogCounting.{log_counting, log_counts_open}
@@ -262,7 +262,7 @@ lane_counting (begins {s = s} i v there live) h m = unlaned_counts s h m i v (ha
 lane_counting (loads_flushed {s = s} i v there live) h m = unlaned_counts s h m i v (looked (seen.Flushed s.flushed) (record v { flushed = s.flushed })) there refl refl refl refl
 lane_counting (adds_hand {s = s} i v there live) h m = let x = unlaned_counts s h m i v (ticked v) there refl refl refl refl in record { lanes = record { columns = x.lanes.columns; cells = x.lanes.cells }; reads_rose = x.reads_rose; writes_rose = x.writes_rose }
 lane_counting (loads_hand {s = s} i v there live) h m = unlaned_counts s h m i v (looked (seen.Hand s.hand) v) there refl refl refl refl
-lane_counting (raises {s = s} i v there live synced) h m = let x = unlaned_counts s h m i v (stepped v) there refl refl refl refl in record { lanes = record { columns = x.lanes.columns; cells = x.lanes.cells }; reads_rose = x.reads_rose; writes_rose = x.writes_rose }
+lane_counting (raises {s = s} i v there live synced) h m = let x = unlaned_counts s h m i v (has_raised s.end v) there refl refl refl refl in record { lanes = record { columns = x.lanes.columns; cells = x.lanes.cells }; reads_rose = x.reads_rose; writes_rose = x.writes_rose }
 
 pub counting : {e : Event} {s t : State} → Step e s t → Invariant s → CountsLaw s → CountsLaw t
 counting x h m = record { lanes = lane_counting x h m.lanes; log = log_counting x h m.log }

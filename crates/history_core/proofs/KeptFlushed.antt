@@ -20,7 +20,7 @@ use Rattle.history_core.specs.State.{State}
 use Rattle.history_core.specs.Lanes as lane_kinds
 use Rattle.history_core.specs.Lanes.{swept_by, LaneKind, lane_back, lane_hold_after}
 use Rattle.history_core.specs.Device.{view_logged}
-use Rattle.history_core.specs.Steps.{Event, pool, lane, stepped, ticked, looked, pool_noting, paged, laned, has_loaded, has_read, has_begun, has_written, Writes, Step, pools, lanes, writes, notes, enters, reads, loads_end, begins, loads_flushed, raises, adds_hand, loads_hand, logs}
+use Rattle.history_core.specs.Steps.{Event, pool, lane, stepped, ticked, looked, pool_noting, paged, laned, has_loaded, has_read, has_begun, has_written, Writes, Step, pools, lanes, writes, notes, enters, reads, loads_end, begins, loads_flushed, raises, adds_hand, loads_hand, logs, has_raised}
 use Rattle.history_core.specs.Histories.{LeavesHold, HasKeptFlushed, HoldsKeepFlushed}
 use Rattle.grid.proofs.Lists.{set_here, set_else, at_longer}
 
@@ -96,7 +96,7 @@ step_keeps (loads_flushed {s = s} i u there live) j n v at leaves = set_stays s.
 step_keeps (begins {s = s} i u there live) j n v at leaves = set_stays s.pool.core.views i j n u (has_begun s.end (looked (seen.LogEnd s.end) u)) v there (λ e. refl) at
 step_keeps (adds_hand {s = s} i u there live) j n v at leaves = set_stays s.pool.core.views i j n u (ticked u) v there (λ e. refl) at
 step_keeps (loads_hand {s = s} i u there live) j n v at leaves = set_stays s.pool.core.views i j n u (looked (seen.Hand s.hand) u) v there (λ e. refl) at
-step_keeps (raises {s = s} i u there live synced) j n v at leaves = set_stays s.pool.core.views i j n u (stepped u) v there (λ e. refl) at
+step_keeps (raises {s = s} i u there live synced) j n v at leaves = set_stays s.pool.core.views i j n u (has_raised s.end u) v there (λ e. refl) at
 
 pub holds_keep : (s : State) → HoldsKeepFlushed s
 holds_keep s e t x i n v at leaves = step_keeps x i n v at leaves

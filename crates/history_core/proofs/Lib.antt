@@ -24,6 +24,7 @@ pub mod Staying
 pub mod KeptFlushed
 pub mod Histories
 pub mod Spending
+pub mod Ends
 pub mod Outings
 pub mod PinsStay
 pub mod Promises

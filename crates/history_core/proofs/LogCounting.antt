@@ -28,7 +28,7 @@ use Rattle.history_core.specs.Device as log_kinds
 use Rattle.history_core.specs.Device.{LogKind, LogAllowed, device_after, view_logged, is_failed, HasRisen, Written, DeviceLaw, LogLink, LogTally, holders, appenders, log_weigh, log_shape, log_part}
 use Rattle.history_core.specs.Counts.{all_met, NoneFailedOut, FaultsOut, LogCounted}
 use Rattle.history_core.specs.Invariant.{Invariant, written_of}
-use Rattle.history_core.specs.Steps.{Event, stepped, ticked, looked, pool_noting, paged, laned, has_loaded, has_read, has_begun, has_written, Step, pools, lanes, writes, notes, logs, enters, reads, loads_end, begins, loads_flushed, raises, adds_hand, loads_hand}
+use Rattle.history_core.specs.Steps.{Event, stepped, ticked, looked, pool_noting, paged, laned, has_loaded, has_read, has_begun, has_written, Step, pools, lanes, writes, notes, logs, enters, reads, loads_end, begins, loads_flushed, raises, adds_hand, loads_hand, has_raised}
 use Rattle.history_core.proofs.Device.{risen}
 use Rattle.history_core.proofs.Opening.{one_total}
 use Rattle.grid.specs.Shape.{total}
@@ -207,7 +207,7 @@ log_counting (begins {s = s} i v there live) h m = elsewhere s h i v there m (ha
 log_counting (loads_flushed {s = s} i v there live) h m = elsewhere s h i v there m (looked (seen.Flushed s.flushed) (record v { flushed = s.flushed })) refl refl refl
 log_counting (adds_hand {s = s} i v there live) h m = elsewhere s h i v there m (ticked v) refl refl refl
 log_counting (loads_hand {s = s} i v there live) h m = elsewhere s h i v there m (looked (seen.Hand s.hand) v) refl refl refl
-log_counting (raises {s = s} i v there live synced) h m = elsewhere s h i v there m (stepped v) refl refl refl
+log_counting (raises {s = s} i v there live synced) h m = elsewhere s h i v there m (has_raised s.end v) refl refl refl
 
 pub log_counts_open : (c : Config) (store : Store) → LogCounted store.log_faults (fresh_device c.base store) (first_view c.base c.frames c.partitions c.lanes ∷ [])
 log_counts_open c store = let w : View = first_view c.base c.frames c.partitions c.lanes in record {

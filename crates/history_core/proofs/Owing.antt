@@ -37,7 +37,7 @@ use Rattle.history_core.specs.Lanes.{LaneKind, lane_after}
 use Rattle.history_core.specs.Device.{view_logged}
 use Rattle.history_core.specs.Invariant.{Invariant}
 use Rattle.history_core.specs.Debts.{Taken, IsCurrent, IsSettled, LinkDebt, ViewDebts, Debts, has_passed, has_listed, taken_of, DebtsLaw}
-use Rattle.history_core.specs.Steps.{Event, IsPlain, Writes, Notes, CanEnter, has_loaded, has_begun, new_entry, logged_noting, pool_noting, stepped, ticked, looked, paged, laned, has_read, has_written, Step, pools, lanes, writes, notes, logs, enters, reads, loads_end, begins, loads_flushed, raises, adds_hand, loads_hand, Run, rests, goes}
+use Rattle.history_core.specs.Steps.{Event, IsPlain, Writes, Notes, CanEnter, has_loaded, has_begun, new_entry, logged_noting, pool_noting, stepped, ticked, looked, paged, laned, has_read, has_written, Step, pools, lanes, writes, notes, logs, enters, reads, loads_end, begins, loads_flushed, raises, adds_hand, loads_hand, Run, rests, goes, has_raised}
 use Rattle.history_core.proofs.Beginning.{BegunHere, link_begun}
 use Rattle.history_core.proofs.Blocks.{plain_block, tag_goes, written_is_logged}
 use Rattle.history_core.proofs.Calls.{at_both}
@@ -321,7 +321,7 @@ debts_kept (begins {s = s} i v there live) h d = let w : View = has_begun s.end 
 debts_kept (loads_flushed {s = s} i v there live) h d = aside_owe s h d i v (looked (seen.Flushed s.flushed) (record v { flushed = s.flushed })) there refl refl refl
 debts_kept (adds_hand {s = s} i v there live) h d = aside_owe s h d i v (ticked v) there refl refl refl
 debts_kept (loads_hand {s = s} i v there live) h d = aside_owe s h d i v (looked (seen.Hand s.hand) v) there refl refl refl
-debts_kept (raises {s = s} i v there live synced) h d = aside_owe s h d i v (stepped v) there refl refl refl
+debts_kept (raises {s = s} i v there live synced) h d = aside_owe s h d i v (has_raised s.end v) there refl refl refl
 
 pub debts_after : {es : List Event} {s t : State} → Run es s t → Invariant s → DebtsLaw s → DebtsLaw t
 debts_after rests h d = d

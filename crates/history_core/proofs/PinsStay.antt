@@ -25,7 +25,7 @@ use Rattle.history_core.specs.Device.{view_logged}
 use Rattle.history_core.specs.State.{State}
 use Rattle.history_core.specs.Invariant.{Invariant}
 use Rattle.history_core.specs.Promises.{HasNoUnpin, PinnedTagsStay}
-use Rattle.history_core.specs.Steps.{Event, pool, stepped, ticked, looked, logged_noting, pool_noting, paged, laned, has_loaded, has_begun, has_read, has_written, Step, pools, lanes, writes, notes, logs, enters, reads, loads_end, begins, loads_flushed, raises, adds_hand, loads_hand, Run, rests, goes}
+use Rattle.history_core.specs.Steps.{Event, pool, stepped, ticked, looked, logged_noting, pool_noting, paged, laned, has_loaded, has_begun, has_read, has_written, Step, pools, lanes, writes, notes, logs, enters, reads, loads_end, begins, loads_flushed, raises, adds_hand, loads_hand, Run, rests, goes, has_raised}
 use Rattle.grid.specs.Shape.{put}
 use Rattle.history_core.proofs.Beginning.{BegunHere, link_begun}
 use Rattle.history_core.proofs.Stepping.{relinks, step_keeps, run_keeps}
@@ -58,7 +58,7 @@ step_stays i f (reads {s = s} j g tag p u here live inside a) h out other = (bes
 step_stays i f (loads_end {s = s} j u here live) h out other = (beside s h i f out j u (has_loaded s.end u) here refl, refl)
 step_stays i f (begins {s = s} j u here live) h out other = let w : View = has_begun s.end (looked (seen.LogEnd s.end) u) in let begun : BegunHere u w = record { emptied = refl; number = refl; next = refl; joined = refl; links = refl; partitions = refl } in (beside s h i f out j u w here (ap (λ (x : Link). x.role) (link_begun u w begun f)), refl)
 step_stays i f (loads_flushed {s = s} j u here live) h out other = (beside s h i f out j u (looked (seen.Flushed s.flushed) (record u { flushed = s.flushed })) here refl, refl)
-step_stays i f (raises {s = s} j u here live synced) h out other = (beside s h i f out j u (stepped u) here refl, refl)
+step_stays i f (raises {s = s} j u here live synced) h out other = (beside s h i f out j u (has_raised s.end u) here refl, refl)
 step_stays i f (adds_hand {s = s} j u here live) h out other = (beside s h i f out j u (ticked u) here refl, refl)
 step_stays i f (loads_hand {s = s} j u here live) h out other = (beside s h i f out j u (looked (seen.Hand s.hand) u) here refl, refl)
 

@@ -20,7 +20,7 @@ use Rattle.history_core.specs.Log.{record_size, head_bytes, records, log_bytes}
 use Rattle.history_core.specs.State.{State, last_position}
 use Rattle.history_core.specs.Lanes.{take_lane, leave_lane, lane_out, write_block, CanTakeOut, lane_after}
 use Rattle.history_core.specs.Device.{LogKind, take_log, leave_log, log_out, append, sync_log, log_back, device_after, view_logged}
-use Rattle.history_core.specs.Steps.{CanLog, aside, pool_after, stepped, looked, laned, new_entry, has_written, pools, lanes, writes, notes, logs, enters, loads_flushed, raises, Run, rests, goes}
+use Rattle.history_core.specs.Steps.{CanLog, aside, pool_after, stepped, looked, laned, new_entry, has_written, pools, lanes, writes, notes, logs, enters, loads_flushed, raises, Run, rests, goes, has_raised}
 use Rattle.history_core.specs.Steps as steps
 use Rattle.history_core.specs.Sample.{sample_store, sample_lane, sample_log}
 use Rattle.history_core.specs.Miss.{miss_start, miss, fill}
@@ -46,7 +46,7 @@ entered p s = let tag = (s.pool.core.frame 0).tag in let end = s.end + record_si
 }
 
 abbrev raised : State → State
-raised s = record s { pool = aside s.pool 0 (stepped (view_of s)); flushed = max s.flushed s.end }
+raised s = record s { pool = aside s.pool 0 (has_raised s.end (view_of s)); flushed = max s.flushed s.end }
 
 abbrev loaded : State → State
 loaded s = record s { pool = aside s.pool 0 (looked (seen.Flushed s.flushed) (record (view_of s) { flushed = s.flushed })) }

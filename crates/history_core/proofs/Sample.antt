@@ -9,7 +9,7 @@ use Rattle.history_core.specs.Log.{head_bytes}
 use Rattle.history_core.specs.State.{State}
 use Rattle.history_core.specs.Lanes.{LaneKind, take_lane, leave_lane, lane_out, read_block, lane_back, CanTakeOut, lane_after}
 use Rattle.history_core.specs.Device.{LogKind, take_log, leave_log, log_out, sync_log, log_back, device_after, view_logged}
-use Rattle.history_core.specs.Steps.{aside, stepped, looked, laned, rests, goes, lanes, logs, raises, loads_flushed, loads_end}
+use Rattle.history_core.specs.Steps.{aside, stepped, looked, laned, rests, goes, lanes, logs, raises, loads_flushed, loads_end, has_raised}
 use Rattle.history_core.specs.Sample.{sample_page, sample_start, sample_lane, sample_log, SampleRuns}
 use Rattle.grid.specs.Shape.{put}
 
@@ -50,7 +50,7 @@ abbrev s9 : State
 s9 = at_log (log_back false) s8
 
 abbrev s10 : State
-s10 = record s9 { pool = aside s9.pool 0 (stepped (view_of s9)); flushed = max s9.flushed s9.end }
+s10 = record s9 { pool = aside s9.pool 0 (has_raised s9.end (view_of s9)); flushed = max s9.flushed s9.end }
 
 abbrev s11 : State
 s11 = at_log leave_log s10

@@ -17,7 +17,7 @@ use Rattle.history_core.specs.Device.{view_logged}
 use Rattle.history_core.specs.State.{State, Store, opening}
 use Rattle.history_core.specs.Invariant.{Invariant}
 use Rattle.history_core.specs.Spent.{SpentLaw}
-use Rattle.history_core.specs.Steps.{Event, stepped, ticked, looked, pool_noting, paged, laned, has_loaded, has_begun, has_read, has_written, Step, pools, lanes, writes, notes, logs, enters, reads, loads_end, begins, loads_flushed, raises, adds_hand, loads_hand, Run, rests, goes}
+use Rattle.history_core.specs.Steps.{Event, stepped, ticked, looked, pool_noting, paged, laned, has_loaded, has_begun, has_read, has_written, Step, pools, lanes, writes, notes, logs, enters, reads, loads_end, begins, loads_flushed, raises, adds_hand, loads_hand, Run, rests, goes, has_raised}
 use Rattle.history_core.proofs.Stepping.{step_keeps}
 use Rattle.grid.proofs.Lists.{at_set, at_end, at_only}
 
@@ -53,7 +53,7 @@ spent_kept (reads {s = s} i f tag p v there live inside a) h m = spent_live s.po
 spent_kept (loads_end {s = s} i v there live) h m = spent_live s.pool.core.views m i (has_loaded s.end v) live
 spent_kept (begins {s = s} i v there live) h m = spent_live s.pool.core.views m i (has_begun s.end (looked (seen.LogEnd s.end) v)) live
 spent_kept (loads_flushed {s = s} i v there live) h m = spent_live s.pool.core.views m i (looked (seen.Flushed s.flushed) (record v { flushed = s.flushed })) live
-spent_kept (raises {s = s} i v there live synced) h m = spent_live s.pool.core.views m i (stepped v) live
+spent_kept (raises {s = s} i v there live synced) h m = spent_live s.pool.core.views m i (has_raised s.end v) live
 spent_kept (adds_hand {s = s} i v there live) h m = spent_live s.pool.core.views m i (ticked v) live
 spent_kept (loads_hand {s = s} i v there live) h m = spent_live s.pool.core.views m i (looked (seen.Hand s.hand) v) live
 

@@ -43,7 +43,7 @@ use Rattle.history_core.specs.Lanes as lane_kinds
 use Rattle.history_core.specs.Lanes.{swept_by, LaneKind, LaneAllowed, lane_after, lane_hold_after, LaneLink, lane_shape, lane_part}
 use Rattle.history_core.specs.Homes.{Home, home_of, IsClean, HomeLink, home_shape, home_part, IsUnframed, IsFlushedCell}
 use Rattle.history_core.specs.Invariant.{HistoryLaw, written_of, Invariant}
-use Rattle.history_core.specs.Steps.{Event, IsPlain, PoolAllowed, stepped, ticked, looked, aside, pool_after, pool_noting, CanNoteLaneRead, paged, laned, LaneAlone, CanWrite, Writes, Notes, new_entry, CanEnter, CanRead, has_loaded, has_read, has_begun, has_written, Step, pools, lanes, writes, notes, enters, reads, loads_end, begins, loads_flushed, raises, adds_hand, loads_hand, logs, Run, rests, goes}
+use Rattle.history_core.specs.Steps.{Event, IsPlain, PoolAllowed, stepped, ticked, looked, aside, pool_after, pool_noting, CanNoteLaneRead, paged, laned, LaneAlone, CanWrite, Writes, Notes, new_entry, CanEnter, CanRead, has_loaded, has_read, has_begun, has_written, Step, pools, lanes, writes, notes, enters, reads, loads_end, begins, loads_flushed, raises, adds_hand, loads_hand, logs, Run, rests, goes, has_raised}
 use Rattle.history_core.specs.Device.{LogKind, take_log, leave_log, log_out, append, fail_append, sync_log, fail_sync, log_back, see_down, LogAllowed, device_after, view_logged, log_weigh, log_shape, log_part}
 use Rattle.history_core.proofs.Device.{log_keeps, enter_keeps, end_keeps, synced_all}
 use Rattle.history_core.proofs.Calls.{SameCalls, history_same, history_read, history_written, history_loaded, history_raised}
@@ -514,8 +514,8 @@ raised_state t k durable = let more : t.flushed ≤ max t.flushed t.end = omega 
   flushed_cells = λ tag. let x = k.flushed_cells tag in record { based = x.based; within = (let y = x.within in omega arith); is_cell = x.is_cell };
 }
 
-raises_step : (s : State) → Invariant s → (i : ℕ) (v : View) → get_elem? s.pool.core.views i ≡ some v → v.log.synced ≡ true → Invariant (record s { pool = aside s.pool i (stepped v); flushed = max s.flushed s.end })
-raises_step s h i v there synced = raised_state (record s { pool = aside s.pool i (stepped v) }) (with_view s h i v (stepped v) there (record { backend = record { emptied = refl; number = refl; next = refl; links = refl; partitions = refl }; joined = refl; links = refl; partitions = refl }) refl refl refl (history_same s.known s.origin s.log s.flushed s.pool.core.views h.history i v (stepped v) there (record { calls = refl; front = refl; joined = refl; flushed = refl; emptied = refl; number = refl; kept = refl })))
+raises_step : (s : State) → Invariant s → (i : ℕ) (v : View) → get_elem? s.pool.core.views i ≡ some v → v.log.synced ≡ true → Invariant (record s { pool = aside s.pool i (has_raised s.end v); flushed = max s.flushed s.end })
+raises_step s h i v there synced = raised_state (record s { pool = aside s.pool i (has_raised s.end v) }) (with_view s h i v (has_raised s.end v) there (record { backend = record { emptied = refl; number = refl; next = refl; links = refl; partitions = refl }; joined = refl; links = refl; partitions = refl }) refl refl refl (history_same s.known s.origin s.log s.flushed s.pool.core.views h.history i v (has_raised s.end v) there (record { calls = refl; front = refl; joined = refl; flushed = refl; emptied = refl; number = refl; kept = refl })))
     (synced_all (written_of s) s.device v.saw_down v.log (tallies log_shape s.pool.core.views 0) (h.device.columns 0 (lit< tt)) (h.device.cells i v 0 there (lit< tt)) (λ k. term_le (λ (u : View). log_weigh k u.log) s.pool.core.views i v there) synced)
 
 -- what is durable stays so

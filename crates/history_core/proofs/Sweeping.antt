@@ -28,7 +28,7 @@ use Rattle.history_core.specs.Homes.{IsUnframed}
 use Rattle.history_core.specs.Invariant.{Invariant}
 use Rattle.history_core.specs.Debts.{DebtsLaw}
 use Rattle.history_core.specs.Swept.{IsSwept, has_swept, ViewSwept, SweptLaw}
-use Rattle.history_core.specs.Steps.{Event, new_entry, stepped, ticked, looked, pool_noting, paged, laned, has_loaded, has_begun, has_read, has_written, Step, pools, lanes, writes, notes, logs, enters, reads, loads_end, begins, loads_flushed, raises, adds_hand, loads_hand}
+use Rattle.history_core.specs.Steps.{Event, new_entry, stepped, ticked, looked, pool_noting, paged, laned, has_loaded, has_begun, has_read, has_written, Step, pools, lanes, writes, notes, logs, enters, reads, loads_end, begins, loads_flushed, raises, adds_hand, loads_hand, has_raised}
 use Rattle.history_core.proofs.Calls.{at_both}
 use Rattle.history_core.proofs.Histories.{framed}
 use Rattle.history_core.proofs.Outer.{lane_new}
@@ -240,7 +240,7 @@ swept_kept {t = t} (reads {s = s} i f tag p v there live inside a) h d m = aside
 swept_kept {t = t} (loads_end {s = s} i v there live) h d m = aside_swept s h d m i v (has_loaded s.end v) t there refl refl refl (plain s h d m t refl refl refl refl) m.below
 swept_kept {t = t} (begins {s = s} i v there live) h d m = aside_swept s h d m i v (has_begun s.end (looked (seen.LogEnd s.end) v)) t there refl refl refl (plain s h d m t refl refl refl refl) m.below
 swept_kept {t = t} (loads_flushed {s = s} i v there live) h d m = aside_swept s h d m i v (looked (seen.Flushed s.flushed) (record v { flushed = s.flushed })) t there refl refl refl (plain s h d m t refl refl refl refl) m.below
-swept_kept {t = t} (raises {s = s} i v there live synced) h d m = aside_swept s h d m i v (stepped v) t there refl refl refl (plain s h d m t refl refl refl refl) m.below
+swept_kept {t = t} (raises {s = s} i v there live synced) h d m = aside_swept s h d m i v (has_raised s.end v) t there refl refl refl (plain s h d m t refl refl refl refl) m.below
 swept_kept {t = t} (adds_hand {s = s} i v there live) h d m = aside_swept s h d m i v (ticked v) t there refl refl refl (plain s h d m t refl refl refl refl) m.below
 swept_kept {t = t} (loads_hand {s = s} i v there live) h d m = aside_swept s h d m i v (looked (seen.Hand s.hand) v) t there refl refl refl (plain s h d m t refl refl refl refl) m.below
 

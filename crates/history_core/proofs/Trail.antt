@@ -1,7 +1,9 @@
--- Each step keeps the trail of the state words, and the views fix these words.
-use Rattle.std.proofs.Common.{◌≡◌, ◌≢◌, ◌⊎◌, inl, inr, ℕ, ◌+◌, ◌%◌, Bool, true, false, List, [], ◌∷◌, ◌++◌, length, set, cond, eqb, eq-eqb, ne_eqb, sym, refl, ap, ◌∙◌, subst, ⊎_elim, arith}
+-- Each step keeps what the views fix of the shared words.
+use Rattle.std.proofs.Common.{◌≡◌, ◌≢◌, ◌⊎◌, inl, inr, ℕ, ◌+◌, ◌%◌, ◌<◌, ◌≤◌, Bool, true, false, List, [], ◌∷◌, ◌++◌, length, set, cond, eqb, eq-eqb, ne_eqb, sym, refl, ap, ◌∙◌, subst, ⊎_elim, arith}
+use Rattle.std.specs.Prelude.{max}
+use Rattle.std.proofs.lemmas.Bool.{cases_lt}
 use mathlib.Core.Logic.{dite}
-use mathlib.Core.Option.{some}
+use mathlib.Core.Option.{some, some-injective}
 use native.Mathlib.Decide.{ℕ_discrete}
 use lib.ListN.{get_elem?}
 use Rattle.state_word.specs.declared.word.StateWord.{StateWord}
@@ -23,10 +25,11 @@ use Rattle.history_core.specs.Log.{record_size}
 use Rattle.history_core.specs.Lanes.{lane_back}
 use Rattle.history_core.specs.Device.{view_logged}
 use Rattle.history_core.specs.State.{State, Store, next_hand, opening}
-use Rattle.history_core.specs.Trail.{sum_found, sum_left, Follows, TrailLaw, HasSameWords, ListedIsMade}
-use Rattle.history_core.specs.Steps.{Event, stepped, ticked, looked, pool_noting, paged, laned, has_loaded, has_begun, has_read, has_written, Step, pools, lanes, writes, notes, logs, enters, reads, loads_end, begins, loads_flushed, raises, adds_hand, loads_hand}
+use Rattle.history_core.specs.Invariant.{Invariant}
+use Rattle.history_core.specs.Trail.{sum_found, sum_left, Follows, IsHighest, TrailLaw, HasSameWords, ListedIsMade}
+use Rattle.history_core.specs.Steps.{Event, stepped, ticked, looked, pool_noting, paged, laned, has_loaded, has_begun, has_read, has_written, Step, pools, lanes, writes, notes, logs, enters, reads, loads_end, begins, loads_flushed, raises, adds_hand, loads_hand, has_raised}
 use Rattle.grid.specs.Shape.{put, total}
-use Rattle.grid.proofs.Lists.{put_at, put_else, set_else}
+use Rattle.grid.proofs.Lists.{at_set, at_end, at_only, at_longer, put_at, put_else, set_here, set_else}
 use Rattle.grid.proofs.Sums.{total-set, total-snoc}
 
 -- sums over two lists, one behind the other
@@ -159,7 +162,7 @@ words_kept (reads {s = s} i f tag p v there live inside a) m = rests_aside s.poo
 words_kept (loads_end {s = s} i v there live) m = rests_aside s.pool.core.frame s.pool.core.views m i v (has_loaded s.end v) there refl
 words_kept (begins {s = s} i v there live) m = rests_aside s.pool.core.frame s.pool.core.views m i v (has_begun s.end (looked (seen.LogEnd s.end) v)) there refl
 words_kept (loads_flushed {s = s} i v there live) m = rests_aside s.pool.core.frame s.pool.core.views m i v (looked (seen.Flushed s.flushed) (record v { flushed = s.flushed })) there refl
-words_kept (raises {s = s} i v there live synced) m = rests_aside s.pool.core.frame s.pool.core.views m i v (stepped v) there refl
+words_kept (raises {s = s} i v there live synced) m = rests_aside s.pool.core.frame s.pool.core.views m i v (has_raised s.end v) there refl
 words_kept (adds_hand {s = s} i v there live) m = rests_aside s.pool.core.frame s.pool.core.views m i v (ticked v) there refl
 words_kept (loads_hand {s = s} i v there live) m = rests_aside s.pool.core.frame s.pool.core.views m i v (looked (seen.Hand s.hand) v) there refl
 
@@ -195,16 +198,76 @@ hand_kept (reads {s = s} i f tag p v there live inside a) m = m ∙ ap (λ (n : 
 hand_kept (loads_end {s = s} i v there live) m = m ∙ ap (λ (n : ℕ). n % 18446744073709551616) (sym (same_ticks s.pool.core.views i v (has_loaded s.end v) there refl))
 hand_kept (begins {s = s} i v there live) m = m ∙ ap (λ (n : ℕ). n % 18446744073709551616) (sym (same_ticks s.pool.core.views i v (has_begun s.end (looked (seen.LogEnd s.end) v)) there refl))
 hand_kept (loads_flushed {s = s} i v there live) m = m ∙ ap (λ (n : ℕ). n % 18446744073709551616) (sym (same_ticks s.pool.core.views i v (looked (seen.Flushed s.flushed) (record v { flushed = s.flushed })) there refl))
-hand_kept (raises {s = s} i v there live synced) m = m ∙ ap (λ (n : ℕ). n % 18446744073709551616) (sym (same_ticks s.pool.core.views i v (stepped v) there refl))
+hand_kept (raises {s = s} i v there live synced) m = m ∙ ap (λ (n : ℕ). n % 18446744073709551616) (sym (same_ticks s.pool.core.views i v (has_raised s.end v) there refl))
 hand_kept (loads_hand {s = s} i v there live) m = m ∙ ap (λ (n : ℕ). n % 18446744073709551616) (sym (same_ticks s.pool.core.views i v (looked (seen.Hand s.hand) v) there refl))
 hand_kept (adds_hand {s = s} i v there live) m = ap next_hand m ∙ hand_on (Ticks s.pool.core.views) ∙ ap (λ (n : ℕ). n % 18446744073709551616) (let a = total-set (λ (y : View). y.ticks) s.pool.core.views i v (ticked v) there in omega arith)
 
-pub trail_kept : {e : Event} {s t : State} → Step e s t → TrailLaw s → TrailLaw t
-trail_kept x m = record { words = words_kept x m.words; hand = hand_kept x m.hand }
+-- where one view raises the flushed position, or not
+pub highest_set : (flushed : ℕ) (views : List View) → IsHighest flushed views → (i : ℕ) (v w : View) → get_elem? views i ≡ some v → v.raised_to ≤ w.raised_to → IsHighest (max flushed w.raised_to) (set views i w)
+highest_set flushed views h i v w there more = record {
+  above = λ j u at. ⊎_elim (λ (y : (j ≡ i) × (w ≡ u)). let e = ap (λ (x : View). x.raised_to) y.1 in omega arith) (λ (y : (j ≢ i) × (get_elem? views j ≡ some u)). let e = h.above j u y.1 in omega arith) (at_set views i j w u at);
+  reached = ⊎_elim (λ (low : w.raised_to < flushed). kept low) (λ (high : flushed ≤ w.raised_to). (i, w, set_here views i v w there, omega arith)) (cases_lt w.raised_to flushed);
+}
+  where
+    kept : w.raised_to < flushed → (j : ℕ) × (u : View) × (get_elem? (set views i w) j ≡ some u) × (u.raised_to ≡ max flushed w.raised_to)
+    kept low = let j = h.reached.0 in let u = h.reached.1 in dite (ℕ_discrete j i)
+        (λ (e : j ≡ i). let same : v.raised_to ≡ u.raised_to = ap (λ (x : View). x.raised_to) (some-injective v u (sym there ∙ ap (get_elem? views) (sym e) ∙ h.reached.2)) in let is = h.reached.3 in absurd (omega arith))
+        (λ (o : j ≢ i). (j, u, set_else views i j w o ∙ h.reached.2, (let is = h.reached.3 in omega arith)))
+
+-- where it raised it nowhere
+highest_same : (flushed : ℕ) (views : List View) → IsHighest flushed views → (i : ℕ) (v w : View) → get_elem? views i ≡ some v → w.raised_to ≡ v.raised_to → IsHighest flushed (set views i w)
+highest_same flushed views h i v w there same = subst (λ (n : ℕ). IsHighest n (set views i w)) (let x = h.above i v there in omega arith) (highest_set flushed views h i v w there (omega arith))
+
+-- where what view j raised is another view's now
+highest_taken : (flushed : ℕ) (views : List View) → IsHighest flushed views → (i j : ℕ) (w u : View) → i ≢ j → get_elem? views i ≡ some w → get_elem? views j ≡ some u → u.raised_to ≤ w.raised_to → IsHighest flushed (set views j emptied_view)
+highest_taken flushed views h i j w u other there here less = record {
+  above = λ k x at. ⊎_elim (λ (y : (k ≡ j) × (emptied_view ≡ x)). let e : 0 ≡ x.raised_to = ap (λ (z : View). z.raised_to) y.1 in omega arith) (λ (y : (k ≢ j) × (get_elem? views k ≡ some x)). h.above k x y.1) (at_set views j k emptied_view x at);
+  reached = let k = h.reached.0 in let x = h.reached.1 in let is = h.reached.3 in dite (ℕ_discrete k j)
+      (λ (e : k ≡ j). let same : u.raised_to ≡ x.raised_to = ap (λ (z : View). z.raised_to) (some-injective u x (sym here ∙ ap (get_elem? views) (sym e) ∙ h.reached.2)) in let top = h.above i w there in (i, w, set_else views j i emptied_view other ∙ there, omega arith))
+      (λ (o : k ≢ j). (k, x, set_else views j k emptied_view o ∙ h.reached.2, is));
+}
+
+-- only one position is the largest
+highest_is : (a b : ℕ) (views : List View) → IsHighest a views → IsHighest b views → a ≡ b
+highest_is a b views h k = let x = h.above k.reached.0 k.reached.1 k.reached.2 in let y = k.above h.reached.0 h.reached.1 h.reached.2 in let e = h.reached.3 in let f = k.reached.3 in omega arith
+
+pools_highest : (s : State) → s.pool.core.base ≤ s.flushed → IsHighest s.flushed s.pool.core.views → {e : pin_steps.Event} {core' : pins.State} → pin_steps.Step e s.pool.core core' → IsHighest s.flushed core'.views
+pools_highest s from m (pin_steps.touches i f k v there live inside a around) = highest_same s.flushed s.pool.core.views m i v (pin_kinds.view_after k s.pool.core.partition_of f (s.pool.core.frame f) (link v f) v) there refl
+pools_highest s from m (pin_steps.turns i p k v there live below a) = highest_same s.flushed s.pool.core.views m i v (view_turned k p (hold v p) v) there refl
+pools_highest s from m (pin_steps.splits v there room) = let w : View = record v { next = v.next + 1 } in let b : View = new_view v.next s.pool.core.base (length v.links) (length v.partitions) (length v.lanes) in let x = highest_same s.flushed s.pool.core.views m 0 v w there refl in record {
+  above = λ j u at. ⊎_elim (λ (y : get_elem? (set s.pool.core.views 0 w) j ≡ some u). x.above j u y) (λ (y : (b ≡ u) × (j ≡ length (set s.pool.core.views 0 w))). let e : s.pool.core.base ≡ u.raised_to = ap (λ (z : View). z.raised_to) y.0 in omega arith) (at_end (set s.pool.core.views 0 w) b u j at);
+  reached = (x.reached.0, x.reached.1, at_longer (set s.pool.core.views 0 w) (b ∷ []) x.reached.0 x.reached.1 x.reached.2, x.reached.3);
+}
+pools_highest s from m (pin_steps.joins j v u there other here live free) = let w : View = joined_view v u in let vs : List View = set s.pool.core.views 0 w in
+    let x : IsHighest s.flushed vs = subst (λ (n : ℕ). IsHighest n vs) (let p = m.above 0 v there in let q = m.above j u here in omega arith) (highest_set s.flushed s.pool.core.views m 0 v w there (omega arith)) in
+    highest_taken s.flushed vs x 0 j w u (λ e. other (sym e)) (set_here s.pool.core.views 0 v w there) (set_else s.pool.core.views 0 j w other ∙ here) (omega arith)
+
+highest_kept : {e : Event} {s t : State} → Step e s t → Invariant s → IsHighest s.flushed s.pool.core.views → IsHighest t.flushed t.pool.core.views
+highest_kept (pools {s = s} (page_steps.cores x) a) h m = pools_highest s (let p = h.based in let q = h.flushed_from in omega arith) m x
+highest_kept (pools {s = s} (page_steps.touches i f k v there live inside a around) plain) h m = highest_same s.flushed s.pool.core.views m i v (paged k s.pool f v) there refl
+highest_kept (lanes {s = s} i q k v there live low a alone) h m = highest_same s.flushed s.pool.core.views m i v (stepped (laned k q v v)) there refl
+highest_kept (writes {s = s} i q f k v there live low inside a x) h m = highest_same s.flushed s.pool.core.views m i v (laned k q v (paged begin_write s.pool f v)) there refl
+highest_kept (notes {s = s} i q f noted k v there live low inside a x) h m = highest_same s.flushed s.pool.core.views m i v (laned (lane_back noted) q v (paged k (pool_noting k s f) f v)) there refl
+highest_kept (logs {s = s} i k v there live a record_is) h m = highest_same s.flushed s.pool.core.views m i v (view_logged k v) there refl
+highest_kept (enters {s = s} i f p v there live inside x) h m = highest_same s.flushed s.pool.core.views m i v (has_written (s.end + record_size) (s.pool.core.frame f).tag p (paged (make_entry p) s.pool f v)) there refl
+highest_kept (reads {s = s} i f tag p v there live inside a) h m = highest_same s.flushed s.pool.core.views m i v (looked (seen.LogEnd s.end) (has_read s.end tag p v)) there refl
+highest_kept (loads_end {s = s} i v there live) h m = highest_same s.flushed s.pool.core.views m i v (has_loaded s.end v) there refl
+highest_kept (begins {s = s} i v there live) h m = highest_same s.flushed s.pool.core.views m i v (has_begun s.end (looked (seen.LogEnd s.end) v)) there refl
+highest_kept (loads_flushed {s = s} i v there live) h m = highest_same s.flushed s.pool.core.views m i v (looked (seen.Flushed s.flushed) (record v { flushed = s.flushed })) there refl
+highest_kept (raises {s = s} i v there live synced) h m = let w : View = has_raised s.end v in subst (λ (n : ℕ). IsHighest n (set s.pool.core.views i w)) (let x = m.above i v there in omega arith) (highest_set s.flushed s.pool.core.views m i v w there (omega arith))
+highest_kept (adds_hand {s = s} i v there live) h m = highest_same s.flushed s.pool.core.views m i v (ticked v) there refl
+highest_kept (loads_hand {s = s} i v there live) h m = highest_same s.flushed s.pool.core.views m i v (looked (seen.Hand s.hand) v) there refl
+
+pub trail_kept : {e : Event} {s t : State} → Step e s t → Invariant s → TrailLaw s → TrailLaw t
+trail_kept x h m = record { words = words_kept x m.words; hand = hand_kept x m.hand; flushed = highest_kept x h m.flushed }
 
 pub trail_open : (c : Config) (store : Store) (page : Page) → TrailLaw (opening c store page)
 unfolding total sum_left sum_found
-trail_open c store page = record { words = λ g f. omega arith; hand = refl }
+trail_open c store page = let w : View = first_view c.base c.frames c.partitions c.lanes in record {
+  words = λ g f. omega arith;
+  hand = refl;
+  flushed = record { above = λ i v there. let e : c.base ≡ v.raised_to = ap (λ (x : View). x.raised_to) (at_only w v i there).0 in omega arith; reached = (0, w, refl, refl) };
+}
 
 -- two words that weigh the same by each measure are one
 weighed : (a b : Bool) → flag_weight a ≡ flag_weight b → a ≡ b
@@ -239,6 +302,7 @@ pub words_same : (s t : State) → TrailLaw s → TrailLaw t → s.pool.core.vie
 words_same s t a b same = record {
   words = words_fixed t.pool.core.frame s.pool.core.frame t.pool.core.views b.words (subst (Follows s.pool.core.frame) same a.words);
   hand = b.hand ∙ ap (λ (l : List View). Ticks l % 18446744073709551616) (sym same) ∙ sym a.hand;
+  flushed = highest_is t.flushed s.flushed t.pool.core.views b.flushed (subst (IsHighest s.flushed) same a.flushed);
 }
 
 pub listed_made : (s t : State) → TrailLaw s → TrailLaw t → ListedIsMade s t
@@ -247,4 +311,5 @@ listed_made s t a b i v w there views = let words : Follows t.pool.core.frame (s
   changed = λ f c listed at was. next_word s.pool.core.frame t.pool.core.frame s.pool.core.views i f v w c.found c.left a.words words there (listed ∙ ap (λ (g : ℕ). v.changes ++ record c { frame = g } ∷ []) at) was;
   unmoved = λ same. hand ∙ ap (λ (n : ℕ). n % 18446744073709551616) (same_ticks s.pool.core.views i v w there same) ∙ sym a.hand;
   moved = λ more. next_tick s.hand t.hand s.pool.core.views i v w a.hand hand there more;
+  raised = λ more. highest_is t.flushed (max s.flushed w.raised_to) (set s.pool.core.views i w) (subst (IsHighest t.flushed) views b.flushed) (highest_set s.flushed s.pool.core.views a.flushed i v w there more);
 }

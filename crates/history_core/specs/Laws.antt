@@ -1,4 +1,4 @@
--- The whole law: what holds in every state that steps lead to.
+-- The whole law: what holds in every state that events lead to.
 use Rattle.history_core.specs.State.{State}
 use Rattle.history_core.specs.Invariant.{Invariant}
 use Rattle.history_core.specs.Causes.{MarksLaw}
@@ -7,12 +7,13 @@ use Rattle.history_core.specs.Debts.{DebtsLaw}
 use Rattle.history_core.specs.Rest.{RestLaw}
 use Rattle.history_core.specs.Outings.{OutingsLaw}
 use Rattle.history_core.specs.Spent.{SpentLaw}
+use Rattle.history_core.specs.Ends.{EndsLaw}
 use Rattle.history_core.specs.Trail.{TrailLaw}
 use Rattle.history_core.specs.Histories.{IsReached}
 use Rattle.history_core.specs.Swept.{SweptLaw}
 
 pub record Laws (s : State) : Type 0 where
-  -- events lead to it, from the start of a buffer pool; what follows is what holds of each such state
+  -- some list of events leads to it, from the start of a buffer pool
   pub reached : IsReached s
   -- of pins, headers, tags, maps, content locks, pages, lanes, the log and the calls
   pub invariant : Invariant s
@@ -28,7 +29,9 @@ pub record Laws (s : State) : Type 0 where
   pub outings : OutingsLaw s
   -- of what is left of backends that were joined into the first
   pub spent : SpentLaw s
-  -- of the state words, which the views fix
+  -- of the log ends that backends have seen
+  pub ends : EndsLaw s
+  -- of the state words, the hand and the flushed position, which the views fix
   pub trail : TrailLaw s
   -- of what backends have made durable in the lanes
   pub swept : SweptLaw s

@@ -14,6 +14,7 @@ pub mod Sample
 pub mod Miss
 pub mod Put
 pub mod Spent
+pub mod Ends
 pub mod Outings
 pub mod Promises
 pub mod Trail

@@ -102,6 +102,10 @@ abbrev pub place_of : Call → ℕ
 place_of (Read backend tag page place) = place
 place_of (Write backend tag page place) = place
 
+abbrev pub tag_of : Call → ℕ
+tag_of (Read backend tag page place) = tag
+tag_of (Write backend tag page place) = tag
+
 abbrev pub backend_of : Call → ℕ
 backend_of (Read backend tag page place) = backend
 backend_of (Write backend tag page place) = backend

@@ -204,11 +204,11 @@ abbrev pub end_loaded : ℕ → LogHold → LogHold
 end_loaded end h = record h { end = if h.held then Some end else h.end }
 
 abbrev pub has_loaded : ℕ → View → View
-has_loaded end v = looked (seen.LogEnd end) (record v { log = end_loaded end v.log })
+has_loaded end v = looked (seen.LogEnd end) (record v { log = end_loaded end v.log; end_seen = max v.end_seen end })
 
 -- a view that has written the page p of the block of a tag; its record is part of the log now
 abbrev pub has_written : ℕ → ℕ → Page → View → View
-has_written end tag p v = record v { calls = v.calls ++ Write v.number tag p end ∷ []; front = end; log = record v.log { appended = None; end = Some end } }
+has_written end tag p v = record v { calls = v.calls ++ Write v.number tag p end ∷ []; front = end; end_seen = max v.end_seen end; log = record v.log { appended = None; end = Some end } }
 
 -- a checkpoint that begins has passed no frame, and listed none
 abbrev pub unmarked : Link → Link
@@ -216,11 +216,15 @@ unmarked l = record l { passed = false; listed = false }
 
 -- a view whose checkpoint begins where the log ends at `end`
 abbrev pub has_begun : ℕ → View → View
-has_begun end v = record v { links = map unmarked v.links; upto = end }
+has_begun end v = record v { links = map unmarked v.links; upto = end; end_seen = max v.end_seen end }
 
 -- a view that has read it
 abbrev pub has_read : ℕ → ℕ → Page → View → View
-has_read end tag p v = record v { calls = v.calls ++ Read v.number tag p end ∷ []; front = end; place_loads = v.place_loads + 1 }
+has_read end tag p v = record v { calls = v.calls ++ Read v.number tag p end ∷ []; front = end; end_seen = max v.end_seen end; place_loads = v.place_loads + 1 }
+
+-- a view that has raised the flushed position to the log's end
+abbrev pub has_raised : ℕ → View → View
+has_raised end v = record v { steps = v.steps + 1; raised_to = max v.raised_to end }
 
 pub data Step : Event → State → State → Type 0 where
   -- a step of `page_core`
@@ -251,7 +255,7 @@ pub data Step : Event → State → State → Type 0 where
   begins : {s : State} (i : ℕ) (v : View) → get_elem? s.pool.core.views i ≡ some v → v.emptied ≡ false → Step (begin_checkpoint i) s (record s { pool = aside s.pool i (has_begun s.end (looked (seen.LogEnd s.end) v)) })
   loads_flushed : {s : State} (i : ℕ) (v : View) → get_elem? s.pool.core.views i ≡ some v → v.emptied ≡ false → Step (load_flushed i) s (record s { pool = aside s.pool i (looked (seen.Flushed s.flushed) (record v { flushed = s.flushed })) })
   -- under the log's latch, after a sync
-  raises : {s : State} (i : ℕ) (v : View) → get_elem? s.pool.core.views i ≡ some v → v.emptied ≡ false → v.log.synced ≡ true → Step (raise_flushed i) s (record s { pool = aside s.pool i (stepped v); flushed = max s.flushed s.end })
+  raises : {s : State} (i : ℕ) (v : View) → get_elem? s.pool.core.views i ≡ some v → v.emptied ≡ false → v.log.synced ≡ true → Step (raise_flushed i) s (record s { pool = aside s.pool i (has_raised s.end v); flushed = max s.flushed s.end })
   adds_hand : {s : State} (i : ℕ) (v : View) → get_elem? s.pool.core.views i ≡ some v → v.emptied ≡ false → Step (add_hand i) s (record s { pool = aside s.pool i (ticked v); hand = next_hand s.hand })
   loads_hand : {s : State} (i : ℕ) (v : View) → get_elem? s.pool.core.views i ≡ some v → v.emptied ≡ false → Step (load_hand i) s (record s { pool = aside s.pool i (looked (seen.Hand s.hand) v) })
 

@@ -1,5 +1,5 @@
--- The changes of the state words that the views list follow on one another, from the word at the start to the word that the frame has.
-use Rattle.std.specs.Prelude.{◌≡◌, ℕ, ◌+◌, ◌%◌, List, [], ◌∷◌, ◌++◌, nat_eq, cond, slice_set}
+-- What the views fix of the shared words. The changes of state words that they list follow on one another, from the word at the start to the word that the frame has; they count the moves of the clock's hand; and they keep to where they raised the flushed position.
+use Rattle.std.specs.Prelude.{◌≡◌, ℕ, ◌+◌, ◌%◌, ◌≤◌, List, [], ◌∷◌, ◌++◌, max, nat_eq, cond, slice_set}
 use mathlib.Core.Option.{some}
 use lib.ListN.{get_elem?}
 use Rattle.state_word.specs.declared.word.StateWord.{StateWord}
@@ -9,7 +9,7 @@ use Rattle.pin_core.specs.State.{Frame, zero_word}
 use Rattle.history_core.specs.State.{State, next_hand}
 use Rattle.grid.specs.Shape.{total}
 
--- the sum of g over the words of the frame f that were found, and that were left
+-- a measure g of words, summed over those that the changes of the frame f found, and that they left
 unfoldable pub sum_found : (StateWord → ℕ) → ℕ → List WordChange → ℕ
 sum_found g f [] = 0
 sum_found g f (c ∷ cs) = cond (nat_eq f c.frame) (g c.found) 0 + sum_found g f cs
@@ -18,21 +18,31 @@ unfoldable pub sum_left : (StateWord → ℕ) → ℕ → List WordChange → �
 sum_left g f [] = 0
 sum_left g f (c ∷ cs) = cond (nat_eq f c.frame) (g c.left) 0 + sum_left g f cs
 
--- as often as a word was left, it was found, but for the first one and the last one: so the views say which word each frame has
+-- for each frame, each word was left as often as it was found, but that the first one was not left by a change, and the last one, which the frame has, not found: by every measure of words the sums agree, so that the views fix the word
 abbrev pub Follows : (ℕ → Frame) → List View → Type 0
 Follows frame views = (g : StateWord → ℕ) (f : ℕ) → g zero_word + total (λ (v : View). sum_left g f v.changes) views ≡ total (λ (v : View). sum_found g f v.changes) views + g (frame f).word
 
--- The hand stands where its moves have brought it from 0
-pub record TrailLaw (s : State) : Type 0 where
-  pub words : Follows s.pool.core.frame s.pool.core.views
-  pub hand : s.hand ≡ total (λ (v : View). v.ticks) s.pool.core.views % 18446744073709551616
+-- The position is the largest to which a view raised the flushed position; a view that raised it nowhere keeps the log's base
+pub record IsHighest (flushed : ℕ) (views : List View) : Type 0 where
+  pub above : (i : ℕ) (v : View) → get_elem? views i ≡ some v → v.raised_to ≤ flushed
+  pub reached : (i : ℕ) × (v : View) × (get_elem? views i ≡ some v) × (v.raised_to ≡ flushed)
 
--- The frames of two states have the same state words, and the hand stands at the same place
+-- What the views fix
+pub record TrailLaw (s : State) : Type 0 where
+  -- each frame's state word
+  pub words : Follows s.pool.core.frame s.pool.core.views
+  -- where the hand stands: its moves have brought it there from 0, and from its last value each brings it to 0
+  pub hand : s.hand ≡ total (λ (v : View). v.ticks) s.pool.core.views % 18446744073709551616
+  -- the flushed position
+  pub flushed : IsHighest s.flushed s.pool.core.views
+
+-- The frames of two states have the same state words, the hand stands at the same place, and the flushed position is the same
 pub record HasSameWords (s t : State) : Type 0 where
   pub words : (f : ℕ) → (t.pool.core.frame f).word ≡ (s.pool.core.frame f).word
   pub hand : t.hand ≡ s.hand
+  pub flushed : t.flushed ≡ s.flushed
 
--- What one view, which was v in the state s and is w in the state t, lists more has been made, and nothing else
+-- What one view, which was v in the state s and is w in the state t, lists and counts since has been made, and nothing else
 pub record MakesListed (s t : State) (v w : View) : Type 0 where
   -- where it lists no change more each state word is as it was
   pub still : w.changes ≡ v.changes → (f : ℕ) → (t.pool.core.frame f).word ≡ (s.pool.core.frame f).word
@@ -41,6 +51,8 @@ pub record MakesListed (s t : State) (v w : View) : Type 0 where
   -- where it counts no move of the hand more, or one more
   pub unmoved : w.ticks ≡ v.ticks → t.hand ≡ s.hand
   pub moved : w.ticks ≡ v.ticks + 1 → t.hand ≡ next_hand s.hand
+  -- the flushed position is the larger of what it was and of where the view has raised it to
+  pub raised : v.raised_to ≤ w.raised_to → t.flushed ≡ max s.flushed w.raised_to
 
 -- one view alone differs between the two states
 abbrev pub ListedIsMade : State → State → Type 0

@@ -9,6 +9,7 @@ ghost use Rattle.pin_core.specs.Schedules.{TagsAreUnique, PinsRemember};
 ghost use Rattle.page_core.specs.Histories.{CleanupIsAlone};
 ghost use Rattle.history_core.specs.State.{CanStore, State, Store, opening};
 ghost use Rattle.history_core.specs.Laws.{Laws};
+ghost use Rattle.history_core.specs.Ends.{EndsLaw};
 ghost use Rattle.history_core.specs.Lasting.{LogGrows, OpeningStays};
 ghost use Rattle.history_core.specs.Promises.{CheckpointsStore, GrantsAreAlone, PinnedTagsStay, SweepsStore};
 ghost use Rattle.history_core.specs.Trail.{HasSameWords, ListedIsMade};
@@ -51,6 +52,7 @@ pub fn all_histories()
     ensures noted_done { (s : State) → Laws s → NotedWritesAreDone s }
     ensures clean_stored { (s : State) → Laws s → CleanBlocksAreStored s }
     ensures words { (s : State) → Laws s → LogWords s }
+    ensures ends { (s : State) → Laws s → EndsLaw s }
     ensures durable { (s : State) → Laws s → EntriesAreDurable s }
     ensures device_holds { (s : State) → Laws s → DeviceHoldsLog s }
     ensures held { (s : State) → Laws s → LanesAreHeld s }
@@ -93,12 +95,12 @@ pub fn sweeps_store()
     ensures { (s : State) → Laws s → SweepsStore s }
 {}
 
-/// What the backends list of the changes of the state words, and count of the moves of the clock's hand, fixes each frame's state word and where the hand stands.
+/// What the views list of the changes of state words, count of the moves of the clock's hand, and keep of where they raised the flushed position fixes each frame's state word, where the hand stands, and the flushed position.
 pub fn lists_fix_words()
     ensures { (s : State) (t : State) → Laws s → Laws t → s.pool.core.views ≡ t.pool.core.views → HasSameWords s t }
 {}
 
-/// A change of a state word that a backend lists is made, and one that none lists is not, and so with the moves of the clock's hand.
+/// A change of a state word that a view lists is made, and none that no view lists; and so with the moves of the clock's hand, and with where the flushed position was raised to.
 pub fn listed_changes_are_made()
     ensures { (s : State) (t : State) → Laws s → Laws t → ListedIsMade s t }
 {}

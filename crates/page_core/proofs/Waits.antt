@@ -81,7 +81,7 @@ module _ (views : List View) (h : WaitsLaw views) where
   waits_emptied j = waits_put j emptied_view (waits_nowhere emptied_view (λ f. ap (λ (x : Link). x.waits) (link_new 0 0 0 0 0 f)))
 
 -- a sum that isn't 0 has a term that isn't 0
-some_term : {A : Type 0} (g : A → ℕ) (l : List A) → 0 < total g l → (j : ℕ) × (a : A) × (get_elem? l j ≡ some a) × (0 < g a)
+pub some_term : {A : Type 0} (g : A → ℕ) (l : List A) → 0 < total g l → (j : ℕ) × (a : A) × (get_elem? l j ≡ some a) × (0 < g a)
 unfolding total
 some_term g [] e = absurd (omega arith)
 some_term g (x ∷ xs) e = dite (ℕ_discrete (g x) 0) (λ z. let r = some_term g xs (omega arith) in (suc r.0, r.1, r.2, r.3)) (λ n. (0, x, refl, omega arith))

@@ -277,6 +277,12 @@ abbrev pub write_noted : Bool → LastWrite
 write_noted true = Done
 write_noted false = Failed
 
+-- who ends a good read has set BM_VALID, so its pin has seen it
+abbrev pub saw_valid : IoEnd → Bool → Bool
+saw_valid ReadOk saw = true
+saw_valid WriteOk saw = saw
+saw_valid Bad saw = saw
+
 -- What a kind makes of what the view has there
 abbrev pub link_after : Kind → Block → Frame → Link → Link
 link_after load_content b fr l = l
@@ -298,7 +304,7 @@ link_after (make_entry p) b fr l = record l { unapplied = true; image = Some p; 
 link_after start_input b fr l = record l { header = None; io = Input; read = None; read_is_home = false }
 link_after start_output b fr l = record l { header = None; io = Output }
 link_after clear_just_dirtied b fr l = record l { header = None }
-link_after (end_io end) b fr l = record l { header = None; io = Quiet; read = None; read_is_home = false; last_write = Unwritten }
+link_after (end_io end) b fr l = record l { seen_valid = saw_valid end l.seen_valid; header = None; io = Quiet; read = None; read_is_home = false; last_write = Unwritten }
 link_after (set_waiter number) b fr l = record l { header = None; waits = Some number }
 link_after clear_waiter b fr l = record l { header = None }
 link_after need_checkpoint b fr l = record l { header = None; passed = true; listed = true }

@@ -139,6 +139,8 @@ new_view number base frames partitions lanes = record {
   lanes = replicate lanes no_lane;
   log = no_log;
   flushed = base;
+  raised_to = base;
+  end_seen = base;
   calls = [];
   front = base;
   place_loads = 0;
@@ -175,10 +177,12 @@ kept_checkpoint u = record { number = u.number; upto = u.upto; passed = map (λ 
 abbrev pub joined_view : View → View → View
 joined_view v u = record v {
   joined = v.joined + 1;
+  raised_to = max v.raised_to u.raised_to;
+  end_seen = max v.end_seen u.end_seen;
   calls = v.calls ++ u.calls;
-  changes = v.changes ++ u.changes;
-  ticks = v.ticks + u.ticks;
   front = max v.front u.front;
+  ticks = v.ticks + u.ticks;
+  changes = v.changes ++ u.changes;
   kept = v.kept ++ kept_checkpoint u ∷ u.kept;
   met = sum_of_met v.met u.met;
   saw_down = v.saw_down || u.saw_down;

@@ -296,6 +296,10 @@ pub struct View {
     pub log: LogHold,
     /// The flushed position as last loaded; where the log begins, before the first load.
     pub flushed: u64,
+    /// The largest position to which the backend raised the flushed position; where the log begins, before that.
+    pub raised_to: u64,
+    /// The largest log end that the backend loaded, or stored with an entry; where the log begins, before the first.
+    pub end_seen: u64,
     /// The pages read and written, in order.
     pub calls: [Call; 0],
     /// The largest place of the calls; where the log begins, where there are none.

@@ -101,3 +101,6 @@ returns-clause-fixed c = opening_stays
 
 pub returns-clause-grows : goal.returns-clause-grows
 returns-clause-grows c = log_grows
+
+pub returns-clause-ends : goal.returns-clause-ends
+returns-clause-ends c = λ s r. r.ends
