@@ -39,7 +39,7 @@ put_bytes p = record_bytes sample_store.names (put_entry p)
 
 -- the log's device with these bytes
 abbrev pub log_with : Page → TakenLog
-log_with p = record { bytes = Some (head_bytes 0 ++ put_bytes p); synced = 0; faults = 0; down = None }
+log_with p = record { bytes = Some (head_bytes 0 ++ put_bytes p); synced = 0; faults = 0; calls = 0; down = None }
 
 -- under the exclusive lock the page is marked dirty, its record is appended to the log and made an entry, and the frame's page is overwritten by it
 abbrev pub change : Page → List Event

@@ -33,10 +33,10 @@ abbrev pub sample_start : State
 sample_start = opening sample_config sample_store []
 
 abbrev pub sample_lane : TakenLane
-sample_lane = record { pages = None; read_faults = 0; write_faults = 0 }
+sample_lane = record { pages = None; read_faults = 0; write_faults = 0; calls = 0 }
 
 abbrev pub sample_log : TakenLog
-sample_log = record { bytes = Some (head_bytes 0); synced = 0; faults = 0; down = None }
+sample_log = record { bytes = Some (head_bytes 0); synced = 0; faults = 0; calls = 0; down = None }
 
 -- the block 7 is read from the lane
 abbrev pub read_lane : List Event

@@ -125,6 +125,8 @@ pub struct TakenLane {
     /// How many reads, and how many writes and syncs, had failed.
     pub read_faults: u64,
     pub write_faults: u64,
+    /// How many calls had been made of it.
+    pub calls: u64,
 }
 
 /// What a backend has of a lane's latch.
@@ -156,6 +158,8 @@ pub struct TakenLog {
     pub synced: u64,
     /// How many appends and syncs had failed.
     pub faults: u64,
+    /// How many calls had been made of it.
+    pub calls: u64,
     /// Where the log was down, its end at the failure.
     pub down: Option<u64>,
 }
