@@ -18,6 +18,7 @@ use Rattle.pin_core.specs.Kinds.{lock_header, unlock_header}
 use Rattle.frame_table.specs.Kinds.{pages, pins}
 use Rattle.frame_table.specs.Sees.{Looked, Touches, locked_link, unlocked_link}
 use Rattle.frame_table.specs.Tells.{Did, Looks, looking}
+use Rattle.page_core.specs.Kinds.{saw_valid}
 use Rattle.frame_table.specs.Content.{CanBeginIo, CanFinishIo, begun_link, finished_link, start_of}
 use Rattle.frame_table.proofs.Told.{looks_link, looked_on}
 use Rattle.frame_table.proofs.Seeing.{sees_valid}
@@ -149,8 +150,17 @@ can_finish end word l m a can = record { held = a.header; page_home = λ e. a.ou
 pub no_write_still : (f : ℕ) (v w : View) → w.lanes ≡ v.lanes → HasNoWriteOut v f → HasNoWriteOut w f
 no_write_still f v w e h n = subst (λ (l : List LaneHold). (get_or l n no_lane).out ≢ None → ¬ IsWriteOf f (get_or l n no_lane).change) (sym e) (h n)
 
-pub finished_back : (word : ℕ) (l m o : Link) → Looked (locked_link word l) m → o ≡ finished_link m → Looked (finished_link l) o
-finished_back word l m o a e = subst (Looked (finished_link l)) (sym e) record { role = a.role; tag = a.tag; ring = a.ring; header = refl; pending = a.pending; content = a.content; copying = a.copying; dirtied = a.dirtied; unapplied = a.unapplied; copied = a.copied; io = refl; read = refl; read_is_home = refl; last_write = refl; out = a.out; overwritten = a.overwritten; image = a.image; seen_valid = a.seen_valid; waits = a.waits; passed = a.passed; listed = a.listed }
+saw_still : (end : IoEnd) (saw sees : Bool) → (saw ≡ true → sees ≡ true) → saw_valid end saw ≡ true → saw_valid end sees ≡ true
+saw_still ReadOk saw sees h e = refl
+saw_still WriteOk saw sees h e = h e
+saw_still Bad saw sees h e = h e
+
+pub finished_back : (end : IoEnd) (word : ℕ) (l m o : Link) → Looked (locked_link word l) m → o ≡ finished_link end m → Looked (finished_link end l) o
+finished_back end word l m o a e = subst (Looked (finished_link end l)) (sym e) record { role = a.role; tag = a.tag; ring = a.ring; header = refl; pending = a.pending; content = a.content; copying = a.copying; dirtied = a.dirtied; unapplied = a.unapplied; copied = a.copied; io = refl; read = refl; read_is_home = refl; last_write = refl; out = a.out; overwritten = a.overwritten; image = a.image; seen_valid = saw_still end l.seen_valid m.seen_valid a.seen_valid; waits = a.waits; passed = a.passed; listed = a.listed }
+
+-- who ended a good read has seen BM_VALID
+pub finished_sees : (end : IoEnd) (l m : Link) → Looked (finished_link end l) m → end ≡ ReadOk → m.seen_valid ≡ true
+finished_sees end l m a e = a.seen_valid (ap (λ (x : IoEnd). saw_valid x l.seen_valid) e)
 
 pub looked_none : (l : Link) → Looked l l
 looked_none l = record { role = refl; tag = refl; ring = refl; header = refl; pending = refl; content = refl; copying = refl; dirtied = refl; unapplied = refl; copied = refl; io = refl; read = refl; read_is_home = refl; last_write = refl; out = refl; overwritten = refl; image = refl; seen_valid = λ e. e; waits = λ e. e; passed = λ e. e; listed = λ e. e }

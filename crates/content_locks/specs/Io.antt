@@ -14,7 +14,7 @@ use Rattle.page_core.specs.Kinds as paged
 use Rattle.page_core.specs.Kinds.{EndsAs}
 use Rattle.frame_table.specs.declared.io_right.IoRight.{IoRight}
 use Rattle.frame_table.specs.Kinds.{pages, pins}
-use Rattle.frame_table.specs.Sees.{Looked, MarksBegun, MarksEnded, SameMarks}
+use Rattle.frame_table.specs.Sees.{IsWordOf, Looked, MarksBegun, MarksEnded, SameMarks}
 use Rattle.frame_table.specs.Tells.{Did, Looks, looking}
 use Rattle.frame_table.specs.Content.{begun_link, start_of}
 use Rattle.content_locks.specs.declared.io.TryIo.{TryIo}
@@ -88,6 +88,7 @@ pub record EndsIo (end : IoEnd) (f : ℕ) (v w : View) : Type 0 where
   pub word : ℕ
   pub locks : LocksHeader f v under was
   pub did : Did (pages (paged.end_io end)) f under w word
+  pub shows : IsWordOf (link v f) (fields word)
   pub marks : MarksEnded (unlocked_fields (io_ended_fields end (fields word))) v w
 
 -- what one try leaves, and why

@@ -1,5 +1,6 @@
 //! The rights to read a page and to write it (`StartBufferIO`, `TerminateBufferIO`).
 ghost use Rattle.std.specs.Prelude.{◌≡◌, ℕ, true, IfNone, IfSome, MatchOption};
+ghost use Rattle.state_word.specs.declared.word.IoEnd.TheVariants.{ReadOk};
 ghost use Rattle.state_word.specs.Fields.{fields, io_ended_fields, unlocked_fields};
 ghost use Rattle.pin_core.specs.State.{link};
 ghost use Rattle.pin_core.specs.Steps.{HoldsNoHeader};
@@ -96,7 +97,7 @@ pub fn start_io<L: BlockLane, G: LogDevice, R: Wait>(
     unreachable!()
 }
 
-/// Ends the read or the write of a page.
+/// Ends the read or the write of a page. After a good read the pin has seen `BM_VALID`.
 pub fn end_io<L: BlockLane, G: LogDevice, R: Wait>(
     table: &FrameTable<L, G>,
     rt: &R,
@@ -111,7 +112,8 @@ pub fn end_io<L: BlockLane, G: LogDevice, R: Wait>(
     ensures seat { SameSeat seat.old seat.new }
     ensures touches { Touches right.frame seat.old.me.0 seat.new.me.0 }
     ensures marks { (word : ℕ) × MarksEnded (unlocked_fields (io_ended_fields end (fields word))) seat.old.me.0 seat.new.me.0 }
-    ensures ended { Looked (finished_link (link seat.old.me.0 right.frame)) (link seat.new.me.0 right.frame) }
+    ensures ended { Looked (finished_link end (link seat.old.me.0 right.frame)) (link seat.new.me.0 right.frame) }
+    ensures seen { end ≡ ReadOk → (link seat.new.me.0 right.frame).seen_valid ≡ true }
     ensures did { EndsIo end right.frame seat.old.me.0 seat.new.me.0 }
 {
     let word = table.lock_header(rt, seat, right.frame());

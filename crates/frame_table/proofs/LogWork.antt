@@ -149,7 +149,7 @@ module _ {L G : Type 0} (d : Devices L G) (o : Opening L G) (slots id : ℕ) (me
       of_value (value.Log x) home gives_it = of_mark x.down refl
         where
           taken : TakenLog
-          taken = record { bytes = d.bytes x.device; synced = h.state.device.synced; faults = h.state.device.faults; down = h.state.device.down }
+          taken = record { bytes = d.bytes x.device; synced = h.state.device.synced; faults = h.state.device.faults; calls = 0; down = h.state.device.down }
 
           allowed : LogAllowed (log_out taken) h.state.device me.0.log
           allowed = record { held = held; home = out; faults = refl; synced = refl; down = refl; bytes = λ known e. sym (gives_it.0.bytes known e) }

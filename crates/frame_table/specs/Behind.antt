@@ -1,5 +1,5 @@
 -- Steps at the words behind those of the frames: the log's end, the flushed position, and the clock's hand.
-use Rattle.std.specs.Prelude.{◌≡◌, ◌≢◌, ℕ, ◌<◌, false, true, max, Option, Some, None}
+use Rattle.std.specs.Prelude.{◌≡◌, ◌≢◌, ℕ, ◌<◌, false, true, max, Option, Some, None, unwrap_or}
 use mathlib.Core.Option.{some}
 use lib.ListN.{get_elem?}
 use Rattle.atomic_table.specs.Table.{Me, Step}
@@ -11,7 +11,7 @@ use Rattle.pin_core.specs.State.{Page, link}
 use Rattle.history_core.specs.State.{State, next_hand}
 use Rattle.history_core.specs.Laws.{Laws}
 use Rattle.history_core.specs.Steps as steps
-use Rattle.history_core.specs.Steps.{Event, aside, stepped, ticked, looked, has_loaded, has_begun, has_read}
+use Rattle.history_core.specs.Steps.{Event, aside, ticked, looked, has_loaded, has_begun, has_raised, has_read}
 use Rattle.table_rule.specs.declared.value.Value.{Value}
 use Rattle.table_rule.specs.Layout.{end_place, flushed_place, hand_place}
 
@@ -73,7 +73,7 @@ pub record IsCopied (l : Link) : Type 0 where
 -- where a kind is allowed
 abbrev pub IsWordAllowed : WordKind → State → View → Type 0
 IsWordAllowed (read_end f) s v = (f < s.pool.core.frames) × IsCopied (link v f)
-IsWordAllowed raise_flushed s v = v.log.synced ≡ true
+IsWordAllowed raise_flushed s v = (v.log.synced ≡ true) × (v.log.end ≡ Some s.end)
 IsWordAllowed _ s v = Unit {0}
 
 -- a read of the page that was copied, of the block that the pin remembers
@@ -81,13 +81,17 @@ abbrev pub read_of : Option ℕ → Option Page → ℕ → View → View
 read_of (Some tag) (Some page) end v = has_read end tag page v
 read_of _ _ end v = v
 
+-- the log's end, as who holds its latch has loaded or stored it
+abbrev pub end_known : View → ℕ
+end_known v = unwrap_or v.log.end 0
+
 -- What a kind makes of the view, where the number found is `found`
 abbrev pub view_of : WordKind → ℕ → View → View
 view_of load_end found v = has_loaded found v
 view_of (read_end f) found v = looked (seen.LogEnd found) (read_of (link v f).tag (link v f).copied found v)
 view_of begin_checkpoint found v = has_begun found (looked (seen.LogEnd found) v)
 view_of load_flushed found v = looked (seen.Flushed found) (record v { flushed = found })
-view_of raise_flushed found v = stepped v
+view_of raise_flushed found v = has_raised (end_known v) v
 view_of load_hand found v = looked (seen.Hand found) v
 view_of add_hand found v = ticked v
 

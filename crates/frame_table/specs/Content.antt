@@ -9,6 +9,7 @@ use Rattle.pin_core.specs.declared.view.Io.TheVariants.{Quiet, Input, Output}
 use Rattle.pin_core.specs.declared.view.LastWrite.TheVariants.{Unwritten}
 use Rattle.page_core.specs.Kinds.{EndsAs}
 use Rattle.page_core.specs.Kinds as paged
+use Rattle.page_core.specs.Kinds.{saw_valid}
 use Rattle.frame_table.specs.Kinds.{FrameKind, pages}
 
 -- the load of the content word
@@ -123,9 +124,9 @@ abbrev pub begun_link : Bool → Link → Link
 begun_link true l = record l { header = None; io = Input; read = None; read_is_home = false }
 begun_link false l = record l { header = None; io = Output }
 
--- without the right
-abbrev pub finished_link : Link → Link
-finished_link l = record l { header = None; io = Quiet; read = None; read_is_home = false; last_write = Unwritten }
+-- without the right, after this end: a good read has seen BM_VALID
+abbrev pub finished_link : IoEnd → Link → Link
+finished_link end l = record l { seen_valid = saw_valid end l.seen_valid; header = None; io = Quiet; read = None; read_is_home = false; last_write = Unwritten }
 
 -- at a frame that the checkpoint has passed and listed
 abbrev pub listed_link : Link → Link

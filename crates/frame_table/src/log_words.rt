@@ -1,5 +1,6 @@
 //! Calls at the words of the log, and at the clock's hand.
 ghost use Rattle.std.specs.Prelude.{◌≡◌, ℕ, ◌≤◌, true, map, Some};
+ghost use Rattle.history_core.specs.Steps.{has_raised};
 ghost use Rattle.frame_table.specs.Behind.{DidWord, add_hand, load_flushed, load_hand, raise_flushed, view_of};
 ghost use Rattle.frame_table.specs.EndLoads.{IsEndAllowed, ReadsHeld, ReadsOpening, end_kind};
 ghost use Rattle.frame_table.specs.Sees.{IsSeat, SameSeat, base_of, frames_of, lanes_in, opened_of, relations_of};
@@ -70,7 +71,7 @@ impl<L: BlockLane, G: LogDevice> FrameTable<L, G> {
         requires synced { seat.old.me.0.log.synced ≡ true }
         requires end { seat.old.me.0.log.end ≡ Some end }
         ensures seat { SameSeat seat.old seat.new }
-        ensures view { seat.new.me.0 ≡ view_of raise_flushed end seat.old.me.0 }
+        ensures view { seat.new.me.0 ≡ has_raised end seat.old.me.0 }
         ensures did { (found : ℕ) × DidWord raise_flushed seat.old.me.0 seat.new.me.0 found }
     {
         let at = flushed_place(self.frames());

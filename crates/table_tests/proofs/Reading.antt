@@ -17,6 +17,7 @@ use Rattle.history_core.specs.State.{State}
 use Rattle.history_core.specs.Laws.{Laws}
 use Rattle.table_rule.specs.declared.turn.Turn.TheVariants.{Lane}
 use Rattle.frame_table.specs.Kinds.{FrameKind, pages}
+use Rattle.state_word.specs.declared.word.IoEnd.{IoEnd}
 use Rattle.frame_table.specs.Content.{finished_link}
 use Rattle.table_rule.specs.declared.noted_lane.LaneCall.{LaneCall}
 use Rattle.table_rule.specs.declared.noted_lane.LaneCall.TheVariants as lane_call
@@ -29,11 +30,11 @@ use Rattle.frame_table.proofs.Told.{link_is, self_after}
 use Rattle.table_tests.specs.Work.{IsCalm, LanesHome, PinsBlock, Reads}
 
 -- a read that has ended leaves nothing but the pin
-pub calm_finished : (tag : Tag) (l m : Link) → Reads tag l → Looked (finished_link l) m → IsCalm m
-calm_finished tag l m r a = record { no_header = a.header; no_content = a.content ∙ r.no_content; no_copy = a.copying ∙ r.no_copy; applied = a.unapplied ∙ r.settled; assigned = a.pending ∙ r.assigned; no_io = a.io; page_home = a.out ∙ r.home; no_wait = a.waits r.no_wait }
+pub calm_finished : (end : IoEnd) (tag : Tag) (l m : Link) → Reads tag l → Looked (finished_link end l) m → IsCalm m
+calm_finished end tag l m r a = record { no_header = a.header; no_content = a.content ∙ r.no_content; no_copy = a.copying ∙ r.no_copy; applied = a.unapplied ∙ r.settled; assigned = a.pending ∙ r.assigned; no_io = a.io; page_home = a.out ∙ r.home; no_wait = a.waits r.no_wait }
 
-pub pins_finished : (tag : Tag) (l m : Link) → Reads tag l → Looked (finished_link l) m → PinsBlock tag m
-pins_finished tag l m r a = (a.role ∙ r.pinned, a.tag ∙ r.remembered, a.pending ∙ r.assigned)
+pub pins_finished : (end : IoEnd) (tag : Tag) (l m : Link) → Reads tag l → Looked (finished_link end l) m → PinsBlock tag m
+pins_finished end tag l m r a = (a.role ∙ r.pinned, a.tag ∙ r.remembered, a.pending ∙ r.assigned)
 
 -- where no lane is out, none is out with a write
 pub no_write : (f : ℕ) (v : View) → LanesHome v → (n : ℕ) → (lane_hold v n).out ≢ None → IsWriteOf f (lane_hold v n).change → ⊥

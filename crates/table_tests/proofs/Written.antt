@@ -23,6 +23,9 @@ use Rattle.frame_table.specs.declared.table.FrameTable.{FrameTable}
 use Rattle.table_rule.specs.declared.noted_lane.LaneCall.{LaneCall}
 use Rattle.table_rule.specs.declared.noted_lane.LaneCall.TheVariants as lane_call
 use Rattle.table_rule.specs.LaneCalls.{NotesWritten, NotesWriteFailed}
+use Rattle.state_word.specs.declared.word.IoEnd.{IoEnd}
+use Rattle.state_word.specs.declared.word.IoEnd.TheVariants.{ReadOk, WriteOk, Bad}
+use Rattle.page_core.specs.Kinds.{saw_valid}
 use Rattle.frame_table.specs.Content.{CanDropShare, begun_link, finished_link, shared_link, unshared_link}
 use Rattle.frame_table.specs.LaneWork.{IsNoted, unwritten_link, written_link}
 use Rattle.frame_table.specs.Sees.{Looked, SameSeat, Touches}
@@ -139,8 +142,13 @@ shares_looked io tag l m s a = record { pinned = a.role ∙ s.pinned; remembered
 pub shares_begun : (tag : Tag) (l m : Link) → Shares Quiet tag l → Looked (begun_link false l) m → Shares Output tag m
 shares_begun tag l m s a = shares_looked Output tag (begun_link false l) m record { pinned = s.pinned; remembered = s.remembered; assigned = s.assigned; seen = s.seen; no_header = refl; shared = s.shared; no_copy = s.no_copy; applied = s.applied; right = refl; home = s.home; no_wait = s.no_wait } a
 
-pub shares_finished : (tag : Tag) (l m : Link) → Shares Output tag l → Looked (finished_link l) m → Shares Quiet tag m
-shares_finished tag l m s a = shares_looked Quiet tag (finished_link l) m record { pinned = s.pinned; remembered = s.remembered; assigned = s.assigned; seen = s.seen; no_header = refl; shared = s.shared; no_copy = s.no_copy; applied = s.applied; right = refl; home = s.home; no_wait = s.no_wait } a
+saw_more : (end : IoEnd) (saw : Bool) → saw ≡ true → saw_valid end saw ≡ true
+saw_more ReadOk saw e = refl
+saw_more WriteOk saw e = e
+saw_more Bad saw e = e
+
+pub shares_finished : (end : IoEnd) (tag : Tag) (l m : Link) → Shares Output tag l → Looked (finished_link end l) m → Shares Quiet tag m
+shares_finished end tag l m s a = shares_looked Quiet tag (finished_link end l) m record { pinned = s.pinned; remembered = s.remembered; assigned = s.assigned; seen = saw_more end l.seen_valid s.seen; no_header = refl; shared = s.shared; no_copy = s.no_copy; applied = s.applied; right = refl; home = s.home; no_wait = s.no_wait } a
 
 pub drop_quiet : (tag : Tag) (l : Link) → Shares Quiet tag l → CanDropShare l
 drop_quiet tag l s = record { right = s.shared; no_copy = s.no_copy; no_output = λ out. (let no : Quiet ≡ Output = sym s.right ∙ out in absurd (cc)); page_home = s.home }

@@ -13,8 +13,8 @@ use Rattle.frame_table.specs.Entering.{entered_link}
 use Rattle.frame_table.specs.Turning.{DidTurn}
 use Rattle.wal_flush.specs.declared.inserts.InsertError.{InsertError}
 use Rattle.wal_flush.specs.Latched.{KeepsWork, Opens, UnderLatch, as_counted}
-use Rattle.wal_flush.specs.Inserts.{EnterRefused, Enters, InsertRefused, Inserts, inserted_view, refused_view}
-use Rattle.wal_flush.proofs.Views.{insert_view, inserted_link, other_links, refused_work, unentered_view}
+use Rattle.wal_flush.specs.Inserts.{EnterRefused, Enters, InsertRefused, Inserts, SeesEnd, inserted_view, refused_view}
+use Rattle.wal_flush.proofs.Views.{insert_view, inserted_link, other_links, refused_sees, refused_work, unentered_view}
 
 module _ (relations : List RelEntry) (f : ℕ) (tag : Tag) (end : ℕ) (v loaded worked w : View) (opens : Opens end v loaded) (leaves : DidTurn false Log worked w) (result : Result ℕ InsertError) where
   latched : (Work : View → View → Type 0) → Work loaded worked → UnderLatch end Work v w
@@ -70,3 +70,8 @@ module _ (relations : List RelEntry) (f : ℕ) (tag : Tag) (end : ℕ) (v loaded
 pub work_stays : (v w : View) (result : Result ℕ InsertError) → IfErr result (λ why. w ≡ as_counted (refused_view why v) w) → IfErr result (λ _. KeepsWork v w)
 work_stays v w (Ok lsn) none = none
 work_stays v w (Err why) e = refused_work why v w e
+
+-- the log end that it names was seen
+pub seen_refused : (relations : List RelEntry) (f : ℕ) (tag : Tag) (p : Page) (v w : View) (result : Result ℕ InsertError) → IfErr result (InsertRefused relations f tag p v w) → IfErr result (λ why. SeesEnd why w)
+seen_refused relations f tag p v w (Ok lsn) none = none
+seen_refused relations f tag p v w (Err why) r = refused_sees relations f tag p why v w r

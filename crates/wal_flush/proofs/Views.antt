@@ -14,16 +14,18 @@ use Rattle.pin_core.specs.declared.view.View.{View}
 use Rattle.pin_core.specs.State.{Page, idle, link, no_log}
 use Rattle.history_core.specs.Device.{take_log, leave_log, log_out, append, sync_log, log_back}
 use Rattle.history_core.specs.Log.{record_size}
-use Rattle.history_core.specs.Steps.{has_loaded, stepped}
-use Rattle.frame_table.specs.Behind.{DidWord, load_flushed, view_of}
+use Rattle.history_core.specs.Steps.{has_loaded}
+use Rattle.frame_table.specs.Behind.{DidWord, load_flushed, raise_flushed, view_of}
 use Rattle.frame_table.specs.Entering.{entered_link, view_entered}
 use Rattle.wal_flush.specs.declared.inserts.InsertError.{InsertError}
 use Rattle.wal_flush.specs.declared.inserts.InsertError.TheVariants as insert_error
 use Rattle.wal_flush.specs.declared.flushes.FlushLog.{FlushLog}
 use Rattle.wal_flush.specs.declared.flushes.FlushLog.TheVariants as flush_log
-use Rattle.wal_flush.specs.Latched.{KeepsWork, kept_of, UnderLatch, as_counted, downed, faulted}
-use Rattle.wal_flush.specs.Inserts.{EnterRefused, Enters, inserted_view, refused_view}
-use Rattle.wal_flush.specs.Flushes.{FindsFlushed, Flushed, already, meanwhile, by_sync, Flushes, HolderRefused, Looks, still, again, SeesFlushed, SeesUnflushed, StillUnflushed, SyncRefused, Syncs, Tries, WasFlushed, as_looked, synced_view, unflushed_view}
+use Rattle.wal_flush.specs.Latched.{FindsDown, KeepsWork, kept_of, UnderLatch, as_counted, downed, faulted}
+use Rattle.wal_flush.specs.Inserts.{EnterRefused, Enters, InsertRefused, inserted_view, refused_view}
+use Rattle.wal_flush.specs.Inserts as inserting
+use Rattle.wal_flush.specs.Flushes as flushing
+use Rattle.wal_flush.specs.Flushes.{FindsFlushed, FlushRefused, Flushed, already, meanwhile, by_sync, Flushes, HolderRefused, Looks, still, again, SeesFlushed, SeesUnflushed, StillUnflushed, SyncRefused, Syncs, Tries, WasFlushed, as_looked, synced_view, unflushed_view}
 use Rattle.wal_flush.proofs.LogSteps.{quiet, counting, opens_view, leaves_view, free_log, appended_view, synced_view as after_sync, unappended_view, unsynced_view, down_view}
 
 -- but for steps and loads w is t, where it is x, and x is t so
@@ -92,11 +94,15 @@ found_view lsn end v w u free = let none = free_log v u.opens.held u.opens.takes
     let big : View = quiet leave_log (after_look s.found (opened end v)) in
     looked_as v w big (around end (FindsFlushed lsn end) v w u (after_look s.found) s.did.after) (λ i. record big { log = opened_left v none i })
 
+-- and raised to the log's end
+abbrev raised : View → View
+raised v = view_of raise_flushed 0 v
+
 flushed_view : (lsn end : ℕ) (v w : View) → UnderLatch end (StillUnflushed lsn end Syncs) v w → v.log.held ≡ false → w ≡ as_looked (synced_view v) w
 flushed_view lsn end v w u free = let none = free_log v u.opens.held u.opens.takes free in let a = u.work in let b = a.work in
-    let done : View → View = λ x. stepped (quiet (log_back false) (counting sync_log (x.device_calls ++ LogSync true ∷ []) x.met x.saw_down (quiet (log_out b.went.taken) x))) in
+    let done : View → View = λ x. raised (quiet (log_back false) (counting sync_log (x.device_calls ++ LogSync true ∷ []) x.met x.saw_down (quiet (log_out b.went.taken) x))) in
     let big : View = quiet leave_log (done (after_look a.second.found (opened end v))) in
-    looked_as (synced_view v) w big (around end (StillUnflushed lsn end Syncs) v w u (λ x. done (after_look a.second.found x)) (b.raises.after ∙ ap stepped (after_sync a.looked b.out b.went b.home b.syncs) ∙ ap done a.second.did.after)) (λ i. record big { log = (left_hold v v.log.appended none refl) i })
+    looked_as (synced_view v) w big (around end (StillUnflushed lsn end Syncs) v w u (λ x. done (after_look a.second.found x)) (b.raises.after ∙ ap raised (after_sync a.looked b.out b.went b.home b.syncs) ∙ ap done a.second.did.after)) (λ i. record big { log = (left_hold v v.log.appended none refl) i })
 
 unsynced : (lsn end : ℕ) (why : FlushLog) (v w : View) → UnderLatch end (HolderRefused lsn end why) v w → v.log.held ≡ false → w ≡ as_looked (unflushed_view why v) w
 unsynced lsn end (flush_log.LogShort l at) v w u free = let none = free_log v u.opens.held u.opens.takes free in
@@ -121,7 +127,7 @@ looks_view lsn v w (again {u = u} before s) = saw s.found u w s.did ∙ ap (λ (
 
 -- what was counted under the latch, between looks
 unlooked : (t w : View) → w ≡ as_counted t w → w ≡ as_looked t w
-unlooked t w e = e ∙ (λ i. record (as_counted t w) { flushed = (sym (ap (λ (x : View). x.flushed) e)) i })
+unlooked t w e = e ∙ (λ i. record (as_counted t w) { flushed = sym (ap (λ (x : View). x.flushed) e) i; raised_to = sym (ap (λ (x : View). x.raised_to) e) i })
 
 still_free : (found : ℕ) (v w : View) → DidWord load_flushed v w found → v.log.held ≡ false → w.log.held ≡ false
 still_free found v w d free = ap (λ (x : View). x.log.held) d.after ∙ free
@@ -172,3 +178,20 @@ pub refused_work : (why : InsertError) (v w : View) → w ≡ as_counted (refuse
 refused_work (insert_error.LogFull at) v w e = counted_work v w v.device_calls v.met v.saw_down (unlooked v w e)
 refused_work (insert_error.LogDown at) v w e = counted_work v w v.device_calls v.met true (unlooked (downed v) w e)
 refused_work insert_error.LogFault v w e = counted_work v w (v.device_calls ++ LogAppend false ∷ []) (record v.met { logs = v.met.logs + 1 }) true (unlooked (refused_view insert_error.LogFault v) w e)
+
+-- the log's end that was loaded under the latch was seen
+seen_after : (end : ℕ) (Work : View → View → Type 0) (v w : View) (u : UnderLatch end Work v w) → u.loaded.end_seen ≤ u.worked.end_seen → end ≤ w.end_seen
+seen_after end Work v w u more = let a = ap (λ (x : View). x.end_seen) u.opens.loads.after in let b = ap (λ (x : View). x.end_seen) (leaves_view u.worked w u.leaves) in omega arith
+
+down_seen : (at : ℕ) (v w : View) → FindsDown at v w → v.end_seen ≤ w.end_seen
+down_seen at v w d = let e = ap (λ (x : View). x.end_seen) (down_view at v w d) in omega arith
+
+pub refused_sees : (relations : List RelEntry) (f : ℕ) (tag : Tag) (p : Page) (why : InsertError) (v w : View) → InsertRefused relations f tag p v w why → inserting.SeesEnd why w
+refused_sees relations f tag p (insert_error.LogFull at) v w (end, u) = let e = seen_after end (EnterRefused relations f tag p end (insert_error.LogFull at)) v w u (let x = ap (λ (x : View). x.end_seen) u.work.2 in omega arith) in let is = u.work.0 in omega arith
+refused_sees relations f tag p (insert_error.LogDown at) v w (end, u) = let e = seen_after end (EnterRefused relations f tag p end (insert_error.LogDown at)) v w u (down_seen at u.loaded u.worked u.work.2) in let is = u.work.0 in omega arith
+refused_sees relations f tag p insert_error.LogFault v w r = tt
+
+pub unflushed_sees : (lsn : ℕ) (why : FlushLog) (v w : View) → FlushRefused lsn v w why → flushing.SeesEnd why w
+unflushed_sees lsn (flush_log.LogShort l at) v w (end, t) = let e = seen_after end (HolderRefused lsn end (flush_log.LogShort l at)) t.looked w t.work (let x = ap (λ (x : View). x.end_seen) t.work.work.3 in omega arith) in let is = t.work.work.1 in omega arith
+unflushed_sees lsn (flush_log.LogDown at) v w (end, t) = let a = t.work.work in let e = seen_after end (HolderRefused lsn end (flush_log.LogDown at)) t.looked w t.work (let x = ap (λ (x : View). x.end_seen) a.second.did.after in let y = down_seen at a.looked t.work.worked a.work.1 in omega arith) in let is = a.work.0 in omega arith
+unflushed_sees lsn flush_log.LogFault v w r = tt

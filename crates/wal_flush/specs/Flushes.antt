@@ -99,9 +99,15 @@ pub record Flushes (lsn : ℕ) (v w : View) : Type 0 where
   pub tried : Tries lsn end (StillUnflushed lsn end Syncs) v synced
   pub awaits : Awaits lsn synced w
 
--- the view v, with the steps and loads that w counts, and the flushed position that w has seen
+-- the view v, with the steps and loads that w counts, the log end and the flushed position that w has seen, and where it raised that position to
 abbrev pub as_looked : View → View → View
-as_looked v w = record v { steps = w.steps; loads = w.loads; flushed = w.flushed }
+as_looked v w = record v { steps = w.steps; loads = w.loads; end_seen = w.end_seen; flushed = w.flushed; raised_to = w.raised_to }
+
+-- The log end that a refusal names was seen
+abbrev pub SeesEnd : FlushLog → View → Type 0
+SeesEnd (LogShort lsn end) w = end ≤ w.end_seen
+SeesEnd (LogDown at) w = at ≤ w.end_seen
+SeesEnd LogFault w = Unit {0}
 
 -- the view after a sync
 abbrev pub synced_view : View → View

@@ -4,7 +4,7 @@ ghost use Rattle.table_rule.specs.declared.turn.Turn.TheVariants.{Log};
 ghost use Rattle.frame_table.specs.Sees.{CanTurn, IsSeat, SameSeat};
 ghost use Rattle.frame_table.specs.Turning.{MayLeave};
 ghost use Rattle.wal_flush.specs.Latched.{KeepsWork, opened_log};
-ghost use Rattle.wal_flush.specs.Flushes.{Awaits, Flushed, FlushRefused, HolderFlushed, HolderRefused, SyncRefused, Syncs, as_looked, unflushed_view};
+ghost use Rattle.wal_flush.specs.Flushes.{Awaits, Flushed, FlushRefused, HolderFlushed, HolderRefused, SeesEnd, SyncRefused, Syncs, as_looked, unflushed_view};
 
 use crate::outings::{take_end, take_log};
 use atomic_table::Seat;
@@ -132,6 +132,7 @@ pub fn flush_to<L: BlockLane, G: LogDevice, R: Wait>(
     ensures flushed { MatchResult result (λ _. lsn ≤ seat.new.me.0.flushed) (λ _. seat.new.me.0.flushed < lsn) }
     ensures left { IfErr result (λ why. seat.new.me.0 ≡ as_looked (unflushed_view why seat.old.me.0) seat.new.me.0) }
     ensures did { IfOk result (λ _. Flushed lsn seat.old.me.0 seat.new.me.0) }
+    ensures seen { IfErr result (λ why. SeesEnd why seat.new.me.0) }
     ensures cause { IfErr result (FlushRefused lsn seat.old.me.0 seat.new.me.0) }
 {
     if lsn <= table.load_flushed(seat) {

@@ -1,4 +1,7 @@
 use Rattle.std.proofs.Common.{ℕ, subst}
+use Rattle.state_word.specs.Fields.{fields}
+use Rattle.pin_core.specs.State.{link}
+use Rattle.frame_table.specs.Sees.{IsWordOf}
 use Rattle.frame_table.proofs.Marks.{ended_marks_on}
 use Rattle.content_locks.specs.Io.{LocksHeader}
 use Rattle.content_locks.proofs.io.end_io.Goals as goal
@@ -13,5 +16,6 @@ returns-clause-did g c = let d = c.lock_header-word.ensures.did in record {
   word = c.lock_header-word.result;
   locks = subst (λ (f : ℕ). LocksHeader f c.args.seat.now.me.0 c.lock_header-word.new.seat.me.0 d.1) c.frame.ensures record { before = d.0; looks = d.2; did = d.3 };
   did = c.finish_io.ensures.did;
+  shows = subst (λ (f : ℕ). IsWordOf (link c.args.seat.now.me.0 f) (fields c.lock_header-word.result)) c.frame.ensures c.lock_header-word.ensures.word;
   marks = ended_marks_on _ _ _ _ c.lock_header-word.ensures.marks c.finish_io.ensures.marks;
 }

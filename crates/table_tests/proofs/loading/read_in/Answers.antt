@@ -13,8 +13,8 @@ end_io-requires-2-clause-no_write g c = no_write _ c.put_page.new.seat.me.0 c.pu
 
 pub returns-then-not-read_lane-clause-quiet : goal.returns-then-not-read_lane-clause-quiet
 returns-then-not-read_lane-clause-quiet g c = let a = c.read_lane.ensures in let e = c.end_io.ensures in
-    quiet_at _ _ _ (beside_still _ _ _ e.seat _ (subst (λ (f : ℕ). IsQuietBeside c.args.table.now f c.read_lane.new.seat) c.frame-frame.ensures a.quiet) e.touches.self e.touches.others) (calm_finished _ _ _ (subst (λ (f : ℕ). Reads c.args.tag (link c.read_lane.new.seat.me.0 f)) c.frame-frame.ensures a.reads) e.ended)
+    quiet_at _ _ _ (beside_still _ _ _ e.seat _ (subst (λ (f : ℕ). IsQuietBeside c.args.table.now f c.read_lane.new.seat) c.frame-frame.ensures a.quiet) e.touches.self e.touches.others) (calm_finished _ _ _ _ (subst (λ (f : ℕ). Reads c.args.tag (link c.read_lane.new.seat.me.0 f)) c.frame-frame.ensures a.reads) e.ended)
 
 pub returns-clause-quiet : goal.returns-clause-quiet
 returns-clause-quiet g c = let a = c.put_page.ensures in let e = c.end_io-2.ensures in
-    quiet_at _ _ _ (beside_still _ _ _ e.seat _ (subst (λ (f : ℕ). IsQuietBeside c.args.table.now f c.put_page.new.seat) c.frame-frame.ensures a.quiet) e.touches.self e.touches.others) (calm_finished _ _ _ (subst (λ (f : ℕ). Reads c.args.tag (link c.put_page.new.seat.me.0 f)) c.frame-frame.ensures a.reads) e.ended)
+    quiet_at _ _ _ (beside_still _ _ _ e.seat _ (subst (λ (f : ℕ). IsQuietBeside c.args.table.now f c.put_page.new.seat) c.frame-frame.ensures a.quiet) e.touches.self e.touches.others) (calm_finished _ _ _ _ (subst (λ (f : ℕ). Reads c.args.tag (link c.put_page.new.seat.me.0 f)) c.frame-frame.ensures a.reads) e.ended)

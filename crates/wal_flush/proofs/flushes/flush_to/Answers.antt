@@ -1,7 +1,7 @@
 use Rattle.std.proofs.Common.{subst}
 use Rattle.wal_flush.specs.declared.flushes.FlushedBy.{FlushedBy}
 use Rattle.wal_flush.specs.Flushes.{HolderFlushed}
-use Rattle.wal_flush.proofs.Views.{flushes, flushed_work, unflushed, unflushed_work, was_flushed}
+use Rattle.wal_flush.proofs.Views.{flushes, flushed_work, unflushed, unflushed_sees, unflushed_work, was_flushed}
 use Rattle.wal_flush.proofs.flushes.flush_to.Goals as goal
 
 pub returns-in-Another-clause-did : goal.returns-in-Another-clause-did
@@ -60,3 +60,6 @@ returns-in-Holder-clause-work g c = flushed_work _ _ _ (returns-in-Holder-clause
 
 pub returns-in-Err-clause-work : goal.returns-in-Err-clause-work
 returns-in-Err-clause-work g c = unflushed_work _ _ _ (returns-in-Err-clause-left g c)
+
+pub returns-in-Err-clause-seen : goal.returns-in-Err-clause-seen
+returns-in-Err-clause-seen g c = unflushed_sees _ _ _ _ (returns-in-Err-clause-cause g c)

@@ -1,6 +1,12 @@
-use Rattle.std.proofs.Common.{rules, arith}
+use Rattle.std.proofs.Common.{ℕ, Option, ap, ◌∙◌, rules, arith}
+use Rattle.std.specs.Prelude.{unwrap_or}
+use Rattle.pin_core.specs.declared.view.View.{View}
+use Rattle.history_core.specs.Steps.{has_raised}
 use Rattle.frame_table.proofs.Behind.{raises_there}
 use Rattle.frame_table.proofs.table.FrameTable.raise_flushed.Goals as goal
 
 pub swap-requires : goal.swap-requires
 swap-requires g c = (search rules, (let e = c.flushed_place-at.ensures in let f = c.frames.ensures in omega arith), rw c.flushed_place-at.ensures (rw c.frames.ensures (raises_there _ c.args.self.now.table.shared.key _ _ _ c.requires.seat.live _ c.requires.synced c.requires.end)))
+
+pub returns-clause-view : goal.returns-clause-view
+returns-clause-view g c = c.swap.ensures.2.1.after ∙ ap (λ (end : Option ℕ). has_raised (unwrap_or end 0) c.args.seat.now.me.0) c.requires.end
