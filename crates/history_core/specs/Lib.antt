@@ -15,6 +15,7 @@ pub mod Miss
 pub mod Put
 pub mod Spent
 pub mod Ends
+pub mod Sound
 pub mod Outings
 pub mod Promises
 pub mod Trail
