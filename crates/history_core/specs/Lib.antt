@@ -16,6 +16,7 @@ pub mod Put
 pub mod Spent
 pub mod Ends
 pub mod Sound
+pub mod History
 pub mod Outings
 pub mod Promises
 pub mod Trail
