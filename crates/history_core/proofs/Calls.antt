@@ -41,7 +41,7 @@ index_below [] j y t = absurd (some-ne-none y (sym t))
 index_below (z ∷ l) zero y t = omega arith
 index_below (z ∷ l) (suc j) y t = omega (arith, index_below l j y t)
 
-total-both : {A : Type 0} (g : A → ℕ) (l m : List A) → total g (l ++ m) ≡ total g l + total g m
+pub total-both : {A : Type 0} (g : A → ℕ) (l m : List A) → total g (l ++ m) ≡ total g l + total g m
 unfolding total
 total-both g [] m = omega arith
 total-both g (x ∷ l) m = omega (arith, total-both g l m)

@@ -25,6 +25,8 @@ pub mod KeptFlushed
 pub mod Histories
 pub mod Spending
 pub mod Ends
+pub mod Sound
+pub mod History
 pub mod Outings
 pub mod PinsStay
 pub mod Promises

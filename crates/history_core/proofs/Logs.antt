@@ -19,16 +19,16 @@ unfolding cell
 cell_longer origin [] e = refl
 cell_longer origin (x ∷ es) e = cell_longer (put origin x.tag x.image) es e
 
-cut_in : (p : ℕ) (e : Entry) (es : List Entry) → end_of e ≤ p → cut p (e ∷ es) ≡ e ∷ cut p es
+pub cut_in : (p : ℕ) (e : Entry) (es : List Entry) → end_of e ≤ p → cut p (e ∷ es) ≡ e ∷ cut p es
 unfolding cut
 cut_in p e es h = ap (λ (b : Bool). cond b (e ∷ cut p es) (cut p es)) (le-leb (end_of e) p h)
 
-cut_out : (p : ℕ) (e : Entry) (es : List Entry) → p < end_of e → cut p (e ∷ es) ≡ cut p es
+pub cut_out : (p : ℕ) (e : Entry) (es : List Entry) → p < end_of e → cut p (e ∷ es) ≡ cut p es
 unfolding cut
 cut_out p e es h = ap (λ (b : Bool). cond b (e ∷ cut p es) (cut p es)) (lt-leb (end_of e) p h)
 
 -- an entry ends at the position or before it, or behind it
-in_or_out : {A : Type 0} (p : ℕ) (e : Entry) → (end_of e ≤ p → A) → (p < end_of e → A) → A
+pub in_or_out : {A : Type 0} (p : ℕ) (e : Entry) → (end_of e ≤ p → A) → (p < end_of e → A) → A
 in_or_out p e x y = ⊎_elim y x (cases_lt p (end_of e))
 
 -- an entry that ends behind the position is cut away

@@ -51,11 +51,11 @@ use Rattle.grid.proofs.Sums.{term_le}
 apart : {b : Bool} → b ≡ true → b ≡ false → ⊥
 apart y n = cc
 
--- a list of links, by one of their marks
-map_at : (g : Link → Bool) → g idle ≡ false → (l : List Link) (f : ℕ) → slice_index_or (map g l) f false ≡ g (slice_index_or l f idle)
-map_at g e [] f = sym e
-map_at g e (x ∷ l) zero = refl
-map_at g e (x ∷ l) (suc f) = map_at g e l f
+-- what stands at a place of a list, after g
+pub map_at : {A B : Type 0} (g : A → B) (a : A) (b : B) → g a ≡ b → (l : List A) (n : ℕ) → slice_index_or (map g l) n b ≡ g (slice_index_or l n a)
+map_at g a b e [] n = sym e
+map_at g a b e (x ∷ l) zero = refl
+map_at g a b e (x ∷ l) (suc n) = map_at g a b e l n
 
 module _ (s : State) (h : Invariant s) (d : DebtsLaw s) where
   abbrev t : Taken
@@ -114,7 +114,7 @@ module _ (s : State) (h : Invariant s) (d : DebtsLaw s) where
 
       taken_settled : (m f : ℕ) (c : Checkpoint) → get_elem? (kept_checkpoint u ∷ u.kept) m ≡ some c → f < n → IsSettled t (frame f) c.upto (has_passed c f) (has_listed c f)
       taken_settled zero f c at below = subst (λ (y : Checkpoint). IsSettled t (frame f) y.upto (has_passed y f) (has_listed y f)) (some-injective (kept_checkpoint u) c at)
-          (subst (λ (y : Bool). IsSettled t (frame f) u.upto y (has_listed (kept_checkpoint u) f)) (sym (map_at (λ (x : Link). x.passed) refl u.links f)) (subst (λ (y : Bool). IsSettled t (frame f) u.upto (link u f).passed y) (sym (map_at (λ (x : Link). x.listed) refl u.links f)) ((d.each j u here).own f below).settled))
+          (subst (λ (y : Bool). IsSettled t (frame f) u.upto y (has_listed (kept_checkpoint u) f)) (sym (map_at (λ (x : Link). x.passed) idle false refl u.links f)) (subst (λ (y : Bool). IsSettled t (frame f) u.upto (link u f).passed y) (sym (map_at (λ (x : Link). x.listed) idle false refl u.links f)) ((d.each j u here).own f below).settled))
       taken_settled (suc m) f c at below = (d.each j u here).kept m f c at below
 
   pages_owe : (i f : ℕ) (k : Kind) (v : View) → get_elem? views i ≡ some v → v.emptied ≡ false → f < n → kinds.Allowed k (block_of s.pool.logged (frame f).tag) (frame f) (link v f) → IsPlain k → DebtsLaw (record s { pool = page_steps.state_after k s.pool i f v })

@@ -32,6 +32,7 @@ use Rattle.history_core.specs.Steps.{Event, new_entry, stepped, ticked, looked, 
 use Rattle.history_core.proofs.Calls.{at_both}
 use Rattle.history_core.proofs.Histories.{framed}
 use Rattle.history_core.proofs.Outer.{lane_new}
+use Rattle.history_core.proofs.Owing.{map_at}
 use Rattle.grid.specs.Shape.{put}
 use Rattle.grid.proofs.Lists.{at_set, at_end, at_only, put_at, put_else}
 
@@ -90,12 +91,6 @@ swept_zero s n upto z = record { within = omega arith; durable = λ k e at lane 
 -- a view without a lane
 none_swept : (s : State) (w : View) → ((n : ℕ) → (lane_hold w n).swept ≡ 0) → w.kept ≡ [] → ViewSwept s w
 none_swept s w none kept = record { own = λ n. swept_zero s n (lane_hold w n).swept (none n); kept = λ k n c at. absurd (some-ne-none c (sym (subst (λ (y : List Checkpoint). get_elem? y k ≡ some c) kept at))) }
-
--- a list of latches, by what was swept
-map_at : (l : List LaneHold) (n : ℕ) → slice_index_or (map (λ (h : LaneHold). h.swept) l) n 0 ≡ (slice_index_or l n no_lane).swept
-map_at [] n = refl
-map_at (x ∷ l) zero = refl
-map_at (x ∷ l) (suc n) = map_at l n
 
 -- what a kind at a lane does to what is durable in it
 lane_below : (k : LaneKind) (ln : Lane) → ((tag : ℕ) → ln.synced_upto tag ≤ ln.stored_upto tag) → (tag : ℕ) → (lane_after k ln).synced_upto tag ≤ (lane_after k ln).stored_upto tag
@@ -224,7 +219,7 @@ module _ (s : State) (h : Invariant s) (d : DebtsLaw s) (m : SweptLaw s) where
   }
     where
       taken : ViewSwept s u → (a g : ℕ) (c : Checkpoint) → get_elem? (kept_checkpoint u ∷ u.kept) a ≡ some c → IsSwept s g (has_swept c g)
-      taken y zero g c is = subst (λ (z : Checkpoint). IsSwept s g (has_swept z g)) (some-injective (kept_checkpoint u) c is) (subst (IsSwept s g) (sym (map_at u.lanes g)) (y.own g))
+      taken y zero g c is = subst (λ (z : Checkpoint). IsSwept s g (has_swept z g)) (some-injective (kept_checkpoint u) c is) (subst (IsSwept s g) (sym (map_at (λ (x : LaneHold). x.swept) no_lane 0 refl u.lanes g)) (y.own g))
       taken y (suc a) g c is = y.kept a g c is
 
 pub swept_kept : {e : Event} {s t : State} → Step e s t → Invariant s → DebtsLaw s → SweptLaw s → SweptLaw t

@@ -8,6 +8,7 @@ use Rattle.history_core.specs.Rest.{RestLaw}
 use Rattle.history_core.specs.Outings.{OutingsLaw}
 use Rattle.history_core.specs.Spent.{SpentLaw}
 use Rattle.history_core.specs.Ends.{EndsLaw}
+use Rattle.history_core.specs.Sound.{SoundLaw}
 use Rattle.history_core.specs.Trail.{TrailLaw}
 use Rattle.history_core.specs.Histories.{IsReached}
 use Rattle.history_core.specs.Swept.{SweptLaw}
@@ -29,6 +30,8 @@ pub record Laws (s : State) : Type 0 where
   pub outings : OutingsLaw s
   -- of what is left of backends that were joined into the first
   pub spent : SpentLaw s
+  -- of the blocks whose pages were sound at the start
+  pub sound : SoundLaw s
   -- of the log ends that backends have seen
   pub ends : EndsLaw s
   -- of the state words, the hand and the flushed position, which the views fix

@@ -15,6 +15,8 @@ pub mod Miss
 pub mod Put
 pub mod Spent
 pub mod Ends
+pub mod Sound
+pub mod History
 pub mod Outings
 pub mod Promises
 pub mod Trail

@@ -10,7 +10,9 @@ ghost use Rattle.page_core.specs.Histories.{CleanupIsAlone};
 ghost use Rattle.history_core.specs.State.{CanStore, State, Store, opening};
 ghost use Rattle.history_core.specs.Laws.{Laws};
 ghost use Rattle.history_core.specs.Ends.{EndsLaw};
+ghost use Rattle.history_core.specs.History.{EndsInHistory};
 ghost use Rattle.history_core.specs.Lasting.{LogGrows, OpeningStays};
+ghost use Rattle.history_core.specs.Sound.{ShowsSound, UnsoundStay};
 ghost use Rattle.history_core.specs.Promises.{CheckpointsStore, GrantsAreAlone, PinnedTagsStay, SweepsStore};
 ghost use Rattle.history_core.specs.Trail.{HasSameWords, ListedIsMade};
 ghost use Rattle.history_core.specs.Steps.{Event, Run};
@@ -60,6 +62,8 @@ pub fn all_histories()
 
     // and of the frames:
     ensures sound { (s : State) → Laws s → FramesAreSound s }
+    ensures shows_sound { (s : State) → Laws s → ShowsSound s }
+    ensures unsound { (s : State) → Laws s → UnsoundStay s }
     ensures hold_cells { (s : State) → Laws s → FramesHoldCells s }
     ensures unique { (s : State) → Laws s → TagsAreUnique s.pool.core }
     ensures remembers { (s : State) → Laws s → PinsRemember s.pool.core }
@@ -93,6 +97,11 @@ pub fn checkpoints_store()
 /// The end of a checkpoint's syncs: where a backend has swept each lane up to a position, each entry of the log up to there is durable in its block's lane.
 pub fn sweeps_store()
     ensures { (s : State) → Laws s → SweepsStore s }
+{}
+
+/// Once all backends but the first have ended, what they all read and wrote is one history of the log.
+pub fn ends_in_history()
+    ensures { (s : State) → Laws s → EndsInHistory s }
 {}
 
 /// What the views list of the changes of state words, count of the moves of the clock's hand, and keep of where they raised the flushed position fixes each frame's state word, where the hand stands, and the flushed position.

@@ -1,0 +1,162 @@
+-- Each step keeps that only blocks whose pages were sound at the start are read and written.
+use Rattle.std.proofs.Common.{◌≡◌, ◌≢◌, ℕ, zero, suc, ◌+◌, ◌<◌, Bool, true, false, List, [], ◌∷◌, ◌++◌, length, set, Some, None, sym, refl, ap, ◌∙◌, subst, ⊎_elim, arith}
+use mathlib.Core.Logic.{dite}
+use mathlib.Core.Option.{some, some-ne-none}
+use native.Mathlib.Decide.{ℕ_discrete}
+use lib.ListN.{get_elem?}
+use Rattle.page_layout.specs.Soundness.{is_sound_page}
+use Rattle.pin_core.specs.declared.view.Call.{Call}
+use Rattle.pin_core.specs.declared.view.Content.TheVariants.{Unlocked, Exclusive}
+use Rattle.pin_core.specs.declared.view.Seen.TheVariants as seen
+use Rattle.pin_core.specs.declared.view.View.{View}
+use Rattle.pin_core.specs.State.{Config, Frame, Page, no_tag, link, hold, first_view, new_view, emptied_view, joined_view}
+use Rattle.pin_core.specs.State as pins
+use Rattle.pin_core.specs.Tallies.{flag_weight}
+use Rattle.pin_core.specs.Kinds as pin_kinds
+use Rattle.pin_core.specs.Turns.{view_turned}
+use Rattle.pin_core.specs.Steps as pin_steps
+use Rattle.page_core.specs.Steps as page_steps
+use Rattle.page_core.specs.Kinds.{begin_write, make_entry}
+use Rattle.page_core.specs.Tallies.{unapplied_locks, weigh}
+use Rattle.page_core.proofs.Waits.{some_term}
+use Rattle.history_core.specs.Log.{Entry, record_size, cell, tag_of}
+use Rattle.history_core.specs.Lanes.{lane_back}
+use Rattle.history_core.specs.Device.{view_logged}
+use Rattle.history_core.specs.State.{State, Store, opening}
+use Rattle.history_core.specs.Invariant.{Invariant}
+use Rattle.history_core.specs.Histories.{IsStored}
+use Rattle.history_core.specs.Sound.{WasSound, SoundLaw, ShowsSound, IsUntouched, UnsoundStay}
+use Rattle.history_core.specs.Steps.{Event, new_entry, stepped, ticked, looked, pool_noting, paged, laned, has_loaded, has_begun, has_read, has_written, has_raised, Step, pools, lanes, writes, notes, logs, enters, reads, loads_end, begins, loads_flushed, raises, adds_hand, loads_hand}
+use Rattle.history_core.proofs.Calls.{at_both}
+use Rattle.history_core.proofs.Histories.{clean_stored}
+use Rattle.grid.specs.Shape.{put, total}
+use Rattle.grid.proofs.Lists.{at_set, at_end, at_only, put_else}
+
+-- the page of a block that has no entry
+pub cell_absent : (origin : ℕ → Page) (es : List Entry) (tag : ℕ) → ((k : ℕ) (e : Entry) → get_elem? es k ≡ some e → e.tag ≢ tag) → cell origin es tag ≡ origin tag
+unfolding cell
+cell_absent origin [] tag none = refl
+cell_absent origin (e ∷ es) tag none = cell_absent (put origin e.tag e.image) es tag (λ k d at. none (suc k) d at) ∙ put_else origin e.tag e.image tag (λ is. none 0 e refl (sym is))
+
+weighs_flag : (b : Bool) → 0 < flag_weight b → b ≡ true
+weighs_flag true lt = refl
+weighs_flag false lt = absurd (omega arith)
+
+either_way : (b : Bool) {A : Type 0} → (b ≡ true → A) → (b ≡ false → A) → A
+either_way true x y = x refl
+either_way false x y = y refl
+
+not_both : {b : Bool} → b ≡ true → b ≡ false → ⊥
+not_both a b = cc
+
+module _ (s : State) (h : Invariant s) (entries : (k : ℕ) (e : Entry) → get_elem? s.log.entries k ≡ some e → WasSound s e.tag) where
+  -- no entry is of a block whose page was not sound
+  none_of : (tag : ℕ) → s.known tag ≡ true → is_sound_page (s.origin tag) ≡ false → (k : ℕ) (e : Entry) → get_elem? s.log.entries k ≡ some e → e.tag ≢ tag
+  none_of tag known unsound k e at is = not_both (subst (WasSound s) is (entries k e at) known) unsound
+
+  -- the page after the log of such a block
+  first_page : (tag : ℕ) → s.known tag ≡ true → is_sound_page (s.origin tag) ≡ false → s.pool.logged tag ≡ Some (s.origin tag)
+  first_page tag known unsound = h.logged tag known ∙ ap Some (cell_absent s.origin s.log.entries tag (none_of tag known unsound))
+
+  -- the block of a valid frame
+  valid_sound : (f : ℕ) → f < s.pool.core.frames → (s.pool.core.frame f).tag ≢ no_tag → (s.pool.core.frame f).word.valid ≡ true → WasSound s (s.pool.core.frame f).tag
+  valid_sound f below named valid known = let fr : Frame = s.pool.core.frame f in let c = h.pool.pages.columns f below in let locks : ℕ = total (λ (v : View). weigh unapplied_locks (link v f)) s.pool.core.views in
+      either_way (is_sound_page (s.origin fr.tag)) (λ e. e) (λ (unsound : is_sound_page (s.origin fr.tag) ≡ false). let is = first_page fr.tag known unsound in dite (ℕ_discrete locks 0)
+      (λ (none : locks ≡ 0). ap is_sound_page (c.page (s.origin fr.tag) valid named none is) ∙ c.sound valid)
+      (λ (more : locks ≢ 0). let x = some_term (λ (v : View). weigh unapplied_locks (link v f)) s.pool.core.views (omega arith) in
+      ((h.pool.pages.cells x.0 x.1 f x.2 below).unapplied (weighs_flag (link x.1 f).unapplied x.3)).is_sound (s.origin fr.tag) is))
+
+  -- the block of a frame that a view has locked
+  locked_sound : (i f : ℕ) (v : View) → get_elem? s.pool.core.views i ≡ some v → f < s.pool.core.frames → (link v f).content ≢ Unlocked → WasSound s (s.pool.core.frame f).tag
+  locked_sound i f v there below locked = let x = (h.pool.pages.cells i v f there below).content locked in valid_sound f below (x.2).named x.1
+
+  -- and where its pin remembers the block
+  remembered : (i f tag : ℕ) (v : View) → get_elem? s.pool.core.views i ≡ some v → f < s.pool.core.frames → (link v f).tag ≡ Some tag → WasSound s (s.pool.core.frame f).tag → WasSound s tag
+  remembered i f tag v there below is = subst (WasSound s) ((h.pool.core.grid.cells i v f there below).remembers tag is).1
+
+-- the calls of a list of views
+abbrev AreSound : State → List View → Type 0
+AreSound s views = (i k : ℕ) (v : View) (c : Call) → get_elem? views i ≡ some v → get_elem? v.calls k ≡ some c → WasSound s (tag_of c)
+
+module _ (s : State) (views : List View) (m : AreSound s views) where
+  -- a view changes, whose calls are sound
+  calls_set : (i : ℕ) (w : View) → ((k : ℕ) (c : Call) → get_elem? w.calls k ≡ some c → WasSound s (tag_of c)) → AreSound s (set views i w)
+  calls_set i w x j k u c at is = ⊎_elim (λ (y : (j ≡ i) × (w ≡ u)). x k c (subst (λ (z : View). get_elem? z.calls k ≡ some c) (sym y.1) is)) (λ (y : (j ≢ i) × (get_elem? views j ≡ some u)). m j k u c y.1 is) (at_set views i j w u at)
+
+  calls_same : (i : ℕ) (v w : View) → get_elem? views i ≡ some v → w.calls ≡ v.calls → AreSound s (set views i w)
+  calls_same i v w there same = calls_set i w (λ k c at. m i k v c there (subst (λ (l : List Call). get_elem? l k ≡ some c) same at))
+
+  -- with one call more
+  calls_added : (i : ℕ) (v w : View) (c : Call) → get_elem? views i ≡ some v → w.calls ≡ v.calls ++ c ∷ [] → WasSound s (tag_of c) → AreSound s (set views i w)
+  calls_added i v w c there more is = calls_set i w (λ k d at. ⊎_elim (λ (y : get_elem? v.calls k ≡ some d). m i k v d there y) (λ (y : (c ≡ d) × (k ≡ length v.calls)). subst (λ (z : Call). WasSound s (tag_of z)) y.0 is) (at_end v.calls c d k (subst (λ (l : List Call). get_elem? l k ≡ some d) more at)))
+
+no_calls : {c : Call} (k : ℕ) → get_elem? [] k ≡ some c → ⊥
+no_calls {c = c} k at = some-ne-none c (sym at)
+
+pools_sound : (s : State) → AreSound s s.pool.core.views → {e : pin_steps.Event} {core' : pins.State} → pin_steps.Step e s.pool.core core' → AreSound s core'.views
+pools_sound s m (pin_steps.touches i f k v there live inside a around) = calls_same s s.pool.core.views m i v (pin_kinds.view_after k s.pool.core.partition_of f (s.pool.core.frame f) (link v f) v) there refl
+pools_sound s m (pin_steps.turns i p k v there live below a) = calls_same s s.pool.core.views m i v (view_turned k p (hold v p) v) there refl
+pools_sound s m (pin_steps.splits v there room) = let w : View = record v { next = v.next + 1 } in let b : View = new_view v.next s.pool.core.base (length v.links) (length v.partitions) (length v.lanes) in let x = calls_same s s.pool.core.views m 0 v w there refl in
+    λ j k u c at is. ⊎_elim (λ (y : get_elem? (set s.pool.core.views 0 w) j ≡ some u). x j k u c y is) (λ (y : (b ≡ u) × (j ≡ length (set s.pool.core.views 0 w))). absurd (no_calls k (subst (λ (z : View). get_elem? z.calls k ≡ some c) (sym y.0) is))) (at_end (set s.pool.core.views 0 w) b u j at)
+pools_sound s m (pin_steps.joins j v u there other here live free) = let w : View = joined_view v u in
+    let x = calls_set s s.pool.core.views m 0 w (λ k c at. ⊎_elim (λ (y : get_elem? v.calls k ≡ some c). m 0 k v c there y) (λ (y : (n : ℕ) × (get_elem? u.calls n ≡ some c)). m j y.0 u c here y.1) (at_both v.calls u.calls k c at)) in
+    calls_set s (set s.pool.core.views 0 w) x j emptied_view (λ k c at. absurd (no_calls k at))
+
+exclusive_locked : {c : _} → c ≡ Exclusive → c ≡ Unlocked → ⊥
+exclusive_locked a e = cc
+
+pub sound_kept : {e : Event} {s t : State} → Step e s t → Invariant s → SoundLaw s → SoundLaw t
+sound_kept (pools {s = s} (page_steps.cores x) a) h m = record { entries = m.entries; calls = pools_sound s m.calls x }
+sound_kept (pools {s = s} (page_steps.touches i f k v there live inside a around) plain) h m = record { entries = m.entries; calls = calls_same s s.pool.core.views m.calls i v (paged k s.pool f v) there refl }
+sound_kept (lanes {s = s} i q k v there live low a alone) h m = record { entries = m.entries; calls = calls_same s s.pool.core.views m.calls i v (stepped (laned k q v v)) there refl }
+sound_kept (writes {s = s} i q f k v there live low inside a x) h m = record { entries = m.entries; calls = calls_same s s.pool.core.views m.calls i v (laned k q v (paged begin_write s.pool f v)) there refl }
+sound_kept (notes {s = s} i q f noted k v there live low inside a x) h m = record { entries = m.entries; calls = calls_same s s.pool.core.views m.calls i v (laned (lane_back noted) q v (paged k (pool_noting k s f) f v)) there refl }
+sound_kept (logs {s = s} i k v there live a record_is) h m = record { entries = m.entries; calls = calls_same s s.pool.core.views m.calls i v (view_logged k v) there refl }
+sound_kept (enters {s = s} i f p v there live inside x) h m = let tag = (s.pool.core.frame f).tag in let end = s.end + record_size in let entry = new_entry s v.number tag p in let was : WasSound s tag = locked_sound s h m.entries i f v there inside (exclusive_locked x.right.right) in record {
+  entries = λ k e at. ⊎_elim (λ (y : get_elem? s.log.entries k ≡ some e). m.entries k e y) (λ (y : (entry ≡ e) × (k ≡ length s.log.entries)). subst (λ (z : Entry). WasSound s z.tag) y.0 was) (at_end s.log.entries entry e k at);
+  calls = calls_added s s.pool.core.views m.calls i v (has_written end tag p (paged (make_entry p) s.pool f v)) _ there refl was;
+}
+sound_kept (reads {s = s} i f tag p v there live inside a) h m = record { entries = m.entries; calls = calls_added s s.pool.core.views m.calls i v (looked (seen.LogEnd s.end) (has_read s.end tag p v)) _ there refl (remembered s h m.entries i f tag v there inside a.remembered (locked_sound s h m.entries i f v there inside a.right)) }
+sound_kept (loads_end {s = s} i v there live) h m = record { entries = m.entries; calls = calls_same s s.pool.core.views m.calls i v (has_loaded s.end v) there refl }
+sound_kept (begins {s = s} i v there live) h m = record { entries = m.entries; calls = calls_same s s.pool.core.views m.calls i v (has_begun s.end (looked (seen.LogEnd s.end) v)) there refl }
+sound_kept (loads_flushed {s = s} i v there live) h m = record { entries = m.entries; calls = calls_same s s.pool.core.views m.calls i v (looked (seen.Flushed s.flushed) (record v { flushed = s.flushed })) there refl }
+sound_kept (raises {s = s} i v there live synced) h m = record { entries = m.entries; calls = calls_same s s.pool.core.views m.calls i v (has_raised s.end v) there refl }
+sound_kept (adds_hand {s = s} i v there live) h m = record { entries = m.entries; calls = calls_same s s.pool.core.views m.calls i v (ticked v) there refl }
+sound_kept (loads_hand {s = s} i v there live) h m = record { entries = m.entries; calls = calls_same s s.pool.core.views m.calls i v (looked (seen.Hand s.hand) v) there refl }
+
+pub sound_open : (c : Config) (store : Store) (page : Page) → SoundLaw (opening c store page)
+sound_open c store page = record {
+  entries = λ k e at. absurd (some-ne-none e (sym at));
+  calls = λ i k v d there at. absurd (no_calls k (subst (λ (z : View). get_elem? z.calls k ≡ some d) (sym (at_only (first_view c.base c.frames c.partitions c.lanes) v i there).0) at));
+}
+
+-- what shows that a block's page was sound
+pub shows : (s : State) → Invariant s → SoundLaw s → ShowsSound s
+shows s h m = record {
+  seen = λ i f tag v there below is valid. let x = h.pool.core.grid.cells i v f there below in remembered s h m.entries i f tag v there below is (valid_sound s h m.entries f below ((x.remembers tag is).0).named (x.seen valid));
+  copied = λ i f tag v there below is copied. remembered s h m.entries i f tag v there below is (locked_sound s h m.entries i f v there below (by_copy (link v f).copied copied (λ p e. ((h.pool.pages.cells i v f there below).copied p e).right)));
+  called = m.calls;
+}
+  where
+    by_copy : (o : _) → o ≢ None → {A : Type 0} → ((p : Page) → o ≡ Some p → A) → A
+    by_copy None there is = absurd (there refl)
+    by_copy (Some p) there is = is p refl
+
+-- a block whose page was not sound is as it was
+pub stay_untouched : (s : State) → Invariant s → SoundLaw s → UnsoundStay s
+stay_untouched s h m tag named known unsound = record { unentered = none; is_cell = cell_is; invalid = invalid; done = stored_is.done; stored_is = stored_is.stored_is known ∙ cell_is }
+  where
+    none : (k : ℕ) (e : Entry) → get_elem? s.log.entries k ≡ some e → e.tag ≢ tag
+    none = none_of s h m.entries tag known unsound
+
+    cell_is : cell s.origin s.log.entries tag ≡ s.origin tag
+    cell_is = cell_absent s.origin s.log.entries tag none
+
+    invalid : (f : ℕ) → f < s.pool.core.frames → (s.pool.core.frame f).tag ≡ tag → (s.pool.core.frame f).word.valid ≡ false
+    invalid f below is = either_way (s.pool.core.frame f).word.valid (λ valid. absurd (not_both (subst (WasSound s) is (valid_sound s h m.entries f below (λ e. named (sym is ∙ e)) valid) known) unsound)) (λ e. e)
+
+    clean : (f : ℕ) → f < s.pool.core.frames → (s.pool.core.frame f).tag ≡ tag → (s.pool.core.frame f).word.dirty ≡ false
+    clean f below is = either_way (s.pool.core.frame f).word.dirty (λ dirty. absurd (not_both ((h.pool.core.grid.columns f below).dirty dirty) (invalid f below is))) (λ e. e)
+
+    stored_is : IsStored s tag
+    stored_is = clean_stored s h tag named clean

@@ -1,0 +1,43 @@
+-- Blocks whose pages were sound at the start: no other block is read or written.
+use Rattle.std.specs.Prelude.{◌≡◌, ◌≢◌, ℕ, ◌<◌, true, false, Some, None}
+use mathlib.Core.Option.{some}
+use lib.ListN.{get_elem?}
+use Rattle.page_layout.specs.Soundness.{is_sound_page}
+use Rattle.pin_core.specs.declared.view.Call.{Call}
+use Rattle.pin_core.specs.declared.view.View.{View}
+use Rattle.pin_core.specs.State.{no_tag, link}
+use Rattle.history_core.specs.Log.{Entry, cell, tag_of}
+use Rattle.history_core.specs.State.{State, stored, failed}
+
+-- the page that the block's lane held at the start is sound, if the lane's contents are known
+abbrev pub WasSound : State → ℕ → Type 0
+WasSound s tag = s.known tag ≡ true → is_sound_page (s.origin tag) ≡ true
+
+-- Entries and calls are of blocks whose pages were sound at the start, where these are known
+pub record SoundLaw (s : State) : Type 0 where
+  pub entries : (k : ℕ) (e : Entry) → get_elem? s.log.entries k ≡ some e → WasSound s e.tag
+  pub calls : (i k : ℕ) (v : View) (c : Call) → get_elem? s.pool.core.views i ≡ some v → get_elem? v.calls k ≡ some c → WasSound s (tag_of c)
+
+-- What a backend has that shows that a block's page was sound at the start, where that is known
+pub record ShowsSound (s : State) : Type 0 where
+  -- a pin that remembers the block and has seen BM_VALID
+  pub seen : (i f tag : ℕ) (v : View) → get_elem? s.pool.core.views i ≡ some v → f < s.pool.core.frames → (link v f).tag ≡ Some tag → (link v f).seen_valid ≡ true → WasSound s tag
+  -- a copy that was made under a content lock, where the pin remembers the block
+  pub copied : (i f tag : ℕ) (v : View) → get_elem? s.pool.core.views i ≡ some v → f < s.pool.core.frames → (link v f).tag ≡ Some tag → (link v f).copied ≢ None → WasSound s tag
+  -- a call
+  pub called : (i k : ℕ) (v : View) (c : Call) → get_elem? s.pool.core.views i ≡ some v → get_elem? v.calls k ≡ some c → WasSound s (tag_of c)
+
+-- A block that is as it was at the start
+pub record IsUntouched (s : State) (tag : ℕ) : Type 0 where
+  -- it has no entry
+  pub unentered : (k : ℕ) (e : Entry) → get_elem? s.log.entries k ≡ some e → e.tag ≢ tag
+  pub is_cell : cell s.origin s.log.entries tag ≡ s.origin tag
+  -- no valid frame has it
+  pub invalid : (f : ℕ) → f < s.pool.core.frames → (s.pool.core.frame f).tag ≡ tag → (s.pool.core.frame f).word.valid ≡ false
+  -- no write of it failed last, and its lane holds the page still
+  pub done : failed s tag ≡ false
+  pub stored_is : stored s tag ≡ s.origin tag
+
+-- so is each block whose page was not sound, where the contents of its lane are known
+abbrev pub UnsoundStay : State → Type 0
+UnsoundStay s = (tag : ℕ) → tag ≢ no_tag → s.known tag ≡ true → is_sound_page (s.origin tag) ≡ false → IsUntouched s tag
