@@ -9,11 +9,12 @@ use Rattle.page_layout.specs.Summary.{summary_of}
 use Rattle.page_layout.specs.Text.{scan_line_of}
 use Rattle.page_layout.specs.Scan.{counted, is_invalid, is_new, is_used, pointers_of, scan_lines_from, scan_text, totals_of, totals_of_summaries, totals_text}
 
-lines_append : (block : ℕ) (ps qs : List (List ℕ)) → scan_lines_from block (ps ++ qs) ≡ scan_lines_from block ps ++ scan_lines_from (block + length ps) qs
-lines_append block [] qs = ap (λ (n : ℕ). scan_lines_from n qs) (sym (add-zero block))
-lines_append block (p ∷ ps) qs =
+-- the lines of two lists of pages
+pub scan_lines_from-append : (block : ℕ) (ps qs : List (List ℕ)) → scan_lines_from block (ps ++ qs) ≡ scan_lines_from block ps ++ scan_lines_from (block + length ps) qs
+scan_lines_from-append block [] qs = ap (λ (n : ℕ). scan_lines_from n qs) (sym (add-zero block))
+scan_lines_from-append block (p ∷ ps) qs =
     let n : block + 1 + length ps ≡ block + suc (length ps) = omega arith in
-    ap (λ (l : List ℕ). scan_line_of block p ++ l) (lines_append (block + 1) ps qs)
+    ap (λ (l : List ℕ). scan_line_of block p ++ l) (scan_lines_from-append (block + 1) ps qs)
     ∙ sym (append_assoc (scan_line_of block p) (scan_lines_from (block + 1) ps) (scan_lines_from (block + 1 + length ps) qs))
     ∙ ap (λ (m : ℕ). (scan_line_of block p ++ scan_lines_from (block + 1) ps) ++ scan_lines_from m qs) n
 
@@ -26,7 +27,7 @@ lines_more pages k below =
     let p = get_or pages k [] in
     let n : 0 + length (take k pages) ≡ k = grind (arith, length-take) in
     ap (λ (ps : List (List ℕ)). scan_lines_from 0 ps) (take_more pages k [] below)
-    ∙ lines_append 0 (take k pages) (p ∷ [])
+    ∙ scan_lines_from-append 0 (take k pages) (p ∷ [])
     ∙ ap (λ (m : ℕ). scan_lines_from 0 (take k pages) ++ scan_lines_from m (p ∷ [])) n
     ∙ ap (λ (l : List ℕ). scan_lines_from 0 (take k pages) ++ l) (one_line k p)
 
@@ -87,7 +88,7 @@ text_after pages k within =
     let last = totals_text (totals_of pages) ++ codes "\n" in (
       more ++ last,
       ap (λ (ps : List (List ℕ)). scan_lines_from 0 ps ++ last) (sym (take-append-drop k pages))
-          ∙ ap (λ (l : List ℕ). l ++ last) (lines_append 0 (take k pages) (drop k pages))
+          ∙ ap (λ (l : List ℕ). l ++ last) (scan_lines_from-append 0 (take k pages) (drop k pages))
           ∙ append_assoc (scan_lines_from 0 (take k pages)) more last,
     )
 

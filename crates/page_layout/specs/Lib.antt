@@ -4,3 +4,8 @@ pub mod Pointers
 pub mod Summary
 pub mod Text
 pub mod Scan
+pub mod Rewritten
+pub mod Compact
+pub mod Dump
+pub mod Outcomes
+pub mod Positions

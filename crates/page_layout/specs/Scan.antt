@@ -66,6 +66,19 @@ counted t (Used u) = record t {
   unused = t.unused + u.pointers.unused;
 }
 
+-- the sums of two totals
+abbrev pub sum_of_totals : ScanTotals → ScanTotals → ScanTotals
+sum_of_totals t u = record {
+  blocks = t.blocks + u.blocks;
+  used = t.used + u.used;
+  new = t.new + u.new;
+  invalid = t.invalid + u.invalid;
+  normal = t.normal + u.normal;
+  redirect = t.redirect + u.redirect;
+  dead = t.dead + u.dead;
+  unused = t.unused + u.unused;
+}
+
 unfoldable pub totals_text : ScanTotals → List ℕ
 totals_text t = joined (codes "blocks " ∷ decimal t.blocks ∷ codes " used " ∷ decimal t.used ∷ codes " new " ∷ decimal t.new ∷ codes " invalid " ∷ decimal t.invalid ∷ codes " normal " ∷ decimal t.normal ∷ codes " redirect " ∷ decimal t.redirect ∷ codes " dead " ∷ decimal t.dead ∷ codes " unused " ∷ decimal t.unused ∷ [])
 

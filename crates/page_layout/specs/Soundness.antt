@@ -1,5 +1,5 @@
 -- Which pages are new, and which are sound.
-use Rattle.std.specs.Prelude.{ℕ, Bool, not, ◌&&◌, ◌||◌, ◌==◌, ◌%◌, nat_lt, nat_le, List}
+use Rattle.std.specs.Prelude.{◌≡◌, ℕ, Bool, true, false, length, not, ◌&&◌, ◌||◌, ◌==◌, ◌%◌, nat_lt, nat_le, List}
 use Rattle.std.specs.List.{list_all}
 use Rattle.page_layout.specs.declared.page.Header.{Header}
 use Rattle.page_layout.specs.Fields.{header_of}
@@ -17,3 +17,9 @@ is_sound_header h =
 -- new, or with a sound header
 unfoldable pub is_sound_page : List ℕ → Bool
 is_sound_page page = is_new_page page || is_sound_header (header_of page)
+
+-- sound and not new
+pub record IsUsedPage (page : List ℕ) : Type 0 where
+  pub size : length page ≡ 8192
+  pub sound : is_sound_page page ≡ true
+  pub used : is_new_page page ≡ false

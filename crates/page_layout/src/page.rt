@@ -1,14 +1,16 @@
 //! A page, its header and its line pointers (`bufpage.h`).
-ghost use Rattle.std.specs.Prelude.{◌≡◌, ◌≤◌, ◌<◌, ◌-◌, ◌+◌, ◌*◌, ◌/◌, ◌++◌, IfOk, length, drop, replicate, true};
+ghost use Rattle.std.specs.Prelude.{◌≡◌, ◌≤◌, ◌<◌, ◌-◌, ◌+◌, ◌*◌, ◌/◌, ◌^◌, ◌++◌, IfOk, length, drop, replicate, true};
 ghost use Rattle.byteorder.specs.Endian.{little_bytes};
 ghost use Rattle.page_layout.specs.Fields.{header_of, item_count, item_of, lsn_of, pointer_at, with_lsn};
-ghost use Rattle.page_layout.specs.Soundness.{is_new_page, is_sound_header, is_sound_page};
+ghost use Rattle.page_layout.specs.Soundness.{IsUsedPage, is_new_page, is_sound_header, is_sound_page};
 
 use byteorder::{ByteOrder, LittleEndian};
 use std::alloc::{AllocError, Global};
 use std::io;
 use std::marker::Model;
 use std::os::unix::fs::FileExt;
+
+mod compact;
 
 /// How many bytes a page has.
 pub const PAGE_SIZE: usize = 8192;
@@ -19,7 +21,7 @@ const HEADER_SIZE: u16 = 24;
 /// A position in the write-ahead log.
 pub type Lsn = u64;
 
-/// Want of memory, where it is the one refusal.
+/// Out of memory, where that is the only error.
 pub type Memory = AllocError;
 
 /// The first 24 bytes of a page.
@@ -77,7 +79,8 @@ pub struct Item {
 impl Item {
     /// From a line pointer's 32 bits, the low ones first: 15 of offset, 2 of state, 15 of length.
     fn from_bits(bits: u32) -> Item
-        ensures { result ≡ item_of bits }
+        ensures is { result ≡ item_of bits }
+        ensures short { (result.offset < 2 ^ 15) × (result.length < 2 ^ 15) }
     {
         Item {
             offset: (bits % 0x8000) as u16,
@@ -173,6 +176,7 @@ impl Page {
     pub fn set_lsn(&mut self, lsn: Lsn)
         ensures bytes { self.new ≡ with_lsn lsn self.old }
         ensures reads_back { lsn_of self.new ≡ lsn }
+        ensures stays_used { IsUsedPage self.old → IsUsedPage self.new }
     {
         self.write_halves((lsn / 0x1_0000_0000) as u32, (lsn % 0x1_0000_0000) as u32);
     }
@@ -209,7 +213,8 @@ impl Page {
         requires sound { is_sound_page self.now ≡ true }
         requires first { 1 ≤ n }
         requires last { n ≤ item_count self.now }
-        ensures { result ≡ item_of (pointer_at self.now (n - 1)) }
+        ensures is { result ≡ item_of (pointer_at self.now (n - 1)) }
+        ensures short { (result.offset < 2 ^ 15) × (result.length < 2 ^ 15) }
     {
         Item::from_bits(self.pointer(usize::from(n) - 1))
     }

@@ -1,6 +1,6 @@
 //! The totals of a scan.
-ghost use Rattle.std.specs.Prelude.{◌≡◌, ◌≤◌, ◌<◌, ◌+◌, ◌*◌, ◌^◌, Some};
-ghost use Rattle.page_layout.specs.Scan.{IsWithin, counted, no_totals, totals_text};
+ghost use Rattle.std.specs.Prelude.{◌≡◌, ◌≤◌, ◌<◌, ◌+◌, ◌*◌, ◌^◌, ◌++◌, List, ℕ, Some};
+ghost use Rattle.page_layout.specs.Scan.{IsWithin, counted, no_totals, sum_of_totals, totals_of, totals_text};
 
 use crate::summary::{PageSummary, PointerCounts};
 use std::fmt;
@@ -49,6 +49,26 @@ impl ScanTotals {
             PageSummary::New => self.new += 1,
             PageSummary::Used(used) => self.count_used(used.pointers),
         }
+    }
+
+    /// Adds the totals of other pages.
+    pub fn add(&mut self, other: &ScanTotals)
+        requires within { IsWithin self.now self.now.blocks }
+        requires other_within { IsWithin other.now other.now.blocks }
+        requires room { self.now.blocks + other.now.blocks ≤ 2 ^ 32 }
+        ensures added { self.exit.now ≡ sum_of_totals self.entry.now other.now }
+        ensures within { IsWithin self.exit.now (self.entry.now.blocks + other.now.blocks) }
+        // So they are the totals of both lists of pages.
+        ensures pages { (ps : List (List ℕ)) (qs : List (List ℕ)) → self.entry.now ≡ totals_of ps → other.now ≡ totals_of qs → self.exit.now ≡ totals_of (ps ++ qs) }
+    {
+        self.blocks += other.blocks;
+        self.used += other.used;
+        self.new += other.new;
+        self.invalid += other.invalid;
+        self.normal += other.normal;
+        self.redirect += other.redirect;
+        self.dead += other.dead;
+        self.unused += other.unused;
     }
 
     /// Counts a used page with these pointers.

@@ -54,7 +54,7 @@ ghost use Rattle.page_layout.specs.Summary.{summary_of, used_of};
 
 impl Page {
     /// How many line pointers there are of each state.
-    fn pointer_counts(&self) -> PointerCounts
+    pub fn pointer_counts(&self) -> PointerCounts
         requires { is_sound_page self.now ≡ true }
         ensures counts { result ≡ counts_of (items_of self.now) }
         ensures total { total_of result ≤ item_count self.now }

@@ -7,7 +7,7 @@ pub loop-place-preserved : goal.loop-place-preserved
 loop-place-preserved c =
     let place = c.loop-place.place in
     let before : place + 1 - 1 ≡ place = omega arith in
-    let item = c.item.ensures ∙ ap (λ (k : ℕ). item_of (pointer_at c.args.self.now k)) before in
+    let item = c.item.ensures.is ∙ ap (λ (k : ℕ). item_of (pointer_at c.args.self.now k)) before in
     let more = counts_of-first_items_more c.args.self.now place in
     record {
       counts = cc (item, more, c.count.ensures.counted, c.loop-place.invariant.counts);
