@@ -1,5 +1,5 @@
--- Loads of the log's end: a page that is read while the log has no entry is the one that its lane held at the start.
-use Rattle.std.proofs.Common.{◌≡◌, ℕ, ◌+◌, ◌*◌, ◌<◌, ◌≤◌, true, false, Option, Some, List, [], ◌∷◌, map, length, sym, refl, ap, ◌∙◌, arith}
+-- What loads show of the pages that the lanes held at the start.
+use Rattle.std.proofs.Common.{◌≡◌, ◌⊎◌, inl, inr, ℕ, ◌+◌, ◌*◌, ◌<◌, ◌≤◌, Bool, true, false, Option, Some, List, [], ◌∷◌, map, length, get_or, sym, refl, ap, ◌∙◌, subst, ⊎_elim, arith}
 use Rattle.std.specs.Prelude.{is_some}
 use mathlib.Core.Option.{none, some}
 use lib.ListN.{get_elem?}
@@ -7,26 +7,36 @@ use Rattle.atomic_table.specs.Table.{Me, step, Allows}
 use Rattle.atomic_table.proofs.Lists.{at_map}
 use Rattle.block_tag.specs.declared.tag.Tag.{Tag}
 use Rattle.block_tag.specs.Names.{packed_tag}
+use Rattle.state_word.specs.declared.word.StateWord.{StateWord}
+use Rattle.state_word.specs.Fields.{fields}
+use Rattle.page_layout.specs.Fields.{lsn_of}
+use Rattle.page_layout.specs.Soundness.{is_sound_page}
 use Rattle.segment_store.specs.Contents.{Pages}
+use Rattle.pin_core.specs.declared.view.Link.{Link}
 use Rattle.pin_core.specs.declared.view.View.{View}
 use Rattle.pin_core.specs.State.{Page, link}
 use Rattle.history_core.specs.Laws.{Laws}
-use Rattle.history_core.specs.Log.{Entry, cell}
+use Rattle.history_core.specs.Log.{Entry, cell, end_of}
 use Rattle.history_core.specs.State.{State}
+use Rattle.history_core.proofs.Logs.{cell_is, ends_below}
+use Rattle.history_core.proofs.Sound.{stay_untouched}
 use Rattle.table_rule.specs.declared.value.Value.{Value}
 use Rattle.table_rule.specs.declared.opening.Opening.{Opening}
-use Rattle.table_rule.specs.Layout.{end_place, lane_of_tag}
+use Rattle.table_rule.specs.Layout.{end_place, lane_of_tag, state_place}
 use Rattle.table_rule.specs.Shows.{Devices, Held, IsOpened, IsPlaced}
 use Rattle.table_rule.specs.TakenLanes.{IsBlockOf}
 use Rattle.table_rule.proofs.LanesOut.{block_number, map_at}
 use Rattle.frame_table.specs.declared.log_words.EndLoad.{EndLoad}
 use Rattle.frame_table.specs.declared.log_words.EndLoad.TheVariants.{Plain, Read, Checkpoint}
 use Rattle.frame_table.specs.declared.table.FrameTable.{FrameTable}
+use Rattle.frame_table.specs.Opened.{CopiesAreLogged, FitsHeld, FitsOpening, LoggedOrOpening, tells_look}
 use Rattle.frame_table.specs.Behind.{tells_word}
 use Rattle.frame_table.specs.EndLoads.{IsEndAllowed, ReadsHeld, ReadsOpening, end_kind, tells_end_load}
 use Rattle.frame_table.specs.Sees.{base_of, lanes_in, opened_of, relations_of}
+use Rattle.frame_table.specs.Tells.{always, looking, tells}
 use Rattle.frame_table.proofs.Allowing.{allows_with}
 use Rattle.frame_table.proofs.Behind.{loads_end_there}
+use Rattle.frame_table.proofs.Words.{looks}
 
 -- a log that ends where it begins has no entry
 no_entries : (base : ℕ) (es : List Entry) → base + 8224 * length es ≡ base → es ≡ []
@@ -38,48 +48,124 @@ cell_none : (origin : ℕ → Page) (word : ℕ) → cell origin [] word ≡ ori
 unfolding cell
 cell_none origin word = refl
 
+some_same : (p q : Page) → Some p ≡ Some q → p ≡ q
+some_same p q e = cc
+
+not_both : {b : Bool} → b ≡ true → b ≡ false → ⊥
+not_both a b = cc
+
+module _ {L G : Type 0} (d : Devices L G) (o : Opening L G) (s : State) (h : IsOpened d o s) (laws : Laws s) where
+  -- A block of a lane whose contents were known at the start
+  module _ (tag : Tag) (q : ℕ) (l : L) (known : Pages) (block : IsBlockOf o.catalog.value o.config.lanes q tag) (at : get_elem? o.lanes.value.items q ≡ some l) (told : d.contents l ≡ Some known) where
+    abbrev word : ℕ
+    word = packed_tag tag
+
+    placed : IsPlaced o.catalog.value o.config.lanes q word tag
+    placed = block_number d o.catalog.value o.config.lanes q tag block
+
+    is_known : s.known word ≡ true
+    is_known = h.known q l word at (ap (lane_of_tag o.config.lanes) placed.named ∙ placed.placed) ∙ ap (λ (x : Option Pages). is_some x) told
+
+    first : known tag ≡ Some (s.origin word)
+    first = h.origin q l known word tag at told placed
+
+    abbrev now : Page
+    now = cell s.origin s.log.entries word
+
+    logged : s.pool.logged word ≡ Some now
+    logged = laws.invariant.logged word is_known
+
+    -- at a frame whose tag the pin remembers
+    module _ (id f : ℕ) (v : View) (there : get_elem? s.pool.core.views id ≡ some v) (inside : f < s.pool.core.frames) (remembers : (link v f).tag ≡ Some word) where
+      tagged : (s.pool.core.frame f).tag ≡ word
+      tagged = ((laws.invariant.pool.core.grid.cells id v f there inside).remembers word remembers).1
+
+      frame_logged : s.pool.logged (s.pool.core.frame f).tag ≡ Some now
+      frame_logged = ap s.pool.logged tagged ∙ logged
+
+      copied_is : (page : Page) → (link v f).copied ≡ Some page → now ≡ page
+      copied_is page copied = ((laws.invariant.pool.pages.cells id v f there inside).copied page copied).is_logged now frame_logged
+
+      read_is : (page : Page) → (link v f).read ≡ Some page → now ≡ page
+      read_is page read = ((laws.invariant.pool.pages.cells id v f there inside).read page read).is_logged now frame_logged
+
+      -- a page that was copied is at the log's end or before it, or the one at the start
+      copied_logged : (page : Page) → (link v f).copied ≡ Some page → (lsn_of page ≤ s.end) ⊎ (known tag ≡ Some page)
+      copied_logged page copied = ⊎_elim
+          (λ (is : now ≡ s.origin word). inr (first ∙ ap (λ (p : Page). Some p) (sym is ∙ copied_is page copied)))
+          (λ (x : (k : ℕ) × (e : Entry) × (get_elem? s.log.entries k ≡ some e) × (now ≡ e.image)). inl (subst (λ (p : Page). lsn_of p ≤ s.end) (sym x.3 ∙ copied_is page copied)
+              (let a = (laws.invariant.log.images x.0 x.1 x.2).ends in let b = ends_below s.log x.1 laws.invariant.log x.0 x.1 x.2 in let c = laws.invariant.ends in omega arith)))
+          (cell_is s.origin s.log.entries word)
+
+      -- a page that the lane gave and that isn't sound is the one at the start
+      unsound_first : (page : Page) → (link v f).read ≡ Some page → is_sound_page page ≡ false → known tag ≡ Some page
+      unsound_first page read unsound = ⊎_elim
+          (λ (is : now ≡ s.origin word). first ∙ ap (λ (p : Page). Some p) (sym is ∙ read_is page read))
+          (λ (x : (k : ℕ) × (e : Entry) × (get_elem? s.log.entries k ≡ some e) × (now ≡ e.image)). absurd (not_both (ap is_sound_page (sym (read_is page read) ∙ x.3) ∙ (laws.invariant.log.images x.0 x.1 x.2).sound) unsound))
+          (cell_is s.origin s.log.entries word)
+
+      -- the page at the start of a block with a valid frame was sound
+      valid_first : (s.pool.core.frame f).word.valid ≡ true → (page : Page) → known tag ≡ Some page → is_sound_page page ≡ true
+      valid_first valid page is = subst (λ (p : Page). is_sound_page p ≡ true) (some_same (s.origin word) page (sym first ∙ is)) (of_sound (is_sound_page (s.origin word)) refl)
+        where
+          of_sound : (b : Bool) → is_sound_page (s.origin word) ≡ b → is_sound_page (s.origin word) ≡ true
+          of_sound true e = e
+          of_sound false e = absurd (not_both valid ((stay_untouched s laws.invariant laws.sound word (λ none. ((laws.invariant.pool.core.grid.cells id v f there inside).remembers word remembers).0.named (tagged ∙ none)) is_known e).invalid f inside tagged))
+
+  -- while the log has no entry the page is the one at the start
+  none_yet : s.end ≡ o.base → s.log.entries ≡ []
+  none_yet at_base = no_entries s.log.base s.log.entries (sym laws.invariant.ends ∙ at_base ∙ sym h.base)
+
+  -- by the pages that each lane held
+  module _ (id : ℕ) (v : View) (there : get_elem? s.pool.core.views id ≡ some v) where
+    reads_held : (what : EndLoad) → IsEndAllowed o.config.frames what v → s.end ≡ o.base → ReadsHeld o.catalog.value o.config.lanes (map d.contents o.lanes.value.items) what v
+    reads_held Plain allowed at_base = tt
+    reads_held Checkpoint allowed at_base = tt
+    reads_held (Read f) allowed at_base = λ tag page remembers copied q known block at. let l = map_at d.contents o.lanes.value.items q (Some known) at in let inside : f < s.pool.core.frames = (let e = h.frames in let low = allowed.0 in omega arith) in
+        first tag q l.0 known block l.1 l.2 ∙ ap (λ (p : Page). Some p) (sym (ap (λ (es : List Entry). cell s.origin es (packed_tag tag)) (none_yet at_base) ∙ cell_none s.origin (packed_tag tag)) ∙ copied_is tag q l.0 known block l.1 l.2 id f v there inside remembers page copied)
+
+    copies_logged : CopiesAreLogged o.catalog.value o.config.lanes (map d.contents o.lanes.value.items) o.config.frames s.end v
+    copies_logged f tag page low remembers copied q known block at = let l = map_at d.contents o.lanes.value.items q (Some known) at in
+        copied_logged tag q l.0 known block l.1 l.2 id f v there (let e = h.frames in omega arith) remembers page copied
+
+    fits_held : (f : ℕ) (w : StateWord) → f < s.pool.core.frames → (s.pool.core.frame f).word ≡ w → FitsHeld o.catalog.value o.config.lanes (map d.contents o.lanes.value.items) (link v f) w
+    fits_held f w inside is = record {
+      unsound = λ tag page remembers read unsound q known block at. let l = map_at d.contents o.lanes.value.items q (Some known) at in unsound_first tag q l.0 known block l.1 l.2 id f v there inside remembers page read unsound;
+      valid = λ tag remembers valid q known page block at held. let l = map_at d.contents o.lanes.value.items q (Some known) at in valid_first tag q l.0 known block l.1 l.2 id f v there inside remembers (ap (λ (x : StateWord). x.valid) is ∙ valid) page held;
+    }
+
 module _ {L G : Type 0} (d : Devices L G) (o : Opening L G) where
-  -- a page that was copied while the log has no entry
-  copied_is : (s : State) (id f : ℕ) (v : View) → IsOpened d o s → Laws s → get_elem? s.pool.core.views id ≡ some v → f < s.pool.core.frames → s.end ≡ o.base → (tag : Tag) (page : Page) → (link v f).tag ≡ Some (packed_tag tag) → (link v f).copied ≡ Some page
-      → (q : ℕ) (l : L) (known : Pages) → IsBlockOf o.catalog.value o.config.lanes q tag → get_elem? o.lanes.value.items q ≡ some l → d.contents l ≡ Some known → known tag ≡ Some page
-  copied_is s id f v h laws there inside at_base tag page remembers copied q l known block at told = h.origin q l known word tag at told placed ∙ ap (λ (p : Page). Some p) same
-    where
-      word : ℕ
-      word = packed_tag tag
-
-      placed : IsPlaced o.catalog.value o.config.lanes q word tag
-      placed = block_number d o.catalog.value o.config.lanes q tag block
-
-      is_known : s.known word ≡ true
-      is_known = h.known q l word at (ap (lane_of_tag o.config.lanes) placed.named ∙ placed.placed) ∙ ap (λ (x : Option Pages). is_some x) told
-
-      none_yet : s.log.entries ≡ []
-      none_yet = no_entries s.log.base s.log.entries (sym laws.invariant.ends ∙ at_base ∙ sym h.base)
-
-      logged : s.pool.logged word ≡ Some (s.origin word)
-      logged = laws.invariant.logged word is_known ∙ ap (λ (es : List Entry). Some (cell s.origin es word)) none_yet ∙ ap (λ (p : Page). Some p) (cell_none s.origin word)
-
-      same : s.origin word ≡ page
-      same = ((laws.invariant.pool.pages.cells id v f there inside).copied page copied).is_logged (s.origin word) (ap s.pool.logged ((laws.invariant.pool.core.grid.cells id v f there inside).remembers word remembers).1 ∙ logged)
-
-  reads_held : (what : EndLoad) (s : State) (id : ℕ) (v : View) → IsOpened d o s → Laws s → get_elem? s.pool.core.views id ≡ some v → IsEndAllowed o.config.frames what v → s.end ≡ o.base → ReadsHeld o.catalog.value o.config.lanes (map d.contents o.lanes.value.items) what v
-  reads_held Plain s id v h laws there allowed at_base = tt
-  reads_held Checkpoint s id v h laws there allowed at_base = tt
-  reads_held (Read f) s id v h laws there allowed at_base = λ tag page remembers copied q known block at. let l = map_at d.contents o.lanes.value.items q (Some known) at in
-      copied_is s id f v h laws there (let e = h.frames in let low = allowed.0 in omega arith) at_base tag page remembers copied q l.0 known block l.1 l.2
-
   pub loads_end_held : (slots id : ℕ) (me : Me (Value L G) View) → me.0.emptied ≡ false → (what : EndLoad) → IsEndAllowed o.config.frames what me.0
-      → Allows (Held d o) slots id me (end_place o.config.frames) (λ n. n) (tells_end_load what o.base o.catalog.value o.config.lanes (map d.contents o.lanes.value.items) (step slots (end_place o.config.frames) 0 0 none) me)
+      → Allows (Held d o) slots id me (end_place o.config.frames) (λ n. n) (tells_end_load what o.config.frames o.base o.catalog.value o.config.lanes (map d.contents o.lanes.value.items) (step slots (end_place o.config.frames) 0 0 none) me)
   loads_end_held slots id me live what allowed = allows_with (Held d o) slots id me (end_place o.config.frames) (λ n. n) (tells_word (end_kind what) (step slots (end_place o.config.frames) 0 0 none) me)
-      (λ found. (o.base ≤ found) × (found ≡ o.base → ReadsHeld o.catalog.value o.config.lanes (map d.contents o.lanes.value.items) what me.0))
+      (λ found. (o.base ≤ found) × (found ≡ o.base → ReadsHeld o.catalog.value o.config.lanes (map d.contents o.lanes.value.items) what me.0) × CopiesAreLogged o.catalog.value o.config.lanes (map d.contents o.lanes.value.items) o.config.frames found me.0)
       (loads_end_there d o slots id me live what allowed)
       (λ t h there. let here : get_elem? h.state.pool.core.views id ≡ some me.0 = ap (λ (l : List View). get_elem? l id) (sym h.shows.views) ∙ there in let says = h.shows.latches.end in (
         (let from = h.laws.invariant.flushed_from in let to = h.laws.invariant.flushed_to in let base = h.shows.fixed.base in omega arith),
-        λ e. reads_held what h.state id me.0 h.shows.fixed h.laws here allowed (sym says ∙ e),
+        (λ e. reads_held d o h.state h.shows.fixed h.laws id me.0 here what allowed (sym says ∙ e)),
+        subst (λ (end : ℕ). CopiesAreLogged o.catalog.value o.config.lanes (map d.contents o.lanes.value.items) o.config.frames end me.0) (sym says) (copies_logged d o h.state h.shows.fixed h.laws id me.0 here),
       ))
 
+  pub looks_held : (slots id f : ℕ) (me : Me (Value L G) View) → f < o.config.frames → me.0.emptied ≡ false
+      → Allows (Held d o) slots id me (state_place f) (λ n. n) (tells_look f o.catalog.value o.config.lanes (map d.contents o.lanes.value.items) (step slots (state_place f) 0 0 none) me)
+  looks_held slots id f me below live = allows_with (Held d o) slots id me (state_place f) (λ n. n) (tells (always looking) (step slots (state_place f) 0 0 none) me)
+      (λ found. FitsHeld o.catalog.value o.config.lanes (map d.contents o.lanes.value.items) (link me.0 f) (fields found))
+      (looks d o slots id f me below live)
+      (λ t h there. let here : get_elem? h.state.pool.core.views id ≡ some me.0 = ap (λ (l : List View). get_elem? l id) (sym h.shows.views) ∙ there in
+          fits_held d o h.state h.shows.fixed h.laws id me.0 here f (fields (get_or t.words (state_place f) 0)) (let e = h.shows.fixed.frames in omega arith) (h.shows.frame f below).word)
+
 -- the same by the lanes that the table was opened with
-pub opened_held : {L G : Type 0} (contents : L → Option Pages) (t : FrameTable L G) (what : EndLoad) (place : ℕ) (v : View) → (place ≡ base_of t → ReadsHeld (relations_of t) (lanes_in t) (map contents (opened_of t)) what v) → ReadsOpening contents t what place v
-opened_held contents t Plain place v h = tt
-opened_held contents t Checkpoint place v h = tt
-opened_held contents t (Read f) place v h = λ e tag page remembers copied q l known block at told. h e tag page remembers copied q known block (at_map contents (opened_of t) q l at ∙ ap (λ (x : Option Pages). some x) told)
+module _ {L G : Type 0} (contents : L → Option Pages) (t : FrameTable L G) where
+  pub opened_held : (what : EndLoad) (place : ℕ) (v : View) → (place ≡ base_of t → ReadsHeld (relations_of t) (lanes_in t) (map contents (opened_of t)) what v) → ReadsOpening contents t what place v
+  opened_held Plain place v h = tt
+  opened_held Checkpoint place v h = tt
+  opened_held (Read f) place v h = λ e tag page remembers copied q l known block at told. h e tag page remembers copied q known block (at_map contents (opened_of t) q l at ∙ ap (λ (x : Option Pages). some x) told)
+
+  pub opened_logged : (end : ℕ) (v : View) → CopiesAreLogged (relations_of t) (lanes_in t) (map contents (opened_of t)) t.table.shared.key.config.frames end v → LoggedOrOpening contents t end v
+  opened_logged end v h f tag page low remembers copied q l known block at told = h f tag page low remembers copied q known block (at_map contents (opened_of t) q l at ∙ ap (λ (x : Option Pages). some x) told)
+
+  pub opened_fits : (l : Link) (w : StateWord) → FitsHeld (relations_of t) (lanes_in t) (map contents (opened_of t)) l w → FitsOpening contents t l w
+  opened_fits l w h = record {
+    unsound = λ tag page remembers read unsound q lane known block at told. h.unsound tag page remembers read unsound q known block (at_map contents (opened_of t) q lane at ∙ ap (λ (x : Option Pages). some x) told);
+    valid = λ tag remembers valid page q lane known block at told held. h.valid tag remembers valid q known page block (at_map contents (opened_of t) q lane at ∙ ap (λ (x : Option Pages). some x) told) held;
+  }

@@ -14,6 +14,7 @@ use Rattle.table_rule.specs.TakenLanes.{IsBlockOf}
 use Rattle.frame_table.specs.declared.log_words.EndLoad.{EndLoad}
 use Rattle.frame_table.specs.declared.log_words.EndLoad.TheVariants.{Plain, Read, Checkpoint}
 use Rattle.frame_table.specs.declared.table.FrameTable.{FrameTable}
+use Rattle.frame_table.specs.Opened.{CopiesAreLogged, IsHeld, WasAtOpening}
 use Rattle.frame_table.specs.Behind.{WordKind, load_end, read_end, begin_checkpoint, IsCopied, tells_word}
 use Rattle.frame_table.specs.Sees.{base_of, lanes_in, opened_of, relations_of}
 
@@ -27,23 +28,15 @@ abbrev pub IsEndAllowed : ℕ → EndLoad → View → Type 0
 IsEndAllowed frames (Read f) v = (f < frames) × IsCopied (link v f)
 IsEndAllowed frames _ v = Unit {0}
 
--- The page of a tag's block is the one that its lane, of so many, held at the start, where that is known: `held` has the pages of each lane then
-abbrev pub IsHeld : List RelEntry → ℕ → List (Option Pages) → Tag → Page → Type 0
-IsHeld relations lanes held tag page = (q : ℕ) (known : Pages) → IsBlockOf relations lanes q tag → get_elem? held q ≡ some (Some known) → known tag ≡ Some page
-
 -- the page that was copied, and is read, is the one that its lane held at the start
 abbrev pub ReadsHeld : List RelEntry → ℕ → List (Option Pages) → EndLoad → View → Type 0
 ReadsHeld relations lanes held (Read f) v = (tag : Tag) (page : Page) → (link v f).tag ≡ Some (packed_tag tag) → (link v f).copied ≡ Some page → IsHeld relations lanes held tag page
 ReadsHeld relations lanes held _ v = Unit {0}
 
 module _ {L G : Type 0} where
-  -- the log's end is at its base or behind it; where it is at the base each page that is read is the one that its lane held
-  abbrev pub tells_end_load : EndLoad → ℕ → List RelEntry → ℕ → List (Option Pages) → Step (Value L G) → Me (Value L G) View → ℕ → Me (Value L G) View → Type 0
-  tells_end_load what base relations lanes held st m found m' = tells_word (end_kind what) st m found m' × ((base ≤ found) × (found ≡ base → ReadsHeld relations lanes held what m.0))
-
-  -- The page of a tag's block is the one that its lane held as the table was opened, where the lane's contents were known
-  abbrev pub WasAtOpening : (L → Option Pages) → FrameTable L G → Tag → Page → Type 0
-  WasAtOpening contents t tag page = (q : ℕ) (l : L) (known : Pages) → IsBlockOf (relations_of t) (lanes_in t) q tag → get_elem? (opened_of t) q ≡ some l → contents l ≡ Some known → known tag ≡ Some page
+  -- the log's end is at its base or behind it, and each copied page is logged before it, or is the one at the start; where it is at the base each page that is read is that one
+  abbrev pub tells_end_load : EndLoad → ℕ → ℕ → List RelEntry → ℕ → List (Option Pages) → Step (Value L G) → Me (Value L G) View → ℕ → Me (Value L G) View → Type 0
+  tells_end_load what frames base relations lanes held st m found m' = tells_word (end_kind what) st m found m' × ((base ≤ found) × (found ≡ base → ReadsHeld relations lanes held what m.0) × CopiesAreLogged relations lanes held frames found m.0)
 
   -- a read whose place is the log's base is of that page
   abbrev pub ReadsOpening : (L → Option Pages) → FrameTable L G → EndLoad → ℕ → View → Type 0

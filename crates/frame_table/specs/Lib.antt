@@ -2,6 +2,7 @@ pub mod Kinds
 pub mod Tells
 pub mod Sees
 pub mod Behind
+pub mod Opened
 pub mod EndLoads
 pub mod Content
 pub mod Turning

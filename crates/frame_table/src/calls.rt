@@ -1,5 +1,5 @@
 //! Calls at state words.
-ghost use Rattle.std.specs.Prelude.{◌≡◌, ◌≢◌, ℕ, ◌<◌, true, false, Some, None, IfOk, IfErr, MatchResult};
+ghost use Rattle.std.specs.Prelude.{◌≡◌, ◌≢◌, ℕ, ◌<◌, map, true, false, Some, None, IfOk, IfErr, MatchResult};
 ghost use Rattle.state_word.specs.Fields.{fields, locked_fields, pinned_fields, unpinned_fields};
 ghost use Rattle.pin_core.specs.declared.view.View.{View};
 ghost use Rattle.pin_core.specs.declared.view.Role.TheVariants.{Absent, HandedOut};
@@ -7,11 +7,12 @@ ghost use Rattle.pin_core.specs.State.{link};
 ghost use Rattle.pin_core.specs.Kinds as kinds;
 ghost use Rattle.pin_core.specs.Steps.{HoldsNoHeader};
 ghost use Rattle.frame_table.specs.Kinds.{pins};
-ghost use Rattle.frame_table.specs.Sees.{CanStep, CanUnpin, Holds, IsWordOf, Looked, SameMarks, SameSeat, Touches, loaded_link, locked_link, pinned_link, unlocked_link, unpinned_link};
+ghost use Rattle.frame_table.specs.Opened.{FitsHeld, FitsOpening};
+ghost use Rattle.frame_table.specs.Sees.{CanStep, CanUnpin, Holds, IsWordOf, Looked, SameMarks, SameSeat, Touches, lanes_in, opened_of, relations_of, loaded_link, locked_link, pinned_link, unlocked_link, unpinned_link};
 ghost use Rattle.frame_table.specs.Tells.{Did, Looks, Refuses, Tried, chosen, has_locked, has_tag, if_found, if_unlocked, looking};
 
 use crate::pin::{Pin, TryPin};
-use crate::plays::{Does, LockHeader, Look, Step, UnlockHeader, Unpin};
+use crate::plays::{AtLook, Does, LockHeader, Look, Step, UnlockHeader, Unpin};
 use crate::table::FrameTable;
 use atomic_table::Seat;
 use log_device::LogDevice;
@@ -26,6 +27,17 @@ use table_rule::{Value, state_place};
 const LOCKED: u64 = 1 << 22;
 
 impl<L: BlockLane, G: LogDevice> FrameTable<L, G> {
+    fn look_at<D: AtLook>(&self, seat: &mut Seat<Value<L, G>, View>, _frame: u32) -> u64
+        requires frame { D.frame ≡ _frame }
+        requires known { (D.relations ≡ relations_of self.now) × (D.lanes ≡ lanes_in self.now) × (D.held ≡ map L.contents (opened_of self.now)) }
+        requires seat { CanStep self.now seat.old _frame }
+        ensures seat { SameSeat seat.old seat.new }
+        ensures fits { FitsHeld (relations_of self.now) (lanes_in self.now) (map L.contents (opened_of self.now)) (link seat.old.me.0 _frame) (fields result) }
+        ensures did { Did looking _frame seat.old.me.0 seat.new.me.0 result }
+    {
+        self.table.shared.load::<Look<D>>(seat, state_place(_frame))
+    }
+
     /// The state word of a frame. By it a pin sees that the page is valid, a wait is over where the word has no waiter, and the backend's checkpoint passes a frame that isn't dirty.
     pub fn look(&self, seat: &mut Seat<Value<L, G>, View>, frame: u32) -> u64
         requires { CanStep self.now seat.old frame }
@@ -35,15 +47,14 @@ impl<L: BlockLane, G: LogDevice> FrameTable<L, G> {
         ensures link { Looked (link seat.old.me.0 frame) (link seat.new.me.0 frame) }
         ensures loaded { link seat.new.me.0 frame ≡ loaded_link (fields result) (link seat.old.me.0 frame) }
         ensures word { IsWordOf (link seat.old.me.0 frame) (fields result) }
+        ensures opening { FitsOpening L.contents self.now (link seat.old.me.0 frame) (fields result) }
         ensures seen { (link seat.old.me.0 frame).role ≡ HandedOut → (fields result).valid ≡ true → (link seat.new.me.0 frame).seen_valid ≡ true }
         ensures over { (fields result).awaited ≡ false → (link seat.new.me.0 frame).waits ≡ None }
         ensures passed { (fields result).dirty ≡ false → (link seat.new.me.0 frame).passed ≡ true }
         ensures written { (fields result).checkpoint_needed ≡ false → (link seat.new.me.0 frame).listed ≡ false }
         ensures did { Did looking frame seat.old.me.0 seat.new.me.0 result }
     {
-        self.table
-            .shared
-            .load::<Step<Look>>(seat, state_place(frame))
+        self.look_at::<Brand>(seat, frame)
     }
 
     fn swap_pin<D: Does>(

@@ -2,6 +2,7 @@
 ghost use Rattle.std.specs.Prelude.{◌≡◌, ℕ, ◌≤◌, true, map, Some};
 ghost use Rattle.history_core.specs.Steps.{has_raised};
 ghost use Rattle.frame_table.specs.Behind.{DidWord, add_hand, load_flushed, load_hand, raise_flushed, view_of};
+ghost use Rattle.frame_table.specs.Opened.{CopiesAreLogged, LoggedOrOpening};
 ghost use Rattle.frame_table.specs.EndLoads.{IsEndAllowed, ReadsHeld, ReadsOpening, end_kind};
 ghost use Rattle.frame_table.specs.Sees.{IsSeat, SameSeat, base_of, frames_of, lanes_in, opened_of, relations_of};
 
@@ -26,20 +27,21 @@ pub enum EndLoad {
 
 impl<L: BlockLane, G: LogDevice> FrameTable<L, G> {
     fn end_at<D: AtEndLoad>(&self, seat: &mut Seat<Value<L, G>, View>, _what: EndLoad) -> u64
-        requires what { (D.what ≡ _what) × (D.base ≡ base_of self.now) }
+        requires what { (D.what ≡ _what) × (D.frames ≡ frames_of self.now) × (D.base ≡ base_of self.now) }
         requires known { (D.relations ≡ relations_of self.now) × (D.lanes ≡ lanes_in self.now) × (D.held ≡ map L.contents (opened_of self.now)) }
         requires seat { IsSeat self.now seat.old }
         requires allowed { IsEndAllowed (frames_of self.now) _what seat.old.me.0 }
         ensures seat { SameSeat seat.old seat.new }
         ensures base { base_of self.now ≤ result }
         ensures held { result ≡ base_of self.now → ReadsHeld (relations_of self.now) (lanes_in self.now) (map L.contents (opened_of self.now)) _what seat.old.me.0 }
+        ensures logged { CopiesAreLogged (relations_of self.now) (lanes_in self.now) (map L.contents (opened_of self.now)) (frames_of self.now) result seat.old.me.0 }
         ensures did { DidWord (end_kind _what) seat.old.me.0 seat.new.me.0 result }
     {
         let at = end_place(self.frames());
         self.table.shared.load::<LoadEnd<D>>(seat, at)
     }
 
-    /// The log's end, and what it is loaded for: as the place of a read it joins the backend's calls, and is its front then. A read whose place is the log's base is of the page that the block's lane held as the table was opened, where that is known.
+    /// The log's end, and what it is loaded for: as the place of a read it joins the backend's calls, and is its front then. A read whose place is the log's base is of the page that the block's lane held as the table was opened, where that is known; and then each page that the backend has copied has a position at the end or before it, or is that one.
     pub fn load_log_end(&self, seat: &mut Seat<Value<L, G>, View>, what: EndLoad) -> u64
         requires seat { IsSeat self.now seat.old }
         requires allowed { IsEndAllowed (frames_of self.now) what seat.old.me.0 }
@@ -48,6 +50,7 @@ impl<L: BlockLane, G: LogDevice> FrameTable<L, G> {
         ensures front { seat.old.me.0.front ≤ result }
         ensures base { base_of self.now ≤ result }
         ensures origin { ReadsOpening L.contents self.now what result seat.old.me.0 }
+        ensures logged { LoggedOrOpening L.contents self.now result seat.old.me.0 }
         ensures did { DidWord (end_kind what) seat.old.me.0 seat.new.me.0 result }
     {
         self.end_at::<Brand>(seat, what)

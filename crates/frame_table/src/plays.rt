@@ -1,8 +1,10 @@
 //! What each step tells its seat.
-ghost use Rattle.std.specs.Prelude.{ℕ, List, []};
+ghost use Rattle.std.specs.Prelude.{ℕ, List, [], Option};
+ghost use Rattle.segment_store.specs.Contents.{Pages};
+ghost use Rattle.frame_table.specs.Opened.{tells_look};
 ghost use Rattle.block_tag.specs.declared.catalogue.RelEntry.{RelEntry};
 ghost use Rattle.pin_core.specs.declared.view.MapEntry.{MapEntry};
-ghost use Rattle.frame_table.specs.Tells.{tells, tells_tag, Choice, always, if_found, if_unlocked, looking};
+ghost use Rattle.frame_table.specs.Tells.{tells, tells_tag, Choice, always, if_found, if_unlocked};
 ghost use Rattle.frame_table.specs.Kinds.{pins};
 ghost use Rattle.frame_table.specs.PageWork.{page_came, page_went};
 ghost use Rattle.frame_table.specs.Turning.{left, map_came, map_went, took};
@@ -33,10 +35,33 @@ impl Does for Brand {
     ghost choice = { always looking };
 }
 
-pub(crate) struct Look;
+/// The frame whose state word is loaded, the relations, how many lanes there are, and what they held as the table was opened. Each call picks it.
+pub(crate) trait AtLook {
+    ghost frame: { ℕ };
 
-impl Does for Look {
-    ghost choice = { always looking };
+    ghost relations: { List RelEntry };
+
+    ghost lanes: { ℕ };
+
+    ghost held: { List (Option Pages) };
+}
+
+impl AtLook for Brand {
+    ghost frame = { 0 };
+
+    ghost relations = { [] };
+
+    ghost lanes = { 0 };
+
+    ghost held = { [] };
+}
+
+pub(crate) struct Look<D> {
+    at: PhantomData<D>,
+}
+
+impl<L, G, D: AtLook> Play<Value<L, G>, View> for Look<D> {
+    ghost then = { tells_look D.frame D.relations D.lanes D.held };
 }
 
 pub(crate) struct Unpin;

@@ -25,9 +25,11 @@ impl<L, G, D: StepsAt> Play<Value<L, G>, View> for StepAt<D> {
     ghost then = { tells_word D.kind };
 }
 
-/// What the log's end is loaded for, where the log begins, the relations, how many lanes there are, and what they held as the table was opened. Each call picks it.
+/// What the log's end is loaded for, how many frames there are, where the log begins, the relations, how many lanes there are, and what they held as the table was opened. Each call picks it.
 pub(crate) trait AtEndLoad {
     ghost what: { EndLoad };
+
+    ghost frames: { ℕ };
 
     ghost base: { ℕ };
 
@@ -40,6 +42,8 @@ pub(crate) trait AtEndLoad {
 
 impl AtEndLoad for Brand {
     ghost what = { Plain };
+
+    ghost frames = { 0 };
 
     ghost base = { 0 };
 
@@ -55,7 +59,7 @@ pub(crate) struct LoadEnd<D> {
 }
 
 impl<L, G, D: AtEndLoad> Play<Value<L, G>, View> for LoadEnd<D> {
-    ghost then = { tells_end_load D.what D.base D.relations D.lanes D.held };
+    ghost then = { tells_end_load D.what D.frames D.base D.relations D.lanes D.held };
 }
 
 pub(crate) struct LoadFlushed;

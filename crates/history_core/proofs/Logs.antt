@@ -1,5 +1,5 @@
 -- A longer log, and what its entries make of the blocks' pages.
-use Rattle.std.proofs.Common.{◌≡◌, ◌≢◌, ℕ, zero, suc, ◌+◌, ◌*◌, ◌<◌, ◌≤◌, Bool, cond, List, [], ◌∷◌, ◌++◌, length, length-append, append-nil, sym, refl, ap, ◌∙◌, subst, ⊎_elim, arith}
+use Rattle.std.proofs.Common.{◌≡◌, ◌≢◌, ◌⊎◌, inl, inr, ℕ, zero, suc, ◌+◌, ◌*◌, ◌<◌, ◌≤◌, Bool, cond, List, [], ◌∷◌, ◌++◌, length, length-append, append-nil, sym, refl, ap, ◌∙◌, subst, ⊎_elim, arith}
 use Rattle.std.proofs.lemmas.Bool.{le-leb, lt-leb, cases_lt}
 use Rattle.std.proofs.lemmas.List.{append_assoc}
 use mathlib.Core.Logic.{dite}
@@ -18,6 +18,17 @@ pub cell_longer : (origin : ℕ → Page) (es : List Entry) (e : Entry) → cell
 unfolding cell
 cell_longer origin [] e = refl
 cell_longer origin (x ∷ es) e = cell_longer (put origin x.tag x.image) es e
+
+-- the page of a block is the one at the start, or the image of one of its entries
+pub cell_is : (origin : ℕ → Page) (es : List Entry) (tag : ℕ) → (cell origin es tag ≡ origin tag) ⊎ ((k : ℕ) × (e : Entry) × (get_elem? es k ≡ some e) × (cell origin es tag ≡ e.image))
+unfolding cell
+cell_is origin [] tag = inl refl
+cell_is origin (e ∷ es) tag = ⊎_elim
+    (λ (is : cell (put origin e.tag e.image) es tag ≡ put origin e.tag e.image tag). dite (ℕ_discrete tag e.tag)
+        (λ same. inr (zero, e, refl, is ∙ put_at origin e.tag e.image tag same))
+        (λ other. inl (is ∙ put_else origin e.tag e.image tag other)))
+    (λ (x : (k : ℕ) × (d : Entry) × (get_elem? es k ≡ some d) × (cell (put origin e.tag e.image) es tag ≡ d.image)). inr (suc x.0, x.1, x.2, x.3))
+    (cell_is (put origin e.tag e.image) es tag)
 
 pub cut_in : (p : ℕ) (e : Entry) (es : List Entry) → end_of e ≤ p → cut p (e ∷ es) ≡ e ∷ cut p es
 unfolding cut

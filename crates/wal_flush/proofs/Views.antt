@@ -1,5 +1,5 @@
 -- What inserts and flushes make of a view.
-use Rattle.std.proofs.Common.{◌≡◌, ◌≢◌, ℕ, ◌+◌, ◌<◌, ◌≤◌, Bool, true, false, List, [], ◌∷◌, ◌++◌, Option, None, length, get_or-set_same, get_or-set_other, refl, sym, ap, ◌∙◌, arith}
+use Rattle.std.proofs.Common.{◌≡◌, ◌≢◌, ℕ, ◌+◌, ◌<◌, ◌≤◌, Bool, true, false, List, [], ◌∷◌, ◌++◌, Option, None, length, get_or, subst, get_or-set_same, get_or-set_other, refl, sym, ap, ◌∙◌, arith}
 use Rattle.block_tag.specs.declared.tag.Tag.{Tag}
 use Rattle.block_tag.specs.declared.catalogue.RelEntry.{RelEntry}
 use Rattle.block_tag.specs.Names.{packed_tag}
@@ -16,6 +16,9 @@ use Rattle.history_core.specs.Device.{take_log, leave_log, log_out, append, sync
 use Rattle.history_core.specs.Log.{record_size}
 use Rattle.history_core.specs.Steps.{has_loaded}
 use Rattle.frame_table.specs.Behind.{DidWord, load_flushed, raise_flushed, view_of}
+use Rattle.segment_store.specs.Contents.{Pages}
+use Rattle.frame_table.specs.declared.table.FrameTable.{FrameTable}
+use Rattle.frame_table.specs.Opened.{LoggedOrOpening}
 use Rattle.frame_table.specs.Entering.{entered_link, view_entered}
 use Rattle.wal_flush.specs.declared.inserts.InsertError.{InsertError}
 use Rattle.wal_flush.specs.declared.inserts.InsertError.TheVariants as insert_error
@@ -195,3 +198,13 @@ pub unflushed_sees : (lsn : ℕ) (why : FlushLog) (v w : View) → FlushRefused 
 unflushed_sees lsn (flush_log.LogShort l at) v w (end, t) = let e = seen_after end (HolderRefused lsn end (flush_log.LogShort l at)) t.looked w t.work (let x = ap (λ (x : View). x.end_seen) t.work.work.3 in omega arith) in let is = t.work.work.1 in omega arith
 unflushed_sees lsn (flush_log.LogDown at) v w (end, t) = let a = t.work.work in let e = seen_after end (HolderRefused lsn end (flush_log.LogDown at)) t.looked w t.work (let x = ap (λ (x : View). x.end_seen) a.second.did.after in let y = down_seen at a.looked t.work.worked a.work.1 in omega arith) in let is = a.work.0 in omega arith
 unflushed_sees lsn flush_log.LogFault v w r = tt
+
+-- Copies that are logged or of the opening stay so where no link changes
+module _ {L G : Type 0} (contents : L → Option Pages) (t : FrameTable L G) where
+  pub logged_on : (end : ℕ) (v w : View) → w.links ≡ v.links → LoggedOrOpening contents t end w → LoggedOrOpening contents t end v
+  logged_on end v w e h f tag page low remembers copied = h f tag page low (ap (λ (l : List Link). (get_or l f idle).tag) e ∙ remembers) (ap (λ (l : List Link). (get_or l f idle).copied) e ∙ copied)
+
+  pub short_of : (lsn end : ℕ) (why : FlushLog) (v w : View) → Tries lsn end (HolderRefused lsn end why) v w → LoggedOrOpening contents t end v → flushing.ShortOf contents t v why
+  short_of lsn end (flush_log.LogShort l at) v w r h = subst (λ (n : ℕ). LoggedOrOpening contents t n v) (sym r.work.work.1) h
+  short_of lsn end (flush_log.LogDown at) v w r h = tt
+  short_of lsn end flush_log.LogFault v w r h = tt

@@ -1,9 +1,12 @@
 -- The log is flushed, or why not.
-use Rattle.std.specs.Prelude.{◌≡◌, ℕ, ◌<◌, ◌≤◌, true, false, [], ◌∷◌, ◌++◌}
+use Rattle.std.specs.Prelude.{◌≡◌, ℕ, ◌<◌, ◌≤◌, true, false, [], ◌∷◌, ◌++◌, Option}
 use Rattle.pin_core.specs.declared.view.DeviceCall.TheVariants.{LogSync}
 use Rattle.pin_core.specs.declared.view.View.{View}
 use Rattle.history_core.specs.Device.{sync_log, fail_sync, log_back}
 use Rattle.frame_table.specs.Behind.{DidWord, load_flushed, raise_flushed}
+use Rattle.segment_store.specs.Contents.{Pages}
+use Rattle.frame_table.specs.declared.table.FrameTable.{FrameTable}
+use Rattle.frame_table.specs.Opened.{LoggedOrOpening}
 use Rattle.frame_table.specs.LogWork.{DidTwo}
 use Rattle.wal_flush.specs.declared.flushes.FlushedBy.{FlushedBy}
 use Rattle.wal_flush.specs.declared.flushes.FlushedBy.TheVariants.{Another, Holder}
@@ -108,6 +111,11 @@ abbrev pub SeesEnd : FlushLog → View → Type 0
 SeesEnd (LogShort lsn end) w = end ≤ w.end_seen
 SeesEnd (LogDown at) w = at ≤ w.end_seen
 SeesEnd LogFault w = Unit {0}
+
+-- where the log is too short each page that the view has copied has a position at its end or before it, or is the one that its block's lane held as the table was opened, where that is known
+abbrev pub ShortOf : {L G : Type 0} → (L → Option Pages) → FrameTable L G → View → FlushLog → Type 0
+ShortOf contents t v (LogShort lsn end) = LoggedOrOpening contents t end v
+ShortOf contents t v _ = Unit {0}
 
 -- the view after a sync
 abbrev pub synced_view : View → View

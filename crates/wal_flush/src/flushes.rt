@@ -4,7 +4,7 @@ ghost use Rattle.table_rule.specs.declared.turn.Turn.TheVariants.{Log};
 ghost use Rattle.frame_table.specs.Sees.{CanTurn, IsSeat, SameSeat};
 ghost use Rattle.frame_table.specs.Turning.{MayLeave};
 ghost use Rattle.wal_flush.specs.Latched.{KeepsWork, opened_log};
-ghost use Rattle.wal_flush.specs.Flushes.{Awaits, Flushed, FlushRefused, HolderFlushed, HolderRefused, SeesEnd, SyncRefused, Syncs, as_looked, unflushed_view};
+ghost use Rattle.wal_flush.specs.Flushes.{Awaits, Flushed, FlushRefused, HolderFlushed, HolderRefused, SeesEnd, ShortOf, SyncRefused, Syncs, as_looked, unflushed_view};
 
 use crate::outings::{take_end, take_log};
 use atomic_table::Seat;
@@ -118,7 +118,7 @@ fn await_flushed<L: BlockLane, G: LogDevice, R: Wait>(
 
 /// Makes the log durable up to the position `lsn`, and the backend has seen the flushed position at `lsn` or behind it then (`XLogFlush`).
 ///
-/// Where the flushed position is so far already no device is called. Else it waits for the log's latch and looks once more: where another backend has flushed the log so far meanwhile no device is called either, whether the log is down by then or not. Else it makes one sync at most. It refuses where the log ends before `lsn`; then, where it isn't flushed so far under the latch, where it is down, and where the sync fails.
+/// Where the flushed position is so far already no device is called. Else it waits for the log's latch and looks once more: where another backend has flushed the log so far meanwhile no device is called either, whether the log is down by then or not. Else it makes one sync at most. It refuses where the log ends before `lsn`, as for the position of a page that was on disk before the log began; then, where it isn't flushed so far under the latch, where it is down, and where the sync fails.
 pub fn flush_to<L: BlockLane, G: LogDevice, R: Wait>(
     table: &FrameTable<L, G>,
     rt: &R,
@@ -133,6 +133,7 @@ pub fn flush_to<L: BlockLane, G: LogDevice, R: Wait>(
     ensures left { IfErr result (λ why. seat.new.me.0 ≡ as_looked (unflushed_view why seat.old.me.0) seat.new.me.0) }
     ensures did { IfOk result (λ _. Flushed lsn seat.old.me.0 seat.new.me.0) }
     ensures seen { IfErr result (λ why. SeesEnd why seat.new.me.0) }
+    ensures short { IfErr result (ShortOf L.contents table.now seat.old.me.0) }
     ensures cause { IfErr result (FlushRefused lsn seat.old.me.0 seat.new.me.0) }
 {
     if lsn <= table.load_flushed(seat) {

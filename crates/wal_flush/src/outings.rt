@@ -8,6 +8,7 @@ ghost use Rattle.table_rule.specs.declared.turn.Place.TheVariants.{Of};
 ghost use Rattle.table_rule.specs.declared.value.Value.TheVariants as value;
 ghost use Rattle.table_rule.specs.Layout.{slot_of};
 ghost use Rattle.frame_table.specs.LogWork.{LogWent};
+ghost use Rattle.frame_table.specs.Opened.{LoggedOrOpening};
 ghost use Rattle.frame_table.specs.Sees.{CanTurn, IsSeat, SameSeat, frames_of};
 ghost use Rattle.wal_flush.specs.Latched.{FindsDown, Opens, opened_log};
 
@@ -32,6 +33,7 @@ pub(crate) fn take_end<L: BlockLane, G: LogDevice, R: Wait>(
     ensures held { seat.new.me.0.log ≡ opened_log result }
     ensures links { seat.new.me.0.links ≡ seat.old.me.0.links }
     ensures front { seat.old.me.0.front ≤ result }
+    ensures logged { LoggedOrOpening L.contents table.now result seat.old.me.0 }
     ensures did { Opens result seat.old.me.0 seat.new.me.0 }
 {
     table.take_turn(rt, seat, Turn::Log);

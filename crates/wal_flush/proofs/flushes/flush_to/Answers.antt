@@ -1,7 +1,8 @@
-use Rattle.std.proofs.Common.{subst}
+use Rattle.std.proofs.Common.{ap, subst}
+use Rattle.pin_core.specs.declared.view.View.{View}
 use Rattle.wal_flush.specs.declared.flushes.FlushedBy.{FlushedBy}
 use Rattle.wal_flush.specs.Flushes.{HolderFlushed}
-use Rattle.wal_flush.proofs.Views.{flushes, flushed_work, unflushed, unflushed_sees, unflushed_work, was_flushed}
+use Rattle.wal_flush.proofs.Views.{flushes, flushed_work, logged_on, short_of, unflushed, unflushed_sees, unflushed_work, was_flushed}
 use Rattle.wal_flush.proofs.flushes.flush_to.Goals as goal
 
 pub returns-in-Another-clause-did : goal.returns-in-Another-clause-did
@@ -63,3 +64,7 @@ returns-in-Err-clause-work g c = unflushed_work _ _ _ (returns-in-Err-clause-lef
 
 pub returns-in-Err-clause-seen : goal.returns-in-Err-clause-seen
 returns-in-Err-clause-seen g c = unflushed_sees _ _ _ _ (returns-in-Err-clause-cause g c)
+
+pub returns-in-Err-clause-short : goal.returns-in-Err-clause-short
+unfolding returns-in-Err-clause-cause
+returns-in-Err-clause-short g c = short_of g.L.BlockLane.contents c.args.table.now _ c.take_end-end.result _ _ _ (returns-in-Err-clause-cause g c).1 (logged_on g.L.BlockLane.contents c.args.table.now _ _ _ (ap (λ (x : View). x.links) c.load_flushed.ensures.view) c.take_end-end.ensures.logged)

@@ -1,5 +1,8 @@
-use Rattle.frame_table.proofs.Origins.{opened_held}
+use Rattle.frame_table.proofs.Origins.{opened_held, opened_logged}
 use Rattle.frame_table.proofs.table.FrameTable.load_log_end.Goals as goal
 
 pub returns-clause-origin : goal.returns-clause-origin
 returns-clause-origin g c = opened_held g.L.BlockLane.contents c.args.self.now c.args.what _ _ c.end_at.ensures.held
+
+pub returns-clause-logged : goal.returns-clause-logged
+returns-clause-logged g c = opened_logged g.L.BlockLane.contents c.args.self.now _ _ c.end_at.ensures.logged
