@@ -1,5 +1,5 @@
 -- Which paths name a file of a relation.
-use Rattle.std.specs.Prelude.{ℕ, ◌+◌, ◌-◌, ◌*◌, ◌^◌, Bool, true, false, not, ◌&&◌, ◌==◌, nat_eq, nat_le, nat_lt, List, [], ◌∷◌, length, take, drop, fold, slice_index}
+use Rattle.std.specs.Prelude.{ℕ, ◌+◌, ◌-◌, ◌*◌, ◌^◌, Bool, true, false, not, ◌&&◌, ◌==◌, nat_eq, nat_le, nat_lt, List, [], ◌∷◌, length, take, drop, fold, slice_index, Option, Some, None, if◌then◌else◌}
 use Rattle.std.specs.List.{after_last, list_all, starts_with}
 use Rattle.block_tag.specs.declared.tag.Fork.{Fork}
 use Rattle.block_tag.specs.declared.tag.Fork.TheVariants.{Main, Fsm, Vm, Init}
@@ -35,6 +35,10 @@ number_part path = take (length (file_name path) - fork_length (fork_of path)) (
 -- the last part of the path is a relation's number, with or without a fork
 unfoldable pub is_relation_path : List ℕ → Bool
 is_relation_path path = is_relation_number (number_part path)
+
+-- the number of the relation that the path names
+abbrev pub relation_number : List ℕ → Option ℕ
+relation_number path = if is_relation_path path then Some (number_value (number_part path)) else None
 
 -- the path names the main fork
 abbrev pub is_main_fork : Fork → Bool

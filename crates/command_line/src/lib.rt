@@ -10,3 +10,4 @@ mod tests;
 
 pub use commands::{Command, read_command};
 pub use numbers::Options;
+pub use relation_path::relation_number;

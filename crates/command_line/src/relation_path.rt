@@ -1,7 +1,7 @@
 //! Which paths name a file of a relation.
-ghost use Rattle.std.specs.Prelude.{◌≡◌, ◌^◌, ◌-◌, min};
+ghost use Rattle.std.specs.Prelude.{◌≡◌, ◌^◌, ◌-◌, Some, None, if◌then◌else◌, min};
 ghost use Rattle.std.specs.List.{list_all};
-ghost use Rattle.command_line.specs.RelationPath.{file_name, fork_length, is_digit, is_file_end, is_file_of, is_main_fork, is_relation_number, is_relation_path, number_value};
+ghost use Rattle.command_line.specs.RelationPath.{file_name, fork_length, is_digit, is_file_end, is_file_of, is_main_fork, is_relation_number, is_relation_path, number_value, relation_number};
 ghost use Rattle.segment_store.specs.Paths.{fork_of};
 
 use block_tag::Fork;
@@ -50,29 +50,37 @@ fn has_only_digits(bytes: &[u8]) -> bool
     bytes.iter().all(|byte| b'0' <= *byte && *byte <= b'9')
 }
 
-/// Whether these are the digits of a relation's number.
+/// The number that digits are, where it is a relation's.
 #[tactic(auto, unfolding(crate::specs::RelationPath::is_relation_number))]
-fn is_relation_number(digits: &[u8]) -> bool
-    ensures { result ≡ is_relation_number digits.now }
+fn number_of_digits(digits: &[u8]) -> Option<u32>
+    ensures { result ≡ (if is_relation_number digits.now then Some (number_value digits.now) else None) }
 {
     if digits.first() == Some(&b'0') || !has_only_digits(digits) {
-        return false;
+        return None;
     }
     let value = number_value(digits);
-    if value == 0 {
-        return false;
+    if value == 0 || u64::from(u32::MAX) < value {
+        return None;
     }
-    value <= u64::from(u32::MAX)
+    Some(value as u32)
 }
 
-/// Whether the last part of a path is a relation's number, with or without a fork.
+/// The number of the relation that a path names: the decimal number that its last part is, with or
+/// without a fork, as `GetRelationPath` writes it. None where it is none.
 #[tactic(auto, unfolding(crate::specs::RelationPath::is_relation_path))]
-pub(crate) fn is_relation_path(path: &str) -> bool
-    ensures { result ≡ is_relation_path path.now }
+pub fn relation_number(path: &str) -> Option<u32>
+    ensures { result ≡ relation_number path.now }
 {
     let name = file_name(path.as_bytes());
     let end = name.len().saturating_sub(fork_length(fork_of_path(path)));
-    is_relation_number(&name[..end])
+    number_of_digits(&name[..end])
+}
+
+/// Whether the last part of a path is a relation's number, with or without a fork.
+pub(crate) fn is_relation_path(path: &str) -> bool
+    ensures { result ≡ is_relation_path path.now }
+{
+    relation_number(path).is_some()
 }
 
 /// Whether a path names a main fork.

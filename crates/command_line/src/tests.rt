@@ -1,5 +1,5 @@
 //! Words, and the commands that they spell.
-use crate::{Command, Options, read_command};
+use crate::{Command, Options, read_command, relation_number};
 use std::alloc::{AllocError, Global};
 use std::test::Fail;
 
@@ -247,4 +247,27 @@ fn options_of_each_command(rt: HostRuntime) -> Result<(), Fail> {
         );
     }
     Ok(())
+}
+
+/// Paths, and the numbers of the relations that they name.
+static NUMBERS: [(&str, Option<u32>); 12] = [
+    ("base/5/16384", Some(16384)),
+    ("base/5/16384_fsm", Some(16384)),
+    ("16384_init", Some(16384)),
+    ("/4294967295_vm", Some(u32::MAX)),
+    ("1", Some(1)),
+    ("0", None),
+    ("01", None),
+    ("4294967296", None),
+    ("16384/", None),
+    ("16384.1", None),
+    ("16384_vm_fsm", None),
+    ("base/5/_fsm", None),
+];
+
+#[test]
+fn numbers_of_relations(rt: HostRuntime) {
+    for (path, number) in &NUMBERS {
+        assert_eq!(rt; relation_number(path), *number, "of {path}");
+    }
 }

@@ -56,18 +56,18 @@ failed_call f tag p piece log_call.Synced e = absurd e
 failed_call f tag p piece log_call.SyncFailed e = absurd e
 
 -- The log x went out with the view v, which was u before, and it is y now
-module _ {G : Type 0} (bytes : G → Option (List ℕ)) (synced faults : G → ℕ) (relations : List RelEntry) (x y : NotedLog G) (u v : View) (went : LogWent bytes synced faults x u v) (unnoted : v.log.change ≡ change.Untouched) (did : LogDid bytes synced faults x.device y.device y.call) where
-  came : IsMarked y.call went.taken.down v.log.end y.down → MayCall relations y.call v → MayComeHome bytes synced faults relations y v
+module _ {G : Type 0} (bytes : G → Option (List ℕ)) (synced faults calls : G → ℕ) (relations : List RelEntry) (x y : NotedLog G) (u v : View) (went : LogWent bytes synced faults calls x u v) (unnoted : v.log.change ≡ change.Untouched) (did : LogDid bytes synced faults calls x.device y.device y.call) where
+  came : IsMarked y.call went.taken.down v.log.end y.down → MayCall relations y.call v → MayComeHome bytes synced faults calls relations y v
   came marked may = record { taken = went.taken; before = x.device; out = ap (λ (w : View). w.log.out) went.after; unnoted = unnoted; was = went.is_taken; did = did; marked = marked; may = may }
 
   -- after an append
   pub home_after_append : (f : ℕ) (tag : Tag) (p : Page) (piece : List ℕ) (end : ℕ) (result : Result (Unit {0}) Failed) → x.down ≡ None → v.log.end ≡ Some end → MatchResult result (λ _. IsAppended f tag p piece y.call) (λ _. IsFailedAppend f tag p piece y.call) → MatchResult result (λ _. y.down ≡ None) (λ _. y.down ≡ Some end) → MayAppend relations f tag p piece v
-      → MayComeHome bytes synced faults relations y v
+      → MayComeHome bytes synced faults calls relations y v
   home_after_append f tag p piece end (Ok done) up loaded call down may = came (marked_done y.call went.taken.down v.log.end y.down (done_append f tag p piece y.call call) (went.down ∙ up) down) (called_append relations f tag p piece y.call v call may)
   home_after_append f tag p piece end (Err e) up loaded call down may = came (marked_failed y.call went.taken.down v.log.end y.down end (failed_call f tag p piece y.call call) (went.down ∙ up) loaded down) (failed_append relations f tag p piece y.call v call may)
 
   -- after a sync
-  pub home_after_sync : (end : ℕ) (result : Result (Unit {0}) Failed) → x.down ≡ None → v.log.end ≡ Some end → MatchResult result (λ _. y.call ≡ log_call.Synced) (λ _. y.call ≡ log_call.SyncFailed) → MatchResult result (λ _. y.down ≡ None) (λ _. y.down ≡ Some end) → MayComeHome bytes synced faults relations y v
+  pub home_after_sync : (end : ℕ) (result : Result (Unit {0}) Failed) → x.down ≡ None → v.log.end ≡ Some end → MatchResult result (λ _. y.call ≡ log_call.Synced) (λ _. y.call ≡ log_call.SyncFailed) → MatchResult result (λ _. y.down ≡ None) (λ _. y.down ≡ Some end) → MayComeHome bytes synced faults calls relations y v
   home_after_sync end (Ok done) up loaded call down = came (marked_done y.call went.taken.down v.log.end y.down (ap has_failed call) (went.down ∙ up) down) (subst (λ (c : LogCall). MayCall relations c v) (sym call) tt)
   home_after_sync end (Err e) up loaded call down = came (marked_failed y.call went.taken.down v.log.end y.down end (ap has_failed call) (went.down ∙ up) loaded down) (subst (λ (c : LogCall). MayCall relations c v) (sym call) tt)
 
@@ -88,8 +88,8 @@ enters_still f tag p start v w links end e = record {
 }
 
 -- the record may be appended while the log is out where the page could be entered before
-pub appends_out : {G : Type 0} (bytes : G → Option (List ℕ)) (synced faults : G → ℕ) (x : NotedLog G) (u v : View) → LogWent bytes synced faults x u v → (relations : List RelEntry) (f : ℕ) (tag : Tag) (p : Page) (start : ℕ) (piece : List ℕ) → MayEnter f tag p start u → IsRecord relations tag start p piece → u.log.appended ≡ None → u.log.synced ≡ false → MayAppend relations f tag p piece v
-appends_out bytes synced faults x u v went relations f tag p start piece e r none unsynced = record {
+pub appends_out : {G : Type 0} (bytes : G → Option (List ℕ)) (synced faults calls : G → ℕ) (x : NotedLog G) (u v : View) → LogWent bytes synced faults calls x u v → (relations : List RelEntry) (f : ℕ) (tag : Tag) (p : Page) (start : ℕ) (piece : List ℕ) → MayEnter f tag p start u → IsRecord relations tag start p piece → u.log.appended ≡ None → u.log.synced ≡ false → MayAppend relations f tag p piece v
+appends_out bytes synced faults calls x u v went relations f tag p start piece e r none unsynced = record {
   start = start;
   enters = enters_still f tag p start u v (ap (λ (w : View). w.links) went.after) (ap (λ (w : View). w.log.end) went.after) e;
   is_record = r;
@@ -114,8 +114,8 @@ end_home log_call.Synced v = refl
 end_home log_call.SyncFailed v = refl
 
 -- and so the log's end may be stored
-pub stores_home : {G : Type 0} (bytes : G → Option (List ℕ)) (synced faults : G → ℕ) (x : NotedLog G) (u v w : View) → LogWent bytes synced faults x u v → (call : LogCall) → w ≡ view_home call v → (relations : List RelEntry) (f : ℕ) (tag : Tag) (p : Page) (start end : ℕ) (piece : List ℕ) → IsAppended f tag p piece call → MayEnter f tag p start u → IsRecord relations tag start p piece → end ≡ start + record_size → MayStoreEnd relations f tag p end w
-stores_home bytes synced faults x u v w went call home relations f tag p start end piece done e r next = record {
+pub stores_home : {G : Type 0} (bytes : G → Option (List ℕ)) (synced faults calls : G → ℕ) (x : NotedLog G) (u v w : View) → LogWent bytes synced faults calls x u v → (call : LogCall) → w ≡ view_home call v → (relations : List RelEntry) (f : ℕ) (tag : Tag) (p : Page) (start end : ℕ) (piece : List ℕ) → IsAppended f tag p piece call → MayEnter f tag p start u → IsRecord relations tag start p piece → end ≡ start + record_size → MayStoreEnd relations f tag p end w
+stores_home bytes synced faults calls x u v w went call home relations f tag p start end piece done e r next = record {
   start = start;
   enters = enters_still f tag p start u w (ap (λ (z : View). z.links) home ∙ ap (λ (z : View). z.links) went.after) (ap (λ (z : View). z.log.end) home ∙ end_home call v ∙ ap (λ (z : View). z.log.end) went.after) e;
   next = next;

@@ -22,7 +22,7 @@ rises a b low below rose = dite (ℕ_discrete a 18446744073709551615)
 
 module _ {L G : Type 0} (d : Devices L G) where
   -- the device that went out is the state's
-  pub log_before : (g : G) (taken : TakenLog) (dev : Device) → IsTaken d.bytes d.synced d.log_faults g taken → IsAsTaken taken dev → dev.faults ≡ taken.faults → IsLog d g taken.down dev
+  pub log_before : (g : G) (taken : TakenLog) (dev : Device) → IsTaken d.bytes d.synced d.log_faults d.log_calls g taken → IsAsTaken taken dev → dev.faults ≡ taken.faults → IsLog d g taken.down dev
   log_before g taken dev was same faults = record {
     bytes = λ known told. sym (same.bytes known (was.told ∙ told));
     synced = λ known told. same.synced ∙ was.durable known told;
@@ -35,7 +35,7 @@ module _ {L G : Type 0} (d : Devices L G) where
   of_known P None known e h = absurd (cc)
   of_known P (Some x) known e h = subst P (same_Some x known e) h
 
-  pub log_appended : (g g' : G) (mark : Option ℕ) (dev : Device) (piece : List ℕ) → IsLog d g mark dev → HasAppended d.bytes d.synced d.log_faults piece g g' → IsLog d g' mark (record dev { bytes = dev.bytes ++ piece })
+  pub log_appended : (g g' : G) (mark : Option ℕ) (dev : Device) (piece : List ℕ) → IsLog d g mark dev → HasAppended d.bytes d.synced d.log_faults d.log_calls piece g g' → IsLog d g' mark (record dev { bytes = dev.bytes ++ piece })
   log_appended g g' mark dev piece h did = of_told (d.bytes g) refl
     where
       of_told : (o : Option (List ℕ)) → d.bytes g ≡ o → IsLog d g' mark (record dev { bytes = dev.bytes ++ piece })
@@ -60,7 +60,7 @@ module _ {L G : Type 0} (d : Devices L G) where
     pub begins : part ++ more ≡ piece
     pub is_log : IsLog d g' (Some end) (record dev { bytes = dev.bytes ++ part; faults = d.log_faults g'; down = Some end })
 
-  pub log_torn : (g g' : G) (mark : Option ℕ) (end : ℕ) (dev : Device) (piece : List ℕ) → IsLog d g mark dev → HasFailedToAppend d.bytes d.synced d.log_faults piece g g' → Torn piece g g' end dev
+  pub log_torn : (g g' : G) (mark : Option ℕ) (end : ℕ) (dev : Device) (piece : List ℕ) → IsLog d g mark dev → HasFailedToAppend d.bytes d.synced d.log_faults d.log_calls piece g g' → Torn piece g g' end dev
   log_torn g g' mark end dev piece h did = of_told (d.bytes g) refl
     where
       of_prefix : (old : List ℕ) → d.bytes g ≡ Some old → (o : Option (List ℕ)) → d.bytes g' ≡ o → IsSomeAnd o (GainsPrefix piece old) → Torn piece g g' end dev
@@ -88,7 +88,7 @@ module _ {L G : Type 0} (d : Devices L G) where
       }
       of_told (Some old) e = of_prefix old e (d.bytes g') refl (of_known (λ (l : List ℕ). IsSomeAnd (d.bytes g') (GainsPrefix piece l)) (d.bytes g) old e did.added)
 
-  pub log_synced : (g g' : G) (mark : Option ℕ) (dev : Device) → IsLog d g mark dev → HasSynced d.bytes d.synced d.log_faults g g' → IsLog d g' mark (record dev { synced = length dev.bytes })
+  pub log_synced : (g g' : G) (mark : Option ℕ) (dev : Device) → IsLog d g mark dev → HasSynced d.bytes d.synced d.log_faults d.log_calls g g' → IsLog d g' mark (record dev { synced = length dev.bytes })
   log_synced g g' mark dev h did = record {
     bytes = λ known told. h.bytes known (sym did.same ∙ told);
     synced = λ known told. let e : d.bytes g ≡ Some known = sym did.same ∙ told in ap (λ (l : List ℕ). length l) (h.bytes known e) ∙ sym (of_known (λ (l : List ℕ). d.synced g' ≡ length l) (d.bytes g) known e did.durable);
@@ -96,7 +96,7 @@ module _ {L G : Type 0} (d : Devices L G) where
     down = h.down;
   }
 
-  pub log_unsynced : (g g' : G) (mark : Option ℕ) (end : ℕ) (dev : Device) → IsLog d g mark dev → HasFailedToSync d.bytes d.synced d.log_faults g g' → IsLog d g' (Some end) (record dev { faults = d.log_faults g'; down = Some end })
+  pub log_unsynced : (g g' : G) (mark : Option ℕ) (end : ℕ) (dev : Device) → IsLog d g mark dev → HasFailedToSync d.bytes d.synced d.log_faults d.log_calls g g' → IsLog d g' (Some end) (record dev { faults = d.log_faults g'; down = Some end })
   log_unsynced g g' mark end dev h did = record {
     bytes = λ known told. h.bytes known (sym did.same ∙ told);
     synced = λ known told. let e : d.bytes g ≡ Some known = sym did.same ∙ told in h.synced known e ∙ sym (of_known (λ _. d.synced g' ≡ d.synced g) (d.bytes g) known e did.durable);

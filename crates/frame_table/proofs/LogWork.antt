@@ -136,7 +136,7 @@ module _ {L G : Type 0} (d : Devices L G) (o : Opening L G) (slots id : ℕ) (me
   at_latch = step slots (latch_place o.config.frames turn.Log) 0 0 none
 
   pub log_goes_out : me.0.log.held ≡ true → me.0.log.out ≡ None
-      → Allows (Held d o) slots id me (latch_place o.config.frames turn.Log) (λ n. n) (log_went d.bytes d.synced d.log_faults (slot_of o.config.frames (place.Of turn.Log)) at_latch me)
+      → Allows (Held d o) slots id me (latch_place o.config.frames turn.Log) (λ n. n) (log_went d.bytes d.synced d.log_faults d.log_calls (slot_of o.config.frames (place.Of turn.Log)) at_latch me)
   log_goes_out held out t h deep there small = of_value value_there.value value_there.home value_there.gives
     where
       here : get_elem? h.state.pool.core.views id ≡ some me.0
@@ -145,7 +145,7 @@ module _ {L G : Type 0} (d : Devices L G) (o : Opening L G) (slots id : ℕ) (me
       value_there : HasValue d o t.homes h.state (place.Of turn.Log)
       value_there = h.shows.homes (place.Of turn.Log) tt (log_home h.state id me.0 h.laws here held out)
 
-      of_value : (y : Value L G) → get_elem? t.homes (o.config.frames + 144) ≡ some (some y) → GivesLog d y h.state.device → Acts t (log_went d.bytes d.synced d.log_faults (o.config.frames + 144) at_latch me)
+      of_value : (y : Value L G) → get_elem? t.homes (o.config.frames + 144) ≡ some (some y) → GivesLog d y h.state.device → Acts t (log_went d.bytes d.synced d.log_faults d.log_calls (o.config.frames + 144) at_latch me)
       of_value (value.Log x) home gives_it = of_mark x.down refl
         where
           taken : TakenLog
@@ -154,10 +154,10 @@ module _ {L G : Type 0} (d : Devices L G) (o : Opening L G) (slots id : ℕ) (me
           allowed : LogAllowed (log_out taken) h.state.device me.0.log
           allowed = record { held = held; home = out; faults = refl; synced = refl; down = refl; bytes = λ known e. sym (gives_it.0.bytes known e) }
 
-          is_taken_so : IsTaken d.bytes d.synced d.log_faults x.device taken
+          is_taken_so : IsTaken d.bytes d.synced d.log_faults d.log_calls x.device taken
           is_taken_so = record { told = refl; durable = gives_it.0.synced; counted = gives_it.0.faults }
 
-          result : (w : View) (views : List View) → views ≡ set h.state.pool.core.views id w → SameButLog me.0 w → is_some w.log.out ≡ true → w ≡ view_out taken me.0 → Laws (with_log h.state views h.state.device) → GoesOut taken x.down me.0 w → Acts t (log_went d.bytes d.synced d.log_faults (o.config.frames + 144) at_latch me)
+          result : (w : View) (views : List View) → views ≡ set h.state.pool.core.views id w → SameButLog me.0 w → is_some w.log.out ≡ true → w ≡ view_out taken me.0 → Laws (with_log h.state views h.state.device) → GoesOut taken x.down me.0 w → Acts t (log_went d.bytes d.synced d.log_faults d.log_calls (o.config.frames + 144) at_latch me)
           result w views are same away is laws did = (
             w,
             takes (o.config.frames + 144) (value.Log x),
@@ -171,7 +171,7 @@ module _ {L G : Type 0} (d : Devices L G) (o : Opening L G) (slots id : ℕ) (me
             (value.Log x, refl, ((gives_it.1, gives_it.2), record { taken = taken; is_taken = is_taken_so; down = gives_it.0.down; after = is; did = did })),
           )
 
-          of_mark : (m : Option ℕ) → x.down ≡ m → Acts t (log_went d.bytes d.synced d.log_faults (o.config.frames + 144) at_latch me)
+          of_mark : (m : Option ℕ) → x.down ≡ m → Acts t (log_went d.bytes d.synced d.log_faults d.log_calls (o.config.frames + 144) at_latch me)
           of_mark None e = let w : View = view_logged (log_out taken) me.0 in
               result w (set h.state.pool.core.views id w) refl (record { links = refl; partitions = refl; lanes = refl }) refl (out_view taken me.0 (gives_it.0.down ∙ e)) (laws_logged (log_out taken) h.state id me.0 h.laws here live allowed tt)
               (subst (λ (m : Option ℕ). GoesOut taken m me.0 w) (sym e) (did_log (log_out taken) h.state id me.0 h.laws here live allowed tt))
@@ -187,7 +187,7 @@ module _ {L G : Type 0} (d : Devices L G) (o : Opening L G) (slots id : ℕ) (me
       of_value value.Away home gives_it = absurd gives_it
 
 module _ {L G : Type 0} (d : Devices L G) (o : Opening L G) (slots id : ℕ) (me : Me (Value L G) View) (live : me.0.emptied ≡ false) where
-  pub log_comes_back : (x : NotedLog G) → me.1 ≡ (slot_of o.config.frames (place.Of turn.Log), value.Log (record x { call = log_call.Untouched })) ∷ rest me.1 → record_size ≤ vec_capacity x.buffer → ((g : G) → d.log_faults g < 18446744073709551616) → MayComeHome d.bytes d.synced d.log_faults o.catalog.value x me.0
+  pub log_comes_back : (x : NotedLog G) → me.1 ≡ (slot_of o.config.frames (place.Of turn.Log), value.Log (record x { call = log_call.Untouched })) ∷ rest me.1 → record_size ≤ vec_capacity x.buffer → ((g : G) → d.log_faults g < 18446744073709551616) → MayComeHome d.bytes d.synced d.log_faults d.log_calls o.catalog.value x me.0
       → Allows (Held d o) slots id me (latch_place o.config.frames turn.Log) (λ n. n) (log_came (d.bytes x.device) (d.log_faults x.device) x.call (at_latch d o slots id me live) me)
   log_comes_back x hand room fits may t h deep there small = of_call x.call may.did may.marked may.may
     where
@@ -247,7 +247,7 @@ module _ {L G : Type 0} (d : Devices L G) (o : Opening L G) (slots id : ℕ) (me
           home call w (set (set h.state.pool.core.views id u) id w) (device_after k h.state.end h.state.device) (twice h.state id k (log_back noted) me.0) latch (record { links = refl; partitions = refl; lanes = refl }) is (laws_logged (log_back noted) between id u laws here_now live back tt)
           (did w (record { between = u; first = did_log k h.state id me.0 h.laws here live a r; second = did_log (log_back noted) between id u laws here_now live back tt }))
 
-      of_call : (c : LogCall) → LogDid d.bytes d.synced d.log_faults may.before x.device c → IsMarked c may.taken.down me.0.log.end x.down → MayCall o.catalog.value c me.0 → Acts d o slots id me live t (log_came (d.bytes x.device) (d.log_faults x.device) c (at_latch d o slots id me live) me)
+      of_call : (c : LogCall) → LogDid d.bytes d.synced d.log_faults d.log_calls may.before x.device c → IsMarked c may.taken.down me.0.log.end x.down → MayCall o.catalog.value c me.0 → Acts d o slots id me live t (log_came (d.bytes x.device) (d.log_faults x.device) c (at_latch d o slots id me live) me)
       of_call log_call.Untouched did mark asks = let w : View = view_logged (log_back false) me.0 in let a = returns false h.state.device me.0.log refl (λ e. absurd (cc)) (stands h.state.device refl) in
           home log_call.Untouched w (set h.state.pool.core.views id w) h.state.device refl refl (record { links = refl; partitions = refl; lanes = refl }) (log_marked d x.device may.taken.down x.down h.state.device (sym (mark.kept refl)) (subst (λ (g : G). IsLog d g may.taken.down h.state.device) (sym did) was))
           (laws_logged (log_back false) h.state id me.0 h.laws here live a tt) (did_log (log_back false) h.state id me.0 h.laws here live a tt)
@@ -301,17 +301,17 @@ went_unnoted : (taken : TakenLog) (mark : Option ℕ) (v w : View) → GoesOut t
 went_unnoted taken None v w b out = unnoted_before (log_out taken) v w b out
 went_unnoted taken (Some end) v w b out = unnoted_before (log_out taken) v b.between b.first out
 
-pub out_unnoted : {L G : Type 0} (bytes : G → Option (List ℕ)) (synced faults : G → ℕ) (y : Value L G) (v w : View) → IsLogOut bytes synced faults y v w → v.log.out ≡ None → w.log.change ≡ change.Untouched
-out_unnoted bytes synced faults (value.Log x) v w (fresh, b) out = ap (λ (z : View). z.log.change) b.after ∙ went_unnoted b.taken x.down v w b.did out
-out_unnoted bytes synced faults (value.Page q) v w b out = absurd b
-out_unnoted bytes synced faults (value.Map m) v w b out = absurd b
-out_unnoted bytes synced faults (value.Lane l) v w b out = absurd b
-out_unnoted bytes synced faults (value.Lanes l) v w b out = absurd b
-out_unnoted bytes synced faults value.Away v w b out = absurd b
+pub out_unnoted : {L G : Type 0} (bytes : G → Option (List ℕ)) (synced faults calls : G → ℕ) (y : Value L G) (v w : View) → IsLogOut bytes synced faults calls y v w → v.log.out ≡ None → w.log.change ≡ change.Untouched
+out_unnoted bytes synced faults calls (value.Log x) v w (fresh, b) out = ap (λ (z : View). z.log.change) b.after ∙ went_unnoted b.taken x.down v w b.did out
+out_unnoted bytes synced faults calls (value.Page q) v w b out = absurd b
+out_unnoted bytes synced faults calls (value.Map m) v w b out = absurd b
+out_unnoted bytes synced faults calls (value.Lane l) v w b out = absurd b
+out_unnoted bytes synced faults calls (value.Lanes l) v w b out = absurd b
+out_unnoted bytes synced faults calls value.Away v w b out = absurd b
 
 module _ {L G : Type 0} (d : Devices L G) (o : Opening L G) where
   -- the seat as the exchange of the slot left it
-  pub log_comes_from : (slots id : ℕ) (me me' : Me (Value L G) View) (x : NotedLog G) → me' ≡ (me.0, (slot_of o.config.frames (place.Of turn.Log), value.Log (record x { call = log_call.Untouched })) ∷ rest me.1) → me.0.emptied ≡ false → record_size ≤ vec_capacity x.buffer → ((g : G) → d.log_faults g < 18446744073709551616) → MayComeHome d.bytes d.synced d.log_faults o.catalog.value x me.0
+  pub log_comes_from : (slots id : ℕ) (me me' : Me (Value L G) View) (x : NotedLog G) → me' ≡ (me.0, (slot_of o.config.frames (place.Of turn.Log), value.Log (record x { call = log_call.Untouched })) ∷ rest me.1) → me.0.emptied ≡ false → record_size ≤ vec_capacity x.buffer → ((g : G) → d.log_faults g < 18446744073709551616) → MayComeHome d.bytes d.synced d.log_faults d.log_calls o.catalog.value x me.0
       → Allows (Held d o) slots id me' (latch_place o.config.frames turn.Log) (λ n. n) (log_came (d.bytes x.device) (d.log_faults x.device) x.call (step slots (latch_place o.config.frames turn.Log) 0 0 none) me')
   log_comes_from slots id me me' x e live room fits may = let now : Me (Value L G) View = (me.0, (slot_of o.config.frames (place.Of turn.Log), value.Log (record x { call = log_call.Untouched })) ∷ rest me.1) in
       subst (λ (m : Me (Value L G) View). Allows (Held d o) slots id m (latch_place o.config.frames turn.Log) (λ n. n) (log_came (d.bytes x.device) (d.log_faults x.device) x.call (step slots (latch_place o.config.frames turn.Log) 0 0 none) m)) (sym e)

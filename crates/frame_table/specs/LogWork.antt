@@ -133,7 +133,7 @@ abbrev pub IsFresh : {G : Type 0} → NotedLog G → Type 0
 IsFresh x = (x.call ≡ log_call.Untouched) × (record_size ≤ vec_capacity x.buffer)
 
 -- A log tells its bytes, where they are known, how many of them are durable, and how many calls failed
-module _ {G : Type 0} (bytes : G → Option (List ℕ)) (synced faults : G → ℕ) where
+module _ {G : Type 0} (bytes : G → Option (List ℕ)) (synced faults calls : G → ℕ) where
   -- the device was taken as this
   pub record IsTaken (g : G) (taken : TakenLog) : Type 0 where
     pub told : taken.bytes ≡ bytes g
@@ -155,7 +155,7 @@ module _ {G : Type 0} (bytes : G → Option (List ℕ)) (synced faults : G → �
     pub out : v.log.out ≡ Some taken
     pub unnoted : v.log.change ≡ change.Untouched
     pub was : IsTaken before taken
-    pub did : LogDid bytes synced faults before x.device x.call
+    pub did : LogDid bytes synced faults calls before x.device x.call
     pub marked : IsMarked x.call taken.down v.log.end x.down
     pub may : MayCall relations x.call v
 

@@ -37,7 +37,7 @@ module _ {L G : Type 0} where
   WentOutAs d t (place.Page f) (value.Page p) v w = Touches f v w × SameMarks v w × (link w f ≡ page_out_link p (link v f)) × ((link w f).overwritten ≡ None) × ((found : ℕ) × Did (pages kinds.page_out) f v w found)
   WentOutAs d t (place.Of (Partition p)) (value.Map m) v w = AreApart m.items × (frames_of t ≤ vec_capacity m) × HasRoomFor (hold v p) m × SameWork v w × MapStep p (out_hold (map entry_of m.items) (hold v p)) v w × AreBelow (frames_of t) m.items × DidMap (map_out (map entry_of m.items)) p v w
   WentOutAs d t (place.Of (Lane q)) (value.Lane l) v w = (l.call ≡ lane_call.Untouched) × IsTakenFrom (lanes_of d) t q l.device × (w ≡ out_view q (taken_at (lanes_of d) t q l.device) v) × DidSteps (out_events q (taken_at (lanes_of d) t q l.device)) v w
-  WentOutAs d t (place.Of Log) (value.Log g) v w = (g.call ≡ log_call.Untouched) × (record_size ≤ vec_capacity g.buffer) × LogWent d.bytes d.synced d.log_faults g v w
+  WentOutAs d t (place.Of Log) (value.Log g) v w = (g.call ≡ log_call.Untouched) × (record_size ≤ vec_capacity g.buffer) × LogWent d.bytes d.synced d.log_faults d.log_calls g v w
   WentOutAs d t x y v w = ⊥
 
   -- It may come back as this value
@@ -45,7 +45,7 @@ module _ {L G : Type 0} where
   MayReturnAs d t s (place.Page f) (value.Page p) = CanStep t s f × CanReturnPage p (link s.me.0 f)
   MayReturnAs d t s (place.Of (Partition p)) (value.Map m) = CanTurn t s (Partition p) × AreApart m.items × (frames_of t ≤ vec_capacity m) × MayComeBack (map entry_of m.items) p s.me.0
   MayReturnAs d t s (place.Of (Lane q)) (value.Lane l) = CanTurn t s (Lane q) × MayReturnTo (lanes_of d) t q s.me.0 l
-  MayReturnAs d t s (place.Of Log) (value.Log g) = CanTurn t s Log × (record_size ≤ vec_capacity g.buffer) × MayComeHome d.bytes d.synced d.log_faults (relations_of t) g s.me.0
+  MayReturnAs d t s (place.Of Log) (value.Log g) = CanTurn t s Log × (record_size ≤ vec_capacity g.buffer) × MayComeHome d.bytes d.synced d.log_faults d.log_calls (relations_of t) g s.me.0
   MayReturnAs d t s x y = ⊥
 
   -- and as it did the view v became w
@@ -53,5 +53,5 @@ module _ {L G : Type 0} where
   CameBackAs d (place.Page f) (value.Page p) v w = Touches f v w × SameMarks v w × (link w f ≡ returned_link p (link v f)) × ((found : ℕ) × ReturnsBy (overwriting (link v f)) f v w found)
   CameBackAs d (place.Of (Partition p)) (value.Map m) v w = SameWork v w × MapStep p (back_hold (map entry_of m.items) (hold v p)) v w × ComesBack (map entry_of m.items) p v w (hold v p).change
   CameBackAs d (place.Of (Lane q)) (value.Lane l) v w = (w ≡ back_view (lanes_of d) q l.device l.call v) × DidSteps (back_events (lanes_of d) q l.device l.call) v w
-  CameBackAs d (place.Of Log) (value.Log g) v w = (w ≡ view_home g.call v) × LogCame d.bytes d.synced d.log_faults g v w
+  CameBackAs d (place.Of Log) (value.Log g) v w = (w ≡ view_home g.call v) × LogCame d.bytes d.synced d.log_faults d.log_calls g v w
   CameBackAs d x y v w = ⊥

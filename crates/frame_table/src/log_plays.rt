@@ -39,7 +39,7 @@ pub(crate) struct LogOut<D> {
 }
 
 impl<L, G: LogDevice, D: AtLog> Play<Value<L, G>, View> for LogOut<D> {
-    ghost then = { log_went G.bytes G.synced G.faults D.slot };
+    ghost then = { log_went G.bytes G.synced G.faults G.calls D.slot };
 }
 
 pub(crate) struct LogBack<D> {

@@ -44,7 +44,7 @@ impl<L: BlockLane, G: LogDevice> FrameTable<L, G> {
         requires held { (seat.old.me.0.log.held ≡ true) × (seat.old.me.0.log.out ≡ None) }
         ensures seat { (seat.new.table_id ≡ seat.old.table_id) × (seat.new.id ≡ seat.old.id) }
         ensures hand { seat.new.me.1 ≡ (slot, value.Away) ∷ seat.old.me.1 }
-        ensures log { IsLogOut G.bytes G.synced G.faults result seat.old.me.0 seat.new.me.0 }
+        ensures log { IsLogOut G.bytes G.synced G.faults G.calls result seat.old.me.0 seat.new.me.0 }
     {
         // An exchange of a slot is no step of its own: the load is, and its value tells nothing.
         self.table.shared.load::<LogOut<D>>(seat, place);
@@ -60,7 +60,7 @@ impl<L: BlockLane, G: LogDevice> FrameTable<L, G> {
         ensures call { result.call ≡ log_call.Untouched }
         ensures room { record_size ≤ vec_capacity result.buffer }
         ensures unnoted { seat.new.me.0.log.change ≡ change.Untouched }
-        ensures went { LogWent G.bytes G.synced G.faults result seat.old.me.0 seat.new.me.0 }
+        ensures went { LogWent G.bytes G.synced G.faults G.calls result seat.old.me.0 seat.new.me.0 }
     {
         let place = self.latch(Turn::Log);
         let slot = self.log_slot();
@@ -82,10 +82,10 @@ impl<L: BlockLane, G: LogDevice> FrameTable<L, G> {
         requires seat { CanTurn self.now seat.old Log }
         requires hand { seat.old.me.1 ≡ (slot, value.Away) ∷ rest seat.old.me.1 }
         requires room { record_size ≤ vec_capacity log.buffer }
-        requires may { MayComeHome G.bytes G.synced G.faults (relations_of self.now) log seat.old.me.0 }
+        requires may { MayComeHome G.bytes G.synced G.faults G.calls (relations_of self.now) log seat.old.me.0 }
         ensures seat { (seat.new.table_id ≡ seat.old.table_id) × (seat.new.id ≡ seat.old.id) }
         ensures hand { seat.new.me.1 ≡ rest seat.old.me.1 }
-        ensures came { LogCame G.bytes G.synced G.faults log seat.old.me.0 seat.new.me.0 }
+        ensures came { LogCame G.bytes G.synced G.faults G.calls log seat.old.me.0 seat.new.me.0 }
     {
         let home = log.settled();
         let away = self.table.shared.exchange(seat, slot, Value::Log(home));
@@ -99,11 +99,11 @@ impl<L: BlockLane, G: LogDevice> FrameTable<L, G> {
         requires seat { CanTurn self.now seat.old Log }
         requires hand { seat.old.me.1 ≡ (slot_of (frames_of self.now) (Of Log), value.Away) ∷ rest seat.old.me.1 }
         requires room { record_size ≤ vec_capacity log.buffer }
-        requires may { MayComeHome G.bytes G.synced G.faults (relations_of self.now) log seat.old.me.0 }
+        requires may { MayComeHome G.bytes G.synced G.faults G.calls (relations_of self.now) log seat.old.me.0 }
         ensures seat { (seat.new.table_id ≡ seat.old.table_id) × (seat.new.id ≡ seat.old.id) }
         ensures hand { seat.new.me.1 ≡ rest seat.old.me.1 }
         ensures view { seat.new.me.0 ≡ view_home log.call seat.old.me.0 }
-        ensures came { LogCame G.bytes G.synced G.faults log seat.old.me.0 seat.new.me.0 }
+        ensures came { LogCame G.bytes G.synced G.faults G.calls log seat.old.me.0 seat.new.me.0 }
     {
         let place = self.latch(Turn::Log);
         let slot = self.log_slot();

@@ -1,4 +1,5 @@
 pub mod Faults
+pub mod Calls
 pub mod Bytes
 pub mod Plan
 pub mod Memory

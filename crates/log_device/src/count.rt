@@ -1,5 +1,7 @@
-//! Counts of faults.
+//! Counts of faults, and of calls.
 ghost use Rattle.std.specs.Prelude.{◌≡◌, ◌+◌, ◌-◌, ◌^◌, ◌<◌, min};
+
+use std::snapshot::Snapshot;
 
 /// How many calls failed, as far as a `u64` goes: a count stands still at `u64::MAX`.
 #[derive(Drop)]
@@ -33,5 +35,29 @@ impl FaultCount {
         ensures { self.new.count ≡ min (self.old.count + 1) (2 ^ 64 - 1) }
     {
         self.add(1);
+    }
+}
+
+/// How many calls were made, however many. Clauses read the number; at run time nothing does.
+#[derive(Drop)]
+pub enum CallCount {
+    Zero,
+    After(Snapshot<CallCount>),
+}
+
+impl CallCount {
+    ghost use Rattle.log_device.specs.Calls.{number_of};
+
+    pub fn new() -> CallCount
+        ensures { number_of result ≡ 0 }
+    {
+        CallCount::Zero
+    }
+
+    /// Counts one more.
+    pub fn raise(&mut self)
+        ensures { number_of self.new ≡ number_of self.old + 1 }
+    {
+        *self = CallCount::After(Snapshot::of(self));
     }
 }

@@ -1,5 +1,5 @@
 //! Logs, and sinks of bytes.
-ghost use Rattle.std.specs.Prelude.{◌≡◌, ◌<◌, ◌≤◌, ◌^◌, ℕ, List, Option, None, IfSome, length};
+ghost use Rattle.std.specs.Prelude.{◌≡◌, ◌+◌, ◌<◌, ◌≤◌, ◌^◌, ℕ, List, Option, None, IfSome, length};
 ghost use Rattle.log_device.specs.Bytes.{Puts, Syncs};
 ghost use Rattle.log_device.specs.Faults.{HasCause};
 
@@ -23,18 +23,23 @@ pub trait LogDevice {
     /// How many calls failed.
     ghost faults: { Self → ℕ };
 
+    /// How many calls were made.
+    ghost calls: { Self → ℕ };
+
     /// Adds the piece; a failed call adds a prefix of it. What is added isn't durable before a sync. Contents that aren't known stay unknown.
     fn append(&mut self, piece: &[u8]) -> Result<(), Failed>
         ensures bytes { Puts piece.now (bytes self.old) (bytes self.new) result }
         ensures unknown { bytes self.old ≡ None → bytes self.new ≡ None }
         ensures synced { IfSome (bytes self.old) (λ _. synced self.new ≡ synced self.old) }
-        ensures faults { HasCause (faults self.old) (faults self.new) result };
+        ensures faults { HasCause (faults self.old) (faults self.new) result }
+        ensures calls { calls self.new ≡ calls self.old + 1 };
 
     /// Makes all bytes so far durable. After a failed call no more of them are taken as durable than before.
     fn sync(&mut self) -> Result<(), Failed>
         ensures bytes { bytes self.new ≡ bytes self.old }
         ensures synced { IfSome (bytes self.old) (λ known. Syncs known (synced self.old) (synced self.new) result) }
-        ensures faults { HasCause (faults self.old) (faults self.new) result };
+        ensures faults { HasCause (faults self.old) (faults self.new) result }
+        ensures calls { calls self.new ≡ calls self.old + 1 };
 
     ghost faults_fit: { (log : Self) → faults log < 2 ^ 64 };
 

@@ -1,10 +1,11 @@
 //! A log over a file, and a sink over a writer, whose contents aren't known.
-ghost use Rattle.std.specs.Prelude.{◌≡◌, None, OnOk};
+ghost use Rattle.std.specs.Prelude.{◌≡◌, ◌+◌, None, OnOk};
 ghost use Rattle.std.specs.Io.KnownBytes.{Appends};
 ghost use Rattle.log_device.specs.Bytes.{Puts};
+ghost use Rattle.log_device.specs.Calls.{number_of};
 ghost use Rattle.log_device.specs.Faults.{HasCause};
 
-use crate::count::FaultCount;
+use crate::count::{CallCount, FaultCount};
 use crate::device::{Failed, LogDevice, Sink};
 use std::fs::OpenFile;
 use std::io::Write;
@@ -14,6 +15,7 @@ use std::io::Write;
 pub struct FileLog<F: Drop> {
     file: F,
     faults: FaultCount,
+    calls: CallCount,
 }
 
 impl<F: Write + OpenFile + Drop> FileLog<F> {
@@ -24,6 +26,7 @@ impl<F: Write + OpenFile + Drop> FileLog<F> {
         FileLog {
             file,
             faults: FaultCount::new(),
+            calls: CallCount::new(),
         }
     }
 
@@ -42,11 +45,15 @@ impl<F: Write + OpenFile + Drop> LogDevice for FileLog<F> {
 
     ghost faults = { λ l. l.faults.count };
 
+    ghost calls = { λ l. number_of l.calls };
+
     fn append(&mut self, piece: &[u8]) -> Result<(), Failed>
         ensures bytes { Puts piece.now None None result }
         ensures faults { HasCause self.old.faults.count self.new.faults.count result }
+        ensures calls { number_of self.new.calls ≡ number_of self.old.calls + 1 }
         ensures written { OnOk result (Appends (F.contents self.old.file) (F.contents self.new.file) piece.now) }
     {
+        self.calls.raise();
         if self.file.write_all(piece).is_ok() {
             return Ok(());
         }
@@ -55,6 +62,7 @@ impl<F: Write + OpenFile + Drop> LogDevice for FileLog<F> {
     }
 
     fn sync(&mut self) -> Result<(), Failed> {
+        self.calls.raise();
         if self.file.sync_all().is_ok() {
             return Ok(());
         }

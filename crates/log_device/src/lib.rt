@@ -10,7 +10,7 @@ mod plan;
 #[cfg(test)]
 mod tests;
 
-pub use count::FaultCount;
+pub use count::{CallCount, FaultCount};
 pub use device::{Failed, LogDevice, Sink};
 pub use files::{FileLog, StdSink};
 pub use memory::MemSink;

@@ -1,6 +1,6 @@
 //! A sink in memory.
 ghost use Rattle.std.specs.Prelude.{◌≡◌, ◌++◌, [], Some, IfOk, OnErr, is_ok};
-ghost use Rattle.log_device.specs.Faults.{HasCause};
+ghost use Rattle.log_device.specs.Faults.{CountsOne, HasCause};
 ghost use Rattle.log_device.specs.Bytes.{Puts};
 ghost use Rattle.log_device.specs.Memory.{SinkState, prefix_of, takes_piece};
 ghost use Rattle.log_device.specs.Plan.{after_call};
@@ -72,6 +72,7 @@ impl Sink for MemSink {
     fn put(&mut self, piece: &[u8]) -> Result<(), Failed>
         ensures bytes { Puts piece.now (Some self.old.bytes) (Some self.new.bytes) result }
         ensures faults { HasCause self.old.faults.count self.new.faults.count result }
+        ensures counted { CountsOne self.old.faults.count self.new.faults.count result }
         ensures answer { is_ok result ≡ takes_piece self.old piece.now }
         ensures left { OnErr result (self.new.bytes ≡ self.old.bytes ++ prefix_of self.old piece.now) }
         ensures puts { self.new.puts ≡ after_call self.old.puts }

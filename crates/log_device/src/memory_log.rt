@@ -1,11 +1,12 @@
 //! Logs in memory.
-ghost use Rattle.std.specs.Prelude.{◌≡◌, ◌≤◌, ◌++◌, [], Some, IfOk, OnErr, is_ok, length, not};
+ghost use Rattle.std.specs.Prelude.{◌≡◌, ◌+◌, ◌≤◌, ◌++◌, [], Some, IfOk, OnErr, is_ok, length, not};
 ghost use Rattle.log_device.specs.Bytes.{Puts, Syncs};
-ghost use Rattle.log_device.specs.Faults.{HasCause};
+ghost use Rattle.log_device.specs.Calls.{number_of};
+ghost use Rattle.log_device.specs.Faults.{CountsOne, HasCause};
 ghost use Rattle.log_device.specs.Memory.{prefix_of, takes_piece};
 ghost use Rattle.log_device.specs.Plan.{after_call, fails_next, fresh_plan};
 
-use crate::count::FaultCount;
+use crate::count::{CallCount, FaultCount};
 use crate::device::{Failed, LogDevice, Sink};
 use crate::memory::MemSink;
 use crate::plan::FaultPlan;
@@ -50,6 +51,7 @@ pub struct MemLog {
     synced: usize,
     syncs: FaultPlan,
     faults: FaultCount,
+    calls: CallCount,
     ghost within: { synced ≤ length sink.bytes },
 }
 
@@ -62,6 +64,7 @@ impl MemLog {
         ensures appends { IfOk result (λ log. log.sink.puts ≡ plan.appends) }
         ensures syncs { IfOk result (λ log. log.syncs ≡ plan.syncs) }
         ensures faults { IfOk result (λ log. log.faults.count ≡ 0) }
+        ensures calls { IfOk result (λ log. number_of log.calls ≡ 0) }
     {
         let sink = MemSink::new(alloc, room, plan.appends)?;
         Ok(MemLog {
@@ -69,6 +72,7 @@ impl MemLog {
             synced: 0,
             syncs: plan.syncs,
             faults: FaultCount::new(),
+            calls: CallCount::new(),
         })
     }
 
@@ -101,17 +105,22 @@ impl LogDevice for MemLog {
 
     ghost faults = { λ l. l.faults.count };
 
+    ghost calls = { λ l. number_of l.calls };
+
     /// Fails where the plan says so and where there is no room for the piece.
     fn append(&mut self, piece: &[u8]) -> Result<(), Failed>
         ensures bytes { Puts piece.now (Some self.old.sink.bytes) (Some self.new.sink.bytes) result }
         ensures synced { self.new.synced ≡ self.old.synced }
         ensures faults { HasCause self.old.faults.count self.new.faults.count result }
+        ensures counted { CountsOne self.old.faults.count self.new.faults.count result }
+        ensures calls { number_of self.new.calls ≡ number_of self.old.calls + 1 }
         ensures answer { is_ok result ≡ takes_piece self.old.sink piece.now }
         ensures left { OnErr result (self.new.sink.bytes ≡ self.old.sink.bytes ++ prefix_of self.old.sink piece.now) }
         ensures appends { self.new.sink.puts ≡ after_call self.old.sink.puts }
         ensures syncs { self.new.syncs ≡ self.old.syncs }
         ensures room { self.new.sink.room ≡ self.old.sink.room }
     {
+        self.calls.raise();
         if self.sink.put(piece).is_ok() {
             return Ok(());
         }
@@ -124,9 +133,12 @@ impl LogDevice for MemLog {
         ensures sink { self.new.sink ≡ self.old.sink }
         ensures synced { Syncs self.old.sink.bytes self.old.synced self.new.synced result }
         ensures faults { HasCause self.old.faults.count self.new.faults.count result }
+        ensures counted { CountsOne self.old.faults.count self.new.faults.count result }
+        ensures calls { number_of self.new.calls ≡ number_of self.old.calls + 1 }
         ensures answer { is_ok result ≡ not (fails_next self.old.syncs) }
         ensures syncs { self.new.syncs ≡ after_call self.old.syncs }
     {
+        self.calls.raise();
         if self.syncs.fails() {
             self.faults.raise();
             return Err(Failed);

@@ -42,7 +42,7 @@ fn scan_opened<H: Host, O: Sink, G: Gate>(
 ) -> Result<(), ScanError>
     requires open_at { IfSome (H.contents host.old) (λ _. H.open_at host.old ≡ record { path = path.now; seg_blocks = options.now.seg_blocks }) }
     requires range { HasOptionsInRange options.now }
-    requires opened { IsOpened H.Lane.contents H.Lane.failed_writes H.Lane.read_faults H.Lane.write_faults (H.contents host.old) path.now (fork_of path.now) options.now.seg_blocks options.now.lanes opened }
+    requires opened { IsOpened H.Lane.contents H.Lane.failed_writes H.Lane.unsynced H.Lane.read_faults H.Lane.write_faults (H.contents host.old) path.now (fork_of path.now) options.now.seg_blocks options.now.lanes opened }
     ensures contents { H.contents host.new ≡ H.contents host.old }
     ensures writes { H.write_faults host.new ≡ H.write_faults host.old }
     ensures logs { H.logs host.new ≡ H.logs host.old }

@@ -6,3 +6,6 @@ pub mod PutSegments
 pub mod Dealing
 pub mod FilesByPath
 pub mod UnknownLanes
+pub mod ReadBack
+pub mod Placed
+pub mod GivenPages

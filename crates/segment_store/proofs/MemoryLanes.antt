@@ -6,7 +6,7 @@ use Rattle.block_tag.specs.contracts.tag.TagOrd.TheImpl as tags
 use Rattle.block_tag.specs.Names.{tag_eq}
 use Rattle.block_tag.specs.declared.tag.Tag.{Tag}
 use Rattle.segment_store.specs.Contents.{with_mark, with_page}
-use Rattle.segment_store.specs.declared.memory_lane.MemBlock.{MemBlock}
+use Rattle.segment_store.specs.declared.memory_block.MemBlock.{MemBlock}
 
 -- the order of tags finds equal exactly the tags that are one
 pub same_tag : (t q : Tag) → tree.is_at (tags.ghosts.cmp t) q ≡ tag_eq q t

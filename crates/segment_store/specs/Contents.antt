@@ -1,5 +1,5 @@
 -- What lanes hold, where it is known: None where it isn't.
-use Rattle.std.specs.Prelude.{◌≡◌, ℕ, List, length, Option, Some, None, Bool, false, Result, IsSomeAnd, MatchResult, if◌then◌else◌}
+use Rattle.std.specs.Prelude.{◌≡◌, ℕ, List, length, Option, Some, None, Bool, false, Result, IfSome, IsSomeAnd, MatchResult, if◌then◌else◌}
 use Rattle.block_tag.specs.Names.{tag_eq}
 use Rattle.block_tag.specs.declared.tag.Tag.{Tag}
 
@@ -26,6 +26,10 @@ no_pages = λ t. None
 -- no tag is marked
 abbrev pub no_marks : Marks
 no_marks = λ t. false
+
+-- each page has 8192 bytes
+abbrev pub AreWhole : Pages → Type 0
+AreWhole pages = (tag : Tag) → IfSome (pages tag) (λ page. length page ≡ 8192)
 
 -- some page of 8192 bytes stands at the tag, and all others are as they were
 pub record IsTorn (tag : Tag) (pages after : Pages) : Type 0 where

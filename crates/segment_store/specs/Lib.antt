@@ -1,5 +1,6 @@
 pub mod Faults
 pub mod Contents
+pub mod History
 pub mod Relation
 pub mod Lanes
 pub mod Paths
@@ -9,3 +10,4 @@ pub mod Logs
 pub mod MemoryLane
 pub mod MemoryLog
 pub mod MemoryHost
+pub mod ReadBack

@@ -1,5 +1,5 @@
 -- Logs: their bytes, how many of them are durable, and what a host keeps of them.
-use Rattle.std.specs.Prelude.{◌≡◌, ℕ, ◌≤◌, List, [], Option, Some, None, Result, MatchResult, IfSome, option_map, if◌then◌else◌}
+use Rattle.std.specs.Prelude.{◌≡◌, ℕ, ◌+◌, ◌-◌, ◌^◌, ◌≤◌, min, List, [], Option, Some, None, Result, MatchResult, IfSome, option_map, if◌then◌else◌}
 use Rattle.std.specs.Option.{option_and_then}
 use Rattle.std.specs.Str.{bytes_eq}
 use Rattle.log_device.specs.Faults.{Rose}
@@ -32,6 +32,15 @@ RoseIfLogFailed before now Memory = now ≡ before
 pub record HasLogCause {T : Type 0} (before now : ℕ) (result : Result T LogOpen) : Type 0 where
   pub later : before ≤ now
   pub cause : MatchResult result (λ _. now ≡ before) (RoseIfLogFailed before now)
+
+-- a count is one more where the log could not be opened, as far as the type goes, and is the same where memory was short
+abbrev pub IsOneMoreIfLogFailed : ℕ → ℕ → LogOpen → Type 0
+IsOneMoreIfLogFailed before now Failed = now ≡ min (before + 1) (2 ^ 64 - 1)
+IsOneMoreIfLogFailed before now Memory = now ≡ before
+
+-- an opening counts itself where it is a fault, and nothing else
+abbrev pub CountsOneLogOpening : {T : Type 0} → ℕ → ℕ → Result T LogOpen → Type 0
+CountsOneLogOpening before now result = MatchResult result (λ _. now ≡ before) (IsOneMoreIfLogFailed before now)
 
 module _ {L : Type 0} (bytes : L → Option (List ℕ)) (synced : L → ℕ) where
   -- what a log is, where its bytes are known

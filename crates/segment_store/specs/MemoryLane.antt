@@ -1,11 +1,13 @@
 -- Lanes in memory.
-use Rattle.std.specs.Prelude.{ℕ, ◌+◌, ◌%◌, List, false, get_or, option_map, slice_set}
+use Rattle.std.specs.Prelude.{◌≡◌, ℕ, ◌+◌, ◌%◌, List, length, false, get_or, Option, Some, None, IfSome, option_map, slice_set}
 use Rattle.std.specs.Option.{option_map_or}
 use Rattle.std.specs.BTreeMap as tree
 use Rattle.block_tag.specs.contracts.tag.TagOrd.TheImpl as tags
 use Rattle.segment_store.specs.Contents.{Marks, Pages}
 use Rattle.log_device.specs.Plan.{fresh_plan}
+use Rattle.segment_store.specs.History.{calls_in, unsynced_in}
 use Rattle.segment_store.specs.declared.memory_lane.LanePlan.{LanePlan}
+use Rattle.segment_store.specs.declared.memory_block.MemBlock.{MemBlock}
 use Rattle.segment_store.specs.declared.memory_lane.MemLane.{MemLane}
 
 -- the pages of a lane by their tags
@@ -15,6 +17,19 @@ pages_of lane = λ tag. option_map (λ block. block.page) (tree.get tags.ghosts.
 -- the tags of a lane whose last write failed
 abbrev pub marks_of : MemLane → Marks
 marks_of lane = λ tag. option_map_or (λ block. block.failed) (tree.get tags.ghosts.cmp lane.blocks tag) false
+
+-- the page of a block has 8192 bytes
+pub whole_page : (block : Option MemBlock) → IfSome (option_map (λ b. b.page) block) (λ page. length page ≡ 8192)
+whole_page None = tt
+whole_page (Some block) = block.whole
+
+-- the tags that were written since the last sync that succeeded
+abbrev pub unsynced_of : MemLane → Marks
+unsynced_of lane = unsynced_in lane.history
+
+-- how many calls there were
+abbrev pub calls_of : MemLane → ℕ
+calls_of lane = calls_in lane.history
 
 -- which of its calls are to fail
 abbrev pub plan_of : MemLane → LanePlan

@@ -7,14 +7,15 @@ use Rattle.segment_store.specs.Lanes.{HasBlocks, HoldPages, dealt}
 use Rattle.segment_store.specs.Paths.{Paths}
 use Rattle.segment_store.specs.Relation.{relation_of}
 
-module _ {L : Type 0} (contents : L → Option Pages) (failed : L → Marks) (read_faults write_faults : L → ℕ) where
-  -- as many lanes as were asked for, without faults or failed writes; where the paths are known, the relation is there,
+module _ {L : Type 0} (contents : L → Option Pages) (failed unsynced : L → Marks) (read_faults write_faults : L → ℕ) where
+  -- as many lanes as were asked for, without faults or writes; where the paths are known, the relation is there,
   -- and each block is in the lane of its tag and nothing else is
   pub record IsOpened (known : Option Paths) (path : List ℕ) (fork : Fork) (seg_blocks lanes : ℕ) (opened : Opened L) : Type 0 where
     pub count : length opened.lanes.items ≡ lanes
     pub reads : sum_by read_faults opened.lanes.items ≡ 0
     pub writes : sum_by write_faults opened.lanes.items ≡ 0
     pub unmarked : All (λ lane. failed lane ≡ no_marks) opened.lanes.items
+    pub synced : All (λ lane. unsynced lane ≡ no_marks) opened.lanes.items
     pub has : HasBlocks fork opened.blocks (map contents opened.lanes.items)
     pub there : IfSome known (λ paths. paths path ≢ [])
     pub blocks : IfSome known (λ paths. opened.blocks ≡ length (relation_of seg_blocks (paths path)))

@@ -1,8 +1,8 @@
 //! Lanes of blocks.
-ghost use Rattle.std.specs.Prelude.{◌≡◌, ◌<◌, ◌^◌, ℕ, Option, Some, OnOk, IfSome, IsSome, MatchResult, true, false};
+ghost use Rattle.std.specs.Prelude.{◌≡◌, ◌+◌, ◌<◌, ◌^◌, ℕ, Option, Some, OnOk, IfSome, IsSome, MatchResult, true, false};
 ghost use Rattle.std.specs.Option.{ForSome};
 ghost use Rattle.log_device.specs.Faults.{HasCause};
-ghost use Rattle.segment_store.specs.Contents.{Marks, Pages, Writes, with_mark};
+ghost use Rattle.segment_store.specs.Contents.{AreWhole, Marks, Pages, Writes, no_marks, with_mark};
 
 use block_tag::Tag;
 use log_device::Failed;
@@ -18,11 +18,17 @@ pub trait BlockLane {
     /// The tags whose last write failed; it says something only where the contents are known.
     ghost failed_writes: { Self → Marks };
 
+    /// The tags that were written since the last sync that succeeded.
+    ghost unsynced: { Self → Marks };
+
     /// How many reads failed.
     ghost read_faults: { Self → ℕ };
 
     /// How many writes and syncs failed.
     ghost write_faults: { Self → ℕ };
+
+    /// How many calls were made.
+    ghost calls: { Self → ℕ };
 
     /// Reads a block of the lane into the page. After a failed read the page is any.
     fn read(&mut self, tag: Tag, page: &mut Page) -> Result<(), Failed>
@@ -30,25 +36,33 @@ pub trait BlockLane {
         ensures page { OnOk result (IfSome (contents self.old) (λ pages. pages tag ≡ Some page.new)) }
         ensures contents { contents self.new ≡ contents self.old }
         ensures failed { failed_writes self.new ≡ failed_writes self.old }
+        ensures unsynced { unsynced self.new ≡ unsynced self.old }
         ensures reads { HasCause (read_faults self.old) (read_faults self.new) result }
-        ensures writes { write_faults self.new ≡ write_faults self.old };
+        ensures writes { write_faults self.new ≡ write_faults self.old }
+        ensures calls { calls self.new ≡ calls self.old + 1 };
 
     /// Writes the page to a block of the lane. A failed write leaves that one block any.
     fn write(&mut self, tag: Tag, page: &Page) -> Result<(), Failed>
         requires { ForSome (contents self.old) (λ pages. IsSome (pages tag)) }
         ensures contents { Writes tag page.now (contents self.old) (contents self.new) result }
         ensures failed { IfSome (contents self.old) (λ _. MatchResult result (λ _. failed_writes self.new ≡ with_mark tag false (failed_writes self.old)) (λ _. failed_writes self.new ≡ with_mark tag true (failed_writes self.old))) }
+        ensures unsynced { unsynced self.new ≡ with_mark tag true (unsynced self.old) }
         ensures writes { HasCause (write_faults self.old) (write_faults self.new) result }
-        ensures reads { read_faults self.new ≡ read_faults self.old };
+        ensures reads { read_faults self.new ≡ read_faults self.old }
+        ensures calls { calls self.new ≡ calls self.old + 1 };
 
     /// Makes the writes so far last.
     fn sync(&mut self) -> Result<(), Failed>
         ensures contents { contents self.new ≡ contents self.old }
         ensures failed { failed_writes self.new ≡ failed_writes self.old }
+        ensures unsynced { MatchResult result (λ _. unsynced self.new ≡ no_marks) (λ _. unsynced self.new ≡ unsynced self.old) }
         ensures writes { HasCause (write_faults self.old) (write_faults self.new) result }
-        ensures reads { read_faults self.new ≡ read_faults self.old };
+        ensures reads { read_faults self.new ≡ read_faults self.old }
+        ensures calls { calls self.new ≡ calls self.old + 1 };
 
     ghost read_faults_fit: { (lane : Self) → read_faults lane < 2 ^ 64 };
 
     ghost write_faults_fit: { (lane : Self) → write_faults lane < 2 ^ 64 };
+
+    ghost whole: { (lane : Self) → IfSome (contents lane) AreWhole };
 }

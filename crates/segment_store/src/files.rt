@@ -1,10 +1,12 @@
 //! Adapters over real files: lanes and a host, whose contents aren't known.
-ghost use Rattle.std.specs.Prelude.{[], ◌≡◌, ◌≤◌, false, None, IfOk, length, sum_by};
+ghost use Rattle.std.specs.Prelude.{[], ◌≡◌, ◌≤◌, All, false, None, IfOk, length, sum_by};
 ghost use Rattle.std.specs.Option.{option_map_or};
 ghost use Rattle.segment_store.specs.Contents.{no_marks};
+ghost use Rattle.segment_store.specs.History.{calls_in, unsynced_in};
 ghost use Rattle.log_device.specs.Faults.{Added};
 
 use crate::device::BlockLane;
+use crate::history::LaneHistory;
 use crate::host::{Host, HostError, LogOpen, Opened};
 use crate::paths::fork_of_path;
 use block_tag::{Fork, RelNo, Tag, segment_place};
@@ -27,6 +29,7 @@ pub struct FileLane<F: Drop> {
     blocks: u32,
     read_faults: FaultCount,
     write_faults: FaultCount,
+    history: LaneHistory,
 }
 
 impl<F: FileExt + OpenFile + Drop> FileLane<F> {
@@ -66,11 +69,16 @@ impl<F: FileExt + OpenFile + Drop> BlockLane for FileLane<F> {
 
     ghost failed_writes = { λ l. no_marks };
 
+    ghost unsynced = { λ l. unsynced_in l.history };
+
     ghost read_faults = { λ l. l.read_faults.count };
 
     ghost write_faults = { λ l. l.write_faults.count };
 
+    ghost calls = { λ l. calls_in l.history };
+
     fn read(&mut self, tag: Tag, page: &mut Page) -> Result<(), Failed> {
+        self.history.count_call();
         if self.read_block(tag, page).is_ok() {
             return Ok(());
         }
@@ -79,6 +87,8 @@ impl<F: FileExt + OpenFile + Drop> BlockLane for FileLane<F> {
     }
 
     fn write(&mut self, tag: Tag, page: &Page) -> Result<(), Failed> {
+        self.history.count_call();
+        self.history.mark_written(tag);
         if self.write_block(tag, page).is_ok() {
             return Ok(());
         }
@@ -87,7 +97,9 @@ impl<F: FileExt + OpenFile + Drop> BlockLane for FileLane<F> {
     }
 
     fn sync(&mut self) -> Result<(), Failed> {
+        self.history.count_call();
         if self.sync_all().is_ok() {
+            self.history.mark_synced();
             return Ok(());
         }
         self.write_faults.raise();
@@ -97,6 +109,8 @@ impl<F: FileExt + OpenFile + Drop> BlockLane for FileLane<F> {
     ghost read_faults_fit = { λ l. l.read_faults.fits };
 
     ghost write_faults_fit = { λ l. l.write_faults.fits };
+
+    ghost whole = { λ l. tt };
 }
 
 /// The files of a relation's segments, and how many blocks they have.
@@ -235,6 +249,7 @@ where
         ensures count { IfOk result (λ opened. length opened.lanes.items ≡ count) }
         ensures reads { IfOk result (λ opened. sum_by (λ lane. lane.read_faults.count) opened.lanes.items ≡ 0) }
         ensures writes { IfOk result (λ opened. sum_by (λ lane. lane.write_faults.count) opened.lanes.items ≡ 0) }
+        ensures synced { IfOk result (λ opened. All (λ lane. unsynced_in lane.history ≡ no_marks) opened.lanes.items) }
     {
         let segments = open_files(self.rt, alloc, path, seg_blocks)?;
         let blocks = segments.blocks;
@@ -249,6 +264,7 @@ where
                 blocks,
                 read_faults: FaultCount::new(),
                 write_faults: FaultCount::new(),
+                history: LaneHistory::new(),
             };
             lanes.push(lane).map_err(|_| HostError::Memory)?;
         }

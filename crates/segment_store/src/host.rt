@@ -83,7 +83,7 @@ pub trait Host {
     ) -> Result<Opened<Self::Lane>, HostError>
         requires seg_blocks { 1 ≤ seg_blocks }
         requires lanes { 1 ≤ lanes }
-        ensures opened { IfOk result (IsOpened Self.Lane.contents Self.Lane.failed_writes Self.Lane.read_faults Self.Lane.write_faults (contents self.old) path.now (fork_of path.now) seg_blocks lanes) }
+        ensures opened { IfOk result (IsOpened Self.Lane.contents Self.Lane.failed_writes Self.Lane.unsynced Self.Lane.read_faults Self.Lane.write_faults (contents self.old) path.now (fork_of path.now) seg_blocks lanes) }
         ensures missing { IsErrOf result HostError.Missing → IfSome (contents self.old) (λ paths. paths path.now ≡ []) }
         ensures contents { contents self.new ≡ contents self.old }
         ensures failed { IfSome (contents self.old) (λ _. MatchResult result (λ _. failed_writes self.new ≡ cleared path.now (failed_writes self.old)) (λ _. failed_writes self.new ≡ failed_writes self.old)) }

@@ -3,7 +3,10 @@
 
 mod device;
 mod files;
+mod history;
 mod host;
+mod laws;
+mod memory_block;
 mod memory_host;
 mod memory_lane;
 mod memory_logs;
@@ -14,7 +17,9 @@ mod tests;
 
 pub use device::BlockLane;
 pub use files::{FileHost, FileLane};
+pub use history::LaneHistory;
 pub use host::{Host, HostError, LogOpen, Opened};
+pub use laws::{blocks_stand_in_place, given_pages_are_read_back};
 pub use memory_host::{MemFile, MemHost};
 pub use memory_lane::{LanePlan, MemLane};
 pub use memory_logs::MemLogs;

@@ -2,12 +2,12 @@
 ghost use Rattle.std.specs.Option.{option_map_or};
 ghost use Rattle.std.specs.Prelude.{option_map, true, ◌↔◌, MatchResult, string_bytes, ◌≡◌, ◌≢◌, ◌+◌, ◌++◌, ◌==◌, ◌<◌, ◌≤◌, ◌*◌, ◌/◌, ◌^◌, ◌-◌, [], All, Some, IfOk, IfSome, IsErrOf, OnOk, if◌then◌else◌, length, map, sum_by, vec_len};
 ghost use Rattle.log_device.specs.Faults.{Added};
-ghost use Rattle.segment_store.specs.Faults.{HasOpeningCause};
+ghost use Rattle.segment_store.specs.Faults.{CountsOneOpening, HasOpeningCause};
 ghost use Rattle.segment_store.specs.Contents.{no_marks, with_page};
 ghost use Rattle.segment_store.specs.Lanes.{dealt, own_pages};
-ghost use Rattle.segment_store.specs.Logs.{HasLogCause, IsOpenedLog, empty_log, logs_after, with_log};
+ghost use Rattle.segment_store.specs.Logs.{CountsOneLogOpening, HasLogCause, IsOpenedLog, empty_log, logs_after, with_log};
 ghost use Rattle.segment_store.specs.MemoryHost.{bytes_of, lanes_of, marks_at, open_now, openings_of, segments_at};
-ghost use Rattle.segment_store.specs.MemoryLane.{fresh_lane_plan, marks_of, pages_of, plan_of};
+ghost use Rattle.segment_store.specs.MemoryLane.{fresh_lane_plan, marks_of, pages_of, plan_of, unsynced_of};
 ghost use Rattle.segment_store.specs.MemoryLog.{logs_at, opened_at};
 ghost use Rattle.log_device.specs.MemoryLog.{appends_of, as_stored, room_of, syncs_of};
 ghost use Rattle.log_device.specs.Plan.{after_call, fails_next, fresh_plan};
@@ -138,13 +138,12 @@ fn hold_own(
     ensures reads { lane.new.read_faults ≡ lane.old.read_faults }
     ensures writes { lane.new.write_faults ≡ lane.old.write_faults }
     ensures plan { plan_of lane.new ≡ plan_of lane.old }
+    ensures history { lane.new.history ≡ lane.old.history }
 {
     if lane_of(&tag, lanes) != number {
         return Ok(());
     }
-    let mut copy = Page::zeroed(alloc)?;
-    copy.copy_from(page);
-    lane.hold(tag, copy)?;
+    lane.hold(alloc, tag, page)?;
     Ok(())
 }
 
@@ -164,6 +163,7 @@ fn own_lane(
     ensures reads { IfOk result (λ lane. lane.read_faults.count ≡ 0) }
     ensures writes { IfOk result (λ lane. lane.write_faults.count ≡ 0) }
     ensures plan { IfOk result (λ lane. plan_of lane ≡ plan) }
+    ensures synced { IfOk result (λ lane. unsynced_of lane ≡ no_marks) }
 {
     let mut lane = MemLane::new(alloc, plan);
     for block in 0..pages.len() {
@@ -192,6 +192,7 @@ fn deal_lanes(
     ensures reads { IfOk result (λ lanes. sum_by (λ lane. lane.read_faults.count) lanes.items ≡ 0) }
     ensures writes { IfOk result (λ lanes. sum_by (λ lane. lane.write_faults.count) lanes.items ≡ 0) }
     ensures plan { IfOk result (λ lanes. All (λ lane. plan_of lane ≡ fresh_lane_plan plan.now) lanes.items) }
+    ensures synced { IfOk result (λ lanes. All (λ lane. unsynced_of lane ≡ no_marks) lanes.items) }
 {
     let mut lanes = Vec::new(alloc);
     for number in 0..count {
@@ -218,6 +219,7 @@ fn open_segments(
     ensures reads { IfOk result (λ opened. sum_by (λ lane. lane.read_faults.count) opened.lanes.items ≡ 0) }
     ensures writes { IfOk result (λ opened. sum_by (λ lane. lane.write_faults.count) opened.lanes.items ≡ 0) }
     ensures plan { IfOk result (λ opened. All (λ lane. plan_of lane ≡ fresh_lane_plan plan.now) opened.lanes.items) }
+    ensures synced { IfOk result (λ opened. All (λ lane. unsynced_of lane ≡ no_marks) opened.lanes.items) }
 {
     let pages = relation_pages(alloc, segments, seg_blocks)?;
     let lanes = deal_lanes(alloc, &pages, fork, count, plan)?;
@@ -334,7 +336,7 @@ impl MemHost {
         lanes: u32,
     ) -> Result<Opened<MemLane>, HostError>
         requires { 1 ≤ lanes }
-        ensures opened { IfOk result (IsOpened (λ lane. Some (pages_of lane)) marks_of (λ lane. lane.read_faults.count) (λ lane. lane.write_faults.count) (Some (segments_at self.now.files.items)) path.now (fork_of path.now) seg_blocks lanes) }
+        ensures opened { IfOk result (IsOpened (λ lane. Some (pages_of lane)) marks_of unsynced_of (λ lane. lane.read_faults.count) (λ lane. lane.write_faults.count) (Some (segments_at self.now.files.items)) path.now (fork_of path.now) seg_blocks lanes) }
         ensures missing { IsErrOf result HostError.Missing → segments_at self.now.files.items path.now ≡ [] }
         ensures alive { IsErrOf result HostError.Failed → ⊥ }
         ensures plan { IfOk result (λ opened. All (λ lane. plan_of lane ≡ fresh_lane_plan self.now.lanes) opened.lanes.items) }
@@ -411,16 +413,18 @@ impl Host for MemHost {
     ) -> Result<Opened<MemLane>, HostError>
         requires seg_blocks { 1 ≤ seg_blocks }
         requires lanes { 1 ≤ lanes }
-        ensures opened { IfOk result (IsOpened (λ lane. Some (pages_of lane)) marks_of (λ lane. lane.read_faults.count) (λ lane. lane.write_faults.count) (Some (segments_at self.old.files.items)) path.now (fork_of path.now) seg_blocks lanes) }
+        ensures opened { IfOk result (IsOpened (λ lane. Some (pages_of lane)) marks_of unsynced_of (λ lane. lane.read_faults.count) (λ lane. lane.write_faults.count) (Some (segments_at self.old.files.items)) path.now (fork_of path.now) seg_blocks lanes) }
         ensures missing { IsErrOf result HostError.Missing → segments_at self.old.files.items path.now ≡ [] }
         ensures contents { Some (segments_at self.new.files.items) ≡ Some (segments_at self.old.files.items) }
         ensures failed { MatchResult result (λ _. marks_at self.new.files.items ≡ cleared path.now (marks_at self.old.files.items)) (λ _. marks_at self.new.files.items ≡ marks_at self.old.files.items) }
         ensures open_at { MatchResult result (λ _. open_now self.new ≡ record { path = path.now; seg_blocks = seg_blocks }) (λ _. open_now self.new ≡ open_now self.old) }
         ensures reads { HasOpeningCause self.old.read_faults.count self.new.read_faults.count result }
+        ensures counted { CountsOneOpening self.old.read_faults.count self.new.read_faults.count result }
         ensures writes { self.new.write_faults ≡ self.old.write_faults }
         ensures logs { self.new.logs ≡ self.old.logs }
         ensures fault { IsErrOf result HostError.Failed ↔ (fails_next (openings_of self.old) ≡ true) }
         ensures openings { openings_of self.new ≡ after_call (openings_of self.old) }
+        ensures lanes { lanes_of self.new ≡ lanes_of self.old }
         ensures plan { IfOk result (λ opened. All (λ lane. plan_of lane ≡ fresh_lane_plan (lanes_of self.old)) opened.lanes.items) }
     {
         if self.openings.fails() {
@@ -448,6 +452,7 @@ impl Host for MemHost {
         ensures fault { IsErrOf result LogOpen.Failed ↔ (fails_next self.old.logs.openings ≡ true) }
         ensures openings { self.new.logs.openings ≡ after_call self.old.logs.openings }
         ensures log_faults { HasLogCause self.old.logs.faults.count self.new.logs.faults.count result }
+        ensures counted { CountsOneLogOpening self.old.logs.faults.count self.new.logs.faults.count result }
         ensures log_room { self.new.logs.room ≡ self.old.logs.room }
         ensures log_calls { self.new.logs.calls ≡ self.old.logs.calls }
         ensures same { self.new ≡ record self.old { logs = self.new.logs } }
@@ -460,6 +465,7 @@ impl Host for MemHost {
         ensures failed { segments_at self.old.files.items (string_bytes self.old.open_path) ≢ [] → marks_at self.new.files.items ≡ marks_after (open_now self.old) (map marks_of lanes.items) (marks_at self.old.files.items) }
         ensures open_at { open_now self.new ≡ open_now self.old }
         ensures openings { openings_of self.new ≡ openings_of self.old }
+        ensures lanes { lanes_of self.new ≡ lanes_of self.old }
         ensures logs { logs_at self.new.logs.files.items ≡ logs_after (opened_at self.old.logs) (option_map as_stored log) (logs_at self.old.logs.files.items) }
         ensures log_faults { Added self.old.logs.faults.count (option_map_or (λ l. l.faults.count) log 0) self.new.logs.faults.count }
         ensures log_at { opened_at self.new.logs ≡ opened_at self.old.logs }

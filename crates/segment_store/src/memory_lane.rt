@@ -1,40 +1,21 @@
 //! A lane in memory.
-ghost use Rattle.std.specs.Prelude.{IsSome, option_map, length, ◌≡◌, Some, IfOk, OnOk, OnErr, is_ok, not, true, false};
+ghost use Rattle.std.specs.Prelude.{IsSome, MatchResult, option_map, length, ◌≡◌, ◌+◌, Some, IfOk, OnOk, OnErr, is_ok, not, true, false};
 ghost use Rattle.std.specs.Option.{ForSome};
-ghost use Rattle.log_device.specs.Faults.{HasCause};
+ghost use Rattle.log_device.specs.Faults.{CountsOne, HasCause};
 ghost use Rattle.segment_store.specs.Contents.{Writes, no_marks, no_pages, with_mark, with_page};
-ghost use Rattle.segment_store.specs.MemoryLane.{fresh_lane_plan, marks_of, pages_of, plan_of, torn_page};
+ghost use Rattle.segment_store.specs.MemoryLane.{calls_of, fresh_lane_plan, marks_of, pages_of, plan_of, torn_page, unsynced_of, whole_page};
 ghost use Rattle.log_device.specs.Plan.{after_call, fails_next};
+ghost use Rattle.std.specs.BTreeMap as tree;
+ghost use Rattle.block_tag.specs.contracts.tag.TagOrd.TheImpl as tags;
 
 use crate::device::BlockLane;
+use crate::history::LaneHistory;
+use crate::memory_block::MemBlock;
 use block_tag::Tag;
 use log_device::{Failed, FaultCount, FaultPlan};
-use page_layout::{PAGE_SIZE, Page};
+use page_layout::Page;
 use std::alloc::{AllocError, Global};
 use std::collections::BTreeMap;
-
-/// A block in memory, and whether its last write failed.
-#[derive(Drop)]
-pub struct MemBlock {
-    page: Page,
-    failed: bool,
-}
-
-impl MemBlock {
-    /// Leaves another page than it was, as a write does that was cut off.
-    fn tear(&mut self, page: &Page)
-        ensures page { self.new.page ≡ torn_page self.old.page page.now }
-        ensures size { length self.new.page ≡ 8192 }
-        ensures failed { self.new.failed ≡ true }
-    {
-        let last = self.page.bytes()[PAGE_SIZE - 1];
-        let mut bytes = [0; PAGE_SIZE];
-        bytes.copy_from_slice(page.bytes());
-        bytes[PAGE_SIZE - 1] = last.wrapping_add(1);
-        self.page.fill(&bytes);
-        self.failed = true;
-    }
-}
 
 /// The calls of a lane that are to fail.
 #[derive(Drop)]
@@ -64,6 +45,7 @@ pub struct MemLane {
     plan: LanePlan,
     read_faults: FaultCount,
     write_faults: FaultCount,
+    history: LaneHistory,
 }
 
 impl MemLane {
@@ -74,12 +56,15 @@ impl MemLane {
         ensures plan { plan_of result ≡ plan }
         ensures reads { result.read_faults.count ≡ 0 }
         ensures writes { result.write_faults.count ≡ 0 }
+        ensures unsynced { unsynced_of result ≡ no_marks }
+        ensures calls { calls_of result ≡ 0 }
     {
         MemLane {
             blocks: BTreeMap::new(alloc),
             plan,
             read_faults: FaultCount::new(),
             write_faults: FaultCount::new(),
+            history: LaneHistory::new(),
         }
     }
 
@@ -104,17 +89,20 @@ impl MemLane {
         self.write_faults.get()
     }
 
-    /// Takes a block in.
-    pub fn hold(&mut self, tag: Tag, page: Page) -> Result<(), AllocError>
-        ensures pages { OnOk result (pages_of self.new ≡ with_page tag page (pages_of self.old)) }
+    /// Takes a block in, with a copy of the page.
+    pub fn hold(&mut self, alloc: Global, tag: Tag, page: &Page) -> Result<(), AllocError>
+        ensures pages { OnOk result (pages_of self.new ≡ with_page tag page.now (pages_of self.old)) }
         ensures failed { OnOk result (marks_of self.new ≡ with_mark tag false (marks_of self.old)) }
         ensures refused { OnErr result ((pages_of self.new ≡ pages_of self.old) × (marks_of self.new ≡ marks_of self.old)) }
         ensures plan { plan_of self.new ≡ plan_of self.old }
         ensures reads { self.new.read_faults ≡ self.old.read_faults }
         ensures writes { self.new.write_faults ≡ self.old.write_faults }
+        ensures history { self.new.history ≡ self.old.history }
     {
+        let mut copy = Page::zeroed(alloc)?;
+        copy.fill(page.bytes());
         let block = MemBlock {
-            page,
+            page: copy,
             failed: false,
         };
         self.blocks.insert(tag, block)?;
@@ -127,9 +115,13 @@ impl BlockLane for MemLane {
 
     ghost failed_writes = { λ l. marks_of l };
 
+    ghost unsynced = { λ l. unsynced_of l };
+
     ghost read_faults = { λ l. l.read_faults.count };
 
     ghost write_faults = { λ l. l.write_faults.count };
+
+    ghost calls = { λ l. calls_of l };
 
     /// Fails where the plan says so.
     fn read(&mut self, tag: Tag, page: &mut Page) -> Result<(), Failed>
@@ -137,11 +129,15 @@ impl BlockLane for MemLane {
         ensures page { OnOk result (pages_of self.old tag ≡ Some page.new) }
         ensures contents { pages_of self.new ≡ pages_of self.old }
         ensures failed { marks_of self.new ≡ marks_of self.old }
+        ensures unsynced { unsynced_of self.new ≡ unsynced_of self.old }
         ensures reads { HasCause self.old.read_faults.count self.new.read_faults.count result }
+        ensures counted { CountsOne self.old.read_faults.count self.new.read_faults.count result }
         ensures writes { self.new.write_faults ≡ self.old.write_faults }
+        ensures calls { calls_of self.new ≡ calls_of self.old + 1 }
         ensures answer { is_ok result ≡ not (fails_next (plan_of self.old).reads) }
         ensures plan { plan_of self.new ≡ record (plan_of self.old) { reads = after_call (plan_of self.old).reads } }
     {
+        self.history.count_call();
         let fails = self.plan.reads.fails();
         let Some(block) = self.blocks.get(&tag) else {
             self.read_faults.raise();
@@ -161,11 +157,16 @@ impl BlockLane for MemLane {
         ensures contents { Writes tag page.now (Some (pages_of self.old)) (Some (pages_of self.new)) result }
         ensures torn { OnErr result (pages_of self.new tag ≡ option_map (λ old. torn_page old page.now) (pages_of self.old tag)) }
         ensures failed { marks_of self.new ≡ with_mark tag (not (is_ok result)) (marks_of self.old) }
+        ensures unsynced { unsynced_of self.new ≡ with_mark tag true (unsynced_of self.old) }
         ensures writes { HasCause self.old.write_faults.count self.new.write_faults.count result }
+        ensures counted { CountsOne self.old.write_faults.count self.new.write_faults.count result }
         ensures reads { self.new.read_faults ≡ self.old.read_faults }
+        ensures calls { calls_of self.new ≡ calls_of self.old + 1 }
         ensures answer { is_ok result ≡ not (fails_next (plan_of self.old).writes) }
         ensures plan { plan_of self.new ≡ record (plan_of self.old) { writes = after_call (plan_of self.old).writes } }
     {
+        self.history.count_call();
+        self.history.mark_written(tag);
         let fails = self.plan.writes.fails();
         let Some(block) = self.blocks.get_mut(&tag) else {
             self.write_faults.raise();
@@ -176,8 +177,7 @@ impl BlockLane for MemLane {
             self.write_faults.raise();
             return Err(Failed);
         }
-        block.page.copy_from(page);
-        block.failed = false;
+        block.take(page);
         Ok(())
     }
 
@@ -185,19 +185,26 @@ impl BlockLane for MemLane {
     fn sync(&mut self) -> Result<(), Failed>
         ensures contents { pages_of self.new ≡ pages_of self.old }
         ensures failed { marks_of self.new ≡ marks_of self.old }
+        ensures unsynced { MatchResult result (λ _. unsynced_of self.new ≡ no_marks) (λ _. unsynced_of self.new ≡ unsynced_of self.old) }
         ensures writes { HasCause self.old.write_faults.count self.new.write_faults.count result }
+        ensures counted { CountsOne self.old.write_faults.count self.new.write_faults.count result }
         ensures reads { self.new.read_faults ≡ self.old.read_faults }
+        ensures calls { calls_of self.new ≡ calls_of self.old + 1 }
         ensures answer { is_ok result ≡ not (fails_next (plan_of self.old).syncs) }
         ensures plan { plan_of self.new ≡ record (plan_of self.old) { syncs = after_call (plan_of self.old).syncs } }
     {
+        self.history.count_call();
         if self.plan.syncs.fails() {
             self.write_faults.raise();
             return Err(Failed);
         }
+        self.history.mark_synced();
         Ok(())
     }
 
     ghost read_faults_fit = { λ l. l.read_faults.fits };
 
     ghost write_faults_fit = { λ l. l.write_faults.fits };
+
+    ghost whole = { λ l tag. whole_page (tree.get tags.ghosts.cmp l.blocks tag) };
 }

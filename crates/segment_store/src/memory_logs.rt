@@ -3,7 +3,7 @@ ghost use Rattle.std.specs.Prelude.{◌≡◌, [], Some, IfOk, IsErrOf, MatchRes
 ghost use Rattle.std.specs.List.{position};
 ghost use Rattle.std.specs.Str.{bytes_eq};
 ghost use Rattle.log_device.specs.Faults.{Added};
-ghost use Rattle.segment_store.specs.Logs.{HasLogCause, empty_log, logs_after, with_log};
+ghost use Rattle.segment_store.specs.Logs.{CountsOneLogOpening, HasLogCause, empty_log, logs_after, with_log};
 ghost use Rattle.segment_store.specs.MemoryLog.{logs_at, opened_at};
 ghost use Rattle.log_device.specs.MemoryLog.{appends_of, as_stored, room_of, syncs_of};
 ghost use Rattle.log_device.specs.Plan.{after_call, fails_next, fresh_plan};
@@ -122,6 +122,7 @@ impl MemLogs {
         ensures fault { IsErrOf result LogOpen.Failed ↔ (fails_next self.old.openings ≡ true) }
         ensures openings { self.new.openings ≡ after_call self.old.openings }
         ensures faults { HasLogCause self.old.faults.count self.new.faults.count result }
+        ensures counted { CountsOneLogOpening self.old.faults.count self.new.faults.count result }
         ensures room_stays { self.new.room ≡ self.old.room }
         ensures calls { self.new.calls ≡ self.old.calls }
     {

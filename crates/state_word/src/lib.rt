@@ -84,7 +84,7 @@ pub fn fields_fix_the_word()
 /// alone, another pin raises it where it is below `MAX_USAGE`.
 #[tactic(auto, unfolding(crate::specs::Fields::fields))]
 pub fn pinned(word: u64, ring: bool) -> u64
-    requires { (fields word).pins < MAX_PINS }
+    requires { (fields word).pins < 262143 }
     ensures { fields result ≡ pinned_fields ring (fields word) }
 {
     let limit = if ring { 1 } else { MAX_USAGE };

@@ -1,8 +1,8 @@
 -- What the one call of a lane that is out did to the lane, and what the lane was as it went out.
-use Rattle.std.specs.Prelude.{◌≡◌, ℕ, true, false, List, Option, Some, None, IsSomeAnd}
+use Rattle.std.specs.Prelude.{◌≡◌, ℕ, ◌+◌, true, false, List, Option, Some, None, IsSomeAnd}
 use Rattle.log_device.specs.Faults.{Rose}
 use Rattle.block_tag.specs.declared.tag.Tag.{Tag}
-use Rattle.segment_store.specs.Contents.{Pages, Marks, with_page, with_mark, IsTorn}
+use Rattle.segment_store.specs.Contents.{Pages, Marks, no_marks, with_page, with_mark, IsTorn}
 use Rattle.table_rule.specs.declared.noted_lane.LaneCall.{LaneCall}
 use Rattle.table_rule.specs.declared.noted_lane.LaneCall.TheVariants.{Untouched, Read, ReadFailed, Written, WriteFailed, Synced, SyncFailed}
 
@@ -11,12 +11,16 @@ pub record LaneDevices (L : Type 0) : Type 0 where
   -- the pages of a lane, and the blocks whose last write failed, where they are known
   pub contents : L → Option Pages
   pub failed_writes : L → Marks
+  -- the blocks that were written since the last sync that succeeded
+  pub unsynced : L → Marks
   -- how many reads, and how many writes and syncs, have failed
   pub read_faults : L → ℕ
   pub write_faults : L → ℕ
+  -- how many calls were made
+  pub calls : L → ℕ
 
-abbrev pub lane_devices : {L : Type 0} → (L → Option Pages) → (L → Marks) → (L → ℕ) → (L → ℕ) → LaneDevices L
-lane_devices contents failed_writes read_faults write_faults = record { contents = contents; failed_writes = failed_writes; read_faults = read_faults; write_faults = write_faults }
+abbrev pub lane_devices : {L : Type 0} → (L → Option Pages) → (L → Marks) → (L → Marks) → (L → ℕ) → (L → ℕ) → (L → ℕ) → LaneDevices L
+lane_devices contents failed_writes unsynced read_faults write_faults calls = record { contents = contents; failed_writes = failed_writes; unsynced = unsynced; read_faults = read_faults; write_faults = write_faults; calls = calls }
 
 -- the call was the read of this page for a frame, the write of this page of a frame, or such a write that failed
 abbrev pub NotesRead : ℕ → Tag → List ℕ → LaneCall → Type 0
@@ -66,12 +70,26 @@ module _ {L : Type 0} (d : LaneDevices L) where
     pub pages : (known : Pages) → d.contents before ≡ Some known → IsSomeAnd (d.contents after) (IsTorn tag known)
     pub failed : (known : Pages) → d.contents before ≡ Some known → d.failed_writes after ≡ with_mark tag true (d.failed_writes before)
 
+  -- One call more was made
+  abbrev pub CountsOne : L → L → Type 0
+  CountsOne before after = d.calls after ≡ d.calls before + 1
+
+  -- The blocks that are to be synced are those that were, the block that was written too, or none
+  abbrev pub KeepsUnsynced : L → L → Type 0
+  KeepsUnsynced before after = d.unsynced after ≡ d.unsynced before
+
+  abbrev pub AddsUnsynced : Tag → L → L → Type 0
+  AddsUnsynced tag before after = d.unsynced after ≡ with_mark tag true (d.unsynced before)
+
+  abbrev pub HasSyncedAll : L → Type 0
+  HasSyncedAll after = d.unsynced after ≡ no_marks
+
   -- What the call made of the lane
   abbrev pub LaneDid : L → L → LaneCall → Type 0
   LaneDid before after Untouched = after ≡ before
-  LaneDid before after (Read f tag page) = HoldsTheSame before after × CountsTheSame before after × Gave tag page.value before
-  LaneDid before after (ReadFailed tag) = HoldsTheSame before after × ReadRose before after
-  LaneDid before after (Written f tag page) = TookPage tag page.value before after × CountsTheSame before after
-  LaneDid before after (WriteFailed f tag page) = TorePage tag before after × WriteRose before after
-  LaneDid before after Synced = HoldsTheSame before after × CountsTheSame before after
-  LaneDid before after SyncFailed = HoldsTheSame before after × WriteRose before after
+  LaneDid before after (Read f tag page) = HoldsTheSame before after × CountsTheSame before after × Gave tag page.value before × KeepsUnsynced before after × CountsOne before after
+  LaneDid before after (ReadFailed tag) = HoldsTheSame before after × ReadRose before after × KeepsUnsynced before after × CountsOne before after
+  LaneDid before after (Written f tag page) = TookPage tag page.value before after × CountsTheSame before after × AddsUnsynced tag before after × CountsOne before after
+  LaneDid before after (WriteFailed f tag page) = TorePage tag before after × WriteRose before after × AddsUnsynced tag before after × CountsOne before after
+  LaneDid before after Synced = HoldsTheSame before after × CountsTheSame before after × HasSyncedAll after × CountsOne before after
+  LaneDid before after SyncFailed = HoldsTheSame before after × WriteRose before after × KeepsUnsynced before after × CountsOne before after

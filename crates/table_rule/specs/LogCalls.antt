@@ -1,5 +1,5 @@
 -- The record of a page, and what a call of the log makes of its device.
-use Rattle.std.specs.Prelude.{◌≡◌, ℕ, Bool, true, false, List, ◌++◌, length, Option, Some, None, option_map, IfSome, IsSomeAnd}
+use Rattle.std.specs.Prelude.{◌≡◌, ℕ, ◌+◌, Bool, true, false, List, ◌++◌, length, Option, Some, None, option_map, IfSome, IsSomeAnd}
 use Rattle.byteorder.specs.Endian.{little_bytes}
 use Rattle.log_device.specs.Bytes.{GainsPrefix}
 use Rattle.log_device.specs.Faults.{Rose}
@@ -32,13 +32,14 @@ has_failed (log_call.AppendFailed f tag page bytes) = true
 has_failed log_call.SyncFailed = true
 has_failed _ = false
 
--- A log tells its bytes, where they are known, how many of them are durable, and how many calls failed
-module _ {G : Type 0} (bytes : G → Option (List ℕ)) (synced faults : G → ℕ) where
+-- A log tells its bytes, where they are known, how many of them are durable, how many calls failed, and how many were made
+module _ {G : Type 0} (bytes : G → Option (List ℕ)) (synced faults calls : G → ℕ) where
   -- the piece stands behind the bytes that were there
   pub record HasAppended (piece : List ℕ) (g g' : G) : Type 0 where
     pub added : bytes g' ≡ option_map (λ old. old ++ piece) (bytes g)
     pub durable : IfSome (bytes g) (λ _. synced g' ≡ synced g)
     pub counted : faults g' ≡ faults g
+    pub called : calls g' ≡ calls g + 1
 
   -- first bytes of the piece, none, some or all, do
   pub record HasFailedToAppend (piece : List ℕ) (g g' : G) : Type 0 where
@@ -46,18 +47,21 @@ module _ {G : Type 0} (bytes : G → Option (List ℕ)) (synced faults : G → �
     pub unknown : bytes g ≡ None → bytes g' ≡ None
     pub durable : IfSome (bytes g) (λ _. synced g' ≡ synced g)
     pub counted : Rose (faults g) (faults g')
+    pub called : calls g' ≡ calls g + 1
 
   -- all bytes are durable
   pub record HasSynced (g g' : G) : Type 0 where
     pub same : bytes g' ≡ bytes g
     pub durable : IfSome (bytes g) (λ known. synced g' ≡ length known)
     pub counted : faults g' ≡ faults g
+    pub called : calls g' ≡ calls g + 1
 
   -- as many as before are
   pub record HasFailedToSync (g g' : G) : Type 0 where
     pub same : bytes g' ≡ bytes g
     pub durable : IfSome (bytes g) (λ _. synced g' ≡ synced g)
     pub counted : Rose (faults g) (faults g')
+    pub called : calls g' ≡ calls g + 1
 
   -- What a call made of the device g
   abbrev pub LogDid : G → G → LogCall → Type 0

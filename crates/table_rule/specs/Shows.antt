@@ -93,17 +93,21 @@ pub record Devices (L G : Type 0) : Type 0 where
   -- the pages of a lane, and the blocks whose last write failed, where they are known
   pub contents : L → Option Pages
   pub failed_writes : L → Marks
-  -- how many reads, and how many writes and syncs, have failed
+  -- the blocks that were written since the last sync that succeeded
+  pub unsynced : L → Marks
+  -- how many reads, and how many writes and syncs, have failed, and how many calls were made
   pub read_faults : L → ℕ
   pub write_faults : L → ℕ
+  pub lane_calls : L → ℕ
   -- the bytes of a log, and how many of them are durable, where they are known
   pub bytes : G → Option (List ℕ)
   pub synced : G → ℕ
-  -- how many appends and syncs have failed
+  -- how many appends and syncs have failed, and how many were made
   pub log_faults : G → ℕ
+  pub log_calls : G → ℕ
 
-abbrev pub devices : {L G : Type 0} → (L → Option Pages) → (L → Marks) → (L → ℕ) → (L → ℕ) → (G → Option (List ℕ)) → (G → ℕ) → (G → ℕ) → Devices L G
-devices contents failed_writes read_faults write_faults bytes synced log_faults = record { contents = contents; failed_writes = failed_writes; read_faults = read_faults; write_faults = write_faults; bytes = bytes; synced = synced; log_faults = log_faults }
+abbrev pub devices : {L G : Type 0} → (L → Option Pages) → (L → Marks) → (L → Marks) → (L → ℕ) → (L → ℕ) → (L → ℕ) → (G → Option (List ℕ)) → (G → ℕ) → (G → ℕ) → (G → ℕ) → Devices L G
+devices contents failed_writes unsynced read_faults write_faults lane_calls bytes synced log_faults log_calls = record { contents = contents; failed_writes = failed_writes; unsynced = unsynced; read_faults = read_faults; write_faults = write_faults; lane_calls = lane_calls; bytes = bytes; synced = synced; log_faults = log_faults; log_calls = log_calls }
 
 -- A block of the relations, by its tag and the tag's number, that lies in the lane q of so many
 pub record IsPlaced (relations : List RelEntry) (lanes q word : ℕ) (tag : Tag) : Type 0 where

@@ -14,7 +14,7 @@ use Rattle.table_rule.specs.LaneCalls.{LaneDevices, lane_devices}
 
 -- the lanes among the devices
 abbrev pub lanes_of : {L G : Type 0} → Devices L G → LaneDevices L
-lanes_of d = lane_devices d.contents d.failed_writes d.read_faults d.write_faults
+lanes_of d = lane_devices d.contents d.failed_writes d.unsynced d.read_faults d.write_faults d.lane_calls
 
 -- A block of the relations that lies in the lane q of so many
 pub record IsBlockOf (relations : List RelEntry) (lanes q : ℕ) (tag : Tag) : Type 0 where

@@ -82,7 +82,7 @@ impl<L: BlockLane> NotedLane<L> {
         requires held { ForSome (L.contents self.old.device) (λ pages. IsSome (pages tag)) }
         ensures page { OnOk result (IfSome (L.contents self.old.device) (λ pages. pages tag ≡ Some page.new)) }
         ensures call { MatchResult result (λ _. NotesRead frame tag page.new self.new.call) (λ _. self.new.call ≡ lane_call.ReadFailed tag) }
-        ensures did { LaneDid (lane_devices L.contents L.failed_writes L.read_faults L.write_faults) self.old.device self.new.device self.new.call }
+        ensures did { LaneDid (lane_devices L.contents L.failed_writes L.unsynced L.read_faults L.write_faults L.calls) self.old.device self.new.device self.new.call }
     {
         match self.device.read(tag, page) {
             Ok(()) => {
@@ -105,7 +105,7 @@ impl<L: BlockLane> NotedLane<L> {
         requires untouched { self.old.call ≡ lane_call.Untouched }
         requires held { ForSome (L.contents self.old.device) (λ pages. IsSome (pages tag)) }
         ensures call { MatchResult result (λ _. NotesWritten frame tag page.now self.new.call) (λ _. NotesWriteFailed frame tag page.now self.new.call) }
-        ensures did { LaneDid (lane_devices L.contents L.failed_writes L.read_faults L.write_faults) self.old.device self.new.device self.new.call }
+        ensures did { LaneDid (lane_devices L.contents L.failed_writes L.unsynced L.read_faults L.write_faults L.calls) self.old.device self.new.device self.new.call }
     {
         let noted = Snapshot::of(page);
         match self.device.write(tag, page) {
@@ -132,7 +132,7 @@ impl<L: BlockLane> NotedLane<L> {
     pub fn sync(&mut self) -> Result<(), Failed>
         requires untouched { self.old.call ≡ lane_call.Untouched }
         ensures call { MatchResult result (λ _. self.new.call ≡ lane_call.Synced) (λ _. self.new.call ≡ lane_call.SyncFailed) }
-        ensures did { LaneDid (lane_devices L.contents L.failed_writes L.read_faults L.write_faults) self.old.device self.new.device self.new.call }
+        ensures did { LaneDid (lane_devices L.contents L.failed_writes L.unsynced L.read_faults L.write_faults L.calls) self.old.device self.new.device self.new.call }
     {
         match self.device.sync() {
             Ok(()) => {

@@ -164,7 +164,7 @@ impl<G: LogDevice> NotedLog<G> {
     pub fn append(&mut self, frame: u32, tag: Tag, page: &Page, end: u64) -> Result<(), Failed>
         requires untouched { self.old.call ≡ log_call.Untouched }
         requires up { self.old.down ≡ None }
-        ensures did { LogDid G.bytes G.synced G.faults self.old.device self.new.device self.new.call }
+        ensures did { LogDid G.bytes G.synced G.faults G.calls self.old.device self.new.device self.new.call }
         ensures call { MatchResult result (λ _. IsAppended frame tag page.now self.old.buffer.items self.new.call) (λ _. IsFailedAppend frame tag page.now self.old.buffer.items self.new.call) }
         ensures down { MatchResult result (λ _. self.new.down ≡ None) (λ _. self.new.down ≡ Some end) }
         ensures buffer { self.new.buffer ≡ self.old.buffer }
@@ -195,7 +195,7 @@ impl<G: LogDevice> NotedLog<G> {
     pub fn sync(&mut self, end: u64) -> Result<(), Failed>
         requires untouched { self.old.call ≡ log_call.Untouched }
         requires up { self.old.down ≡ None }
-        ensures did { LogDid G.bytes G.synced G.faults self.old.device self.new.device self.new.call }
+        ensures did { LogDid G.bytes G.synced G.faults G.calls self.old.device self.new.device self.new.call }
         ensures call { MatchResult result (λ _. self.new.call ≡ log_call.Synced) (λ _. self.new.call ≡ log_call.SyncFailed) }
         ensures down { MatchResult result (λ _. self.new.down ≡ None) (λ _. self.new.down ≡ Some end) }
         ensures buffer { self.new.buffer ≡ self.old.buffer }

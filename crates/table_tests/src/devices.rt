@@ -1,8 +1,8 @@
 //! Devices for tests.
 use block_tag::Tag;
-use log_device::{Failed, FaultCount, LogDevice};
+use log_device::{CallCount, Failed, FaultCount, LogDevice};
 use page_layout::Page;
-use segment_store::BlockLane;
+use segment_store::{BlockLane, LaneHistory};
 use std::alloc::Global;
 
 /// A lane whose contents contracts don't know. It counts its writes, and one of them may fail.
@@ -13,6 +13,7 @@ pub struct TestLane {
     /// Which write fails, counted from 1; none where this is 0.
     failing: u32,
     faults: FaultCount,
+    history: LaneHistory,
 }
 
 impl TestLane {
@@ -21,12 +22,14 @@ impl TestLane {
             writes: 0,
             failing,
             faults: FaultCount::new(),
+            history: LaneHistory::new(),
         }
     }
 }
 
 impl BlockLane for TestLane {
     ghost use Rattle.std.specs.Prelude.{None, false};
+    ghost use Rattle.segment_store.specs.History.{calls_in, unsynced_in};
     ghost use Rattle.std.proofs.Common.{rules};
     ghost use Prim.{search};
 
@@ -34,15 +37,22 @@ impl BlockLane for TestLane {
 
     ghost failed_writes = { λ _ _. false };
 
+    ghost unsynced = { λ l. unsynced_in l.history };
+
     ghost read_faults = { λ _. 0 };
 
     ghost write_faults = { λ l. l.faults.count };
 
+    ghost calls = { λ l. calls_in l.history };
+
     fn read(&mut self, _tag: Tag, _page: &mut Page) -> Result<(), Failed> {
+        self.history.count_call();
         Ok(())
     }
 
-    fn write(&mut self, _tag: Tag, _page: &Page) -> Result<(), Failed> {
+    fn write(&mut self, tag: Tag, _page: &Page) -> Result<(), Failed> {
+        self.history.count_call();
+        self.history.mark_written(tag);
         self.writes = self.writes.saturating_add(1);
         if self.writes == self.failing {
             self.faults.raise();
@@ -52,12 +62,16 @@ impl BlockLane for TestLane {
     }
 
     fn sync(&mut self) -> Result<(), Failed> {
+        self.history.count_call();
+        self.history.mark_synced();
         Ok(())
     }
 
     ghost read_faults_fit = { λ _. search rules };
 
     ghost write_faults_fit = { λ l. l.faults.fits };
+
+    ghost whole = { λ _. tt };
 }
 
 /// A log whose contents contracts don't know. It has what was appended, and one of its calls may fail.
@@ -69,10 +83,12 @@ pub struct TestLog {
     /// Which call fails, counted from 1; none where this is 0.
     failing: u32,
     faults: FaultCount,
+    history: CallCount,
 }
 
 impl TestLog {
-    ghost use Rattle.std.specs.Prelude.{◌≡◌};
+    ghost use Rattle.std.specs.Prelude.{◌≡◌, ◌+◌};
+    ghost use Rattle.log_device.specs.Calls.{number_of};
 
     pub fn new(alloc: Global, failing: u32) -> TestLog {
         TestLog {
@@ -80,13 +96,16 @@ impl TestLog {
             calls: 0,
             failing,
             faults: FaultCount::new(),
+            history: CallCount::new(),
         }
     }
 
     /// Whether this call is the one that fails.
     fn fails(&mut self) -> bool
-        ensures { self.new.faults ≡ self.old.faults }
+        ensures faults { self.new.faults ≡ self.old.faults }
+        ensures history { number_of self.new.history ≡ number_of self.old.history + 1 }
     {
+        self.history.raise();
         self.calls = self.calls.saturating_add(1);
         self.calls == self.failing
     }
@@ -94,12 +113,15 @@ impl TestLog {
 
 impl LogDevice for TestLog {
     ghost use Rattle.std.specs.Prelude.{None};
+    ghost use Rattle.log_device.specs.Calls.{number_of};
 
     ghost bytes = { λ _. None };
 
     ghost synced = { λ _. 0 };
 
     ghost faults = { λ l. l.faults.count };
+
+    ghost calls = { λ l. number_of l.history };
 
     fn append(&mut self, piece: &[u8]) -> Result<(), Failed> {
         if self.fails() || self.bytes.extend_from_slice(piece).is_err() {

@@ -55,12 +55,12 @@ first_bytes None now piece part gains is = (piece, ap (λ (l : List ℕ). l ++ p
 first_bytes (Some old) None piece part gains is = absurd gains
 first_bytes (Some old) (Some new) piece part gains is = (gains.rest, ap (λ (l : List ℕ). l ++ gains.rest) (append_cancel_left old part gains.prefix (sym (same_value new (old ++ part) is.added) ∙ gains.is)) ∙ sym gains.whole)
 
-gained : {G : Type 0} (bytes : G → Option (List ℕ)) (synced faults : G → ℕ) (f : ℕ) (tag : Tag) (p : Page) (piece : List ℕ) (g g' : G) (call : LogCall) → IsFailedAppend f tag p piece call → LogDid bytes synced faults g g' call → IfSome (bytes g) (λ old. IsSomeAnd (bytes g') (GainsPrefix piece old))
-gained bytes synced faults f tag p piece g g' (log_call.AppendFailed h named q b) e did = subst (λ (l : List ℕ). IfSome (bytes g) (λ old. IsSomeAnd (bytes g') (GainsPrefix l old))) e.3 did.added
-gained bytes synced faults f tag p piece g g' (log_call.Appended h named q b) e did = absurd e
-gained bytes synced faults f tag p piece g g' log_call.Untouched e did = absurd e
-gained bytes synced faults f tag p piece g g' log_call.Synced e did = absurd e
-gained bytes synced faults f tag p piece g g' log_call.SyncFailed e did = absurd e
+gained : {G : Type 0} (bytes : G → Option (List ℕ)) (synced faults calls : G → ℕ) (f : ℕ) (tag : Tag) (p : Page) (piece : List ℕ) (g g' : G) (call : LogCall) → IsFailedAppend f tag p piece call → LogDid bytes synced faults calls g g' call → IfSome (bytes g) (λ old. IsSomeAnd (bytes g') (GainsPrefix piece old))
+gained bytes synced faults calls f tag p piece g g' (log_call.AppendFailed h named q b) e did = subst (λ (l : List ℕ). IfSome (bytes g) (λ old. IsSomeAnd (bytes g') (GainsPrefix l old))) e.3 did.added
+gained bytes synced faults calls f tag p piece g g' (log_call.Appended h named q b) e did = absurd e
+gained bytes synced faults calls f tag p piece g g' log_call.Untouched e did = absurd e
+gained bytes synced faults calls f tag p piece g g' log_call.Synced e did = absurd e
+gained bytes synced faults calls f tag p piece g g' log_call.SyncFailed e did = absurd e
 
 -- the log came back after an append that failed
 torn : (f : ℕ) (tag : Tag) (p : Page) (piece : List ℕ) (was now : Option (List ℕ)) (taken : TakenLog) (faults : ℕ) (call : LogCall) (v w : View) → taken.bytes ≡ was → IsFailedAppend f tag p piece call → IfSome was (λ old. IsSomeAnd now (GainsPrefix piece old)) → ComesHome taken now faults call v w
@@ -73,16 +73,16 @@ torn f tag p piece was now taken faults log_call.Synced v w told e gains d = abs
 torn f tag p piece was now taken faults log_call.SyncFailed v w told e gains d = absurd e
 
 -- A log that went out, and isn't down
-module _ {G : Type 0} (bytes : G → Option (List ℕ)) (synced faults : G → ℕ) (x : NotedLog G) (u v : View) (went : LogWent bytes synced faults x u v) (up : x.down ≡ None) where
+module _ {G : Type 0} (bytes : G → Option (List ℕ)) (synced faults calls : G → ℕ) (x : NotedLog G) (u v : View) (went : LogWent bytes synced faults calls x u v) (up : x.down ≡ None) where
   abbrev pub went_up : GoesOutUp u v
   went_up = record { taken = went.taken; up = went.down ∙ up; did = subst (λ (o : Option ℕ). GoesOut went.taken o u v) up went.did }
 
   -- it came back, and what it was when it went out is known still
-  came_home : (y : NotedLog G) (w : View) → LogCame bytes synced faults y v w → ComesHome went.taken (bytes y.device) (faults y.device) y.call v w
+  came_home : (y : NotedLog G) (w : View) → LogCame bytes synced faults calls y v w → ComesHome went.taken (bytes y.device) (faults y.device) y.call v w
   came_home y w came = subst (λ (t : TakenLog). ComesHome t (bytes y.device) (faults y.device) y.call v w) (same_value came.taken went.taken (sym came.out ∙ ap (λ (z : View). z.log.out) went.after)) came.did
 
   -- after a sync that failed
-  pub came_unsynced : (y : NotedLog G) (w : View) → y.call ≡ log_call.SyncFailed → LogCame bytes synced faults y v w → FailsToSync u w
+  pub came_unsynced : (y : NotedLog G) (w : View) → y.call ≡ log_call.SyncFailed → LogCame bytes synced faults calls y v w → FailsToSync u w
   came_unsynced y w failed came = record {
     out = v;
     faults = faults y.device;
@@ -91,9 +91,9 @@ module _ {G : Type 0} (bytes : G → Option (List ℕ)) (synced faults : G → �
   }
 
   -- after an append that failed
-  pub came_torn : (relations : List RelEntry) (f : ℕ) (tag : Tag) (start : ℕ) (p : Page) (piece : List ℕ) (y : NotedLog G) (w : View) → IsRecord relations tag start p piece → IsFailedAppend f tag p piece y.call → LogDid bytes synced faults x.device y.device y.call → LogCame bytes synced faults y v w
+  pub came_torn : (relations : List RelEntry) (f : ℕ) (tag : Tag) (start : ℕ) (p : Page) (piece : List ℕ) (y : NotedLog G) (w : View) → IsRecord relations tag start p piece → IsFailedAppend f tag p piece y.call → LogDid bytes synced faults calls x.device y.device y.call → LogCame bytes synced faults calls y v w
       → FailsToAppend relations f tag start p u w
-  came_torn relations f tag start p piece y w r failed did came = let t = torn f tag p piece (bytes x.device) (bytes y.device) went.taken (faults y.device) y.call v w went.is_taken.told failed (gained bytes synced faults f tag p piece x.device y.device y.call failed did) (came_home y w came) in record {
+  came_torn relations f tag start p piece y w r failed did came = let t = torn f tag p piece (bytes x.device) (bytes y.device) went.taken (faults y.device) y.call v w went.is_taken.told failed (gained bytes synced faults calls f tag p piece x.device y.device y.call failed did) (came_home y w came) in record {
     out = v;
     bytes = piece;
     part = t.0;

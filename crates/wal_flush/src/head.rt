@@ -1,5 +1,5 @@
 //! The head of a log.
-ghost use Rattle.std.specs.Prelude.{◌≡◌, ◌++◌, ◌∷◌, [], None, IfSome, List, ℕ};
+ghost use Rattle.std.specs.Prelude.{◌≡◌, ◌+◌, ◌++◌, ◌∷◌, [], None, IfSome, List, ℕ};
 ghost use Rattle.log_device.specs.Bytes.{Puts};
 ghost use Rattle.log_device.specs.Faults.{HasCause};
 ghost use Rattle.history_core.specs.Log.{head_bytes};
@@ -23,6 +23,7 @@ pub fn begin_log<G: LogDevice>(log: &mut G, base: Lsn) -> Result<(), Failed>
     ensures unknown { G.bytes log.old ≡ None → G.bytes log.new ≡ None }
     ensures synced { IfSome (G.bytes log.old) (λ _. G.synced log.new ≡ G.synced log.old) }
     ensures faults { HasCause (G.faults log.old) (G.faults log.new) result }
+    ensures calls { G.calls log.new ≡ G.calls log.old + 1 }
 {
     log.append(&head(base))
 }

@@ -53,7 +53,7 @@ pub(crate) fn take_log<L: BlockLane, G: LogDevice>(
     ensures room { IfOk result (λ log. record_size ≤ vec_capacity log.buffer) }
     ensures up { IfOk result (λ log. log.down ≡ None) }
     ensures unnoted { IfOk result (λ _. seat.new.me.0.log.change ≡ change.Untouched) }
-    ensures went { IfOk result (λ log. LogWent G.bytes G.synced G.faults log seat.old.me.0 seat.new.me.0) }
+    ensures went { IfOk result (λ log. LogWent G.bytes G.synced G.faults G.calls log seat.old.me.0 seat.new.me.0) }
     ensures back { IfErr result (λ _. seat.new.me.1 ≡ seat.old.me.1) }
     ensures down { IfErr result (λ at. FindsDown at seat.old.me.0 seat.new.me.0) }
 {

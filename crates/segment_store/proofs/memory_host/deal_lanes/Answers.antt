@@ -6,7 +6,7 @@ use Rattle.std.proofs.lemmas.List.{map-append}
 use Rattle.std.proofs.lemmas.List.FromFn.{map-range_with_len_more}
 use Rattle.segment_store.specs.Contents.{Pages, no_marks}
 use Rattle.segment_store.specs.Lanes.{own_pages}
-use Rattle.segment_store.specs.MemoryLane.{fresh_lane_plan, marks_of, pages_of, plan_of}
+use Rattle.segment_store.specs.MemoryLane.{fresh_lane_plan, marks_of, pages_of, plan_of, unsynced_of}
 use Rattle.segment_store.specs.declared.memory_lane.MemLane.{MemLane}
 use Rattle.segment_store.proofs.memory_host.deal_lanes.Goals as goal
 
@@ -25,4 +25,6 @@ loop-number-preserved c =
       writes = grind (arith, common_steps);
       plan = subst (λ (lanes : List MemLane). All (λ lane. plan_of lane ≡ fresh_lane_plan c.args.plan.now) lanes) (sym c.in_ok-push.ensures.items)
           (All-push (λ lane. plan_of lane ≡ fresh_lane_plan c.args.plan.now) c.loop-number.lanes.items c.in_ok-lane.lane c.loop-number.invariant.plan (c.in_ok-lane.ensures.plan ∙ c.in_ok-own.ensures));
+      synced = subst (λ (lanes : List MemLane). All (λ lane. unsynced_of lane ≡ no_marks) lanes) (sym c.in_ok-push.ensures.items)
+          (All-push (λ lane. unsynced_of lane ≡ no_marks) c.loop-number.lanes.items c.in_ok-lane.lane c.loop-number.invariant.synced c.in_ok-lane.ensures.synced);
     }

@@ -3,7 +3,7 @@ use Rattle.std.specs.Prelude.{All, sum_by}
 use Rattle.std.specs.List.{range_with_len}
 use Rattle.segment_store.specs.Contents.{no_marks}
 use Rattle.segment_store.specs.Lanes.{own_pages}
-use Rattle.segment_store.specs.MemoryLane.{fresh_lane_plan, marks_of, pages_of, plan_of}
+use Rattle.segment_store.specs.MemoryLane.{fresh_lane_plan, marks_of, pages_of, plan_of, unsynced_of}
 use Rattle.segment_store.proofs.memory_host.deal_lanes.Given as goal
 
 abbrev pub invariant-loop-number : goal.invariant-loop-number
@@ -13,4 +13,5 @@ invariant-loop-number l = record {
   reads : sum_by (λ lane. lane.read_faults.count) l.lanes.items ≡ 0;
   writes : sum_by (λ lane. lane.write_faults.count) l.lanes.items ≡ 0;
   plan : All (λ lane. plan_of lane ≡ fresh_lane_plan l.plan) l.lanes.items;
+  synced : All (λ lane. unsynced_of lane ≡ no_marks) l.lanes.items;
 }

@@ -2,6 +2,7 @@ use Rattle.std.proofs.Common.{◌≡◌, ◌==◌, cond, get_or, [], sym, ap, �
 use Rattle.std.proofs.lemmas.List.{get_or_default}
 use Rattle.block_tag.specs.Names.{lane_number}
 use Rattle.segment_store.specs.Contents.{Pages, with_page}
+use Rattle.segment_store.specs.History.{unsynced_in}
 use Rattle.segment_store.specs.Lanes.{tag_at}
 use Rattle.segment_store.proofs.Dealing.{own-nil, own_more}
 use Rattle.segment_store.proofs.memory_host.own_lane.Goals as goal
@@ -13,6 +14,7 @@ loop-block-init c = record {
   reads = c.new-lane.ensures.reads;
   writes = c.new-lane.ensures.writes;
   plan = c.new-lane.ensures.plan;
+  synced = c.new-lane.ensures.unsynced;
 }
 
 pub loop-block-preserved : goal.loop-block-preserved
@@ -28,4 +30,5 @@ loop-block-preserved c =
       reads = ap (λ count. count.count) c.in_ok-hold_own.ensures.reads ∙ c.loop-block.invariant.reads;
       writes = ap (λ count. count.count) c.in_ok-hold_own.ensures.writes ∙ c.loop-block.invariant.writes;
       plan = c.in_ok-hold_own.ensures.plan ∙ c.loop-block.invariant.plan;
+      synced = ap unsynced_in c.in_ok-hold_own.ensures.history ∙ c.loop-block.invariant.synced;
     }

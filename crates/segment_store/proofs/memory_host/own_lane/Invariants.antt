@@ -1,7 +1,7 @@
 use Rattle.std.proofs.Common.{◌≡◌, take}
 use Rattle.segment_store.specs.Contents.{no_marks}
 use Rattle.segment_store.specs.Lanes.{own_pages}
-use Rattle.segment_store.specs.MemoryLane.{marks_of, pages_of, plan_of}
+use Rattle.segment_store.specs.MemoryLane.{marks_of, pages_of, plan_of, unsynced_of}
 use Rattle.segment_store.proofs.memory_host.own_lane.Given as goal
 
 abbrev pub invariant-loop-block : goal.invariant-loop-block
@@ -11,4 +11,5 @@ invariant-loop-block l = record {
   reads : l.lane.read_faults.count ≡ 0;
   writes : l.lane.write_faults.count ≡ 0;
   plan : plan_of l.lane ≡ l.fn.plan;
+  synced : unsynced_of l.lane ≡ no_marks;
 }

@@ -9,4 +9,4 @@ returns-in-Err-clause-cause g c = let down = c.in-Err.ensures.down in (down_at_e
 
 pub returns-in-Err-result-clause-cause : goal.returns-in-Err-result-clause-cause
 returns-in-Err-result-clause-cause g c = let o = c.in-Ok.ensures in
-    came_unsynced g.G.LogDevice.bytes g.G.LogDevice.synced g.G.LogDevice.faults c.in-Ok.log _ c.take_log.new.seat.me.0 o.went o.up c.sync-result.new.self _ c.in-Err-result.ensures.call c.log_back.ensures.came
+    came_unsynced g.G.LogDevice.bytes g.G.LogDevice.synced g.G.LogDevice.faults g.G.LogDevice.calls c.in-Ok.log _ c.take_log.new.seat.me.0 o.went o.up c.sync-result.new.self _ c.in-Err-result.ensures.call c.log_back.ensures.came

@@ -8,6 +8,7 @@ returns-in-Ok-clause-opened g c = record {
   reads = c.in-Ok.ensures.reads;
   writes = c.in-Ok.ensures.writes;
   unmarked = λ k d within. refl;
+  synced = c.in-Ok.ensures.synced;
   has = unknown c.in-Ok.opened.lanes.items _ _;
   there = tt;
   blocks = tt;

@@ -25,6 +25,7 @@ returns-in-Ok-clause-opened c =
       reads = c.in-Ok.ensures.reads;
       writes = c.in-Ok.ensures.writes;
       unmarked = c.in-Ok.ensures.failed;
+      synced = c.in-Ok.ensures.synced;
       has = subst (λ (l : List (Option Pages)). HasBlocks fork opened.blocks l) (sym contents)
           (subst (λ (n : ℕ). HasBlocks fork n (dealt fork pages c.args.lanes)) (sym blocks) (held_there fork pages (dealt fork pages c.args.lanes) hold));
       there = λ none.

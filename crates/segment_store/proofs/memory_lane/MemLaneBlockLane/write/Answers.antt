@@ -1,8 +1,7 @@
-use Rattle.std.proofs.Common.{ℕ, Bool, false, List, Some, ◌∙◌, ap, refl, sym}
+use Rattle.std.proofs.Common.{ℕ, Bool, List, Some, ◌∙◌, ap, refl, sym}
 use Rattle.std.specs.Prelude.{is_some}
 use Rattle.segment_store.specs.Contents.{with_mark, with_page}
 use Rattle.segment_store.specs.MemoryLane.{marks_of, pages_of}
-use Rattle.segment_store.specs.declared.memory_lane.MemBlock.{MemBlock}
 use Rattle.segment_store.proofs.MemoryLanes.{marks_put, not_missing, pages_put}
 use Rattle.segment_store.proofs.memory_lane.MemLaneBlockLane.write.Goals as goal
 
@@ -20,7 +19,7 @@ returns-then-fails-clause-contents c =
     let put = ((c.get_mut.follows.holds c.tear.new.self).3 (sym (ap is_some c.in-Some.ensures.value))).0 in
     record {
       left = c.tear.new.self.page;
-      size = c.tear.ensures.size;
+      size = c.tear.new.self.whole;
       is = pages_put c.args.self.now.blocks (c.get_mut.follows.lender c.tear.new.self) c.args.tag c.tear.new.self put;
     }
 
@@ -32,13 +31,12 @@ returns-then-fails-clause-failed c =
 
 pub returns-clause-contents : goal.returns-clause-contents
 returns-clause-contents c =
-    let block : MemBlock = record { page = c.copy_from.new.self; failed = false } in
-    let put = ((c.get_mut.follows.holds block).3 (sym (ap is_some c.in-Some.ensures.value))).0 in
-    ap Some (pages_put c.args.self.now.blocks (c.get_mut.follows.lender block) c.args.tag block put
-    ∙ ap (λ (page : List ℕ). with_page c.args.tag page (pages_of c.args.self.now)) c.copy_from.ensures)
+    let put = ((c.get_mut.follows.holds c.take.new.self).3 (sym (ap is_some c.in-Some.ensures.value))).0 in
+    ap Some (pages_put c.args.self.now.blocks (c.get_mut.follows.lender c.take.new.self) c.args.tag c.take.new.self put
+    ∙ ap (λ (page : List ℕ). with_page c.args.tag page (pages_of c.args.self.now)) c.take.ensures.page)
 
 pub returns-clause-failed : goal.returns-clause-failed
 returns-clause-failed c =
-    let block : MemBlock = record { page = c.copy_from.new.self; failed = false } in
-    let put = ((c.get_mut.follows.holds block).3 (sym (ap is_some c.in-Some.ensures.value))).0 in
-    marks_put c.args.self.now.blocks (c.get_mut.follows.lender block) c.args.tag block put
+    let put = ((c.get_mut.follows.holds c.take.new.self).3 (sym (ap is_some c.in-Some.ensures.value))).0 in
+    marks_put c.args.self.now.blocks (c.get_mut.follows.lender c.take.new.self) c.args.tag c.take.new.self put
+    ∙ ap (λ (mark : Bool). with_mark c.args.tag mark (marks_of c.args.self.now)) c.take.ensures.failed
