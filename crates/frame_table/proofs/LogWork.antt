@@ -149,13 +149,13 @@ module _ {L G : Type 0} (d : Devices L G) (o : Opening L G) (slots id : ℕ) (me
       of_value (value.Log x) home gives_it = of_mark x.down refl
         where
           taken : TakenLog
-          taken = record { bytes = d.bytes x.device; synced = h.state.device.synced; faults = h.state.device.faults; calls = 0; down = h.state.device.down }
+          taken = record { bytes = d.bytes x.device; synced = h.state.device.synced; faults = h.state.device.faults; calls = d.log_calls x.device; down = h.state.device.down }
 
           allowed : LogAllowed (log_out taken) h.state.device me.0.log
           allowed = record { held = held; home = out; faults = refl; synced = refl; down = refl; bytes = λ known e. sym (gives_it.0.bytes known e) }
 
           is_taken_so : IsTaken d.bytes d.synced d.log_faults d.log_calls x.device taken
-          is_taken_so = record { told = refl; durable = gives_it.0.synced; counted = gives_it.0.faults }
+          is_taken_so = record { told = refl; durable = gives_it.0.synced; counted = gives_it.0.faults; called = refl }
 
           result : (w : View) (views : List View) → views ≡ set h.state.pool.core.views id w → SameButLog me.0 w → is_some w.log.out ≡ true → w ≡ view_out taken me.0 → Laws (with_log h.state views h.state.device) → GoesOut taken x.down me.0 w → Acts t (log_went d.bytes d.synced d.log_faults d.log_calls (o.config.frames + 144) at_latch me)
           result w views are same away is laws did = (

@@ -1,5 +1,6 @@
 -- What a step stores: whatever the proof of an operation on a state word, where it tells a kind the word becomes what the kind makes of it.
-use Rattle.std.proofs.Common.{◌≡◌, ◌≢◌, ℕ, ◌*◌, ◌%◌, Bool, List, [], ◌∷◌, ◌++◌, get_or, set, get_or-set_same, sym, refl, ap, ◌∙◌, subst, arith}
+use Rattle.std.proofs.Common.{◌≡◌, ◌≢◌, ℕ, ◌≤◌, ◌*◌, ◌%◌, Bool, lit<, Option, List, [], ◌∷◌, ◌++◌, get_or, set, get_or-set_same, sym, refl, ap, ◌∙◌, subst, arith}
+use Rattle.std.specs.Prelude.{max, unwrap_or}
 use mathlib.Core.Option.{some}
 use lib.ListN.{get_elem?}
 use Rattle.state_word.specs.declared.word.StateWord.{StateWord}
@@ -10,13 +11,13 @@ use Rattle.pin_core.specs.Kinds as pin
 use Rattle.page_core.specs.Kinds as paged
 use Rattle.history_core.specs.State.{State, next_hand}
 use Rattle.history_core.specs.Trail.{Follows}
-use Rattle.history_core.proofs.Trail.{Ticks, next_tick, next_word}
+use Rattle.history_core.proofs.Trail.{Ticks, listed_made, next_tick, next_word}
 use Rattle.table_rule.specs.declared.opening.Opening.{Opening}
-use Rattle.table_rule.specs.Layout.{hand_place}
+use Rattle.table_rule.specs.Layout.{end_place, flushed_place, hand_place}
 use Rattle.table_rule.specs.Shows.{Devices}
-use Rattle.frame_table.specs.Behind.{DidWord, add_hand}
+use Rattle.frame_table.specs.Behind.{DidWord, add_hand, raise_flushed}
 use Rattle.frame_table.specs.Kinds.{Part, state_word, FrameKind, pins, pages, part_of, frame_after, view_after}
-use Rattle.frame_table.specs.Stores.{Makes, MustStore, HandMustMove}
+use Rattle.frame_table.specs.Stores.{Makes, MustStore, HandMustMove, FlushedMustRise}
 use Rattle.frame_table.specs.Tells.{part_place, SaysOf, Did}
 
 -- each kind at the state word but a load lists the change
@@ -106,3 +107,25 @@ module _ {L G : Type 0} (d : Devices L G) (o : Opening L G) where
       let moved : h'.state.hand ≡ Ticks (set h.state.pool.core.views id w) % 18446744073709551616 = h'.laws.trail.hand ∙ ap (λ (l : List View). Ticks l % 18446744073709551616) (sym h'.shows.views ∙ ap (λ (l : List View). set l id w) h.shows.views) in
       let shown : g n ≡ h'.state.hand = sym (get_or-set_same t.words at (g n) 0 (let e = h.shows.words in omega arith)) ∙ h'.shows.latches.hand in
       shown ∙ next_tick h.state.hand h'.state.hand h.state.pool.core.views id me.0 w h.laws.trail.hand moved here (ap (λ (v : View). v.ticks) did.after) ∙ ap next_hand (sym h.shows.latches.hand)
+
+  -- and what an operation on the word of the flushed position stores, if it keeps the rule and tells that the position was raised
+  pub flushed_rises : FlushedMustRise d o
+  flushed_rises slots id a b g me t h0 allows =
+      let at : ℕ = flushed_place o.config.frames in
+      let n : ℕ = get_or t.words at 0 in
+      let h = h0.held in
+      let s = h.state in
+      let r = allows t h h0.wide h0.there h0.small in
+      let w : View = r.0 in
+      let h' = r.3 in
+      let did : DidWord raise_flushed me.0 w n = r.4.1 in
+      let here : get_elem? s.pool.core.views id ≡ some me.0 = ap (λ (l : List View). get_elem? l id) (sym h.shows.views) ∙ h0.there in
+      let raised : w.raised_to ≡ max me.0.raised_to s.end = ap (λ (v : View). v.raised_to) did.after ∙ ap (λ (e : Option ℕ). max me.0.raised_to (unwrap_or e 0)) did.allowed.1
+          ∙ ap (max me.0.raised_to) (((h.laws.invariant.device.cells id me.0 0 here (lit< tt)).end did.state.end did.allowed.1).1) in
+      let more : me.0.raised_to ≤ w.raised_to = omega arith in
+      let made = (listed_made s h'.state h.laws.trail h'.laws.trail id me.0 w here (sym h'.shows.views ∙ ap (λ (l : List View). set l id w) h.shows.views)).raised more in
+      let shown : g n ≡ h'.state.flushed = sym (get_or-set_same t.words at (g n) 0 (let e = h.shows.words in omega arith)) ∙ h'.shows.latches.flushed in
+      let highest = h.laws.trail.flushed.above id me.0 here in
+      let is_flushed = h.shows.latches.flushed in
+      let is_end = h.shows.latches.end in
+      omega arith

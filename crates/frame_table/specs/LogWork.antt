@@ -139,6 +139,7 @@ module _ {G : Type 0} (bytes : G → Option (List ℕ)) (synced faults calls : G
     pub told : taken.bytes ≡ bytes g
     pub durable : (known : List ℕ) → bytes g ≡ Some known → taken.synced ≡ synced g
     pub counted : taken.faults ≡ faults g
+    pub called : taken.calls ≡ calls g
 
   -- The log x went out, and the view v became w
   pub record LogWent (x : NotedLog G) (v w : View) : Type 0 where

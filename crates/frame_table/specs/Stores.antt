@@ -1,5 +1,5 @@
--- What the table's rule makes a step store: at a state word what the kind of step that it tells of makes of the word found, and at the clock's hand the number of the next frame.
-use Rattle.std.specs.Prelude.{◌≡◌, ℕ, ◌<◌, length, slice_index}
+-- What the table's rule makes a step store: at a state word what the kind of step that it tells of makes of the word found, at the clock's hand the number of the next frame, and at the flushed position the larger of it and the log's end.
+use Rattle.std.specs.Prelude.{◌≡◌, ℕ, ◌<◌, max, length, slice_index}
 use mathlib.Core.Option.{none, some}
 use lib.ListN.{get_elem?}
 use Rattle.atomic_table.specs.Table.{Me, step, Allows}
@@ -10,9 +10,9 @@ use Rattle.pin_core.specs.declared.view.View.{View}
 use Rattle.history_core.specs.State.{State, next_hand}
 use Rattle.table_rule.specs.declared.value.Value.{Value}
 use Rattle.table_rule.specs.declared.opening.Opening.{Opening}
-use Rattle.table_rule.specs.Layout.{hand_place, state_place}
+use Rattle.table_rule.specs.Layout.{end_place, flushed_place, hand_place, state_place}
 use Rattle.table_rule.specs.Shows.{Devices, Held}
-use Rattle.frame_table.specs.Behind.{add_hand, tells_word}
+use Rattle.frame_table.specs.Behind.{add_hand, raise_flushed, tells_word}
 use Rattle.frame_table.specs.Kinds.{state_word, FrameKind, frame_after}
 use Rattle.frame_table.specs.Tells.{Choice, chosen, choice_part, tells}
 
@@ -41,3 +41,9 @@ module _ {L G : Type 0} (d : Devices L G) (o : Opening L G) where
   HandMustMove = (slots id a b : ℕ) (g : ℕ → ℕ) (me : Me (Value L G) View) (t : table.State (Value L G) View) → IsSeated slots id (hand_place o.config.frames) me t
       → Allows (Held d o) slots id me (hand_place o.config.frames) g (tells_word add_hand (step slots (hand_place o.config.frames) a b none) me)
       → g (slice_index t.words (hand_place o.config.frames)) ≡ next_hand (slice_index t.words (hand_place o.config.frames))
+
+  -- And whatever operation g on the word of the flushed position keeps the rule and tells that the position was raised: it stores the larger of that word and of the log's end
+  abbrev pub FlushedMustRise : Type 0
+  FlushedMustRise = (slots id a b : ℕ) (g : ℕ → ℕ) (me : Me (Value L G) View) (t : table.State (Value L G) View) → IsSeated slots id (flushed_place o.config.frames) me t
+      → Allows (Held d o) slots id me (flushed_place o.config.frames) g (tells_word raise_flushed (step slots (flushed_place o.config.frames) a b none) me)
+      → g (slice_index t.words (flushed_place o.config.frames)) ≡ max (slice_index t.words (flushed_place o.config.frames)) (slice_index t.words (end_place o.config.frames))

@@ -12,7 +12,7 @@ ghost use Rattle.table_rule.specs.Shows.{devices};
 ghost use Rattle.frame_table.specs.Kinds as kinds;
 ghost use Rattle.frame_table.specs.Kinds.{FrameKind, pages, part_of, pins};
 ghost use Rattle.frame_table.specs.Sees.{lanes_in, relations_of};
-ghost use Rattle.frame_table.specs.Stores.{HandMustMove, Makes, MustStore};
+ghost use Rattle.frame_table.specs.Stores.{FlushedMustRise, HandMustMove, Makes, MustStore};
 
 use atomic_table::Table;
 use block_tag::{Catalog, Tag};
@@ -67,7 +67,7 @@ impl<L: BlockLane, G: LogDevice> FrameTable<L, G> {
         &self.catalog
     }
 
-    /// What each call at a state word has to store, whatever the table is at that moment: whoever keeps the table's rule and tells of a step stores the word that the step makes of the word found. So with the clock's hand.
+    /// What each call at a state word has to store, whatever the table is at that moment: whoever keeps the table's rule and tells of a step stores the word that the step makes of the word found. So with the clock's hand, and with the flushed position.
     pub fn words_must_be_stored(&self)
         ensures each { (k : FrameKind) → part_of k ≡ kinds.state_word → k ≢ pins pin_kinds.load_state → MustStore (devices L.contents L.failed_writes L.unsynced L.read_faults L.write_faults L.calls G.bytes G.synced G.faults G.calls) self.now.table.shared.key k (Makes k) }
         ensures pin { (ring : Bool) → MustStore (devices L.contents L.failed_writes L.unsynced L.read_faults L.write_faults L.calls G.bytes G.synced G.faults G.calls) self.now.table.shared.key (pins (pin_kinds.pin ring)) (λ f found left. left ≡ pinned_fields ring found) }
@@ -75,6 +75,7 @@ impl<L: BlockLane, G: LogDevice> FrameTable<L, G> {
         ensures ended { (end : IoEnd) → MustStore (devices L.contents L.failed_writes L.unsynced L.read_faults L.write_faults L.calls G.bytes G.synced G.faults G.calls) self.now.table.shared.key (pages (page_kinds.end_io end)) (λ f found left. left ≡ unlocked_fields (io_ended_fields end found)) }
         ensures dirtied { MustStore (devices L.contents L.failed_writes L.unsynced L.read_faults L.write_faults L.calls G.bytes G.synced G.faults G.calls) self.now.table.shared.key (pages page_kinds.mark_dirty) (λ f found left. left ≡ dirtied_fields found) }
         ensures hand { HandMustMove (devices L.contents L.failed_writes L.unsynced L.read_faults L.write_faults L.calls G.bytes G.synced G.faults G.calls) self.now.table.shared.key }
+        ensures flushed { FlushedMustRise (devices L.contents L.failed_writes L.unsynced L.read_faults L.write_faults L.calls G.bytes G.synced G.faults G.calls) self.now.table.shared.key }
     {}
 }
 

@@ -17,8 +17,8 @@ use table_rule::{Turn, Value};
 /// Waits until the partition's latch is free, and takes it. A backend that has it already would wait for ever.
 pub fn take_turn<L: BlockLane, G: LogDevice, R: Wait>(
     table: &FrameTable<L, G>,
-    seat: &mut Seat<Value<L, G>, View>,
     rt: &R,
+    seat: &mut Seat<Value<L, G>, View>,
     partition: u32,
 )
     requires seat { CanTurn table.now seat.old (Partition partition) }

@@ -59,7 +59,7 @@ pages_of blocks (Some known) marks = Some (map (block_page known marks) blocks)
 module _ {L : Type 0} (d : LaneDevices L) (relations : List RelEntry) (lanes q : ℕ) where
   -- what the lane q is
   abbrev pub taken_of : L → TakenLane
-  taken_of l = record { pages = pages_of (blocks_in relations lanes q) (d.contents l) (d.failed_writes l); read_faults = d.read_faults l; write_faults = d.write_faults l; calls = 0 }
+  taken_of l = record { pages = pages_of (blocks_in relations lanes q) (d.contents l) (d.failed_writes l); read_faults = d.read_faults l; write_faults = d.write_faults l; calls = d.calls l }
 
   -- where its contents are known it holds each block that lies there
   abbrev pub HoldsBlocks : L → Type 0

@@ -14,8 +14,8 @@ use std::sync::Wait;
 
 /// The frame that is chosen; its header is unlocked again. None where each frame was seen pinned.
 fn choose<R: Wait>(
-    rt: &R,
     table: &Table,
+    rt: &R,
     seat: &mut TableSeat,
     sweep: &Sweep,
     census: &mut Census,
@@ -40,8 +40,8 @@ fn choose<R: Wait>(
 
 /// The same where the backend pins the frames from this one on, for a block each, while it chooses.
 fn choose_beneath<R: Wait>(
-    rt: &R,
     table: &Table,
+    rt: &R,
     seat: &mut TableSeat,
     sweep: &Sweep,
     census: &mut Census,
@@ -58,18 +58,18 @@ fn choose_beneath<R: Wait>(
     ensures census { census.new.frames ≡ census.old.frames }
 {
     if frame == 16 {
-        return choose(rt, table, seat, sweep, census, &mut None);
+        return choose(table, rt, seat, sweep, census, &mut None);
     }
-    let pin = enter_block(rt, table, seat, frame, block(table, frame))?;
-    let chosen = choose_beneath(rt, table, seat, sweep, census, frame + 1);
+    let pin = enter_block(table, rt, seat, frame, block(table, frame))?;
+    let chosen = choose_beneath(table, rt, seat, sweep, census, frame + 1);
     table.unpin(rt, seat, pin);
     chosen
 }
 
 /// What is chosen where no frame is pinned but those from this one on.
 pub fn choose_among<R: Wait>(
-    rt: &R,
     table: &Table,
+    rt: &R,
     seat: &mut TableSeat,
     sweep: &Sweep,
     census: &mut Census,
@@ -84,13 +84,13 @@ pub fn choose_among<R: Wait>(
     ensures pins { OnlyPins table.now seat.new × PinsNone seat.new }
     ensures census { census.new.frames ≡ census.old.frames }
 {
-    choose_beneath(rt, table, seat, sweep, census, frame)
+    choose_beneath(table, rt, seat, sweep, census, frame)
 }
 
 /// What is chosen last, of so many choices.
 pub fn choose_often<R: Wait>(
-    rt: &R,
     table: &Table,
+    rt: &R,
     seat: &mut TableSeat,
     sweep: &Sweep,
     census: &mut Census,
@@ -106,13 +106,13 @@ pub fn choose_often<R: Wait>(
 {
     let mut chosen = None;
     for _ in 0..times {
-        chosen = choose(rt, table, seat, sweep, census, ring);
+        chosen = choose(table, rt, seat, sweep, census, ring);
     }
     chosen
 }
 
 /// Each frame gets a block, and its pin is given up: its usage count is 1 then. How many got one.
-pub fn use_frames<R: Wait>(rt: &R, table: &Table, seat: &mut TableSeat) -> u32
+pub fn use_frames<R: Wait>(table: &Table, rt: &R, seat: &mut TableSeat) -> u32
     requires small { IsSmall table.now }
     requires closes { CanClose table.now seat.old }
     requires pins { OnlyPins table.now seat.old × PinsNone seat.old }
@@ -121,7 +121,7 @@ pub fn use_frames<R: Wait>(rt: &R, table: &Table, seat: &mut TableSeat) -> u32
 {
     let mut used = 0;
     for frame in 0..16 {
-        if leave_block(rt, table, seat, frame, block(table, frame)) {
+        if leave_block(table, rt, seat, frame, block(table, frame)) {
             used += 1;
         }
     }
@@ -129,7 +129,7 @@ pub fn use_frames<R: Wait>(rt: &R, table: &Table, seat: &mut TableSeat) -> u32
 }
 
 /// Pins a frame that has a tag, and gives it up.
-fn touch<R: Wait>(rt: &R, table: &Table, seat: &mut TableSeat, frame: u32) -> bool
+fn touch<R: Wait>(table: &Table, rt: &R, seat: &mut TableSeat, frame: u32) -> bool
     requires pins { OnlyPins table.now seat.old × PinsNone seat.old }
     requires frame { frame < frames_of table.now }
     ensures pins { OnlyPins table.now seat.new × PinsNone seat.new }
@@ -143,7 +143,7 @@ fn touch<R: Wait>(rt: &R, table: &Table, seat: &mut TableSeat, frame: u32) -> bo
 }
 
 /// The same this many times: the usage count grows by as much, up to 5.
-pub fn touch_often<R: Wait>(rt: &R, table: &Table, seat: &mut TableSeat, frame: u32, times: u32)
+pub fn touch_often<R: Wait>(table: &Table, rt: &R, seat: &mut TableSeat, frame: u32, times: u32)
     requires closes { CanClose table.now seat.old }
     requires pins { OnlyPins table.now seat.old × PinsNone seat.old }
     requires frame { frame < frames_of table.now }
@@ -151,7 +151,7 @@ pub fn touch_often<R: Wait>(rt: &R, table: &Table, seat: &mut TableSeat, frame: 
     ensures pins { OnlyPins table.now seat.new × PinsNone seat.new }
 {
     for _ in 0..times {
-        touch(rt, table, seat, frame);
+        touch(table, rt, seat, frame);
     }
 }
 

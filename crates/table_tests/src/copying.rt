@@ -52,8 +52,8 @@ fn is_whole(page: &Page) -> bool {
 
 /// Puts such pages, one after the other, and counts those that became entries.
 fn change_often<R: Wait>(
-    rt: &R,
     table: &Table,
+    rt: &R,
     seat: &mut TableSeat,
     course: Course,
     alloc: Global,
@@ -68,7 +68,7 @@ fn change_often<R: Wait>(
     let mut changes = 0;
     for _ in 0..course.times {
         number_next(&mut page);
-        if let Some(Ok(_lsn)) = put(rt, table, seat, course.frame, course.tag, &mut page) {
+        if let Some(Ok(_lsn)) = put(table, rt, seat, course.frame, course.tag, &mut page) {
             changes += 1;
         }
     }
@@ -76,7 +76,7 @@ fn change_often<R: Wait>(
 }
 
 /// Copies the page of a frame, under the content lock, shared.
-fn copy_shared<R: Wait>(rt: &R, table: &Table, seat: &mut TableSeat, frame: u32, page: &mut Page)
+fn copy_shared<R: Wait>(table: &Table, rt: &R, seat: &mut TableSeat, frame: u32, page: &mut Page)
     requires pins { OnlyPins table.now seat.old }
     requires frame { frame < frames_of table.now }
     requires sees { SeesPage (link seat.old.me.0 frame) }
@@ -91,8 +91,8 @@ fn copy_shared<R: Wait>(rt: &R, table: &Table, seat: &mut TableSeat, frame: u32,
 
 /// Copies it so often, and counts the copies that aren't whole.
 fn copy_often<R: Wait>(
-    rt: &R,
     table: &Table,
+    rt: &R,
     seat: &mut TableSeat,
     course: Course,
     alloc: Global,
@@ -106,7 +106,7 @@ fn copy_often<R: Wait>(
     };
     let mut torn = 0;
     for _ in 0..course.times {
-        copy_shared(rt, table, seat, course.frame, &mut page);
+        copy_shared(table, rt, seat, course.frame, &mut page);
         if !is_whole(&page) {
             torn += 1;
         }
@@ -116,8 +116,8 @@ fn copy_often<R: Wait>(
 
 /// Two backends do so, in threads of their own.
 fn copy_both<R: Threads + Wait + Sync>(
-    rt: &R,
     table: &Table,
+    rt: &R,
     first: &mut TableSeat,
     second: &mut TableSeat,
     course: Course,
@@ -133,11 +133,11 @@ fn copy_both<R: Threads + Wait + Sync>(
         &mut || -> Option<u32>
             requires { IsSync R.row × CopiesOn table.now course first.now }
             ensures { CopiesOn table.entry.now course first.exit.now × KeepsBeside course.frame first.entry.now first.exit.now }
-        { copy_often(rt, table, first, course, alloc) },
+        { copy_often(table, rt, first, course, alloc) },
         &mut || -> Option<u32>
             requires { IsSync R.row × CopiesOn table.now course second.now }
             ensures { CopiesOn table.entry.now course second.exit.now × KeepsBeside course.frame second.entry.now second.exit.now }
-        { copy_often(rt, table, second, course, alloc) },
+        { copy_often(table, rt, second, course, alloc) },
     )
 }
 
@@ -150,8 +150,8 @@ pub struct Copied {
 
 /// Two backends copy the page that a third one changes, in threads of their own.
 fn copy_beside<R: Threads + Wait + Sync>(
-    rt: &R,
     table: &Table,
+    rt: &R,
     writer: &mut TableSeat,
     first: &mut TableSeat,
     second: &mut TableSeat,
@@ -170,19 +170,19 @@ fn copy_beside<R: Threads + Wait + Sync>(
         &mut || -> Option<u32>
             requires { IsSync R.row × ChangesOn table.now course writer.now }
             ensures { ChangesOn table.entry.now course writer.exit.now × KeepsBeside course.frame writer.entry.now writer.exit.now }
-        { change_often(rt, table, writer, course, alloc) },
+        { change_often(table, rt, writer, course, alloc) },
         &mut || -> (Option<u32>, Option<u32>)
             requires { IsSync R.row × CopiesOn table.now course first.now × CopiesOn table.now course second.now }
             ensures { CopiesOn table.entry.now course first.exit.now × KeepsBeside course.frame first.entry.now first.exit.now × CopiesOn table.entry.now course second.exit.now × KeepsBeside course.frame second.entry.now second.exit.now }
-        { copy_both(rt, table, first, second, course, alloc) },
+        { copy_both(table, rt, first, second, course, alloc) },
     );
     Copied { changes, torn }
 }
 
 /// The same, once the second of the two pins the frame. None where it can't.
 fn copy_second<R: Threads + Wait + Sync>(
-    rt: &R,
     table: &Table,
+    rt: &R,
     writer: &mut TableSeat,
     first: &mut TableSeat,
     second: &mut TableSeat,
@@ -196,16 +196,16 @@ fn copy_second<R: Threads + Wait + Sync>(
     ensures first { CopiesOn table.now course first.new × KeepsBeside course.frame first.old first.new }
     ensures second { OnlyPins table.now second.new × PinsNone second.new × Keeps second.old second.new }
 {
-    let pin = pin_page(rt, table, second, course.frame)?;
-    let copied = copy_beside(rt, table, writer, first, second, course, alloc);
+    let pin = pin_page(table, rt, second, course.frame)?;
+    let copied = copy_beside(table, rt, writer, first, second, course, alloc);
     table.unpin(rt, second, pin);
     Some(copied)
 }
 
 /// The same, once both do.
 fn copy_pinned<R: Threads + Wait + Sync>(
-    rt: &R,
     table: &Table,
+    rt: &R,
     writer: &mut TableSeat,
     first: &mut TableSeat,
     second: &mut TableSeat,
@@ -219,16 +219,16 @@ fn copy_pinned<R: Threads + Wait + Sync>(
     ensures first { OnlyPins table.now first.new × PinsNone first.new × Keeps first.old first.new }
     ensures second { OnlyPins table.now second.new × PinsNone second.new × Keeps second.old second.new }
 {
-    let pin = pin_page(rt, table, first, course.frame)?;
-    let copied = copy_second(rt, table, writer, first, second, course, alloc);
+    let pin = pin_page(table, rt, first, course.frame)?;
+    let copied = copy_second(table, rt, writer, first, second, course, alloc);
     table.unpin(rt, first, pin);
     copied
 }
 
 /// The same at a block that the one who changes it brings into the frame.
 fn copy_at<R: Threads + Wait + Sync>(
-    rt: &R,
     table: &Table,
+    rt: &R,
     writer: &mut TableSeat,
     first: &mut TableSeat,
     second: &mut TableSeat,
@@ -247,17 +247,17 @@ fn copy_at<R: Threads + Wait + Sync>(
     let Ok(mut page) = Page::zeroed(alloc) else {
         return None;
     };
-    let pin = enter_block(rt, table, writer, course.frame, course.tag)?;
-    load_block(rt, table, writer, course.frame, course.tag, &mut page);
-    let copied = copy_pinned(rt, table, writer, first, second, course, alloc);
+    let pin = enter_block(table, rt, writer, course.frame, course.tag)?;
+    load_block(table, rt, writer, course.frame, course.tag, &mut page);
+    let copied = copy_pinned(table, rt, writer, first, second, course, alloc);
     table.unpin(rt, writer, pin);
     copied
 }
 
 /// The first backend changes a page so often while two others, which come and go, copy it as often. None where a step before that failed.
 pub fn copy_together<R: Threads + Wait + Sync>(
-    rt: &R,
     table: &Table,
+    rt: &R,
     seat: &mut TableSeat,
     course: Course,
     alloc: Global,
@@ -271,7 +271,7 @@ pub fn copy_together<R: Threads + Wait + Sync>(
 {
     let mut first = table.split(seat);
     let mut second = table.split(seat);
-    let copied = copy_at(rt, table, seat, &mut first, &mut second, course, alloc);
+    let copied = copy_at(table, rt, seat, &mut first, &mut second, course, alloc);
     table.join(seat, first);
     table.join(seat, second);
     copied

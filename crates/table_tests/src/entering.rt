@@ -18,7 +18,7 @@ use state_word::{Flag, has, pins};
 use std::sync::Wait;
 
 /// Takes a victim's pin of a frame that has neither pins nor a tag.
-fn pin_free<R: Wait>(rt: &R, table: &Table, seat: &mut TableSeat, frame: u32) -> Option<Pin>
+fn pin_free<R: Wait>(table: &Table, rt: &R, seat: &mut TableSeat, frame: u32) -> Option<Pin>
     requires pins { OnlyPins table.now seat.old }
     requires absent { (link seat.old.me.0 frame).role ≡ Absent }
     requires frame { frame < frames_of table.now }
@@ -38,7 +38,7 @@ fn pin_free<R: Wait>(rt: &R, table: &Table, seat: &mut TableSeat, frame: u32) ->
 }
 
 /// Stores a block's tag in the frame that the backend has as a victim, and enters it into the map, where the frame is free still.
-fn store_block<R: Wait>(rt: &R, table: &Table, seat: &mut TableSeat, frame: u32, tag: Tag) -> bool
+fn store_block<R: Wait>(table: &Table, rt: &R, seat: &mut TableSeat, frame: u32, tag: Tag) -> bool
     requires quiet { IsQuiet table.now seat.old }
     requires frame { frame < frames_of table.now }
     requires block { HasBlock table.now tag }
@@ -66,8 +66,8 @@ fn store_block<R: Wait>(rt: &R, table: &Table, seat: &mut TableSeat, frame: u32,
 
 /// Enters a block into the map, under its partition's latch, in the frame that the backend has as a victim. False where the block has a frame, or the frame is not free any more.
 fn enter_where_lacking<R: Wait>(
-    rt: &R,
     table: &Table,
+    rt: &R,
     seat: &mut TableSeat,
     frame: u32,
     tag: Tag,
@@ -88,13 +88,13 @@ fn enter_where_lacking<R: Wait>(
     if find(table, seat, &tag).is_some() {
         return false;
     }
-    store_block(rt, table, seat, frame, tag)
+    store_block(table, rt, seat, frame, tag)
 }
 
 /// A block comes into a frame that has neither pins nor a tag, and the backend has its pin (`BufferAlloc`). None where the frame isn't free, or the block has one.
 pub fn enter_block<R: Wait>(
-    rt: &R,
     table: &Table,
+    rt: &R,
     seat: &mut TableSeat,
     frame: u32,
     tag: Tag,
@@ -109,10 +109,10 @@ pub fn enter_block<R: Wait>(
     ensures pinned { IfSome result (λ _. PinsBlock tag (link seat.new.me.0 frame)) }
     ensures refused { IfNone result ((link seat.new.me.0 frame).role ≡ Absent) }
 {
-    let pin = pin_free(rt, table, seat, frame)?;
+    let pin = pin_free(table, rt, seat, frame)?;
     let partition = tag.partition();
-    take_turn(table, seat, rt, partition);
-    let entered = enter_where_lacking(rt, table, seat, frame, tag);
+    take_turn(table, rt, seat, partition);
+    let entered = enter_where_lacking(table, rt, seat, frame, tag);
     give_turn(table, seat, partition);
     if entered {
         return Some(pin);
@@ -123,8 +123,8 @@ pub fn enter_block<R: Wait>(
 
 /// A block comes into a frame, and the backend gives its pin up.
 pub fn leave_block<R: Wait>(
-    rt: &R,
     table: &Table,
+    rt: &R,
     seat: &mut TableSeat,
     frame: u32,
     tag: Tag,
@@ -137,7 +137,7 @@ pub fn leave_block<R: Wait>(
     ensures pins { OnlyPins table.now seat.new × PinsNone seat.new }
     ensures keeps { Keeps seat.old seat.new }
 {
-    let Some(pin) = enter_block(rt, table, seat, frame, tag) else {
+    let Some(pin) = enter_block(table, rt, seat, frame, tag) else {
         return false;
     };
     table.unpin(rt, seat, pin);
@@ -145,7 +145,7 @@ pub fn leave_block<R: Wait>(
 }
 
 /// Pins the frame that the map gives for a block, under its partition's latch.
-fn pin_mapped<R: Wait>(rt: &R, table: &Table, seat: &mut TableSeat, tag: Tag) -> Option<Pin>
+fn pin_mapped<R: Wait>(table: &Table, rt: &R, seat: &mut TableSeat, tag: Tag) -> Option<Pin>
     requires quiet { IsQuiet table.now seat.old }
     requires none { PinsNone seat.old }
     requires block { HasBlock table.now tag }
@@ -162,7 +162,7 @@ fn pin_mapped<R: Wait>(rt: &R, table: &Table, seat: &mut TableSeat, tag: Tag) ->
 }
 
 /// Pins a block that has a frame (`BufferAlloc`, where the block is found). None where it has none.
-pub fn pin_found<R: Wait>(rt: &R, table: &Table, seat: &mut TableSeat, tag: Tag) -> Option<Pin>
+pub fn pin_found<R: Wait>(table: &Table, rt: &R, seat: &mut TableSeat, tag: Tag) -> Option<Pin>
     requires pins { OnlyPins table.now seat.old × PinsNone seat.old }
     requires block { HasBlock table.now tag }
     ensures pins { OnlyPins table.now seat.new }
@@ -170,21 +170,21 @@ pub fn pin_found<R: Wait>(rt: &R, table: &Table, seat: &mut TableSeat, tag: Tag)
     ensures lacking { IfNone result (PinsNone seat.new × Keeps seat.old seat.new) }
 {
     let partition = tag.partition();
-    take_turn(table, seat, rt, partition);
-    let pinned = pin_mapped(rt, table, seat, tag);
+    take_turn(table, rt, seat, partition);
+    let pinned = pin_mapped(table, rt, seat, tag);
     give_turn(table, seat, partition);
     pinned
 }
 
 /// The frame of a block, if it has one. Its pin is given up.
-pub fn frame_of<R: Wait>(rt: &R, table: &Table, seat: &mut TableSeat, tag: Tag) -> Option<u32>
+pub fn frame_of<R: Wait>(table: &Table, rt: &R, seat: &mut TableSeat, tag: Tag) -> Option<u32>
     requires closes { CanClose table.now seat.old }
     requires pins { OnlyPins table.now seat.old × PinsNone seat.old }
     requires block { HasBlock table.now tag }
     ensures closes { CanClose table.now seat.new }
     ensures pins { OnlyPins table.now seat.new × PinsNone seat.new }
 {
-    let pin = pin_found(rt, table, seat, tag)?;
+    let pin = pin_found(table, rt, seat, tag)?;
     let frame = pin.frame();
     table.unpin(rt, seat, pin);
     Some(frame)

@@ -15,8 +15,8 @@ use std::sync::Wait;
 
 /// Reads a block from the one lane, for the frame. Whether the lane gave a page.
 fn read_lane<R: Wait>(
-    rt: &R,
     table: &Table,
+    rt: &R,
     seat: &mut TableSeat,
     frame: u32,
     tag: Tag,
@@ -64,8 +64,8 @@ fn put_page(table: &Table, seat: &mut TableSeat, frame: u32, page: &Page, _tag: 
 
 /// Reads a block into the frame, where the backend has the right to, and ends that.
 fn read_in<R: Wait>(
-    rt: &R,
     table: &Table,
+    rt: &R,
     seat: &mut TableSeat,
     right: IoRight,
     tag: Tag,
@@ -82,7 +82,7 @@ fn read_in<R: Wait>(
     ensures pinned { PinsBlock tag (link seat.new.me.0 right.frame) }
 {
     let frame = right.frame();
-    if !read_lane(rt, table, seat, frame, tag, page) || !page.is_sound() {
+    if !read_lane(table, rt, seat, frame, tag, page) || !page.is_sound() {
         end_io(table, rt, seat, right, IoEnd::Bad);
         return;
     }
@@ -92,8 +92,8 @@ fn read_in<R: Wait>(
 
 /// Reads a block into the frame that the backend pins for it, until the page is there (`ReadBuffer_common`). The pin has seen BM_VALID then.
 pub fn load_block<R: Wait>(
-    rt: &R,
     table: &Table,
+    rt: &R,
     seat: &mut TableSeat,
     frame: u32,
     tag: Tag,
@@ -111,7 +111,7 @@ pub fn load_block<R: Wait>(
     for _ in rt.forever() {
         match start_io(table, rt, seat, frame, true) {
             None => return,
-            Some(right) => read_in(rt, table, seat, right, tag, page),
+            Some(right) => read_in(table, rt, seat, right, tag, page),
         }
     }
     unreachable!()

@@ -54,8 +54,8 @@ fn exclusive_refused(table: &Table, seat: &mut TableSeat, frame: u32) -> Option<
 
 /// Why a backend gets no content lock, shared or exclusive, while another one has it exclusively.
 pub fn refused_by_exclusive<R: Wait>(
-    rt: &R,
     table: &Table,
+    rt: &R,
     holder: &mut TableSeat,
     seat: &mut TableSeat,
     frame: u32,
@@ -76,8 +76,8 @@ pub fn refused_by_exclusive<R: Wait>(
 
 /// Likewise, while another one shares it.
 pub fn refused_by_shared<R: Wait>(
-    rt: &R,
     table: &Table,
+    rt: &R,
     holder: &mut TableSeat,
     seat: &mut TableSeat,
     frame: u32,
@@ -97,7 +97,7 @@ pub fn refused_by_shared<R: Wait>(
 }
 
 /// Pins a frame whose page is there.
-pub fn pin_page<R: Wait>(rt: &R, table: &Table, seat: &mut TableSeat, frame: u32) -> Option<Pin>
+pub fn pin_page<R: Wait>(table: &Table, rt: &R, seat: &mut TableSeat, frame: u32) -> Option<Pin>
     requires pins { OnlyPins table.now seat.old × PinsNone seat.old }
     requires frame { frame < frames_of table.now }
     ensures pins { OnlyPins table.now seat.new }
@@ -118,8 +118,8 @@ pub fn pin_page<R: Wait>(rt: &R, table: &Table, seat: &mut TableSeat, frame: u32
 
 /// What a backend's tries for the content lock give, at a page that another one has: exclusively, and then shared. None where the page didn't come, or the frame couldn't be pinned.
 fn refusals_beside<R: Wait>(
-    rt: &R,
     table: &Table,
+    rt: &R,
     holder: &mut TableSeat,
     seat: &mut TableSeat,
     frame: u32,
@@ -131,17 +131,17 @@ fn refusals_beside<R: Wait>(
     ensures keeps { KeepsBeside frame holder.old holder.new × KeepsBeside frame seat.old seat.new }
     ensures sees { SeesPage (link holder.new.me.0 frame) }
 {
-    let pin = pin_page(rt, table, seat, frame)?;
-    let exclusively = refused_by_exclusive(rt, table, holder, seat, frame);
-    let shared = refused_by_shared(rt, table, holder, seat, frame);
+    let pin = pin_page(table, rt, seat, frame)?;
+    let exclusively = refused_by_exclusive(table, rt, holder, seat, frame);
+    let shared = refused_by_shared(table, rt, holder, seat, frame);
     table.unpin(rt, seat, pin);
     Some([exclusively, shared])
 }
 
 /// The same at a block that the other backend brings into the frame.
 fn refusals_at<R: Wait>(
-    rt: &R,
     table: &Table,
+    rt: &R,
     holder: &mut TableSeat,
     seat: &mut TableSeat,
     frame: u32,
@@ -156,17 +156,17 @@ fn refusals_at<R: Wait>(
     ensures seat { OnlyPins table.now seat.new × PinsNone seat.new }
     ensures keeps { Keeps holder.old holder.new × Keeps seat.old seat.new }
 {
-    let pin = enter_block(rt, table, holder, frame, tag)?;
-    load_block(rt, table, holder, frame, tag, page);
-    let refused = refusals_beside(rt, table, holder, seat, frame);
+    let pin = enter_block(table, rt, holder, frame, tag)?;
+    load_block(table, rt, holder, frame, tag, page);
+    let refused = refusals_beside(table, rt, holder, seat, frame);
     table.unpin(rt, holder, pin);
     refused
 }
 
 /// The same for a backend that comes and goes, beside the first one.
 pub fn refusals<R: Wait>(
-    rt: &R,
     table: &Table,
+    rt: &R,
     seat: &mut TableSeat,
     frame: u32,
     tag: Tag,
@@ -180,7 +180,7 @@ pub fn refusals<R: Wait>(
     ensures { CanClose table.now seat.new }
 {
     let mut other = table.split(seat);
-    let refused = refusals_at(rt, table, seat, &mut other, frame, tag, page);
+    let refused = refusals_at(table, rt, seat, &mut other, frame, tag, page);
     table.join(seat, other);
     refused
 }

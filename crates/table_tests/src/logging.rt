@@ -35,8 +35,8 @@ fn apply(table: &Table, seat: &mut TableSeat, frame: u32, page: &Page, _tag: Tag
 
 /// Inserts the page into the log, and puts it into the frame.
 fn enter_page<R: Wait>(
-    rt: &R,
     table: &Table,
+    rt: &R,
     seat: &mut TableSeat,
     frame: u32,
     tag: Tag,
@@ -66,8 +66,8 @@ fn enter_page<R: Wait>(
 
 /// Puts a page into its block's frame, over the log: the frame is marked dirty first. None for a page that isn't sound, or is new.
 pub fn put<R: Wait>(
-    rt: &R,
     table: &Table,
+    rt: &R,
     seat: &mut TableSeat,
     frame: u32,
     tag: Tag,
@@ -88,15 +88,15 @@ pub fn put<R: Wait>(
     }
     exclusive(table, rt, seat, frame);
     table.mark_dirty(rt, seat, frame);
-    let entered = enter_page(rt, table, seat, frame, tag, page);
+    let entered = enter_page(table, rt, seat, frame, tag, page);
     unexclusive(table, seat, frame);
     Some(entered)
 }
 
 /// Flushes the log up to a position, where the backend pins the frame for a block.
 fn flush<R: Wait>(
-    rt: &R,
     table: &Table,
+    rt: &R,
     seat: &mut TableSeat,
     _frame: u32,
     _tag: Tag,
@@ -133,8 +133,8 @@ pub struct Tries {
 
 /// Brings a block into a frame, and puts a page there twice, with two flushes up to `lsn` between. None where the block didn't come.
 pub fn put_twice<R: Wait>(
-    rt: &R,
     table: &Table,
+    rt: &R,
     seat: &mut TableSeat,
     frame: u32,
     tag: Tag,
@@ -147,12 +147,12 @@ pub fn put_twice<R: Wait>(
     requires block { HasBlock table.now tag }
     ensures closes { CanClose table.now seat.new }
 {
-    let pin = enter_block(rt, table, seat, frame, tag)?;
-    load_block(rt, table, seat, frame, tag, page);
-    let first = put(rt, table, seat, frame, tag, page);
-    let flushed = flush(rt, table, seat, frame, tag, lsn);
-    let again = flush(rt, table, seat, frame, tag, lsn);
-    let second = put(rt, table, seat, frame, tag, page);
+    let pin = enter_block(table, rt, seat, frame, tag)?;
+    load_block(table, rt, seat, frame, tag, page);
+    let first = put(table, rt, seat, frame, tag, page);
+    let flushed = flush(table, rt, seat, frame, tag, lsn);
+    let again = flush(table, rt, seat, frame, tag, lsn);
+    let second = put(table, rt, seat, frame, tag, page);
     table.unpin(rt, seat, pin);
     Some(Tries {
         first,
@@ -173,8 +173,8 @@ pub struct LateFlushes {
 
 /// Brings a block into a frame, puts a page there twice, and flushes up to `lsn` then, and up to where the log began. None where the block didn't come.
 pub fn flush_late<R: Wait>(
-    rt: &R,
     table: &Table,
+    rt: &R,
     seat: &mut TableSeat,
     frame: u32,
     tag: Tag,
@@ -187,12 +187,12 @@ pub fn flush_late<R: Wait>(
     requires block { HasBlock table.now tag }
     ensures closes { CanClose table.now seat.new }
 {
-    let pin = enter_block(rt, table, seat, frame, tag)?;
-    load_block(rt, table, seat, frame, tag, page);
-    let first = put(rt, table, seat, frame, tag, page);
-    let second = put(rt, table, seat, frame, tag, page);
-    let flushed = flush(rt, table, seat, frame, tag, lsn);
-    let base = flush(rt, table, seat, frame, tag, 0);
+    let pin = enter_block(table, rt, seat, frame, tag)?;
+    load_block(table, rt, seat, frame, tag, page);
+    let first = put(table, rt, seat, frame, tag, page);
+    let second = put(table, rt, seat, frame, tag, page);
+    let flushed = flush(table, rt, seat, frame, tag, lsn);
+    let base = flush(table, rt, seat, frame, tag, 0);
     table.unpin(rt, seat, pin);
     Some(LateFlushes {
         first,

@@ -11,7 +11,7 @@ use std::sync::Wait;
 use std::thread::{Threads, join_mut};
 
 /// Pins a frame and gives it up, or says why it wasn't pinned.
-pub fn refusal<R: Wait>(rt: &R, table: &Table, seat: &mut TableSeat, frame: u32) -> Option<TryPin>
+pub fn refusal<R: Wait>(table: &Table, rt: &R, seat: &mut TableSeat, frame: u32) -> Option<TryPin>
     requires rests { Rests table.now seat.old }
     requires frame { frame < frames_of table.now }
     ensures rests { Rests table.now seat.new }
@@ -28,8 +28,8 @@ pub fn refusal<R: Wait>(rt: &R, table: &Table, seat: &mut TableSeat, frame: u32)
 
 /// Why a frame isn't pinned while another backend has its header.
 pub fn refusal_beside<R: Wait>(
-    rt: &R,
     table: &Table,
+    rt: &R,
     seat: &mut TableSeat,
     other: &mut TableSeat,
     frame: u32,
@@ -40,15 +40,15 @@ pub fn refusal_beside<R: Wait>(
     ensures keeps { Keeps seat.old seat.new × Keeps other.old other.new }
 {
     table.lock_header(rt, other, frame);
-    let refused = refusal(rt, table, seat, frame);
+    let refused = refusal(table, rt, seat, frame);
     table.unlock_header(other, frame);
     refused
 }
 
 /// Pins a frame this many times, and counts how often it was refused.
 pub fn pin_often<R: Wait>(
-    rt: &R,
     table: &Table,
+    rt: &R,
     seat: &mut TableSeat,
     frame: u32,
     times: u32,
@@ -60,7 +60,7 @@ pub fn pin_often<R: Wait>(
 {
     let mut refused = 0;
     for _ in 0..times {
-        if refusal(rt, table, seat, frame).is_some() {
+        if refusal(table, rt, seat, frame).is_some() {
             refused += 1;
         }
     }
@@ -69,8 +69,8 @@ pub fn pin_often<R: Wait>(
 
 /// Why the first backend doesn't pin a frame while a second one has its header. The second one comes and goes.
 pub fn refusal_of_two<R: Wait>(
-    rt: &R,
     table: &Table,
+    rt: &R,
     seat: &mut TableSeat,
     frame: u32,
 ) -> Option<TryPin>
@@ -80,15 +80,15 @@ pub fn refusal_of_two<R: Wait>(
     ensures { CanClose table.now seat.new }
 {
     let mut other = table.split(seat);
-    let refused = refusal_beside(rt, table, seat, &mut other, frame);
+    let refused = refusal_beside(table, rt, seat, &mut other, frame);
     table.join(seat, other);
     refused
 }
 
 /// Two backends pin a frame in threads of their own, each so often. How often each was refused.
 fn pin_pair<R: Threads + Wait + Sync>(
-    rt: &R,
     table: &Table,
+    rt: &R,
     first: &mut TableSeat,
     second: &mut TableSeat,
     frame: u32,
@@ -104,18 +104,18 @@ fn pin_pair<R: Threads + Wait + Sync>(
         &mut || -> u32
             requires { IsSync R.row × Rests table.now first.now × (frame < frames_of table.now) }
             ensures { Rests table.entry.now first.exit.now × Keeps first.entry.now first.exit.now }
-        { pin_often(rt, table, first, frame, times) },
+        { pin_often(table, rt, first, frame, times) },
         &mut || -> u32
             requires { IsSync R.row × Rests table.now second.now × (frame < frames_of table.now) }
             ensures { Rests table.entry.now second.exit.now × Keeps second.entry.now second.exit.now }
-        { pin_often(rt, table, second, frame, times) },
+        { pin_often(table, rt, second, frame, times) },
     )
 }
 
 /// The same for the first backend and one that comes and goes.
 pub fn pin_together<R: Threads + Wait + Sync>(
-    rt: &R,
     table: &Table,
+    rt: &R,
     seat: &mut TableSeat,
     frame: u32,
     times: u32,
@@ -126,15 +126,15 @@ pub fn pin_together<R: Threads + Wait + Sync>(
     ensures { CanClose table.now seat.new }
 {
     let mut other = table.split(seat);
-    let refused = pin_pair(rt, table, seat, &mut other, frame, times);
+    let refused = pin_pair(table, rt, seat, &mut other, frame, times);
     table.join(seat, other);
     refused
 }
 
 /// Three backends, in threads of their own: how often the first was refused, and the two others.
 fn pin_three<R: Threads + Wait + Sync>(
-    rt: &R,
     table: &Table,
+    rt: &R,
     first: &mut TableSeat,
     second: &mut TableSeat,
     third: &mut TableSeat,
@@ -151,18 +151,18 @@ fn pin_three<R: Threads + Wait + Sync>(
         &mut || -> u32
             requires { IsSync R.row × Rests table.now first.now × (frame < frames_of table.now) }
             ensures { Rests table.entry.now first.exit.now × Keeps first.entry.now first.exit.now }
-        { pin_often(rt, table, first, frame, times) },
+        { pin_often(table, rt, first, frame, times) },
         &mut || -> (u32, u32)
             requires { IsSync R.row × Rests table.now second.now × Rests table.now third.now × (frame < frames_of table.now) }
             ensures { Rests table.entry.now second.exit.now × Keeps second.entry.now second.exit.now × Rests table.entry.now third.exit.now × Keeps third.entry.now third.exit.now }
-        { pin_pair(rt, table, second, third, frame, times) },
+        { pin_pair(table, rt, second, third, frame, times) },
     )
 }
 
 /// The first backend pins a frame while three others, which come and go, do, each so often in a thread of its own: how often it was refused, and the three.
 pub fn pin_by_four<R: Threads + Wait + Sync>(
-    rt: &R,
     table: &Table,
+    rt: &R,
     seat: &mut TableSeat,
     frame: u32,
     times: u32,
@@ -180,7 +180,7 @@ pub fn pin_by_four<R: Threads + Wait + Sync>(
         &mut || -> u32
             requires { IsSync R.row × Rests table.now seat.now × (frame < frames_of table.now) }
             ensures { Rests table.entry.now seat.exit.now × Keeps seat.entry.now seat.exit.now }
-        { pin_often(rt, table, seat, frame, times) },
+        { pin_often(table, rt, seat, frame, times) },
         &mut || -> (u32, (u32, u32))
             requires { IsSync R.row × Rests table.now second × Rests table.now third × Rests table.now fourth × (frame < frames_of table.now) }
             ensures { Rests table.entry.now second.exit × Keeps second.entry second.exit × Rests table.entry.now third.exit × Keeps third.entry third.exit × Rests table.entry.now fourth.exit × Keeps fourth.entry fourth.exit }

@@ -34,7 +34,7 @@ pub enum FlushError {
 }
 
 /// Clears BM_JUST_DIRTIED under the header, so that who dirties the frame from now on is seen as the write ends.
-fn clear_just<R: Wait>(rt: &R, table: &Table, seat: &mut TableSeat, frame: u32, _tag: Tag)
+fn clear_just<R: Wait>(table: &Table, rt: &R, seat: &mut TableSeat, frame: u32, _tag: Tag)
     requires quiet { IsQuietBeside table.now frame seat.old }
     requires frame { frame < frames_of table.now }
     requires writes { Shares Output _tag (link seat.old.me.0 frame) }
@@ -52,8 +52,8 @@ fn clear_just<R: Wait>(rt: &R, table: &Table, seat: &mut TableSeat, frame: u32, 
 
 /// Writes the page that was copied to the one lane, once the log is flushed up to the page's position. Whether the lane took it.
 fn write_lane<R: Wait>(
-    rt: &R,
     table: &Table,
+    rt: &R,
     seat: &mut TableSeat,
     frame: u32,
     tag: Tag,
@@ -85,8 +85,8 @@ fn write_lane<R: Wait>(
 
 /// Flushes the log up to the position of the page that was copied, and writes the page.
 fn write_logged<R: Wait>(
-    rt: &R,
     table: &Table,
+    rt: &R,
     seat: &mut TableSeat,
     frame: u32,
     tag: Tag,
@@ -111,7 +111,7 @@ fn write_logged<R: Wait>(
     if let Err(why) = flushed {
         return Err(FlushError::Log(why));
     }
-    if write_lane(rt, table, seat, frame, tag, page) {
+    if write_lane(table, rt, seat, frame, tag, page) {
         Ok(())
     } else {
         Err(FlushError::WriteFault)
@@ -120,8 +120,8 @@ fn write_logged<R: Wait>(
 
 /// Copies the frame's page, and writes the copy, where the backend has the right to, and ends that.
 fn write_out<R: Wait>(
-    rt: &R,
     table: &Table,
+    rt: &R,
     seat: &mut TableSeat,
     right: IoRight,
     tag: Tag,
@@ -139,9 +139,9 @@ fn write_out<R: Wait>(
     ensures did { OutSteps tag page.new right.frame seat.old.me.0 seat.new.me.0 result }
 {
     let frame = right.frame();
-    clear_just(rt, table, seat, frame, tag);
+    clear_just(table, rt, seat, frame, tag);
     copy_out(table, rt, seat, frame, page);
-    match write_logged(rt, table, seat, frame, tag, page) {
+    match write_logged(table, rt, seat, frame, tag, page) {
         Ok(()) => {
             end_io(table, rt, seat, right, IoEnd::WriteOk);
             Ok(())
@@ -155,8 +155,8 @@ fn write_out<R: Wait>(
 
 /// Writes the frame that the backend pins for a block, where it is dirty, once the log is flushed up to its page's position (`FlushBuffer`). False where it is clean.
 pub fn flush_frame<R: Wait>(
-    rt: &R,
     table: &Table,
+    rt: &R,
     seat: &mut TableSeat,
     frame: u32,
     tag: Tag,
@@ -179,7 +179,7 @@ pub fn flush_frame<R: Wait>(
         unshare(table, seat, frame);
         return Ok(false);
     };
-    let written = write_out(rt, table, seat, right, tag, page);
+    let written = write_out(table, rt, seat, right, tag, page);
     unshare(table, seat, frame);
     match written {
         Ok(()) => Ok(true),
@@ -197,8 +197,8 @@ pub struct Flushes {
 
 /// Brings a block into a frame, puts a page there, and flushes the frame twice. None where the block didn't come.
 pub fn flush_twice<R: Wait>(
-    rt: &R,
     table: &Table,
+    rt: &R,
     seat: &mut TableSeat,
     frame: u32,
     tag: Tag,
@@ -210,11 +210,11 @@ pub fn flush_twice<R: Wait>(
     requires block { HasBlock table.now tag }
     ensures closes { CanClose table.now seat.new }
 {
-    let pin = enter_block(rt, table, seat, frame, tag)?;
-    load_block(rt, table, seat, frame, tag, page);
-    let put = put(rt, table, seat, frame, tag, page);
-    let first = flush_frame(rt, table, seat, frame, tag, page);
-    let second = flush_frame(rt, table, seat, frame, tag, page);
+    let pin = enter_block(table, rt, seat, frame, tag)?;
+    load_block(table, rt, seat, frame, tag, page);
+    let put = put(table, rt, seat, frame, tag, page);
+    let first = flush_frame(table, rt, seat, frame, tag, page);
+    let second = flush_frame(table, rt, seat, frame, tag, page);
     table.unpin(rt, seat, pin);
     Some(Flushes { put, first, second })
 }
