@@ -20,7 +20,7 @@ use wal_flush::{FlushLog, InsertError, begin_log};
 #[test]
 fn a_fresh_frame_has_no_tag(rt: HostRuntime) -> Result<(), Fail> {
     let (table, mut seat) = table(rt.alloc())?;
-    let refused = refusal(&rt, &table, &mut seat, 3);
+    let refused = refusal(&table, &rt, &mut seat, 3);
     let (lanes, _log) = table.close(seat);
     assert_eq!(rt; refused, Some(TryPin::Untagged { word: 0 }));
     assert_eq!(rt; lanes.len(), 1);
@@ -30,7 +30,7 @@ fn a_fresh_frame_has_no_tag(rt: HostRuntime) -> Result<(), Fail> {
 #[test]
 fn a_header_that_another_has_is_locked(rt: HostRuntime) -> Result<(), Fail> {
     let (table, mut first) = table(rt.alloc())?;
-    let refused = refusal_of_two(&rt, &table, &mut first, 3);
+    let refused = refusal_of_two(&table, &rt, &mut first, 3);
     let (_lanes, _log) = table.close(first);
     assert_eq!(rt; refused, Some(TryPin::Locked { word: 4194304 }));
     Ok(())
@@ -39,7 +39,7 @@ fn a_header_that_another_has_is_locked(rt: HostRuntime) -> Result<(), Fail> {
 #[test]
 fn no_tag_however_often(rt: HostRuntime) -> Result<(), Fail> {
     let (table, mut seat) = table(rt.alloc())?;
-    let refused = pin_often(&rt, &table, &mut seat, 3, 100000);
+    let refused = pin_often(&table, &rt, &mut seat, 3, 100000);
     let (_lanes, _log) = table.close(seat);
     assert_eq!(rt; refused, 100000);
     Ok(())
@@ -48,7 +48,7 @@ fn no_tag_however_often(rt: HostRuntime) -> Result<(), Fail> {
 #[test]
 fn two_threads_get_one_answer(rt: HostRuntime) -> Result<(), Fail> {
     let (table, mut first) = table(rt.alloc())?;
-    let refused = pin_together(&rt, &table, &mut first, 3, 100000);
+    let refused = pin_together(&table, &rt, &mut first, 3, 100000);
     let (_lanes, _log) = table.close(first);
     assert_eq!(rt; refused, (100000, 100000));
     Ok(())
@@ -58,8 +58,8 @@ fn two_threads_get_one_answer(rt: HostRuntime) -> Result<(), Fail> {
 fn pins_of_one_thread_are_never_refused(rt: HostRuntime) -> Result<(), Fail> {
     let (table, mut seat) = table(rt.alloc())?;
     let tag = block(&table, 7);
-    let entered = leave_block(&rt, &table, &mut seat, 3, tag);
-    let refused = pin_often(&rt, &table, &mut seat, 3, 100000);
+    let entered = leave_block(&table, &rt, &mut seat, 3, tag);
+    let refused = pin_often(&table, &rt, &mut seat, 3, 100000);
     let word = word_of(&table, &mut seat, 3);
     let (_lanes, _log) = table.close(seat);
     assert!(rt; entered);
@@ -72,8 +72,8 @@ fn pins_of_one_thread_are_never_refused(rt: HostRuntime) -> Result<(), Fail> {
 fn two_threads_leave_no_pin(rt: HostRuntime) -> Result<(), Fail> {
     let (table, mut first) = table(rt.alloc())?;
     let tag = block(&table, 7);
-    let entered = leave_block(&rt, &table, &mut first, 3, tag);
-    let refused = pin_together(&rt, &table, &mut first, 3, 100000);
+    let entered = leave_block(&table, &rt, &mut first, 3, tag);
+    let refused = pin_together(&table, &rt, &mut first, 3, 100000);
     let word = word_of(&table, &mut first, 3);
     let (_lanes, _log) = table.close(first);
     assert!(rt; entered);
@@ -86,8 +86,8 @@ fn two_threads_leave_no_pin(rt: HostRuntime) -> Result<(), Fail> {
 fn four_threads_leave_no_pin(rt: HostRuntime) -> Result<(), Fail> {
     let (table, mut first) = table(rt.alloc())?;
     let tag = block(&table, 7);
-    let entered = leave_block(&rt, &table, &mut first, 3, tag);
-    let refused = pin_by_four(&rt, &table, &mut first, 3, 100000);
+    let entered = leave_block(&table, &rt, &mut first, 3, tag);
+    let refused = pin_by_four(&table, &rt, &mut first, 3, 100000);
     let word = word_of(&table, &mut first, 3);
     let (_lanes, _log) = table.close(first);
     assert!(rt; entered);
@@ -102,11 +102,11 @@ fn a_block_has_one_frame(rt: HostRuntime) -> Result<(), Fail> {
     let (table, mut seat) = table(rt.alloc())?;
     let tag = block(&table, 7);
     let other = block(&table, 8);
-    let before = frame_of(&rt, &table, &mut seat, tag);
-    let first = leave_block(&rt, &table, &mut seat, 3, tag);
-    let second = leave_block(&rt, &table, &mut seat, 5, tag);
-    let found = frame_of(&rt, &table, &mut seat, tag);
-    let lacking = frame_of(&rt, &table, &mut seat, other);
+    let before = frame_of(&table, &rt, &mut seat, tag);
+    let first = leave_block(&table, &rt, &mut seat, 3, tag);
+    let second = leave_block(&table, &rt, &mut seat, 5, tag);
+    let found = frame_of(&table, &rt, &mut seat, tag);
+    let lacking = frame_of(&table, &rt, &mut seat, other);
     let (_lanes, _log) = table.close(seat);
     assert_eq!(rt; (before, first, second), (None, true, false));
     assert_eq!(rt; (found, lacking), (Some(3), None));
@@ -121,7 +121,7 @@ fn copies_beside_changes_are_whole(rt: HostRuntime) -> Result<(), Fail> {
         tag: block(&table, 7),
         times: 10000,
     };
-    let copied = copy_together(&rt, &table, &mut first, course, rt.alloc());
+    let copied = copy_together(&table, &rt, &mut first, course, rt.alloc());
     let (_lanes, log) = table.close(first);
     assert_eq!(rt;
         copied,
@@ -139,7 +139,7 @@ fn a_content_lock_that_another_has_is_busy(rt: HostRuntime) -> Result<(), Fail> 
     let mut page = Page::zeroed(rt.alloc())?;
     let (table, mut first) = table(rt.alloc())?;
     let tag = block(&table, 0);
-    let refused = refusals(&rt, &table, &mut first, 3, tag, &mut page);
+    let refused = refusals(&table, &rt, &mut first, 3, tag, &mut page);
     let (_lanes, _log) = table.close(first);
     let exclusive = Some(TryLock::Busy { word: 262144 });
     let shared = Some(TryLock::Busy { word: 1 });
@@ -152,9 +152,9 @@ fn fresh_frames_are_chosen_in_order(rt: HostRuntime) -> Result<(), Fail> {
     let sweep = Sweep::build(rt.alloc(), 16)?;
     let mut census = Census::build(rt.alloc(), 16)?;
     let (table, mut seat) = table(rt.alloc())?;
-    let first = choose_among(&rt, &table, &mut seat, &sweep, &mut census, 16);
-    let second = choose_among(&rt, &table, &mut seat, &sweep, &mut census, 16);
-    let third = choose_among(&rt, &table, &mut seat, &sweep, &mut census, 16);
+    let first = choose_among(&table, &rt, &mut seat, &sweep, &mut census, 16);
+    let second = choose_among(&table, &rt, &mut seat, &sweep, &mut census, 16);
+    let third = choose_among(&table, &rt, &mut seat, &sweep, &mut census, 16);
     let at = hand_of(&table, &mut seat);
     let (_lanes, _log) = table.close(seat);
     assert_eq!(rt; [first, second, third], [Some(0), Some(1), Some(2)]);
@@ -168,8 +168,8 @@ fn the_free_list_goes_on_past_a_used_frame(rt: HostRuntime) -> Result<(), Fail> 
     let mut census = Census::build(rt.alloc(), 16)?;
     let (table, mut seat) = table(rt.alloc())?;
     let tag = block(&table, 63);
-    let entered = leave_block(&rt, &table, &mut seat, 0, tag);
-    let chosen = choose_often(&rt, &table, &mut seat, &sweep, &mut census, &mut None, 1);
+    let entered = leave_block(&table, &rt, &mut seat, 0, tag);
+    let chosen = choose_often(&table, &rt, &mut seat, &sweep, &mut census, &mut None, 1);
     let at = hand_of(&table, &mut seat);
     let (_lanes, _log) = table.close(seat);
     assert_eq!(rt; (entered, chosen, at), (true, Some(1), 0));
@@ -181,8 +181,8 @@ fn the_clock_is_asked_once_the_free_list_is_empty(rt: HostRuntime) -> Result<(),
     let sweep = Sweep::build(rt.alloc(), 16)?;
     let mut census = Census::build(rt.alloc(), 16)?;
     let (table, mut seat) = table(rt.alloc())?;
-    let last = choose_often(&rt, &table, &mut seat, &sweep, &mut census, &mut None, 16);
-    let next = choose_often(&rt, &table, &mut seat, &sweep, &mut census, &mut None, 1);
+    let last = choose_often(&table, &rt, &mut seat, &sweep, &mut census, &mut None, 16);
+    let next = choose_often(&table, &rt, &mut seat, &sweep, &mut census, &mut None, 1);
     let at = hand_of(&table, &mut seat);
     let (_lanes, _log) = table.close(seat);
     assert_eq!(rt; (last, next, at), (Some(15), Some(0), 1));
@@ -195,8 +195,8 @@ fn a_ring_of_two_places_comes_round(rt: HostRuntime) -> Result<(), Fail> {
     let mut census = Census::build(rt.alloc(), 16)?;
     let mut ring = Some(Ring::build(rt.alloc(), RingKind::Vacuum, 16)?);
     let (table, mut seat) = table(rt.alloc())?;
-    let second = choose_often(&rt, &table, &mut seat, &sweep, &mut census, &mut ring, 2);
-    let third = choose_often(&rt, &table, &mut seat, &sweep, &mut census, &mut ring, 1);
+    let second = choose_often(&table, &rt, &mut seat, &sweep, &mut census, &mut ring, 2);
+    let third = choose_often(&table, &rt, &mut seat, &sweep, &mut census, &mut ring, 1);
     let (_lanes, _log) = table.close(seat);
     assert_eq!(rt; (second, third), (Some(1), Some(0)));
     Ok(())
@@ -207,8 +207,8 @@ fn the_clock_lowers_usage_and_comes_round(rt: HostRuntime) -> Result<(), Fail> {
     let sweep = Sweep::build(rt.alloc(), 16)?;
     let mut census = Census::build(rt.alloc(), 16)?;
     let (table, mut seat) = table(rt.alloc())?;
-    let used = use_frames(&rt, &table, &mut seat);
-    let chosen = choose_among(&rt, &table, &mut seat, &sweep, &mut census, 16);
+    let used = use_frames(&table, &rt, &mut seat);
+    let chosen = choose_among(&table, &rt, &mut seat, &sweep, &mut census, 16);
     let at = hand_of(&table, &mut seat);
     let word = word_of(&table, &mut seat, 15);
     let (_lanes, _log) = table.close(seat);
@@ -237,7 +237,7 @@ fn two_inserts_are_two_records(rt: HostRuntime) -> Result<(), Fail> {
     let mut page = one_item(rt.alloc(), 7)?;
     let (table, mut seat) = table_over(rt.alloc(), log, 0)?;
     let tag = block(&table, 5);
-    let tries = put_twice(&rt, &table, &mut seat, 3, tag, &mut page, 8224);
+    let tries = put_twice(&table, &rt, &mut seat, 3, tag, &mut page, 8224);
     let (_lanes, log) = table.close(seat);
     let mut expected = Vec::new(rt.alloc());
     expected.extend_from_slice(b"PGBUFLOG\0\0\0\0\0\0\0\0")?;
@@ -266,7 +266,7 @@ fn the_last_position_fills_the_log(rt: HostRuntime) -> Result<(), Fail> {
     let log = TestLog::new(rt.alloc(), 0);
     let (table, mut seat) = table_over(rt.alloc(), log, end - 8224)?;
     let tag = block(&table, 5);
-    let tries = put_twice(&rt, &table, &mut seat, 3, tag, &mut page, end);
+    let tries = put_twice(&table, &rt, &mut seat, 3, tag, &mut page, end);
     let (_lanes, _log) = table.close(seat);
     assert_eq!(rt;
         tries,
@@ -286,7 +286,7 @@ fn a_log_is_down_after_an_append_that_failed(rt: HostRuntime) -> Result<(), Fail
     let log = TestLog::new(rt.alloc(), 1);
     let (table, mut seat) = table_over(rt.alloc(), log, 0)?;
     let tag = block(&table, 5);
-    let tries = put_twice(&rt, &table, &mut seat, 3, tag, &mut page, 8224);
+    let tries = put_twice(&table, &rt, &mut seat, 3, tag, &mut page, 8224);
     let (_lanes, _log) = table.close(seat);
     let short = Err(FlushLog::LogShort { lsn: 8224, end: 0 });
     assert_eq!(rt;
@@ -307,7 +307,7 @@ fn a_log_is_down_after_a_sync_that_failed(rt: HostRuntime) -> Result<(), Fail> {
     let log = TestLog::new(rt.alloc(), 2);
     let (table, mut seat) = table_over(rt.alloc(), log, 0)?;
     let tag = block(&table, 5);
-    let tries = put_twice(&rt, &table, &mut seat, 3, tag, &mut page, 8224);
+    let tries = put_twice(&table, &rt, &mut seat, 3, tag, &mut page, 8224);
     let (_lanes, _log) = table.close(seat);
     assert_eq!(rt;
         tries,
@@ -327,7 +327,7 @@ fn an_append_that_failed_leaves_the_first_insert_unflushed(rt: HostRuntime) -> R
     let log = TestLog::new(rt.alloc(), 2);
     let (table, mut seat) = table_over(rt.alloc(), log, 0)?;
     let tag = block(&table, 5);
-    let tries = flush_late(&rt, &table, &mut seat, 3, tag, &mut page, 8224);
+    let tries = flush_late(&table, &rt, &mut seat, 3, tag, &mut page, 8224);
     let (_lanes, _log) = table.close(seat);
     assert_eq!(rt;
         tries,
@@ -349,7 +349,7 @@ fn a_log_is_begun_by_one_append(rt: HostRuntime) -> Result<(), Fail> {
     let begun = begin_log(&mut log, 0);
     let (table, mut seat) = table_over(rt.alloc(), log, 0)?;
     let tag = block(&table, 5);
-    let tries = put_twice(&rt, &table, &mut seat, 3, tag, &mut page, 0);
+    let tries = put_twice(&table, &rt, &mut seat, 3, tag, &mut page, 0);
     let (_lanes, log) = table.close(seat);
     assert_eq!(rt; begun, Ok(()));
     assert_eq!(rt;
@@ -365,7 +365,7 @@ fn a_flush_raises_the_flushed_position_to_the_end(rt: HostRuntime) -> Result<(),
     let mut page = one_item(rt.alloc(), 7)?;
     let (table, mut seat) = table(rt.alloc())?;
     let tag = block(&table, 5);
-    let tries = put_twice(&rt, &table, &mut seat, 3, tag, &mut page, 1);
+    let tries = put_twice(&table, &rt, &mut seat, 3, tag, &mut page, 1);
     let positions = positions(&table, &mut seat);
     let (_lanes, _log) = table.close(seat);
     assert_eq!(rt; tries.map(|tries| tries.flushed), Some(Ok(())));
@@ -378,7 +378,7 @@ fn a_dirty_frame_is_written_once(rt: HostRuntime) -> Result<(), Fail> {
     let mut page = one_item(rt.alloc(), 7)?;
     let (table, mut seat) = table(rt.alloc())?;
     let tag = block(&table, 5);
-    let flushes = flush_twice(&rt, &table, &mut seat, 3, tag, &mut page);
+    let flushes = flush_twice(&table, &rt, &mut seat, 3, tag, &mut page);
     let (lanes, log) = table.close(seat);
     assert_eq!(rt;
         flushes,
@@ -398,7 +398,7 @@ fn a_clean_frame_is_not_written(rt: HostRuntime) -> Result<(), Fail> {
     let mut page = Page::zeroed(rt.alloc())?;
     let (table, mut seat) = table(rt.alloc())?;
     let tag = block(&table, 5);
-    let flushes = flush_twice(&rt, &table, &mut seat, 3, tag, &mut page);
+    let flushes = flush_twice(&table, &rt, &mut seat, 3, tag, &mut page);
     let (lanes, _log) = table.close(seat);
     assert_eq!(rt;
         flushes,
@@ -418,7 +418,7 @@ fn no_page_is_written_before_its_log(rt: HostRuntime) -> Result<(), Fail> {
     let log = TestLog::new(rt.alloc(), 2);
     let (table, mut seat) = table_over(rt.alloc(), log, 0)?;
     let tag = block(&table, 5);
-    let flushes = flush_twice(&rt, &table, &mut seat, 3, tag, &mut page);
+    let flushes = flush_twice(&table, &rt, &mut seat, 3, tag, &mut page);
     let (lanes, _log) = table.close(seat);
     assert_eq!(rt;
         flushes,
@@ -438,7 +438,7 @@ fn a_frame_stays_dirty_after_a_write_that_failed(rt: HostRuntime) -> Result<(), 
     let log = TestLog::new(rt.alloc(), 0);
     let (table, mut seat) = table_on(rt.alloc(), TestLane::new(1), log, 0)?;
     let tag = block(&table, 5);
-    let flushes = flush_twice(&rt, &table, &mut seat, 3, tag, &mut page);
+    let flushes = flush_twice(&table, &rt, &mut seat, 3, tag, &mut page);
     let (lanes, _log) = table.close(seat);
     assert_eq!(rt;
         flushes,
@@ -458,10 +458,10 @@ fn the_one_unpinned_frame_is_found(rt: HostRuntime) -> Result<(), Fail> {
     let mut census = Census::build(rt.alloc(), 16)?;
     let (table, mut seat) = table(rt.alloc())?;
     let tag = block(&table, 63);
-    let entered = leave_block(&rt, &table, &mut seat, 0, tag);
-    touch_often(&rt, &table, &mut seat, 0, 9);
+    let entered = leave_block(&table, &rt, &mut seat, 0, tag);
+    touch_often(&table, &rt, &mut seat, 0, 9);
     let usage_before = usage(word_of(&table, &mut seat, 0));
-    let chosen = choose_among(&rt, &table, &mut seat, &sweep, &mut census, 1);
+    let chosen = choose_among(&table, &rt, &mut seat, &sweep, &mut census, 1);
     let at = hand_of(&table, &mut seat);
     let (_lanes, _log) = table.close(seat);
     assert_eq!(rt; (entered, usage_before), (true, 5));
@@ -475,7 +475,7 @@ fn a_census_shows_each_frame_pinned(rt: HostRuntime) -> Result<(), Fail> {
     let sweep = Sweep::build(rt.alloc(), 16)?;
     let mut census = Census::build(rt.alloc(), 16)?;
     let (table, mut seat) = table(rt.alloc())?;
-    let chosen = choose_among(&rt, &table, &mut seat, &sweep, &mut census, 0);
+    let chosen = choose_among(&table, &rt, &mut seat, &sweep, &mut census, 0);
     let at = hand_of(&table, &mut seat);
     let (_lanes, _log) = table.close(seat);
     assert_eq!(rt; (chosen, at), (None, 16));
