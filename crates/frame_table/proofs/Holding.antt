@@ -41,7 +41,7 @@ use Rattle.history_core.specs.Laws.{Laws}
 use Rattle.frame_table.specs.Kinds.{FrameKind, pins, part_of, link_after, view_after}
 use Rattle.table_rule.specs.Shows.{ShowsFrame, Devices, Shows, Held}
 use Rattle.frame_table.specs.Sees.{Finds, mapped_link, SameSelf, Looked, Touches, Stores, HoldsWord, HasRoom, IsUsed, HasFlag, IsAlone, MayChange, Lacks, NamesIn, NamesStored, CanStore, CanErase, CanStoreAs, partitions_erased, partitions_stored, stored_link, victim_link, unlocked_link, assigned_link, cleared_link, tag_word, read_link}
-use Rattle.frame_table.specs.Tells.{Tried, if_found, Did, DidHeld, always, looking, storing, tells}
+use Rattle.frame_table.specs.Tells.{Tried, if_found, Did, always, looking, storing, tells}
 use Rattle.frame_table.proofs.Frames.{Asks}
 use Rattle.frame_table.proofs.Acting.{acts}
 use Rattle.frame_table.proofs.Words.{swaps, AsksWord, stores}

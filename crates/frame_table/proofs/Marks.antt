@@ -1,6 +1,6 @@
 -- What steps leave of what a backend has marked, written and ended.
 use Rattle.std.proofs.Common.{◌≡◌, ℕ, Bool, true, false, Option, Some, None, sym, refl, ap, ◌∙◌, subst}
-use Rattle.std.specs.Prelude.{◌||◌, if◌then◌else◌}
+use Rattle.std.specs.Prelude.{◌||◌, if◌then◌else◌, not}
 use Rattle.std.proofs.Math.Bool.{or-false, or-true}
 use Rattle.state_word.specs.declared.word.IoEnd.{IoEnd}
 use Rattle.state_word.specs.declared.word.StateWord.{StateWord}
@@ -31,7 +31,7 @@ MarksNothing (pages k) = IsUnmarked k
 
 marks_after : (k : FrameKind) → MarksNothing k → (s : State) (f : ℕ) (v : View) → SameMarks v (view_after k s f v)
 marks_after (pins k) m s f v = refl
-marks_after (pages k) m s f v i = record {
+marks_after (pages k) m s f v = λ i. record {
   dirtied_or_synced = (ap (λ (b : Bool). v.dirtied_or_synced || b) m.clean ∙ or-false v.dirtied_or_synced) i;
   had_output = (ap (λ (b : Bool). v.had_output || b) m.quiet ∙ or-false v.had_output) i;
   last_ended = m.open_ended (s.pool.core.frame f) v.last_ended i;
@@ -80,7 +80,7 @@ dirtied_marks f v w t = ap marks_of t.3.after
 
 -- a read or a write of a page begins
 pub begun_marks : (input : Bool) (f found : ℕ) (v w : View) → Did (pages (start_of input)) f v w found → MarksBegun input v w
-begun_marks true f found v w d = ap marks_of d.after ∙ (λ i. record (marks_of v) { dirtied_or_synced = or-false v.dirtied_or_synced i })
+begun_marks true f found v w d = ap marks_of d.after ∙ (λ i. record (marks_of v) { dirtied_or_synced = or-false v.dirtied_or_synced i; had_output = v.had_output || false })
 begun_marks false f found v w d = ap marks_of d.after ∙ (λ i. record (marks_of v) { dirtied_or_synced = or-false v.dirtied_or_synced i; had_output = v.had_output || true })
 
 -- and ends

@@ -18,7 +18,6 @@ use Rattle.pin_core.specs.State.{link}
 use Rattle.pin_core.specs.Tallies.{flag_weight}
 use Rattle.pin_core.specs.Kinds.{seen_valid_after, wait_after}
 use Rattle.pin_core.specs.Kinds as pin
-use Rattle.pin_core.specs.Invariant.{FrameLaw, LinkLaw}
 use Rattle.pin_core.proofs.Schedules.{few, own_pins}
 use Rattle.page_core.specs.Tallies.{sharers, copies, weigh, share_weight}
 use Rattle.grid.proofs.Sums.{term_le, total-none}
@@ -32,26 +31,21 @@ use Rattle.frame_table.proofs.Told.{link_is, loads_link, looks_link, seen_still}
 
 -- what the word shows that a step at a state word found
 pub word_seen : (k : FrameKind) → part_of k ≡ state_word → (f found : ℕ) (v w : View) → Did k f v w found → IsWordOf (link v f) (fields found)
-word_seen k part f found v w d = subst (IsWordOf (link v f)) (subst (λ (p : Part). SaysOf p found (d.state.pool.core.frame f)) part d.says) record {
-  dirty = column.dirty;
-  valid = column.valid;
-  usage = column.usage;
-  few = (let a = few d.state.pool.core d.laws.invariant.pool.core f d.inside in let c = d.few in omega arith);
-  pinned = own_pins d.state.pool.core d.laws.invariant.pool.core d.seat f v d.there d.inside;
-  remembered = λ some. of_tag some (link v f).tag refl;
-  seen = cell.seen;
-  output = λ writes. ((d.laws.invariant.pool.pages.cells d.seat v f d.there d.inside).output writes).0;
-}
+word_seen k part f found v w d = let column = d.laws.invariant.pool.core.grid.columns f d.inside in let cell = d.laws.invariant.pool.core.grid.cells d.seat v f d.there d.inside in
+    subst (IsWordOf (link v f)) (subst (λ (p : Part). SaysOf p found (d.state.pool.core.frame f)) part d.says) record {
+      dirty = column.dirty;
+      valid = column.valid;
+      usage = column.usage;
+      few = (let a = few d.state.pool.core d.laws.invariant.pool.core f d.inside in let c = d.few in omega arith);
+      pinned = own_pins d.state.pool.core d.laws.invariant.pool.core d.seat f v d.there d.inside;
+      remembered = λ some. of_tag some (link v f).tag refl;
+      seen = cell.seen;
+      output = λ writes. ((d.laws.invariant.pool.pages.cells d.seat v f d.there d.inside).output writes).0;
+    }
   where
-    column : FrameLaw (d.state.pool.core.frame f) _
-    column = d.laws.invariant.pool.core.grid.columns f d.inside
-
-    cell : LinkLaw (d.state.pool.core.frame f) (link v f)
-    cell = d.laws.invariant.pool.core.grid.cells d.seat v f d.there d.inside
-
     of_tag : (link v f).tag ≢ None → (tag : Option ℕ) → (link v f).tag ≡ tag → (d.state.pool.core.frame f).word.tag_valid ≡ true
     of_tag some None is = absurd (some is)
-    of_tag some (Some tag) is = (cell.remembers tag is).0.flagged
+    of_tag some (Some tag) is = ((d.laws.invariant.pool.core.grid.cells d.seat v f d.there d.inside).remembers tag is).0.flagged
 
 -- and after loads, with the header locked
 word_looked : (l m : Link) (w : StateWord) → Looked l m → IsWordOf m w → IsWordOf l w

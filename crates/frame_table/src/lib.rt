@@ -3,6 +3,7 @@
 //! Each call is one step of the protocol, or the call of a device and its return, after loads where it tests or waits, and says which. docs/PROTOCOL.md tells the steps in words.
 #![tactic(auto)]
 
+mod blocks;
 mod build;
 mod calls;
 mod content;

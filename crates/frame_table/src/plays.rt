@@ -4,7 +4,7 @@ ghost use Rattle.segment_store.specs.Contents.{Pages};
 ghost use Rattle.frame_table.specs.Opened.{tells_look};
 ghost use Rattle.block_tag.specs.declared.catalogue.RelEntry.{RelEntry};
 ghost use Rattle.pin_core.specs.declared.view.MapEntry.{MapEntry};
-ghost use Rattle.frame_table.specs.Tells.{tells, tells_tag, Choice, always, if_found, if_unlocked};
+ghost use Rattle.frame_table.specs.Tells.{tells, tells_tag, Choice, always, if_found, if_unlocked, looking};
 ghost use Rattle.frame_table.specs.Kinds.{pins};
 ghost use Rattle.frame_table.specs.PageWork.{page_came, page_went};
 ghost use Rattle.frame_table.specs.Turning.{left, map_came, map_went, took};

@@ -1,21 +1,17 @@
 //! The table.
-ghost use Rattle.std.specs.Prelude.{◌≡◌, ◌≢◌, ◌<◌, ◌≤◌, Bool, length, true};
-ghost use Rattle.block_tag.specs.Catalogue.{blocks_at};
-ghost use Rattle.block_tag.specs.Names.{names_block};
+ghost use Rattle.std.specs.Prelude.{◌≡◌, ◌≢◌, ◌≤◌, Bool, length};
 ghost use Rattle.state_word.specs.Fields.{dirtied_fields, io_ended_fields, pinned_fields, unlocked_fields, usage_down_fields};
 ghost use Rattle.state_word.specs.declared.word.IoEnd.{IoEnd};
 ghost use Rattle.pin_core.specs.Kinds as pin_kinds;
 ghost use Rattle.page_core.specs.Kinds as page_kinds;
-ghost use Rattle.table_rule.specs.Blocks.{has_block};
 ghost use Rattle.table_rule.specs.Layout as layout;
 ghost use Rattle.table_rule.specs.Shows.{devices};
 ghost use Rattle.frame_table.specs.Kinds as kinds;
 ghost use Rattle.frame_table.specs.Kinds.{FrameKind, pages, part_of, pins};
-ghost use Rattle.frame_table.specs.Sees.{lanes_in, relations_of};
 ghost use Rattle.frame_table.specs.Stores.{FlushedMustRise, HandMustMove, Makes, MustStore};
 
 use atomic_table::Table;
-use block_tag::{Catalog, Tag};
+use block_tag::Catalog;
 use log_device::LogDevice;
 use pin_core::View;
 use segment_store::BlockLane;
@@ -41,23 +37,6 @@ impl<L: BlockLane, G: LogDevice> FrameTable<L, G> {
         ensures { result ≡ self.now.table.shared.key.config.frames }
     {
         self.config.frames
-    }
-
-    /// How many lanes it has: 1 to 16.
-    pub fn lanes(&self) -> u32
-        ensures lanes { result ≡ lanes_in self.now }
-        ensures some { (1 ≤ result) × (result ≤ 16) }
-    {
-        self.config.lanes
-    }
-
-    /// How many blocks the fork of a tag's relation has. Each block below names one that the table holds.
-    pub fn blocks(&self, tag: &Tag) -> u32
-        ensures count { result ≡ blocks_at (relations_of self.now) tag.now.rel.0 tag.now.fork }
-        ensures block { tag.now.block < result → (names_block tag.now ≡ true) × (has_block (relations_of self.now) tag.now ≡ true) }
-    {
-        let _few = self.catalog.len();
-        self.catalog.blocks(tag.rel, tag.fork)
     }
 
     /// The relations whose blocks it holds.

@@ -28,7 +28,7 @@ pub returns-clause-did : goal.returns-clause-did
 returns-clause-did g c = let left = c.leave_copy.ensures.did in latched left.0 (locks_on kinds.take_copy _ _ _ _ (again _ still c.look_content.ensures.did) c.take_copy.ensures.did) c.copy_page-2.ensures.did left.1
 
 pub returns-clause-marks : goal.returns-clause-marks
-returns-clause-marks g c = marks_on _ _ _ (marks_on _ _ _ c.look_content.ensures.marks c.take_copy.ensures.marks) (marks_on _ _ _ c.copy_page-2.ensures.marks c.leave_copy.ensures.marks)
+returns-clause-marks g c = (c.leave_copy.ensures.marks ∙ c.copy_page-2.ensures.marks) ∙ (c.take_copy.ensures.marks ∙ c.look_content.ensures.marks)
 
 pub returns-then-is_exclusive-clause-marks : goal.returns-then-is_exclusive-clause-marks
-returns-then-is_exclusive-clause-marks g c = marks_on _ _ _ c.look_content.ensures.marks c.copy_page.ensures.marks
+returns-then-is_exclusive-clause-marks g c = c.copy_page.ensures.marks ∙ c.look_content.ensures.marks

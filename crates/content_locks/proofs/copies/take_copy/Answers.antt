@@ -1,4 +1,5 @@
 use Rattle.std.proofs.Common.{refl, sym, ap, subst, ◌∙◌}
+use Rattle.pin_core.specs.declared.view.View.{View}
 use Rattle.pin_core.specs.declared.view.Link.{Link}
 use Rattle.page_core.specs.Kinds as kinds
 use Rattle.frame_table.proofs.Told.{touches_on}
@@ -32,4 +33,4 @@ loop-preserved g c = let a = c.loop.invariant.seat in let b = c.try_copy.ensures
 }
 
 pub returns-then-try_copy-clause-marks : goal.returns-then-try_copy-clause-marks
-returns-then-try_copy-clause-marks g c = marks_on _ _ _ (looks_marks _ _ _ c.loop.invariant.looked) c.try_copy.ensures.marks
+returns-then-try_copy-clause-marks g c = c.try_copy.ensures.marks ∙ (looks_marks _ _ _ c.loop.invariant.looked)

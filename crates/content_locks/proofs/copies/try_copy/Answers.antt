@@ -1,3 +1,4 @@
+use Rattle.std.proofs.Common.{◌∙◌}
 use Rattle.frame_table.proofs.Told.{touches_on}
 use Rattle.content_locks.specs.Locks.{still, again}
 use Rattle.frame_table.proofs.Marks.{marks_on}
@@ -16,7 +17,7 @@ pub returns-in-Err-clause-did : goal.returns-in-Err-clause-did
 returns-in-Err-clause-did g c = again _ (again c.look_content-was.result still c.look_content-was.ensures.did) c.in-Err.ensures.did.2
 
 pub returns-in-Err-clause-marks : goal.returns-in-Err-clause-marks
-returns-in-Err-clause-marks g c = marks_on _ _ _ c.look_content-was.ensures.marks c.take_copy.ensures.marks
+returns-in-Err-clause-marks g c = c.take_copy.ensures.marks ∙ c.look_content-was.ensures.marks
 
 pub returns-in-Ok-clause-marks : goal.returns-in-Ok-clause-marks
-returns-in-Ok-clause-marks g c = marks_on _ _ _ c.look_content-was.ensures.marks c.take_copy.ensures.marks
+returns-in-Ok-clause-marks g c = c.take_copy.ensures.marks ∙ c.look_content-was.ensures.marks

@@ -7,7 +7,7 @@ use Rattle.content_locks.specs.Io.{LocksHeader}
 use Rattle.content_locks.proofs.io.end_io.Goals as goal
 
 pub returns-clause-marks : goal.returns-clause-marks
-returns-clause-marks g c = (c.lock_header-word.result, ended_marks_on _ _ _ _ c.lock_header-word.ensures.marks c.finish_io.ensures.marks)
+returns-clause-marks g c = (c.lock_header-word.result, ended_marks_on _ c.args.seat.now.me.0 c.lock_header-word.new.seat.me.0 c.finish_io.new.seat.me.0 c.lock_header-word.ensures.marks c.finish_io.ensures.marks)
 
 pub returns-clause-did : goal.returns-clause-did
 returns-clause-did g c = let d = c.lock_header-word.ensures.did in record {
@@ -17,5 +17,5 @@ returns-clause-did g c = let d = c.lock_header-word.ensures.did in record {
   locks = subst (λ (f : ℕ). LocksHeader f c.args.seat.now.me.0 c.lock_header-word.new.seat.me.0 d.1) c.frame.ensures record { before = d.0; looks = d.2; did = d.3 };
   did = c.finish_io.ensures.did;
   shows = subst (λ (f : ℕ). IsWordOf (link c.args.seat.now.me.0 f) (fields c.lock_header-word.result)) c.frame.ensures c.lock_header-word.ensures.word;
-  marks = ended_marks_on _ _ _ _ c.lock_header-word.ensures.marks c.finish_io.ensures.marks;
+  marks = ended_marks_on _ c.args.seat.now.me.0 c.lock_header-word.new.seat.me.0 c.finish_io.new.seat.me.0 c.lock_header-word.ensures.marks c.finish_io.ensures.marks;
 }

@@ -1,4 +1,5 @@
 use Rattle.std.proofs.Common.{refl, sym, ap, ◌∙◌, subst}
+use Rattle.pin_core.specs.declared.view.View.{View}
 use Rattle.frame_table.proofs.Told.{touches_none, touches_on, looked_on}
 use Rattle.content_locks.proofs.InOut.{headless_still, quiet_still, can_still, begun_on, begins_on, nothing_on, looked_none}
 use Rattle.content_locks.specs.Io.{still, again}
@@ -42,7 +43,7 @@ pub loop-preserved : goal.loop-preserved
 loop-preserved g c = let i = c.loop.invariant in let b = c.try_io.ensures in let t = c.in-InProgress.ensures.tried in record {
   seat = record { table = b.seat.table ∙ i.seat.table; id = b.seat.id ∙ i.seat.id; hand = b.seat.hand ∙ i.seat.hand };
   touches = touches_on _ _ _ _ i.touches b.touches;
-  marks = marks_on _ _ _ i.marks t.2;
+  marks = t.2 ∙ i.marks;
   waits = again i.waits t.1;
   looked = looked_on _ _ _ i.looked t.0;
 }
@@ -51,4 +52,4 @@ pub returns-in-Begun-clause-marks : goal.returns-in-Begun-clause-marks
 returns-in-Begun-clause-marks g c = begun_marks_on _ _ _ _ c.loop.invariant.marks c.in-Begun.ensures.tried.4
 
 pub returns-in-Nothing-clause-marks : goal.returns-in-Nothing-clause-marks
-returns-in-Nothing-clause-marks g c = marks_on _ _ _ c.loop.invariant.marks c.in-Nothing.ensures.tried.3
+returns-in-Nothing-clause-marks g c = c.in-Nothing.ensures.tried.3 ∙ c.loop.invariant.marks

@@ -11,7 +11,7 @@ returns-then-shows_nothing-clause-tried g c = let k = c.lock_header-word.ensures
   unlocked_back _ _ _ k.locked _ _ c.look.ensures.link e (c.requires.headless c.args.frame),
   λ reads. ap (λ (l : Link). l.seen_valid) e ∙ sees _ _ _ _ k.did _ _ k.locked c.look.ensures.did c.requires.view.settled c.requires.view.pinned (subst (λ (b : Bool). is_nothing b (fields c.lock_header-word.result) ≡ true) reads n),
   finds _ _ _ _ k.did _ _ _ _ _ n c.look.ensures.did c.unlock_header-then-shows_nothing.ensures.did.1,
-  marks_on _ _ _ (marks_on _ _ _ k.marks c.look.ensures.marks) c.unlock_header-then-shows_nothing.ensures.marks,
+  c.unlock_header-then-shows_nothing.ensures.marks ∙ (c.look.ensures.marks ∙ k.marks),
 )
 
 pub begin_io-requires-clause-view : goal.begin_io-requires-clause-view

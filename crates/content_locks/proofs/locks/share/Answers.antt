@@ -1,4 +1,5 @@
 use Rattle.std.proofs.Common.{refl, sym, ap, subst, ◌∙◌}
+use Rattle.pin_core.specs.declared.view.View.{View}
 use Rattle.page_core.specs.Kinds.{share}
 use Rattle.frame_table.proofs.Told.{touches_on}
 use Rattle.frame_table.specs.Content.{CanLock, shared_link}
@@ -32,4 +33,4 @@ loop-preserved g c = let a = c.loop.invariant.seat in let b = c.try_share.ensure
 }
 
 pub returns-in-Ok-clause-marks : goal.returns-in-Ok-clause-marks
-returns-in-Ok-clause-marks g c = marks_on _ _ _ (looks_marks _ _ _ c.loop.invariant.looked) c.try_share.ensures.marks
+returns-in-Ok-clause-marks g c = c.try_share.ensures.marks ∙ (looks_marks _ _ _ c.loop.invariant.looked)

@@ -1,3 +1,4 @@
+use Rattle.std.proofs.Common.{◌∙◌}
 use Rattle.frame_table.proofs.Told.{touches_on}
 use Rattle.content_locks.proofs.Locking.{held_word}
 use Rattle.content_locks.specs.Locks.{still, again}
@@ -14,7 +15,7 @@ pub returns-then-was-ne0-clause-cause : goal.returns-then-was-ne0-clause-cause
 returns-then-was-ne0-clause-cause g c = (c.look_content-was.ensures.did, held_word _ _ _ _ c.look_content-was.ensures.did c.if-was-ne0.true)
 
 pub returns-in-Err-clause-marks : goal.returns-in-Err-clause-marks
-returns-in-Err-clause-marks g c = marks_on _ _ _ c.look_content-was.ensures.marks c.set_exclusive.ensures.marks
+returns-in-Err-clause-marks g c = c.set_exclusive.ensures.marks ∙ c.look_content-was.ensures.marks
 
 pub returns-in-Ok-clause-marks : goal.returns-in-Ok-clause-marks
-returns-in-Ok-clause-marks g c = marks_on _ _ _ c.look_content-was.ensures.marks c.set_exclusive.ensures.marks
+returns-in-Ok-clause-marks g c = c.set_exclusive.ensures.marks ∙ c.look_content-was.ensures.marks

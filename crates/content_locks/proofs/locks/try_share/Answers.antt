@@ -1,3 +1,4 @@
+use Rattle.std.proofs.Common.{◌∙◌}
 use Rattle.frame_table.proofs.Told.{touches_on}
 use Rattle.content_locks.specs.Locks.{still, again}
 use Rattle.frame_table.proofs.Marks.{marks_on}
@@ -10,7 +11,7 @@ pub returns-in-Err-clause-touches : goal.returns-in-Err-clause-touches
 returns-in-Err-clause-touches g c = touches_on _ _ _ _ c.look_content-was.ensures.touches c.add_share.ensures.touches
 
 pub returns-in-Err-clause-marks : goal.returns-in-Err-clause-marks
-returns-in-Err-clause-marks g c = marks_on _ _ _ c.look_content-was.ensures.marks c.add_share.ensures.marks
+returns-in-Err-clause-marks g c = c.add_share.ensures.marks ∙ c.look_content-was.ensures.marks
 
 pub returns-in-Ok-clause-marks : goal.returns-in-Ok-clause-marks
-returns-in-Ok-clause-marks g c = marks_on _ _ _ c.look_content-was.ensures.marks c.add_share.ensures.marks
+returns-in-Ok-clause-marks g c = c.add_share.ensures.marks ∙ c.look_content-was.ensures.marks

@@ -1,4 +1,5 @@
 use Rattle.std.proofs.Common.{ℕ, List, get_or, ap, refl, sym, subst, ◌∙◌}
+use Rattle.pin_core.specs.declared.view.View.{View}
 use Rattle.pin_core.specs.declared.view.LaneHold.{LaneHold}
 use Rattle.pin_core.specs.declared.view.PartitionHold.{PartitionHold}
 use Rattle.pin_core.specs.State.{link, no_lane}

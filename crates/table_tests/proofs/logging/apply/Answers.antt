@@ -1,4 +1,5 @@
 use Rattle.std.proofs.Common.{List, get_or, ap, sym, subst, ◌∙◌}
+use Rattle.pin_core.specs.declared.view.View.{View}
 use Rattle.atomic_table.specs.Table.{rest}
 use Rattle.pin_core.specs.declared.view.LaneHold.{LaneHold}
 use Rattle.pin_core.specs.declared.view.LogHold.{LogHold}

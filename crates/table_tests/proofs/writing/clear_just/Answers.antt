@@ -1,4 +1,5 @@
 use Rattle.std.proofs.Common.{List, get_or, ap, ◌∙◌}
+use Rattle.pin_core.specs.declared.view.View.{View}
 use Rattle.pin_core.specs.declared.view.LaneHold.{LaneHold}
 use Rattle.pin_core.specs.State.{no_lane}
 use Rattle.table_tests.proofs.Reading.{home_free}

@@ -1,4 +1,5 @@
-use Rattle.std.proofs.Common.{ℕ, subst, ◌∙◌}
+use Rattle.std.proofs.Common.{ℕ, subst, ◌∙◌, ap}
+use Rattle.pin_core.specs.declared.view.View.{View}
 use Rattle.std.specs.Prelude.{Err}
 use Rattle.content_locks.specs.Locks.{Copies}
 use Rattle.pin_core.specs.declared.view.Io.TheVariants.{Output}

@@ -5,4 +5,4 @@ pub returns-clause-origin : goal.returns-clause-origin
 returns-clause-origin g c = opened_held g.L.BlockLane.contents c.args.self.now c.args.what _ _ c.end_at.ensures.held
 
 pub returns-clause-logged : goal.returns-clause-logged
-returns-clause-logged g c = opened_logged g.L.BlockLane.contents c.args.self.now _ _ c.end_at.ensures.logged
+returns-clause-logged g c = opened_logged g.L.BlockLane.contents c.args.self.now _ c.args.seat.now.me.0 c.end_at.ensures.logged

@@ -1,10 +1,11 @@
-use Rattle.std.proofs.Common.{rules, refl, sym, ◌∙◌}
+use Rattle.std.proofs.Common.{rules, refl, sym, ◌∙◌, ap}
 use Rattle.pin_core.specs.Kinds.{lock_header}
 use Rattle.frame_table.specs.Kinds.{pins}
 use Rattle.frame_table.specs.Tells.{still, again}
 use Rattle.frame_table.proofs.Told.{touches, touches_on, looks_touch, looks_headless, on_locked, on_unlocked, locked_after}
 use Rattle.frame_table.proofs.Seeing.{word_locked}
 use Rattle.frame_table.proofs.Marks.{did_marks, looks_marks, marks_on}
+use Rattle.pin_core.specs.declared.view.View.{View}
 use Rattle.frame_table.proofs.table.FrameTable.lock_header.Goals as goal
 
 pub loop-init : goal.loop-init
@@ -29,7 +30,7 @@ pub returns-then-not-has-clause-locked : goal.returns-then-not-has-clause-locked
 returns-then-not-has-clause-locked g c = locked_after _ _ _ _ _ _ c.loop.invariant.looked (on_unlocked (pins lock_header) _ 4194304 _ _ _ c.or_lock-found.ensures.did (sym c.has.ensures ∙ search rules)) c.locked.ensures
 
 pub returns-then-not-has-clause-marks : goal.returns-then-not-has-clause-marks
-returns-then-not-has-clause-marks g c = marks_on _ _ _ (looks_marks _ _ _ c.loop.invariant.looked) (did_marks (pins lock_header) tt _ _ _ _ (on_unlocked (pins lock_header) _ 4194304 _ _ _ c.or_lock-found.ensures.did (sym c.has.ensures ∙ search rules)))
+returns-then-not-has-clause-marks g c = (did_marks (pins lock_header) tt _ _ _ _ (on_unlocked (pins lock_header) _ 4194304 _ _ _ c.or_lock-found.ensures.did (sym c.has.ensures ∙ search rules))) ∙ (looks_marks _ _ _ c.loop.invariant.looked)
 
 pub returns-then-not-has-clause-word : goal.returns-then-not-has-clause-word
 returns-then-not-has-clause-word g c = word_locked _ _ _ _ _ _ c.loop.invariant.looked (on_unlocked (pins lock_header) _ 4194304 _ _ _ c.or_lock-found.ensures.did (sym c.has.ensures ∙ search rules)) c.locked.ensures

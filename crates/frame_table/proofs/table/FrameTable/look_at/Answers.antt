@@ -10,4 +10,4 @@ load-requires g c = (
 )
 
 pub returns-clause-did : goal.returns-clause-did
-returns-clause-did g c = c.load.ensures.2.1 c.args._frame c.state_place.ensures
+returns-clause-did g c = c.load.ensures.2.0.1 c.args._frame c.state_place.ensures

@@ -1,4 +1,4 @@
-use Rattle.std.proofs.Common.{refl}
+use Rattle.std.proofs.Common.{refl, ◌∙◌}
 use Rattle.pin_core.specs.Kinds.{pin}
 use Rattle.frame_table.specs.Kinds.{pins}
 use Rattle.frame_table.specs.Tells.{looking}
@@ -16,4 +16,4 @@ pub returns-else-now-was-clause-left : goal.returns-else-now-was-clause-left
 returns-else-now-was-clause-left g c = looked_on _ _ _ c.look-was.ensures.link (looked _ _ _ _ (on_miss (pins (pin c.args.ring)) _ _ _ _ _ c.swap_pin-now.ensures.did c.if-now-was.false))
 
 pub returns-else-now-was-clause-marks : goal.returns-else-now-was-clause-marks
-returns-else-now-was-clause-marks g c = marks_on _ _ _ c.look-was.ensures.marks (did_marks looking tt _ _ _ _ (on_miss (pins (pin c.args.ring)) _ _ _ _ _ c.swap_pin-now.ensures.did c.if-now-was.false))
+returns-else-now-was-clause-marks g c = (did_marks looking tt _ _ _ _ (on_miss (pins (pin c.args.ring)) _ _ _ _ _ c.swap_pin-now.ensures.did c.if-now-was.false)) ∙ c.look-was.ensures.marks
