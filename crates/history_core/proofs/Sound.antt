@@ -1,5 +1,5 @@
 -- Each step keeps that only blocks whose pages were sound at the start are read and written.
-use Rattle.std.proofs.Common.{◌≡◌, ◌≢◌, ℕ, zero, suc, ◌+◌, ◌<◌, Bool, true, false, List, [], ◌∷◌, ◌++◌, length, set, Some, None, sym, refl, ap, ◌∙◌, subst, ⊎_elim, arith}
+use Rattle.std.proofs.Common.{◌≡◌, ◌≢◌, ℕ, suc, ◌+◌, ◌<◌, Bool, true, false, List, [], ◌∷◌, ◌++◌, length, set, Some, None, sym, refl, ap, ◌∙◌, subst, ⊎_elim, arith}
 use mathlib.Core.Logic.{dite}
 use mathlib.Core.Option.{some, some-ne-none}
 use native.Mathlib.Decide.{ℕ_discrete}
@@ -25,7 +25,7 @@ use Rattle.history_core.specs.Device.{view_logged}
 use Rattle.history_core.specs.State.{State, Store, opening}
 use Rattle.history_core.specs.Invariant.{Invariant}
 use Rattle.history_core.specs.Histories.{IsStored}
-use Rattle.history_core.specs.Sound.{WasSound, SoundLaw, ShowsSound, IsUntouched, UnsoundStay}
+use Rattle.history_core.specs.Sound.{WasSound, SoundLaw, ShowsSound, UnsoundStay}
 use Rattle.history_core.specs.Steps.{Event, new_entry, stepped, ticked, looked, pool_noting, paged, laned, has_loaded, has_begun, has_read, has_written, has_raised, Step, pools, lanes, writes, notes, logs, enters, reads, loads_end, begins, loads_flushed, raises, adds_hand, loads_hand}
 use Rattle.history_core.proofs.Calls.{at_both}
 use Rattle.history_core.proofs.Histories.{clean_stored}

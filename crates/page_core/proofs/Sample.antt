@@ -39,7 +39,7 @@ at_frame P v a e x z f = subst (λ (l : List Link). P (slice_index_or l f idle))
     cases zero = x
     cases (suc f) = z
 
-left_out : found [] ≡ map_after (Leaving 7 0) (map_after (Entering 7 0) (λ _. None))
+pub left_out : found [] ≡ map_after (Leaving 7 0) (map_after (Entering 7 0) (λ _. None))
 unfolding found
 left_out = λ k tag. gone (nat_eq tag 7) k
   where
