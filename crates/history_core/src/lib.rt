@@ -97,7 +97,7 @@ pub fn checkpoints_store()
     ensures { (s : State) → Laws s → CheckpointsStore s }
 {}
 
-/// The end of a checkpoint's syncs: where a backend has swept each lane up to a position, each entry of the log up to there is durable in its block's lane.
+/// The end of a checkpoint's syncs: where a backend has swept each lane up to a position, the syncs have covered each entry of the log up to there, and it is in its block's lane, or that block's last write failed, and its frame is valid and dirty.
 pub fn sweeps_store()
     ensures { (s : State) → Laws s → SweepsStore s }
 {}
