@@ -12,7 +12,7 @@ ghost use Rattle.history_core.specs.Laws.{Laws};
 ghost use Rattle.history_core.specs.Ends.{EndsLaw};
 ghost use Rattle.history_core.specs.History.{EndsInHistory};
 ghost use Rattle.history_core.specs.Lasting.{LogGrows, OpeningStays};
-ghost use Rattle.history_core.specs.Sound.{ShowsSound, UnsoundStay};
+ghost use Rattle.history_core.specs.Sound.{ShowsSound, UnsoundAreFirst, UnsoundStay};
 ghost use Rattle.history_core.specs.Promises.{CheckpointsStore, GrantsAreAlone, PinnedTagsStay, SweepsStore};
 ghost use Rattle.history_core.specs.Trail.{HasSameWords, ListedIsMade};
 ghost use Rattle.history_core.specs.Steps.{Event, Run};
@@ -67,6 +67,7 @@ pub fn all_histories()
     ensures sound { (s : State) → Laws s → FramesAreSound s }
     ensures shows_sound { (s : State) → Laws s → ShowsSound s }
     ensures unsound { (s : State) → Laws s → UnsoundStay s }
+    ensures unsound_first { (s : State) → Laws s → UnsoundAreFirst s }
     ensures hold_cells { (s : State) → Laws s → FramesHoldCells s }
     ensures unique { (s : State) → Laws s → TagsAreUnique s.pool.core }
     ensures remembers { (s : State) → Laws s → PinsRemember s.pool.core }
