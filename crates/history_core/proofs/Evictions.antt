@@ -17,7 +17,7 @@ use Rattle.page_core.specs.Sample.{sample_entry}
 use Rattle.history_core.specs.State.{State}
 use Rattle.history_core.specs.Steps.{pools, Run, rests, goes}
 use Rattle.history_core.specs.Evictions.{evict, wait, wake, EvictionRuns, WaitRuns}
-use Rattle.history_core.proofs.Miss.{view_of, pooled, turned, paged, m23, filled, run_append}
+use Rattle.history_core.proofs.Miss.{view_of, pooled, turned, paged, m22, filled, run_append}
 
 abbrev second_of : State → View
 second_of s = slice_index_or s.pool.core.views 1 emptied_view
@@ -32,7 +32,7 @@ abbrev second_paged : Kind → State → State
 second_paged k s = record s { pool = page_steps.state_after k s.pool 1 0 (second_of s) }
 
 abbrev e1 : State
-e1 = pooled pins.unpin m23
+e1 = pooled pins.unpin m22
 
 abbrev e2 : State
 e2 = pooled pins.lock_header e1
@@ -67,8 +67,8 @@ e11 = turned leave_turn e10
 abbrev e12 : State
 e12 = pooled pins.unpin e11
 
-evicts : Run evict m23 e12
-evicts = goes (pools (page_steps.cores (pin_steps.touches 0 0 pins.unpin (view_of m23) refl refl (lit< tt) (record { unlocked = refl; pinned = λ e. cc; no_content = refl; no_io = refl; no_wait = refl }) tt)) tt)
+evicts : Run evict m22 e12
+evicts = goes (pools (page_steps.cores (pin_steps.touches 0 0 pins.unpin (view_of m22) refl refl (lit< tt) (record { unlocked = refl; pinned = λ e. cc; no_content = refl; no_io = refl; no_wait = refl }) tt)) tt)
     (goes (pools (page_steps.cores (pin_steps.touches 0 0 pins.lock_header (view_of e1) refl refl (lit< tt) (record { unlocked = refl }) (at_frame (λ (l : Link). l.header ≡ None) (view_of e1) _ refl refl refl))) tt)
     (goes (pools (page_steps.cores (pin_steps.touches 0 0 pins.pin_victim (view_of e2) refl refl (lit< tt) (record { held = refl; absent = refl; room = λ e. refl }) (at_frame (λ (l : Link). l.role ≢ Victim) (view_of e2) _ refl (λ e. cc) (λ e. cc)))) tt)
     (goes (pools (page_steps.cores (pin_steps.turns 0 0 take_turn (view_of e3) refl refl (lit< tt) (record { free = refl }))) tt)
@@ -86,7 +86,7 @@ pub evictions : EvictionRuns
 evictions = (e12, run_append filled evicts, record { tag = refl; word = refl; mapped = refl; taken = refl })
 
 abbrev w1 : State
-w1 = record m23 { pool = record m23.pool { core = split_state m23.pool.core (view_of m23) } }
+w1 = record m22 { pool = record m22.pool { core = split_state m22.pool.core (view_of m22) } }
 
 abbrev w2 : State
 w2 = second_turned take_turn w1
@@ -130,8 +130,8 @@ w14 = second_paged exclude w13
 abbrev w15 : State
 w15 = second_pooled pins.load_state w14
 
-waits : Run wait m23 w9
-waits = goes (pools (page_steps.cores (pin_steps.splits (view_of m23) refl (lit< tt))) tt)
+waits : Run wait m22 w9
+waits = goes (pools (page_steps.cores (pin_steps.splits (view_of m22) refl (lit< tt))) tt)
     (goes (pools (page_steps.cores (pin_steps.turns 1 0 take_turn (second_of w1) refl refl (lit< tt) (record { free = refl }))) tt)
     (goes (pools (page_steps.cores (pin_steps.touches 1 0 (pins.pin_mapped 7 false) (second_of w2) refl refl (lit< tt) (record { unlocked = refl; absent = refl }) (record { held = refl; settled = refl; given = refl }))) tt)
     (goes (pools (page_steps.cores (pin_steps.turns 1 0 leave_turn (second_of w3) refl refl (lit< tt) (record { held = refl; home = refl; settled = refl }))) tt)

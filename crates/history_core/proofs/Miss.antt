@@ -112,14 +112,11 @@ m20 = paged page_back m19
 abbrev m21 : State
 m21 = pooled pins.lock_header m20
 
-abbrev m22 : State
+abbrev pub m22 : State
 m22 = paged (end_io ReadOk) m21
 
-abbrev pub m23 : State
-m23 = pooled pins.load_state m22
-
 abbrev m24 : State
-m24 = paged share m23
+m24 = paged share m22
 
 abbrev m25 : State
 m25 = paged take_copy m24
@@ -170,7 +167,7 @@ begun = goes (pools (page_steps.cores (pin_steps.turns 0 0 take_turn (view_of m0
     rests)))))))))))
 
 -- the block's page is in the frame
-pub filled : Run (miss ++ fill) miss_start m23
+pub filled : Run (miss ++ fill) miss_start m22
 filled = run_append begun (goes (lanes 0 0 take_lane (view_of m12) refl refl (lit< tt) (record { free = refl }) tt)
     (goes (lanes 0 0 (lane_out sample_lane) (view_of m13) refl refl (lit< tt) goes_out tt)
     (goes (lanes 0 0 (read_block 7 sample_page) (view_of m14) refl refl (lit< tt) (record { call = record { out = λ e. cc; once = refl }; given = λ e. refl }) refl)
@@ -181,13 +178,12 @@ filled = run_append begun (goes (lanes 0 0 take_lane (view_of m12) refl refl (li
     (goes (pools (page_steps.touches 0 0 page_back (view_of m19) refl refl (lit< tt) (record { out = λ e. cc }) tt) tt)
     (goes (pools (page_steps.cores (pin_steps.touches 0 0 pins.lock_header (view_of m20) refl refl (lit< tt) (record { unlocked = refl }) (at_frame (λ (l : Link). l.header ≡ None) (view_of m20) _ refl refl refl))) tt)
     (goes (pools (page_steps.touches 0 0 (end_io ReadOk) (view_of m21) refl refl (lit< tt) (record { held = refl; page_home = λ e. refl; ends = record { right = refl; read = λ e. cc; sound = sound_read; home = refl } }) no_write) tt)
-    (goes (pools (page_steps.cores (pin_steps.touches 0 0 pins.load_state (view_of m22) refl refl (lit< tt) tt tt)) tt)
-    rests)))))))))))
+    rests))))))))))
 
 pub misses : MissRuns
 misses = (
   record m28 { pool = aside m28.pool 0 (looked (seen.LogEnd m28.end) (has_read m28.end 7 sample_page (view_of m28))) },
-  run_append filled (goes (pools (page_steps.touches 0 0 share (view_of m23) refl refl (lit< tt) (record { pinned = λ e. cc; seen = refl; none = refl; free = refl }) tt) tt)
+  run_append filled (goes (pools (page_steps.touches 0 0 share (view_of m22) refl refl (lit< tt) (record { pinned = λ e. cc; seen = refl; none = refl; free = refl }) tt) tt)
       (goes (pools (page_steps.touches 0 0 take_copy (view_of m24) refl refl (lit< tt) (record { right = refl; free = refl }) tt) tt)
       (goes (pools (page_steps.touches 0 0 page_out (view_of m25) refl refl (lit< tt) (record { page_home = refl; shared = λ e. refl; unlocked = λ e. absurd (cc) }) tt) tt)
       (goes (pools (page_steps.touches 0 0 page_back (view_of m26) refl refl (lit< tt) (record { out = λ e. cc }) tt) tt)

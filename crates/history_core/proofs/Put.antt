@@ -26,7 +26,7 @@ use Rattle.history_core.specs.Sample.{sample_store, sample_lane, sample_log}
 use Rattle.history_core.specs.Miss.{miss_start, miss, fill}
 use Rattle.history_core.specs.Put.{IsPut, HasPut, some_page, put_entry, put_bytes, log_with, change, flush, write_out, PutRuns}
 use Rattle.history_core.proofs.Logs.{record_length}
-use Rattle.history_core.proofs.Miss.{view_of, pooled, paged, at_lane, noted, m23, filled, run_append, below, lane_one}
+use Rattle.history_core.proofs.Miss.{view_of, pooled, paged, at_lane, noted, m22, filled, run_append, below, lane_one}
 use Rattle.grid.specs.Shape.{put}
 
 has_room : 0 + record_size ≤ last_position
@@ -55,7 +55,7 @@ abbrev pub written : Page → State → State
 written p s = record s { pool = pool_after begin_write s.pool 0 0 (laned (write_block 0 7 p) 0 (view_of s) (steps.paged begin_write s.pool 0 (view_of s))); lane = put s.lane 0 (lane_after (write_block 0 7 p) (s.lane 0)) }
 
 abbrev q1 : Page → State
-q1 p = paged exclude m23
+q1 p = paged exclude m22
 
 abbrev q2 : Page → State
 q2 p = paged mark_dirty (q1 p)
@@ -159,8 +159,8 @@ none_out p n out = absurd (out (lane_one (view_of (q30 p)).lanes _ refl refl n))
 may_log : (p : Page) → IsPut p → CanLog (q4 p) 0 7 p (view_of (q4 p))
 may_log p is = record { inside = lit< tt; tagged = refl; right = record { right = refl; dirtied = refl; settled = refl; sound = is.sound; used = is.used }; around = at_frame (λ (l : Link). l.unapplied ≡ false) (view_of (q4 p)) _ refl refl refl; full = is.full; ends = is.ends; room = has_room }
 
-pub changes : (p : Page) → IsPut p → Run (change p) m23 (q12 p)
-changes p is = goes (pools (page_steps.touches 0 0 exclude (view_of m23) refl refl (lit< tt) (record { pinned = λ e. cc; seen = refl; none = refl; free = refl; alone = refl; no_copy = refl }) tt) tt)
+pub changes : (p : Page) → IsPut p → Run (change p) m22 (q12 p)
+changes p is = goes (pools (page_steps.touches 0 0 exclude (view_of m22) refl refl (lit< tt) (record { pinned = λ e. cc; seen = refl; none = refl; free = refl; alone = refl; no_copy = refl }) tt) tt)
     (goes (pools (page_steps.touches 0 0 mark_dirty (view_of (q1 p)) refl refl (lit< tt) (record { unlocked = refl; right = refl }) tt) tt)
     (goes (logs 0 take_log (view_of (q2 p)) refl refl (record { free = refl }) tt)
     (goes (logs 0 (log_out sample_log) (view_of (q3 p)) refl refl (record { held = refl; home = refl; faults = refl; synced = refl; down = refl; bytes = λ bytes e. sym (same_Some (head_bytes 0) bytes e) }) tt)

@@ -41,7 +41,7 @@ begin_input = pool pins.lock_header ∷ page start_input ∷ []
 
 -- the block is read from its lane, and its page put into the frame
 abbrev pub fill : List Event
-fill = begin_input ++ steps.lane 0 0 take_lane ∷ steps.lane 0 0 (lane_out sample_lane) ∷ steps.lane 0 0 (read_block 7 sample_page) ∷ steps.note 0 0 0 (lane_back false) (note_read sample_page) ∷ steps.lane 0 0 leave_lane ∷ page page_out ∷ page (overwrite_read sample_page) ∷ page page_back ∷ pool pins.lock_header ∷ page (end_io ReadOk) ∷ pool pins.load_state ∷ []
+fill = begin_input ++ steps.lane 0 0 take_lane ∷ steps.lane 0 0 (lane_out sample_lane) ∷ steps.lane 0 0 (read_block 7 sample_page) ∷ steps.note 0 0 0 (lane_back false) (note_read sample_page) ∷ steps.lane 0 0 leave_lane ∷ page page_out ∷ page (overwrite_read sample_page) ∷ page page_back ∷ pool pins.lock_header ∷ page (end_io ReadOk) ∷ []
 
 -- the page is copied under the shared content lock, and the read gets its place
 abbrev pub copy : List Event
