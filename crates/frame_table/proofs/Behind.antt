@@ -1,6 +1,7 @@
 -- An operation on a word behind those of the frames is a step of the state.
 use Rattle.std.proofs.Common.{◌≡◌, ◌≢◌, ℕ, ◌+◌, ◌*◌, ◌<◌, ◌≤◌, ◌%◌, ◌^◌, cond, eq-eqb, ne_eqb, lit<, Bool, true, false, List, Option, Some, None, set, get_or, length, length-set, get_or-set_same, get_or-set_other, sym, refl, ap, ◌∙◌, subst, arith}
 use Rattle.std.specs.Option.{is_some}
+use Rattle.std.specs.Prelude.{max}
 use Rattle.std.proofs.Math.Nat.{mod-eq_of_lt}
 use mathlib.Core.Logic.{dite}
 use mathlib.Core.Option.{none, some}
@@ -15,7 +16,7 @@ use Rattle.pin_core.specs.State.{Page, link}
 use Rattle.pin_core.specs.Tallies.{flag_weight}
 use Rattle.history_core.specs.Laws.{Laws}
 use Rattle.history_core.specs.State.{State, next_hand}
-use Rattle.history_core.specs.Steps.{Step, looked, begins, reads, loads_end, loads_flushed, raises, loads_hand, adds_hand}
+use Rattle.history_core.specs.Steps.{Step, aside, looked, has_raised, begins, reads, loads_end, loads_flushed, raises, loads_hand, adds_hand}
 use Rattle.history_core.proofs.Laws.{laws_kept}
 use Rattle.history_core.proofs.Beginning.{link_begun}
 use Rattle.table_rule.specs.declared.value.Value.{Value}
@@ -25,7 +26,7 @@ use Rattle.table_rule.specs.declared.turn.Place.TheVariants as place
 use Rattle.table_rule.specs.declared.turn.Turn.{Turn}
 use Rattle.table_rule.specs.declared.turn.Turn.TheVariants as turn
 use Rattle.table_rule.specs.Shows.{HasTurn, is_taken, ShowsLatches, Devices, Shows, Held, is_out}
-use Rattle.frame_table.specs.Behind.{WordKind, load_end, read_end, begin_checkpoint, load_flushed, raise_flushed, load_hand, add_hand, word_place, word_of, word_after, word_event, IsWordAllowed, read_of, view_of, flushed_of, hand_of, next_of, DidWord, tells_word}
+use Rattle.frame_table.specs.Behind.{WordKind, load_end, read_end, begin_checkpoint, load_flushed, raise_flushed, load_hand, add_hand, word_place, word_of, word_after, word_event, IsWordAllowed, end_noted, read_of, view_of, flushed_of, hand_of, next_of, DidWord, tells_word}
 use Rattle.frame_table.specs.declared.log_words.EndLoad.{EndLoad}
 use Rattle.frame_table.specs.declared.log_words.EndLoad.TheVariants.{Plain, Read, Checkpoint}
 use Rattle.frame_table.specs.EndLoads.{IsEndAllowed, end_kind}
@@ -37,7 +38,7 @@ word_step : (k : WordKind) (s : State) (i : ℕ) (v : View) → get_elem? s.pool
 word_step load_end s i v there live a = loads_end i v there live
 word_step begin_checkpoint s i v there live a = begins i v there live
 word_step load_flushed s i v there live a = loads_flushed i v there live
-word_step raise_flushed s i v there live a = raises i v there live a
+word_step raise_flushed s i v there live a = subst (λ (n : ℕ). Step (word_event raise_flushed i) s (record s { pool = aside s.pool i (has_raised n v); flushed = max s.flushed s.end })) (sym (ap end_noted a.1)) (raises i v there live a.0)
 word_step load_hand s i v there live a = loads_hand i v there live
 word_step add_hand s i v there live a = adds_hand i v there live
 word_step (read_end f) s i v there live (inside, a) = by_note (link v f).tag (link v f).copied refl refl
@@ -197,7 +198,7 @@ module _ {L G : Type 0} (d : Devices L G) (o : Opening L G) (slots id : ℕ) (me
   loads_flushed_there = acts_behind d o load_flushed slots id 0 0 (λ n. n) me live (λ s l f there small. (tt, refl))
 
   pub raises_there : (end : ℕ) → me.0.log.synced ≡ true → me.0.log.end ≡ Some end → Allows (Held d o) slots id me (flushed_place o.config.frames) (λ _. end) (tells_word raise_flushed (step slots (flushed_place o.config.frames) end 0 none) me)
-  raises_there end synced noted = acts_behind d o raise_flushed slots id end 0 (λ _. end) me live (λ s l f there small. (synced, (let e = ((l.invariant.device.cells id me.0 0 there (lit< tt)).end end noted).1 in let low = l.invariant.flushed_to in omega arith)))
+  raises_there end synced noted = acts_behind d o raise_flushed slots id end 0 (λ _. end) me live (λ s l f there small. let e = ((l.invariant.device.cells id me.0 0 there (lit< tt)).end end noted).1 in ((synced, noted ∙ ap Some e), (let low = l.invariant.flushed_to in omega arith)))
 
   pub loads_hand_there : Allows (Held d o) slots id me (hand_place o.config.frames) (λ n. n) (tells_word load_hand (step slots (hand_place o.config.frames) 0 0 none) me)
   loads_hand_there = acts_behind d o load_hand slots id 0 0 (λ n. n) me live (λ s l f there small. (tt, refl))

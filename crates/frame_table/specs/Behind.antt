@@ -11,7 +11,7 @@ use Rattle.pin_core.specs.State.{Page, link}
 use Rattle.history_core.specs.State.{State, next_hand}
 use Rattle.history_core.specs.Laws.{Laws}
 use Rattle.history_core.specs.Steps as steps
-use Rattle.history_core.specs.Steps.{Event, aside, stepped, ticked, looked, has_loaded, has_begun, has_read}
+use Rattle.history_core.specs.Steps.{Event, aside, ticked, looked, has_loaded, has_begun, has_read, has_raised}
 use Rattle.table_rule.specs.declared.value.Value.{Value}
 use Rattle.table_rule.specs.Layout.{end_place, flushed_place, hand_place}
 
@@ -73,7 +73,7 @@ pub record IsCopied (l : Link) : Type 0 where
 -- where a kind is allowed
 abbrev pub IsWordAllowed : WordKind → State → View → Type 0
 IsWordAllowed (read_end f) s v = (f < s.pool.core.frames) × IsCopied (link v f)
-IsWordAllowed raise_flushed s v = v.log.synced ≡ true
+IsWordAllowed raise_flushed s v = (v.log.synced ≡ true) × (v.log.end ≡ Some s.end)
 IsWordAllowed _ s v = Unit {0}
 
 -- a read of the page that was copied, of the block that the pin remembers
@@ -81,13 +81,18 @@ abbrev pub read_of : Option ℕ → Option Page → ℕ → View → View
 read_of (Some tag) (Some page) end v = has_read end tag page v
 read_of _ _ end v = v
 
+-- the log's end as it is noted under the log's latch
+abbrev pub end_noted : Option ℕ → ℕ
+end_noted None = 0
+end_noted (Some end) = end
+
 -- What a kind makes of the view, where the number found is `found`
 abbrev pub view_of : WordKind → ℕ → View → View
 view_of load_end found v = has_loaded found v
 view_of (read_end f) found v = looked (seen.LogEnd found) (read_of (link v f).tag (link v f).copied found v)
 view_of begin_checkpoint found v = has_begun found (looked (seen.LogEnd found) v)
 view_of load_flushed found v = looked (seen.Flushed found) (record v { flushed = found })
-view_of raise_flushed found v = stepped v
+view_of raise_flushed found v = has_raised (end_noted v.log.end) v
 view_of load_hand found v = looked (seen.Hand found) v
 view_of add_hand found v = ticked v
 

@@ -7,7 +7,7 @@ use Rattle.pin_core.specs.declared.view.Role.TheVariants.{Absent}
 use Rattle.pin_core.specs.declared.view.Content.TheVariants.{Unlocked, Shared, Exclusive}
 use Rattle.pin_core.specs.declared.view.Io.TheVariants.{Quiet, Input, Output}
 use Rattle.pin_core.specs.declared.view.LastWrite.TheVariants.{Unwritten}
-use Rattle.page_core.specs.Kinds.{EndsAs}
+use Rattle.page_core.specs.Kinds.{EndsAs, saw_valid}
 use Rattle.page_core.specs.Kinds as paged
 use Rattle.frame_table.specs.Kinds.{FrameKind, pages}
 
@@ -123,9 +123,9 @@ abbrev pub begun_link : Bool → Link → Link
 begun_link true l = record l { header = None; io = Input; read = None; read_is_home = false }
 begun_link false l = record l { header = None; io = Output }
 
--- without the right
-abbrev pub finished_link : Link → Link
-finished_link l = record l { header = None; io = Quiet; read = None; read_is_home = false; last_write = Unwritten }
+-- without the right; after a good read BM_VALID is seen
+abbrev pub finished_link : IoEnd → Link → Link
+finished_link end l = record l { seen_valid = saw_valid end l.seen_valid; header = None; io = Quiet; read = None; read_is_home = false; last_write = Unwritten }
 
 -- at a frame that the checkpoint has passed and listed
 abbrev pub listed_link : Link → Link

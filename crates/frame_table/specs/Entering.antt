@@ -1,5 +1,5 @@
 -- A page becomes an entry of the log.
-use Rattle.std.specs.Prelude.{◌≡◌, ℕ, ◌+◌, ◌<◌, ◌≤◌, true, false, List, [], ◌∷◌, ◌++◌, length, slice_get, slice_set, Some, None}
+use Rattle.std.specs.Prelude.{◌≡◌, ℕ, ◌+◌, ◌<◌, ◌≤◌, true, false, List, [], ◌∷◌, ◌++◌, length, slice_get, slice_set, Some, None, max}
 use mathlib.Core.Option.{some}
 use lib.ListN.{get_elem?}
 use Rattle.atomic_table.specs.Table.{Me, Step}
@@ -79,6 +79,7 @@ view_entered f tag p end v = record v {
   links = slice_set v.links f (entered_link p (link v f));
   calls = v.calls ++ Write v.number tag p end ∷ [];
   front = end;
+  end_seen = max v.end_seen end;
   log = record v.log { appended = None; end = Some end };
   steps = v.steps + 1;
 }

@@ -148,7 +148,7 @@ impl<L: BlockLane, G: LogDevice> FrameTable<L, G> {
         ensures seat { SameSeat seat.old seat.new }
         ensures touches { Touches right.frame seat.old.me.0 seat.new.me.0 }
         ensures marks { MarksEnded (unlocked_fields (io_ended_fields end (fields word))) seat.old.me.0 seat.new.me.0 }
-        ensures finished { link seat.new.me.0 right.frame ≡ finished_link (link seat.old.me.0 right.frame) }
+        ensures finished { link seat.new.me.0 right.frame ≡ finished_link end (link seat.old.me.0 right.frame) }
         ensures did { Did (pages (kinds.end_io end)) right.frame seat.old.me.0 seat.new.me.0 word }
     {
         let IoRight { frame, input: _ } = right;
