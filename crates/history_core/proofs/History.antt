@@ -1,14 +1,14 @@
 -- When all backends but the first have ended, its calls are a history of the log.
-use Rattle.std.proofs.Common.{◌≡◌, ◌≢◌, ℕ, List, [], length, sym, ap, ◌∙◌}
+use Rattle.std.proofs.Common.{◌≡◌, ℕ, sym, ap, ◌∙◌}
 use mathlib.Core.Option.{some}
 use lib.ListN.{get_elem?}
 use Rattle.pin_core.specs.declared.view.Call.{Call}
 use Rattle.pin_core.specs.declared.view.View.{View}
-use Rattle.history_core.specs.Log.{Entry, end_of, write_weight, weight_at, writes_in, writes_at}
+use Rattle.history_core.specs.Log.{end_of, write_weight, weight_at}
 use Rattle.history_core.specs.State.{State}
 use Rattle.history_core.specs.Invariant.{Invariant}
 use Rattle.history_core.specs.Spent.{SpentLaw}
-use Rattle.history_core.specs.History.{IsHistory, OthersEnded, EndsInHistory}
+use Rattle.history_core.specs.History.{OthersEnded, EndsInHistory}
 use Rattle.history_core.proofs.Calls.{no_total}
 use Rattle.grid.specs.Shape.{total}
 use Rattle.grid.proofs.Sums.{total-alone}

@@ -20,6 +20,9 @@ pub mod Rest
 pub mod Sample
 pub mod Miss
 pub mod Put
+pub mod Faults
+pub mod Checkpoints
+pub mod Evictions
 pub mod Staying
 pub mod KeptFlushed
 pub mod Histories

@@ -25,7 +25,7 @@ use Rattle.history_core.specs.Lanes.{LaneKind, take_lane, leave_lane, lane_out, 
 use Rattle.history_core.specs.Steps.{Event, aside, pool_after, stepped, looked, laned, has_read, pools, lanes, notes, reads, Run, rests, goes}
 use Rattle.history_core.specs.Steps as steps
 use Rattle.history_core.specs.Sample.{sample_lane}
-use Rattle.history_core.specs.Miss.{miss_start, miss, fill, MissRuns}
+use Rattle.history_core.specs.Miss.{miss_start, miss, begin_input, fill, MissRuns}
 use Rattle.grid.specs.Shape.{put}
 
 abbrev pub view_of : State → View
@@ -34,7 +34,7 @@ view_of s = slice_index_or s.pool.core.views 0 emptied_view
 abbrev pub pooled : pins.Kind → State → State
 pooled k s = record s { pool = record s.pool { core = pin_steps.state_after k s.pool.core 0 0 (view_of s) } }
 
-abbrev turned : TurnKind → State → State
+abbrev pub turned : TurnKind → State → State
 turned k s = record s { pool = record s.pool { core = pin_steps.state_turned k s.pool.core 0 0 (view_of s) } }
 
 abbrev pub paged : Kind → State → State
@@ -82,13 +82,13 @@ m10 = turned leave_turn m9
 abbrev m11 : State
 m11 = pooled pins.lock_header m10
 
-abbrev m12 : State
+abbrev pub m12 : State
 m12 = paged start_input m11
 
-abbrev m13 : State
+abbrev pub m13 : State
 m13 = at_lane take_lane m12
 
-abbrev m14 : State
+abbrev pub m14 : State
 m14 = at_lane (lane_out sample_lane) m13
 
 abbrev m15 : State
@@ -112,14 +112,11 @@ m20 = paged page_back m19
 abbrev m21 : State
 m21 = pooled pins.lock_header m20
 
-abbrev m22 : State
+abbrev pub m22 : State
 m22 = paged (end_io ReadOk) m21
 
-abbrev pub m23 : State
-m23 = pooled pins.load_state m22
-
 abbrev m24 : State
-m24 = paged share m23
+m24 = paged share m22
 
 abbrev m25 : State
 m25 = paged take_copy m24
@@ -153,9 +150,9 @@ pub run_append : {es fs : List Event} {s t u : State} → Run es s t → Run fs 
 run_append rests r = r
 run_append (goes x r) q = goes x (run_append r q)
 
--- the block's page is in the frame
-pub filled : Run (miss ++ fill) miss_start m23
-filled = goes (pools (page_steps.cores (pin_steps.turns 0 0 take_turn (view_of m0) refl refl (lit< tt) (record { free = refl }))) tt)
+-- the frame is given to the block, and its input begins
+pub begun : Run (miss ++ begin_input) miss_start m12
+begun = goes (pools (page_steps.cores (pin_steps.turns 0 0 take_turn (view_of m0) refl refl (lit< tt) (record { free = refl }))) tt)
     (goes (pools (page_steps.cores (pin_steps.touches 0 0 pins.lock_header (view_of m1) refl refl (lit< tt) (record { unlocked = refl }) (at_frame (λ (l : Link). l.header ≡ None) (view_of m1) _ refl refl refl))) tt)
     (goes (pools (page_steps.cores (pin_steps.touches 0 0 pins.pin_victim (view_of m2) refl refl (lit< tt) (record { held = refl; absent = refl; room = λ e. refl }) (at_frame (λ (l : Link). l.role ≢ Victim) (view_of m2) _ refl (λ e. cc) (λ e. cc)))) tt)
     (goes (pools (page_steps.cores (pin_steps.touches 0 0 pins.lock_header (view_of m3) refl refl (lit< tt) (record { unlocked = refl }) (at_frame (λ (l : Link). l.header ≡ None) (view_of m3) _ refl refl refl))) tt)
@@ -167,7 +164,11 @@ filled = goes (pools (page_steps.cores (pin_steps.turns 0 0 take_turn (view_of m
     (goes (pools (page_steps.cores (pin_steps.turns 0 0 leave_turn (view_of m9) refl refl (lit< tt) (record { held = refl; home = refl; settled = refl }))) tt)
     (goes (pools (page_steps.cores (pin_steps.touches 0 0 pins.lock_header (view_of m10) refl refl (lit< tt) (record { unlocked = refl }) (at_frame (λ (l : Link). l.header ≡ None) (view_of m10) _ refl refl refl))) tt)
     (goes (pools (page_steps.touches 0 0 start_input (view_of m11) refl refl (lit< tt) (record { held = refl; settled = refl; pinned = λ e. cc; clear = refl; tagged = refl; invalid = refl }) (at_frame (λ (l : Link). l.io ≡ Quiet) (view_of m11) _ refl refl refl)) tt)
-    (goes (lanes 0 0 take_lane (view_of m12) refl refl (lit< tt) (record { free = refl }) tt)
+    rests)))))))))))
+
+-- the block's page is in the frame
+pub filled : Run (miss ++ fill) miss_start m22
+filled = run_append begun (goes (lanes 0 0 take_lane (view_of m12) refl refl (lit< tt) (record { free = refl }) tt)
     (goes (lanes 0 0 (lane_out sample_lane) (view_of m13) refl refl (lit< tt) goes_out tt)
     (goes (lanes 0 0 (read_block 7 sample_page) (view_of m14) refl refl (lit< tt) (record { call = record { out = λ e. cc; once = refl }; given = λ e. refl }) refl)
     (goes (notes 0 0 0 false (note_read sample_page) (view_of m15) refl refl (lit< tt) (lit< tt) (record { out = λ e. cc; counts = λ taken e. record { failed = λ z. absurd (cc); all = λ z. absurd (cc); read_rose = λ z. below taken.read_faults z; write_rose = λ z. below taken.write_faults z } }) (record { was_read = refl; lane = refl; right = refl; fresh = refl }))
@@ -177,13 +178,12 @@ filled = goes (pools (page_steps.cores (pin_steps.turns 0 0 take_turn (view_of m
     (goes (pools (page_steps.touches 0 0 page_back (view_of m19) refl refl (lit< tt) (record { out = λ e. cc }) tt) tt)
     (goes (pools (page_steps.cores (pin_steps.touches 0 0 pins.lock_header (view_of m20) refl refl (lit< tt) (record { unlocked = refl }) (at_frame (λ (l : Link). l.header ≡ None) (view_of m20) _ refl refl refl))) tt)
     (goes (pools (page_steps.touches 0 0 (end_io ReadOk) (view_of m21) refl refl (lit< tt) (record { held = refl; page_home = λ e. refl; ends = record { right = refl; read = λ e. cc; sound = sound_read; home = refl } }) no_write) tt)
-    (goes (pools (page_steps.cores (pin_steps.touches 0 0 pins.load_state (view_of m22) refl refl (lit< tt) tt tt)) tt)
-    rests))))))))))))))))))))))
+    rests))))))))))
 
 pub misses : MissRuns
 misses = (
   record m28 { pool = aside m28.pool 0 (looked (seen.LogEnd m28.end) (has_read m28.end 7 sample_page (view_of m28))) },
-  run_append filled (goes (pools (page_steps.touches 0 0 share (view_of m23) refl refl (lit< tt) (record { pinned = λ e. cc; seen = refl; none = refl; free = refl }) tt) tt)
+  run_append filled (goes (pools (page_steps.touches 0 0 share (view_of m22) refl refl (lit< tt) (record { pinned = λ e. cc; seen = refl; none = refl; free = refl }) tt) tt)
       (goes (pools (page_steps.touches 0 0 take_copy (view_of m24) refl refl (lit< tt) (record { right = refl; free = refl }) tt) tt)
       (goes (pools (page_steps.touches 0 0 page_out (view_of m25) refl refl (lit< tt) (record { page_home = refl; shared = λ e. refl; unlocked = λ e. absurd (cc) }) tt) tt)
       (goes (pools (page_steps.touches 0 0 page_back (view_of m26) refl refl (lit< tt) (record { out = λ e. cc }) tt) tt)

@@ -53,17 +53,17 @@ module _ (s : State) (h : Invariant s) (d : DebtsLaw s) where
     kept = λ i k v c there at ended. all_stored c.upto (has_passed c) (has_listed c) (λ f below. (d.each i v there).kept k f c at below) ended;
   }
 
-  -- what is durable in its lane is in it, or the block's last write failed
+  -- what a sync has covered is in its lane, or the block's last write failed
   pub sweeps : SweptLaw s → SweepsStore s
-  sweeps m i upto v there low = let durable = all_synced (⊎_elim
+  sweeps m i upto v there low = let covered = all_synced (⊎_elim
       (λ (x : (n : ℕ) → n < s.lanes → upto ≤ (lane_hold v n).swept). λ n below. ((lane_hold v n).swept, x n below, (m.each i v there).own n))
       (λ (x : (k : ℕ) × (c : Checkpoint) × (get_elem? v.kept k ≡ some c) × ((n : ℕ) → n < s.lanes → upto ≤ has_swept c n)). λ n below. (has_swept x.1 n, x.3 n below, (m.each i v there).kept x.0 n x.1 x.2)) low) in (
-        durable,
-        λ k e at upto. let x = durable k e at upto in let y = m.below (s.lane_of e.tag) e.tag in either (failed s e.tag) (λ bad. inr (unwritten e (d.named k e at) bad)) (λ ok. inl (in_lane k e at ok (omega arith))),
+        covered,
+        λ k e at upto. let x = covered k e at upto in let y = m.below (s.lane_of e.tag) e.tag in either (failed s e.tag) (λ bad. inr (unwritten e (d.named k e at) bad)) (λ ok. inl (in_lane k e at ok (omega arith))),
       )
     where
       all_synced : ((n : ℕ) → n < s.lanes → (p : ℕ) × (upto ≤ p) × IsSwept s n p) → AreSynced s upto
-      all_synced h2 k e at low = let x = h2 (s.lane_of e.tag) (h.placed e.tag) in let y = x.1 in x.2.durable k e at refl (omega arith)
+      all_synced h2 k e at low = let x = h2 (s.lane_of e.tag) (h.placed e.tag) in let y = x.1 in x.2.covered k e at refl (omega arith)
 
 -- the load is of a frame that is there
 pub grants_alone : (s : State) → Invariant s → GrantsAreAlone s

@@ -26,13 +26,13 @@ use Rattle.history_core.specs.Sample.{sample_store, sample_lane, sample_log}
 use Rattle.history_core.specs.Miss.{miss_start, miss, fill}
 use Rattle.history_core.specs.Put.{IsPut, HasPut, some_page, put_entry, put_bytes, log_with, change, flush, write_out, PutRuns}
 use Rattle.history_core.proofs.Logs.{record_length}
-use Rattle.history_core.proofs.Miss.{view_of, pooled, paged, at_lane, noted, m23, filled, run_append, below, lane_one}
+use Rattle.history_core.proofs.Miss.{view_of, pooled, paged, at_lane, noted, m22, filled, run_append, below, lane_one}
 use Rattle.grid.specs.Shape.{put}
 
 has_room : 0 + record_size ≤ last_position
 has_room = omega arith
 
-is_flushed : (p : Page) → IsPut p → lsn_of p ≤ record_size
+pub is_flushed : (p : Page) → IsPut p → lsn_of p ≤ record_size
 is_flushed p is = omega (arith, is.ends)
 
 abbrev at_log : LogKind → State → State
@@ -51,11 +51,11 @@ raised s = record s { pool = aside s.pool 0 (has_raised s.end (view_of s)); flus
 abbrev loaded : State → State
 loaded s = record s { pool = aside s.pool 0 (looked (seen.Flushed s.flushed) (record (view_of s) { flushed = s.flushed })) }
 
-abbrev written : Page → State → State
+abbrev pub written : Page → State → State
 written p s = record s { pool = pool_after begin_write s.pool 0 0 (laned (write_block 0 7 p) 0 (view_of s) (steps.paged begin_write s.pool 0 (view_of s))); lane = put s.lane 0 (lane_after (write_block 0 7 p) (s.lane 0)) }
 
 abbrev q1 : Page → State
-q1 p = paged exclude m23
+q1 p = paged exclude m22
 
 abbrev q2 : Page → State
 q2 p = paged mark_dirty (q1 p)
@@ -108,7 +108,7 @@ q17 p = raised (q16 p)
 abbrev q18 : Page → State
 q18 p = at_log leave_log (q17 p)
 
-abbrev q19 : Page → State
+abbrev pub q19 : Page → State
 q19 p = loaded (q18 p)
 
 abbrev q20 : Page → State
@@ -159,8 +159,8 @@ none_out p n out = absurd (out (lane_one (view_of (q30 p)).lanes _ refl refl n))
 may_log : (p : Page) → IsPut p → CanLog (q4 p) 0 7 p (view_of (q4 p))
 may_log p is = record { inside = lit< tt; tagged = refl; right = record { right = refl; dirtied = refl; settled = refl; sound = is.sound; used = is.used }; around = at_frame (λ (l : Link). l.unapplied ≡ false) (view_of (q4 p)) _ refl refl refl; full = is.full; ends = is.ends; room = has_room }
 
-changes : (p : Page) → IsPut p → Run (change p) m23 (q12 p)
-changes p is = goes (pools (page_steps.touches 0 0 exclude (view_of m23) refl refl (lit< tt) (record { pinned = λ e. cc; seen = refl; none = refl; free = refl; alone = refl; no_copy = refl }) tt) tt)
+pub changes : (p : Page) → IsPut p → Run (change p) m22 (q12 p)
+changes p is = goes (pools (page_steps.touches 0 0 exclude (view_of m22) refl refl (lit< tt) (record { pinned = λ e. cc; seen = refl; none = refl; free = refl; alone = refl; no_copy = refl }) tt) tt)
     (goes (pools (page_steps.touches 0 0 mark_dirty (view_of (q1 p)) refl refl (lit< tt) (record { unlocked = refl; right = refl }) tt) tt)
     (goes (logs 0 take_log (view_of (q2 p)) refl refl (record { free = refl }) tt)
     (goes (logs 0 (log_out sample_log) (view_of (q3 p)) refl refl (record { held = refl; home = refl; faults = refl; synced = refl; down = refl; bytes = λ bytes e. sym (same_Some (head_bytes 0) bytes e) }) tt)
@@ -174,7 +174,7 @@ changes p is = goes (pools (page_steps.touches 0 0 exclude (view_of m23) refl re
     (goes (pools (page_steps.touches 0 0 unexclude (view_of (q11 p)) refl refl (lit< tt) (record { right = refl; settled = refl; page_home = refl }) tt) tt)
     rests)))))))))))
 
-flushes : (p : Page) → IsPut p → Run (flush p) (q12 p) (q19 p)
+pub flushes : (p : Page) → IsPut p → Run (flush p) (q12 p) (q19 p)
 flushes p is = goes (logs 0 take_log (view_of (q12 p)) refl refl (record { free = refl }) tt)
     (goes (logs 0 (log_out (log_with p)) (view_of (q13 p)) refl refl (record { held = refl; home = refl; faults = refl; synced = refl; down = refl; bytes = λ bytes e. sym (same_Some (head_bytes 0 ++ put_bytes p) bytes e) }) tt)
     (goes (logs 0 sync_log (view_of (q14 p)) refl refl (record { out = λ e. cc; once = refl; up = refl }) tt)

@@ -19,18 +19,19 @@ use Rattle.page_core.specs.Steps as page_steps
 use Rattle.page_core.specs.Kinds.{begin_write, make_entry}
 use Rattle.page_core.specs.Tallies.{unapplied_locks, weigh}
 use Rattle.page_core.proofs.Waits.{some_term}
-use Rattle.history_core.specs.Log.{Entry, record_size, cell, tag_of}
+use Rattle.history_core.specs.Log.{Entry, record_size, cell, cut, tag_of}
 use Rattle.history_core.specs.Lanes.{lane_back}
 use Rattle.history_core.specs.Device.{view_logged}
 use Rattle.history_core.specs.State.{State, Store, opening}
 use Rattle.history_core.specs.Invariant.{Invariant}
 use Rattle.history_core.specs.Histories.{IsStored}
-use Rattle.history_core.specs.Sound.{WasSound, SoundLaw, ShowsSound, IsUntouched, UnsoundStay}
+use Rattle.history_core.specs.Sound.{WasSound, SoundLaw, ShowsSound, UnsoundStay, UnsoundAreFirst}
 use Rattle.history_core.specs.Steps.{Event, new_entry, stepped, ticked, looked, pool_noting, paged, laned, has_loaded, has_begun, has_read, has_written, has_raised, Step, pools, lanes, writes, notes, logs, enters, reads, loads_end, begins, loads_flushed, raises, adds_hand, loads_hand}
 use Rattle.history_core.proofs.Calls.{at_both}
 use Rattle.history_core.proofs.Histories.{clean_stored}
+use Rattle.history_core.proofs.Logs.{cut_in, cut_out, in_or_out}
 use Rattle.grid.specs.Shape.{put, total}
-use Rattle.grid.proofs.Lists.{at_set, at_end, at_only, put_else}
+use Rattle.grid.proofs.Lists.{at_set, at_end, at_only, put_at, put_else}
 
 -- the page of a block that has no entry
 pub cell_absent : (origin : ℕ → Page) (es : List Entry) (tag : ℕ) → ((k : ℕ) (e : Entry) → get_elem? es k ≡ some e → e.tag ≢ tag) → cell origin es tag ≡ origin tag
@@ -160,3 +161,33 @@ stay_untouched s h m tag named known unsound = record { unentered = none; is_cel
 
     stored_is : IsStored s tag
     stored_is = clean_stored s h tag named clean
+
+-- an entry that is in a cut
+at_first_or : (l m : List Entry) (d e : Entry) (n : ℕ) → get_elem? (d ∷ l) n ≡ some e → ((k : ℕ) → get_elem? l k ≡ some e → (j : ℕ) × (get_elem? m j ≡ some e)) → (j : ℕ) × (get_elem? (d ∷ m) j ≡ some e)
+at_first_or l m d e zero here more = (0, here)
+at_first_or l m d e (suc n) here more = let x = more n here in (suc x.0, x.1)
+
+from_cut : (p : ℕ) (es : List Entry) (k : ℕ) (e : Entry) → get_elem? (cut p es) k ≡ some e → (j : ℕ) × (get_elem? es j ≡ some e)
+unfolding cut
+from_cut p [] k e at = (k, at)
+from_cut p (d ∷ es) k e at = in_or_out p d
+    (λ low. at_first_or (cut p es) es d e k (subst (λ (l : List Entry). get_elem? l k ≡ some e) (cut_in p d es low) at) (λ n here. from_cut p es n e here))
+    (λ high. let x = from_cut p es k e (subst (λ (l : List Entry). get_elem? l k ≡ some e) (cut_out p d es high) at) in (suc x.0, x.1))
+
+-- a cell that isn't sound, where all images are
+cell_first : (origin : ℕ → Page) (es : List Entry) (tag : ℕ) → ((k : ℕ) (e : Entry) → get_elem? es k ≡ some e → is_sound_page e.image ≡ true) → is_sound_page (cell origin es tag) ≡ false → cell origin es tag ≡ origin tag
+unfolding cell
+cell_first origin [] tag images unsound = refl
+cell_first origin (e ∷ es) tag images unsound = let before = put origin e.tag e.image in let x = cell_first before es tag (λ k d at. images (suc k) d at) unsound in dite (ℕ_discrete tag e.tag)
+    (λ is. absurd (not_both (ap is_sound_page (x ∙ put_at origin e.tag e.image tag is) ∙ images 0 e refl) unsound))
+    (λ other. x ∙ put_else origin e.tag e.image tag other)
+
+pub unsound_first : (s : State) → Invariant s → UnsoundAreFirst s
+unsound_first s h = record {
+  cells = λ tag place. cell_first s.origin (cut place s.log.entries) tag (λ k e at. let x = from_cut place s.log.entries k e at in (h.log.images x.0 e x.1).sound);
+  last_cells = last_cells;
+  reads = λ i f v p there below is unsound known. let tag = (s.pool.core.frame f).tag in let x : cell s.origin s.log.entries tag ≡ p = ((h.pool.pages.cells i v f there below).read p is).is_logged (cell s.origin s.log.entries tag) (h.logged tag known) in sym x ∙ last_cells tag (ap is_sound_page x ∙ unsound);
+}
+  where
+    last_cells : (tag : ℕ) → is_sound_page (cell s.origin s.log.entries tag) ≡ false → cell s.origin s.log.entries tag ≡ s.origin tag
+    last_cells tag = cell_first s.origin s.log.entries tag (λ k e at. (h.log.images k e at).sound)

@@ -1,5 +1,5 @@
--- Each step keeps what backends have made durable in the lanes.
-use Rattle.std.proofs.Common.{◌≡◌, ◌≢◌, ◌⊎◌, ℕ, zero, suc, ◌+◌, ◌<◌, ◌≤◌, Bool, true, false, cond, List, [], ◌∷◌, length, map, set, slice_index_or, get_or-set_same, get_or-set_other, sym, refl, ap, ◌∙◌, subst, inl, inr, ⊎_elim, arith}
+-- Each step keeps what the lanes' syncs have covered.
+use Rattle.std.proofs.Common.{◌≡◌, ◌≢◌, ◌⊎◌, ℕ, zero, suc, ◌+◌, ◌<◌, ◌≤◌, Bool, true, false, cond, List, [], ◌∷◌, length, set, slice_index_or, get_or-set_same, get_or-set_other, sym, refl, ap, ◌∙◌, subst, inl, inr, ⊎_elim, arith}
 use Rattle.std.specs.Prelude.{max, not, ◌&&◌}
 use Rattle.std.proofs.lemmas.Bool.{cases_lt}
 use mathlib.Core.Logic.{dite}
@@ -57,7 +57,7 @@ ended_at (x ∷ l) e (suc f) low = ended_at l (third x.passed x.listed (all_ende
     third false false c e = absurd (cc)
     third false true c e = absurd (cc)
 
--- What a step does to what is durable: nothing goes, and a new entry ends behind the log's end
+-- What a step does to what is covered: nothing goes, and a new entry ends behind the log's end
 record Later (s t : State) : Type 0 where
   lane_of : t.lane_of ≡ s.lane_of
   end : s.end ≤ t.end
@@ -68,8 +68,8 @@ module _ {s t : State} (l : Later s t) where
   swept_later : (n upto : ℕ) → IsSwept s n upto → IsSwept t n upto
   swept_later n upto h = record {
     within = (let x = h.within in let y = l.end in omega arith);
-    durable = λ k e at lane low. ⊎_elim
-        (λ (z : get_elem? s.log.entries k ≡ some e). let x = h.durable k e z (sym (λ j. l.lane_of j e.tag) ∙ lane) low in let y = l.synced e.tag in omega arith)
+    covered = λ k e at lane low. ⊎_elim
+        (λ (z : get_elem? s.log.entries k ≡ some e). let x = h.covered k e z (sym (λ j. l.lane_of j e.tag) ∙ lane) low in let y = l.synced e.tag in omega arith)
         (λ (z : s.end < end_of e). absurd (let x = h.within in omega arith))
         (l.entries k e at);
   }
@@ -84,15 +84,15 @@ module _ {s t : State} (l : Later s t) where
   each_set : (views : List View) → ((i : ℕ) (v : View) → get_elem? views i ≡ some v → ViewSwept s v) → (i : ℕ) (w : View) → ViewSwept t w → (j : ℕ) (u : View) → get_elem? (set views i w) j ≡ some u → ViewSwept t u
   each_set views h i w x j u at = ⊎_elim (λ (y : (j ≡ i) × (w ≡ u)). subst (ViewSwept t) y.1 x) (λ (y : (j ≢ i) × (get_elem? views j ≡ some u)). view_later u u refl refl (h j u y.1)) (at_set views i j w u at)
 
--- nothing is durable up to 0
+-- nothing is covered up to 0
 swept_zero : (s : State) (n upto : ℕ) → upto ≡ 0 → IsSwept s n upto
-swept_zero s n upto z = record { within = omega arith; durable = λ k e at lane low. absurd (omega arith) }
+swept_zero s n upto z = record { within = omega arith; covered = λ k e at lane low. absurd (omega arith) }
 
 -- a view without a lane
 none_swept : (s : State) (w : View) → ((n : ℕ) → (lane_hold w n).swept ≡ 0) → w.kept ≡ [] → ViewSwept s w
 none_swept s w none kept = record { own = λ n. swept_zero s n (lane_hold w n).swept (none n); kept = λ k n c at. absurd (some-ne-none c (sym (subst (λ (y : List Checkpoint). get_elem? y k ≡ some c) kept at))) }
 
--- what a kind at a lane does to what is durable in it
+-- what a kind at a lane does to what is covered in it
 lane_below : (k : LaneKind) (ln : Lane) → ((tag : ℕ) → ln.synced_upto tag ≤ ln.stored_upto tag) → (tag : ℕ) → (lane_after k ln).synced_upto tag ≤ (lane_after k ln).stored_upto tag
 lane_below (lane_kinds.write_block f z p) ln low tag = dite (ℕ_discrete tag z)
     (λ e. let x = put_at ln.stored_upto z (max (ln.stored_upto z) (lsn_of p)) tag e in let y = low tag in let same = ap ln.stored_upto e in omega arith)
@@ -163,11 +163,11 @@ module _ (s : State) (h : Invariant s) (d : DebtsLaw s) (m : SweptLaw s) where
   hold_swept : (i q : ℕ) (k : LaneKind) (v : View) (t : State) → get_elem? s.pool.core.views i ≡ some v → v.emptied ≡ false → t.lane_of ≡ s.lane_of → t.end ≡ s.end → t.log.entries ≡ s.log.entries → t.lane ≡ put s.lane q (lane_after k (s.lane q)) → IsSwept t q (lane_hold_after k v.flushed (swept_by v) (lane_hold v q)).swept
   hold_swept i q lane_kinds.sync_lane v t there live lane_of end entries lane = let l = lane_later q lane_kinds.sync_lane t lane_of end entries lane in let old = swept_later l q (lane_hold v q).swept ((m.each i v there).own q) in record {
     within = (let x = old.within in let y = swept_within i v there in omega arith);
-    durable = λ k e at is low. ⊎_elim
+    covered = λ k e at is low. ⊎_elim
         (λ (z : (lane_hold v q).swept < end_of e). let was = subst (λ (x : List Entry). get_elem? x k ≡ some e) entries at in let current = all_current i v there live k e was (omega arith) in
         let here : s.lane_of e.tag ≡ q = sym (λ j. lane_of j e.tag) ∙ is in
         let now : synced_upto t e.tag ≡ stored_upto s e.tag = (λ j. (lane j (lane_of j e.tag)).synced_upto e.tag) ∙ ap (λ (x : Lane). x.synced_upto e.tag) (put_at s.lane q (lane_after lane_kinds.sync_lane (s.lane q)) (s.lane_of e.tag) here) ∙ ap (λ (x : ℕ). (s.lane x).stored_upto e.tag) (sym here) in omega arith)
-        (λ (z : end_of e ≤ (lane_hold v q).swept). old.durable k e at is z)
+        (λ (z : end_of e ≤ (lane_hold v q).swept). old.covered k e at is z)
         (cases_lt (lane_hold v q).swept (end_of e));
   }
   hold_swept i q lane_kinds.take_lane v t there live lane_of end entries lane = swept_later (lane_later q lane_kinds.take_lane t lane_of end entries lane) q (lane_hold v q).swept ((m.each i v there).own q)

@@ -293,6 +293,13 @@ next_word frame frame' views i f v w found left m m' there listed was = same_mea
     let y : sum_found g f w.changes ≡ sum_found g f v.changes + g found = ap (sum_found g f) listed ∙ found_both g f v.changes (one f found left) ∙ ap (λ (n : ℕ). sum_found g f v.changes + n) (found_one g f (record { frame = f; found = found; left = left }) ∙ ap (λ (q : Bool). cond q (g found) 0) t) in
     let z = ap g was in omega arith)
 
+-- and the other frames have theirs
+pub other_word : (frame frame' : ℕ → Frame) (views : List View) (i f : ℕ) (v w : View) (c : WordChange) → Follows frame views → Follows frame' (set views i w) → get_elem? views i ≡ some v → w.changes ≡ v.changes ++ c ∷ [] → f ≢ c.frame → (frame' f).word ≡ (frame f).word
+other_word frame frame' views i f v w c m m' there listed other = same_measures (frame' f).word (frame f).word (λ g. let a = total-set (λ (x : View). sum_left g f x.changes) views i v w there in let b = total-set (λ (x : View). sum_found g f x.changes) views i v w there in let p = m g f in let q = m' g f in
+    let t = ne_eqb f c.frame other in
+    let x : sum_left g f w.changes ≡ sum_left g f v.changes + 0 = ap (sum_left g f) listed ∙ left_both g f v.changes (c ∷ []) ∙ ap (λ (n : ℕ). sum_left g f v.changes + n) (left_one g f c ∙ ap (λ (y : Bool). cond y (g c.left) 0) t) in
+    let z : sum_found g f w.changes ≡ sum_found g f v.changes + 0 = ap (sum_found g f) listed ∙ found_both g f v.changes (c ∷ []) ∙ ap (λ (n : ℕ). sum_found g f v.changes + n) (found_one g f c ∙ ap (λ (y : Bool). cond y (g c.found) 0) t) in omega arith)
+
 -- where one view counts one move more, the hand has moved on
 pub next_tick : (hand hand' : ℕ) (views : List View) (i : ℕ) (v w : View) → hand ≡ Ticks views % 18446744073709551616 → hand' ≡ Ticks (set views i w) % 18446744073709551616 → get_elem? views i ≡ some v → w.ticks ≡ v.ticks + 1 → hand' ≡ next_hand hand
 next_tick hand hand' views i v w e e' there more = e' ∙ ap (λ (n : ℕ). n % 18446744073709551616) (let a = total-set (λ (y : View). y.ticks) views i v w there in omega arith) ∙ sym (hand_on (Ticks views)) ∙ ap next_hand (sym e)
@@ -309,6 +316,7 @@ pub listed_made : (s t : State) → TrailLaw s → TrailLaw t → ListedIsMade s
 listed_made s t a b i v w there views = let words : Follows t.pool.core.frame (set s.pool.core.views i w) = subst (Follows t.pool.core.frame) views b.words in let hand : t.hand ≡ Ticks (set s.pool.core.views i w) % 18446744073709551616 = b.hand ∙ ap (λ (l : List View). Ticks l % 18446744073709551616) views in record {
   still = λ same. words_fixed t.pool.core.frame s.pool.core.frame (set s.pool.core.views i w) words (rests_aside s.pool.core.frame s.pool.core.views a.words i v w there same);
   changed = λ f c listed at was. next_word s.pool.core.frame t.pool.core.frame s.pool.core.views i f v w c.found c.left a.words words there (listed ∙ ap (λ (g : ℕ). v.changes ++ record c { frame = g } ∷ []) at) was;
+  others = λ f c listed other. other_word s.pool.core.frame t.pool.core.frame s.pool.core.views i f v w c a.words words there listed other;
   unmoved = λ same. hand ∙ ap (λ (n : ℕ). n % 18446744073709551616) (same_ticks s.pool.core.views i v w there same) ∙ sym a.hand;
   moved = λ more. next_tick s.hand t.hand s.pool.core.views i v w a.hand hand there more;
   raised = λ more. highest_is t.flushed (max s.flushed w.raised_to) (set s.pool.core.views i w) (subst (IsHighest t.flushed) views b.flushed) (highest_set s.flushed s.pool.core.views a.flushed i v w there more);

@@ -86,10 +86,9 @@ pub record CanReadBlock (tag : ℕ) (page : Page) (ln : Lane) (h : LaneHold) : T
   pub call : CanCall ln h
   pub given : ln.known ≡ true → ln.stored tag ≡ page
 
--- a fault is counted only for a call that failed, and is where its count rose
+-- A fault is counted only for a call that failed; it is for each write or sync that failed, also where the count stands at its last value, and where a count rose
 pub record CountsFault (noted : Bool) (taken : TakenLane) (ln : Lane) (change : LaneChange) : Type 0 where
   pub failed : noted ≡ true → (is_failed_read change || is_failed_write change) ≡ true
-  -- each write or sync that failed is counted
   pub all : is_failed_write change ≡ true → noted ≡ true
   pub read_rose : taken.read_faults < ln.read_faults → noted ≡ true
   pub write_rose : taken.write_faults < ln.write_faults → noted ≡ true

@@ -36,5 +36,5 @@ pub record Laws (s : State) : Type 0 where
   pub ends : EndsLaw s
   -- of the state words, the hand and the flushed position, which the views fix
   pub trail : TrailLaw s
-  -- of what backends have made durable in the lanes
+  -- of what the lanes' syncs have covered
   pub swept : SweptLaw s

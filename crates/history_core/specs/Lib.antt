@@ -13,6 +13,9 @@ pub mod Histories
 pub mod Sample
 pub mod Miss
 pub mod Put
+pub mod Faults
+pub mod Checkpoints
+pub mod Evictions
 pub mod Spent
 pub mod Ends
 pub mod Sound

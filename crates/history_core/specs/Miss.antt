@@ -35,9 +35,13 @@ page k = steps.pool (page_steps.at 0 0 k)
 abbrev pub miss : List Event
 miss = turn take_turn ∷ pool pins.lock_header ∷ pool pins.pin_victim ∷ pool pins.lock_header ∷ pool (pins.store_tag 7) ∷ pool pins.assign ∷ turn (map_out []) ∷ turn change_map ∷ turn (map_back (sample_entry ∷ [])) ∷ turn leave_turn ∷ []
 
+-- input of the block begins
+abbrev pub begin_input : List Event
+begin_input = pool pins.lock_header ∷ page start_input ∷ []
+
 -- the block is read from its lane, and its page put into the frame
 abbrev pub fill : List Event
-fill = pool pins.lock_header ∷ page start_input ∷ steps.lane 0 0 take_lane ∷ steps.lane 0 0 (lane_out sample_lane) ∷ steps.lane 0 0 (read_block 7 sample_page) ∷ steps.note 0 0 0 (lane_back false) (note_read sample_page) ∷ steps.lane 0 0 leave_lane ∷ page page_out ∷ page (overwrite_read sample_page) ∷ page page_back ∷ pool pins.lock_header ∷ page (end_io ReadOk) ∷ pool pins.load_state ∷ []
+fill = begin_input ++ steps.lane 0 0 take_lane ∷ steps.lane 0 0 (lane_out sample_lane) ∷ steps.lane 0 0 (read_block 7 sample_page) ∷ steps.note 0 0 0 (lane_back false) (note_read sample_page) ∷ steps.lane 0 0 leave_lane ∷ page page_out ∷ page (overwrite_read sample_page) ∷ page page_back ∷ pool pins.lock_header ∷ page (end_io ReadOk) ∷ []
 
 -- the page is copied under the shared content lock, and the read gets its place
 abbrev pub copy : List Event

@@ -54,7 +54,7 @@ pub record IsUnwritten (s : State) (e : Entry) : Type 0 where
 abbrev pub AreStored : State → ℕ → Type 0
 AreStored s upto = (k : ℕ) (e : Entry) → get_elem? s.log.entries k ≡ some e → end_of e ≤ upto → IsInLane s e ⊎ IsUnwritten s e
 
--- up to the position `upto` all entries are durable in the lanes
+-- the lanes' syncs have covered all entries up to the position `upto`
 abbrev pub AreSynced : State → ℕ → Type 0
 AreSynced s upto = (k : ℕ) (e : Entry) → get_elem? s.log.entries k ≡ some e → end_of e ≤ upto → end_of e ≤ synced_upto s e.tag
 

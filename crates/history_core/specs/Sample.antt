@@ -9,9 +9,9 @@ use Rattle.history_core.specs.Lanes.{take_lane, leave_lane, lane_out, read_block
 use Rattle.history_core.specs.Device.{take_log, leave_log, log_out, sync_log, log_back}
 use Rattle.history_core.specs.Steps.{Event, lane, log, load_end, load_flushed, raise_flushed, Run}
 
--- one frame, one partition, one lane, one backend
+-- one frame, one partition, one lane, and room for two backends
 abbrev pub sample_config : Config
-sample_config = record { frames = 1; partitions = 1; partition_of = λ _. 0; is_block = λ _. true; lanes = 1; backends = 1; base = 0 }
+sample_config = record { frames = 1; partitions = 1; partition_of = λ _. 0; is_block = λ _. true; lanes = 1; backends = 2; base = 0 }
 
 -- the lane holds a page of three bytes for each block; nothing of the log's head is durable
 abbrev pub sample_page : Page

@@ -5,8 +5,8 @@ use lib.ListN.{get_elem?}
 use Rattle.page_layout.specs.Soundness.{is_sound_page}
 use Rattle.pin_core.specs.declared.view.Call.{Call}
 use Rattle.pin_core.specs.declared.view.View.{View}
-use Rattle.pin_core.specs.State.{no_tag, link}
-use Rattle.history_core.specs.Log.{Entry, cell, tag_of}
+use Rattle.pin_core.specs.State.{Page, no_tag, link}
+use Rattle.history_core.specs.Log.{Entry, cell, cut, tag_of}
 use Rattle.history_core.specs.State.{State, stored, failed}
 
 -- the page that the block's lane held at the start is sound, if the lane's contents are known
@@ -41,3 +41,11 @@ pub record IsUntouched (s : State) (tag : ℕ) : Type 0 where
 -- so is each block whose page was not sound, where the contents of its lane are known
 abbrev pub UnsoundStay : State → Type 0
 UnsoundStay s = (tag : ℕ) → tag ≢ no_tag → s.known tag ≡ true → is_sound_page (s.origin tag) ≡ false → IsUntouched s tag
+
+-- Where a page isn't sound it is the one that the block's lane held at the start
+pub record UnsoundAreFirst (s : State) : Type 0 where
+  -- a block's page after the entries up to a place, and after all entries
+  pub cells : (tag place : ℕ) → is_sound_page (cell s.origin (cut place s.log.entries) tag) ≡ false → cell s.origin (cut place s.log.entries) tag ≡ s.origin tag
+  pub last_cells : (tag : ℕ) → is_sound_page (cell s.origin s.log.entries tag) ≡ false → cell s.origin s.log.entries tag ≡ s.origin tag
+  -- a page that the lane gave under an input right that a backend has still, where the lane's contents are known
+  pub reads : (i f : ℕ) (v : View) (p : Page) → get_elem? s.pool.core.views i ≡ some v → f < s.pool.core.frames → (link v f).read ≡ Some p → is_sound_page p ≡ false → s.known (s.pool.core.frame f).tag ≡ true → p ≡ s.origin (s.pool.core.frame f).tag

@@ -14,7 +14,7 @@ pub record Lane : Type 0 where
   pub stored : ℕ → Page
   -- the position in the log up to which the block's entries are in that page
   pub stored_upto : ℕ → ℕ
-  -- what that position was at the lane's last sync: up to it the block's entries are durable in the lane
+  -- what that position was at the lane's last sync, which covered the block's entries up to there
   pub synced_upto : ℕ → ℕ
   -- the blocks whose last write failed
   pub failed : ℕ → Bool

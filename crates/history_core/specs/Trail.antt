@@ -1,5 +1,5 @@
 -- What the views fix of the shared words. The changes of state words that they list follow on one another, from the word at the start to the word that the frame has; they count the moves of the clock's hand; and they keep to where they raised the flushed position.
-use Rattle.std.specs.Prelude.{◌≡◌, ℕ, ◌+◌, ◌%◌, ◌≤◌, List, [], ◌∷◌, ◌++◌, max, nat_eq, cond, slice_set}
+use Rattle.std.specs.Prelude.{◌≡◌, ◌≢◌, ℕ, ◌+◌, ◌%◌, ◌≤◌, List, [], ◌∷◌, ◌++◌, max, nat_eq, cond, slice_set}
 use mathlib.Core.Option.{some}
 use lib.ListN.{get_elem?}
 use Rattle.state_word.specs.declared.word.StateWord.{StateWord}
@@ -48,6 +48,8 @@ pub record MakesListed (s t : State) (v w : View) : Type 0 where
   pub still : w.changes ≡ v.changes → (f : ℕ) → (t.pool.core.frame f).word ≡ (s.pool.core.frame f).word
   -- where it lists one more, of a frame's word as it was, the frame has the word that was left
   pub changed : (f : ℕ) (c : WordChange) → w.changes ≡ v.changes ++ c ∷ [] → c.frame ≡ f → c.found ≡ (s.pool.core.frame f).word → (t.pool.core.frame f).word ≡ c.left
+  -- and the other frames have theirs
+  pub others : (f : ℕ) (c : WordChange) → w.changes ≡ v.changes ++ c ∷ [] → f ≢ c.frame → (t.pool.core.frame f).word ≡ (s.pool.core.frame f).word
   -- where it counts no move of the hand more, or one more
   pub unmoved : w.ticks ≡ v.ticks → t.hand ≡ s.hand
   pub moved : w.ticks ≡ v.ticks + 1 → t.hand ≡ next_hand s.hand

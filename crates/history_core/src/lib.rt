@@ -12,13 +12,16 @@ ghost use Rattle.history_core.specs.Laws.{Laws};
 ghost use Rattle.history_core.specs.Ends.{EndsLaw};
 ghost use Rattle.history_core.specs.History.{EndsInHistory};
 ghost use Rattle.history_core.specs.Lasting.{LogGrows, OpeningStays};
-ghost use Rattle.history_core.specs.Sound.{ShowsSound, UnsoundStay};
+ghost use Rattle.history_core.specs.Sound.{ShowsSound, UnsoundAreFirst, UnsoundStay};
 ghost use Rattle.history_core.specs.Promises.{CheckpointsStore, GrantsAreAlone, PinnedTagsStay, SweepsStore};
 ghost use Rattle.history_core.specs.Trail.{HasSameWords, ListedIsMade};
 ghost use Rattle.history_core.specs.Steps.{Event, Run};
 ghost use Rattle.history_core.specs.Sample.{SampleRuns};
 ghost use Rattle.history_core.specs.Miss.{MissRuns};
 ghost use Rattle.history_core.specs.Put.{PutRuns};
+ghost use Rattle.history_core.specs.Faults.{FaultRuns};
+ghost use Rattle.history_core.specs.Checkpoints.{CheckpointRuns};
+ghost use Rattle.history_core.specs.Evictions.{EvictionRuns, WaitRuns};
 ghost use Rattle.history_core.specs.Histories.{IsReached, CallsAreLegal, ReadsAtBase, SyncsMakeDurable, JoinedAreApart, CallsAreOwn, FrontsAreReached, CallsStay, CallsAreInOrder, LoadedIsFlushed, LanesGoOutFlushed, HoldsKeepFlushed, NotedWritesAreDone, LogIsHeld, WritesAreEntries, ReadsStand, WritesStand, LogBeforeData, LanesHoldFlushedPages, CleanBlocksAreStored, FramesAreSound, FramesHoldCells, LogWords, EntriesAreDurable, DeviceHoldsLog, LanesAreHeld};
 
 /// What every list of events keeps, whatever the backends do and in whatever order.
@@ -64,6 +67,7 @@ pub fn all_histories()
     ensures sound { (s : State) → Laws s → FramesAreSound s }
     ensures shows_sound { (s : State) → Laws s → ShowsSound s }
     ensures unsound { (s : State) → Laws s → UnsoundStay s }
+    ensures unsound_first { (s : State) → Laws s → UnsoundAreFirst s }
     ensures hold_cells { (s : State) → Laws s → FramesHoldCells s }
     ensures unique { (s : State) → Laws s → TagsAreUnique s.pool.core }
     ensures remembers { (s : State) → Laws s → PinsRemember s.pool.core }
@@ -94,7 +98,7 @@ pub fn checkpoints_store()
     ensures { (s : State) → Laws s → CheckpointsStore s }
 {}
 
-/// The end of a checkpoint's syncs: where a backend has swept each lane up to a position, each entry of the log up to there is durable in its block's lane.
+/// The end of a checkpoint's syncs: where a backend has swept each lane up to a position, the syncs have covered each entry of the log up to there, and it is in its block's lane, or that block's last write failed, and its frame is valid and dirty.
 pub fn sweeps_store()
     ensures { (s : State) → Laws s → SweepsStore s }
 {}
@@ -127,4 +131,24 @@ pub fn miss_and_read()
 /// An example: a backend puts any sound page into a frame that it has read a block into, makes the log durable, and writes the page to the block's lane.
 pub fn put_and_flush()
     ensures { PutRuns }
+{}
+
+/// An example: a backend fails to read a block from its lane into a frame; then it syncs the lane, and fails to sync it again.
+pub fn failed_read_and_syncs()
+    ensures { FaultRuns }
+{}
+
+/// An example: the checkpoint of a backend that has put a page into a frame, from its begin to the sync of the lane.
+pub fn checkpoint_and_sync()
+    ensures { CheckpointRuns }
+{}
+
+/// An example: a backend evicts the block that it has read into a frame.
+pub fn read_and_evict()
+    ensures { EvictionRuns }
+{}
+
+/// An example: a backend waits for a cleanup lock of a frame that another one pins, is woken, and gets it.
+pub fn cleanup_wait()
+    ensures { WaitRuns }
 {}

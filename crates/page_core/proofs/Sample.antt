@@ -39,7 +39,7 @@ at_frame P v a e x z f = subst (λ (l : List Link). P (slice_index_or l f idle))
     cases zero = x
     cases (suc f) = z
 
-left_out : found [] ≡ map_after (Leaving 7 0) (map_after (Entering 7 0) (λ _. None))
+pub left_out : found [] ≡ map_after (Leaving 7 0) (map_after (Entering 7 0) (λ _. None))
 unfolding found
 left_out = λ k tag. gone (nat_eq tag 7) k
   where
@@ -114,11 +114,8 @@ s17 = pooled pins.lock_header s16
 abbrev s18 : State
 s18 = paged (end_io ReadOk) s17
 
-abbrev s19 : State
-s19 = pooled pins.load_state s18
-
 abbrev s20 : State
-s20 = paged share s19
+s20 = paged share s18
 
 abbrev s21 : State
 s21 = paged take_copy s20
@@ -179,7 +176,7 @@ run_append rests q = q
 run_append (goes x r) q = goes x (run_append r q)
 
 -- the block's page is in the frame
-read_in : Run (miss ++ read) sample_start s19
+read_in : Run (miss ++ read) sample_start s18
 read_in = goes (cores (pin_steps.turns 0 0 take_turn (view_of sample_start) refl refl (lit< tt) (record { free = refl })))
     (goes (cores (pin_steps.touches 0 0 pins.lock_header (view_of s1) refl refl (lit< tt) (record { unlocked = refl }) (at_frame (λ (l : Link). l.header ≡ None) (view_of s1) _ refl refl refl)))
     (goes (cores (pin_steps.touches 0 0 pins.pin_victim (view_of s2) refl refl (lit< tt) (record { held = refl; absent = refl; room = λ e. refl }) (at_frame (λ (l : Link). l.role ≢ Victim) (view_of s2) _ refl (λ e. cc) (λ e. cc))))
@@ -198,8 +195,7 @@ read_in = goes (cores (pin_steps.turns 0 0 take_turn (view_of sample_start) refl
     (goes (touches 0 0 page_back (view_of s15) refl refl (lit< tt) (record { out = λ e. cc }) tt)
     (goes (cores (pin_steps.touches 0 0 pins.lock_header (view_of s16) refl refl (lit< tt) (record { unlocked = refl }) (at_frame (λ (l : Link). l.header ≡ None) (view_of s16) _ refl refl refl)))
     (goes (touches 0 0 (end_io ReadOk) (view_of s17) refl refl (lit< tt) (record { held = refl; page_home = λ e. refl; ends = record { right = refl; read = λ e. cc; sound = sound_read; home = refl } }) no_lanes)
-    (goes (cores (pin_steps.touches 0 0 pins.load_state (view_of s18) refl refl (lit< tt) tt tt))
-    rests))))))))))))))))))
+    rests)))))))))))))))))
 
 pub sample : SampleRuns
 sample = (
@@ -207,7 +203,7 @@ sample = (
   (
     s24,
     s37,
-    run_append read_in (goes (touches 0 0 share (view_of s19) refl refl (lit< tt) (record { pinned = λ e. cc; seen = refl; none = refl; free = refl }) tt)
+    run_append read_in (goes (touches 0 0 share (view_of s18) refl refl (lit< tt) (record { pinned = λ e. cc; seen = refl; none = refl; free = refl }) tt)
         (goes (touches 0 0 take_copy (view_of s20) refl refl (lit< tt) (record { right = refl; free = refl }) tt)
         (goes (touches 0 0 page_out (view_of s21) refl refl (lit< tt) (record { page_home = refl; shared = λ e. refl; unlocked = λ e. absurd (cc) }) tt)
         (goes (touches 0 0 page_back (view_of s22) refl refl (lit< tt) (record { out = λ e. cc }) tt)
@@ -245,7 +241,7 @@ abbrev second_paged : Kind → State → State
 second_paged k s = state_after k s 1 0 (second_of s)
 
 abbrev w1 : State
-w1 = record s19 { core = split_state s19.core (view_of s19) }
+w1 = record s18 { core = split_state s18.core (view_of s18) }
 
 abbrev w2 : State
 w2 = second_turned take_turn w1
@@ -293,7 +289,7 @@ pub cleanup : CleanupRuns
 cleanup = (
   w9,
   w15,
-  run_append read_in (goes (cores (pin_steps.splits (view_of s19) refl (lit< tt)))
+  run_append read_in (goes (cores (pin_steps.splits (view_of s18) refl (lit< tt)))
       (goes (cores (pin_steps.turns 1 0 take_turn (second_of w1) refl refl (lit< tt) (record { free = refl })))
       (goes (cores (pin_steps.touches 1 0 (pins.pin_mapped 7 false) (second_of w2) refl refl (lit< tt) (record { unlocked = refl; absent = refl }) (record { held = refl; settled = refl; given = refl })))
       (goes (cores (pin_steps.turns 1 0 leave_turn (second_of w3) refl refl (lit< tt) (record { held = refl; home = refl; settled = refl })))

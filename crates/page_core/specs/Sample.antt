@@ -55,7 +55,7 @@ miss = turn take_turn ∷ pool pins.lock_header ∷ pool pins.pin_victim ∷ poo
 
 -- the block's page is read into it
 abbrev pub read : List Event
-read = pool pins.lock_header ∷ page start_input ∷ page (note_read sample_page) ∷ page page_out ∷ page (overwrite_read sample_page) ∷ page page_back ∷ pool pins.lock_header ∷ page (end_io ReadOk) ∷ pool pins.load_state ∷ []
+read = pool pins.lock_header ∷ page start_input ∷ page (note_read sample_page) ∷ page page_out ∷ page (overwrite_read sample_page) ∷ page page_back ∷ pool pins.lock_header ∷ page (end_io ReadOk) ∷ []
 
 -- and copied under the shared content lock
 abbrev pub copy : List Event

@@ -4,7 +4,7 @@ use Rattle.history_core.proofs.Histories.{legal, at_base, syncs, own, apart, fro
 use Rattle.history_core.proofs.Staying.{calls_stay}
 use Rattle.history_core.proofs.KeptFlushed.{holds_keep}
 use Rattle.history_core.proofs.Lasting.{opening_stays, log_grows}
-use Rattle.history_core.proofs.Sound.{shows, stay_untouched}
+use Rattle.history_core.proofs.Sound.{shows, stay_untouched, unsound_first}
 use Rattle.history_core.proofs.all_histories.Goals as goal
 
 pub returns-clause-holds_keep : goal.returns-clause-holds_keep
@@ -111,3 +111,6 @@ returns-clause-shows_sound c = λ s r. shows s r.invariant r.sound
 
 pub returns-clause-unsound : goal.returns-clause-unsound
 returns-clause-unsound c = λ s r. stay_untouched s r.invariant r.sound
+
+pub returns-clause-unsound_first : goal.returns-clause-unsound_first
+returns-clause-unsound_first c = λ s r. unsound_first s r.invariant
