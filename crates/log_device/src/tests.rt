@@ -1,12 +1,9 @@
-//! Failures that leave a part, and a writer that takes little.
-use crate::{
-    Failed, FaultPlan, FileLog, LogDevice, LogPlan, MemLog, MemSink, Sink, StdSink,
-};
+//! Failures that leave a part, a writer that takes little, and a file that counts its syncs.
+use crate::{Failed, FaultPlan, FileLog, LogDevice, LogPlan, MemLog, MemSink, Sink, StdSink};
 use std::cell::Cell;
 use std::fs::{Metadata, OpenFile};
 use std::io;
-use std::io::ErrorKind;
-use std::io::Write;
+use std::io::{ErrorKind, Write};
 use std::test::Fail;
 
 #[test]
@@ -124,7 +121,10 @@ fn log_over_a_file_is_synced_after_a_fault(rt: HostRuntime) {
         syncs: &syncs,
         failing: 2,
     });
-    assert_eq!(rt; (log.append(b"taken"), log.append(b"left")), (Ok(()), Err(Failed)));
+    assert_eq!(rt;
+        (log.append(b"taken"), log.append(b"left")),
+        (Ok(()), Err(Failed))
+    );
     assert_eq!(rt; (log.sync(), syncs.get()), (Ok(()), 1));
     assert_eq!(rt; (log.sync(), syncs.get()), (Err(Failed), 2));
     assert_eq!(rt; (log.sync(), syncs.get()), (Ok(()), 3));
