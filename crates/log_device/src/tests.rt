@@ -1,7 +1,9 @@
-//! Failures that leave a part, and a writer that takes little.
-use crate::{Failed, FaultPlan, LogDevice, LogPlan, MemLog, MemSink, Sink, StdSink};
+//! Failures that leave a part, a writer that takes little, and a file that counts its syncs.
+use crate::{Failed, FaultPlan, FileLog, LogDevice, LogPlan, MemLog, MemSink, Sink, StdSink};
+use std::cell::Cell;
+use std::fs::{Metadata, OpenFile};
 use std::io;
-use std::io::Write;
+use std::io::{ErrorKind, Write};
 use std::test::Fail;
 
 #[test]
@@ -65,4 +67,66 @@ fn sink_over_a_writer(rt: HostRuntime) {
     assert!(rt; sink.put(b"7 bytes").is_ok());
     assert!(rt; sink.put(b"more").is_err());
     assert_eq!(rt; sink.faults(), 1);
+}
+
+/// A file that takes no bytes but those of its first write, and counts its syncs, one of which fails.
+#[derive(Drop)]
+struct CountedFile<'a> {
+    full: bool,
+    syncs: &'a Cell<u32>,
+    failing: u32,
+}
+
+impl Write for CountedFile<'_> {
+    fn write(&mut self, buf: &[u8]) -> io::Result<usize> {
+        if self.full {
+            return Ok(0);
+        }
+        self.full = true;
+        Ok(buf.len())
+    }
+
+    fn flush(&mut self) -> io::Result<()> {
+        Ok(())
+    }
+}
+
+impl OpenFile for CountedFile<'_> {
+    fn metadata(&self) -> io::Result<Metadata> {
+        Err(ErrorKind::Unsupported.into())
+    }
+
+    fn set_len(&self, _size: u64) -> io::Result<()> {
+        Err(ErrorKind::Unsupported.into())
+    }
+
+    fn sync_all(&self) -> io::Result<()> {
+        self.syncs.set(self.syncs.get().saturating_add(1));
+        if self.syncs.get() == self.failing {
+            return Err(ErrorKind::Other.into());
+        }
+        Ok(())
+    }
+
+    fn sync_data(&self) -> io::Result<()> {
+        Err(ErrorKind::Unsupported.into())
+    }
+}
+
+#[test]
+fn log_over_a_file_is_synced_after_a_fault(rt: HostRuntime) {
+    let syncs = Cell::new(0);
+    let mut log = FileLog::new(CountedFile {
+        full: false,
+        syncs: &syncs,
+        failing: 2,
+    });
+    assert_eq!(rt;
+        (log.append(b"taken"), log.append(b"left")),
+        (Ok(()), Err(Failed))
+    );
+    assert_eq!(rt; (log.sync(), syncs.get()), (Ok(()), 1));
+    assert_eq!(rt; (log.sync(), syncs.get()), (Err(Failed), 2));
+    assert_eq!(rt; (log.sync(), syncs.get()), (Ok(()), 3));
+    assert_eq!(rt; log.faults(), 2);
 }

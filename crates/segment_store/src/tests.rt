@@ -174,14 +174,15 @@ fn host_over_files(rt: HostRuntime) -> Result<(), Fail> {
         assert_eq!(rt; lane.read(tag(2), &mut page), Ok(()));
         assert_eq!(rt; page.bytes(), [2u8; 8192].as_slice());
     }
-    fs::write(&rt, second.as_str(), "cut off")?;
+    let stored = fs::read(&rt, path.as_str())?;
+    assert_eq!(rt; bytes_at(&stored, [8191, 8192, 16383, 16384]), [1, 2, 2, 0]);
+    fs::write(&rt, path.as_str(), "cut off")?;
     for lane in opened.lanes.as_mut_slice() {
-        assert_eq!(rt; lane.read(tag(2), &mut page), Err(Failed));
+        assert_eq!(rt; lane.read(tag(0), &mut page), Err(Failed));
+        assert_eq!(rt; lane.read(tag(2), &mut page), Ok(()));
     }
     host.give_back(opened.lanes, None);
     assert_eq!(rt; (host.read_faults(), host.write_faults()), (6, 0));
-    let stored = fs::read(&rt, path.as_str())?;
-    assert_eq!(rt; bytes_at(&stored, [8191, 8192, 16383, 16384]), [1, 2, 2, 0]);
     fs::remove_file(&rt, path.as_str())?;
     fs::remove_file(&rt, second.as_str())?;
     Ok(())
@@ -206,14 +207,24 @@ fn log_over_a_file(rt: HostRuntime) -> Result<(), Fail> {
 }
 
 #[test]
-fn paths_that_are_no_files(rt: HostRuntime) -> Result<(), Fail> {
+fn openings_that_fail(rt: HostRuntime) -> Result<(), Fail> {
+    let id = process::id(rt.process());
+    let path = format!(in rt.alloc(); "/tmp/segment-store-whole-{id}")?;
+    let second = format!(in rt.alloc(); "{path}.1")?;
+    let below = format!(in rt.alloc(); "{path}/16384")?;
+    fs::write(&rt, path.as_str(), [1u8; 8192].as_slice())?;
+    fs::create_dir(&rt, second.as_str())?;
     let mut host = FileHost::new(&rt);
-    let folder = host.relation(rt.alloc(), "/tmp", 2, 1).err();
-    assert_eq!(rt; folder, Some(HostError::Failed));
+    for path in ["/tmp", path.as_str(), below.as_str()] {
+        let refused = host.relation(rt.alloc(), path, 1, 1).err();
+        assert_eq!(rt; refused, Some(HostError::Failed), "at {path}");
+    }
     let missing = host
         .relation(rt.alloc(), "/tmp/segment-store-missing/16384", 2, 1)
         .err();
     assert_eq!(rt; missing, Some(HostError::Missing));
-    assert_eq!(rt; host.read_faults(), 1);
+    assert_eq!(rt; host.read_faults(), 3);
+    fs::remove_file(&rt, path.as_str())?;
+    fs::remove_dir(&rt, second.as_str())?;
     Ok(())
 }
