@@ -1,5 +1,5 @@
 -- The rewritten page is sound and not new, with any log position.
-use Rattle.std.proofs.Common.{◌≡◌, ◌↔◌, ◌<◌, ◌≤◌, ◌+◌, ◌-◌, ◌*◌, ◌/◌, ◌%◌, ◌^◌, ℕ, Bool, true, false, not, cond, ◌||◌, List, ◌++◌, length, get_or, add-zero, refl, subst, sym, ap, ap₂, ◌∙◌, arith, inl, inr}
+use Rattle.std.proofs.Common.{◌≡◌, ◌↔◌, ◌<◌, ◌≤◌, ◌+◌, ◌*◌, ◌/◌, ◌%◌, ℕ, Bool, true, false, not, cond, ◌||◌, List, length, get_or, add-zero, refl, subst, sym, ap, ap₂, ◌∙◌, arith, inl, inr}
 use Rattle.std.specs.List.{list_any, range_with_len}
 use Rattle.std.specs.Bool.{Decides}
 use Rattle.std.specs.Str.{bytes_eq}
@@ -55,7 +55,7 @@ used_flags page sound used = (header_flags (header_of page) (grind (arith, nat_t
 header_sound : (h : Header) → 24 ≤ h.lower → h.flags < 8 → h.lower ≤ h.upper → h.upper ≤ h.special → h.special ≡ 8192 → is_sound_header h ≡ true
 header_sound h from flags order within special = grind (arith, nat_tests)
 
--- a page with the rewritten page's bytes behind the log position
+-- a page with the rewritten page's bytes after the log position
 pub sound_after : (page q : List ℕ) (fits : IsCompactable page) → is_sound_page page ≡ true → is_new_page page ≡ false → ((k : ℕ) → 8 ≤ k → get_or q k 0 ≡ get_or (rewritten_page page) k 0) → (is_sound_page q ≡ true) × (is_new_page q ≡ false)
 unfolding is_sound_page is_new_page header_of new_byte
 sound_after page q fits sound used same =
@@ -132,6 +132,7 @@ same_iff page r is = elim (cases_Bool (is_skipped page)) [
   where
     decides : Decides (bytes_eq (rewritten_page page) page) (rewritten_page page ≡ page)
     decides = bytes_eq-Decides (rewritten_page page) page
+
     of_test : is_skipped page ≡ false → (b : Bool) → bytes_eq (rewritten_page page) page ≡ b → (r ≡ Same) ↔ ((is_skipped page ≡ false) × (rewritten_page page ≡ page))
     of_test kept true equal = (λ e. (kept, decides.0 equal), λ e. is ∙ sym (outcome_same page (rewritten_page page) page (rewritten_page page) true kept refl refl refl (sym equal) refl))
     of_test kept false differs = (

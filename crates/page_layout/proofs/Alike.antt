@@ -1,5 +1,5 @@
 -- The totals of a scan don't depend on log positions.
-use Rattle.std.proofs.Common.{◌≡◌, ◌+◌, ◌-◌, ◌*◌, ◌/◌, ◌≤◌, ℕ, zero, suc, Bool, true, false, cond, List, [], ◌∷◌, ◌++◌, length, map, drop, sym, ap, ap₂, ◌∙◌, refl, inl, inr, arith}
+use Rattle.std.proofs.Common.{◌≡◌, ◌+◌, ◌-◌, ◌*◌, ◌/◌, ◌≤◌, ℕ, suc, Bool, cond, List, [], ◌∷◌, length, map, drop, sym, ap, ap₂, ◌∙◌, refl, inl, inr, arith}
 use Rattle.std.specs.List.{range_with_len}
 use Rattle.std.proofs.lemmas.List.{drop-drop}
 use Rattle.byteorder.specs.Endian.{little_number}
@@ -10,7 +10,7 @@ use Rattle.page_layout.specs.Fields.{header_of, item_count, item_of, pointer_at,
 use Rattle.page_layout.specs.Pointers.{counts_of, first_items, items_of}
 use Rattle.page_layout.specs.Positions.{DifferInPositions, DiffersInPosition}
 use Rattle.page_layout.specs.Scan.{sum_of_totals, totals_of, totals_of_summaries}
-use Rattle.page_layout.specs.Soundness.{IsUsedPage, is_new_page, is_sound_page}
+use Rattle.page_layout.specs.Soundness.{IsUsedPage}
 use Rattle.page_layout.specs.Summary.{summary_of, used_of}
 use Rattle.page_layout.proofs.Positions.{stays_used}
 use Rattle.page_layout.proofs.Sums.{totals_of-append}

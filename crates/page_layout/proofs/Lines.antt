@@ -80,7 +80,7 @@ totals_more pages k below =
     ∙ ap totals_of_summaries (map-append summary_of (take k pages) (p ∷ []))
     ∙ totals-push (map summary_of (take k pages)) (summary_of p)
 
--- the text goes on behind the lines of the first pages
+-- the text goes on after the lines of the first pages
 pub text_after : (pages : List (List ℕ)) (k : ℕ) → k ≤ length pages → (rest : List ℕ) × (scan_text pages ≡ scan_lines_from 0 (take k pages) ++ rest)
 unfolding scan_text
 text_after pages k within =
@@ -98,7 +98,7 @@ text_after_line pages k below =
     let after = text_after pages (k + 1) (omega arith) in
     (after.0, after.1 ∙ ap (λ (l : List ℕ). l ++ after.0) (lines_more pages k below) ∙ append_assoc (scan_lines_from 0 (take k pages)) (scan_line_of k (get_or pages k [])) after.0)
 
--- behind all lines stand the totals
+-- the totals follow all lines
 pub text_end : (pages : List (List ℕ)) (n : ℕ) → n ≡ length pages → scan_text pages ≡ scan_lines_from 0 (take n pages) ++ (totals_text (totals_of (take n pages)) ++ codes "\n")
 unfolding scan_text
 text_end pages n is =

@@ -23,8 +23,7 @@ pub fn all_positions()
 
     // The totals of a scan don't depend on positions.
     ensures totals { (pages : List (List ℕ)) (others : List (List ℕ)) → DifferInPositions pages others → totals_of others ≡ totals_of pages }
-{
-}
+{}
 
 /// The lines and the totals of two lists of pages, as of two workers' blocks, are those of both.
 pub fn all_sums()
@@ -32,5 +31,4 @@ pub fn all_sums()
     ensures dump_lines { (block : ℕ) (ps : List (List ℕ)) (qs : List (List ℕ)) → dump_lines_from block (ps ++ qs) ≡ dump_lines_from block ps ++ dump_lines_from (block + length ps) qs }
     ensures scans { (ps : List (List ℕ)) (qs : List (List ℕ)) → totals_of (ps ++ qs) ≡ sum_of_totals (totals_of ps) (totals_of qs) }
     ensures rewrites { (ps : List (List ℕ)) (qs : List (List ℕ)) → rewrite_totals_of (ps ++ qs) ≡ sum_of_rewrite_totals (rewrite_totals_of ps) (rewrite_totals_of qs) }
-{
-}
+{}

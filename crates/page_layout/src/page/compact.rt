@@ -233,7 +233,8 @@ impl Page {
         bytes[to..to + size].copy_from_slice(&source[start..start + size]);
     }
 
-    /// Copies the items of a page to where they are put, and sets the bytes behind each to 0.
+    /// Copies the items of a page to where they are put. The bytes after each, up to a multiple of 8,
+    /// are 0 already.
     fn move_items(&mut self, page: &Page, offsets: &[u16; MOST_ITEMS])
         requires compactable { IsCompactable page.now }
         requires cleared { (k : ℕ) → new_upper page.now ≤ k → slice_index self.now k ≡ 0 }
@@ -245,12 +246,11 @@ impl Page {
             if item.state == 1 {
                 let offset = offsets[usize::from(place)];
                 self.take_bytes(offset, page, item.offset, item.length);
-                self.clear(offset + item.length, offset + rounded_up(item.length));
             }
         }
     }
 
-    /// Writes the flags and the ends of the line pointers and of the gap behind them.
+    /// Writes the flags and the ends of the line pointers and of the gap after them.
     fn write_ends(&mut self, flags: u16, lower: u16, upper: u16)
         ensures size { length self.old ≡ 8192 }
         ensures bytes { self.new ≡ take 10 self.old ++ (little_bytes 2 flags ++ (little_bytes 2 lower ++ (little_bytes 2 upper ++ drop 16 self.old))) }
