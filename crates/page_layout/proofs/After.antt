@@ -91,10 +91,6 @@ rewritten_is_used page fits sound used =
     let now = sound_itself page (rewritten_page page) fits sound used refl in
     record { size = rewritten_size page ∙ fits.size; sound = now.0; used = now.1 }
 
-pub sound_with_lsn : (page new : List ℕ) (fits : IsCompactable page) → is_sound_page page ≡ true → is_new_page page ≡ false → new ≡ rewritten_page page → (lsn : ℕ) → (is_sound_page (with_lsn lsn new) ≡ true) × (is_new_page (with_lsn lsn new) ≡ false)
-sound_with_lsn page new fits sound used is lsn =
-    let now = stays_used lsn new (subst IsUsedPage (sym is) (rewritten_is_used page fits sound used)) in (now.sound, now.used)
-
 -- what becomes of a page, by the tests
 pub outcome_skipped : (page : List ℕ) → is_skipped page ≡ true → Skipped ≡ rewrite_of page
 unfolding rewrite_of

@@ -6,7 +6,7 @@ use Rattle.std.proofs.lemmas.List.FromFn.{get_or-range_with_len, length-range_wi
 use Rattle.std.proofs.lemmas.List.Sums.{get_or-le-sum_by, sum_by-cons, sum_by-le-sum_by}
 use Rattle.page_layout.specs.Compact.{IsCompactable}
 use Rattle.page_layout.specs.Fields.{item_count}
-use Rattle.page_layout.specs.Rewritten.{byte_in_room, is_at_or_above, is_in_room, is_normal, item_byte, length_at, new_byte, new_lower, new_offset, new_upper, offset_at, places_of, rewritten_page, room_at, room_of, special_of}
+use Rattle.page_layout.specs.Rewritten.{HasItemsOf, byte_in_room, is_at_or_above, is_in_room, is_normal, item_byte, length_at, new_byte, new_lower, new_offset, new_upper, offset_at, places_of, rewritten_page, room_at, room_of, special_of}
 use Rattle.page_layout.proofs.After.{byte_of}
 use Rattle.page_layout.proofs.Final.{new_ends}
 use Rattle.page_layout.proofs.Pointers.{IsPut, above_itself, offset_bounds, part_of_room, room_normal, unless, when}
@@ -138,8 +138,8 @@ unfolding new_byte
 item_place page at a b c d = grind (arith, nat_tests)
 
 -- each item's bytes stand at its new offset
-pub items_arrive : (page new : List ℕ) (fits : IsCompactable page) → new ≡ rewritten_page page → (place : ℕ) → place < item_count page → is_normal page place ≡ true → (k : ℕ) → k < length_at page place → get_or new (new_offset page place + k) 0 ≡ get_or page (offset_at page place + k) 0
-items_arrive page new fits is place below normal k short =
+pub items_arrive : (page new : List ℕ) (fits : IsCompactable page) → new ≡ rewritten_page page → HasItemsOf page new
+items_arrive page new fits is place k below normal short =
     let bounds = offset_bounds page place fits below in
     let room = room_normal page place normal in
     let ends = new_ends page fits in

@@ -1,7 +1,7 @@
 -- A page that is rewritten without its dead line pointers, its items put together at its end, as
 -- `PageRepairFragmentation` and `compactify_tuples` in PostgreSQL's `bufpage.c` do. Line pointers go by their place,
 -- from 0 on.
-use Rattle.std.specs.Prelude.{ℕ, suc, zero, ◌+◌, ◌-◌, ◌*◌, ◌/◌, ◌%◌, ◌^◌, ◌==◌, Bool, not, ◌&&◌, ◌||◌, nat_lt, nat_le, List, map, slice_index, length, if◌then◌else◌, sum_by}
+use Rattle.std.specs.Prelude.{◌≡◌, ◌<◌, true, ℕ, suc, zero, ◌+◌, ◌-◌, ◌*◌, ◌/◌, ◌%◌, ◌^◌, ◌==◌, Bool, not, ◌&&◌, ◌||◌, nat_lt, nat_le, List, map, slice_index, length, if◌then◌else◌, sum_by}
 use Rattle.std.specs.List.{list_any, range_with_len}
 use Rattle.std.specs.Int.{byte_at}
 use Rattle.std.specs.Str.{bytes_eq}
@@ -135,3 +135,8 @@ dead_count page = count_of_state 3 (items_of page)
 unfoldable pub rewrite_of : List ℕ → Rewrite
 rewrite_of page =
     if is_skipped page then Skipped else (if bytes_eq (rewritten_page page) page then Same else Changed (dead_count page))
+
+-- the items of a page stand in another at their new offsets
+abbrev pub HasItemsOf : List ℕ → List ℕ → Type 0
+HasItemsOf page other =
+    (place k : ℕ) → place < item_count page → is_normal page place ≡ true → k < length_at page place → slice_index other (new_offset page place + k) ≡ slice_index page (offset_at page place + k)

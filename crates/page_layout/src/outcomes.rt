@@ -73,7 +73,9 @@ impl RewriteTotals {
         ensures added { self.exit.now ≡ sum_of_rewrite_totals self.entry.now other.now }
         ensures within { IsRewriteWithin self.exit.now (self.entry.now.blocks + other.now.blocks) }
         // So they are the totals of both lists of pages.
-        ensures pages { (ps : List (List ℕ)) (qs : List (List ℕ)) → self.entry.now ≡ rewrite_totals_of ps → other.now ≡ rewrite_totals_of qs → self.exit.now ≡ rewrite_totals_of (ps ++ qs) }
+        ensures pages { (ps : List (List ℕ)) (qs : List (List ℕ))
+            → self.entry.now ≡ rewrite_totals_of ps → other.now ≡ rewrite_totals_of qs
+            → self.exit.now ≡ rewrite_totals_of (ps ++ qs) }
     {
         self.blocks += other.blocks;
         self.changed += other.changed;

@@ -59,7 +59,9 @@ impl ScanTotals {
         ensures added { self.exit.now ≡ sum_of_totals self.entry.now other.now }
         ensures within { IsWithin self.exit.now (self.entry.now.blocks + other.now.blocks) }
         // So they are the totals of both lists of pages.
-        ensures pages { (ps : List (List ℕ)) (qs : List (List ℕ)) → self.entry.now ≡ totals_of ps → other.now ≡ totals_of qs → self.exit.now ≡ totals_of (ps ++ qs) }
+        ensures pages { (ps : List (List ℕ)) (qs : List (List ℕ))
+            → self.entry.now ≡ totals_of ps → other.now ≡ totals_of qs
+            → self.exit.now ≡ totals_of (ps ++ qs) }
     {
         self.blocks += other.blocks;
         self.used += other.used;
