@@ -51,6 +51,10 @@ impl RewriteTotals {
         requires room { self.now.blocks < 2 ^ 32 }
         ensures counted { self.exit.now ≡ with_outcome self.entry.now page.now }
         ensures within { IsRewriteWithin self.exit.now (self.entry.now.blocks + 1) }
+        // So they are the totals of one page more.
+        ensures pages { (ps : List (List ℕ)) (p : List ℕ)
+            → self.entry.now ≡ rewrite_totals_of ps → page.now ≡ page_rewrite_of p
+            → self.exit.now ≡ rewrite_totals_of (ps ++ p ∷ []) }
     {
         self.blocks += 1;
         match *page {
