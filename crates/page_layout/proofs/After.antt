@@ -1,5 +1,5 @@
 -- The rewritten page is sound and not new, with any log position.
-use Rattle.std.proofs.Common.{◌≡◌, ◌↔◌, ◌<◌, ◌≤◌, ◌+◌, ◌*◌, ◌/◌, ◌%◌, ℕ, Bool, true, false, not, cond, ◌||◌, List, length, get_or, add-zero, refl, subst, sym, ap, ap₂, ◌∙◌, arith, inl, inr}
+use Rattle.std.proofs.Common.{◌≡◌, ◌↔◌, ◌<◌, ◌≤◌, ◌+◌, ◌*◌, ◌/◌, ◌%◌, ℕ, Bool, true, false, not, cond, ◌||◌, List, length, get_or, add-zero, refl, sym, ap, ap₂, ◌∙◌, arith, inl, inr}
 use Rattle.std.specs.List.{list_any, range_with_len}
 use Rattle.std.specs.Bool.{Decides}
 use Rattle.std.specs.Str.{bytes_eq}
@@ -10,13 +10,12 @@ use Rattle.std.proofs.lemmas.List.{get_or-drop}
 use Rattle.std.proofs.lemmas.List.FromFn.{get_or-map-range_with_len, length-map-range_with_len}
 use Rattle.page_layout.specs.Compact.{IsCompactable}
 use Rattle.page_layout.specs.declared.page.Header.{Header}
-use Rattle.page_layout.specs.Fields.{header_of, number_at, with_lsn}
+use Rattle.page_layout.specs.Fields.{header_of, number_at}
 use Rattle.page_layout.specs.Rewritten.{new_byte, new_flags, new_lower, new_upper, dead_count, is_skipped, pointers_left, rewrite_of, rewritten_page, special_of, stays}
 use Rattle.page_layout.specs.declared.rewrite.Rewrite.{Rewrite}
 use Rattle.page_layout.specs.declared.rewrite.Rewrite.TheVariants.{Same, Changed, Skipped}
 use Rattle.page_layout.specs.Soundness.{IsUsedPage, is_new_page, is_sound_header, is_sound_page}
 use Rattle.page_layout.proofs.Final.{new_ends}
-use Rattle.page_layout.proofs.Positions.{stays_used}
 use Rattle.page_layout.proofs.Sound.{zero_at}
 
 -- a number of two bytes from its bytes

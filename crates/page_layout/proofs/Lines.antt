@@ -1,14 +1,10 @@
 -- The text of a scan, one page more at a time.
-use Rattle.std.proofs.Common.{◌≡◌, ◌<◌, ◌≤◌, ◌+◌, ℕ, suc, List, [], ◌∷◌, ◌++◌, length, get_or, take, drop, codes, sym, ◌∙◌, ap, arith, append_assoc, add-zero, cond, map, refl, zero-add}
-use Rattle.std.specs.Prelude.{sum_by}
-use Rattle.std.proofs.lemmas.List.{append-nil, length-append, length-take, map-append, take_all, take_more, take-append-drop}
-use Rattle.std.proofs.lemmas.List.Sums.{sum_by-append}
-use Rattle.page_layout.specs.declared.summary.PageSummary.{PageSummary}
-use Rattle.page_layout.specs.declared.summary.PageSummary.TheVariants.{Invalid, New, Used}
+use Rattle.std.proofs.Common.{◌≡◌, ◌<◌, ◌≤◌, ◌+◌, ℕ, suc, List, [], ◌∷◌, ◌++◌, length, get_or, take, drop, codes, sym, ◌∙◌, ap, arith, append_assoc, add-zero, refl}
+use Rattle.std.proofs.lemmas.List.{append-nil, length-take, take_all, take_more, take-append-drop}
 use Rattle.page_layout.specs.Summary.{summary_of}
 use Rattle.page_layout.proofs.Sums.{totals_of-push}
 use Rattle.page_layout.specs.Text.{scan_line_of}
-use Rattle.page_layout.specs.Scan.{counted, is_invalid, is_new, is_used, pointers_of, scan_lines_from, scan_text, totals_of, totals_of_summaries, totals_text}
+use Rattle.page_layout.specs.Scan.{counted, scan_lines_from, scan_text, totals_of, totals_text}
 
 -- the lines of two lists of pages
 pub scan_lines_from-append : (block : ℕ) (ps qs : List (List ℕ)) → scan_lines_from block (ps ++ qs) ≡ scan_lines_from block ps ++ scan_lines_from (block + length ps) qs
