@@ -1,5 +1,5 @@
 -- The rewritten page is sound and not new, with any log position.
-use Rattle.std.proofs.Common.{◌≡◌, ◌↔◌, ◌<◌, ◌≤◌, ◌+◌, ◌-◌, ◌*◌, ◌/◌, ◌%◌, ◌^◌, ℕ, Bool, true, false, not, cond, ◌||◌, List, ◌++◌, length, get_or, add-zero, refl, subst, sym, ap, ap₂, ◌∙◌, arith, inl, inr}
+use Rattle.std.proofs.Common.{◌≡◌, ◌↔◌, ◌<◌, ◌≤◌, ◌+◌, ◌*◌, ◌/◌, ◌%◌, ℕ, Bool, true, false, not, cond, ◌||◌, List, length, get_or, add-zero, refl, sym, ap, ap₂, ◌∙◌, arith, inl, inr}
 use Rattle.std.specs.List.{list_any, range_with_len}
 use Rattle.std.specs.Bool.{Decides}
 use Rattle.std.specs.Str.{bytes_eq}
@@ -10,13 +10,12 @@ use Rattle.std.proofs.lemmas.List.{get_or-drop}
 use Rattle.std.proofs.lemmas.List.FromFn.{get_or-map-range_with_len, length-map-range_with_len}
 use Rattle.page_layout.specs.Compact.{IsCompactable}
 use Rattle.page_layout.specs.declared.page.Header.{Header}
-use Rattle.page_layout.specs.Fields.{header_of, number_at, with_lsn}
+use Rattle.page_layout.specs.Fields.{header_of, number_at}
 use Rattle.page_layout.specs.Rewritten.{new_byte, new_flags, new_lower, new_upper, dead_count, is_skipped, pointers_left, rewrite_of, rewritten_page, special_of, stays}
 use Rattle.page_layout.specs.declared.rewrite.Rewrite.{Rewrite}
 use Rattle.page_layout.specs.declared.rewrite.Rewrite.TheVariants.{Same, Changed, Skipped}
 use Rattle.page_layout.specs.Soundness.{IsUsedPage, is_new_page, is_sound_header, is_sound_page}
 use Rattle.page_layout.proofs.Final.{new_ends}
-use Rattle.page_layout.proofs.Positions.{stays_used}
 use Rattle.page_layout.proofs.Sound.{zero_at}
 
 -- a number of two bytes from its bytes
@@ -55,7 +54,7 @@ used_flags page sound used = (header_flags (header_of page) (grind (arith, nat_t
 header_sound : (h : Header) → 24 ≤ h.lower → h.flags < 8 → h.lower ≤ h.upper → h.upper ≤ h.special → h.special ≡ 8192 → is_sound_header h ≡ true
 header_sound h from flags order within special = grind (arith, nat_tests)
 
--- a page with the rewritten page's bytes behind the log position
+-- a page with the rewritten page's bytes after the log position
 pub sound_after : (page q : List ℕ) (fits : IsCompactable page) → is_sound_page page ≡ true → is_new_page page ≡ false → ((k : ℕ) → 8 ≤ k → get_or q k 0 ≡ get_or (rewritten_page page) k 0) → (is_sound_page q ≡ true) × (is_new_page q ≡ false)
 unfolding is_sound_page is_new_page header_of new_byte
 sound_after page q fits sound used same =
@@ -90,10 +89,6 @@ pub rewritten_is_used : (page : List ℕ) → IsCompactable page → is_sound_pa
 rewritten_is_used page fits sound used =
     let now = sound_itself page (rewritten_page page) fits sound used refl in
     record { size = rewritten_size page ∙ fits.size; sound = now.0; used = now.1 }
-
-pub sound_with_lsn : (page new : List ℕ) (fits : IsCompactable page) → is_sound_page page ≡ true → is_new_page page ≡ false → new ≡ rewritten_page page → (lsn : ℕ) → (is_sound_page (with_lsn lsn new) ≡ true) × (is_new_page (with_lsn lsn new) ≡ false)
-sound_with_lsn page new fits sound used is lsn =
-    let now = stays_used lsn new (subst IsUsedPage (sym is) (rewritten_is_used page fits sound used)) in (now.sound, now.used)
 
 -- what becomes of a page, by the tests
 pub outcome_skipped : (page : List ℕ) → is_skipped page ≡ true → Skipped ≡ rewrite_of page
@@ -132,6 +127,7 @@ same_iff page r is = elim (cases_Bool (is_skipped page)) [
   where
     decides : Decides (bytes_eq (rewritten_page page) page) (rewritten_page page ≡ page)
     decides = bytes_eq-Decides (rewritten_page page) page
+
     of_test : is_skipped page ≡ false → (b : Bool) → bytes_eq (rewritten_page page) page ≡ b → (r ≡ Same) ↔ ((is_skipped page ≡ false) × (rewritten_page page ≡ page))
     of_test kept true equal = (λ e. (kept, decides.0 equal), λ e. is ∙ sym (outcome_same page (rewritten_page page) page (rewritten_page page) true kept refl refl refl (sym equal) refl))
     of_test kept false differs = (

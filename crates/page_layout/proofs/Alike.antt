@@ -1,5 +1,5 @@
 -- The totals of a scan don't depend on log positions.
-use Rattle.std.proofs.Common.{◌≡◌, ◌+◌, ◌-◌, ◌*◌, ◌/◌, ◌≤◌, ℕ, zero, suc, Bool, true, false, cond, List, [], ◌∷◌, ◌++◌, length, map, drop, sym, ap, ap₂, ◌∙◌, refl, inl, inr, arith}
+use Rattle.std.proofs.Common.{◌≡◌, ◌+◌, ◌-◌, ◌*◌, ◌/◌, ◌≤◌, ℕ, suc, Bool, cond, List, [], ◌∷◌, length, map, drop, sym, ap, ap₂, ◌∙◌, refl, inl, inr, arith}
 use Rattle.std.specs.List.{range_with_len}
 use Rattle.std.proofs.lemmas.List.{drop-drop}
 use Rattle.byteorder.specs.Endian.{little_number}
@@ -10,7 +10,7 @@ use Rattle.page_layout.specs.Fields.{header_of, item_count, item_of, pointer_at,
 use Rattle.page_layout.specs.Pointers.{counts_of, first_items, items_of}
 use Rattle.page_layout.specs.Positions.{DifferInPositions, DiffersInPosition}
 use Rattle.page_layout.specs.Scan.{sum_of_totals, totals_of, totals_of_summaries}
-use Rattle.page_layout.specs.Soundness.{IsUsedPage, is_new_page, is_sound_page}
+use Rattle.page_layout.specs.Soundness.{IsUsedPage}
 use Rattle.page_layout.specs.Summary.{summary_of, used_of}
 use Rattle.page_layout.proofs.Positions.{stays_used}
 use Rattle.page_layout.proofs.Sums.{totals_of-append}
@@ -41,9 +41,10 @@ summary_of-used : (page : List ℕ) → IsUsedPage page → summary_of page ≡ 
 unfolding summary_of
 summary_of-used page is = ap₂ (λ (sound new : Bool). cond sound (cond new New (Used (used_of page))) Invalid) is.sound is.used
 
-one_page : (lsn : ℕ) (page : List ℕ) → IsUsedPage page → totals_of (with_lsn lsn page ∷ []) ≡ totals_of (page ∷ [])
+-- and so are the totals of the page
+pub totals_of-with_lsn : (lsn : ℕ) (page : List ℕ) → IsUsedPage page → totals_of (with_lsn lsn page ∷ []) ≡ totals_of (page ∷ [])
 unfolding used_of
-one_page lsn page is =
+totals_of-with_lsn lsn page is =
     let one = λ (s : PageSummary). totals_of_summaries (s ∷ []) in
     ap one (summary_of-used (with_lsn lsn page) (stays_used lsn page is))
     ∙ ap (λ (counts : PointerCounts). one (Used (record { header = header_of page; items = item_count page; pointers = counts }))) (ap counts_of (items_of-with_lsn lsn page))
@@ -51,7 +52,7 @@ one_page lsn page is =
 
 either : (page other : List ℕ) → DiffersInPosition page other → totals_of (other ∷ []) ≡ totals_of (page ∷ [])
 either page other (inl same) = ap (λ (p : List ℕ). totals_of (p ∷ [])) same
-either page other (inr differs) = ap (λ (p : List ℕ). totals_of (p ∷ [])) differs.1.1 ∙ one_page differs.1.0 page differs.0
+either page other (inr differs) = ap (λ (p : List ℕ). totals_of (p ∷ [])) differs.1.1 ∙ totals_of-with_lsn differs.1.0 page differs.0
 
 pub totals_of-positions : (pages others : List (List ℕ)) → DifferInPositions pages others → totals_of others ≡ totals_of pages
 totals_of-positions [] [] is = refl

@@ -1,15 +1,15 @@
--- The rooms of two items are apart, so each item's bytes arrive.
-use Rattle.std.proofs.Common.{◌≡◌, ◌≢◌, ◌<◌, ◌≤◌, ◌+◌, ◌-◌, ℕ, zero, suc, Bool, true, false, cond, eqb, leb, ltb, ◌&&◌, List, [], ◌∷◌, ◌⊎◌, get_or, refl, sym, ap, ap₂, ◌∙◌, arith, inl, inr, sum_by}
+-- The rooms of two items are apart, so each item's bytes arrive and the bytes after it are 0.
+use Rattle.std.proofs.Common.{◌≡◌, ◌≢◌, ◌<◌, ◌≤◌, ◌+◌, ◌-◌, ◌*◌, ◌/◌, ℕ, zero, suc, Bool, true, false, cond, eqb, leb, ltb, ◌&&◌, List, [], ◌∷◌, ◌⊎◌, get_or, refl, sym, ap, ap₂, ◌∙◌, arith, inl, inr, sum_by}
 use Rattle.std.proofs.lemmas.Bool.{cases_Bool}
 use Rattle.std.proofs.lemmas.Bool.Decides.{nat_tests}
 use Rattle.std.proofs.lemmas.List.FromFn.{get_or-range_with_len, length-range_with_len}
 use Rattle.std.proofs.lemmas.List.Sums.{get_or-le-sum_by, sum_by-cons, sum_by-le-sum_by}
 use Rattle.page_layout.specs.Compact.{IsCompactable}
 use Rattle.page_layout.specs.Fields.{item_count}
-use Rattle.page_layout.specs.Rewritten.{byte_in_room, is_at_or_above, is_in_room, is_normal, item_byte, length_at, new_byte, new_lower, new_offset, new_upper, offset_at, places_of, rewritten_page, room_at, room_of, special_of}
+use Rattle.page_layout.specs.Rewritten.{HasItemsOf, byte_in_room, is_at_or_above, is_in_room, is_normal, item_byte, length_at, new_byte, new_lower, new_offset, new_upper, offset_at, places_of, rewritten_page, room_at, room_of, special_of}
 use Rattle.page_layout.proofs.After.{byte_of}
 use Rattle.page_layout.proofs.Final.{new_ends}
-use Rattle.page_layout.proofs.Pointers.{above_itself, offset_bounds, part_of_room, room_normal}
+use Rattle.page_layout.proofs.Pointers.{IsPut, above_itself, offset_bounds, part_of_room, room_normal, unless, when}
 
 sum_add : (a b : ℕ → ℕ) (xs : List ℕ) → sum_by (λ x. a x + b x) xs ≡ sum_by a xs + sum_by b xs
 sum_add a b [] = refl
@@ -80,6 +80,33 @@ alone page fits p q at differ below_p below_q from to =
       | inr down ↦ let far = apart page fits q p turned below_q down in grind (arith, nat_tests)
     ]
 
+-- in an item's room stands no byte of an item that was put before
+no_other : (page : List ℕ) (fits : IsCompactable page) (p at n : ℕ) → p < item_count page → n ≤ p → new_offset page p ≤ at → at < new_offset page p + room_at page p → item_byte page at n ≡ 0
+unfolding item_byte
+no_other page fits p at zero below within from to = refl
+no_other page fits p at (suc n) below within from to =
+    let differ : p ≢ n = λ (e : p ≡ n). absurd (omega arith) in
+    let not_it = alone page fits p n at differ below (omega arith) from to in
+    ap (λ (b : Bool). cond b (byte_in_room page at n) (item_byte page at n)) not_it ∙ no_other page fits p at n below (omega arith) from to
+
+-- so the bytes after an item are 0 once it is put
+pub padding_is_zero : (page : List ℕ) (fits : IsCompactable page) (n at from len room : ℕ) (is : IsPut page n at from len) → room ≡ (len + 7) / 8 * 8 → n < item_count page → (old now new : List ℕ) → ((k : ℕ) → get_or now k 0 ≡ cond (ltb k (new_upper page)) (get_or old k 0) (item_byte page k n)) → ((k : ℕ) → get_or new k 0 ≡ cond (leb at k && ltb k (at + len)) (get_or page (from + (k - at)) 0) (get_or now k 0)) → (k : ℕ) → get_or new k 0 ≡ cond (leb (at + len) k && ltb k (at + room)) 0 (get_or new k 0)
+padding_is_zero page fits n at from len room is rounded below old now new before copied k =
+    let test = leb (at + len) k && ltb k (at + room) in
+    elim (cases_Bool test) [
+      | inl inside ↦
+          let past : (leb at k && ltb k (at + len)) ≡ false = grind (arith, nat_tests) in
+          let lowest = is.lowest in
+          let above : ltb k (new_upper page) ≡ false = grind (arith, nat_tests) in
+          let start : new_offset page n ≤ k = let at_is = is.at_is in grind (arith, nat_tests) in
+          let end : k < new_offset page n + room_at page n = let at_is = is.at_is in let room_is = is.room_is in grind (arith, nat_tests) in
+          copied k ∙ unless (leb at k && ltb k (at + len)) (get_or page (from + (k - at)) 0) (get_or now k 0) past
+          ∙ before k ∙ unless (ltb k (new_upper page)) (get_or old k 0) (item_byte page k n) above
+          ∙ no_other page fits n k n below (omega arith) start end
+          ∙ sym (when test 0 (get_or new k 0) inside)
+      | inr out ↦ sym (unless test 0 (get_or new k 0) out)
+    ]
+
 own_byte : (page : List ℕ) (fits : IsCompactable page) (p at n : ℕ) → p < item_count page → n ≤ item_count page → p < n → is_in_room page at p ≡ true → new_offset page p ≤ at → at < new_offset page p + room_at page p → item_byte page at n ≡ byte_in_room page at p
 unfolding item_byte
 own_byte page fits p at zero below_p within before is_in from to = absurd (omega arith)
@@ -111,8 +138,8 @@ unfolding new_byte
 item_place page at a b c d = grind (arith, nat_tests)
 
 -- each item's bytes stand at its new offset
-pub items_arrive : (page new : List ℕ) (fits : IsCompactable page) → new ≡ rewritten_page page → (place : ℕ) → place < item_count page → is_normal page place ≡ true → (k : ℕ) → k < length_at page place → get_or new (new_offset page place + k) 0 ≡ get_or page (offset_at page place + k) 0
-items_arrive page new fits is place below normal k short =
+pub items_arrive : (page new : List ℕ) (fits : IsCompactable page) → new ≡ rewritten_page page → HasItemsOf page new
+items_arrive page new fits is place k below normal short =
     let bounds = offset_bounds page place fits below in
     let room = room_normal page place normal in
     let ends = new_ends page fits in

@@ -131,7 +131,7 @@ unfolding new_flags header_of
 flags_is page h n left b header is unused left_is =
     ap₂ (λ (f m : ℕ). f / 2 * 2 + m) (ap (λ (x : Header). x.flags) header) (is ∙ bit_of b ∙ ap (λ (x : Bool). cond x 1 0) (unused ∙ ap (λ (m : ℕ). list_any (λ place. not (stays page place)) (range_with_len 0 m)) left_is))
 
--- behind the line pointers all bytes are 0 until the items are moved
+-- after the line pointers all bytes are 0 until the items are moved
 pub cleared_above : (page written cleared copied : List ℕ) (left : ℕ) (fits : IsCompactable page) → left ≡ pointers_left page → copied ≡ page → ((k : ℕ) → get_or cleared k 0 ≡ cond (leb (24 + 4 * left) k && ltb k 8192) 0 (get_or copied k 0)) → ((k : ℕ) → get_or written k 0 ≡ cond (leb 24 k && ltb k (24 + 4 * left)) (byte_at ((k - 24) % 4) (new_pointer page ((k - 24) / 4))) (get_or cleared k 0)) → (k : ℕ) → new_upper page ≤ k → get_or written k 0 ≡ 0
 cleared_above page written cleared copied left fits left_is same clear write k above =
     let ends = new_ends page fits in

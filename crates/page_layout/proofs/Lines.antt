@@ -1,13 +1,10 @@
 -- The text of a scan, one page more at a time.
-use Rattle.std.proofs.Common.{◌≡◌, ◌<◌, ◌≤◌, ◌+◌, ℕ, suc, List, [], ◌∷◌, ◌++◌, length, get_or, take, drop, codes, sym, ◌∙◌, ap, arith, append_assoc, add-zero, cond, map, refl, zero-add}
-use Rattle.std.specs.Prelude.{sum_by}
-use Rattle.std.proofs.lemmas.List.{append-nil, length-append, length-take, map-append, take_all, take_more, take-append-drop}
-use Rattle.std.proofs.lemmas.List.Sums.{sum_by-append}
-use Rattle.page_layout.specs.declared.summary.PageSummary.{PageSummary}
-use Rattle.page_layout.specs.declared.summary.PageSummary.TheVariants.{Invalid, New, Used}
+use Rattle.std.proofs.Common.{◌≡◌, ◌<◌, ◌≤◌, ◌+◌, ℕ, suc, List, [], ◌∷◌, ◌++◌, length, get_or, take, drop, codes, sym, ◌∙◌, ap, arith, append_assoc, add-zero, refl}
+use Rattle.std.proofs.lemmas.List.{append-nil, length-take, take_all, take_more, take-append-drop}
 use Rattle.page_layout.specs.Summary.{summary_of}
+use Rattle.page_layout.proofs.Sums.{totals_of-push}
 use Rattle.page_layout.specs.Text.{scan_line_of}
-use Rattle.page_layout.specs.Scan.{counted, is_invalid, is_new, is_used, pointers_of, scan_lines_from, scan_text, totals_of, totals_of_summaries, totals_text}
+use Rattle.page_layout.specs.Scan.{counted, scan_lines_from, scan_text, totals_of, totals_text}
 
 -- the lines of two lists of pages
 pub scan_lines_from-append : (block : ℕ) (ps qs : List (List ℕ)) → scan_lines_from block (ps ++ qs) ≡ scan_lines_from block ps ++ scan_lines_from (block + length ps) qs
@@ -31,56 +28,13 @@ lines_more pages k below =
     ∙ ap (λ (m : ℕ). scan_lines_from 0 (take k pages) ++ scan_lines_from m (p ∷ [])) n
     ∙ ap (λ (l : List ℕ). scan_lines_from 0 (take k pages) ++ l) (one_line k p)
 
-one_more : {X : Type 0} (f : X → ℕ) (xs : List X) (x : X) → sum_by f (xs ++ x ∷ []) ≡ sum_by f xs + f x
-one_more f xs x = sum_by-append f xs (x ∷ []) ∙ ap (λ (n : ℕ). sum_by f xs + n) (zero-add (f x))
-
-none_more : {X : Type 0} (f : X → ℕ) (xs : List X) (x : X) → f x ≡ 0 → sum_by f (xs ++ x ∷ []) ≡ sum_by f xs
-none_more f xs x none = one_more f xs x ∙ ap (λ (n : ℕ). sum_by f xs + n) none ∙ add-zero (sum_by f xs)
-
 -- the totals of one page more
-totals-push : (ss : List PageSummary) (s : PageSummary) → totals_of_summaries (ss ++ s ∷ []) ≡ counted (totals_of_summaries ss) s
-totals-push ss Invalid =
-    rw (
-      length-append ss (Invalid ∷ []),
-      none_more (λ (s : PageSummary). cond (is_used s) 1 0) ss Invalid refl,
-      none_more (λ (s : PageSummary). cond (is_new s) 1 0) ss Invalid refl,
-      one_more (λ (s : PageSummary). cond (is_invalid s) 1 0) ss Invalid,
-      none_more (λ (s : PageSummary). (pointers_of s).normal) ss Invalid refl,
-      none_more (λ (s : PageSummary). (pointers_of s).redirect) ss Invalid refl,
-      none_more (λ (s : PageSummary). (pointers_of s).dead) ss Invalid refl,
-      none_more (λ (s : PageSummary). (pointers_of s).unused) ss Invalid refl,
-    ) refl
-totals-push ss New =
-    rw (
-      length-append ss (New ∷ []),
-      none_more (λ (s : PageSummary). cond (is_used s) 1 0) ss New refl,
-      one_more (λ (s : PageSummary). cond (is_new s) 1 0) ss New,
-      none_more (λ (s : PageSummary). cond (is_invalid s) 1 0) ss New refl,
-      none_more (λ (s : PageSummary). (pointers_of s).normal) ss New refl,
-      none_more (λ (s : PageSummary). (pointers_of s).redirect) ss New refl,
-      none_more (λ (s : PageSummary). (pointers_of s).dead) ss New refl,
-      none_more (λ (s : PageSummary). (pointers_of s).unused) ss New refl,
-    ) refl
-totals-push ss (Used u) =
-    rw (
-      length-append ss (Used u ∷ []),
-      one_more (λ (s : PageSummary). cond (is_used s) 1 0) ss (Used u),
-      none_more (λ (s : PageSummary). cond (is_new s) 1 0) ss (Used u) refl,
-      none_more (λ (s : PageSummary). cond (is_invalid s) 1 0) ss (Used u) refl,
-      one_more (λ (s : PageSummary). (pointers_of s).normal) ss (Used u),
-      one_more (λ (s : PageSummary). (pointers_of s).redirect) ss (Used u),
-      one_more (λ (s : PageSummary). (pointers_of s).dead) ss (Used u),
-      one_more (λ (s : PageSummary). (pointers_of s).unused) ss (Used u),
-    ) refl
-
 pub totals_more : (pages : List (List ℕ)) (k : ℕ) → k < length pages → totals_of (take (k + 1) pages) ≡ counted (totals_of (take k pages)) (summary_of (get_or pages k []))
 totals_more pages k below =
     let p = get_or pages k [] in
-    ap totals_of (take_more pages k [] below)
-    ∙ ap totals_of_summaries (map-append summary_of (take k pages) (p ∷ []))
-    ∙ totals-push (map summary_of (take k pages)) (summary_of p)
+    ap totals_of (take_more pages k [] below) ∙ sym (totals_of-push (take k pages) p (totals_of (take k pages)) _ (summary_of p) refl refl refl)
 
--- the text goes on behind the lines of the first pages
+-- the text goes on after the lines of the first pages
 pub text_after : (pages : List (List ℕ)) (k : ℕ) → k ≤ length pages → (rest : List ℕ) × (scan_text pages ≡ scan_lines_from 0 (take k pages) ++ rest)
 unfolding scan_text
 text_after pages k within =
@@ -98,7 +52,7 @@ text_after_line pages k below =
     let after = text_after pages (k + 1) (omega arith) in
     (after.0, after.1 ∙ ap (λ (l : List ℕ). l ++ after.0) (lines_more pages k below) ∙ append_assoc (scan_lines_from 0 (take k pages)) (scan_line_of k (get_or pages k [])) after.0)
 
--- behind all lines stand the totals
+-- the totals follow all lines
 pub text_end : (pages : List (List ℕ)) (n : ℕ) → n ≡ length pages → scan_text pages ≡ scan_lines_from 0 (take n pages) ++ (totals_text (totals_of (take n pages)) ++ codes "\n")
 unfolding scan_text
 text_end pages n is =

@@ -107,7 +107,7 @@ unfolding is_in_room byte_in_room
 items_one page k n normal =
     items_more page k n ∙ ap (λ (b : Bool). cond (b && (leb (new_offset page n) k && ltb k (new_offset page n + room_at page n))) (cond (ltb (k - new_offset page n) (length_at page n)) (get_or page (offset_at page n + (k - new_offset page n)) 0) 0) (item_byte page k n)) normal
 
--- a byte once an item was copied and the bytes behind it set to 0
+-- a byte once an item was copied and the bytes after it set to 0
 moved : (k at len room up new mid now o b p : ℕ) → new ≡ cond (leb (at + len) k && ltb k (at + room)) 0 mid → mid ≡ cond (leb at k && ltb k (at + len)) p now → now ≡ cond (ltb k up) o b → up ≤ at → len ≤ room → new ≡ cond (ltb k up) o (cond (leb at k && ltb k (at + room)) (cond (ltb (k - at) len) p 0) b)
 moved k at len room up new mid now o b p cleared copied before above fits = grind (arith, nat_tests)
 

@@ -1,14 +1,14 @@
 -- The totals of two lists of pages are the sums of theirs, and their texts stand one after the other.
-use Rattle.std.proofs.Common.{◌≡◌, ◌+◌, ℕ, suc, zero, List, [], ◌∷◌, ◌++◌, length, sym, ◌∙◌, ap, ap₂, refl, arith, append_assoc, add-zero, cond, map}
-use Rattle.std.proofs.lemmas.List.{append-nil, length-append, map-append}
+use Rattle.std.proofs.Common.{◌≡◌, ◌+◌, ℕ, suc, List, [], ◌∷◌, ◌++◌, length, sym, ◌∙◌, ap, ap₂, refl, arith, append_assoc, add-zero, zero-add, cond, map}
+use Rattle.std.proofs.lemmas.List.{length-append, map-append}
 use Rattle.std.proofs.lemmas.List.Sums.{sum_by-append}
 use Rattle.page_layout.specs.declared.outcomes.PageRewrite.{PageRewrite}
-use Rattle.page_layout.specs.declared.outcomes.RewriteTotals.{RewriteTotals}
 use Rattle.page_layout.specs.declared.scan.ScanTotals.{ScanTotals}
 use Rattle.page_layout.specs.declared.summary.PageSummary.{PageSummary}
+use Rattle.page_layout.specs.declared.summary.PageSummary.TheVariants.{Invalid, New, Used}
 use Rattle.page_layout.specs.Dump.{dump_lines_from, dump_lines_of}
 use Rattle.page_layout.specs.Outcomes.{dead_of, is_changed_outcome, is_invalid_outcome, is_new_outcome, is_same_outcome, is_skipped_outcome, page_rewrite_of, rewrite_totals_of, sum_of_rewrite_totals, totals_of_outcomes}
-use Rattle.page_layout.specs.Scan.{is_invalid, is_new, is_used, pointers_of, sum_of_totals, totals_of, totals_of_summaries}
+use Rattle.page_layout.specs.Scan.{counted, is_invalid, is_new, is_used, pointers_of, sum_of_totals, totals_of, totals_of_summaries}
 use Rattle.page_layout.specs.Summary.{summary_of}
 
 totals_of_summaries-append : (ss ts : List PageSummary) → totals_of_summaries (ss ++ ts) ≡ sum_of_totals (totals_of_summaries ss) (totals_of_summaries ts)
@@ -28,8 +28,15 @@ totals_of_summaries-append ss ts =
 pub totals_of-append : (ps qs : List (List ℕ)) → totals_of (ps ++ qs) ≡ sum_of_totals (totals_of ps) (totals_of qs)
 totals_of-append ps qs = ap totals_of_summaries (map-append summary_of ps qs) ∙ totals_of_summaries-append (map summary_of ps) (map summary_of qs)
 
-pub totals_of-both : (ps qs : List (List ℕ)) (t u v : ScanTotals) → v ≡ sum_of_totals t u → t ≡ totals_of ps → u ≡ totals_of qs → v ≡ totals_of (ps ++ qs)
-totals_of-both ps qs t u v is first second = is ∙ ap₂ sum_of_totals first second ∙ sym (totals_of-append ps qs)
+-- with one page more
+counted-is : (t : ScanTotals) (s : PageSummary) → counted t s ≡ sum_of_totals t (totals_of_summaries (s ∷ []))
+counted-is t Invalid = simp add-zero
+counted-is t New = simp add-zero
+counted-is t (Used u) = simp (add-zero, zero-add)
+
+pub totals_of-push : (ps : List (List ℕ)) (p : List ℕ) (t v : ScanTotals) (s : PageSummary) → v ≡ counted t s → t ≡ totals_of ps → s ≡ summary_of p → v ≡ totals_of (ps ++ p ∷ [])
+totals_of-push ps p t v s is first second =
+    is ∙ counted-is t s ∙ ap₂ (λ (u : ScanTotals) (x : PageSummary). sum_of_totals u (totals_of_summaries (x ∷ []))) first second ∙ sym (totals_of-append ps (p ∷ []))
 
 totals_of_outcomes-append : (ss ts : List PageRewrite) → totals_of_outcomes (ss ++ ts) ≡ sum_of_rewrite_totals (totals_of_outcomes ss) (totals_of_outcomes ts)
 totals_of_outcomes-append ss ts =
@@ -46,9 +53,6 @@ totals_of_outcomes-append ss ts =
 -- the totals of a rewrite
 pub rewrite_totals_of-append : (ps qs : List (List ℕ)) → rewrite_totals_of (ps ++ qs) ≡ sum_of_rewrite_totals (rewrite_totals_of ps) (rewrite_totals_of qs)
 rewrite_totals_of-append ps qs = ap totals_of_outcomes (map-append page_rewrite_of ps qs) ∙ totals_of_outcomes-append (map page_rewrite_of ps) (map page_rewrite_of qs)
-
-pub rewrite_totals_of-both : (ps qs : List (List ℕ)) (t u v : RewriteTotals) → v ≡ sum_of_rewrite_totals t u → t ≡ rewrite_totals_of ps → u ≡ rewrite_totals_of qs → v ≡ rewrite_totals_of (ps ++ qs)
-rewrite_totals_of-both ps qs t u v is first second = is ∙ ap₂ sum_of_rewrite_totals first second ∙ sym (rewrite_totals_of-append ps qs)
 
 -- the lines of a dump
 pub dump_lines_from-append : (block : ℕ) (ps qs : List (List ℕ)) → dump_lines_from block (ps ++ qs) ≡ dump_lines_from block ps ++ dump_lines_from (block + length ps) qs

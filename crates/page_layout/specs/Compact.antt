@@ -1,7 +1,7 @@
 -- What a page that isn't skipped has, and the numbers by which its items are sorted.
 use Rattle.std.specs.Prelude.{◌≡◌, ℕ, suc, zero, ◌+◌, ◌-◌, ◌*◌, ◌%◌, ◌≤◌, ◌<◌, true, false, sum_by, slice_index, List, [], ◌∷◌, ◌++◌, if◌then◌else◌, length}
 use Rattle.page_layout.specs.Fields.{item_count}
-use Rattle.page_layout.specs.Rewritten.{is_normal, length_at, lower_of, offset_at, places_of, room_at, room_of, special_of, upper_of}
+use Rattle.page_layout.specs.Rewritten.{is_normal, length_at, lower_of, new_offset, offset_at, places_of, room_at, room_of, special_of, upper_of}
 
 -- a page that isn't skipped: its items stand between the line pointers and the end, and have room there when rounded up
 pub record IsCompactable (page : List ℕ) : Type 0 where
@@ -37,3 +37,7 @@ pub record AreSortedKeys (page : List ℕ) (numbers : List ℕ) : Type 0 where
   pub sums : (f : ℕ → ℕ) → ((place : ℕ) → is_normal page place ≡ false → f place ≡ 0) → sum_by (λ x. f (x % 65536)) numbers ≡ sum_by f (places_of page)
   pub ascending : (i j : ℕ) → i ≤ j → j < length numbers → slice_index numbers i ≤ slice_index numbers j
   pub each : (j : ℕ) → j < length numbers → IsKey page (slice_index numbers j)
+
+-- these are the new offsets of the items of a page, by the places of their line pointers
+abbrev pub AreNewOffsets : List ℕ → List ℕ → Type 0
+AreNewOffsets page offsets = (place : ℕ) → place < item_count page → is_normal page place ≡ true → slice_index offsets place ≡ new_offset page place

@@ -1,7 +1,7 @@
 -- A page that is rewritten without its dead line pointers, its items put together at its end, as
 -- `PageRepairFragmentation` and `compactify_tuples` in PostgreSQL's `bufpage.c` do. Line pointers go by their place,
 -- from 0 on.
-use Rattle.std.specs.Prelude.{ℕ, suc, zero, ◌+◌, ◌-◌, ◌*◌, ◌/◌, ◌%◌, ◌^◌, ◌==◌, Bool, not, ◌&&◌, ◌||◌, nat_lt, nat_le, List, map, slice_index, length, if◌then◌else◌, sum_by}
+use Rattle.std.specs.Prelude.{◌≡◌, ◌<◌, true, ℕ, suc, zero, ◌+◌, ◌-◌, ◌*◌, ◌/◌, ◌%◌, ◌^◌, ◌==◌, Bool, not, ◌&&◌, ◌||◌, nat_lt, nat_le, List, map, slice_index, length, if◌then◌else◌, sum_by}
 use Rattle.std.specs.List.{list_any, range_with_len}
 use Rattle.std.specs.Int.{byte_at}
 use Rattle.std.specs.Str.{bytes_eq}
@@ -65,8 +65,8 @@ abbrev pub is_outside : List ℕ → ℕ → Bool
 is_outside page place =
     is_normal page place && (nat_lt (offset_at page place) (upper_of page) || nat_lt (special_of page) (offset_at page place + length_at page place))
 
--- whether the page is left alone: it has a checksum, a special space or no whole header, an item reaches out of the
--- items' space, or the items have no room behind the line pointers
+-- whether the page is left alone: it has a checksum, a special space or a lower end within the header, an item reaches out of the
+-- items' space, or the items have no room after the line pointers
 unfoldable pub is_skipped : List ℕ → Bool
 is_skipped page =
     not (number_at 8 2 page == 0) || (not (special_of page == 8192) || (nat_lt (lower_of page) 24 || (list_any (is_outside page) (places_of page) || nat_lt (special_of page - lower_of page) (room_of page))))
@@ -100,7 +100,7 @@ unfoldable pub is_in_room : List ℕ → ℕ → ℕ → Bool
 is_in_room page at place =
     is_normal page place && (nat_le (new_offset page place) at && nat_lt at (new_offset page place + room_at page place))
 
--- the byte there: the item's, or behind it 0
+-- the byte there: the item's, or after it 0
 unfoldable pub byte_in_room : List ℕ → ℕ → ℕ → ℕ
 byte_in_room page at place =
     let k = at - new_offset page place in if nat_lt k (length_at page place) then slice_index page (offset_at page place + k) else 0
@@ -135,3 +135,8 @@ dead_count page = count_of_state 3 (items_of page)
 unfoldable pub rewrite_of : List ℕ → Rewrite
 rewrite_of page =
     if is_skipped page then Skipped else (if bytes_eq (rewritten_page page) page then Same else Changed (dead_count page))
+
+-- the items of a page stand in another at their new offsets
+abbrev pub HasItemsOf : List ℕ → List ℕ → Type 0
+HasItemsOf page other =
+    (place k : ℕ) → place < item_count page → is_normal page place ≡ true → k < length_at page place → slice_index other (new_offset page place + k) ≡ slice_index page (offset_at page place + k)

@@ -91,12 +91,7 @@ fn append_tail(page: &Page, item: Item, text: &mut Vec<u8>) -> Result<(), Memory
 }
 
 /// Adds the line of the pointer of this number to a text.
-fn append_pointer(
-    alloc: Global,
-    page: &Page,
-    number: u16,
-    text: &mut Vec<u8>,
-) -> Result<(), Memory>
+fn append_pointer(alloc: Global, page: &Page, number: u16, text: &mut Vec<u8>) -> Result<(), Memory>
     requires sound { is_sound_page page.now ≡ true }
     requires first { 1 ≤ number }
     requires last { number ≤ item_count page.now }

@@ -1,4 +1,5 @@
-//! What holds of all pages and their totals. The functions do nothing: their contracts are the laws.
+//! What holds of all pages and their totals. The functions do nothing: their contracts are the
+//! laws.
 ghost use Rattle.std.specs.Prelude.{◌≡◌, ◌≤◌, ◌<◌, ◌+◌, ◌^◌, ◌++◌, ℕ, List, false, length, slice_index};
 ghost use Rattle.page_layout.specs.Dump.{dump_lines_from};
 ghost use Rattle.page_layout.specs.Fields.{lsn_of, with_lsn};
@@ -15,22 +16,33 @@ pub fn all_positions()
     ensures reads_back { (page : List ℕ) (lsn : ℕ) → lsn < 2 ^ 64 → lsn_of (with_lsn lsn page) ≡ lsn }
 
     // The last position that was set counts, and the page's own puts the page back.
-    ensures last { (page : List ℕ) (first : ℕ) (second : ℕ) → with_lsn second (with_lsn first page) ≡ with_lsn second page }
-    ensures restores { (page : List ℕ) (lsn : ℕ) → 8 ≤ length page → ((k : ℕ) → slice_index page k < 256) → with_lsn (lsn_of page) (with_lsn lsn page) ≡ page }
+    ensures last { (page : List ℕ) (first : ℕ) (second : ℕ)
+        → with_lsn second (with_lsn first page) ≡ with_lsn second page }
+    ensures restores { (page : List ℕ) (lsn : ℕ)
+        → 8 ≤ length page → ((k : ℕ) → slice_index page k < 256)
+        → with_lsn (lsn_of page) (with_lsn lsn page) ≡ page }
 
     // So a rewritten page, with any position, is sound and not new.
-    ensures rewritten { (page : List ℕ) (lsn : ℕ) → IsUsedPage page → is_skipped page ≡ false → IsUsedPage (with_lsn lsn (rewritten_page page)) }
+    ensures rewritten { (page : List ℕ) (lsn : ℕ)
+        → IsUsedPage page → is_skipped page ≡ false
+        → IsUsedPage (with_lsn lsn (rewritten_page page)) }
 
     // The totals of a scan don't depend on positions.
-    ensures totals { (pages : List (List ℕ)) (others : List (List ℕ)) → DifferInPositions pages others → totals_of others ≡ totals_of pages }
-{
-}
+    ensures totals { (pages : List (List ℕ)) (others : List (List ℕ))
+        → DifferInPositions pages others → totals_of others ≡ totals_of pages }
+{}
 
 /// The lines and the totals of two lists of pages, as of two workers' blocks, are those of both.
 pub fn all_sums()
-    ensures scan_lines { (block : ℕ) (ps : List (List ℕ)) (qs : List (List ℕ)) → scan_lines_from block (ps ++ qs) ≡ scan_lines_from block ps ++ scan_lines_from (block + length ps) qs }
-    ensures dump_lines { (block : ℕ) (ps : List (List ℕ)) (qs : List (List ℕ)) → dump_lines_from block (ps ++ qs) ≡ dump_lines_from block ps ++ dump_lines_from (block + length ps) qs }
-    ensures scans { (ps : List (List ℕ)) (qs : List (List ℕ)) → totals_of (ps ++ qs) ≡ sum_of_totals (totals_of ps) (totals_of qs) }
-    ensures rewrites { (ps : List (List ℕ)) (qs : List (List ℕ)) → rewrite_totals_of (ps ++ qs) ≡ sum_of_rewrite_totals (rewrite_totals_of ps) (rewrite_totals_of qs) }
-{
-}
+    ensures scan_lines { (block : ℕ) (ps : List (List ℕ)) (qs : List (List ℕ))
+        → scan_lines_from block (ps ++ qs)
+        ≡ scan_lines_from block ps ++ scan_lines_from (block + length ps) qs }
+    ensures dump_lines { (block : ℕ) (ps : List (List ℕ)) (qs : List (List ℕ))
+        → dump_lines_from block (ps ++ qs)
+        ≡ dump_lines_from block ps ++ dump_lines_from (block + length ps) qs }
+    ensures scans { (ps : List (List ℕ)) (qs : List (List ℕ))
+        → totals_of (ps ++ qs) ≡ sum_of_totals (totals_of ps) (totals_of qs) }
+    ensures rewrites { (ps : List (List ℕ)) (qs : List (List ℕ))
+        → rewrite_totals_of (ps ++ qs)
+        ≡ sum_of_rewrite_totals (rewrite_totals_of ps) (rewrite_totals_of qs) }
+{}

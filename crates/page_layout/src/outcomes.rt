@@ -51,6 +51,10 @@ impl RewriteTotals {
         requires room { self.now.blocks < 2 ^ 32 }
         ensures counted { self.exit.now ≡ with_outcome self.entry.now page.now }
         ensures within { IsRewriteWithin self.exit.now (self.entry.now.blocks + 1) }
+        // So they are the totals of one page more.
+        ensures pages { (ps : List (List ℕ)) (p : List ℕ)
+            → self.entry.now ≡ rewrite_totals_of ps → page.now ≡ page_rewrite_of p
+            → self.exit.now ≡ rewrite_totals_of (ps ++ p ∷ []) }
     {
         self.blocks += 1;
         match *page {
@@ -73,7 +77,9 @@ impl RewriteTotals {
         ensures added { self.exit.now ≡ sum_of_rewrite_totals self.entry.now other.now }
         ensures within { IsRewriteWithin self.exit.now (self.entry.now.blocks + other.now.blocks) }
         // So they are the totals of both lists of pages.
-        ensures pages { (ps : List (List ℕ)) (qs : List (List ℕ)) → self.entry.now ≡ rewrite_totals_of ps → other.now ≡ rewrite_totals_of qs → self.exit.now ≡ rewrite_totals_of (ps ++ qs) }
+        ensures pages { (ps : List (List ℕ)) (qs : List (List ℕ))
+            → self.entry.now ≡ rewrite_totals_of ps → other.now ≡ rewrite_totals_of qs
+            → self.exit.now ≡ rewrite_totals_of (ps ++ qs) }
     {
         self.blocks += other.blocks;
         self.changed += other.changed;

@@ -57,7 +57,7 @@ impl Header {
             && self.special % 8 == 0
     }
 
-    /// How many line pointers stand behind the header.
+    /// How many line pointers follow the header.
     fn items(&self) -> u16
         ensures { result ≡ (self.now.lower - 24) / 4 }
     {

@@ -1,9 +1,8 @@
 //! A page without its dead line pointers, its items put together at its end, as
 //! `PageRepairFragmentation` and `compactify_tuples` in PostgreSQL's `bufpage.c` make it.
-ghost use Rattle.std.specs.Prelude.{◌≡◌, ◌<◌, ◌+◌, ◌↔◌, ℕ, false, true, slice_index};
-ghost use Rattle.page_layout.specs.Fields.{item_count, with_lsn};
-ghost use Rattle.page_layout.specs.Rewritten.{is_normal, is_skipped, length_at, new_offset, offset_at, rewrite_of, rewritten_page};
-ghost use Rattle.page_layout.specs.Soundness.{is_new_page, is_sound_page};
+ghost use Rattle.std.specs.Prelude.{◌≡◌, ◌↔◌, false, true};
+ghost use Rattle.page_layout.specs.Rewritten.{HasItemsOf, is_skipped, rewrite_of, rewritten_page};
+ghost use Rattle.page_layout.specs.Soundness.{IsUsedPage, is_new_page, is_sound_page};
 
 use crate::page::Page;
 
@@ -14,8 +13,8 @@ pub enum Rewrite {
     Same,
     /// Rewritten, it is another page; so many of its line pointers were dead.
     Changed { dead: u16 },
-    /// It is left alone: it has a checksum, a special space or a lower end within the header, or its
-    /// items don't stand or fit between the upper end and the page's end.
+    /// It is left alone: it has a checksum, a special space or a lower end within the header, an
+    /// item that reaches out of the items' space, or more items than fit after the line pointers.
     Skipped,
 }
 
@@ -27,14 +26,14 @@ pub fn rewritten(page: &Page, out: &mut Page) -> Rewrite
     requires used { is_new_page page.now ≡ false }
     ensures outcome { result ≡ rewrite_of page.now }
     ensures skipped { (result ≡ Rewrite.Skipped) ↔ (is_skipped page.now ≡ true) }
-    ensures same { (result ≡ Rewrite.Same) ↔ ((is_skipped page.now ≡ false) × (rewritten_page page.now ≡ page.now)) }
+    ensures same { (result ≡ Rewrite.Same)
+        ↔ ((is_skipped page.now ≡ false) × (rewritten_page page.now ≡ page.now)) }
 
     // What the other page holds afterwards.
     ensures left_alone { is_skipped page.now ≡ true → out.new ≡ out.old }
     ensures rewritten { is_skipped page.now ≡ false → out.new ≡ rewritten_page page.now }
-    ensures items { is_skipped page.now ≡ false → (place : ℕ) → place < item_count page.now → is_normal page.now place ≡ true → (k : ℕ) → k < length_at page.now place → slice_index out.new (new_offset page.now place + k) ≡ slice_index page.now (offset_at page.now place + k) }
-    ensures stays_sound { is_skipped page.now ≡ false → (is_sound_page out.new ≡ true) × (is_new_page out.new ≡ false) }
-    ensures with_any_lsn { is_skipped page.now ≡ false → (lsn : ℕ) → (is_sound_page (with_lsn lsn out.new) ≡ true) × (is_new_page (with_lsn lsn out.new) ≡ false) }
+    ensures items { is_skipped page.now ≡ false → HasItemsOf page.now out.new }
+    ensures stays_used { is_skipped page.now ≡ false → IsUsedPage out.new }
 {
     let before = page.bytes();
     if page.is_skipped() {

@@ -1,6 +1,7 @@
 //! The totals of a scan.
-ghost use Rattle.std.specs.Prelude.{◌≡◌, ◌≤◌, ◌<◌, ◌+◌, ◌*◌, ◌^◌, ◌++◌, List, ℕ, Some};
+ghost use Rattle.std.specs.Prelude.{◌≡◌, ◌≤◌, ◌<◌, ◌+◌, ◌*◌, ◌^◌, ◌++◌, ◌∷◌, [], List, ℕ, Some};
 ghost use Rattle.page_layout.specs.Scan.{IsWithin, counted, no_totals, sum_of_totals, totals_of, totals_text};
+ghost use Rattle.page_layout.specs.Summary.{summary_of};
 
 use crate::summary::{PageSummary, PointerCounts};
 use std::fmt;
@@ -42,6 +43,10 @@ impl ScanTotals {
         requires room { self.now.blocks < 2 ^ 32 }
         ensures counted { self.exit.now ≡ counted self.entry.now summary.now }
         ensures within { IsWithin self.exit.now (self.entry.now.blocks + 1) }
+        // So they are the totals of one page more.
+        ensures pages { (ps : List (List ℕ)) (p : List ℕ)
+            → self.entry.now ≡ totals_of ps → summary.now ≡ summary_of p
+            → self.exit.now ≡ totals_of (ps ++ p ∷ []) }
     {
         self.blocks += 1;
         match *summary {
@@ -59,7 +64,9 @@ impl ScanTotals {
         ensures added { self.exit.now ≡ sum_of_totals self.entry.now other.now }
         ensures within { IsWithin self.exit.now (self.entry.now.blocks + other.now.blocks) }
         // So they are the totals of both lists of pages.
-        ensures pages { (ps : List (List ℕ)) (qs : List (List ℕ)) → self.entry.now ≡ totals_of ps → other.now ≡ totals_of qs → self.exit.now ≡ totals_of (ps ++ qs) }
+        ensures pages { (ps : List (List ℕ)) (qs : List (List ℕ))
+            → self.entry.now ≡ totals_of ps → other.now ≡ totals_of qs
+            → self.exit.now ≡ totals_of (ps ++ qs) }
     {
         self.blocks += other.blocks;
         self.used += other.used;

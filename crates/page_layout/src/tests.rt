@@ -1,5 +1,8 @@
 //! Pages that were made by hand from "Database Page Layout".
-use crate::{Item, Page, PageSummary, Rewrite, dump_lines, rewritten, scan_line};
+use crate::{
+    Item, Page, PageRewrite, PageSummary, Rewrite, RewriteTotals, ScanTotals, append_line,
+    dump_lines, rewritten, scan_line,
+};
 use std::alloc::Global;
 use std::test::Fail;
 
@@ -55,11 +58,12 @@ fn lines_of_pages(rt: HostRuntime) -> Result<(), Fail> {
     let mut text = Vec::new(rt.alloc());
     let mut page = one_item(rt.alloc())?;
     scan_line(rt.alloc(), 7, &page, &mut text)?;
-    page.copy_from(&Page::zeroed(rt.alloc())?);
+    page = Page::zeroed(rt.alloc())?;
+    assert_eq!(rt; page.bytes(), [0; 8192].as_slice());
     assert_eq!(rt; page.summary(), PageSummary::New);
     scan_line(rt.alloc(), 8, &page, &mut text)?;
-    page.set_lsn(1);
-    scan_line(rt.alloc(), 4294967295, &page, &mut text)?;
+    page.fill(&[255; 8192]);
+    append_line(rt.alloc(), 4294967295, &page.summary(), &mut text)?;
     assert_eq!(rt;
         text.as_slice(),
         b"7 lsn 0/16B3740 flags 0 lower 28 upper 8184 special 8192 items 1 normal 1 redirect 0 dead 0 unused 0\n8 new\n4294967295 invalid\n".as_slice()
@@ -122,7 +126,8 @@ fn odd_page(alloc: Global, lower: u8, pointer: [u8; 4]) -> Result<Page, Fail> {
     Ok(page)
 }
 
-/// A page with one item, another lower end and line pointer, rewritten: what became of it, and its ends.
+/// What becomes of a page with one item, another lower end and another line pointer: the outcome,
+/// and the ends of the page that was written.
 fn odd(rt: HostRuntime, lower: u8, pointer: [u8; 4]) -> Result<(Option<Rewrite>, u16, u16), Fail> {
     let page = odd_page(rt.alloc(), lower, pointer)?;
     let mut out = Page::zeroed(rt.alloc())?;
@@ -131,14 +136,12 @@ fn odd(rt: HostRuntime, lower: u8, pointer: [u8; 4]) -> Result<(Option<Rewrite>,
     Ok((what, header.lower, header.upper))
 }
 
+/// A lower end within the header, an item far outside, and items of no bytes at and past the end.
 #[test]
-fn odd_pages(rt: HostRuntime) -> Result<(), Fail> {
+fn odd_pages_rewritten(rt: HostRuntime) -> Result<(), Fail> {
     let item = [0xf8, 0x9f, 8, 0];
+    assert_eq!(rt; odd_page(rt.alloc(), 10, item)?.items(), 0);
     assert_eq!(rt; odd(rt, 10, item)?, (Some(Rewrite::Skipped), 0, 0));
-    assert_eq!(rt;
-        odd(rt, 27, item)?,
-        (Some(Rewrite::Changed { dead: 0 }), 24, 8192)
-    );
     assert_eq!(rt;
         odd(rt, 28, [0xff, 0xff, 0xfe, 0xff])?,
         (Some(Rewrite::Skipped), 0, 0)
@@ -150,6 +153,64 @@ fn odd_pages(rt: HostRuntime) -> Result<(), Fail> {
     assert_eq!(rt;
         odd(rt, 28, [1, 0xa0, 0, 0])?,
         (Some(Rewrite::Skipped), 0, 0)
+    );
+    Ok(())
+}
+
+/// A lower end in the middle of the first line pointer: there is none, and all after the header goes.
+#[test]
+fn three_bytes_are_no_line_pointer(rt: HostRuntime) -> Result<(), Fail> {
+    let page = odd_page(rt.alloc(), 27, [0xf8, 0x9f, 8, 0])?;
+    assert_eq!(rt; page.items(), 0);
+    let mut out = Page::zeroed(rt.alloc())?;
+    assert_eq!(rt;
+        result_of(&page, &mut out),
+        Some(Rewrite::Changed { dead: 0 })
+    );
+    let mut after = [0u8; 8192];
+    after[..24].copy_from_slice(&FRONT[..24]);
+    after[12] = 24;
+    after[14] = 0;
+    after[15] = 0x20;
+    assert_eq!(rt; out.bytes(), after.as_slice());
+    Ok(())
+}
+
+/// The totals of a rewrite of six pages by two workers.
+#[test]
+fn totals_of_a_rewrite(rt: HostRuntime) -> Result<(), Fail> {
+    let mut first = RewriteTotals::none();
+    first.count(&PageRewrite::Used(Rewrite::Changed { dead: 2 }));
+    first.count(&PageRewrite::Used(Rewrite::Same));
+    first.count(&PageRewrite::New);
+    let mut second = RewriteTotals::none();
+    second.count(&PageRewrite::Invalid);
+    second.count(&PageRewrite::Used(Rewrite::Skipped));
+    second.count(&PageRewrite::Used(Rewrite::Changed { dead: 3 }));
+    first.add(&second);
+    let text = format!(in rt.alloc(); "{first}")?;
+    assert_eq!(rt;
+        text.as_str(),
+        "blocks 6 changed 2 same 1 skipped 1 new 1 invalid 1 dead 5"
+    );
+    Ok(())
+}
+
+/// The totals of a scan of three pages by two workers.
+#[test]
+fn totals_of_a_scan(rt: HostRuntime) -> Result<(), Fail> {
+    let mut page = one_item(rt.alloc())?;
+    let mut first = ScanTotals::none();
+    first.count(&page.summary());
+    page.fill(&[255; 8192]);
+    let mut second = ScanTotals::none();
+    second.count(&page.summary());
+    second.count(&Page::zeroed(rt.alloc())?.summary());
+    first.add(&second);
+    let text = format!(in rt.alloc(); "{first}")?;
+    assert_eq!(rt;
+        text.as_str(),
+        "blocks 3 used 1 new 1 invalid 1 normal 1 redirect 0 dead 0 unused 0"
     );
     Ok(())
 }

@@ -4,7 +4,7 @@ ghost use Rattle.std.specs.Prelude.{◌≡◌, ◌≤◌, ◌<◌, ◌+◌, ◌-
 ghost use Rattle.std.specs.List.{list_any, range_with_len};
 ghost use Rattle.std.specs.Int.{byte_at};
 ghost use Rattle.byteorder.specs.Endian.{little_bytes};
-ghost use Rattle.page_layout.specs.Compact.{AreSortedKeys, IsCompactable, keys_of};
+ghost use Rattle.page_layout.specs.Compact.{AreNewOffsets, AreSortedKeys, IsCompactable, keys_of};
 ghost use Rattle.page_layout.specs.Fields.{item_count};
 ghost use Rattle.page_layout.specs.Rewritten.{is_normal, is_outside, is_skipped, item_byte, length_at, new_offset, new_pointer, new_upper, offset_at, places_of, pointers_left, rewritten_page, room_at, room_of, special_of, state_at, stays, upper_of};
 ghost use Rattle.page_layout.specs.Soundness.{is_new_page, is_sound_page};
@@ -68,7 +68,9 @@ impl Page {
         requires sound { is_sound_page self.now ≡ true }
         requires upper_is { upper ≡ upper_of self.now }
         requires special_is { special ≡ special_of self.now }
-        ensures { result ≡ not (list_any (is_outside self.now) (places_of self.now)) && not (nat_lt space (room_of self.now)) }
+        ensures { result
+            ≡ not (list_any (is_outside self.now) (places_of self.now))
+            && not (nat_lt space (room_of self.now)) }
     {
         let mut room: u32 = 0;
         for place in 0..self.items() {
@@ -124,7 +126,7 @@ impl Page {
         requires compactable { IsCompactable self.now }
         requires sorted { AreSortedKeys self.now keys.now }
         ensures upper { result ≡ new_upper self.now }
-        ensures offsets { (place : ℕ) → place < item_count self.now → is_normal self.now place ≡ true → slice_index offsets.new place ≡ new_offset self.now place }
+        ensures offsets { AreNewOffsets self.now offsets.new }
     {
         let mut upper: u16 = 8192;
         for i in 0..keys.len() {
@@ -189,7 +191,10 @@ impl Page {
     /// Writes a line pointer.
     fn write_pointer(&mut self, place: usize, bits: u32)
         requires { 28 + 4 * place ≤ 8192 }
-        ensures { (k : ℕ) → slice_index self.new k ≡ (if nat_le (24 + 4 * place) k && nat_lt k (28 + 4 * place) then byte_at (k - (24 + 4 * place)) bits else slice_index self.old k) }
+        ensures { (k : ℕ) → slice_index self.new k
+            ≡ (if nat_le (24 + 4 * place) k && nat_lt k (28 + 4 * place)
+            then byte_at (k - (24 + 4 * place)) bits
+            else slice_index self.old k) }
     {
         let at = 24 + 4 * place;
         let bytes = self.bytes.as_mut_slice();
@@ -200,8 +205,11 @@ impl Page {
     fn write_pointers(&mut self, page: &Page, left: u16, offsets: &[u16; MOST_ITEMS])
         requires compactable { IsCompactable page.now }
         requires within { left ≤ item_count page.now }
-        requires offsets { (place : ℕ) → place < item_count page.now → is_normal page.now place ≡ true → slice_index offsets.now place ≡ new_offset page.now place }
-        ensures { (k : ℕ) → slice_index self.new k ≡ (if nat_le 24 k && nat_lt k (24 + 4 * left) then byte_at ((k - 24) % 4) (new_pointer page.now ((k - 24) / 4)) else slice_index self.old k) }
+        requires offsets { AreNewOffsets page.now offsets.now }
+        ensures { (k : ℕ) → slice_index self.new k
+            ≡ (if nat_le 24 k && nat_lt k (24 + 4 * left)
+            then byte_at ((k - 24) % 4) (new_pointer page.now ((k - 24) / 4))
+            else slice_index self.old k) }
     {
         for place in 0..left {
             let bits = page.new_pointer(place, offsets[usize::from(place)]);
@@ -213,7 +221,8 @@ impl Page {
     fn clear(&mut self, from: u16, to: u16)
         requires ordered { from ≤ to }
         requires within { to ≤ 8192 }
-        ensures { (k : ℕ) → slice_index self.new k ≡ (if nat_le from k && nat_lt k to then 0 else slice_index self.old k) }
+        ensures { (k : ℕ) → slice_index self.new k
+            ≡ (if nat_le from k && nat_lt k to then 0 else slice_index self.old k) }
     {
         let bytes = self.bytes.as_mut_slice();
         bytes[usize::from(from)..usize::from(to)].fill(0);
@@ -223,7 +232,10 @@ impl Page {
     fn take_bytes(&mut self, at: u16, page: &Page, from: u16, count: u16)
         requires to_within { at + count ≤ 8192 }
         requires from_within { from + count ≤ 8192 }
-        ensures { (k : ℕ) → slice_index self.new k ≡ (if nat_le at k && nat_lt k (at + count) then slice_index page.now (from + (k - at)) else slice_index self.old k) }
+        ensures { (k : ℕ) → slice_index self.new k
+            ≡ (if nat_le at k && nat_lt k (at + count)
+            then slice_index page.now (from + (k - at))
+            else slice_index self.old k) }
     {
         let source = page.bytes();
         let bytes = self.bytes.as_mut_slice();
@@ -233,27 +245,33 @@ impl Page {
         bytes[to..to + size].copy_from_slice(&source[start..start + size]);
     }
 
-    /// Copies the items of a page to where they are put, and sets the bytes behind each to 0.
+    /// Copies the items of a page to where they are put. The bytes after each, up to a multiple of 8,
+    /// are 0 already.
     fn move_items(&mut self, page: &Page, offsets: &[u16; MOST_ITEMS])
         requires compactable { IsCompactable page.now }
         requires cleared { (k : ℕ) → new_upper page.now ≤ k → slice_index self.now k ≡ 0 }
-        requires offsets { (place : ℕ) → place < item_count page.now → is_normal page.now place ≡ true → slice_index offsets.now place ≡ new_offset page.now place }
-        ensures { (k : ℕ) → slice_index self.new k ≡ (if nat_lt k (new_upper page.now) then slice_index self.old k else item_byte page.now k (item_count page.now)) }
+        requires offsets { AreNewOffsets page.now offsets.now }
+        ensures { (k : ℕ) → slice_index self.new k
+            ≡ (if nat_lt k (new_upper page.now)
+            then slice_index self.old k
+            else item_byte page.now k (item_count page.now)) }
     {
         for place in 0..page.items() {
             let item = page.item_at(place);
             if item.state == 1 {
                 let offset = offsets[usize::from(place)];
                 self.take_bytes(offset, page, item.offset, item.length);
-                self.clear(offset + item.length, offset + rounded_up(item.length));
             }
         }
     }
 
-    /// Writes the flags and the ends of the line pointers and of the gap behind them.
+    /// Writes the flags and the ends of the line pointers and of the gap after them.
     fn write_ends(&mut self, flags: u16, lower: u16, upper: u16)
         ensures size { length self.old ≡ 8192 }
-        ensures bytes { self.new ≡ take 10 self.old ++ (little_bytes 2 flags ++ (little_bytes 2 lower ++ (little_bytes 2 upper ++ drop 16 self.old))) }
+        ensures bytes { self.new
+            ≡ take 10 self.old
+            ++ (little_bytes 2 flags
+            ++ (little_bytes 2 lower ++ (little_bytes 2 upper ++ drop 16 self.old))) }
     {
         let bytes = self.bytes.as_mut_slice();
         LittleEndian::write_u16(&mut bytes[10..], flags);

@@ -1,4 +1,4 @@
-use Rattle.std.proofs.Common.{refl, ◌∙◌}
+use Rattle.std.proofs.Common.{◌∙◌}
 use Rattle.page_layout.proofs.Dumps.{line_is}
 use Rattle.page_layout.proofs.dump.append_pointer.Goals as goal
 

@@ -1,9 +1,10 @@
-use Rattle.std.proofs.Common.{ap, refl, sym, ◌∙◌}
+use Rattle.std.proofs.Common.{ap, refl, subst, sym, ◌∙◌}
 use Rattle.std.proofs.lemmas.Bool.{false≢true}
 use Rattle.page_layout.specs.declared.summary.PointerCounts.{PointerCounts}
+use Rattle.page_layout.specs.Soundness.{IsUsedPage}
 use Rattle.page_layout.proofs.Apart.{items_arrive}
 use Rattle.page_layout.proofs.Compactable.{compactable_from}
-use Rattle.page_layout.proofs.After.{outcome_changed, outcome_same, outcome_skipped, same_iff, skipped_iff, sound_itself, sound_with_lsn}
+use Rattle.page_layout.proofs.After.{outcome_changed, outcome_same, outcome_skipped, same_iff, rewritten_is_used, skipped_iff}
 use Rattle.page_layout.proofs.rewrite.rewritten.Goals as goal
 
 pub compact_from-requires : goal.compact_from-requires
@@ -20,8 +21,7 @@ returns-then-is_skipped c =
       rewritten = λ kept. absurd (false≢true (sym kept ∙ skipped));
       left_alone = λ e. refl;
       items = λ kept. absurd (false≢true (sym kept ∙ skipped));
-      stays_sound = λ kept. absurd (false≢true (sym kept ∙ skipped));
-      with_any_lsn = λ kept. absurd (false≢true (sym kept ∙ skipped));
+      stays_used = λ kept. absurd (false≢true (sym kept ∙ skipped));
     }
 
 pub returns-then-eq : goal.returns-then-eq
@@ -37,8 +37,7 @@ returns-then-eq c =
       rewritten = λ e. c.compact_from.ensures;
       left_alone = λ e. absurd (false≢true (sym kept ∙ e));
       items = λ e. items_arrive page c.compact_from.new.self fits c.compact_from.ensures;
-      stays_sound = λ e. sound_itself page c.compact_from.new.self fits c.requires.sound c.requires.used c.compact_from.ensures;
-      with_any_lsn = λ e. sound_with_lsn page c.compact_from.new.self fits c.requires.sound c.requires.used c.compact_from.ensures;
+      stays_used = λ e. subst IsUsedPage (sym c.compact_from.ensures) (rewritten_is_used page fits c.requires.sound c.requires.used);
     }
 
 pub returns : goal.returns
@@ -54,6 +53,5 @@ returns c =
       rewritten = λ e. c.compact_from.ensures;
       left_alone = λ e. absurd (false≢true (sym kept ∙ e));
       items = λ e. items_arrive page c.compact_from.new.self fits c.compact_from.ensures;
-      stays_sound = λ e. sound_itself page c.compact_from.new.self fits c.requires.sound c.requires.used c.compact_from.ensures;
-      with_any_lsn = λ e. sound_with_lsn page c.compact_from.new.self fits c.requires.sound c.requires.used c.compact_from.ensures;
+      stays_used = λ e. subst IsUsedPage (sym c.compact_from.ensures) (rewritten_is_used page fits c.requires.sound c.requires.used);
     }

@@ -1,8 +1,9 @@
-use Rattle.std.proofs.Common.{◌≡◌, ℕ, false, cond, ltb, get_or, arith, ap, sym, ◌∙◌}
+use Rattle.std.proofs.Common.{◌≡◌, ℕ, false, cond, ltb, get_or, arith, ap, refl, sym, ◌∙◌}
 use Rattle.std.proofs.lemmas.Bool.Decides.{nat_tests}
 use Rattle.page_layout.specs.declared.page.Page.{Page}
 use Rattle.page_layout.specs.Fields.{item_count}
 use Rattle.page_layout.specs.Rewritten.{is_normal, item_byte, new_upper}
+use Rattle.page_layout.proofs.Apart.{padding_is_zero}
 use Rattle.page_layout.proofs.Compactable.{count_fits, place_fits}
 use Rattle.page_layout.proofs.Pointers.{items_none, items_start, items_step, put}
 use Rattle.page_layout.proofs.page.Page.move_items.Goals as goal
@@ -24,29 +25,6 @@ take_bytes-requires c =
     let room = is.room in
     record { to_within = omega arith; from_within = is.source }
 
-pub overflow_add-offset : goal.overflow_add-offset
-overflow_add-offset c =
-    let e = c.item_at-item.ensures in
-    let is = put c.args.page.now c.args.offsets.now c.loop-place.place _ _ _ _ c.requires.compactable c.requires.offsets (omega arith) c.from.ensures c.if-item-eq1.true e.state e.offset e.length in
-    let room = is.room in
-    omega arith
-
-pub overflow_add-offset-then-item-eq1 : goal.overflow_add-offset-then-item-eq1
-overflow_add-offset-then-item-eq1 c =
-    let e = c.item_at-item.ensures in
-    let is = put c.args.page.now c.args.offsets.now c.loop-place.place _ _ _ _ c.requires.compactable c.requires.offsets (omega arith) c.from.ensures c.if-item-eq1.true e.state e.offset e.length in
-    let room = is.room in
-    let rounded = c.rounded_up.ensures in
-    omega arith
-
-pub clear-requires : goal.clear-requires
-clear-requires c =
-    let e = c.item_at-item.ensures in
-    let is = put c.args.page.now c.args.offsets.now c.loop-place.place _ _ _ _ c.requires.compactable c.requires.offsets (omega arith) c.from.ensures c.if-item-eq1.true e.state e.offset e.length in
-    let room = is.room in
-    let rounded = c.rounded_up.ensures in
-    record { ordered = omega arith; within = omega arith }
-
 pub loop-place-preserved : goal.loop-place-preserved
 loop-place-preserved c =
     let page = c.args.page.now in
@@ -55,7 +33,8 @@ loop-place-preserved c =
     elim c.if-item-eq1.branch [
       | then-item-eq1 w ↦
           let is = put page c.args.offsets.now place _ _ _ _ c.requires.compactable c.requires.offsets (omega arith) w.from.ensures w.if-item-eq1.true e.state e.offset e.length in
-          λ k. ap (λ (p : Page). get_or p k 0) w.self-is ∙ items_step page place _ _ _ _ is w.rounded_up.ensures c.args.self.now c.loop-place.self w.take_bytes.new.self w.clear.new.self c.loop-place.invariant w.take_bytes.ensures w.clear.ensures k
+          let padding = padding_is_zero page c.requires.compactable place _ _ _ _ is refl (omega arith) c.args.self.now c.loop-place.self w.take_bytes.new.self c.loop-place.invariant w.take_bytes.ensures in
+          λ k. ap (λ (p : Page). get_or p k 0) w.self-is ∙ items_step page place _ _ _ _ is refl c.args.self.now c.loop-place.self w.take_bytes.new.self w.take_bytes.new.self c.loop-place.invariant w.take_bytes.ensures padding k
       | else-item-eq1 w ↦
           let state = e.state in
           let other : is_normal page place ≡ false = grind (arith, nat_tests) in
