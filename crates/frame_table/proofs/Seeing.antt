@@ -38,14 +38,14 @@ word_seen k part f found v w d = let column = d.laws.invariant.pool.core.grid.co
       usage = column.usage;
       few = (let a = few d.state.pool.core d.laws.invariant.pool.core f d.inside in let c = d.few in omega arith);
       pinned = own_pins d.state.pool.core d.laws.invariant.pool.core d.seat f v d.there d.inside;
-      remembered = λ some. of_tag some (link v f).tag refl;
+      remembered = λ there. of_tag there (link v f).tag refl;
       seen = cell.seen;
       output = λ writes. ((d.laws.invariant.pool.pages.cells d.seat v f d.there d.inside).output writes).0;
     }
   where
     of_tag : (link v f).tag ≢ None → (tag : Option ℕ) → (link v f).tag ≡ tag → (d.state.pool.core.frame f).word.tag_valid ≡ true
-    of_tag some None is = absurd (some is)
-    of_tag some (Some tag) is = ((d.laws.invariant.pool.core.grid.cells d.seat v f d.there d.inside).remembers tag is).0.flagged
+    of_tag there None is = absurd (there is)
+    of_tag there (Some tag) is = ((d.laws.invariant.pool.core.grid.cells d.seat v f d.there d.inside).remembers tag is).0.flagged
 
 -- and after loads, with the header locked
 word_looked : (l m : Link) (w : StateWord) → Looked l m → IsWordOf m w → IsWordOf l w
@@ -55,7 +55,7 @@ word_looked l m w a x = record {
   usage = x.usage;
   few = x.few;
   pinned = λ pinned. x.pinned (λ e. pinned (sym a.role ∙ e));
-  remembered = λ some. x.remembered (λ e. some (sym a.tag ∙ e));
+  remembered = λ there. x.remembered (λ e. there (sym a.tag ∙ e));
   seen = λ saw. x.seen (a.seen_valid saw);
   output = λ writes. x.output (a.io ∙ writes);
 }
