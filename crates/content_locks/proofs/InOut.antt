@@ -121,6 +121,10 @@ begins_on input f v u w a b = record { tried = b.tried; under = b.under; was = b
 pub nothing_on : (input : Bool) (f : ℕ) (v u w : View) → Waits f v u → FindsNothing input f u w → FindsNothing input f v w
 nothing_on input f v u w a b = record { tried = b.tried; under = b.under; looked = b.looked; was = b.was; seen = b.seen; word = b.word; waits = waits_on f v u b.tried a b.waits; locks = b.locks; nothing = b.nothing; looks = b.looks; unlocks = b.unlocks }
 
+-- no input or output begins as a header is locked
+pub quiet_locked : (f word : ℕ) (v w : View) → Touches f v w → Looked (locked_link word (link v f)) (link w f) → HasNoIo v → HasNoIo w
+quiet_locked f word v w touches a quiet g = dite (ℕ_discrete g f) (λ e. ap (λ (x : ℕ). (link w x).io) e ∙ a.io ∙ quiet f) (λ n. ap (λ (l : Link). l.io) (touches.others g n) ∙ quiet g)
+
 -- What loads of the word leave, for another try
 module _ (f : ℕ) (v w : View) (touches : Touches f v w) (a : Looked (link v f) (link w f)) where
   pub headless_still : HoldsNoHeader v → HoldsNoHeader w

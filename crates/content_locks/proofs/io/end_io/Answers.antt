@@ -1,4 +1,6 @@
-use Rattle.std.proofs.Common.{ℕ, subst}
+use Rattle.std.proofs.Common.{ℕ, sym, subst}
+use Rattle.frame_table.specs.Sees.{Touches}
+use Rattle.frame_table.proofs.Told.{touches_on}
 use Rattle.state_word.specs.Fields.{fields}
 use Rattle.pin_core.specs.State.{link}
 use Rattle.frame_table.specs.Sees.{IsWordOf}
@@ -19,3 +21,6 @@ returns-clause-did g c = let d = c.lock_header-word.ensures.did in record {
   shows = subst (λ (f : ℕ). IsWordOf (link c.args.seat.now.me.0 f) (fields c.lock_header-word.result)) c.frame.ensures c.lock_header-word.ensures.word;
   marks = ended_marks_on _ c.args.seat.now.me.0 c.lock_header-word.new.seat.me.0 c.finish_io.new.seat.me.0 c.lock_header-word.ensures.marks c.finish_io.ensures.marks;
 }
+
+pub returns-clause-touches : goal.returns-clause-touches
+returns-clause-touches g c = let k = c.lock_header-word.ensures in subst (λ (f : ℕ). Touches f c.args.seat.now.me.0 c.finish_io.new.seat.me.0) c.frame.ensures (touches_on _ _ _ _ k.touches (subst (λ (f : ℕ). Touches f c.lock_header-word.new.seat.me.0 c.finish_io.new.seat.me.0) (sym c.frame.ensures) c.finish_io.ensures.touches))

@@ -3,11 +3,12 @@ use Rattle.pin_core.specs.declared.view.View.{View}
 use Rattle.frame_table.proofs.Told.{touches_none, touches_on, looked_on}
 use Rattle.content_locks.proofs.InOut.{headless_still, quiet_still, can_still, begun_on, begins_on, nothing_on, looked_none}
 use Rattle.content_locks.specs.Io.{still, again}
-use Rattle.frame_table.proofs.Marks.{begun_marks_on, marks_none, marks_on}
+use Rattle.std.specs.Prelude.{not, ◌||◌}
+use Rattle.frame_table.specs.Sees.{Marks}
 use Rattle.content_locks.proofs.io.start_io.Goals as goal
 
 pub loop-init : goal.loop-init
-loop-init g c = record { seat = record { table = refl; id = refl; hand = refl }; touches = touches_none _ _; marks = marks_none _; waits = still; looked = looked_none _ }
+loop-init g c = record { seat = record { table = refl; id = refl; hand = refl }; touches = touches_none _ _; marks = refl; waits = still; looked = looked_none _ }
 
 pub try_io-requires-clause-seat : goal.try_io-requires-clause-seat
 try_io-requires-clause-seat g c = let a = c.requires.seat in let i = c.loop.invariant in record { fits = i.seat.table ∙ a.fits; live = ap (λ (x : View). x.emptied) i.touches.self ∙ a.live; inside = a.inside }
@@ -49,7 +50,7 @@ loop-preserved g c = let i = c.loop.invariant in let b = c.try_io.ensures in let
 }
 
 pub returns-in-Begun-clause-marks : goal.returns-in-Begun-clause-marks
-returns-in-Begun-clause-marks g c = begun_marks_on _ _ _ _ c.loop.invariant.marks c.in-Begun.ensures.tried.4
+returns-in-Begun-clause-marks g c = c.in-Begun.ensures.tried.4 ∙ ap (λ (m : Marks). record m { had_output = m.had_output || not c.args.input }) c.loop.invariant.marks
 
 pub returns-in-Nothing-clause-marks : goal.returns-in-Nothing-clause-marks
 returns-in-Nothing-clause-marks g c = c.in-Nothing.ensures.tried.3 ∙ c.loop.invariant.marks
