@@ -50,20 +50,16 @@ none_owed false c e = e
 
 -- the frame that the map gives then has the tag, so a pin there remembers no other
 pub remembers_no_other : (was : List MapEntry) (p tag f : ℕ) (v u : View) → DidMap (map_out was) p v u → Holds Settled v p → found was tag ≡ Some f → RemembersNoOther tag (link v f)
-remembers_no_other was p tag f v u d h gives other is = sym ((s.grid.cells d.seat v f d.there pair.inside).remembers other is).1 ∙ has_tag
+remembers_no_other was p tag f v u d h gives other is = sym ((d.laws.invariant.pool.core.grid.cells d.seat v f d.there (d.laws.invariant.pool.core.maps.mapped p tag f at).inside).remembers other is).1 ∙ has_tag
   where
-    s = d.laws.invariant.pool.core
-
     at : (d.state.pool.core.partition p).map tag ≡ Some f
     at = ap (λ (m : ℕ → Option ℕ). m tag) (sym d.allowed.entries_are) ∙ gives
 
-    pair = s.maps.mapped p tag f at
-
     owed : (d.state.pool.core.partition p).owed ≡ Settled
-    owed = sym ((s.turns.cells d.seat v p d.there d.inside).owed h.held) ∙ none_owed (hold v p).changed (hold v p).change h.named
+    owed = sym ((d.laws.invariant.pool.core.turns.cells d.seat v p d.there d.inside).owed h.held) ∙ none_owed (hold v p).changed (hold v p).change h.named
 
     law : PairLaw ((d.state.pool.core.partition p).map tag) (d.state.pool.core.partition p).owed (d.state.pool.core.frame f).tag tag f
-    law = subst (λ (q : ℕ). PairLaw ((d.state.pool.core.partition q).map tag) (d.state.pool.core.partition q).owed (d.state.pool.core.frame f).tag tag f) pair.placed (s.maps.pairs tag f pair.named pair.inside)
+    law = subst (λ (q : ℕ). PairLaw ((d.state.pool.core.partition q).map tag) (d.state.pool.core.partition q).owed (d.state.pool.core.frame f).tag tag f) (d.laws.invariant.pool.core.maps.mapped p tag f at).placed (d.laws.invariant.pool.core.maps.pairs tag f (d.laws.invariant.pool.core.maps.mapped p tag f at).named (d.laws.invariant.pool.core.maps.mapped p tag f at).inside)
 
     has_tag : (d.state.pool.core.frame f).tag ≡ tag
     has_tag = dite (ℕ_discrete (d.state.pool.core.frame f).tag tag) (λ e. e) (λ n. absurd (let no : Settled ≡ Leaving tag f = sym owed ∙ law.found at n in cc))

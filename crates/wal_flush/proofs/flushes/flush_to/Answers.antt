@@ -67,4 +67,4 @@ returns-in-Err-clause-seen g c = unflushed_sees _ _ _ _ (returns-in-Err-clause-c
 
 pub returns-in-Err-clause-short : goal.returns-in-Err-clause-short
 unfolding returns-in-Err-clause-cause
-returns-in-Err-clause-short g c = short_of g.L.BlockLane.contents c.args.table.now _ c.take_end-end.result _ _ _ (returns-in-Err-clause-cause g c).1 (logged_on g.L.BlockLane.contents c.args.table.now _ _ _ (ap (λ (x : View). x.links) c.load_flushed.ensures.view) c.take_end-end.ensures.logged)
+returns-in-Err-clause-short g c = short_of g.L.BlockLane.contents c.args.table.now _ c.take_end-end.result _ _ _ (returns-in-Err-clause-cause g c).1 (logged_on g.L.BlockLane.contents c.args.table.now _ c.args.seat.now.me.0 c.load_flushed.new.seat.me.0 (ap (λ (x : View). x.links) c.load_flushed.ensures.view) c.take_end-end.ensures.logged)

@@ -18,7 +18,7 @@ log_back-requires-clause-may g c = let o = c.in-Ok.ensures in let r = c.requires
     home_after_append g.G.LogDevice.bytes g.G.LogDevice.synced g.G.LogDevice.faults g.G.LogDevice.calls _ c.in-Ok.log c.append-result.new.self _ _ o.went o.unnoted
     (subst (λ (d : g.row.G.Denot). LogDid g.G.LogDevice.bytes g.G.LogDevice.synced g.G.LogDevice.faults g.G.LogDevice.calls d c.append-result.new.self.device c.append-result.new.self.call) c.write_record.ensures.device w.did)
     c.args.frame c.args.tag c.set_lsn.new.self c.write_record.new.self.buffer.items c.args.end c.append-result.result o.up (ap (λ (v : View). v.log.end) o.went.after ∙ ap (λ (h : LogHold). h.end) r.held) w.call w.down
-    (appends_out _ _ _ _ _ _ o.went _ c.args.frame c.args.tag c.set_lsn.new.self c.args.end c.write_record.new.self.buffer.items
+    (appends_out _ _ _ _ _ _ _ o.went _ c.args.frame c.args.tag c.set_lsn.new.self c.args.end c.write_record.new.self.buffer.items
     (may_enter _ _ _ _ _ _ _ r.can r.held c.position_of-was.ensures.size r.room c.set_lsn.ensures.bytes c.set_lsn.ensures.reads_back)
     record { entry = c.relation_of-entry.result; listed = c.relation_of-entry.ensures; is = c.write_record.ensures.«record» }
     (ap (λ (h : LogHold). h.appended) r.held) (ap (λ (h : LogHold). h.synced) r.held))
@@ -28,7 +28,7 @@ returns-in-Ok-result-clause-appended g c = let o = c.in-Ok.ensures in record {
   out = c.take_log.new.seat.me.0;
   bytes = c.write_record.new.self.buffer.items;
   is_record = record { entry = c.relation_of-entry.result; listed = c.relation_of-entry.ensures; is = c.write_record.ensures.«record» };
-  went = went_up _ _ _ _ _ _ o.went o.up;
+  went = went_up _ _ _ _ _ _ _ o.went o.up;
   did = came_appended _ _ _ _ c.log_back.ensures.came.taken _ _ _ _ _ c.in-Ok-result.ensures.call c.log_back.ensures.came.did;
 }
 

@@ -8,4 +8,4 @@ pub returns-clause-held : goal.returns-clause-held
 returns-clause-held g c = opened_hold _ _ _ record { held = c.take_turn.new.seat.me.0; takes = c.take_turn.ensures.did; loads = c.load_log_end.ensures.did } c.requires.free
 
 pub returns-clause-logged : goal.returns-clause-logged
-returns-clause-logged g c = logged_on g.L.BlockLane.contents c.args.table.now _ _ _ (ap (λ (x : View). x.links) c.take_turn.ensures.work) c.load_log_end.ensures.logged
+returns-clause-logged g c = logged_on g.L.BlockLane.contents c.args.table.now _ c.args.seat.now.me.0 c.take_turn.new.seat.me.0 (ap (λ (x : View). x.links) c.take_turn.ensures.work) c.load_log_end.ensures.logged
