@@ -25,7 +25,7 @@ module _ {L G : Type 0} (t : FrameTable L G) (s s' : Seat (Value L G) View) (p :
     record {
       quiet = record { fits = same.table ∙ p.quiet.fits; live = ap (λ (x : View). x.emptied) k.aside ∙ p.quiet.live; hand = same.hand ∙ p.quiet.hand; frames = λ f. calm_looked (link s.me.0 f) (link s'.me.0 f) (k.links f) (p.quiet.frames f); lanes = λ n. ap (λ (l : List LaneHold). (get_or l n no_lane).held) (ap (λ (x : View). x.lanes) k.aside) ∙ p.quiet.lanes n; log = ap (λ (h : LogHold). h.held) (ap (λ (x : View). x.log) k.aside) ∙ p.quiet.log };
       no_victim = λ f victim. p.no_victim f (sym (k.links f).role ∙ victim);
-      partitions = λ q. ap (λ (x : PartitionHold). x.held) (same_hold s.me.0 s'.me.0 k.aside.partitions q) ∙ p.partitions q;
+      partitions = λ q. ap (λ (x : PartitionHold). x.held) (same_hold s.me.0 s'.me.0 (ap (λ (x : View). x.partitions) k.aside) q) ∙ p.partitions q;
     },
     λ f. (k.links f).role,
   )
@@ -51,7 +51,7 @@ module _ {L G : Type 0} (t : FrameTable L G) (s s' : Seat (Value L G) View) (p :
           log = ap (λ (x : LogHold). x.held) (ap (λ (x : View). x.log) after.self ∙ ap (λ (x : View). x.log) g.aside) ∙ p.quiet.log;
         };
         no_victim = λ h victim. p.no_victim h (sym (pins_same h) ∙ victim);
-        partitions = λ q. ap (λ (x : PartitionHold). x.held) (same_hold s'.me.0 s''.me.0 after.partitions q ∙ same_hold s.me.0 s'.me.0 g.aside.partitions q) ∙ p.partitions q;
+        partitions = λ q. ap (λ (x : PartitionHold). x.held) (same_hold s'.me.0 s''.me.0 after.partitions q ∙ same_hold s.me.0 s'.me.0 (ap (λ (x : View). x.partitions) g.aside) q) ∙ p.partitions q;
       },
       pins_same,
     )
@@ -59,6 +59,9 @@ module _ {L G : Type 0} (t : FrameTable L G) (s s' : Seat (Value L G) View) (p :
 -- what such a call keeps of the seat
 pub keeps_aside : {L G : Type 0} (s s' : Seat (Value L G) View) → SameSeat s s' → SameSelf s.me.0 s'.me.0 → Keeps s s'
 keeps_aside s s' same self = record { table = same.table; id = same.id; joined = ap (λ (x : View). x.joined) self; next = ap (λ (x : View). x.next) self }
+
+pub keeps_beside : {L G : Type 0} (s s' : Seat (Value L G) View) → SameSeat s s' → sweeping.SameAside s.me.0 s'.me.0 → Keeps s s'
+keeps_beside s s' same aside = record { table = same.table; id = same.id; joined = ap (λ (x : View). x.joined) aside; next = ap (λ (x : View). x.next) aside }
 
 -- A frame is pinned, other steps keep the pins, and the pin is given up: the seat pins what it pinned
 pub pins_back : {L G : Type 0} (f h : ℕ) (s s' r s'' : Seat (Value L G) View) → h ≡ f → (link s.me.0 f).role ≡ Absent → KeepsBeside f s s' → SamePins s' r → Touches h r.me.0 s''.me.0 → Looked (unpinned_link (link r.me.0 h)) (link s''.me.0 h) → SamePins s s''

@@ -1,5 +1,5 @@
 -- Seats that write a page to its lane.
-use Rattle.std.proofs.Common.{None, ◌≡◌, ◌≤◌, ℕ, Bool, true, false, [], List, ◌∷◌, ◌++◌, append-nil, get_or, sym, refl, ap, ◌∙◌, subst}
+use Rattle.std.proofs.Common.{None, ◌≡◌, ◌≢◌, ◌≤◌, ℕ, Bool, true, false, [], List, ◌∷◌, ◌++◌, append-nil, get_or, sym, refl, ap, ◌∙◌, subst}
 use Rattle.std.specs.Prelude.{MatchResult, Result, Ok, Err}
 use native.Mathlib.Decide.{ℕ_discrete}
 use mathlib.Core.Logic.{dite}
@@ -70,6 +70,15 @@ of_failed f tag page lane_call.SyncFailed n = n
 pub write_call : {A E : Type 0} (f : ℕ) (tag : Tag) (page : List ℕ) (call : LaneCall) (r : Result A E) → MatchResult r (λ _. NotesWritten f tag page call) (λ _. NotesWriteFailed f tag page call) → IsWriteCall f call
 write_call f tag page call (Ok x) n = of_written f tag page call n
 write_call f tag page call (Err x) n = of_failed f tag page call n
+
+pub others_noted : (f : ℕ) (call : LaneCall) (v w : View) → IsWriteCall f call → IsNoted call v w → (g : ℕ) → g ≢ f → link w g ≡ link v g
+others_noted f (lane_call.Written g t p) v w e noted h n = noted.others h (λ x. n (x ∙ e))
+others_noted f (lane_call.WriteFailed g t p) v w e noted h n = noted.others h (λ x. n (x ∙ e))
+others_noted f lane_call.Untouched v w e noted h n = absurd e
+others_noted f (lane_call.Read g t p) v w e noted h n = absurd e
+others_noted f (lane_call.ReadFailed t) v w e noted h n = absurd e
+others_noted f lane_call.Synced v w e noted h n = absurd e
+others_noted f lane_call.SyncFailed v w e noted h n = absurd e
 
 pub shares_noted : (f : ℕ) (tag : Tag) (call : LaneCall) (v w : View) → IsWriteCall f call → IsNoted call v w → Shares Output tag (link v f) → Shares Output tag (link w f)
 shares_noted f tag (lane_call.Written g t p) v w e noted r = let there : link w f ≡ written_link (link v f) = subst (λ (x : ℕ). link w x ≡ written_link (link v x)) e noted.here in

@@ -186,8 +186,8 @@ pub fn pin_by_four<R: Threads + Wait + Sync>(
             ensures { Rests table.entry.now second.exit × Keeps second.entry second.exit × Rests table.entry.now third.exit × Keeps third.entry third.exit × Rests table.entry.now fourth.exit × Keeps fourth.entry fourth.exit }
         {
             pin_three(
-                rt,
                 table,
+                rt,
                 &mut second,
                 &mut third,
                 &mut fourth,

@@ -1,7 +1,7 @@
 use Rattle.std.proofs.Common.{ℕ, sym, subst}
 use Rattle.clock_sweep.specs.Keeping.{GetsHeader}
 use Rattle.table_tests.proofs.Seats.{keeps_on}
-use Rattle.table_tests.proofs.Victims.{keeps_aside, unlocked_pins}
+use Rattle.table_tests.proofs.Victims.{keeps_aside, keeps_beside, unlocked_pins}
 use Rattle.table_tests.proofs.choosing.choose.Goals as goal
 
 pub returns-in-Ok-clause-pins : goal.returns-in-Ok-clause-pins
@@ -13,4 +13,4 @@ returns-in-Ok-clause-same g c = let u = c.unlock_header.ensures in
     (unlocked_pins _ _ _ c.requires.pins c.victim.ensures.seat _ _ (subst (λ (f : ℕ). GetsHeader f c.in-Ok.held.word c.args.seat.now.me.0 c.victim.new.seat.me.0) (sym c.into_frame-frame.ensures) c.in-Ok.ensures.held) _ u.seat u.touches u.unlocked).1
 
 pub returns-in-Ok-clause-keeps : goal.returns-in-Ok-clause-keeps
-returns-in-Ok-clause-keeps g c = let u = c.unlock_header.ensures in keeps_on _ _ _ (keeps_aside _ _ c.victim.ensures.seat c.in-Ok.ensures.held.aside.self) (keeps_aside _ _ u.seat u.touches.self)
+returns-in-Ok-clause-keeps g c = let u = c.unlock_header.ensures in keeps_on _ _ _ (keeps_beside _ _ c.victim.ensures.seat c.in-Ok.ensures.held.aside) (keeps_aside _ _ u.seat u.touches.self)

@@ -1,4 +1,4 @@
-use Rattle.std.proofs.Common.{rules, refl, ◌≤◌, List, ℕ, get_or, ap, sym, subst, ◌∙◌}
+use Rattle.std.proofs.Common.{refl, ◌≤◌, List, ℕ, get_or, ap, sym, subst, ◌∙◌}
 use Rattle.atomic_table.specs.Table.{rest}
 use Rattle.pin_core.specs.declared.view.Io.TheVariants.{Output}
 use Rattle.pin_core.specs.declared.view.View.{View}
@@ -10,12 +10,20 @@ use Rattle.pin_core.specs.State.{idle, link}
 use Rattle.table_tests.specs.Outputs.{Shares}
 use Rattle.table_tests.specs.Work.{IsCalm}
 use Rattle.table_tests.proofs.Reading.{lanes_free}
-use Rattle.table_tests.proofs.Written.{shares_noted, write_call}
+use Rattle.table_tests.proofs.Written.{others_noted, shares_noted, write_call}
 use Rattle.table_tests.proofs.Returned.{in_one_lane, may_note_write, may_return}
 use Rattle.table_tests.proofs.writing.write_lane.Goals as goal
 
 pub returns-clause-keeps : goal.returns-clause-keeps
-returns-clause-keeps g c = search rules
+returns-clause-keeps g c = let t = c.take_turn.ensures in let o = c.lane_out-lane.ensures in let b = c.lane_back.ensures in let l = c.leave_turn.ensures in record {
+  self = record {
+    table = l.seat.table ∙ b.seat.0 ∙ o.seat.0 ∙ t.seat.table;
+    id = l.seat.id ∙ b.seat.1 ∙ o.seat.1 ∙ t.seat.id;
+    joined = ap (λ (x : View). x.joined) l.work ∙ ap (λ (x : View). x.joined) b.view ∙ ap (λ (x : View). x.joined) o.view ∙ ap (λ (x : View). x.joined) t.work;
+    next = ap (λ (x : View). x.next) l.work ∙ ap (λ (x : View). x.next) b.view ∙ ap (λ (x : View). x.next) o.view ∙ ap (λ (x : View). x.next) t.work;
+  };
+  others = λ h n. ap (λ (x : View). get_or x.links h idle) l.work ∙ others_noted c.args.frame c.write-written.new.self.call c.lane_out-lane.new.seat.me.0 c.lane_back.new.seat.me.0 (write_call _ _ _ _ _ c.write-written.ensures.call) b.noted h n ∙ ap (λ (x : View). get_or x.links h idle) o.view ∙ ap (λ (x : View). get_or x.links h idle) t.work;
+}
 
 pub returns-clause-quiet : goal.returns-clause-quiet
 returns-clause-quiet g c = let q = c.requires.quiet in let k = returns-clause-keeps g c in record {
