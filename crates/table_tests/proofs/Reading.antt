@@ -109,7 +109,7 @@ module _ (f word : ℕ) (v w : View) (d : Did (pages paged.start_input) f v w wo
   begun_home free n = of_lanes n ∙ home_free d.state d.laws d.seat v d.there d.live (λ m. sym (ap (λ (l : List LaneHold). (get_or l m no_lane).held) same) ∙ free m) n
     where
       same : w.lanes ≡ v.lanes
-      same = ap (λ (x : View). x.lanes) d.after ∙ (self_after (pages paged.start_input) d.state f v).lanes
+      same = ap (λ (x : View). x.lanes) d.after ∙ ap (λ (x : View). x.lanes) (self_after (pages paged.start_input) d.state f v)
 
       of_lanes : (n : ℕ) → (lane_hold w n).out ≡ (lane_hold v n).out
       of_lanes n = ap (λ (l : List LaneHold). (get_or l n no_lane).out) same

@@ -2,7 +2,7 @@ use Rattle.std.proofs.Common.{ap, ◌∙◌}
 use Rattle.pin_core.specs.declared.view.View.{View}
 use Rattle.pin_core.specs.State.{hold}
 use Rattle.table_tests.specs.Work.{KeepsBeside}
-use Rattle.table_tests.proofs.Logged.{beside_fields, work_beside}
+use Rattle.table_tests.proofs.Logged.{beside_fields, work_beside, work_keeps}
 use Rattle.table_tests.proofs.Working.{beside_on}
 use Rattle.table_tests.proofs.logging.enter_page.Goals as goal
 
@@ -19,3 +19,6 @@ returns-in-Ok-clause-latches g c = λ q. c.apply.ensures.latches q ∙ ap (λ (v
 
 pub returns-in-Err-clause-quiet : goal.returns-in-Err-clause-quiet
 returns-in-Err-clause-quiet g c = let e = c.in-Err.ensures in work_beside _ _ _ e.seat e.work _ c.requires.quiet
+
+pub returns-in-Err-clause-keeps : goal.returns-in-Err-clause-keeps
+returns-in-Err-clause-keeps g c = let e = c.in-Err.ensures in work_keeps c.args.table.now _ _ e.seat e.work _

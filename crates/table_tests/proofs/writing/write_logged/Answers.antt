@@ -1,6 +1,9 @@
-use Rattle.std.proofs.Common.{ℕ, subst, true, false}
+use Rattle.std.proofs.Common.{ℕ, List, ap, get_or, subst, ◌∙◌, true, false}
+use Rattle.pin_core.specs.declared.view.LaneHold.{LaneHold}
+use Rattle.pin_core.specs.declared.view.View.{View}
+use Rattle.pin_core.specs.State.{no_lane}
 use Rattle.wal_flush.specs.Flushes.{FlushRefused}
-use Rattle.table_tests.proofs.Logged.{work_beside}
+use Rattle.table_tests.proofs.Logged.{work_beside, work_keeps}
 use Rattle.table_tests.proofs.Written.{refused_at, writes_logged, wrote_flushed}
 use Rattle.table_tests.proofs.writing.write_logged.Goals as goal
 
@@ -28,3 +31,9 @@ returns-then-write_lane-clause-did g c = let e = c.in_default.ensures in
 pub returns-else-write_lane-clause-did : goal.returns-else-write_lane-clause-did
 returns-else-write_lane-clause-did g c = let e = c.in_default.ensures in
     writes_logged false _ _ _ _ c.args.seat.now.me.0 c.flush_to-flushed.new.seat.me.0 c.write_lane.new.seat.me.0 c.if-write_lane.false c.lsn.ensures e.did e.flushed c.write_lane.ensures.calls
+
+pub returns-in-Err-clause-keeps : goal.returns-in-Err-clause-keeps
+returns-in-Err-clause-keeps g c = let e = c.in-Err.ensures in work_keeps c.args.table.now _ _ e.seat e.work _
+
+pub returns-in-Err-clause-home : goal.returns-in-Err-clause-home
+returns-in-Err-clause-home g c n = ap (λ (l : List LaneHold). (get_or l n no_lane).out) (ap (λ (x : View). x.lanes) c.in-Err.ensures.work) ∙ c.requires.home n

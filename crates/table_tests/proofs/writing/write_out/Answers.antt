@@ -4,6 +4,7 @@ use Rattle.std.specs.Prelude.{Err}
 use Rattle.content_locks.specs.Locks.{Copies}
 use Rattle.pin_core.specs.declared.view.Io.TheVariants.{Output}
 use Rattle.pin_core.specs.State.{link}
+use Rattle.state_word.specs.declared.word.IoEnd.TheVariants as io_end
 use Rattle.table_tests.specs.Outputs.{ClearsJust, Shares}
 use Rattle.table_tests.specs.Work.{IsQuietBeside, KeepsBeside}
 use Rattle.table_tests.proofs.Working.{beside_on, beside_still, keeps_touched, same_hold}
@@ -69,7 +70,7 @@ pub write_logged-requires-clause-quiet : goal.write_logged-requires-clause-quiet
 write_logged-requires-clause-quiet g c = let o = c.copy_out.ensures in beside_still _ _ _ o.seat _ c.clear_just.ensures.quiet o.touches.self o.touches.others
 
 pub returns-in-Ok-clause-shares : goal.returns-in-Ok-clause-shares
-returns-in-Ok-clause-shares g c = shares_finished _ _ _ _ (subst (λ (f : ℕ). Shares Output c.args.tag (link c.write_logged.new.seat.me.0 f)) c.frame-frame.ensures c.write_logged.ensures.writes) c.end_io.ensures.ended
+returns-in-Ok-clause-shares g c = shares_finished io_end.WriteOk _ _ _ (subst (λ (f : ℕ). Shares Output c.args.tag (link c.write_logged.new.seat.me.0 f)) c.frame-frame.ensures c.write_logged.ensures.writes) c.end_io.ensures.ended
 
 pub returns-in-Err-clause-shares : goal.returns-in-Err-clause-shares
-returns-in-Err-clause-shares g c = shares_finished _ _ _ _ (subst (λ (f : ℕ). Shares Output c.args.tag (link c.write_logged.new.seat.me.0 f)) c.frame-frame.ensures c.write_logged.ensures.writes) c.end_io-in-Err.ensures.ended
+returns-in-Err-clause-shares g c = shares_finished io_end.Bad _ _ _ (subst (λ (f : ℕ). Shares Output c.args.tag (link c.write_logged.new.seat.me.0 f)) c.frame-frame.ensures c.write_logged.ensures.writes) c.end_io-in-Err.ensures.ended
