@@ -22,10 +22,10 @@ use Rattle.frame_table.specs.Kinds.{pins, view_after}
 use Rattle.frame_table.specs.Behind.{DidWord, add_hand}
 use Rattle.frame_table.specs.Sees.{CanStep, Holds, IsSeat, Looked, SameSeat, frames_of, locked_link, unlocked_link}
 use Rattle.frame_table.specs.Tells.{Did, Looks, still, again, looking}
-use Rattle.frame_table.proofs.Told.{touches, link_is, looked, looked_on, looked_same, locked_after, looks_touch, looks_link, touches_none}
+use Rattle.frame_table.proofs.Told.{touches, link_is, looked, looked_on, looked_same, locked_after, looks_touch, looks_link}
 use Rattle.clock_sweep.specs.Keeping.{SameAside, aside_of, Keeps, GetsHeader, SamePins}
 use Rattle.clock_sweep.specs.Choosing as choice
-use Rattle.clock_sweep.specs.Choosing.{Locks, Leaves, Skips, LeavesRing, LeavesFree, Counts, FindsUnpinned, NextIs, Passes, Sweeps, Comes, Chooses, FindsNone, Takes}
+use Rattle.clock_sweep.specs.Choosing.{Locks, Leaves, Skips, LeavesRing, LeavesFree, Counts, NextIs, Passes, Sweeps, Comes, Chooses, FindsNone, Takes}
 use Rattle.clock_sweep.specs.declared.held.Held.{Held}
 
 -- what steps leave apart from frames

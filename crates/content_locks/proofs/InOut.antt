@@ -1,5 +1,5 @@
 -- Reads and writes begin, and end.
-use Rattle.std.proofs.Common.{◌≡◌, ◌≢◌, ℕ, Bool, not, true, false, Some, None, List, get_or, sym, refl, ap, ◌∙◌, subst}
+use Rattle.std.proofs.Common.{◌≡◌, ◌≢◌, ℕ, Bool, not, true, false, None, List, get_or, sym, refl, ap, ◌∙◌, subst}
 use Rattle.state_word.specs.declared.word.StateWord.{StateWord}
 use Rattle.state_word.specs.Fields.{fields, locked_fields}
 use Rattle.pin_core.specs.declared.view.Role.TheVariants.{Absent, HandedOut}

@@ -1,6 +1,6 @@
 -- Content locks and copies.
-use Rattle.std.proofs.Common.{◌≡◌, ◌≢◌, ℕ, ◌<◌, ◌%◌, ◌^◌, Bool, true, false, Option, Some, None, cond, sym, refl, ap, ◌∙◌, subst, arith}
-use mathlib.Core.Logic.{◌⊎◌, inl, inr}
+use Rattle.std.proofs.Common.{◌≡◌, ◌≢◌, ℕ, Bool, true, false, Option, Some, None, cond, sym, refl, ap, ◌∙◌, subst, arith}
+use mathlib.Core.Logic.{inl, inr}
 use Rattle.pin_core.specs.declared.view.Content.{Content}
 use Rattle.pin_core.specs.declared.view.Content.TheVariants.{Unlocked, Shared, Exclusive}
 use Rattle.pin_core.specs.declared.view.Io.{Io}
@@ -11,7 +11,7 @@ use Rattle.page_layout.specs.Soundness.{is_sound_page}
 use Rattle.pin_core.specs.State.{Page, link}
 use Rattle.page_core.specs.Kinds as paged
 use Rattle.frame_table.specs.Kinds.{FrameKind, pages}
-use Rattle.frame_table.specs.Sees.{SameMarks, SameSeat, Touches}
+use Rattle.frame_table.specs.Sees.{SameMarks, Touches}
 use Rattle.frame_table.specs.Tells.{Did}
 use Rattle.frame_table.specs.Content.{copying_link, looking_content, has_exclusive}
 use Rattle.frame_table.specs.PageWork.{CanReturnPage, applied_link, input_page, page_due, page_out_link, read_home, returned_link}

@@ -5,14 +5,13 @@ use Rattle.state_word.specs.declared.word.StateWord.{StateWord}
 use Rattle.state_word.specs.Fields.{fields, io_ended_fields, unlocked_fields}
 use Rattle.pin_core.specs.declared.view.Content.TheVariants.{Shared}
 use Rattle.pin_core.specs.declared.view.Role.TheVariants.{HandedOut, Absent}
-use Rattle.pin_core.specs.declared.view.Io.TheVariants.{Input, Output}
+use Rattle.pin_core.specs.declared.view.Io.TheVariants.{Input}
 use Rattle.pin_core.specs.declared.view.Link.{Link}
 use Rattle.pin_core.specs.declared.view.View.{View}
 use Rattle.pin_core.specs.State.{link}
 use Rattle.pin_core.specs.Kinds.{lock_header, unlock_header}
 use Rattle.page_core.specs.Kinds as paged
 use Rattle.page_core.specs.Kinds.{EndsAs}
-use Rattle.frame_table.specs.declared.io_right.IoRight.{IoRight}
 use Rattle.frame_table.specs.Kinds.{pages, pins}
 use Rattle.frame_table.specs.Sees.{IsWordOf, Looked, MarksBegun, MarksEnded, SameMarks}
 use Rattle.frame_table.specs.Tells.{Did, Looks, looking}

@@ -38,14 +38,14 @@ use Rattle.table_rule.specs.Blocks.{has_block, has_named, is_block}
 use Rattle.block_tag.specs.declared.catalogue.RelEntry.{RelEntry}
 use Rattle.table_rule.specs.Layout.{state_place, tag_place, tag_partition, partition_of_tag}
 use Rattle.history_core.specs.Laws.{Laws}
-use Rattle.frame_table.specs.Kinds.{FrameKind, pins, part_of, link_after, view_after}
+use Rattle.frame_table.specs.Kinds.{FrameKind, pins, part_of, link_after}
 use Rattle.table_rule.specs.Shows.{ShowsFrame, Devices, Shows, Held}
-use Rattle.frame_table.specs.Sees.{Finds, mapped_link, SameSelf, Looked, Touches, Stores, HoldsWord, HasRoom, IsUsed, HasFlag, IsAlone, MayChange, Lacks, NamesIn, NamesStored, CanStore, CanErase, CanStoreAs, partitions_erased, partitions_stored, stored_link, victim_link, unlocked_link, assigned_link, cleared_link, tag_word, read_link}
+use Rattle.frame_table.specs.Sees.{Finds, mapped_link, SameSelf, Looked, Touches, Stores, HoldsWord, HasRoom, IsUsed, HasFlag, IsAlone, MayChange, Lacks, NamesIn, NamesStored, CanStore, CanErase, CanStoreAs, partitions_erased, partitions_stored, stored_link, assigned_link, tag_word, read_link}
 use Rattle.frame_table.specs.Tells.{Tried, if_found, Did, always, looking, storing, tells}
 use Rattle.frame_table.proofs.Frames.{Asks}
 use Rattle.frame_table.proofs.Acting.{acts}
 use Rattle.frame_table.proofs.Words.{swaps, AsksWord, stores}
-use Rattle.frame_table.proofs.Told.{looks_link, self_after, grows, links_after, touches, touches_on, link_is, looked}
+use Rattle.frame_table.proofs.Told.{looks_link, self_after, grows, links_after, link_is}
 
 -- numbers that are alike at a place have the same bit there
 same_bit : (place v w : ℕ) → v / 2 ^ place % 2 ≡ w / 2 ^ place % 2 → bit place v ≡ bit place w

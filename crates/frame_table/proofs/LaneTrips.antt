@@ -33,7 +33,7 @@ use Rattle.pin_core.specs.State.{Frame, Page, link, lane_hold, no_lane, idle, su
 use Rattle.pin_core.specs.Tallies.{flag_weight}
 use Rattle.history_core.specs.State.{State, Lane}
 use Rattle.history_core.specs.Lanes.{swept_by, LaneKind, lane_out, fail_read, write_block, fail_write, sync_lane, fail_sync, lane_back, CanReturnLane, CountsFault, CanCall, LaneLink, is_failed_read, is_failed_write, lane_after, lane_hold_after, Rises}
-use Rattle.history_core.specs.Steps.{Event, Run}
+use Rattle.history_core.specs.Steps.{Event}
 use Rattle.history_core.specs.Steps as steps
 use Rattle.history_core.specs.Laws.{Laws}
 use Rattle.grid.proofs.Lists.{set_here}

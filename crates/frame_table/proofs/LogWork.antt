@@ -24,7 +24,7 @@ use Rattle.history_core.specs.Lanes.{Rises}
 use Rattle.history_core.specs.Log.{record_size}
 use Rattle.history_core.specs.Outings.{IsAsTaken}
 use Rattle.history_core.specs.State.{State, Device}
-use Rattle.history_core.specs.Steps.{Step, AppendsRecord, CanLog, aside, new_entry}
+use Rattle.history_core.specs.Steps.{AppendsRecord, aside, new_entry}
 use Rattle.history_core.specs.Steps as steps
 use Rattle.history_core.proofs.Laws.{laws_kept}
 use Rattle.history_core.proofs.LogCounting.{others_home}

@@ -13,7 +13,7 @@ use Rattle.pin_core.specs.declared.view.MapEntry.{MapEntry}
 use Rattle.pin_core.specs.declared.view.MapChange.{MapChange}
 use Rattle.pin_core.specs.declared.view.MapChange.TheVariants.{Settled, Entering, Leaving}
 use Rattle.pin_core.specs.declared.view.PartitionHold.{PartitionHold}
-use Rattle.pin_core.specs.State.{Frame, link, hold, no_partition}
+use Rattle.pin_core.specs.State.{hold, no_partition}
 use Rattle.pin_core.specs.State as pool
 use Rattle.pin_core.specs.Tallies.{flag_weight}
 use Rattle.pin_core.specs.Turns as parts
@@ -21,10 +21,10 @@ use Rattle.pin_core.specs.Turns.{found, map_after, map_now, owed_by}
 use Rattle.pin_core.specs.Steps as pin_steps
 use Rattle.page_core.specs.Steps as page_steps
 use Rattle.history_core.specs.State.{State}
-use Rattle.history_core.specs.Steps.{Step, Event, pools}
+use Rattle.history_core.specs.Steps.{Step, pools}
 use Rattle.history_core.specs.Steps as steps
 use Rattle.grid.specs.Shape.{put}
-use Rattle.grid.proofs.Lists.{put_here, put_else, put_at, at_set}
+use Rattle.grid.proofs.Lists.{put_here, put_else}
 use Rattle.grid.proofs.Lists as grid
 use Rattle.grid.proofs.Sums.{terms_le}
 use Rattle.table_rule.specs.declared.value.Mapped.{Mapped}

@@ -16,7 +16,7 @@ use Rattle.pin_core.specs.declared.view.Link.{Link}
 use Rattle.pin_core.specs.declared.view.View.{View}
 use Rattle.pin_core.specs.State.{Page, link}
 use Rattle.history_core.specs.Laws.{Laws}
-use Rattle.history_core.specs.Log.{Entry, cell, end_of}
+use Rattle.history_core.specs.Log.{Entry, cell}
 use Rattle.history_core.specs.State.{State}
 use Rattle.history_core.proofs.Logs.{cell_is, ends_below}
 use Rattle.history_core.proofs.Sound.{stay_untouched}

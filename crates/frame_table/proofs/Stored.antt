@@ -13,7 +13,7 @@ use Rattle.history_core.specs.State.{State, next_hand}
 use Rattle.history_core.specs.Trail.{Follows}
 use Rattle.history_core.proofs.Trail.{Ticks, listed_made, next_tick, next_word}
 use Rattle.table_rule.specs.declared.opening.Opening.{Opening}
-use Rattle.table_rule.specs.Layout.{end_place, flushed_place, hand_place}
+use Rattle.table_rule.specs.Layout.{flushed_place, hand_place}
 use Rattle.table_rule.specs.Shows.{Devices}
 use Rattle.frame_table.specs.Behind.{DidWord, add_hand, raise_flushed}
 use Rattle.frame_table.specs.Kinds.{Part, state_word, FrameKind, pins, pages, part_of, frame_after, view_after}

@@ -17,7 +17,7 @@ use Rattle.pin_core.specs.declared.view.MapEntry.{MapEntry}
 use Rattle.pin_core.specs.declared.view.TakenLane.{TakenLane}
 use Rattle.pin_core.specs.declared.view.PartitionHold.{PartitionHold}
 use Rattle.pin_core.specs.declared.view.LaneHold.{LaneHold}
-use Rattle.pin_core.specs.State.{Frame, sum_of_met, link, hold, lane_hold, no_partition, no_lane}
+use Rattle.pin_core.specs.State.{Frame, sum_of_met, hold, lane_hold, no_partition, no_lane}
 use Rattle.pin_core.specs.State as pool
 use Rattle.pin_core.specs.Tallies.{flag_weight}
 use Rattle.pin_core.specs.Turns as parts

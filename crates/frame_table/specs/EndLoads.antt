@@ -1,7 +1,5 @@
 -- What the log's end is loaded for, and what a load of it shows.
 use Rattle.std.specs.Prelude.{◌≡◌, ℕ, ◌<◌, ◌≤◌, List, Option, Some}
-use mathlib.Core.Option.{some}
-use lib.ListN.{get_elem?}
 use Rattle.atomic_table.specs.Table.{Me, Step}
 use Rattle.block_tag.specs.declared.tag.Tag.{Tag}
 use Rattle.block_tag.specs.declared.catalogue.RelEntry.{RelEntry}
@@ -10,13 +8,12 @@ use Rattle.segment_store.specs.Contents.{Pages}
 use Rattle.pin_core.specs.declared.view.View.{View}
 use Rattle.pin_core.specs.State.{Page, link}
 use Rattle.table_rule.specs.declared.value.Value.{Value}
-use Rattle.table_rule.specs.TakenLanes.{IsBlockOf}
 use Rattle.frame_table.specs.declared.log_words.EndLoad.{EndLoad}
 use Rattle.frame_table.specs.declared.log_words.EndLoad.TheVariants.{Plain, Read, Checkpoint}
 use Rattle.frame_table.specs.declared.table.FrameTable.{FrameTable}
 use Rattle.frame_table.specs.Opened.{CopiesAreLogged, IsHeld, WasAtOpening}
 use Rattle.frame_table.specs.Behind.{WordKind, load_end, read_end, begin_checkpoint, IsCopied, tells_word}
-use Rattle.frame_table.specs.Sees.{base_of, lanes_in, opened_of, relations_of}
+use Rattle.frame_table.specs.Sees.{base_of}
 
 abbrev pub end_kind : EndLoad → WordKind
 end_kind Plain = load_end

@@ -23,7 +23,7 @@ use Rattle.page_core.specs.Kinds.{Kind, Allowed, frame_after, dirties, starts_ou
 use Rattle.page_core.specs.Steps as page_steps
 use Rattle.history_core.specs.State.{Lane, State, Store, failed, opening}
 use Rattle.history_core.specs.Lanes as lane_kinds
-use Rattle.history_core.specs.Lanes.{swept_by, LaneKind, LaneAllowed, lane_after, lane_hold_after, met_by, fault_of, syncs, is_failed_write}
+use Rattle.history_core.specs.Lanes.{swept_by, LaneKind, lane_after, lane_hold_after, met_by, fault_of, syncs, is_failed_write}
 use Rattle.history_core.specs.Steps.{LaneAlone, Writes, Notes, Step, pools, lanes, writes, notes, logs, enters, reads, loads_end, begins, loads_flushed, raises, adds_hand, loads_hand, Event, Run, rests, goes, stepped, ticked, looked, aside, pool_after, logged_noting, pool_noting, paged, laned, has_loaded, has_read, has_begun, has_written, has_raised}
 use Rattle.history_core.specs.Log.{record_size}
 use Rattle.history_core.specs.Device as log_kinds

@@ -12,7 +12,7 @@ use Rattle.pin_core.specs.Tallies.{flag_weight, unless_flag}
 use Rattle.pin_core.specs.State.{Page, sum_of_met}
 use Rattle.history_core.specs.State.{Lane}
 use Rattle.history_core.specs.Lanes as lanes
-use Rattle.history_core.specs.Lanes.{LaneKind, LaneAllowed, lane_after, lane_hold_after, met_by, fault_of, is_failed_read, is_failed_write, LaneLink, LaneColumn, Rises, CountsFault, CountsOut}
+use Rattle.history_core.specs.Lanes.{LaneKind, LaneAllowed, lane_after, lane_hold_after, met_by, fault_of, is_failed_read, is_failed_write, LaneLink, LaneColumn, Rises}
 use Rattle.history_core.specs.Device.{HasRisen}
 use Rattle.history_core.specs.Counts.{Known, CountTally, holders, failed_reads, failed_writes, unfailed, count_weigh, CountLaw, LaneCounts, HoldCounts, count_shape, lane_part, count_part}
 use Rattle.history_core.proofs.Device.{risen_least, risen}

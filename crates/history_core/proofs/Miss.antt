@@ -18,7 +18,7 @@ use Rattle.pin_core.specs.declared.view.LaneHold.{LaneHold}
 use Rattle.pin_core.specs.declared.view.Seen.TheVariants as seen
 use Rattle.pin_core.specs.State.{lane_hold, no_lane}
 use Rattle.page_core.specs.Steps as page_steps
-use Rattle.page_core.specs.Steps.{HasNoWriteOut, IsWriteOf}
+use Rattle.page_core.specs.Steps.{HasNoWriteOut}
 use Rattle.page_core.specs.Sample.{sample_page, sample_entry}
 use Rattle.history_core.specs.State.{State}
 use Rattle.history_core.specs.Lanes.{LaneKind, take_lane, leave_lane, lane_out, read_block, lane_back, CanTakeOut, lane_after}

@@ -20,7 +20,7 @@ use Rattle.history_core.specs.Log.{record_size, head_bytes, records, log_bytes}
 use Rattle.history_core.specs.State.{State, last_position}
 use Rattle.history_core.specs.Lanes.{take_lane, leave_lane, lane_out, write_block, CanTakeOut, lane_after}
 use Rattle.history_core.specs.Device.{LogKind, take_log, leave_log, log_out, append, sync_log, log_back, device_after, view_logged}
-use Rattle.history_core.specs.Steps.{CanLog, aside, pool_after, stepped, looked, laned, new_entry, has_written, pools, lanes, writes, notes, logs, enters, loads_flushed, raises, Run, rests, goes, has_raised}
+use Rattle.history_core.specs.Steps.{CanLog, aside, pool_after, looked, laned, new_entry, has_written, pools, lanes, writes, notes, logs, enters, loads_flushed, raises, Run, rests, goes, has_raised}
 use Rattle.history_core.specs.Steps as steps
 use Rattle.history_core.specs.Sample.{sample_store, sample_lane, sample_log}
 use Rattle.history_core.specs.Miss.{miss_start, miss, fill}

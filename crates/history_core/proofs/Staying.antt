@@ -6,7 +6,7 @@ use native.Mathlib.Decide.{ℕ_discrete}
 use lib.ListN.{get_elem?}
 use Rattle.pin_core.specs.declared.view.Seen.TheVariants as seen
 use Rattle.pin_core.specs.declared.view.View.{View}
-use Rattle.pin_core.specs.State.{link, hold, new_view, emptied_view, joined_view}
+use Rattle.pin_core.specs.State.{hold, new_view, emptied_view, joined_view}
 use Rattle.pin_core.specs.State as pins
 use Rattle.pin_core.specs.Steps as pin_steps
 use Rattle.pin_core.specs.Turns.{view_turned}

@@ -15,7 +15,7 @@ use Rattle.pin_core.specs.declared.view.Link.{Link}
 use Rattle.pin_core.specs.declared.view.View.{View}
 use Rattle.pin_core.specs.declared.view.Call.TheVariants.{Read}
 use Rattle.pin_core.specs.declared.view.Seen.TheVariants as seen
-use Rattle.pin_core.specs.State.{Frame, Page, no_tag, idle, link, hold, lane_hold, no_lane, new_view, emptied_view, joined_view}
+use Rattle.pin_core.specs.State.{Frame, Page, no_tag, idle, link, hold, lane_hold, new_view, emptied_view, joined_view}
 use Rattle.pin_core.specs.State as pins
 use Rattle.pin_core.specs.Tallies as pin_tallies
 use Rattle.pin_core.specs.Tallies.{frame_shape}
@@ -29,9 +29,9 @@ use Rattle.page_core.specs.State as page
 use Rattle.page_core.specs.State.{Block, block_of}
 use Rattle.page_core.specs.Tallies.{sharers, weigh, page_shape}
 use Rattle.page_core.specs.Invariant as page_law
-use Rattle.page_core.specs.Invariant.{PageFrame, PageLink}
+use Rattle.page_core.specs.Invariant.{PageLink}
 use Rattle.page_core.specs.Kinds as kinds
-use Rattle.page_core.specs.Kinds.{Kind, note_read, begin_write, note_write, make_entry, Allowed, frame_after, block_after, link_after, view_after}
+use Rattle.page_core.specs.Kinds.{Kind, note_read, begin_write, note_write, make_entry, Allowed, frame_after, block_after, link_after}
 use Rattle.page_core.specs.Steps as page_steps
 use Rattle.page_core.specs.Steps.{logged_after}
 use Rattle.page_core.proofs.Cases.{tag_kept}
@@ -40,7 +40,7 @@ use Rattle.page_core.proofs.Stepping.{new_none}
 use Rattle.history_core.specs.Log.{Entry, IsImage, record_size, cell, log_bytes, record_bytes}
 use Rattle.history_core.specs.State.{Lane, Device, State, next_hand, stored, stored_upto, failed}
 use Rattle.history_core.specs.Lanes as lane_kinds
-use Rattle.history_core.specs.Lanes.{swept_by, LaneKind, LaneAllowed, lane_after, lane_hold_after, LaneLink, lane_shape, lane_part}
+use Rattle.history_core.specs.Lanes.{swept_by, LaneKind, LaneAllowed, lane_after, lane_hold_after, lane_shape, lane_part}
 use Rattle.history_core.specs.Homes.{Home, home_of, IsClean, HomeLink, home_shape, home_part, IsUnframed, IsFlushedCell}
 use Rattle.history_core.specs.Invariant.{HistoryLaw, written_of, Invariant}
 use Rattle.history_core.specs.Steps.{Event, IsPlain, PoolAllowed, stepped, ticked, looked, aside, pool_after, pool_noting, CanNoteLaneRead, paged, laned, LaneAlone, CanWrite, Writes, Notes, new_entry, CanEnter, CanRead, has_loaded, has_read, has_begun, has_written, Step, pools, lanes, writes, notes, enters, reads, loads_end, begins, loads_flushed, raises, adds_hand, loads_hand, logs, Run, rests, goes, has_raised}

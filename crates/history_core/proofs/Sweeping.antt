@@ -12,7 +12,7 @@ use Rattle.pin_core.specs.declared.view.LaneHold.{LaneHold}
 use Rattle.pin_core.specs.declared.view.Link.{Link}
 use Rattle.pin_core.specs.declared.view.Seen.TheVariants as seen
 use Rattle.pin_core.specs.declared.view.View.{View}
-use Rattle.pin_core.specs.State.{Config, Page, Frame, no_tag, no_lane, idle, link, lane_hold, hold, first_view, new_view, emptied_view, joined_view, kept_checkpoint}
+use Rattle.pin_core.specs.State.{Config, Page, no_lane, idle, link, lane_hold, hold, first_view, new_view, emptied_view, joined_view, kept_checkpoint}
 use Rattle.pin_core.specs.State as pins
 use Rattle.pin_core.specs.Kinds as pin_kinds
 use Rattle.pin_core.specs.Turns.{view_turned}

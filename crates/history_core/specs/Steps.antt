@@ -17,9 +17,9 @@ use Rattle.pin_core.specs.declared.view.Call.TheVariants.{Read, Write}
 use Rattle.pin_core.specs.State.{Page, link, lane_hold, local}
 use Rattle.pin_core.specs.Kinds.{load_of}
 use Rattle.page_core.specs.State as page
-use Rattle.page_core.specs.State.{Block, block_of}
+use Rattle.page_core.specs.State.{block_of}
 use Rattle.page_core.specs.Kinds as pages
-use Rattle.page_core.specs.Kinds.{Kind, note_read, begin_write, note_write, make_entry, end_io}
+use Rattle.page_core.specs.Kinds.{Kind, note_read, begin_write, note_write, make_entry}
 use Rattle.page_core.specs.Steps as page_steps
 use Rattle.page_core.specs.Steps.{logged_after}
 use Rattle.history_core.specs.Log.{Entry, record_size, record_bytes}

@@ -1,6 +1,5 @@
 -- The record of a page, and what a call of the log makes of its device.
-use Rattle.std.specs.Prelude.{◌≡◌, ℕ, ◌+◌, Bool, true, false, List, ◌++◌, length, Option, Some, None, option_map, IfSome, IsSomeAnd}
-use Rattle.byteorder.specs.Endian.{little_bytes}
+use Rattle.std.specs.Prelude.{◌≡◌, ℕ, ◌+◌, Bool, true, false, List, ◌++◌, length, Option, None, option_map, IfSome, IsSomeAnd}
 use Rattle.log_device.specs.Bytes.{GainsPrefix}
 use Rattle.log_device.specs.Faults.{Rose}
 use Rattle.block_tag.specs.declared.tag.Tag.{Tag}

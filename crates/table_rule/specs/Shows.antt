@@ -19,9 +19,7 @@ use Rattle.history_core.specs.State.{State, Lane, Device}
 use Rattle.history_core.specs.Log.{record_size, head_bytes}
 use Rattle.history_core.specs.Laws.{Laws}
 use Rattle.table_rule.specs.declared.value.Mapped.{Mapped}
-use Rattle.table_rule.specs.declared.noted_lane.NotedLane.{NotedLane}
 use Rattle.table_rule.specs.declared.noted_lane.LaneCall.TheVariants as lane_call
-use Rattle.table_rule.specs.declared.noted_log.NotedLog.{NotedLog}
 use Rattle.table_rule.specs.declared.noted_log.LogCall.TheVariants as log_call
 use Rattle.table_rule.specs.declared.value.Value.{Value}
 use Rattle.table_rule.specs.declared.value.Value.TheVariants as value

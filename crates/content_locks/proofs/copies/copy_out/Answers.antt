@@ -4,7 +4,6 @@ use Rattle.frame_table.proofs.Told.{touches_on}
 use Rattle.page_core.specs.Kinds as kinds
 use Rattle.content_locks.specs.Locks.{MayCopy, alone, latched, still, again}
 use Rattle.content_locks.proofs.Locking.{is_shared, is_exclusive_lock, locks_on}
-use Rattle.frame_table.proofs.Marks.{marks_on}
 use Rattle.content_locks.proofs.copies.copy_out.Goals as goal
 
 pub copy_page-requires-clause-view : goal.copy_page-requires-clause-view

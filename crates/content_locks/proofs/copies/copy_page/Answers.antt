@@ -1,8 +1,6 @@
 use Rattle.std.proofs.Common.{ap, ◌∙◌}
-use Rattle.page_layout.specs.Soundness.{is_sound_page}
 use Rattle.pin_core.specs.declared.view.Link.{Link}
 use Rattle.content_locks.proofs.Locking.{may_return, copied_back, copy_sound}
-use Rattle.frame_table.proofs.Marks.{marks_on}
 use Rattle.content_locks.proofs.copies.copy_page.Goals as goal
 
 pub page_back-requires-clause-can : goal.page_back-requires-clause-can

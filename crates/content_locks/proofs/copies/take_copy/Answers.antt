@@ -1,11 +1,10 @@
-use Rattle.std.proofs.Common.{refl, sym, ap, subst, ◌∙◌}
+use Rattle.std.proofs.Common.{refl, ap, subst, ◌∙◌}
 use Rattle.pin_core.specs.declared.view.View.{View}
 use Rattle.pin_core.specs.declared.view.Link.{Link}
 use Rattle.page_core.specs.Kinds as kinds
 use Rattle.frame_table.proofs.Told.{touches_on}
 use Rattle.content_locks.specs.Locks.{TriedCopy, still}
 use Rattle.content_locks.proofs.Locking.{looks_marks, looks_touch, looks_link, looks_on, locks_on, latched_on}
-use Rattle.frame_table.proofs.Marks.{marks_on}
 use Rattle.content_locks.proofs.copies.take_copy.Goals as goal
 
 pub loop-init : goal.loop-init

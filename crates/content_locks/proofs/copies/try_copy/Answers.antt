@@ -1,7 +1,6 @@
 use Rattle.std.proofs.Common.{◌∙◌}
 use Rattle.frame_table.proofs.Told.{touches_on}
 use Rattle.content_locks.specs.Locks.{still, again}
-use Rattle.frame_table.proofs.Marks.{marks_on}
 use Rattle.content_locks.proofs.copies.try_copy.Goals as goal
 
 pub returns-in-Err-clause-touches : goal.returns-in-Err-clause-touches

@@ -1,4 +1,4 @@
-use Rattle.std.proofs.Common.{refl, sym, ap, ◌∙◌, subst}
+use Rattle.std.proofs.Common.{refl, ap, ◌∙◌}
 use Rattle.pin_core.specs.declared.view.View.{View}
 use Rattle.frame_table.proofs.Told.{touches_none, touches_on, looked_on}
 use Rattle.content_locks.proofs.InOut.{headless_still, quiet_still, can_still, begun_on, begins_on, nothing_on, looked_none}

@@ -2,7 +2,7 @@ use Rattle.std.proofs.Common.{◌≡◌, true, sym, ap, subst, ◌∙◌, Bool}
 use Rattle.state_word.specs.Fields.{fields}
 use Rattle.pin_core.specs.declared.view.Link.{Link}
 use Rattle.content_locks.specs.Io.{is_nothing}
-use Rattle.content_locks.proofs.InOut.{unlocked_back, begun_back, can_begin, tag_there, begins, finds, finds_work, quiet_locked, sees}
+use Rattle.content_locks.proofs.InOut.{unlocked_back, begun_back, can_begin, tag_there, begins, finds, quiet_locked, sees}
 use Rattle.std.specs.Prelude.{not, ◌||◌}
 use Rattle.frame_table.specs.Sees.{Marks}
 use Rattle.frame_table.proofs.Told.{touches_on}

@@ -5,7 +5,6 @@ use Rattle.frame_table.proofs.Told.{touches_on}
 use Rattle.frame_table.specs.Content.{CanLock, shared_link}
 use Rattle.content_locks.specs.Locks.{still}
 use Rattle.content_locks.proofs.Locking.{looks_marks, looks_touch, looks_link, looks_on, refused_looks, locks_on}
-use Rattle.frame_table.proofs.Marks.{marks_on}
 use Rattle.content_locks.proofs.locks.share.Goals as goal
 
 pub loop-init : goal.loop-init

@@ -2,7 +2,6 @@ use Rattle.std.proofs.Common.{◌∙◌}
 use Rattle.frame_table.proofs.Told.{touches_on}
 use Rattle.content_locks.proofs.Locking.{held_word}
 use Rattle.content_locks.specs.Locks.{still, again}
-use Rattle.frame_table.proofs.Marks.{marks_on}
 use Rattle.content_locks.proofs.locks.try_exclusive.Goals as goal
 
 pub returns-in-Ok-clause-did : goal.returns-in-Ok-clause-did

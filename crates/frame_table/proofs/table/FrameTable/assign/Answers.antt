@@ -5,7 +5,7 @@ use Rattle.frame_table.specs.Kinds.{pins}
 use Rattle.frame_table.proofs.HeldWords.{as_held}
 use Rattle.frame_table.proofs.Holding.{assigned_after, assigned_tag, assigns_there}
 use Rattle.frame_table.proofs.Marks.{did_marks}
-use Rattle.frame_table.proofs.Told.{link_is, touches}
+use Rattle.frame_table.proofs.Told.{touches}
 use Rattle.frame_table.proofs.table.FrameTable.assign.Goals as goal
 
 pub swap-requires : goal.swap-requires

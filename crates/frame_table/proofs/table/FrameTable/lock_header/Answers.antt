@@ -4,7 +4,7 @@ use Rattle.frame_table.specs.Kinds.{pins}
 use Rattle.frame_table.specs.Tells.{still, again}
 use Rattle.frame_table.proofs.Told.{touches, touches_on, looks_touch, looks_headless, on_locked, on_unlocked, locked_after}
 use Rattle.frame_table.proofs.Seeing.{word_locked}
-use Rattle.frame_table.proofs.Marks.{did_marks, looks_marks, marks_on}
+use Rattle.frame_table.proofs.Marks.{did_marks, looks_marks}
 use Rattle.pin_core.specs.declared.view.View.{View}
 use Rattle.frame_table.proofs.table.FrameTable.lock_header.Goals as goal
 

@@ -1,6 +1,5 @@
 use Rattle.std.proofs.Common.{ℕ, Option, ap, ◌∙◌, rules, arith}
 use Rattle.std.specs.Prelude.{unwrap_or}
-use Rattle.pin_core.specs.declared.view.View.{View}
 use Rattle.history_core.specs.Steps.{has_raised}
 use Rattle.frame_table.proofs.Behind.{raises_there}
 use Rattle.frame_table.proofs.table.FrameTable.raise_flushed.Goals as goal

@@ -1,5 +1,4 @@
-use Rattle.std.proofs.Common.{rules, arith, refl, ◌∙◌, ap}
-use Rattle.state_word.specs.Fields.{unlocked_fields}
+use Rattle.std.proofs.Common.{rules, arith, refl}
 use Rattle.pin_core.specs.Kinds.{pin_victim}
 use Rattle.frame_table.specs.Kinds.{pins}
 use Rattle.frame_table.proofs.HeldWords.{as_held}

@@ -1,5 +1,5 @@
 use Rattle.std.proofs.Common.{◌≡◌, ◌&&◌, ◌||◌, ℕ, Bool, not, ltb, true, false, arith, ap, ap₂, sym, ◌∙◌, add-one}
-use Rattle.std.specs.List.{list_any, range_with_len}
+use Rattle.std.specs.List.{range_with_len}
 use Rattle.page_layout.specs.Fields.{item_count}
 use Rattle.page_layout.specs.Rewritten.{is_outside, room_at, room_of}
 use Rattle.page_layout.proofs.Compactable.{any_more, any_range, fit_is}
