@@ -94,7 +94,7 @@ module _ {L G : Type 0} (d : Devices L G) (o : Opening L G) (s : State) (h : IsO
       copied_logged page copied = ⊎_elim
           (λ (is : now ≡ s.origin word). inr (first ∙ ap (λ (p : Page). Some p) (sym is ∙ copied_is page copied)))
           (λ (x : (k : ℕ) × (e : Entry) × (get_elem? s.log.entries k ≡ some e) × (now ≡ e.image)). inl (subst (λ (p : Page). lsn_of p ≤ s.end) (sym x.3 ∙ copied_is page copied)
-              (let a = (laws.invariant.log.images x.0 x.1 x.2).ends in let b = ends_below s.log x.1 laws.invariant.log x.0 x.1 x.2 in let c = laws.invariant.ends in omega arith)))
+          (let a = (laws.invariant.log.images x.0 x.1 x.2).ends in let b = ends_below s.log x.1 laws.invariant.log x.0 x.1 x.2 in let c = laws.invariant.ends in omega arith)))
           (cell_is s.origin s.log.entries word)
 
       -- a page that the lane gave and that isn't sound is the one at the start
@@ -152,7 +152,7 @@ module _ {L G : Type 0} (d : Devices L G) (o : Opening L G) where
       (λ found. FitsHeld o.catalog.value o.config.lanes (map d.contents o.lanes.value.items) (link me.0 f) (fields found))
       (looks d o slots id f me below live)
       (λ t h there. let here : get_elem? h.state.pool.core.views id ≡ some me.0 = ap (λ (l : List View). get_elem? l id) (sym h.shows.views) ∙ there in
-          fits_held d o h.state h.shows.fixed h.laws id me.0 here f (fields (get_or t.words (state_place f) 0)) (let e = h.shows.fixed.frames in omega arith) (h.shows.frame f below).word)
+      fits_held d o h.state h.shows.fixed h.laws id me.0 here f (fields (get_or t.words (state_place f) 0)) (let e = h.shows.fixed.frames in omega arith) (h.shows.frame f below).word)
 
 -- the same by the lanes that the table was opened with
 module _ {L G : Type 0} (contents : L → Option Pages) (t : FrameTable L G) where

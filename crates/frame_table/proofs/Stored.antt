@@ -121,7 +121,7 @@ module _ {L G : Type 0} (d : Devices L G) (o : Opening L G) where
       let did : DidWord raise_flushed me.0 w n = r.4.1 in
       let here : get_elem? s.pool.core.views id ≡ some me.0 = ap (λ (l : List View). get_elem? l id) (sym h.shows.views) ∙ h0.there in
       let raised : w.raised_to ≡ max me.0.raised_to s.end = ap (λ (v : View). v.raised_to) did.after ∙ ap (λ (e : Option ℕ). max me.0.raised_to (unwrap_or e 0)) did.allowed.1
-          ∙ ap (max me.0.raised_to) (((h.laws.invariant.device.cells id me.0 0 here (lit< tt)).end did.state.end did.allowed.1).1) in
+      ∙ ap (max me.0.raised_to) (((h.laws.invariant.device.cells id me.0 0 here (lit< tt)).end did.state.end did.allowed.1).1) in
       let more : me.0.raised_to ≤ w.raised_to = omega arith in
       let made = (listed_made s h'.state h.laws.trail h'.laws.trail id me.0 w here (sym h'.shows.views ∙ ap (λ (l : List View). set l id w) h.shows.views)).raised more in
       let shown : g n ≡ h'.state.flushed = sym (get_or-set_same t.words at (g n) 0 (let e = h.shows.words in omega arith)) ∙ h'.shows.latches.flushed in

@@ -25,8 +25,8 @@ unfolding cell
 cell_is origin [] tag = inl refl
 cell_is origin (e ∷ es) tag = ⊎_elim
     (λ (is : cell (put origin e.tag e.image) es tag ≡ put origin e.tag e.image tag). dite (ℕ_discrete tag e.tag)
-        (λ same. inr (zero, e, refl, is ∙ put_at origin e.tag e.image tag same))
-        (λ other. inl (is ∙ put_else origin e.tag e.image tag other)))
+    (λ same. inr (zero, e, refl, is ∙ put_at origin e.tag e.image tag same))
+    (λ other. inl (is ∙ put_else origin e.tag e.image tag other)))
     (λ (x : (k : ℕ) × (d : Entry) × (get_elem? es k ≡ some d) × (cell (put origin e.tag e.image) es tag ≡ d.image)). inr (suc x.0, x.1, x.2, x.3))
     (cell_is (put origin e.tag e.image) es tag)
 

@@ -25,8 +25,8 @@ victim_pin-requires-clause-only g c h victim =
     let k = c.lock_header-word.ensures in
     let p = c.requires.pins in
     dite (ℕ_discrete h c.args.frame)
-        (λ e. p.no_victim c.args.frame (sym k.locked.role ∙ subst (λ (x : ℕ). (link c.lock_header-word.new.seat.me.0 x).role ≡ Victim) e victim))
-        (λ n. p.no_victim h (sym (ap (λ (l : Link). l.role) (k.touches.others h n)) ∙ victim))
+    (λ e. p.no_victim c.args.frame (sym k.locked.role ∙ subst (λ (x : ℕ). (link c.lock_header-word.new.seat.me.0 x).role ≡ Victim) e victim))
+    (λ n. p.no_victim h (sym (ap (λ (l : Link). l.role) (k.touches.others h n)) ∙ victim))
 
 pub returns-then-pins-ne0-clause-touches : goal.returns-then-pins-ne0-clause-touches
 returns-then-pins-ne0-clause-touches g c = touches_on _ _ _ _ c.lock_header-word.ensures.touches c.unlock_header.ensures.touches

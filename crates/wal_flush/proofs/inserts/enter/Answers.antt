@@ -11,10 +11,11 @@ returns-clause-can g c = let a = c.in_ok-append_record.ensures in record {
 }
 
 pub returns-clause-leaves : goal.returns-clause-leaves
-returns-clause-leaves g c = let a = c.in_ok-append_record.ensures in let after = c.store_log_end.ensures.view _ _ a.stores in let did = a.appended.did in
-    (ap (λ (v : View). v.log.held) after ∙ ap (λ (v : View). v.log.held) did.second.after ∙ ap (λ (v : View). v.log.held) did.first.after ∙ ap (λ (v : View). v.log.held) a.appended.went.did.after ∙ ap (λ (h : LogHold). h.held) c.requires.held,
-     ap (λ (v : View). v.log.out) after ∙ ap (λ (v : View). v.log.out) did.second.after,
-     ap (λ (v : View). v.log.appended) after)
+returns-clause-leaves g c = let a = c.in_ok-append_record.ensures in let after = c.store_log_end.ensures.view _ _ a.stores in let did = a.appended.did in (
+  ap (λ (v : View). v.log.held) after ∙ ap (λ (v : View). v.log.held) did.second.after ∙ ap (λ (v : View). v.log.held) did.first.after ∙ ap (λ (v : View). v.log.held) a.appended.went.did.after ∙ ap (λ (h : LogHold). h.held) c.requires.held,
+  ap (λ (v : View). v.log.out) after ∙ ap (λ (v : View). v.log.out) did.second.after,
+  ap (λ (v : View). v.log.appended) after,
+)
 
 pub returns-clause-entered : goal.returns-clause-entered
 returns-clause-entered g c = let a = c.in_ok-append_record.ensures in record {
