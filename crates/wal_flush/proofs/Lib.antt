@@ -1,4 +1,3 @@
-pub mod PagePositions
 pub mod LogSteps
 pub mod Records
 pub mod Views

@@ -24,7 +24,7 @@ use Rattle.frame_table.specs.LogWork.{ComesHome, DidTwo, GoesOut, IsPart, LogCam
 use Rattle.wal_flush.specs.Flushes.{FailsToSync}
 use Rattle.wal_flush.specs.Inserts.{CanInsert, FailsToAppend}
 use Rattle.wal_flush.specs.Latched.{GoesOutUp, opened_log}
-use Rattle.wal_flush.proofs.PagePositions.{length_with, sound_with, used_with}
+use Rattle.page_layout.proofs.Positions.{length_with, sound_with, used_with}
 
 -- the page with the position of its entry's end may be entered
 pub may_enter : (relations : List RelEntry) (f : ℕ) (tag : Tag) (p q : Page) (start : ℕ) (v : View) → CanInsert relations f tag p v → v.log ≡ opened_log start → length p ≡ 8192 → start + record_size ≤ last_position → q ≡ with_lsn (start + record_size) p → lsn_of q ≡ start + record_size → MayEnter f tag q start v

@@ -1,6 +1,6 @@
 use Rattle.std.proofs.Common.{ℕ, ◌<◌, get_or, List, ap, ◌∙◌, subst, arith}
 use Rattle.page_layout.specs.Fields.{with_lsn}
-use Rattle.wal_flush.proofs.PagePositions.{restores}
+use Rattle.page_layout.proofs.Positions.{restores}
 use Rattle.wal_flush.proofs.inserts.position_of.Goals as goal
 
 pub returns-clause-restores : goal.returns-clause-restores
