@@ -8,6 +8,7 @@ use native.Mathlib.Decide.{ℕ_discrete, dec_lt}
 use Rattle.state_word.specs.declared.word.StateWord.{StateWord}
 use Rattle.state_word.specs.Fields.{fields}
 use Rattle.atomic_table.specs.declared.shared.Seat.{Seat}
+use Rattle.block_tag.specs.declared.tag.Tag.{Tag}
 use Rattle.pin_core.specs.declared.view.View.{View}
 use Rattle.pin_core.specs.declared.view.Link.{Link}
 use Rattle.pin_core.specs.declared.view.LaneHold.{LaneHold}
@@ -32,7 +33,7 @@ use Rattle.frame_table.specs.Turning.{DidTurn, IsTurned, MapStep, SameWork, back
 use Rattle.map_partitions.specs.Partition.{Holds}
 use Rattle.frame_table.proofs.Told.{touches_on}
 use Rattle.clock_sweep.proofs.Keeping.{same_on}
-use Rattle.table_tests.specs.Work.{IsCalm, IsInside, IsQuiet, IsQuietBeside, KeepsBeside, KeepsOthers, OnlyPins, PinsNone, Rests}
+use Rattle.table_tests.specs.Work.{IsCalm, IsInside, IsQuiet, IsQuietBeside, KeepsBeside, KeepsOthers, OnlyPins, PinsBlock, PinsNone, Rests, SameLatches}
 
 -- The link of a frame, before its header was locked and under the lock
 module _ (l m : Link) (word : ℕ) (locked : Looked (locked_link word l) m) where
@@ -272,3 +273,16 @@ pub all_idle : (n f : ℕ) → get_or (replicate n idle) f idle ≡ idle
 all_idle zero f = refl
 all_idle (suc n) zero = refl
 all_idle (suc n) (suc f) = all_idle n f
+
+-- what a backend pins once it has read a block into a frame h, which is the frame f
+pub pins_read : {L G : Type 0} (t : FrameTable L G) (f h : ℕ) (tag : Tag) (s s' s'' : Seat (Value L G) View) → OnlyPins t s → SameSeat s s' → Touches f s.me.0 s'.me.0 → h ≡ f → IsQuiet t s'' → KeepsBeside h s' s'' → SameLatches s'.me.0 s''.me.0 → PinsBlock tag (link s''.me.0 h) → OnlyPins t s'' × KeepsBeside f s s''
+pins_read t f h tag s s' s'' p same touches e quiet kept latches pinned = (
+  only_pins t f s s'' p.no_victim keeps (not_victim (link s''.me.0 f) _ refl here.0) quiet (λ q. ap (λ (x : PartitionHold). x.held) (latches q ∙ same_hold s.me.0 s'.me.0 touches.partitions q) ∙ p.partitions q),
+  keeps,
+)
+  where
+    keeps : KeepsBeside f s s''
+    keeps = beside_on _ _ _ _ (keeps_touched s s' same f touches.self touches.others) (subst (λ (x : ℕ). KeepsBeside x s' s'') e kept)
+
+    here : PinsBlock tag (link s''.me.0 f)
+    here = subst (λ (x : ℕ). PinsBlock tag (link s''.me.0 x)) e pinned

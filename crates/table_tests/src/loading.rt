@@ -62,7 +62,7 @@ fn put_page(table: &Table, seat: &mut TableSeat, frame: u32, page: &Page, _tag: 
     page_back(table, seat, frame, out);
 }
 
-/// Reads a block into the frame, where the backend has the right to, and ends that.
+/// Reads a block into the frame, where the backend has the right to, and ends that. Whether the page is there; the pin has seen BM_VALID then.
 fn read_in<R: Wait>(
     table: &Table,
     rt: &R,
@@ -70,7 +70,7 @@ fn read_in<R: Wait>(
     right: IoRight,
     tag: Tag,
     page: &mut Page,
-)
+) -> bool
     requires quiet { IsQuietBeside table.now right.frame seat.old }
     requires frame { right.frame < frames_of table.now }
     requires block { HasBlock table.now tag }
@@ -80,14 +80,16 @@ fn read_in<R: Wait>(
     ensures keeps { KeepsBeside right.frame seat.old seat.new }
     ensures latches { SameLatches seat.old.me.0 seat.new.me.0 }
     ensures pinned { PinsBlock tag (link seat.new.me.0 right.frame) }
+    ensures seen { OnTrue result ((link seat.new.me.0 right.frame).seen_valid ≡ true) }
 {
     let frame = right.frame();
     if !read_lane(table, rt, seat, frame, tag, page) || !page.is_sound() {
         end_io(table, rt, seat, right, IoEnd::Bad);
-        return;
+        return false;
     }
     put_page(table, seat, frame, page, tag);
     end_io(table, rt, seat, right, IoEnd::ReadOk);
+    true
 }
 
 /// Reads a block into the frame that the backend pins for it, until the page is there (`ReadBuffer_common`). The pin has seen BM_VALID then.
@@ -111,7 +113,11 @@ pub fn load_block<R: Wait>(
     for _ in rt.forever() {
         match start_io(table, rt, seat, frame, true) {
             None => return,
-            Some(right) => read_in(table, rt, seat, right, tag, page),
+            Some(right) => {
+                if read_in(table, rt, seat, right, tag, page) {
+                    return;
+                }
+            }
         }
     }
     unreachable!()

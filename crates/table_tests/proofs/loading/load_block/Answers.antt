@@ -5,7 +5,7 @@ use Rattle.pin_core.specs.declared.view.PartitionHold.{PartitionHold}
 use Rattle.pin_core.specs.State.{link, no_lane}
 use Rattle.table_tests.specs.Work.{IsQuietBeside, KeepsBeside, PinsBlock, Reads}
 use Rattle.table_tests.proofs.Reading.{begun_fresh, begun_home}
-use Rattle.table_tests.proofs.Working.{beside_on, beside_still, keeps_touched, looked_pins, not_victim, only_pins, quiet_beside, same_hold}
+use Rattle.table_tests.proofs.Working.{beside_on, beside_still, keeps_touched, looked_pins, pins_read, quiet_beside}
 use Rattle.table_tests.proofs.loading.load_block.Goals as goal
 
 pub returns-in-None-start_io-clause-pins : goal.returns-in-None-start_io-clause-pins
@@ -40,16 +40,19 @@ read_in-requires-clause-reads g c =
 pub read_in-requires-clause-home : goal.read_in-requires-clause-home
 read_in-requires-clause-home g c = begun_home _ _ _ c.start_io.new.seat.me.0 c.in-Some-start_io.ensures.did.did (λ n. ap (λ (l : List LaneHold). (get_or l n no_lane).held) (ap (λ (x : View). x.lanes) c.start_io.ensures.touches.self) ∙ c.loop.invariant.pins.quiet.lanes n)
 
+pub returns-then-read_in-clause-pins : goal.returns-then-read_in-clause-pins
+returns-then-read_in-clause-pins g c = let i = c.loop.invariant in let e = c.start_io.ensures in let r = c.read_in.ensures in
+    (pins_read _ _ _ c.args.tag c.loop.seat c.start_io.new.seat c.read_in.new.seat i.pins e.seat e.touches c.in-Some-start_io.ensures.right.0 r.quiet r.keeps r.latches r.pinned).0
+
+pub returns-then-read_in-clause-keeps : goal.returns-then-read_in-clause-keeps
+returns-then-read_in-clause-keeps g c = let i = c.loop.invariant in let e = c.start_io.ensures in let r = c.read_in.ensures in
+    beside_on _ _ _ _ i.keeps (pins_read _ _ _ c.args.tag c.loop.seat c.start_io.new.seat c.read_in.new.seat i.pins e.seat e.touches c.in-Some-start_io.ensures.right.0 r.quiet r.keeps r.latches r.pinned).1
+
 pub loop-preserved : goal.loop-preserved
-loop-preserved g c =
-    let i = c.loop.invariant in
-    let e = c.start_io.ensures in
-    let r = c.read_in.ensures in
-    let here = c.in-Some-start_io.ensures.right.0 in
-    let keeps = beside_on _ _ _ _ (keeps_touched _ _ e.seat c.args.frame e.touches.self e.touches.others) (subst (λ (f : ℕ). KeepsBeside f c.start_io.new.seat c.read_in.new.seat) here r.keeps) in
-    let pinned = subst (λ (f : ℕ). PinsBlock c.args.tag (link c.read_in.new.seat.me.0 f)) here r.pinned in
+loop-preserved g c = let i = c.loop.invariant in let e = c.start_io.ensures in let r = c.read_in.ensures in
+    let read = pins_read _ _ _ c.args.tag c.loop.seat c.start_io.new.seat c.read_in.new.seat i.pins e.seat e.touches c.in-Some-start_io.ensures.right.0 r.quiet r.keeps r.latches r.pinned in
     record {
-      pins = only_pins _ _ _ _ i.pins.no_victim keeps (not_victim (link c.read_in.new.seat.me.0 c.args.frame) _ refl pinned.0) r.quiet (λ q. ap (λ (h : PartitionHold). h.held) (r.latches q ∙ same_hold c.loop.seat.me.0 c.start_io.new.seat.me.0 e.touches.partitions q) ∙ i.pins.partitions q);
-      keeps = beside_on _ _ _ _ i.keeps keeps;
-      pinned = pinned;
+      pins = read.0;
+      keeps = beside_on _ _ _ _ i.keeps read.1;
+      pinned = subst (λ (f : ℕ). PinsBlock c.args.tag (link c.read_in.new.seat.me.0 f)) c.in-Some-start_io.ensures.right.0 r.pinned;
     }
