@@ -1,9 +1,8 @@
 use Rattle.std.proofs.Common.{ℕ, List, get_or, ap, refl, sym, subst, ◌∙◌}
 use Rattle.pin_core.specs.declared.view.View.{View}
 use Rattle.pin_core.specs.declared.view.LaneHold.{LaneHold}
-use Rattle.pin_core.specs.declared.view.PartitionHold.{PartitionHold}
 use Rattle.pin_core.specs.State.{link, no_lane}
-use Rattle.table_tests.specs.Work.{IsQuietBeside, KeepsBeside, PinsBlock, Reads}
+use Rattle.table_tests.specs.Work.{IsQuietBeside, PinsBlock, Reads}
 use Rattle.table_tests.proofs.Reading.{begun_fresh, begun_home}
 use Rattle.table_tests.proofs.Working.{beside_on, beside_still, keeps_touched, looked_pins, pins_read, quiet_beside}
 use Rattle.table_tests.proofs.loading.load_block.Goals as goal
