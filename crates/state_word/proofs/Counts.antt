@@ -22,6 +22,10 @@ module _ (v w : ℕ) (below : v % 2 ^ 32 ≡ w % 2 ^ 32) where
   with_waiter number waiter =
       same_record (fields v) (record (fields w) { waiter = number }) (omega arith) (omega arith) (same_bit 22 v w (omega arith)) (same_bit 23 v w (omega arith)) (same_bit 24 v w (omega arith)) (same_bit 25 v w (omega arith)) (same_bit 26 v w (omega arith)) (same_bit 27 v w (omega arith)) (same_bit 28 v w (omega arith)) (same_bit 29 v w (omega arith)) (same_bit 30 v w (omega arith)) (same_bit 31 v w (omega arith)) waiter
 
+pub pin_added : (w : ℕ) → (fields w).pins < 262143 → fields (w + 1) ≡ record (fields w) { pins = (fields w).pins + 1 }
+unfolding fields
+pin_added w room = with_counts (w + 1) w (omega arith) (w % 2 ^ 18 + 1) (w / 2 ^ 18 % 2 ^ 4) (omega arith) (omega arith)
+
 pub pin_gone : (w : ℕ) → 0 < (fields w).pins → fields (w - 1) ≡ unpinned_fields (fields w)
 unfolding fields
 pin_gone w some = with_counts (w - 1) w (omega arith) (w % 2 ^ 18 - 1) (w / 2 ^ 18 % 2 ^ 4) (omega arith) (omega arith)

@@ -19,7 +19,7 @@
 //! functions of PostgreSQL that the docs name are in `src/backend/storage/buffer/bufmgr.c`.
 #![tactic(auto)]
 
-ghost use Rattle.std.specs.Prelude.{◌≡◌, ◌<◌, ◌^◌, ℕ, true, false};
+ghost use Rattle.std.specs.Prelude.{◌≡◌, ◌+◌, ◌<◌, ◌^◌, ℕ, true, false};
 ghost use Rattle.state_word.specs.Fields.{fields, flag_of, pinned_fields, unpinned_fields, locked_fields, unlocked_fields, io_started_fields, io_ended_fields, written_fields, dirtied_fields, assigned_fields, cleared_fields, waiter_set_fields, waiter_cleared_fields, usage_down_fields, just_dirtied_cleared_fields, checkpoint_needed_fields};
 ghost use Rattle.state_word.specs.Flags.{with_flag};
 
@@ -33,6 +33,9 @@ pub use word::{Flag, IoEnd, StateWord};
 
 /// The most pins that a word can count.
 pub const MAX_PINS: u32 = (1 << 18) - 1;
+
+/// The bit of `BM_LOCKED`, for the one or and the one and that lock and unlock a header in shared memory.
+pub const LOCKED: u64 = 1 << 22;
 
 /// The usage count that pins raise a frame to at most (`BM_MAX_USAGE_COUNT`).
 pub const MAX_USAGE: u32 = 5;
@@ -84,7 +87,7 @@ pub fn fields_fix_the_word()
 /// alone, another pin raises it where it is below `MAX_USAGE`.
 #[tactic(auto, unfolding(crate::specs::Fields::fields))]
 pub fn pinned(word: u64, ring: bool) -> u64
-    requires { (fields word).pins < 262143 }
+    requires { (fields word).pins < MAX_PINS }
     ensures { fields result ≡ pinned_fields ring (fields word) }
 {
     let limit = if ring { 1 } else { MAX_USAGE };
@@ -93,6 +96,24 @@ pub fn pinned(word: u64, ring: bool) -> u64
     } else {
         word + ONE_PIN
     }
+}
+
+/// The word with one more pin, by the holder of the header, who unlocks it so; the usage count stays
+/// (`PinBuffer_Locked`).
+pub fn pinned_by_holder(word: u64) -> u64
+    requires { (fields word).pins < MAX_PINS }
+    ensures { fields result ≡ unlocked_fields (record (fields word) { pins = (fields word).pins + 1 }) }
+{
+    unlock_with(one_more_pin(word))
+}
+
+/// The word with one more pin, and the usage count as it was.
+#[tactic(auto, unfolding(crate::specs::Fields::fields))]
+fn one_more_pin(word: u64) -> u64
+    requires { (fields word).pins < MAX_PINS }
+    ensures { fields result ≡ record (fields word) { pins = (fields word).pins + 1 } }
+{
+    word + ONE_PIN
 }
 
 /// The word with one pin less (`UnpinBuffer`).
