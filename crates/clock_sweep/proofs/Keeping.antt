@@ -19,13 +19,13 @@ use Rattle.history_core.specs.State.{State}
 use Rattle.table_rule.specs.declared.value.Value.{Value}
 use Rattle.frame_table.specs.declared.table.FrameTable.{FrameTable}
 use Rattle.frame_table.specs.Kinds.{pins, view_after}
-use Rattle.frame_table.specs.Behind.{DidWord, add_hand}
-use Rattle.frame_table.specs.Sees.{CanStep, Holds, IsSeat, Looked, SameSeat, frames_of, locked_link, unlocked_link}
-use Rattle.frame_table.specs.Tells.{Did, Looks, still, again, looking}
+use Rattle.frame_table.specs.WordSteps.{DidWord, add_hand}
+use Rattle.frame_table.specs.Seats.{CanStep, HoldsHeader, IsSeat, Looked, SameSeat, frames_of, locked_link, unlocked_link}
+use Rattle.frame_table.specs.FrameSteps.{Did, Looks, still, again, looking}
 use Rattle.frame_table.proofs.Told.{touches, link_is, looked, looked_on, looked_same, locked_after, looks_touch, looks_link}
-use Rattle.clock_sweep.specs.Keeping.{SameAside, aside_of, Keeps, GetsHeader, SamePins}
+use Rattle.clock_sweep.specs.Keeping.{SameAside, aside_of, KeepsFrames, GetsHeader, SamePins}
 use Rattle.clock_sweep.specs.Choosing as choice
-use Rattle.clock_sweep.specs.Choosing.{Locks, Leaves, Skips, LeavesRing, LeavesFree, Counts, NextIs, Passes, Sweeps, Comes, Chooses, FindsNone, Takes}
+use Rattle.clock_sweep.specs.Choosing.{TakesHeader, LeavesFrame, Skips, LeavesRing, LeavesFree, Counts, NextIs, Passes, Sweeps, Comes, Chooses, FindsNone, Takes}
 use Rattle.clock_sweep.specs.declared.held.Held.{Held}
 
 -- what steps leave apart from frames
@@ -44,23 +44,23 @@ module _ (k : pin.Kind) (none : (s : State) (f : ℕ) (v : View) → (view_after
   others = (touches (pins k) none f found v w d).others
 
 -- a view that keeps all, one step after the other
-pub keeps_none : (v : View) → Keeps v v
+pub keeps_none : (v : View) → KeepsFrames v v
 keeps_none v = record { aside = aside_none v; links = λ g. looked_same (link v g) (link v g) refl }
 
-pub keeps_on : (v u w : View) → Keeps v u → Keeps u w → Keeps v w
+pub keeps_on : (v u w : View) → KeepsFrames v u → KeepsFrames u w → KeepsFrames v w
 keeps_on v u w a b = record { aside = aside_on v u w a.aside b.aside; links = λ g. looked_on (link v g) (link u g) (link w g) (a.links g) (b.links g) }
 
-pub keeps_same : (v w : View) → w ≡ v → Keeps v w
-keeps_same v w e = subst (Keeps v) (sym e) (keeps_none v)
+pub keeps_same : (v w : View) → w ≡ v → KeepsFrames v w
+keeps_same v w e = subst (KeepsFrames v) (sym e) (keeps_none v)
 
-pub headless_on : (v w : View) → Keeps v w → HoldsNoHeader v → HoldsNoHeader w
+pub headless_on : (v w : View) → KeepsFrames v w → HoldsNoHeader v → HoldsNoHeader w
 headless_on v w a none g = (a.links g).header ∙ none g
 
-pub same_pins : (v w : View) → Keeps v w → SamePins v w
+pub same_pins : (v w : View) → KeepsFrames v w → SamePins v w
 same_pins v w a g = (a.links g).role
 
 -- loads
-pub keeps_looking : (f found : ℕ) (v w : View) → Did looking f v w found → Keeps v w
+pub keeps_looking : (f found : ℕ) (v w : View) → Did looking f v w found → KeepsFrames v w
 keeps_looking f found v w d = record {
   aside = aside pin.load_state (λ s g x. refl) f found v w d;
   links = λ g. dite (ℕ_discrete g f)
@@ -68,22 +68,22 @@ keeps_looking f found v w d = record {
       (λ n. looked_same (link v g) (link w g) (others pin.load_state (λ s h x. refl) f found v w d g n));
 }
 
-pub keeps_looks : (f : ℕ) (v w : View) → Looks f v w → Keeps v w
+pub keeps_looks : (f : ℕ) (v w : View) → Looks f v w → KeepsFrames v w
 keeps_looks f v w still = keeps_none v
 keeps_looks f v w (again {u = u} found before d) = keeps_on v u w (keeps_looks f v u before) (keeps_looking f found u w d)
 
 -- the hand moves on
-pub keeps_hand : (found : ℕ) (v w : View) → DidWord add_hand v w found → Keeps v w
-keeps_hand found v w d = subst (Keeps v) (sym d.after) record {
+pub keeps_hand : (found : ℕ) (v w : View) → DidWord add_hand v w found → KeepsFrames v w
+keeps_hand found v w d = subst (KeepsFrames v) (sym d.after) record {
   aside = refl;
   links = λ g. looked_same (link v g) (link v g) refl;
 }
 
 -- the header of a frame is locked, and given up
-pub locks_of : (f word : ℕ) (v w : View) → ((u : View) × (was : ℕ) × Looks f v u × Did (pins pin.lock_header) f u w was × (fields word ≡ locked_fields (fields was))) → Locks f v w word
+pub locks_of : (f word : ℕ) (v w : View) → ((u : View) × (was : ℕ) × Looks f v u × Did (pins pin.lock_header) f u w was × (fields word ≡ locked_fields (fields was))) → TakesHeader f v w word
 locks_of f word v w a = record { before = a.0; was = a.1; looks = a.2; did = a.3; held = a.4 }
 
-module _ (f word : ℕ) (v w : View) (locks : Locks f v w word) where
+module _ (f word : ℕ) (v w : View) (locks : TakesHeader f v w word) where
   pub gets : GetsHeader f word v w
   gets = let before = looks_touch f v locks.before locks.looks in record {
     aside = aside_on v locks.before w (keeps_looks f v locks.before locks.looks).aside (aside pin.lock_header (λ s g x. refl) f locks.was locks.before w locks.did);
@@ -99,7 +99,7 @@ module _ (f word : ℕ) (v w : View) (locks : Locks f v w word) where
       of_pending false e = refl
       of_pending true e = absurd (((locks.did.laws.invariant.pool.core.grid.cells locks.did.seat locks.before f locks.did.there locks.did.inside).pending e).held ((looks_link f v locks.before locks.looks).header ∙ none f))
 
-  pub holds : HoldsNoHeader v → Holds (link w f)
+  pub holds : HoldsNoHeader v → HoldsHeader (link w f)
   holds none = record {
     held = λ e. let no : Some (fields word) ≡ None = sym gets.here.header ∙ e in absurd (cc);
     settled = settled none;
@@ -130,7 +130,7 @@ unlocked_back word l m o a b none = record {
   listed = λ l. b.listed (a.listed l);
 }
 
-pub gives_up : (f word : ℕ) (v u w : View) → GetsHeader f word v u → HoldsNoHeader v → SameAside u w → ((g : ℕ) → g ≢ f → link w g ≡ link u g) → Looked (unlocked_link (link u f)) (link w f) → Keeps v w
+pub gives_up : (f word : ℕ) (v u w : View) → GetsHeader f word v u → HoldsNoHeader v → SameAside u w → ((g : ℕ) → g ≢ f → link w g ≡ link u g) → Looked (unlocked_link (link u f)) (link w f) → KeepsFrames v w
 gives_up f word v u w a none beside same here = record {
   aside = aside_on v u w a.aside beside;
   links = λ g. dite (ℕ_discrete g f)
@@ -138,7 +138,7 @@ gives_up f word v u w a none beside same here = record {
       (λ n. looked_on (link v g) (link u g) (link w g) (a.others g n) (looked_same (link u g) (link w g) (same g n)));
 }
 
-pub unlocks_keep : (f word found : ℕ) (v u w : View) → Locks f v u word → HoldsNoHeader v → Did (pins pin.unlock_header) f u w found → Keeps v w
+pub unlocks_keep : (f word found : ℕ) (v u w : View) → TakesHeader f v u word → HoldsNoHeader v → Did (pins pin.unlock_header) f u w found → KeepsFrames v w
 unlocks_keep f word found v u w locks none d = gives_up f word v u w (gets f word v u locks) none
     (aside pin.unlock_header (λ s g x. refl) f found u w d)
     (others pin.unlock_header (λ s g x. refl) f found u w d)
@@ -147,29 +147,29 @@ unlocks_keep f word found v u w locks none d = gives_up f word v u w (gets f wor
 unlocked_looked : (l m : Link) → Looked l m → Looked (unlocked_link l) (unlocked_link m)
 unlocked_looked l m a = record { role = a.role; tag = a.tag; ring = a.ring; header = refl; pending = a.pending; content = a.content; copying = a.copying; dirtied = a.dirtied; unapplied = a.unapplied; copied = a.copied; io = a.io; read = a.read; read_is_home = a.read_is_home; last_write = a.last_write; out = a.out; overwritten = a.overwritten; image = a.image; seen_valid = a.seen_valid; waits = a.waits; passed = a.passed; listed = a.listed }
 
-pub lowers_keep : (f word : ℕ) (v u w : View) → Locks f v u word → HoldsNoHeader v → Did (pins pin.lower_usage) f u w word → Keeps v w
+pub lowers_keep : (f word : ℕ) (v u w : View) → TakesHeader f v u word → HoldsNoHeader v → Did (pins pin.lower_usage) f u w word → KeepsFrames v w
 lowers_keep f word v u w locks none d = gives_up f word v u w (gets f word v u locks) none
     (aside pin.lower_usage (λ s g x. refl) f word u w d)
     (others pin.lower_usage (λ s h x. refl) f word u w d)
     (looked_same (unlocked_link (link u f)) (link w f) (link_is (pins pin.lower_usage) f word u w d))
 
-pub leaves_keep : (limit f : ℕ) (v w : View) → Leaves limit f v w → HoldsNoHeader v → Keeps v w
+pub leaves_keep : (limit f : ℕ) (v w : View) → LeavesFrame limit f v w → HoldsNoHeader v → KeepsFrames v w
 leaves_keep limit f v w l none = unlocks_keep f l.word l.found v l.under w l.locks none l.unlocks
 
-pub skips_keep : (n limit f : ℕ) (v w : View) → Skips n limit f v w → HoldsNoHeader v → Keeps v w
+pub skips_keep : (n limit f : ℕ) (v w : View) → Skips n limit f v w → HoldsNoHeader v → KeepsFrames v w
 skips_keep n limit f v w (choice.beyond over same) none = keeps_same v w same
 skips_keep n limit f v w (choice.unfit low l) none = leaves_keep limit f v w l none
 
-pub ring_keeps : (n : ℕ) (place : Option ℕ) (v w : View) → LeavesRing n place v w → HoldsNoHeader v → Keeps v w
+pub ring_keeps : (n : ℕ) (place : Option ℕ) (v w : View) → LeavesRing n place v w → HoldsNoHeader v → KeepsFrames v w
 ring_keeps n place v w (choice.empty e same) none = keeps_same v w same
 ring_keeps n place v w (choice.tried f e s) none = skips_keep n 1 f v w s none
 
-pub list_keeps : (n : ℕ) (v w : View) → LeavesFree n v w → HoldsNoHeader v → Keeps v w
+pub list_keeps : (n : ℕ) (v w : View) → LeavesFree n v w → HoldsNoHeader v → KeepsFrames v w
 list_keeps n v w choice.still none = keeps_none v
 list_keeps n v w (choice.again {u = u} f before s) none = let a = list_keeps n v u before none in keeps_on v u w a (skips_keep n 0 f u w s (headless_on v u a none))
 
 -- a census
-pub counts_keep : (entry v : View) (k : ℕ) (w : View) (words : List ℕ) → Counts entry v k w words → Keeps v w
+pub counts_keep : (entry v : View) (k : ℕ) (w : View) (words : List ℕ) → Counts entry v k w words → KeepsFrames v w
 counts_keep entry v k w words choice.nothing = keeps_none v
 counts_keep entry v k w words (choice.one_more {f = f} {u = u} {words = before} word c same d some) = keeps_on v u w (counts_keep entry v f u before c) (keeps_looking f word u w d)
 
@@ -186,11 +186,11 @@ counts_pinned entry v k w words choice.nothing = All-nil (λ word. 0 < (fields w
 counts_pinned entry v k w words (choice.one_more {f = f} {u = u} {words = before} word c same d some) = All-push (λ x. 0 < (fields x).pins) before word (counts_pinned entry v f u before c) some
 
 -- the clock
-pub next_keeps : (n tries : ℕ) (v w : View) (f left : ℕ) → NextIs n tries v w f left → Keeps v w
+pub next_keeps : (n tries : ℕ) (v w : View) (f left : ℕ) → NextIs n tries v w f left → KeepsFrames v w
 next_keeps n tries v w f left (choice.ticked hand some d e same) = keeps_hand hand v w d
 next_keeps n tries v w f left (choice.counted e found same) = keeps_on v found.before w (counts_keep v v f found.before found.words found.counts) (keeps_looking f found.word found.before w found.did)
 
-pub passes_keep : (n f tries : ℕ) (v w : View) (left : ℕ) → Passes n f tries v w left → HoldsNoHeader v → Keeps v w
+pub passes_keep : (n f tries : ℕ) (v w : View) (left : ℕ) → Passes n f tries v w left → HoldsNoHeader v → KeepsFrames v w
 passes_keep n f tries v w left (choice.lowers {u = u} {word = word} locks used d e) none = lowers_keep f word v u w locks none d
 passes_keep n f tries v w left (choice.leaves {u = u} {word = word} {found = found} locks some d e) none = unlocks_keep f word found v u w locks none d
 
@@ -199,15 +199,15 @@ pub passes_few : (n f tries : ℕ) (v w : View) (left : ℕ) → tries ≤ n →
 passes_few n f tries v w left few (choice.lowers locks used d e) = omega arith
 passes_few n f tries v w left few (choice.leaves locks some d e) = omega arith
 
-pub sweeps_keep : (n : ℕ) (v w : View) (left : ℕ) → Sweeps n v w left → HoldsNoHeader v → Keeps v w
+pub sweeps_keep : (n : ℕ) (v w : View) (left : ℕ) → Sweeps n v w left → HoldsNoHeader v → KeepsFrames v w
 sweeps_keep n v w left choice.starts none = keeps_none v
 sweeps_keep n v w left (choice.passes {u = u} {x = x} {tries = tries} {left = rest} f before next p) none = let a = sweeps_keep n v u tries before none in let b = keeps_on v u x a (next_keeps n tries u x f rest next) in keeps_on v x w b (passes_keep n f rest x w left p (headless_on v x b none))
 
-pub comes_keep : (n : ℕ) (v w : View) (f left : ℕ) → Comes n v w f left → HoldsNoHeader v → Keeps v w
+pub comes_keep : (n : ℕ) (v w : View) (f left : ℕ) → Comes n v w f left → HoldsNoHeader v → KeepsFrames v w
 comes_keep n v w f left (u, tries, sweeps, next) none = keeps_on v u w (sweeps_keep n v u tries sweeps none) (next_keeps n tries u w f left next)
 
 -- the choice
-pub gets_on : (f word : ℕ) (v u w : View) → Keeps v u → GetsHeader f word u w → GetsHeader f word v w
+pub gets_on : (f word : ℕ) (v u w : View) → KeepsFrames v u → GetsHeader f word u w → GetsHeader f word v w
 gets_on f word v u w a b = record {
   aside = aside_on v u w a.aside b.aside;
   here = looked_on (locked_link word (link v f)) (locked_link word (link u f)) (link w f) (relocked (link v f) (link u f) (a.links f)) b.here;
@@ -217,7 +217,7 @@ gets_on f word v u w a b = record {
     relocked : (l m : Link) → Looked l m → Looked (locked_link word l) (locked_link word m)
     relocked l m c = record { role = c.role; tag = c.tag; ring = c.ring; header = refl; pending = c.pending; content = c.content; copying = c.copying; dirtied = c.dirtied; unapplied = c.unapplied; copied = c.copied; io = c.io; read = c.read; read_is_home = c.read_is_home; last_write = c.last_write; out = c.out; overwritten = c.overwritten; image = c.image; seen_valid = c.seen_valid; waits = c.waits; passed = c.passed; listed = c.listed }
 
-pub takes_gets : (limit : ℕ) (held : Held) (v u w : View) → Keeps v u → Takes limit held u w → GetsHeader held.frame held.word v w
+pub takes_gets : (limit : ℕ) (held : Held) (v u w : View) → KeepsFrames v u → Takes limit held u w → GetsHeader held.frame held.word v w
 takes_gets limit held v u w a t = gets_on held.frame held.word v u w a (gets held.frame held.word u w t.locks)
 
 pub chooses_gets : (n : ℕ) (place : Option ℕ) (v w : View) (held : Held) → Chooses n place v w held → HoldsNoHeader v → GetsHeader held.frame held.word v w
@@ -252,13 +252,13 @@ chooses_place n place v w held (choice.from_ring source e t) ring = e
 chooses_place n place v w held (choice.from_list source r l t) ring = let no : false ≡ true = sym source ∙ ring in absurd (cc)
 chooses_place n place v w held (choice.by_clock source r l c t) ring = let no : false ≡ true = sym source ∙ ring in absurd (cc)
 
-pub none_keeps : (n : ℕ) (place : Option ℕ) (v w : View) (words : List ℕ) → FindsNone n place v w words → HoldsNoHeader v → Keeps v w
+pub none_keeps : (n : ℕ) (place : Option ℕ) (v w : View) (words : List ℕ) → FindsNone n place v w words → HoldsNoHeader v → KeepsFrames v w
 none_keeps n place v w words k none = let a = ring_keeps n place v k.listed k.ring none in let b = keeps_on v k.listed k.started a (list_keeps n k.listed k.started k.free (headless_on v k.listed a none)) in let c = keeps_on v k.started k.tired b (sweeps_keep n k.started k.tired 0 k.clock (headless_on v k.started b none)) in
     keeps_on v k.tired w c (counts_keep v k.tired n w words k.census)
 
 -- seats
 module _ {L G : Type 0} (t : FrameTable L G) where
-  pub seat_on : (s s' : Seat (Value L G) View) → IsSeat t s → SameSeat s s' → Keeps s.me.0 s'.me.0 → IsSeat t s'
+  pub seat_on : (s s' : Seat (Value L G) View) → IsSeat t s → SameSeat s s' → KeepsFrames s.me.0 s'.me.0 → IsSeat t s'
   seat_on s s' a same keeps = record { fits = same.table ∙ a.fits; live = ap (λ (x : View). x.emptied) keeps.aside ∙ a.live }
 
   pub steps_at : (s : Seat (Value L G) View) (f : ℕ) → IsSeat t s → f < frames_of t → CanStep t s f

@@ -7,9 +7,9 @@ use Rattle.state_word.specs.Fields.{fields, locked_fields}
 use Rattle.pin_core.specs.declared.view.View.{View}
 use Rattle.pin_core.specs.Kinds.{lock_header, unlock_header, lower_usage}
 use Rattle.frame_table.specs.Kinds.{pins}
-use Rattle.frame_table.specs.Sees.{IsUsed}
-use Rattle.frame_table.specs.Tells.{Did, Looks, looking}
-use Rattle.frame_table.specs.Behind.{DidWord, add_hand}
+use Rattle.frame_table.specs.Seats.{IsUsed}
+use Rattle.frame_table.specs.FrameSteps.{Did, Looks, looking}
+use Rattle.frame_table.specs.WordSteps.{DidWord, add_hand}
 use Rattle.access_rings.specs.RingState.{RingState, frame_at_current, ring_after_keep, ring_after_next}
 use Rattle.clock_sweep.specs.declared.held.Held.{Held}
 use Rattle.clock_sweep.specs.declared.clock.Treated.{Treated}
@@ -17,7 +17,7 @@ use Rattle.clock_sweep.specs.declared.clock.Treated.TheVariants.{Chosen, Passed}
 use Rattle.clock_sweep.specs.Keeping.{SamePins}
 
 -- The header of the frame f was locked, after loads, and its word is held
-pub record Locks (f : ℕ) (v w : View) (word : ℕ) : Type 0 where
+pub record TakesHeader (f : ℕ) (v w : View) (word : ℕ) : Type 0 where
   pub before : View
   pub was : ℕ
   pub looks : Looks f v before
@@ -35,15 +35,15 @@ IsUnfit limit w = (0 < w.pins) ⊎ (limit < w.usage)
 
 -- A frame was chosen: its header is held, at a word that is fit
 pub record Takes (limit : ℕ) (held : Held) (v w : View) : Type 0 where
-  pub locks : Locks held.frame v w held.word
+  pub locks : TakesHeader held.frame v w held.word
   pub fit : IsFit limit (fields held.word)
 
 -- The frame f was left: its header was locked at a word that is unfit, and unlocked
-pub record Leaves (limit f : ℕ) (v w : View) : Type 0 where
+pub record LeavesFrame (limit f : ℕ) (v w : View) : Type 0 where
   pub under : View
   pub word : ℕ
   pub found : ℕ
-  pub locks : Locks f v under word
+  pub locks : TakesHeader f v under word
   pub unfit : IsUnfit limit (fields word)
   pub unlocks : Did (pins unlock_header) f under w found
 
@@ -54,7 +54,7 @@ usage_allowed from_ring = if from_ring then 1 else 0
 -- The frame f is not taken: it is none of the n, or it was left
 pub data Skips (n limit f : ℕ) (v w : View) : Type 0 where
   beyond : n ≤ f → w ≡ v → Skips n limit f v w
-  unfit : f < n → Leaves limit f v w → Skips n limit f v w
+  unfit : f < n → LeavesFrame limit f v w → Skips n limit f v w
 
 -- Nothing stands at the ring's place, or a frame that is not taken
 pub data LeavesRing (n : ℕ) (place : Option ℕ) (v w : View) : Type 0 where
@@ -88,8 +88,8 @@ pub data NextIs (n tries : ℕ) (v w : View) (f left : ℕ) : Type 0 where
 
 -- The clock passes the frame f with so many tries left, and so many are left then: a frame that no backend pins loses one of its usage count and gives all tries back, and a pinned one takes a try
 pub data Passes (n f tries : ℕ) (v w : View) (left : ℕ) : Type 0 where
-  lowers : {u : View} {word : ℕ} → Locks f v u word → IsUsed (fields word) → Did (pins lower_usage) f u w word → left ≡ n → Passes n f tries v w left
-  leaves : {u : View} {word found : ℕ} → Locks f v u word → 0 < (fields word).pins → Did (pins unlock_header) f u w found → left ≡ tries - 1 → Passes n f tries v w left
+  lowers : {u : View} {word : ℕ} → TakesHeader f v u word → IsUsed (fields word) → Did (pins lower_usage) f u w word → left ≡ n → Passes n f tries v w left
+  leaves : {u : View} {word found : ℕ} → TakesHeader f v u word → 0 < (fields word).pins → Did (pins unlock_header) f u w found → left ≡ tries - 1 → Passes n f tries v w left
 
 -- the view v became w as the clock passed frames, and so many tries are left
 pub data Sweeps (n : ℕ) : View → View → ℕ → Type 0 where

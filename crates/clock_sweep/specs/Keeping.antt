@@ -2,7 +2,7 @@
 use Rattle.std.specs.Prelude.{◌≡◌, ◌≢◌, ℕ, []}
 use Rattle.pin_core.specs.declared.view.View.{View}
 use Rattle.pin_core.specs.State.{link}
-use Rattle.frame_table.specs.Sees.{Looked, locked_link}
+use Rattle.frame_table.specs.Seats.{Looked, locked_link}
 
 -- What a choice leaves of a view: all but its links, and what it lists and counts of steps, loads, changed words and moves of the hand
 abbrev pub aside_of : View → View
@@ -13,7 +13,7 @@ abbrev pub SameAside : View → View → Type 0
 SameAside v w = aside_of w ≡ aside_of v
 
 -- The view has at each frame what it had, but for what loads note
-pub record Keeps (v w : View) : Type 0 where
+pub record KeepsFrames (v w : View) : Type 0 where
   pub aside : SameAside v w
   pub links : (g : ℕ) → Looked (link v g) (link w g)
 

@@ -6,9 +6,9 @@ ghost use Rattle.pin_core.specs.declared.view.View.{View};
 ghost use Rattle.pin_core.specs.declared.view.Role.TheVariants.{Absent};
 ghost use Rattle.pin_core.specs.State.{link};
 ghost use Rattle.pin_core.specs.Steps.{HoldsNoHeader};
-ghost use Rattle.frame_table.specs.Sees.{IsSeat, SameSeat, frames_of};
+ghost use Rattle.frame_table.specs.Seats.{IsSeat, SameSeat, frames_of};
 ghost use Rattle.clock_sweep.specs.CensusList.{new_census};
-ghost use Rattle.clock_sweep.specs.Keeping.{GetsHeader, Keeps};
+ghost use Rattle.clock_sweep.specs.Keeping.{GetsHeader, KeepsFrames};
 ghost use Rattle.clock_sweep.specs.Choosing.{Chooses, FindsNone, IsFit, LeavesFree, LeavesRing, Takes, frame_at_place, ring_gone_on, ring_keeping, usage_allowed};
 
 use crate::census::Census;
@@ -113,7 +113,7 @@ pub fn victim<L: BlockLane, G: LogDevice, R: Wait>(
     ensures did { IfOk result (Chooses (frames_of table.now) (frame_at_place (ring_gone_on ring.old)) seat.old.me.0 seat.new.me.0) }
     ensures no_census { IfOk result (λ _. census.new ≡ new_census (frames_of table.now)) }
     ensures frames { IfErr result (λ why. why.frames ≡ frames_of table.now) }
-    ensures left { IfErr result (λ _. Keeps seat.old.me.0 seat.new.me.0) }
+    ensures left { IfErr result (λ _. KeepsFrames seat.old.me.0 seat.new.me.0) }
     ensures passed { IfErr result (λ _. ring.new ≡ ring_gone_on ring.old) }
     ensures cause { IfErr result (λ _. FindsNone (frames_of table.now) (frame_at_place (ring_gone_on ring.old)) seat.old.me.0 seat.new.me.0 census.new.words) }
     ensures counted { IfErr result (λ _. length census.new.words ≡ frames_of table.now) }

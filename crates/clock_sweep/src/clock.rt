@@ -2,8 +2,8 @@
 ghost use Rattle.std.specs.Prelude.{◌≡◌, ◌<◌, ◌≤◌, ℕ, false, IfErr, IfNone, IfOk, IfSome};
 ghost use Rattle.pin_core.specs.declared.view.View.{View};
 ghost use Rattle.pin_core.specs.Steps.{HoldsNoHeader};
-ghost use Rattle.frame_table.specs.Behind.{DidWord, load_hand, view_of};
-ghost use Rattle.frame_table.specs.Sees.{CanStep, IsSeat, SameSeat, frames_of};
+ghost use Rattle.frame_table.specs.WordSteps.{DidWord, load_hand, view_of};
+ghost use Rattle.frame_table.specs.Seats.{CanStep, IsSeat, SameSeat, frames_of};
 ghost use Rattle.clock_sweep.specs.CensusList.{new_census};
 ghost use Rattle.clock_sweep.specs.Choosing.{Comes, Counts, FindsUnpinned, NextIs, Sweeps, Takes, Treats};
 

@@ -16,13 +16,13 @@ use mathlib.Core.Logic.{dite}
 use native.Mathlib.Decide.{ℕ_discrete}
 use Rattle.pin_core.specs.Kinds.{lock_header, unlock_header}
 use Rattle.frame_table.specs.Kinds.{pages, pins}
-use Rattle.frame_table.specs.Sees.{Looked, Touches, locked_link, unlocked_link}
-use Rattle.frame_table.specs.Tells.{Did, Looks, looking}
+use Rattle.frame_table.specs.Seats.{Looked, Touches, locked_link, unlocked_link}
+use Rattle.frame_table.specs.FrameSteps.{Did, Looks, looking}
 use Rattle.page_core.specs.Kinds.{saw_valid}
 use Rattle.frame_table.specs.Content.{CanBeginIo, CanFinishIo, begun_link, finished_link, start_of}
 use Rattle.frame_table.proofs.Told.{looks_link, looked_on}
 use Rattle.frame_table.proofs.Seeing.{sees_valid}
-use Rattle.content_locks.specs.Io.{BeginsIo, CanEndIo, CanStartIo, FindsNothing, FindsWork, LocksHeader, Waits, still, again, is_nothing}
+use Rattle.content_locks.specs.Io.{BeginsIo, MayEndIo, CanStartIo, FindsNothing, FindsWork, LocksHeader, Waits, still, again, is_nothing}
 
 -- a locked word shows what the word did
 nothing_locked : (input : Bool) (w : StateWord) → is_nothing input (locked_fields w) ≡ is_nothing input w
@@ -147,7 +147,7 @@ ends_on ReadOk l m io read home write h = record { right = io ∙ h.right; read 
 ends_on WriteOk l m io read home write h = record { right = io ∙ h.right; written = write ∙ h.written }
 ends_on Bad l m io read home write h = λ e. h (sym io ∙ e)
 
-pub can_finish : (end : IoEnd) (word : ℕ) (l m : Link) → Looked (locked_link word l) m → CanEndIo end l → CanFinishIo end word m
+pub can_finish : (end : IoEnd) (word : ℕ) (l m : Link) → Looked (locked_link word l) m → MayEndIo end l → CanFinishIo end word m
 can_finish end word l m a can = record { held = a.header; page_home = λ e. a.out ∙ can.home (sym a.io ∙ e); ends = ends_on end l m a.io a.read a.read_is_home a.last_write can.ends }
 
 -- no lane is out with a write of the frame still

@@ -11,42 +11,42 @@ use Rattle.page_layout.specs.Soundness.{is_sound_page}
 use Rattle.pin_core.specs.State.{Page, link}
 use Rattle.page_core.specs.Kinds as paged
 use Rattle.frame_table.specs.Kinds.{FrameKind, pages}
-use Rattle.frame_table.specs.Sees.{SameMarks, Touches}
-use Rattle.frame_table.specs.Tells.{Did}
+use Rattle.frame_table.specs.Seats.{SameMarks, Touches}
+use Rattle.frame_table.specs.FrameSteps.{Did}
 use Rattle.frame_table.specs.Content.{copying_link, looking_content, has_exclusive}
-use Rattle.frame_table.specs.PageWork.{CanReturnPage, applied_link, input_page, page_due, page_out_link, read_home, returned_link}
+use Rattle.frame_table.specs.PageWork.{MayReturnPage, applied_link, input_page, page_due, page_out_link, read_home, returned_link}
 use Rattle.frame_table.proofs.Told.{link_is, touches, touches_on, touches_none}
 use Rattle.frame_table.proofs.Marks.{did_marks, marks_none, marks_on}
 use Rattle.frame_table.proofs.Contents.{own_share, own_exclusive}
 use Rattle.frame_table.proofs.Seeing.{shows_holder}
-use Rattle.content_locks.specs.Locks.{Looks, still, again, Locks, RefusesLock, IsHeld, MayCopy, copied_link, copying_link_if}
+use Rattle.content_locks.specs.Locks.{LooksAtContent, still, again, LocksContent, RefusesLock, ShowsLock, MayCopy, copied_link, copying_link_if}
 use Rattle.content_locks.specs.declared.locks.TryLock.{TryLock}
 use Rattle.content_locks.specs.declared.locks.TryLock.TheVariants.{Busy, Changed}
 
 -- loads of the content word leave what the view has there, and all else
-pub looks_touch : (f : ℕ) (v w : View) → Looks f v w → Touches f v w
+pub looks_touch : (f : ℕ) (v w : View) → LooksAtContent f v w → Touches f v w
 looks_touch f v w still = touches_none f v
 looks_touch f v w (again {u = u} found before d) = touches_on f v u w (looks_touch f v u before) (touches looking_content (λ s g x. refl) f found u w d)
 
 -- and mark nothing
-pub looks_marks : (f : ℕ) (v w : View) → Looks f v w → SameMarks v w
+pub looks_marks : (f : ℕ) (v w : View) → LooksAtContent f v w → SameMarks v w
 looks_marks f v w still = marks_none v
 looks_marks f v w (again {u = u} found before d) = marks_on v u w (looks_marks f v u before) (did_marks looking_content (record { clean = refl; quiet = refl; open_ended = λ fr e. refl }) f found u w d)
 
-pub looks_link : (f : ℕ) (v w : View) → Looks f v w → link w f ≡ link v f
+pub looks_link : (f : ℕ) (v w : View) → LooksAtContent f v w → link w f ≡ link v f
 looks_link f v w still = refl
 looks_link f v w (again {u = u} found before d) = link_is looking_content f found u w d ∙ looks_link f v u before
 
-pub looks_on : (f : ℕ) (v u w : View) → Looks f v u → Looks f u w → Looks f v w
+pub looks_on : (f : ℕ) (v u w : View) → LooksAtContent f v u → LooksAtContent f u w → LooksAtContent f v w
 looks_on f v u w a still = a
 looks_on f v u w a (again {u = x} found before d) = again found (looks_on f v u x a before) d
 
 -- a refusal is loads alone
-pub refused_looks : (Conflicts : ℕ → Type 0) (f : ℕ) (v w : View) (why : TryLock) → RefusesLock Conflicts f v w why → Looks f v w
+pub refused_looks : (Conflicts : ℕ → Type 0) (f : ℕ) (v w : View) (why : TryLock) → RefusesLock Conflicts f v w why → LooksAtContent f v w
 refused_looks Conflicts f v w (Busy word) h = again word still h.0
 refused_looks Conflicts f v w (Changed was now) h = again now (again was still h.1.1) h.1.2
 
-pub locks_on : (k : paged.Kind) (f : ℕ) (v u w : View) → Looks f v u → Locks k f u w → Locks k f v w
+pub locks_on : (k : paged.Kind) (f : ℕ) (v u w : View) → LooksAtContent f v u → LocksContent k f u w → LocksContent k f v w
 locks_on k f v u w a (x, was, before, d) = (x, was, looks_on f v u x a before, d)
 
 -- the copy latch is taken after loads
@@ -54,10 +54,10 @@ pub latched_on : (b : Bool) (l m n : Link) → n ≡ copying_link_if b m → b �
 latched_on b l m n e t i = e ∙ ap (λ (x : Bool). copying_link_if x m) t ∙ ap (copying_link true) i
 
 -- a content word that isn't 0 shows a holder
-pub held_word : (f found : ℕ) (v w : View) → Did looking_content f v w found → found ≢ 0 → IsHeld found
+pub held_word : (f found : ℕ) (v w : View) → Did looking_content f v w found → found ≢ 0 → ShowsLock found
 held_word f found v w d nonzero = of_flag (has_exclusive found) refl
   where
-    of_flag : (b : Bool) → has_exclusive found ≡ b → IsHeld found
+    of_flag : (b : Bool) → has_exclusive found ≡ b → ShowsLock found
     of_flag true e = inl e
     of_flag false e = inr (shows_holder f found v w d nonzero e)
 
@@ -97,7 +97,7 @@ module _ (f found : ℕ) (v w : View) (p : Page) (d : Did (pages paged.page_out)
   noted Shared copied n = refl
   noted Exclusive copied n = refl
 
-  pub may_return : link w f ≡ page_out_link p (link v f) → (link w f).overwritten ≡ None → CanReturnPage p (link w f)
+  pub may_return : link w f ≡ page_out_link p (link v f) → (link w f).overwritten ≡ None → MayReturnPage p (link w f)
   may_return out fresh = record {
     out = λ none. let no : Some p ≡ None = sym (ap (λ (l : Link). l.out) out) ∙ none in absurd (cc);
     once = fresh;

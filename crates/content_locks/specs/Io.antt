@@ -13,8 +13,8 @@ use Rattle.pin_core.specs.Kinds.{lock_header, unlock_header}
 use Rattle.page_core.specs.Kinds as paged
 use Rattle.page_core.specs.Kinds.{EndsAs}
 use Rattle.frame_table.specs.Kinds.{pages, pins}
-use Rattle.frame_table.specs.Sees.{IsWordOf, Looked, MarksBegun, MarksEnded, SameMarks}
-use Rattle.frame_table.specs.Tells.{Did, Looks, looking}
+use Rattle.frame_table.specs.Seats.{IsWordOf, Looked, MarksBegun, MarksEnded, SameMarks}
+use Rattle.frame_table.specs.FrameSteps.{Did, Looks, looking}
 use Rattle.frame_table.specs.Content.{begun_link, start_of}
 use Rattle.content_locks.specs.declared.io.TryIo.{TryIo}
 use Rattle.content_locks.specs.declared.io.TryIo.TheVariants.{InProgress, Nothing, Begun}
@@ -32,7 +32,7 @@ pub record CanStartIo (input : Bool) (l : Link) : Type 0 where
   pub to_write : input ≡ false → l.content ≡ Shared
 
 -- it may end: for a read the page is home
-pub record CanEndIo (end : IoEnd) (l : Link) : Type 0 where
+pub record MayEndIo (end : IoEnd) (l : Link) : Type 0 where
   pub home : l.io ≡ Input → l.out ≡ None
   pub ends : EndsAs end l
 

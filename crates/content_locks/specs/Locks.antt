@@ -10,26 +10,26 @@ use Rattle.pin_core.specs.State.{Page, link}
 use Rattle.page_core.specs.Kinds as paged
 use Rattle.frame_table.specs.Kinds.{pages}
 use Rattle.frame_table.specs.PageWork.{ReturnsBy, overwriting}
-use Rattle.frame_table.specs.Tells.{Did}
+use Rattle.frame_table.specs.FrameSteps.{Did}
 use Rattle.frame_table.specs.Content.{copying_link, has_exclusive, looking_content}
 use Rattle.content_locks.specs.declared.locks.TryLock.{TryLock}
 use Rattle.content_locks.specs.declared.locks.TryLock.TheVariants.{Busy, Changed}
 
 -- the view v became w by loads of the content word of f
-pub data Looks (f : ℕ) : View → View → Type 0 where
-  still : {v : View} → Looks f v v
-  again : {v u w : View} (found : ℕ) → Looks f v u → Did looking_content f u w found → Looks f v w
+pub data LooksAtContent (f : ℕ) : View → View → Type 0 where
+  still : {v : View} → LooksAtContent f v v
+  again : {v u w : View} (found : ℕ) → LooksAtContent f v u → Did looking_content f u w found → LooksAtContent f v w
 
 -- after such loads a step of the kind k was made at the content word
-abbrev pub Locks : paged.Kind → ℕ → View → View → Type 0
-Locks k f v w = (u : View) × (was : ℕ) × Looks f v u × Did (pages k) f u w was
+abbrev pub LocksContent : paged.Kind → ℕ → View → View → Type 0
+LocksContent k f v w = (u : View) × (was : ℕ) × LooksAtContent f v u × Did (pages k) f u w was
 
 -- a content word that shows an exclusive lock, and one that shows any
-abbrev pub IsHeldExclusively : ℕ → Type 0
-IsHeldExclusively word = has_exclusive word ≡ true
+abbrev pub ShowsExclusive : ℕ → Type 0
+ShowsExclusive word = has_exclusive word ≡ true
 
-abbrev pub IsHeld : ℕ → Type 0
-IsHeld word = (has_exclusive word ≡ true) ⊎ (0 < word % 2 ^ 18)
+abbrev pub ShowsLock : ℕ → Type 0
+ShowsLock word = (has_exclusive word ≡ true) ⊎ (0 < word % 2 ^ 18)
 
 -- Why a content lock is not taken: a word that this call loaded shows a holder in conflict, or this call loaded two different words
 abbrev pub RefusesLock : (ℕ → Type 0) → ℕ → View → View → TryLock → Type 0
@@ -70,10 +70,10 @@ pub record CopiesPage (f : ℕ) (page : Page) (v w : View) : Type 0 where
 
 -- it did so after loads of the content word, or under the copy latch, which was taken and left
 pub data Copies (f : ℕ) (page : Page) : View → View → Type 0 where
-  alone : {v u w : View} → Looks f v u → CopiesPage f page u w → Copies f page v w
-  latched : {v u x w : View} (left : ℕ) → Locks paged.take_copy f v u → CopiesPage f page u x → Did (pages paged.leave_copy) f x w left → Copies f page v w
+  alone : {v u w : View} → LooksAtContent f v u → CopiesPage f page u w → Copies f page v w
+  latched : {v u x w : View} (left : ℕ) → LocksContent paged.take_copy f v u → CopiesPage f page u x → Did (pages paged.leave_copy) f x w left → Copies f page v w
 
 -- one try to take the copy latch: it is taken, or the word was loaded
 abbrev pub TriedCopy : ℕ → View → View → Bool → Type 0
-TriedCopy f v w true = Locks paged.take_copy f v w
-TriedCopy f v w false = Looks f v w
+TriedCopy f v w true = LocksContent paged.take_copy f v w
+TriedCopy f v w false = LooksAtContent f v w

@@ -9,11 +9,11 @@ ghost use Rattle.table_rule.specs.declared.value.Value.TheVariants as value;
 ghost use Rattle.table_rule.specs.declared.turn.Place.TheVariants as place;
 ghost use Rattle.table_rule.specs.Layout.{slot_of};
 ghost use Rattle.frame_table.specs.Content.{copying_link};
-ghost use Rattle.frame_table.specs.PageWork.{CanReturnPage, CanTakePage, ReturnsBy, overwriting, page_out_link, returned_link};
+ghost use Rattle.frame_table.specs.PageWork.{MayReturnPage, MayTakePage, ReturnsBy, overwriting, page_out_link, returned_link};
 ghost use Rattle.frame_table.specs.Kinds.{pages};
-ghost use Rattle.frame_table.specs.Sees.{CanStep, SameMarks, SameSeat, Touches, frames_of};
-ghost use Rattle.frame_table.specs.Tells.{Did};
-ghost use Rattle.content_locks.specs.Locks.{CanCopy, Copies, CopiesPage, Locks, MayCopy, TriedCopy, copied_link, copying_link_if};
+ghost use Rattle.frame_table.specs.Seats.{CanStep, SameMarks, SameSeat, Touches, frames_of};
+ghost use Rattle.frame_table.specs.FrameSteps.{Did};
+ghost use Rattle.content_locks.specs.Locks.{CanCopy, Copies, CopiesPage, LocksContent, MayCopy, TriedCopy, copied_link, copying_link_if};
 
 use atomic_table::Seat;
 use frame_table::{FrameTable, Value, is_copying, is_exclusive};
@@ -36,7 +36,7 @@ fn take_copy<L: BlockLane, G: LogDevice, R: Wait>(
     ensures touches { Touches frame seat.old.me.0 seat.new.me.0 }
     ensures marks { SameMarks seat.old.me.0 seat.new.me.0 }
     ensures taken { link seat.new.me.0 frame ≡ copying_link true (link seat.old.me.0 frame) }
-    ensures did { Locks kinds.take_copy frame seat.old.me.0 seat.new.me.0 }
+    ensures did { LocksContent kinds.take_copy frame seat.old.me.0 seat.new.me.0 }
 {
     for _ in rt.forever() {
         if try_copy(table, seat, frame) {
@@ -123,7 +123,7 @@ pub fn page_out<L: BlockLane, G: LogDevice>(
     frame: u32,
 ) -> Page
     requires seat { CanStep table.now seat.old frame }
-    requires can { CanTakePage (link seat.old.me.0 frame) }
+    requires can { MayTakePage (link seat.old.me.0 frame) }
     ensures seat { (seat.new.table_id ≡ seat.old.table_id) × (seat.new.id ≡ seat.old.id) }
     ensures hand { seat.new.me.1 ≡ (slot_of (frames_of table.now) (place.Page frame), value.Away) ∷ seat.old.me.1 }
     ensures touches { Touches frame seat.old.me.0 seat.new.me.0 }
@@ -144,7 +144,7 @@ pub fn page_back<L: BlockLane, G: LogDevice>(
 )
     requires seat { CanStep table.now seat.old frame }
     requires hand { seat.old.me.1 ≡ (slot_of (frames_of table.now) (place.Page frame), value.Away) ∷ rest seat.old.me.1 }
-    requires can { CanReturnPage page (link seat.old.me.0 frame) }
+    requires can { MayReturnPage page (link seat.old.me.0 frame) }
     ensures seat { (seat.new.table_id ≡ seat.old.table_id) × (seat.new.id ≡ seat.old.id) }
     ensures hand { seat.new.me.1 ≡ rest seat.old.me.1 }
     ensures touches { Touches frame seat.old.me.0 seat.new.me.0 }

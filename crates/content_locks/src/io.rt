@@ -5,9 +5,9 @@ ghost use Rattle.state_word.specs.Fields.{fields, io_ended_fields, unlocked_fiel
 ghost use Rattle.pin_core.specs.State.{link};
 ghost use Rattle.pin_core.specs.Steps.{HoldsNoHeader};
 ghost use Rattle.page_core.specs.Steps.{HasNoIo, HasNoWriteOut};
-ghost use Rattle.frame_table.specs.Sees.{CanStep, Looked, MarksBegun, MarksEnded, SameMarks, SameSeat, Touches};
+ghost use Rattle.frame_table.specs.Seats.{CanStep, Looked, MarksBegun, MarksEnded, SameMarks, SameSeat, Touches};
 ghost use Rattle.frame_table.specs.Content.{begun_link, finished_link};
-ghost use Rattle.content_locks.specs.Io.{BeginsIo, CanEndIo, CanStartIo, EndsIo, FindsNothing, TriedIo, is_nothing};
+ghost use Rattle.content_locks.specs.Io.{BeginsIo, MayEndIo, CanStartIo, EndsIo, FindsNothing, TriedIo, is_nothing};
 
 use atomic_table::Seat;
 use frame_table::{FrameTable, IoRight, Value};
@@ -108,7 +108,7 @@ pub fn end_io<L: BlockLane, G: LogDevice, R: Wait>(
     requires seat { CanStep table.now seat.old right.frame }
     requires headless { HoldsNoHeader seat.old.me.0 }
     requires no_write { HasNoWriteOut seat.old.me.0 right.frame }
-    requires view { CanEndIo end (link seat.old.me.0 right.frame) }
+    requires view { MayEndIo end (link seat.old.me.0 right.frame) }
     ensures seat { SameSeat seat.old seat.new }
     ensures touches { Touches right.frame seat.old.me.0 seat.new.me.0 }
     ensures marks { (word : ℕ) × MarksEnded (unlocked_fields (io_ended_fields end (fields word))) seat.old.me.0 seat.new.me.0 }

@@ -2,11 +2,11 @@
 ghost use Rattle.std.specs.Prelude.{◌≡◌, ℕ, IfErr, IfOk};
 ghost use Rattle.pin_core.specs.State.{link};
 ghost use Rattle.page_core.specs.Kinds as kinds;
-ghost use Rattle.frame_table.specs.Sees.{CanStep, SameMarks, SameSeat, Touches};
+ghost use Rattle.frame_table.specs.Seats.{CanStep, SameMarks, SameSeat, Touches};
 ghost use Rattle.frame_table.specs.Kinds.{pages};
-ghost use Rattle.frame_table.specs.Tells.{Did};
+ghost use Rattle.frame_table.specs.FrameSteps.{Did};
 ghost use Rattle.frame_table.specs.Content.{CanDropExclusive, CanDropShare, CanLock, exclusive_link, shared_link, unexclusive_link, unshared_link};
-ghost use Rattle.content_locks.specs.Locks.{IsHeld, IsHeldExclusively, Locks, RefusesLock};
+ghost use Rattle.content_locks.specs.Locks.{ShowsLock, ShowsExclusive, LocksContent, RefusesLock};
 
 use atomic_table::Seat;
 use frame_table::{FrameTable, Value, is_exclusive};
@@ -37,8 +37,8 @@ pub fn try_share<L: BlockLane, G: LogDevice>(
     ensures marks { SameMarks seat.old.me.0 seat.new.me.0 }
     ensures shared { IfOk result (λ _. link seat.new.me.0 frame ≡ shared_link (link seat.old.me.0 frame)) }
     ensures left { IfErr result (λ _. link seat.new.me.0 frame ≡ link seat.old.me.0 frame) }
-    ensures did { IfOk result (λ _. Locks kinds.share frame seat.old.me.0 seat.new.me.0) }
-    ensures cause { IfErr result (RefusesLock IsHeldExclusively frame seat.old.me.0 seat.new.me.0) }
+    ensures did { IfOk result (λ _. LocksContent kinds.share frame seat.old.me.0 seat.new.me.0) }
+    ensures cause { IfErr result (RefusesLock ShowsExclusive frame seat.old.me.0 seat.new.me.0) }
 {
     let was = table.look_content(seat, frame);
     if is_exclusive(was) {
@@ -63,8 +63,8 @@ pub fn try_exclusive<L: BlockLane, G: LogDevice>(
     ensures marks { SameMarks seat.old.me.0 seat.new.me.0 }
     ensures exclusive { IfOk result (λ _. link seat.new.me.0 frame ≡ exclusive_link (link seat.old.me.0 frame)) }
     ensures left { IfErr result (λ _. link seat.new.me.0 frame ≡ link seat.old.me.0 frame) }
-    ensures did { IfOk result (λ _. Locks kinds.exclude frame seat.old.me.0 seat.new.me.0) }
-    ensures cause { IfErr result (RefusesLock IsHeld frame seat.old.me.0 seat.new.me.0) }
+    ensures did { IfOk result (λ _. LocksContent kinds.exclude frame seat.old.me.0 seat.new.me.0) }
+    ensures cause { IfErr result (RefusesLock ShowsLock frame seat.old.me.0 seat.new.me.0) }
 {
     let was = table.look_content(seat, frame);
     if was != 0 {
@@ -89,7 +89,7 @@ pub fn share<L: BlockLane, G: LogDevice, R: Wait>(
     ensures touches { Touches frame seat.old.me.0 seat.new.me.0 }
     ensures marks { SameMarks seat.old.me.0 seat.new.me.0 }
     ensures shared { link seat.new.me.0 frame ≡ shared_link (link seat.old.me.0 frame) }
-    ensures did { Locks kinds.share frame seat.old.me.0 seat.new.me.0 }
+    ensures did { LocksContent kinds.share frame seat.old.me.0 seat.new.me.0 }
 {
     for _ in rt.forever() {
         match try_share(table, seat, frame) {
@@ -113,7 +113,7 @@ pub fn exclusive<L: BlockLane, G: LogDevice, R: Wait>(
     ensures touches { Touches frame seat.old.me.0 seat.new.me.0 }
     ensures marks { SameMarks seat.old.me.0 seat.new.me.0 }
     ensures exclusive { link seat.new.me.0 frame ≡ exclusive_link (link seat.old.me.0 frame) }
-    ensures did { Locks kinds.exclude frame seat.old.me.0 seat.new.me.0 }
+    ensures did { LocksContent kinds.exclude frame seat.old.me.0 seat.new.me.0 }
 {
     for _ in rt.forever() {
         match try_exclusive(table, seat, frame) {

@@ -12,30 +12,30 @@ use Rattle.history_core.specs.State.{State}
 use Rattle.history_core.proofs.Laws.{laws_kept}
 use Rattle.table_rule.specs.declared.value.Value.{Value}
 use Rattle.table_rule.specs.declared.opening.Opening.{Opening}
-use Rattle.frame_table.specs.Kinds.{Part, state_word, tag_word, content_word, FrameKind, part_of, load_of, view_after, state_after}
+use Rattle.frame_table.specs.Kinds.{FrameWord, state_word, tag_word, content_word, FrameKind, part_of, load_of, view_after, state_after}
 use Rattle.table_rule.specs.Shows.{ShowsFrame, Devices, Shows, Held}
-use Rattle.frame_table.specs.Tells.{part_place, SaysOf, Did, Choice, always, if_found, if_unlocked, chosen, choice_part, tells}
+use Rattle.frame_table.specs.FrameSteps.{part_place, SaysOf, Did, Choice, always, if_found, if_unlocked, chosen, choice_part, tells}
 use Rattle.frame_table.proofs.Kept.{frame_step}
 use Rattle.frame_table.proofs.Frames.{Asks, shows_after}
 
 -- the words of a frame lie beside one another
-part_low : (p : Part) (f : ℕ) → (part_place p f ≡ 3 * f + (part_place p f - 3 * f)) × (part_place p f - 3 * f < 3)
+part_low : (p : FrameWord) (f : ℕ) → (part_place p f ≡ 3 * f + (part_place p f - 3 * f)) × (part_place p f - 3 * f < 3)
 part_low state_word f = (omega arith, omega arith)
 part_low tag_word f = (omega arith, omega arith)
 part_low content_word f = (omega arith, omega arith)
 
-same_place : (p : Part) (f g : ℕ) → part_place p f ≡ part_place p g → f ≡ g
+same_place : (p : FrameWord) (f g : ℕ) → part_place p f ≡ part_place p g → f ≡ g
 same_place state_word f g e = omega arith
 same_place tag_word f g e = omega arith
 same_place content_word f g e = omega arith
 
-part_says : (p : Part) (words : List ℕ) (f : ℕ) (fr : Frame) → ShowsFrame words f fr → SaysOf p (get_or words (part_place p f) 0) fr
+part_says : (p : FrameWord) (words : List ℕ) (f : ℕ) (fr : Frame) → ShowsFrame words f fr → SaysOf p (get_or words (part_place p f) 0) fr
 part_says state_word words f fr h = h.word
 part_says tag_word words f fr h = h.tag
 part_says content_word words f fr h = (h.sharers, h.exclusive, h.copying, h.small)
 
 -- a load is at the same word
-part_load : (p : Part) → part_of (load_of p) ≡ p
+part_load : (p : FrameWord) → part_of (load_of p) ≡ p
 part_load state_word = refl
 part_load tag_word = refl
 part_load content_word = refl
@@ -83,7 +83,7 @@ module _ {L G : Type 0} (d : Devices L G) (o : Opening L G) where
             there = here;
             live = live;
             inside = inside;
-            says = subst (λ (p : Part). SaysOf p n (s.pool.core.frame f)) (sym (part_chosen choice a n)) (part_says (choice_part choice) t.words f (s.pool.core.frame f) (h.shows.frame f below));
+            says = subst (λ (p : FrameWord). SaysOf p n (s.pool.core.frame f)) (sym (part_chosen choice a n)) (part_says (choice_part choice) t.words f (s.pool.core.frame f) (h.shows.frame f below));
             allowed = ok.allowed;
             around = ok.around;
             after = refl;

@@ -24,7 +24,7 @@ use Rattle.table_rule.specs.declared.opening.Opening.{Opening}
 use Rattle.table_rule.specs.Layout.{content_place}
 use Rattle.frame_table.specs.Kinds.{FrameKind, pages, part_of, load_of, frame_after, link_after, IsAllowed, IsAllowedAround}
 use Rattle.table_rule.specs.Shows.{ShowsFrame, Devices, Shows, Held}
-use Rattle.frame_table.specs.Tells.{Did, SaysOf, part_place, always, if_found, chosen, tells}
+use Rattle.frame_table.specs.FrameSteps.{Did, SaysOf, part_place, always, if_found, chosen, tells}
 use Rattle.frame_table.specs.Kinds.{content_word}
 use Rattle.frame_table.specs.Content.{looking_content, has_exclusive, has_copying, CanLock, CanDropShare, CanDropExclusive, CanDropCopy}
 use Rattle.frame_table.proofs.Frames.{Asks}

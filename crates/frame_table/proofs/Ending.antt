@@ -24,8 +24,8 @@ use Rattle.table_rule.specs.declared.turn.Place.{Place}
 use Rattle.table_rule.specs.declared.turn.Place.TheVariants as place
 use Rattle.table_rule.specs.declared.turn.Turn.TheVariants as turn
 use Rattle.table_rule.specs.Layout.{slot_of}
-use Rattle.table_rule.specs.Laid.{lanes_in, IsPlain, EndsWith}
-use Rattle.table_rule.specs.Shows.{is_out, IsHome, Devices, Gives, GivesPage, GivesMap, GivesLane, GivesLog, IsLane, IsLog, HasPlace, Held}
+use Rattle.table_rule.specs.Laid.{lanes_among, HasNoDevices, EndsWith}
+use Rattle.table_rule.specs.Shows.{is_out, IsHome, Devices, Gives, GivesPage, GivesMap, GivesLane, GivesLog, IsLane, IsLog, IsPlaceIn, Held}
 use Rattle.table_rule.proofs.Emptying.{at_take, two_last, plain_each, LanesAt, AreThose, are_those, same_item, IsOther, other_plain, other_lanes, lane_plain, log_lanes, list_lanes, one_log}
 use Rattle.table_rule.proofs.Opens.{length_low}
 use Rattle.frame_table.specs.Closes.{Closes}
@@ -55,7 +55,7 @@ module _ {L G : Type 0} (d : Devices L G) (o : Opening L G) (t : table.State (Va
           let n = h.laws.invariant.pool.core.accounted v first in let m = (h.laws.invariant.pool.core.views.first v first).1 in omega (arith, a, b, c, n, m))
 
   -- so each value is in its slot
-  all_home : (x : Place) → HasPlace o x → IsHome x s.pool.core.views
+  all_home : (x : Place) → IsPlaceIn o x → IsHome x s.pool.core.views
   all_home x has i u at = dite (ℕ_discrete i 0)
       (λ e. let same : v ≡ u = some-injective v u (sym first ∙ ap (get_elem? s.pool.core.views) (sym e) ∙ at) in subst (λ (z : View). is_out x z ≡ false) same (free_home d o s 0 v h.shows.fixed h.laws first free x has))
       (λ n. ap (is_out x) (joined_others i u n at) ∙ spent_home x)
@@ -64,7 +64,7 @@ module _ {L G : Type 0} (d : Devices L G) (o : Opening L G) (t : table.State (Va
     abbrev n : ℕ
     n = o.config.frames
 
-    value_at : (x : Place) → HasPlace o x → (y : Value L G) × (get_elem? xs (slot_of n x) ≡ some y) × Gives d o s x y
+    value_at : (x : Place) → IsPlaceIn o x → (y : Value L G) × (get_elem? xs (slot_of n x) ≡ some y) × Gives d o s x y
     value_at x has = let r = h.shows.homes x has (all_home x has) in (r.value, given (slot_of n x) r.value r.home, r.gives)
 
     wide : length xs ≡ n + 146
@@ -125,10 +125,10 @@ module _ {L G : Type 0} (d : Devices L G) (o : Opening L G) (t : table.State (Va
     list_at : get_elem? xs (n + 145) ≡ some (value.Lanes h.shows.list.list)
     list_at = given (n + 145) (value.Lanes h.shows.list.list) h.shows.list.home
 
-    plain_at : (i : ℕ) (y : Value L G) → i < n + 144 → get_elem? xs i ≡ some y → IsPlain (y ∷ [])
+    plain_at : (i : ℕ) (y : Value L G) → i < n + 144 → get_elem? xs i ≡ some y → HasNoDevices (y ∷ [])
     plain_at i y low at = dite (dec_lt i (n + 128)) (λ a. other_plain y (other_at i y a at))
         (λ a. dite (dec_lt (i - n - 128) o.config.lanes)
-        (λ b. let r = lane_at (i - n - 128) b in subst (λ (z : Value L G). IsPlain (z ∷ [])) (same_item xs (n + 128 + (i - n - 128)) i (value.Lane r.0) y (omega arith) r.1 at) (lane_plain L G r.0))
+        (λ b. let r = lane_at (i - n - 128) b in subst (λ (z : Value L G). HasNoDevices (z ∷ [])) (same_item xs (n + 128 + (i - n - 128)) i (value.Lane r.0) y (omega arith) r.1 at) (lane_plain L G r.0))
         (λ b. other_plain y (spare_at (i - n - 128) i y (omega arith) (omega arith) (omega arith) at)))
 
     -- the values end with the log and the list
@@ -146,19 +146,19 @@ module _ {L G : Type 0} (d : Devices L G) (o : Opening L G) (t : table.State (Va
       there = λ q i y is low at. let r = lane_at q low in (r.0, sym (same_item xs (n + 128 + q) i (value.Lane r.0) y (sym is) r.1 at));
       behind = λ i y at high. dite (dec_lt i (n + 144)) (λ a. other_lanes y (spare_at (i - n - 128) i y (omega arith) (omega arith) (omega arith) at))
           (λ a. dite (ℕ_discrete i (n + 144))
-          (λ e. subst (λ (z : Value L G). lanes_in (z ∷ []) ≡ []) (same_item xs (n + 144) i (value.Log log_at.0) y (sym e) log_at.1 at) (log_lanes L G log_at.0))
-          (λ e. subst (λ (z : Value L G). lanes_in (z ∷ []) ≡ []) (same_item xs (n + 145) i (value.Lanes h.shows.list.list) y (let w = wide in let b = length_low xs i y at in omega arith) list_at at) (list_lanes L G h.shows.list.list)));
+          (λ e. subst (λ (z : Value L G). lanes_among (z ∷ []) ≡ []) (same_item xs (n + 144) i (value.Log log_at.0) y (sym e) log_at.1 at) (log_lanes L G log_at.0))
+          (λ e. subst (λ (z : Value L G). lanes_among (z ∷ []) ≡ []) (same_item xs (n + 145) i (value.Lanes h.shows.list.list) y (let w = wide in let b = length_low xs i y at in omega arith) list_at at) (list_lanes L G h.shows.list.list)));
       long = (let w = wide in let f = h.shows.fixed.few_lanes in omega arith);
     }
 
     those : AreThose (n + 128) o.config.lanes xs
     those = are_those xs (n + 128) o.config.lanes lanes_so
 
-    pub room_so : length (lanes_in xs) ≤ vec_capacity h.shows.list.list
+    pub room_so : length (lanes_among xs) ≤ vec_capacity h.shows.list.list
     room_so = let a = those.counted in let b = h.shows.list.room in omega arith
 
     -- what comes back
-    pub closes_so : (lanes : List L) (log : G) → lanes ≡ lanes_in xs → (g : NotedLog G) (list : Vec L Global) → EndsWith g list xs → log ≡ g.device → Closes d o v lanes log
+    pub closes_so : (lanes : List L) (log : G) → lanes ≡ lanes_among xs → (g : NotedLog G) (list : Vec L Global) → EndsWith g list xs → log ≡ g.device → Closes d o v lanes log
     closes_so lanes log all g list ends is = record {
       state = s;
       laws = h.laws;
@@ -177,7 +177,7 @@ module _ {L G : Type 0} (d : Devices L G) (o : Opening L G) (id : ℕ) (v : View
   seen_first : get_elem? final.0.views 0 ≡ some v
   seen_first = ap (get_elem? final.0.views) (sym first_id) ∙ final.1.1
 
-  pub final_ends : (g : NotedLog G) × (list : Vec L Global) × EndsWith g list xs × (list.items ≡ []) × (length (lanes_in xs) ≤ vec_capacity list)
+  pub final_ends : (g : NotedLog G) × (list : Vec L Global) × EndsWith g list xs × (list.items ≡ []) × (length (lanes_among xs) ≤ vec_capacity list)
   final_ends = let h = final.1.0 in (
     (log_at d o final.0 h v seen_first live free joined xs final.3 final.4).0,
     h.shows.list.list,
@@ -186,5 +186,5 @@ module _ {L G : Type 0} (d : Devices L G) (o : Opening L G) (id : ℕ) (v : View
     room_so d o final.0 h v seen_first live free joined xs final.3 final.4,
   )
 
-  pub final_closes : (lanes : List L) (log : G) (g : NotedLog G) (list : Vec L Global) → EndsWith g list xs → lanes ≡ lanes_in xs → log ≡ g.device → Closes d o v lanes log
+  pub final_closes : (lanes : List L) (log : G) (g : NotedLog G) (list : Vec L Global) → EndsWith g list xs → lanes ≡ lanes_among xs → log ≡ g.device → Closes d o v lanes log
   final_closes lanes log g list ends all is = closes_so d o final.0 final.1.0 v seen_first live free joined xs final.3 final.4 lanes log all g list ends is

@@ -34,7 +34,7 @@ use Rattle.table_rule.specs.declared.value.Value.{Value}
 use Rattle.table_rule.specs.Blocks.{log_name}
 use Rattle.table_rule.specs.Layout.{latch_place, end_place}
 use Rattle.table_rule.specs.Shows.{HasTurn, ShowsFrame, ShowsLatches, is_out, is_taken, Devices, Shows, Held}
-use Rattle.frame_table.specs.Entering.{MayEnter, IsRecord, MayStoreEnd, DidEnter, view_entered, tells_end}
+use Rattle.frame_table.specs.Entering.{MayBecomeEntry, IsRecord, MayStoreEnd, DidEnter, view_entered, tells_end}
 use Rattle.frame_table.proofs.Frames.{frame_else, lane_none, device_none, same_at, home_before, gives_same}
 use Rattle.frame_table.proofs.LogNames.{record_is}
 
@@ -49,7 +49,7 @@ module _ (s : State) (id : ℕ) (v : View) (laws : Laws s) (there : get_elem? s.
   end_is n e = ((laws.invariant.device.cells id v 0 there (lit< tt)).end n e).1
 
   -- an entry may be made where what the view has lets it
-  pub can_log : (f : ℕ) (tag : Tag) (p : Page) (start : ℕ) → MayEnter f tag p start v → CanLog s f (packed_tag tag) p v
+  pub can_log : (f : ℕ) (tag : Tag) (p : Page) (start : ℕ) → MayBecomeEntry f tag p start v → CanLog s f (packed_tag tag) p v
   can_log f tag p start e = let inside = inside_of s id f v laws there live e.right in let same = end_is start e.loaded in record {
     inside = inside;
     tagged = ((laws.invariant.pool.core.grid.cells id v f there inside).remembers (packed_tag tag) e.remembered).1;
@@ -61,7 +61,7 @@ module _ (s : State) (id : ℕ) (v : View) (laws : Laws s) (there : get_elem? s.
   }
 
   -- and the record is that of the entry that it would be
-  pub is_entry : (relations : List RelEntry) → s.names ≡ log_name relations → (f : ℕ) (tag : Tag) (p : Page) (start : ℕ) (bytes : List ℕ) → MayEnter f tag p start v → IsRecord relations tag start p bytes → bytes ≡ record_bytes s.names (new_entry s v.number (packed_tag tag) p)
+  pub is_entry : (relations : List RelEntry) → s.names ≡ log_name relations → (f : ℕ) (tag : Tag) (p : Page) (start : ℕ) (bytes : List ℕ) → MayBecomeEntry f tag p start v → IsRecord relations tag start p bytes → bytes ≡ record_bytes s.names (new_entry s v.number (packed_tag tag) p)
   is_entry relations names f tag p start bytes e r = record_is relations s.names tag start v.number p bytes names e.named r ∙ ap (λ (n : ℕ). record_bytes s.names (record { start = n; backend = v.number; tag = packed_tag tag; image = p })) (end_is start e.loaded)
 
   can_enter : (relations : List RelEntry) → s.names ≡ log_name relations → (f : ℕ) (tag : Tag) (p : Page) (end : ℕ) → MayStoreEnd relations f tag p end v → CanEnter s f p v

@@ -9,7 +9,7 @@ use Rattle.history_core.specs.Histories.{IsReached}
 use Rattle.history_core.proofs.Laws.{laws_kept}
 use Rattle.grid.proofs.Lists.{set_here}
 use Rattle.frame_table.specs.Kinds.{FrameKind, view_after, state_after, event_of}
-use Rattle.frame_table.specs.Tells.{Did}
+use Rattle.frame_table.specs.FrameSteps.{Did}
 use Rattle.frame_table.proofs.Frames.{views_are}
 use Rattle.frame_table.proofs.Kept.{frame_step}
 

@@ -20,7 +20,7 @@ use Rattle.history_core.specs.State.{State}
 use Rattle.history_core.specs.Laws.{Laws}
 use Rattle.table_rule.specs.declared.value.Mapped.{Mapped}
 use Rattle.table_rule.specs.Shows.{AreApart, GivesEntries, entry_of}
-use Rattle.frame_table.specs.Turning.{HasNamed}
+use Rattle.frame_table.specs.Latches.{HasNamed}
 
 module _ {A : Type 0} (number : A → ℕ) where
   -- no thing has the number x

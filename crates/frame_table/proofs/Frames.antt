@@ -33,7 +33,7 @@ use Rattle.table_rule.specs.declared.turn.Turn.{Turn}
 use Rattle.table_rule.specs.declared.turn.Turn.TheVariants as turn
 use Rattle.table_rule.specs.Layout.{latch_place}
 use Rattle.frame_table.specs.Kinds.{FrameKind, pins, pages, IsAllowed, IsAllowedAround, frame_after, link_after, view_after, state_after}
-use Rattle.table_rule.specs.Shows.{ShowsFrame, ShowsLatches, is_taken, is_out, IsHome, Devices, Gives, GivesPage, GivesMap, GivesLane, GivesLog, IsOpened, Shows}
+use Rattle.table_rule.specs.Shows.{ShowsFrame, ShowsLatches, is_taken, is_out, IsHome, Devices, Gives, GivesPage, GivesMap, GivesLane, GivesLog, KeepsOpening, Shows}
 
 -- a word that none of the frame's three is leaves what they show
 pub frame_else : (words : List ℕ) (i n g : ℕ) (fr : Frame) → ¬ (i ≡ 3 * g) → ¬ (i ≡ 3 * g + 1) → ¬ (i ≡ 3 * g + 2) → ShowsFrame words g fr → ShowsFrame (set words i n) g fr
@@ -209,7 +209,7 @@ module _ {L G : Type 0} where
     pub out : (link_after k s f v).out ≡ (link v f).out
 
 module _ {L G : Type 0} (d : Devices L G) (o : Opening L G) where
-  pub fixed_after : (k : FrameKind) (s : State) (i f : ℕ) (v : View) → IsOpened d o s → IsOpened d o (state_after k s i f v)
+  pub fixed_after : (k : FrameKind) (s : State) (i f : ℕ) (v : View) → KeepsOpening d o s → KeepsOpening d o (state_after k s i f v)
   fixed_after (pins k) s i f v h = record { frames = h.frames; backends = h.backends; base = h.base; partitions = h.partitions; partition_of = h.partition_of; is_block = h.is_block; names = h.names; lanes = h.lanes; lane_of = h.lane_of; few_backends = h.few_backends; few_lanes = h.few_lanes; known = h.known; origin = h.origin; reads = h.reads; writes = h.writes; log_faults = h.log_faults }
   fixed_after (pages k) s i f v h = record { frames = h.frames; backends = h.backends; base = h.base; partitions = h.partitions; partition_of = h.partition_of; is_block = h.is_block; names = h.names; lanes = h.lanes; lane_of = h.lane_of; few_backends = h.few_backends; few_lanes = h.few_lanes; known = h.known; origin = h.origin; reads = h.reads; writes = h.writes; log_faults = h.log_faults }
 

@@ -20,8 +20,8 @@ use Rattle.table_rule.specs.declared.opening.Opening.{Opening}
 use Rattle.table_rule.specs.Layout.{state_place}
 use Rattle.frame_table.specs.Kinds.{FrameKind, pages, state_word, part_of}
 use Rattle.table_rule.specs.Shows.{Devices, Held}
-use Rattle.frame_table.specs.Sees.{Looked}
-use Rattle.frame_table.specs.Tells.{Did, SaysOf, Tried, part_place, has_locked, always, if_found, tells}
+use Rattle.frame_table.specs.Seats.{Looked}
+use Rattle.frame_table.specs.FrameSteps.{Did, SaysOf, Tried, part_place, has_locked, always, if_found, tells}
 use Rattle.frame_table.specs.Content.{CanAwait, CanBeginIo, CanClearJust, CanFinishIo, CanNeed, CanWake, begun_link, dirtied_link, start_of}
 use Rattle.frame_table.proofs.Frames.{Asks}
 use Rattle.frame_table.proofs.Acting.{acts}

@@ -40,8 +40,8 @@ use Rattle.table_rule.specs.Layout.{state_place, tag_place, tag_partition, parti
 use Rattle.history_core.specs.Laws.{Laws}
 use Rattle.frame_table.specs.Kinds.{FrameKind, pins, part_of, link_after}
 use Rattle.table_rule.specs.Shows.{ShowsFrame, Devices, Shows, Held}
-use Rattle.frame_table.specs.Sees.{Finds, mapped_link, SameSelf, Looked, Touches, Stores, HoldsWord, HasRoom, IsUsed, HasFlag, IsAlone, MayChange, Lacks, NamesIn, NamesStored, CanStore, CanErase, CanStoreAs, partitions_erased, partitions_stored, stored_link, assigned_link, tag_word, read_link}
-use Rattle.frame_table.specs.Tells.{Tried, if_found, Did, always, looking, storing, tells}
+use Rattle.frame_table.specs.Seats.{Finds, mapped_link, SameSelf, Looked, Touches, Stores, HoldsWord, HasRoom, IsUsed, HasFlag, HasOnlyPin, MayChange, Lacks, NamesIn, NamesStored, CanStoreTag, CanErase, CanStoreAs, partitions_erased, partitions_stored, stored_link, assigned_link, tag_word, read_link}
+use Rattle.frame_table.specs.FrameSteps.{Tried, if_found, Did, always, looking, storing, tells}
 use Rattle.frame_table.proofs.Frames.{Asks}
 use Rattle.frame_table.proofs.Acting.{acts}
 use Rattle.frame_table.proofs.Words.{swaps, AsksWord, stores}
@@ -149,7 +149,7 @@ module _ {L G : Type 0} (d : Devices L G) (o : Opening L G) where
   })
 
   -- who is alone at a frame is so in the state
-  alone_there : (s : State) (id f : ℕ) (v : View) → Laws s → get_elem? s.pool.core.views id ≡ some v → f < s.pool.core.frames → IsAlone (link v f) → pin.IsAlone (s.pool.core.frame f) (link v f)
+  alone_there : (s : State) (id f : ℕ) (v : View) → Laws s → get_elem? s.pool.core.views id ≡ some v → f < s.pool.core.frames → HasOnlyPin (link v f) → pin.IsAlone (s.pool.core.frame f) (link v f)
   alone_there s id f v laws there inside a = let held = held_word s id f v laws there inside a.word.held in record { held = held; settled = a.settled; single = a.word.knows (s.pool.core.frame f).word held; victim = a.victim; no_content = a.no_content; no_io = a.no_io }
 
   -- a map that is home is as the view has seen it
@@ -194,7 +194,7 @@ module _ {L G : Type 0} (d : Devices L G) (o : Opening L G) where
   unfolding is_block
   is_block_of relations tag t e listed = ap (has_named relations) e ∙ listed
 
-  pub stores_there : (slots id f tag : ℕ) (t : Tag) (me : Me (Value L G) View) → f < o.config.frames → me.0.emptied ≡ false → unpacked_tag tag ≡ Some t → has_block o.catalog.value t ≡ true → IsAlone (link me.0 f) → HoldsWord (HasFlag false) (link me.0 f) → MayChange me.0 (tag_partition tag) → Lacks me.0 tag
+  pub stores_there : (slots id f tag : ℕ) (t : Tag) (me : Me (Value L G) View) → f < o.config.frames → me.0.emptied ≡ false → unpacked_tag tag ≡ Some t → has_block o.catalog.value t ≡ true → HasOnlyPin (link me.0 f) → HoldsWord (HasFlag false) (link me.0 f) → MayChange me.0 (tag_partition tag) → Lacks me.0 tag
       → Allows (Held d o) slots id me (tag_place f) (λ _. tag) (tells (always (pins (pin.store_tag tag))) (step slots (tag_place f) tag 0 none) me)
   stores_there slots id f tag t me below live packed listed alone untagged may lacks = acts d o (always (pins (pin.store_tag tag))) slots id f tag 0 (λ _. tag) me below live (λ u s h laws there small.
       let inside : f < s.pool.core.frames = (let e = h.fixed.frames in omega arith) in let mine = alone_there s id f me.0 laws there inside alone in let at : tag_partition tag ≡ s.pool.core.partition_of tag = ap (λ (g : ℕ → ℕ). g tag) (sym h.fixed.partition_of) in record {
@@ -213,7 +213,7 @@ module _ {L G : Type 0} (d : Devices L G) (o : Opening L G) where
   known_there : (s : State) (id f tag : ℕ) (v : View) → Laws s → get_elem? s.pool.core.views id ≡ some v → f < s.pool.core.frames → (link v f).tag ≡ Some tag → ((s.pool.core.frame f).tag ≢ no_tag) × ((s.pool.core.frame f).tag ≡ tag)
   known_there s id f tag v laws there inside known = let r = (laws.invariant.pool.core.grid.cells id v f there inside).remembers tag known in (r.0.named, r.1)
 
-  pub erases_there : (slots id f : ℕ) (me : Me (Value L G) View) → f < o.config.frames → me.0.emptied ≡ false → IsAlone (link me.0 f) → CanErase me.0 f
+  pub erases_there : (slots id f : ℕ) (me : Me (Value L G) View) → f < o.config.frames → me.0.emptied ≡ false → HasOnlyPin (link me.0 f) → CanErase me.0 f
       → Allows (Held d o) slots id me (tag_place f) (λ _. 18446744073709551615) (tells (always (pins pin.erase_tag)) (step slots (tag_place f) 18446744073709551615 0 none) me)
   erases_there slots id f me below live alone can = acts d o (always (pins pin.erase_tag)) slots id f 18446744073709551615 0 (λ _. 18446744073709551615) me below live (λ u s h laws there small.
       let inside : f < s.pool.core.frames = (let e = h.fixed.frames in omega arith) in of_tag u s h laws there inside (link me.0 f).tag refl)
@@ -303,7 +303,7 @@ victimless f v w t l h g = dite (ℕ_discrete g f)
     (λ n r. h g (sym (ap (λ (x : Link). x.role) (t.others g n)) ∙ r))
 
 module _ {L G : Type 0} (d : Devices L G) (o : Opening L G) where
-  pub stores_as : (slots id f : ℕ) (tag : Tag) (me : Me (Value L G) View) → f < o.config.frames → me.0.emptied ≡ false → IsAlone (link me.0 f) → unpacked_tag (packed_tag tag) ≡ Some tag → CanStore o.catalog.value tag me.0 f
+  pub stores_as : (slots id f : ℕ) (tag : Tag) (me : Me (Value L G) View) → f < o.config.frames → me.0.emptied ≡ false → HasOnlyPin (link me.0 f) → unpacked_tag (packed_tag tag) ≡ Some tag → CanStoreTag o.catalog.value tag me.0 f
       → Allows (Held d o) slots id me (tag_place f) (λ _. packed_tag tag) (tells (always (storing (Some tag))) (step slots (tag_place f) (packed_tag tag) 0 none) me)
   stores_as slots id f tag me below live alone packed can =
       stores_there d o slots id f (packed_tag tag) tag me below live packed can.listed alone can.word (subst (MayChange me.0) (ap partition_of_tag (sym packed)) can.latch) can.map

@@ -26,7 +26,7 @@ use Rattle.grid.proofs.Lists.{put_here, set_here}
 use Rattle.table_rule.specs.declared.opening.Opening.{Opening}
 use Rattle.table_rule.specs.declared.turn.Place.TheVariants as place
 use Rattle.table_rule.specs.declared.turn.Turn.TheVariants as turn
-use Rattle.table_rule.specs.Shows.{Devices, IsOpened}
+use Rattle.table_rule.specs.Shows.{Devices, KeepsOpening}
 use Rattle.frame_table.specs.LaneWork.{back_lane}
 use Rattle.frame_table.proofs.Frames.{put_keeps, same_at, set_twice}
 use Rattle.frame_table.proofs.Moving.{Moves, moves_on}
@@ -60,15 +60,15 @@ leaves_itself : (ln : Lane) → Leaves ln ln
 leaves_itself ln = record { taken = refl; reads = refl; writes = refl }
 
 module _ {L G : Type 0} (d : Devices L G) (o : Opening L G) where
-  alone_moves : (k : LaneKind) (s : State) (id q : ℕ) (v : View) (e : Event) → IsOpened d o s → Step e s (alone_state k s id q v) → Leaves (s.lane q) (lane_after k (s.lane q)) → Moves d o s (alone_state k s id q v) id v (alone_view k q v) (place.Of (turn.Lane q))
+  alone_moves : (k : LaneKind) (s : State) (id q : ℕ) (v : View) (e : Event) → KeepsOpening d o s → Step e s (alone_state k s id q v) → Leaves (s.lane q) (lane_after k (s.lane q)) → Moves d o s (alone_state k s id q v) id v (alone_view k q v) (place.Of (turn.Lane q))
   alone_moves k s id q v e opened step kept = moves_lane d o s (aside s.pool id (alone_view k q v)) id q v (alone_view k q v) (lane_after k (s.lane q)) opened (opening_stays s e (alone_state k s id q v) step) (record { views = refl; frames = λ f. refl; partitions = λ p. refl })
       (record { hold = lane_hold_after k v.flushed (swept_by v) (lane_hold v q); lanes = refl; partitions = refl; log = refl; outs = λ f. refl }) kept
 
-  written_moves : (k : LaneKind) (s : State) (id q f : ℕ) (v : View) (e : Event) → IsOpened d o s → Step e s (written_state k s id q f v) → Leaves (s.lane q) (lane_after k (s.lane q)) → Moves d o s (written_state k s id q f v) id v (written_view k s q f v) (place.Of (turn.Lane q))
+  written_moves : (k : LaneKind) (s : State) (id q f : ℕ) (v : View) (e : Event) → KeepsOpening d o s → Step e s (written_state k s id q f v) → Leaves (s.lane q) (lane_after k (s.lane q)) → Moves d o s (written_state k s id q f v) id v (written_view k s q f v) (place.Of (turn.Lane q))
   written_moves k s id q f v e opened step kept = moves_lane d o s (pool_after begin_write s.pool id f (written_view k s q f v)) id q v (written_view k s q f v) (lane_after k (s.lane q)) opened (opening_stays s e (written_state k s id q f v) step) (record { views = refl; frames = λ g. put_keeps (λ (x : Frame). x) s.pool.core.frame f (s.pool.core.frame f) g refl; partitions = λ p. refl })
       (record { hold = lane_hold_after k v.flushed (swept_by v) (lane_hold v q); lanes = refl; partitions = refl; log = refl; outs = λ g. same_at (λ (l : Link). l.out) v.links f g (record (link v f) { last_write = Unwritten }) idle refl }) kept
 
-  noted_moves : (noted : Bool) (k : Kind) (s : State) (id q f : ℕ) (v : View) (e : Event) → NotesAlone k → IsOpened d o s → Step e s (noted_state noted k s id q f v) → Moves d o s (noted_state noted k s id q f v) id v (noted_view noted k s q f v) (place.Of (turn.Lane q))
+  noted_moves : (noted : Bool) (k : Kind) (s : State) (id q f : ℕ) (v : View) (e : Event) → NotesAlone k → KeepsOpening d o s → Step e s (noted_state noted k s id q f v) → Moves d o s (noted_state noted k s id q f v) id v (noted_view noted k s q f v) (place.Of (turn.Lane q))
   noted_moves noted k s id q f v e note opened step = let fr : Frame = s.pool.core.frame f in let b : Block = block_of (pool_noting k s f).logged fr.tag in
       moves_lane d o s (pool_after k (pool_noting k s f) id f (noted_view noted k s q f v)) id q v (noted_view noted k s q f v) (lane_after (lane_back noted) (s.lane q)) opened (opening_stays s e (noted_state noted k s id q f v) step) (record { views = refl; frames = λ g. put_keeps (λ (x : Frame). x) s.pool.core.frame f (pages.frame_after k b fr) g (note.frame b fr); partitions = λ p. refl })
       (record { hold = lane_hold_after (lane_back noted) v.flushed (swept_by v) (lane_hold v q); lanes = refl; partitions = refl; log = refl; outs = λ g. same_at (λ (l : Link). l.out) v.links f g (pages.link_after k b fr (link v f)) idle (note.out b fr (link v f)) }) (leaves_itself (s.lane q))
@@ -83,7 +83,7 @@ module _ {L G : Type 0} (d : Devices L G) (o : Opening L G) where
 
   -- A state in which backend id has the view v
   pub record Stands (s : State) (id q : ℕ) (v : View) : Type 0 where
-    pub opened : IsOpened d o s
+    pub opened : KeepsOpening d o s
     pub laws : Laws s
     pub there : get_elem? s.pool.core.views id ≡ some v
     pub live : v.emptied ≡ false

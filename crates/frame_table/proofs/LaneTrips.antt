@@ -47,15 +47,15 @@ use Rattle.table_rule.specs.declared.noted_lane.LaneCall.TheVariants.{Untouched,
 use Rattle.table_rule.specs.declared.turn.Place.TheVariants as place
 use Rattle.table_rule.specs.declared.turn.Turn.TheVariants as turn
 use Rattle.table_rule.specs.Layout.{latch_place, slot_of, tag_lane, lane_of_tag}
-use Rattle.table_rule.specs.Shows.{IsHome, Devices, GivesLane, IsLane, IsOpened, HasValue, Held}
+use Rattle.table_rule.specs.Shows.{IsHome, Devices, GivesLane, IsLane, KeepsOpening, HasValue, Held}
 use Rattle.table_rule.specs.LaneCalls.{LaneDevices, LaneDid, NotesRead, NotesWritten, NotesWriteFailed}
-use Rattle.table_rule.specs.TakenLanes.{IsBlockOf, taken_of, page_held, lanes_of}
+use Rattle.table_rule.specs.TakenLanes.{IsBlockOf, taken_lane, page_held, lane_devices_of}
 use Rattle.table_rule.proofs.Tags.{packed_is}
 use Rattle.table_rule.proofs.LanesOut.{block_number, holds_blocks, can_go_out, still_is, kept_lane, took_page, tore_page}
 use Rattle.table_rule.proofs.Opens.{there_at}
-use Rattle.frame_table.specs.LaneWork.{DidSteps, out_events, out_lane, out_view, back_events, back_view, MayNote, CanNoteRead, CanNoteWrite, was_known, is_known_in, IsTaken, MayReturn, Notes, IsNoted, links_of, read_link, written_link, unwritten_link, lane_went, came_by, WentOut, taken_at}
+use Rattle.frame_table.specs.LaneWork.{DidSteps, out_events, out_lane, out_view, back_events, back_view, MayNote, MayNoteRead, MayNoteWrite, was_known, is_known_in, IsTakenLane, MayReturn, NotesAt, IsNoted, links_of, lane_read_link, written_link, unwritten_link, lane_went, came_by, WentOut, taken_at}
 use Rattle.frame_table.specs.declared.table.FrameTable.{FrameTable}
-use Rattle.frame_table.specs.Sees.{relations_of, lanes_in, opened_of}
+use Rattle.frame_table.specs.Seats.{relations_of, lanes_in, opened_of}
 use Rattle.frame_table.proofs.Moving.{Moves, shows_out, shows_back}
 use Rattle.frame_table.proofs.LaneWork.{rises}
 use Rattle.frame_table.proofs.LaneRuns.{Comes, Stands, alone_view, written_view, written_state, calls_alone, one_step, reads_noted, writes_noted, written_link_is, written_frame_is, written_hold_is, view_alone, view_read, view_written}
@@ -73,9 +73,9 @@ right_in_view v f io is busy = dite (dec_lt f (length v.links)) (λ low. low) (�
 
 module _ {L G : Type 0} (d : Devices L G) (o : Opening L G) where
   -- whether the contents of a lane are known
-  known_of : (s : State) (q : ℕ) → IsOpened d o s → Laws s → length o.lanes.value.items ≡ o.config.lanes → q < o.config.lanes → (s.lane q).known ≡ was_known (lanes_of d) o.lanes.value.items q
+  known_of : (s : State) (q : ℕ) → KeepsOpening d o s → Laws s → length o.lanes.value.items ≡ o.config.lanes → q < o.config.lanes → (s.lane q).known ≡ was_known (lane_devices_of d) o.lanes.value.items q
   known_of s q h laws counted low = let word = lane_word o.config.lanes q low h.few_lanes in let l = there_at o.lanes.value.items q (omega arith) in let of_word = ap (λ (g : ℕ → ℕ). g word.0) h.lane_of ∙ word.1 in
-      ap (λ (r : ℕ). (s.lane r).known) (sym of_word) ∙ laws.invariant.known word.0 ∙ h.known q l.0 word.0 l.1 word.1 ∙ sym (ap (is_known_in (lanes_of d)) l.1)
+      ap (λ (r : ℕ). (s.lane r).known) (sym of_word) ∙ laws.invariant.known word.0 ∙ h.known q l.0 word.0 l.1 word.1 ∙ sym (ap (is_known_in (lane_devices_of d)) l.1)
 
   -- no other view has a lane out, where one holds its latch
   lane_home : (s : State) (id q : ℕ) (v : View) → Laws s → get_elem? s.pool.core.views id ≡ some v → q < s.lanes → (lane_hold v q).held ≡ true → (i : ℕ) (u : View) → i ≢ id → get_elem? s.pool.core.views i ≡ some u → (lane_hold u q).out ≡ None
@@ -104,7 +104,7 @@ module _ {L G : Type 0} (d : Devices L G) (o : Opening L G) where
           none_more n = omega arith
 
   pub goes_out : (slots id q : ℕ) (me : Me (Value L G) View) → length o.lanes.value.items ≡ o.config.lanes → q < o.config.lanes → me.0.emptied ≡ false → (lane_hold me.0 q).held ≡ true → (lane_hold me.0 q).out ≡ None
-      → Allows (Held d o) slots id me (latch_place o.config.frames (turn.Lane q)) (λ n. n) (lane_went (lanes_of d) (was_known (lanes_of d) o.lanes.value.items q) o.catalog.value o.config.lanes q (slot_of o.config.frames (place.Of (turn.Lane q))) (step slots (latch_place o.config.frames (turn.Lane q)) 0 0 none) me)
+      → Allows (Held d o) slots id me (latch_place o.config.frames (turn.Lane q)) (λ n. n) (lane_went (lane_devices_of d) (was_known (lane_devices_of d) o.lanes.value.items q) o.catalog.value o.config.lanes q (slot_of o.config.frames (place.Of (turn.Lane q))) (step slots (latch_place o.config.frames (turn.Lane q)) 0 0 none) me)
   goes_out slots id q me counted below live held out t h deep there small = of_value value_there.value value_there.home value_there.gives
     where
       here : get_elem? h.state.pool.core.views id ≡ some me.0
@@ -129,7 +129,7 @@ module _ {L G : Type 0} (d : Devices L G) (o : Opening L G) where
 
       of_value : (y : Value L G) → get_elem? t.homes (slot_of o.config.frames (place.Of (turn.Lane q))) ≡ some (some y) → GivesLane d o.catalog.value h.state.lanes q y (h.state.lane q)
           → (w : View) × (a : table.Act (Value L G)) × table.Valid t.homes me.1 a × Held d o (stepped t (latch_place o.config.frames (turn.Lane q)) (get_or t.words (latch_place o.config.frames (turn.Lane q)) 0) id me.1 w a)
-          × lane_went (lanes_of d) (was_known (lanes_of d) o.lanes.value.items q) o.catalog.value o.config.lanes q (slot_of o.config.frames (place.Of (turn.Lane q))) (step slots (latch_place o.config.frames (turn.Lane q)) 0 0 none) me (get_or t.words (latch_place o.config.frames (turn.Lane q)) 0) (w, table.carried_after me.1 a)
+          × lane_went (lane_devices_of d) (was_known (lane_devices_of d) o.lanes.value.items q) o.catalog.value o.config.lanes q (slot_of o.config.frames (place.Of (turn.Lane q))) (step slots (latch_place o.config.frames (turn.Lane q)) 0 0 none) me (get_or t.words (latch_place o.config.frames (turn.Lane q)) 0) (w, table.carried_after me.1 a)
       of_value (value.Lane l) home gives_it = (
         out_view q taken me.0,
         takes (slot_of o.config.frames (place.Of (turn.Lane q))) (value.Lane l),
@@ -156,7 +156,7 @@ module _ {L G : Type 0} (d : Devices L G) (o : Opening L G) where
           is_lane = subst (λ (n : ℕ). IsLane d o.catalog.value n q l.device (h.state.lane q)) h.shows.fixed.lanes gives_it.0
 
           taken : TakenLane
-          taken = taken_of (lanes_of d) o.catalog.value o.config.lanes q l.device
+          taken = taken_lane (lane_devices_of d) o.catalog.value o.config.lanes q l.device
 
           comes : Comes d o h.state id q me.0 (out_events q taken id) (alone_view (lane_out taken) q me.0) (h.state.lane q)
           comes = one_step d o (lane_out taken) h.state id q me.0 stands (can_go_out d o.catalog.value o.config.lanes q l.device (h.state.lane q) (lane_hold me.0 q) is_lane held out) tt (record { taken = refl; reads = refl; writes = refl })
@@ -182,10 +182,10 @@ module _ {L G : Type 0} (d : Devices L G) (o : Opening L G) where
   returns_as s id q v events w w' l e r = subst (λ (x : View). Returns s id q v events x l) e r
 
   -- a call's block lies in the lane, by the number of its tag
-  number_placed : (s : State) (q : ℕ) (tag : Tag) → IsOpened d o s → IsBlockOf o.catalog.value o.config.lanes q tag → s.lane_of (packed_tag tag) ≡ q
+  number_placed : (s : State) (q : ℕ) (tag : Tag) → KeepsOpening d o s → IsBlockOf o.catalog.value o.config.lanes q tag → s.lane_of (packed_tag tag) ≡ q
   number_placed s q tag h b = ap (λ (g : ℕ → ℕ). g (packed_tag tag)) h.lane_of ∙ ap (lane_of_tag o.config.lanes) (packed_is tag b.named) ∙ b.placed
 
-  module _ (s : State) (id q : ℕ) (v : View) (h : Stands d o s id q v) (counted : length o.lanes.value.items ≡ o.config.lanes) (below : q < o.config.lanes) (l : NotedLane L) (m : MayReturn (lanes_of d) (was_known (lanes_of d) o.lanes.value.items q) o.catalog.value o.config.lanes q v l)
+  module _ (s : State) (id q : ℕ) (v : View) (h : Stands d o s id q v) (counted : length o.lanes.value.items ≡ o.config.lanes) (below : q < o.config.lanes) (l : NotedLane L) (m : MayReturn (lane_devices_of d) (was_known (lane_devices_of d) o.lanes.value.items q) o.catalog.value o.config.lanes q v l)
       (reads_fit : (x : L) → d.read_faults x < 2 ^ 64) (writes_fit : (x : L) → d.write_faults x < 2 ^ 64) where
     abbrev ln : Lane
     ln = s.lane q
@@ -197,7 +197,7 @@ module _ {L G : Type 0} (d : Devices L G) (o : Opening L G) where
     after = l.device
 
     not_home : hold.out ≢ None
-    not_home e = let no : Some (taken_of (lanes_of d) o.catalog.value o.config.lanes q m.before) ≡ None = sym m.out ∙ e in absurd (cc)
+    not_home e = let no : Some (taken_lane (lane_devices_of d) o.catalog.value o.config.lanes q m.before) ≡ None = sym m.out ∙ e in absurd (cc)
 
     can_call : CanCall ln hold
     can_call = record { out = not_home; once = m.once }
@@ -206,14 +206,14 @@ module _ {L G : Type 0} (d : Devices L G) (o : Opening L G) where
     cell = h.laws.invariant.lanes.cells id v q h.there h.below
 
     reads_same : ln.read_faults ≡ d.read_faults m.before
-    reads_same = (cell.counts (taken_of (lanes_of d) o.catalog.value o.config.lanes q m.before) m.out).reads (ap is_failed_read m.once)
+    reads_same = (cell.counts (taken_lane (lane_devices_of d) o.catalog.value o.config.lanes q m.before) m.out).reads (ap is_failed_read m.once)
 
     writes_same : ln.write_faults ≡ d.write_faults m.before
-    writes_same = (cell.counts (taken_of (lanes_of d) o.catalog.value o.config.lanes q m.before) m.out).writes (ap is_failed_write m.once)
+    writes_same = (cell.counts (taken_lane (lane_devices_of d) o.catalog.value o.config.lanes q m.before) m.out).writes (ap is_failed_write m.once)
 
     -- the lane is what it was as it went out
     was : IsLane d o.catalog.value o.config.lanes q m.before ln
-    was = still_is d o.catalog.value o.config.lanes q m.before ln m.taken.holds (known_of s q h.opened h.laws counted below ∙ sym m.taken.known_still) reads_same writes_same (λ blocks k b told at. cell.blocks (taken_of (lanes_of d) o.catalog.value o.config.lanes q m.before) blocks k b m.out m.once told at)
+    was = still_is d o.catalog.value o.config.lanes q m.before ln m.taken.holds (known_of s q h.opened h.laws counted below ∙ sym m.taken.known_still) reads_same writes_same (λ blocks k b told at. cell.blocks (taken_lane (lane_devices_of d) o.catalog.value o.config.lanes q m.before) blocks k b m.out m.once told at)
 
     in_view : q < length v.lanes
     in_view = let wide = h.laws.invariant.wide id v h.there h.live in let low = h.below in omega arith
@@ -250,7 +250,7 @@ module _ {L G : Type 0} (d : Devices L G) (o : Opening L G) where
         of_contents (Some pages) e = same_Some _ _ (sym (was.pages pages (packed_tag tag) tag e (block_number d o.catalog.value o.config.lanes q tag block)) ∙ gave pages e)
 
     -- What a write of the frame's page to its block asks, and its note
-    module _ (f : ℕ) (tag : Tag) (page : Snapshot Page) (block : IsBlockOf o.catalog.value o.config.lanes q tag) (can : CanNoteWrite tag page.value hold.flushed (link v f)) where
+    module _ (f : ℕ) (tag : Tag) (page : Snapshot Page) (block : IsBlockOf o.catalog.value o.config.lanes q tag) (can : MayNoteWrite tag page.value hold.flushed (link v f)) where
       abbrev p : Page
       p = page.value
 
@@ -288,7 +288,7 @@ module _ {L G : Type 0} (d : Devices L G) (o : Opening L G) where
         now_change : (c : LaneChange) → lane_hold_after k v.flushed (swept_by v) hold ≡ record hold { change = c } → (lane_hold (written_view k s q f v) q).change ≡ c
         now_change c e = ap (λ (x : LaneHold). x.change) (written_hold_is d o k s id q f v h ∙ e)
 
-      wrote : LaneDid (lanes_of d) m.before after (Written f tag page) → Returns s id q v (back_events (lanes_of d) q after (Written f tag page) id) (back_view (lanes_of d) q after (Written f tag page) v) after
+      wrote : LaneDid (lane_devices_of d) m.before after (Written f tag page) → Returns s id q v (back_events (lane_devices_of d) q after (Written f tag page) id) (back_view (lane_devices_of d) q after (Written f tag page) v) after
       wrote did = let word : ℕ = packed_tag tag in let k : LaneKind = write_block f word p in returns_as s id q v _ _ _ after (view_written k (lane_change.Written f word p) false true s id q f v in_view write_links refl refl refl) record {
         lane = lane_after k ln;
         comes = writes_noted d o k false s id q f v h write_frames can_call (refl, can_write p refl write_page) (record { taken = refl; reads = refl; writes = refl }) (quiet (lane_after k ln) (lane_change.Written f word p) refl refl refl) true
@@ -296,7 +296,7 @@ module _ {L G : Type 0} (d : Devices L G) (o : Opening L G) where
         is = took_page d o.catalog.value o.config.lanes q m.before after ln (lane_after k ln) was refl (reads_same ∙ sym did.1.reads) (writes_same ∙ sym did.1.writes) tag p block did.0 refl refl;
       }
 
-      write_failed : LaneDid (lanes_of d) m.before after (WriteFailed f tag page) → Returns s id q v (back_events (lanes_of d) q after (WriteFailed f tag page) id) (back_view (lanes_of d) q after (WriteFailed f tag page) v) after
+      write_failed : LaneDid (lane_devices_of d) m.before after (WriteFailed f tag page) → Returns s id q v (back_events (lane_devices_of d) q after (WriteFailed f tag page) id) (back_view (lane_devices_of d) q after (WriteFailed f tag page) v) after
       write_failed did = let word : ℕ = packed_tag tag in let k : LaneKind = fail_write f word (page_held (d.contents after) tag p) (d.write_faults after) in returns_as s id q v _ _ _ after (view_written k (lane_change.WriteFailed f word) true false s id q f v in_view write_links refl refl refl) record {
         lane = lane_after k ln;
         comes = writes_noted d o k true s id q f v h write_frames (record { call = can_call; rises = write_rises did.1.writes }) (refl, can_write (s.pool.core.frame f).page write_page refl) (record { taken = refl; reads = refl; writes = refl }) (faulty (lane_after k ln) (lane_change.WriteFailed f word) refl) false
@@ -305,7 +305,7 @@ module _ {L G : Type 0} (d : Devices L G) (o : Opening L G) where
       }
 
     -- The steps of each call
-    returns : (c : LaneCall) → LaneDid (lanes_of d) m.before after c → MayNote o.catalog.value o.config.lanes q c v → Returns s id q v (back_events (lanes_of d) q after c id) (back_view (lanes_of d) q after c v) after
+    returns : (c : LaneCall) → LaneDid (lane_devices_of d) m.before after c → MayNote o.catalog.value o.config.lanes q c v → Returns s id q v (back_events (lane_devices_of d) q after c id) (back_view (lane_devices_of d) q after c v) after
     returns Untouched did may = record {
       lane = ln;
       comes = one_step d o (lane_back false) s id q v h (quiet ln hold.change (ap is_failed_write m.once) refl refl) (subst (λ (c : LaneChange). steps.NoWrite c) (sym m.once) tt) (record { taken = refl; reads = refl; writes = refl });
@@ -337,13 +337,13 @@ module _ {L G : Type 0} (d : Devices L G) (o : Opening L G) where
     }
 
   -- the lane comes back as r: the device l after its call, without the note
-  comes_home : (slots id q : ℕ) (v : View) (c : List (ℕ × Value L G)) (l r : NotedLane L) → length o.lanes.value.items ≡ o.config.lanes → q < o.config.lanes → v.emptied ≡ false → r.device ≡ l.device → r.call ≡ Untouched → MayReturn (lanes_of d) (was_known (lanes_of d) o.lanes.value.items q) o.catalog.value o.config.lanes q v l
+  comes_home : (slots id q : ℕ) (v : View) (c : List (ℕ × Value L G)) (l r : NotedLane L) → length o.lanes.value.items ≡ o.config.lanes → q < o.config.lanes → v.emptied ≡ false → r.device ≡ l.device → r.call ≡ Untouched → MayReturn (lane_devices_of d) (was_known (lane_devices_of d) o.lanes.value.items q) o.catalog.value o.config.lanes q v l
       → ((x : L) → d.read_faults x < 2 ^ 64) → ((x : L) → d.write_faults x < 2 ^ 64)
-      → Allows (Held d o) slots id (v, (slot_of o.config.frames (place.Of (turn.Lane q)), value.Lane r) ∷ c) (latch_place o.config.frames (turn.Lane q)) (λ n. n) (came_by (back_events (lanes_of d) q l.device l.call) (back_view (lanes_of d) q l.device l.call) (step slots (latch_place o.config.frames (turn.Lane q)) 0 0 none) (v, (slot_of o.config.frames (place.Of (turn.Lane q)), value.Lane r) ∷ c))
-  comes_home slots id q v c l r counted below live same untouched m reads_fit writes_fit t h deep there small = let s : State = h.state in let at : ℕ = latch_place o.config.frames (turn.Lane q) in let w : View = back_view (lanes_of d) q l.device l.call v in
+      → Allows (Held d o) slots id (v, (slot_of o.config.frames (place.Of (turn.Lane q)), value.Lane r) ∷ c) (latch_place o.config.frames (turn.Lane q)) (λ n. n) (came_by (back_events (lane_devices_of d) q l.device l.call) (back_view (lane_devices_of d) q l.device l.call) (step slots (latch_place o.config.frames (turn.Lane q)) 0 0 none) (v, (slot_of o.config.frames (place.Of (turn.Lane q)), value.Lane r) ∷ c))
+  comes_home slots id q v c l r counted below live same untouched m reads_fit writes_fit t h deep there small = let s : State = h.state in let at : ℕ = latch_place o.config.frames (turn.Lane q) in let w : View = back_view (lane_devices_of d) q l.device l.call v in
       let here : get_elem? s.pool.core.views id ≡ some v = ap (λ (x : List View). get_elem? x id) (sym h.shows.views) ∙ there in
       let stands : Stands d o s id q v = record { opened = h.shows.fixed; laws = h.laws; there = here; live = live; below = (let e = h.shows.fixed.lanes in omega arith) } in
-      let ret : Returns s id q v (back_events (lanes_of d) q l.device l.call id) w l.device = returns s id q v stands counted below l m reads_fit writes_fit l.call m.did m.may in
+      let ret : Returns s id q v (back_events (lane_devices_of d) q l.device l.call id) w l.device = returns s id q v stands counted below l m reads_fit writes_fit l.call m.did m.may in
       let moves : Moves d o s ret.comes.next id v w (place.Of (turn.Lane q)) = ret.comes.moves in
       let is : IsLane d o.catalog.value ret.comes.next.lanes q r.device (ret.comes.next.lane q) = subst (λ (n : ℕ). IsLane d o.catalog.value n q r.device (ret.comes.next.lane q)) (sym moves.fixed.lanes) (subst (λ (x : L). IsLane d o.catalog.value o.config.lanes q x (ret.comes.next.lane q)) (sym same) (subst (IsLane d o.catalog.value o.config.lanes q l.device) (sym ret.comes.lane) ret.is)) in (
         w,
@@ -359,13 +359,13 @@ module _ {L G : Type 0} (d : Devices L G) (o : Opening L G) where
 
   -- the seat is as the exchange of the slot left it
   pub comes_back : (slots id q : ℕ) (me me' : Me (Value L G) View) (l r : NotedLane L) → me' ≡ (me.0, (slot_of o.config.frames (place.Of (turn.Lane q)), value.Lane r) ∷ rest me.1) → length o.lanes.value.items ≡ o.config.lanes → q < o.config.lanes → me.0.emptied ≡ false → r.device ≡ l.device → r.call ≡ Untouched
-      → MayReturn (lanes_of d) (was_known (lanes_of d) o.lanes.value.items q) o.catalog.value o.config.lanes q me.0 l → ((x : L) → d.read_faults x < 2 ^ 64) → ((x : L) → d.write_faults x < 2 ^ 64)
-      → Allows (Held d o) slots id me' (latch_place o.config.frames (turn.Lane q)) (λ n. n) (came_by (back_events (lanes_of d) q l.device l.call) (back_view (lanes_of d) q l.device l.call) (step slots (latch_place o.config.frames (turn.Lane q)) 0 0 none) me')
+      → MayReturn (lane_devices_of d) (was_known (lane_devices_of d) o.lanes.value.items q) o.catalog.value o.config.lanes q me.0 l → ((x : L) → d.read_faults x < 2 ^ 64) → ((x : L) → d.write_faults x < 2 ^ 64)
+      → Allows (Held d o) slots id me' (latch_place o.config.frames (turn.Lane q)) (λ n. n) (came_by (back_events (lane_devices_of d) q l.device l.call) (back_view (lane_devices_of d) q l.device l.call) (step slots (latch_place o.config.frames (turn.Lane q)) 0 0 none) me')
   comes_back slots id q me me' l r e counted below live same untouched m reads_fit writes_fit = let at : ℕ = latch_place o.config.frames (turn.Lane q) in
-      subst (λ (x : Me (Value L G) View). Allows (Held d o) slots id x at (λ n. n) (came_by (back_events (lanes_of d) q l.device l.call) (back_view (lanes_of d) q l.device l.call) (step slots at 0 0 none) x)) (sym e) (comes_home slots id q me.0 (rest me.1) l r counted below live same untouched m reads_fit writes_fit)
+      subst (λ (x : Me (Value L G) View). Allows (Held d o) slots id x at (λ n. n) (came_by (back_events (lane_devices_of d) q l.device l.call) (back_view (lane_devices_of d) q l.device l.call) (step slots at 0 0 none) x)) (sym e) (comes_home slots id q me.0 (rest me.1) l r counted below live same untouched m reads_fit writes_fit)
 
 -- what the view has at the frame of the call
-notes_at : (f : ℕ) (l : Link) (v w : View) → f < length v.links → w.links ≡ set v.links f l → Notes f l v w
+notes_at : (f : ℕ) (l : Link) (v w : View) → f < length v.links → w.links ≡ set v.links f l → NotesAt f l v w
 notes_at f l v w low links = record {
   here = ap (λ (x : List Link). get_or x f idle) links ∙ get_or-set_same v.links f l idle low;
   others = λ g n. ap (λ (x : List Link). get_or x g idle) links ∙ get_or-set_other v.links f g l idle n;
@@ -373,7 +373,7 @@ notes_at f l v w low links = record {
 
 pub is_noted : (relations : List RelEntry) (lanes q : ℕ) (c : LaneCall) (v w : View) → MayNote relations lanes q c v → w.links ≡ links_of c v → IsNoted c v w
 is_noted relations lanes q Untouched v w may links = links
-is_noted relations lanes q (Read f tag page) v w may links = notes_at f (read_link page.value (link v f)) v w (right_in_view v f Input may.1.right (λ e. absurd (cc))) links
+is_noted relations lanes q (Read f tag page) v w may links = notes_at f (lane_read_link page.value (link v f)) v w (right_in_view v f Input may.1.right (λ e. absurd (cc))) links
 is_noted relations lanes q (ReadFailed tag) v w may links = links
 is_noted relations lanes q (Written f tag page) v w may links = notes_at f (written_link (link v f)) v w (right_in_view v f Output may.1.right (λ e. absurd (cc))) links
 is_noted relations lanes q (WriteFailed f tag page) v w may links = notes_at f (unwritten_link (link v f)) v w (right_in_view v f Output may.1.right (λ e. absurd (cc))) links
@@ -402,8 +402,8 @@ went_out d t q slot m m' m'' z (l, hand, untouched, taken, view, did) e same = r
 
 -- For callers: a lane that went out comes back after a call
 module _ (relations : List RelEntry) (lanes q f : ℕ) (tag : Tag) (page : Page) (v : View) (block : IsBlockOf relations lanes q tag) where
-  pub read_may : (r : Result Unit Failed) (c : LaneCall) → CanNoteRead tag (link v f) → MatchResult r (λ _. NotesRead f tag page c) (λ _. c ≡ ReadFailed tag) → MayNote relations lanes q c v
-  read_may (Ok x) (Read g t given) can (same_f, same_tag, same_page) = (subst (IsBlockOf relations lanes q) (sym same_tag) block, subst (λ (y : Tag). CanNoteRead y (link v g)) (sym same_tag) (subst (λ (x : ℕ). CanNoteRead tag (link v x)) (sym same_f) can))
+  pub read_may : (r : Result Unit Failed) (c : LaneCall) → MayNoteRead tag (link v f) → MatchResult r (λ _. NotesRead f tag page c) (λ _. c ≡ ReadFailed tag) → MayNote relations lanes q c v
+  read_may (Ok x) (Read g t given) can (same_f, same_tag, same_page) = (subst (IsBlockOf relations lanes q) (sym same_tag) block, subst (λ (y : Tag). MayNoteRead y (link v g)) (sym same_tag) (subst (λ (x : ℕ). MayNoteRead tag (link v x)) (sym same_f) can))
   read_may (Ok x) Untouched can wrong = absurd wrong
   read_may (Ok x) (ReadFailed t) can wrong = absurd wrong
   read_may (Ok x) (Written g t put) can wrong = absurd wrong
@@ -412,10 +412,10 @@ module _ (relations : List RelEntry) (lanes q f : ℕ) (tag : Tag) (page : Page)
   read_may (Ok x) SyncFailed can wrong = absurd wrong
   read_may (Err x) c can is = subst (λ (x : LaneCall). MayNote relations lanes q x v) (sym is) block
 
-  written_may : (g : ℕ) (t : Tag) (p : Page) → CanNoteWrite tag page (lane_hold v q).flushed (link v f) → (g ≡ f) × (t ≡ tag) × (p ≡ page) → IsBlockOf relations lanes q t × CanNoteWrite t p (lane_hold v q).flushed (link v g)
-  written_may g t p can (same_f, same_tag, same_page) = (subst (IsBlockOf relations lanes q) (sym same_tag) block, subst (λ (x : ℕ). CanNoteWrite t p (lane_hold v q).flushed (link v x)) (sym same_f) (subst (λ (y : Tag). CanNoteWrite y p (lane_hold v q).flushed (link v f)) (sym same_tag) (subst (λ (x : Page). CanNoteWrite tag x (lane_hold v q).flushed (link v f)) (sym same_page) can)))
+  written_may : (g : ℕ) (t : Tag) (p : Page) → MayNoteWrite tag page (lane_hold v q).flushed (link v f) → (g ≡ f) × (t ≡ tag) × (p ≡ page) → IsBlockOf relations lanes q t × MayNoteWrite t p (lane_hold v q).flushed (link v g)
+  written_may g t p can (same_f, same_tag, same_page) = (subst (IsBlockOf relations lanes q) (sym same_tag) block, subst (λ (x : ℕ). MayNoteWrite t p (lane_hold v q).flushed (link v x)) (sym same_f) (subst (λ (y : Tag). MayNoteWrite y p (lane_hold v q).flushed (link v f)) (sym same_tag) (subst (λ (x : Page). MayNoteWrite tag x (lane_hold v q).flushed (link v f)) (sym same_page) can)))
 
-  pub write_may : (r : Result Unit Failed) (c : LaneCall) → CanNoteWrite tag page (lane_hold v q).flushed (link v f) → MatchResult r (λ _. NotesWritten f tag page c) (λ _. NotesWriteFailed f tag page c) → MayNote relations lanes q c v
+  pub write_may : (r : Result Unit Failed) (c : LaneCall) → MayNoteWrite tag page (lane_hold v q).flushed (link v f) → MatchResult r (λ _. NotesWritten f tag page c) (λ _. NotesWriteFailed f tag page c) → MayNote relations lanes q c v
   write_may (Ok x) (Written g t put) can is = written_may g t put.value can is
   write_may (Ok x) Untouched can wrong = absurd wrong
   write_may (Ok x) (Read g t given) can wrong = absurd wrong
@@ -431,6 +431,6 @@ module _ (relations : List RelEntry) (lanes q f : ℕ) (tag : Tag) (page : Page)
   write_may (Err x) Synced can wrong = absurd wrong
   write_may (Err x) SyncFailed can wrong = absurd wrong
 
-pub may_return : {L : Type 0} (d : LaneDevices L) (known : Bool) (relations : List RelEntry) (lanes q flushed : ℕ) (h : LaneHold) (v : View) (before : L) (l : NotedLane L) → lane_hold v q ≡ out_lane (taken_of d relations lanes q before) flushed h → IsTaken d known relations lanes q before → LaneDid d before l.device l.call → MayNote relations lanes q l.call v
+pub may_return : {L : Type 0} (d : LaneDevices L) (known : Bool) (relations : List RelEntry) (lanes q flushed : ℕ) (h : LaneHold) (v : View) (before : L) (l : NotedLane L) → lane_hold v q ≡ out_lane (taken_lane d relations lanes q before) flushed h → IsTakenLane d known relations lanes q before → LaneDid d before l.device l.call → MayNote relations lanes q l.call v
     → MayReturn d known relations lanes q v l
 may_return d known relations lanes q flushed h v before l hold taken did may = record { before = before; out = ap (λ (h : LaneHold). h.out) hold; once = ap (λ (h : LaneHold). h.change) hold; taken = taken; did = did; may = may }

@@ -22,7 +22,7 @@ use Rattle.table_rule.specs.declared.turn.Place.{Place}
 use Rattle.table_rule.specs.declared.turn.Place.TheVariants as place
 use Rattle.table_rule.specs.declared.turn.Turn.{Turn}
 use Rattle.table_rule.specs.declared.turn.Turn.TheVariants as turn
-use Rattle.table_rule.specs.Shows.{is_taken, is_out, Devices, Gives, GivesMap, GivesPage, GivesLane, IsOpened}
+use Rattle.table_rule.specs.Shows.{is_taken, is_out, Devices, Gives, GivesMap, GivesPage, GivesLane, KeepsOpening}
 use Rattle.frame_table.proofs.Frames.{put_keeps}
 use Rattle.frame_table.proofs.Moving.{SameWords, words_none, Moves}
 
@@ -82,7 +82,7 @@ module _ {L G : Type 0} (d : Devices L G) (o : Opening L G) where
   lane_values s pool' id q w ln p (place.Of turn.Log) z n h = h
 
   -- what was fixed at the opening stays so
-  pub opened_on : (s t : State) → IsSameOpening s t → ((r : ℕ) → Leaves (s.lane r) (t.lane r)) → IsOpened d o s → IsOpened d o t
+  pub opened_on : (s t : State) → IsSameOpening s t → ((r : ℕ) → Leaves (s.lane r) (t.lane r)) → KeepsOpening d o s → KeepsOpening d o t
   opened_on s t e kept h = record {
     frames = e.frames ∙ h.frames;
     backends = e.backends ∙ h.backends;
@@ -103,7 +103,7 @@ module _ {L G : Type 0} (d : Devices L G) (o : Opening L G) where
   }
 
   -- A step at the lane q moves the lane alone
-  pub moves_lane : (s : State) (pool' : page.State) (id q : ℕ) (v w : View) (ln : Lane) → IsOpened d o s → IsSameOpening s (laned_state s pool' q ln) → LanePool s pool' id w → LaneView q v w → Leaves (s.lane q) ln → Moves d o s (laned_state s pool' q ln) id v w (place.Of (turn.Lane q))
+  pub moves_lane : (s : State) (pool' : page.State) (id q : ℕ) (v w : View) (ln : Lane) → KeepsOpening d o s → IsSameOpening s (laned_state s pool' q ln) → LanePool s pool' id w → LaneView q v w → Leaves (s.lane q) ln → Moves d o s (laned_state s pool' q ln) id v w (place.Of (turn.Lane q))
   moves_lane s pool' id q v w ln opened same p view kept = record {
     fixed = opened_on s (laned_state s pool' q ln) same (λ r. record { taken = put_keeps (λ (l : Lane). l.taken) s.lane q ln r kept.taken; reads = put_keeps (λ (l : Lane). l.read_faults_at_start) s.lane q ln r kept.reads; writes = put_keeps (λ (l : Lane). l.write_faults_at_start) s.lane q ln r kept.writes }) opened;
     views = p.views;

@@ -11,7 +11,7 @@ pub mod Marks
 pub mod Splitting
 pub mod Stored
 pub mod Resting
-pub mod Behind
+pub mod WordSteps
 pub mod Origins
 pub mod Holding
 pub mod TagLoads

@@ -13,7 +13,7 @@ use Rattle.table_rule.specs.declared.noted_log.LogCall.{LogCall}
 use Rattle.table_rule.specs.declared.noted_log.LogCall.TheVariants as log_call
 use Rattle.table_rule.specs.declared.noted_log.NotedLog.{NotedLog}
 use Rattle.table_rule.specs.LogCalls.{LogDid, IsAppended, IsFailedAppend, has_failed}
-use Rattle.frame_table.specs.Entering.{MayEnter, IsRecord, MayStoreEnd}
+use Rattle.frame_table.specs.Entering.{MayBecomeEntry, IsRecord, MayStoreEnd}
 use Rattle.frame_table.specs.LogWork.{LogWent, MayAppend, MayCall, MayComeHome, IsMarked, view_home}
 
 -- an append that is asked for may have been made
@@ -72,7 +72,7 @@ module _ {G : Type 0} (bytes : G → Option (List ℕ)) (synced faults calls : G
   home_after_sync end (Err e) up loaded call down = came (marked_failed y.call went.taken.down v.log.end y.down end (ap has_failed call) (went.down ∙ up) loaded down) (subst (λ (c : LogCall). MayCall relations c v) (sym call) tt)
 
 -- a page may be entered still where the view has the same at frames, and the same end loaded
-pub enters_still : (f : ℕ) (tag : Tag) (p : Page) (start : ℕ) (v w : View) → w.links ≡ v.links → w.log.end ≡ v.log.end → MayEnter f tag p start v → MayEnter f tag p start w
+pub enters_still : (f : ℕ) (tag : Tag) (p : Page) (start : ℕ) (v w : View) → w.links ≡ v.links → w.log.end ≡ v.log.end → MayBecomeEntry f tag p start v → MayBecomeEntry f tag p start w
 enters_still f tag p start v w links end e = record {
   loaded = end ∙ e.loaded;
   named = e.named;
@@ -88,7 +88,7 @@ enters_still f tag p start v w links end e = record {
 }
 
 -- the record may be appended while the log is out where the page could be entered before
-pub appends_out : {G : Type 0} (bytes : G → Option (List ℕ)) (synced faults calls : G → ℕ) (x : NotedLog G) (u v : View) → LogWent bytes synced faults calls x u v → (relations : List RelEntry) (f : ℕ) (tag : Tag) (p : Page) (start : ℕ) (piece : List ℕ) → MayEnter f tag p start u → IsRecord relations tag start p piece → u.log.appended ≡ None → u.log.synced ≡ false → MayAppend relations f tag p piece v
+pub appends_out : {G : Type 0} (bytes : G → Option (List ℕ)) (synced faults calls : G → ℕ) (x : NotedLog G) (u v : View) → LogWent bytes synced faults calls x u v → (relations : List RelEntry) (f : ℕ) (tag : Tag) (p : Page) (start : ℕ) (piece : List ℕ) → MayBecomeEntry f tag p start u → IsRecord relations tag start p piece → u.log.appended ≡ None → u.log.synced ≡ false → MayAppend relations f tag p piece v
 appends_out bytes synced faults calls x u v went relations f tag p start piece e r none unsynced = record {
   start = start;
   enters = enters_still f tag p start u v (ap (λ (w : View). w.links) went.after) (ap (λ (w : View). w.log.end) went.after) e;
@@ -114,7 +114,7 @@ end_home log_call.Synced v = refl
 end_home log_call.SyncFailed v = refl
 
 -- and so the log's end may be stored
-pub stores_home : {G : Type 0} (bytes : G → Option (List ℕ)) (synced faults calls : G → ℕ) (x : NotedLog G) (u v w : View) → LogWent bytes synced faults calls x u v → (call : LogCall) → w ≡ view_home call v → (relations : List RelEntry) (f : ℕ) (tag : Tag) (p : Page) (start end : ℕ) (piece : List ℕ) → IsAppended f tag p piece call → MayEnter f tag p start u → IsRecord relations tag start p piece → end ≡ start + record_size → MayStoreEnd relations f tag p end w
+pub stores_home : {G : Type 0} (bytes : G → Option (List ℕ)) (synced faults calls : G → ℕ) (x : NotedLog G) (u v w : View) → LogWent bytes synced faults calls x u v → (call : LogCall) → w ≡ view_home call v → (relations : List RelEntry) (f : ℕ) (tag : Tag) (p : Page) (start end : ℕ) (piece : List ℕ) → IsAppended f tag p piece call → MayBecomeEntry f tag p start u → IsRecord relations tag start p piece → end ≡ start + record_size → MayStoreEnd relations f tag p end w
 stores_home bytes synced faults calls x u v w went call home relations f tag p start end piece done e r next = record {
   start = start;
   enters = enters_still f tag p start u w (ap (λ (z : View). z.links) home ∙ ap (λ (z : View). z.links) went.after) (ap (λ (z : View). z.log.end) home ∙ end_home call v ∙ ap (λ (z : View). z.log.end) went.after) e;

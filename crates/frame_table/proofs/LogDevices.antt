@@ -12,7 +12,7 @@ use Rattle.history_core.specs.Lanes.{Rises}
 use Rattle.history_core.specs.Outings.{IsAsTaken}
 use Rattle.table_rule.specs.Shows.{Devices, IsLog}
 use Rattle.table_rule.specs.LogCalls.{HasAppended, HasFailedToAppend, HasSynced, HasFailedToSync}
-use Rattle.frame_table.specs.LogWork.{IsTaken, IsPart}
+use Rattle.frame_table.specs.LogWork.{IsTakenLog, IsPart}
 
 -- a count that rose is above what it was, or stands at its last value
 pub rises : (a b : ℕ) → a < 18446744073709551616 → b < 18446744073709551616 → Rose a b → Rises a b
@@ -22,7 +22,7 @@ rises a b low below rose = dite (ℕ_discrete a 18446744073709551615)
 
 module _ {L G : Type 0} (d : Devices L G) where
   -- the device that went out is the state's
-  pub log_before : (g : G) (taken : TakenLog) (dev : Device) → IsTaken d.bytes d.synced d.log_faults d.log_calls g taken → IsAsTaken taken dev → dev.faults ≡ taken.faults → IsLog d g taken.down dev
+  pub log_before : (g : G) (taken : TakenLog) (dev : Device) → IsTakenLog d.bytes d.synced d.log_faults d.log_calls g taken → IsAsTaken taken dev → dev.faults ≡ taken.faults → IsLog d g taken.down dev
   log_before g taken dev was same faults = record {
     bytes = λ known told. sym (same.bytes known (was.told ∙ told));
     synced = λ known told. same.synced ∙ was.durable known told;

@@ -43,8 +43,8 @@ use Rattle.table_rule.specs.declared.value.Value.{Value}
 use Rattle.table_rule.specs.declared.value.Value.TheVariants as value
 use Rattle.table_rule.specs.Layout.{latch_place, slot_of}
 use Rattle.table_rule.specs.LogCalls.{LogDid}
-use Rattle.table_rule.specs.Shows.{is_out, is_taken, IsHome, Devices, Gives, GivesLog, IsLog, HasValue, Held, IsOpened}
-use Rattle.frame_table.specs.LogWork.{DidLog, DidTwo, GoesOut, out_steps, view_out, IsPart, ComesHome, home_hold, device_calls_of, view_home, MayCall, IsMarked, IsLogOut, IsTaken, MayComeHome, log_went, log_came}
+use Rattle.table_rule.specs.Shows.{is_out, is_taken, IsHome, Devices, Gives, GivesLog, IsLog, HasValue, Held, KeepsOpening}
+use Rattle.frame_table.specs.LogWork.{DidLog, DidTwo, GoesOut, out_steps, view_out, IsPart, ComesHome, home_hold, device_calls_of, view_home, MayCall, IsMarked, IsLogOut, IsTakenLog, MayComeHome, log_went, log_came}
 use Rattle.frame_table.proofs.LogDevices.{rises, log_before, log_appended, log_torn, log_synced, log_unsynced, log_marked, Torn}
 use Rattle.frame_table.proofs.Entering.{end_is, can_log, is_entry}
 use Rattle.frame_table.proofs.Frames.{set_twice}
@@ -72,7 +72,7 @@ record SameButLog (v w : View) : Type 0 where
 
 module _ {L G : Type 0} (d : Devices L G) (o : Opening L G) where
   -- the log alone moves
-  log_moves : (s : State) (id : ℕ) (v w : View) (views : List View) (dev : Device) → IsOpened d o s → views ≡ set s.pool.core.views id w → dev.taken ≡ s.device.taken → SameButLog v w → Moves d o s (with_log s views dev) id v w (place.Of turn.Log)
+  log_moves : (s : State) (id : ℕ) (v w : View) (views : List View) (dev : Device) → KeepsOpening d o s → views ≡ set s.pool.core.views id w → dev.taken ≡ s.device.taken → SameButLog v w → Moves d o s (with_log s views dev) id v w (place.Of turn.Log)
   log_moves s id v w views dev f are taken same = record {
     fixed = record { frames = f.frames; backends = f.backends; base = f.base; partitions = f.partitions; partition_of = f.partition_of; is_block = f.is_block; names = f.names; lanes = f.lanes; lane_of = f.lane_of; few_backends = f.few_backends; few_lanes = f.few_lanes; known = f.known; origin = f.origin; reads = f.reads; writes = f.writes; log_faults = f.log_faults };
     views = are;
@@ -154,7 +154,7 @@ module _ {L G : Type 0} (d : Devices L G) (o : Opening L G) (slots id : ℕ) (me
           allowed : LogAllowed (log_out taken) h.state.device me.0.log
           allowed = record { held = held; home = out; faults = refl; synced = refl; down = refl; bytes = λ known e. sym (gives_it.0.bytes known e) }
 
-          is_taken_so : IsTaken d.bytes d.synced d.log_faults d.log_calls x.device taken
+          is_taken_so : IsTakenLog d.bytes d.synced d.log_faults d.log_calls x.device taken
           is_taken_so = record { told = refl; durable = gives_it.0.synced; counted = gives_it.0.faults; called = refl }
 
           result : (w : View) (views : List View) → views ≡ set h.state.pool.core.views id w → SameButLog me.0 w → is_some w.log.out ≡ true → w ≡ view_out taken me.0 → Laws (with_log h.state views h.state.device) → GoesOut taken x.down me.0 w → Acts t (log_went d.bytes d.synced d.log_faults d.log_calls (o.config.frames + 144) at_latch me)

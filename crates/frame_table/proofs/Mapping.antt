@@ -37,8 +37,8 @@ use Rattle.table_rule.specs.declared.turn.Turn.{Turn}
 use Rattle.table_rule.specs.declared.turn.Turn.TheVariants.{Partition, Lane, Log}
 use Rattle.table_rule.specs.Layout.{latch_place, slot_of}
 use Rattle.history_core.specs.Laws.{Laws}
-use Rattle.table_rule.specs.Shows.{is_taken, is_out, IsHome, AreApart, entry_of, Devices, Gives, GivesEntries, GivesMap, HasValue, IsOpened, Shows, Held}
-use Rattle.frame_table.specs.Turning.{AreBelow, DidMap, ComesBack, as_it_was, entered, left_out, MayComeBack, HasNamed, HasRoomFor, IsMap, map_went, map_came, MapStep, SameWork, work_of, is_named, back_hold}
+use Rattle.table_rule.specs.Shows.{is_taken, is_out, IsHome, AreApart, entry_of, Devices, Gives, GivesEntries, GivesMap, HasValue, KeepsOpening, Shows, Held}
+use Rattle.frame_table.specs.Latches.{AreBelow, DidMap, ComesBack, as_it_was, entered, left_out, MayComeBack, HasNamed, HasRoomFor, IsMap, map_went, map_came, MapStep, SameWork, work_of, is_named, back_hold}
 use Rattle.history_core.proofs.Laws.{laws_kept}
 use Rattle.frame_table.proofs.Frames.{put_keeps, set_twice}
 use Rattle.frame_table.proofs.Moving.{Moves, shows_back, shows_moved, shows_out, words_none}
@@ -75,7 +75,7 @@ mapped_taken k s i p v kept Log = refl
 
 module _ {L G : Type 0} (d : Devices L G) (o : Opening L G) where
   -- such a step moves the map of its partition alone
-  moves_map : (k : parts.TurnKind) (s : State) (id p : ℕ) (v : View) → IsOpened d o s → (parts.partition_after k (s.pool.core.partition p) (hold v p)).taken ≡ (s.pool.core.partition p).taken → Moves d o s (mapped k s id p v) id v (view_mapped k p v) (place.Of (Partition p))
+  moves_map : (k : parts.TurnKind) (s : State) (id p : ℕ) (v : View) → KeepsOpening d o s → (parts.partition_after k (s.pool.core.partition p) (hold v p)).taken ≡ (s.pool.core.partition p).taken → Moves d o s (mapped k s id p v) id v (view_mapped k p v) (place.Of (Partition p))
   moves_map k s id p v f kept = record {
     fixed = record { frames = f.frames; backends = f.backends; base = f.base; partitions = f.partitions; partition_of = f.partition_of; is_block = f.is_block; names = f.names; lanes = f.lanes; lane_of = f.lane_of; few_backends = f.few_backends; few_lanes = f.few_lanes; known = f.known; origin = f.origin; reads = f.reads; writes = f.writes; log_faults = f.log_faults };
     views = refl;

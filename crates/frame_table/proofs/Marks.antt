@@ -16,8 +16,8 @@ use Rattle.history_core.specs.State.{State}
 use Rattle.frame_table.specs.Content.{start_of}
 use Rattle.frame_table.specs.Kinds.{FrameKind, pins, pages, view_after}
 use Rattle.frame_table.specs.PageWork.{ReturnsBy, by_input, overwriting}
-use Rattle.frame_table.specs.Sees.{Marks, MarksBegun, MarksDirty, MarksEnded, SameMarks, marks_of}
-use Rattle.frame_table.specs.Tells.{Did, Looks, Tried, still, again, looking}
+use Rattle.frame_table.specs.Seats.{ViewMarks, MarksBegun, MarksDirty, MarksEnded, SameMarks, view_marks}
+use Rattle.frame_table.specs.FrameSteps.{Did, Looks, Tried, still, again, looking}
 
 -- a kind that marks nothing
 pub record IsUnmarked (k : paged.Kind) : Type 0 where
@@ -74,23 +74,23 @@ back_marks l f found v w r = back_by l.unapplied l.io l.read f found v w r
 
 -- a frame is marked dirty, after loads
 pub dirtied_marks : (f : ℕ) (v w : View) → Tried (pages paged.mark_dirty) f v w true → MarksDirty v w
-dirtied_marks f v w t = ap marks_of t.3.after
-    ∙ (λ i. record (marks_of t.0) { dirtied_or_synced = or-true t.0.dirtied_or_synced i; had_output = or-false t.0.had_output i })
-    ∙ ap (λ (m : Marks). record m { dirtied_or_synced = true }) (looks_marks f v t.0 t.2)
+dirtied_marks f v w t = ap view_marks t.3.after
+    ∙ (λ i. record (view_marks t.0) { dirtied_or_synced = or-true t.0.dirtied_or_synced i; had_output = or-false t.0.had_output i })
+    ∙ ap (λ (m : ViewMarks). record m { dirtied_or_synced = true }) (looks_marks f v t.0 t.2)
 
 -- a read or a write of a page begins
 pub begun_marks : (input : Bool) (f found : ℕ) (v w : View) → Did (pages (start_of input)) f v w found → MarksBegun input v w
-begun_marks true f found v w d = ap marks_of d.after ∙ (λ i. record (marks_of v) { dirtied_or_synced = or-false v.dirtied_or_synced i; had_output = v.had_output || false })
-begun_marks false f found v w d = ap marks_of d.after ∙ (λ i. record (marks_of v) { dirtied_or_synced = or-false v.dirtied_or_synced i; had_output = v.had_output || true })
+begun_marks true f found v w d = ap view_marks d.after ∙ (λ i. record (view_marks v) { dirtied_or_synced = or-false v.dirtied_or_synced i; had_output = v.had_output || false })
+begun_marks false f found v w d = ap view_marks d.after ∙ (λ i. record (view_marks v) { dirtied_or_synced = or-false v.dirtied_or_synced i; had_output = v.had_output || true })
 
 -- and ends
 pub ended_marks : (end : IoEnd) (f word : ℕ) (v w : View) → Did (pages (paged.end_io end)) f v w word → MarksEnded (unlocked_fields (io_ended_fields end (fields word))) v w
-ended_marks end f word v w d = ap marks_of d.after
+ended_marks end f word v w d = ap view_marks d.after
     ∙ (λ i. record { dirtied_or_synced = or-false v.dirtied_or_synced i; had_output = or-false v.had_output i; last_ended = Some (unlocked_fields (io_ended_fields end (d.says i))) })
 
 -- after steps that mark nothing
 pub begun_marks_on : (input : Bool) (v u w : View) → SameMarks v u → MarksBegun input u w → MarksBegun input v w
-begun_marks_on input v u w a b = b ∙ ap (λ (m : Marks). record m { had_output = m.had_output || not input }) a
+begun_marks_on input v u w a b = b ∙ ap (λ (m : ViewMarks). record m { had_output = m.had_output || not input }) a
 
 pub ended_marks_on : (stored : StateWord) (v u w : View) → SameMarks v u → MarksEnded stored u w → MarksEnded stored v w
-ended_marks_on stored v u w a b = b ∙ ap (λ (m : Marks). record m { last_ended = Some stored }) a
+ended_marks_on stored v u w a b = b ∙ ap (λ (m : ViewMarks). record m { last_ended = Some stored }) a

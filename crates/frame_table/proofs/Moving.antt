@@ -18,11 +18,11 @@ use Rattle.table_rule.specs.declared.turn.Place.TheVariants as place
 use Rattle.table_rule.specs.declared.turn.Turn.{Turn}
 use Rattle.table_rule.specs.declared.turn.Turn.TheVariants as turn
 use Rattle.table_rule.specs.Layout.{slot_of, slot_count}
-use Rattle.table_rule.specs.Shows.{ShowsFrame, ShowsLatches, is_taken, is_out, IsHome, Devices, Gives, IsOpened, HasPlace, HasValue, HasList, Shows}
+use Rattle.table_rule.specs.Shows.{ShowsFrame, ShowsLatches, is_taken, is_out, IsHome, Devices, Gives, KeepsOpening, IsPlaceIn, HasValue, HasList, Shows}
 use Rattle.frame_table.proofs.Frames.{home_before, set_twice}
 
 -- two places with one slot are one
-pub same_slot : {L G : Type 0} (o : Opening L G) (x y : Place) → o.config.lanes ≤ 16 → HasPlace o x → HasPlace o y → slot_of o.config.frames x ≡ slot_of o.config.frames y → x ≡ y
+pub same_slot : {L G : Type 0} (o : Opening L G) (x y : Place) → o.config.lanes ≤ 16 → IsPlaceIn o x → IsPlaceIn o y → slot_of o.config.frames x ≡ slot_of o.config.frames y → x ≡ y
 same_slot o (place.Page f) (place.Page g) few a b e = ap (λ (k : ℕ). place.Page k) e
 same_slot o (place.Page f) (place.Of (turn.Partition q)) few a b e = absurd (omega arith)
 same_slot o (place.Page f) (place.Of (turn.Lane q)) few a b e = absurd (omega arith)
@@ -41,20 +41,20 @@ same_slot o (place.Of turn.Log) (place.Of (turn.Lane q)) few a b e = absurd (ome
 same_slot o (place.Of turn.Log) (place.Of turn.Log) few a b e = refl
 
 -- no place has the slot of a lane that isn't there, or of the list of lanes
-spare_else : {L G : Type 0} (o : Opening L G) (x : Place) (q : ℕ) → o.config.lanes ≤ 16 → HasPlace o x → o.config.lanes ≤ q → q < 16 → o.config.frames + 128 + q ≢ slot_of o.config.frames x
+spare_else : {L G : Type 0} (o : Opening L G) (x : Place) (q : ℕ) → o.config.lanes ≤ 16 → IsPlaceIn o x → o.config.lanes ≤ q → q < 16 → o.config.frames + 128 + q ≢ slot_of o.config.frames x
 spare_else o (place.Page f) q few has from below e = absurd (omega arith)
 spare_else o (place.Of (turn.Partition p)) q few has from below e = absurd (omega arith)
 spare_else o (place.Of (turn.Lane r)) q few has from below e = absurd (omega arith)
 spare_else o (place.Of turn.Log) q few has from below e = absurd (omega arith)
 
-pub slot_low : {L G : Type 0} (o : Opening L G) (x : Place) → o.config.lanes ≤ 16 → HasPlace o x → slot_of o.config.frames x < o.config.frames + 145
+pub slot_low : {L G : Type 0} (o : Opening L G) (x : Place) → o.config.lanes ≤ 16 → IsPlaceIn o x → slot_of o.config.frames x < o.config.frames + 145
 slot_low o (place.Page f) few has = omega arith
 slot_low o (place.Of (turn.Partition p)) few has = omega arith
 slot_low o (place.Of (turn.Lane q)) few has = omega arith
 slot_low o (place.Of turn.Log) few has = omega arith
 
 -- these slots stay where that of a place changes
-pub list_stays : {L G : Type 0} (o : Opening L G) (homes : List (slot.Option (Value L G))) (x : Place) (y : slot.Option (Value L G)) → o.config.lanes ≤ 16 → HasPlace o x → HasList o homes → HasList o (set homes (slot_of o.config.frames x) y)
+pub list_stays : {L G : Type 0} (o : Opening L G) (homes : List (slot.Option (Value L G))) (x : Place) (y : slot.Option (Value L G)) → o.config.lanes ≤ 16 → IsPlaceIn o x → HasList o homes → HasList o (set homes (slot_of o.config.frames x) y)
 list_stays o homes x y few has h = record {
   list = h.list;
   home = set_else homes (slot_of o.config.frames x) (o.config.frames + 145) y (λ e. absurd (let low = slot_low o x few has in omega arith)) ∙ h.home;
@@ -80,7 +80,7 @@ frame_moved words f a b e h = record { word = e.word ∙ h.word; tag = e.tag ∙
 module _ {L G : Type 0} (d : Devices L G) (o : Opening L G) where
   -- From the state s to the state s', by backend id, whose view v becomes w, the value of the place y alone moves
   pub record Moves (s s' : State) (id : ℕ) (v w : View) (y : Place) : Type 0 where
-    pub fixed : IsOpened d o s'
+    pub fixed : KeepsOpening d o s'
     pub views : s'.pool.core.views ≡ set s.pool.core.views id w
     pub frames : (f : ℕ) → SameWords (s.pool.core.frame f) (s'.pool.core.frame f)
     pub latches : (x : Turn) → is_taken x s' ≡ is_taken x s
@@ -92,7 +92,7 @@ module _ {L G : Type 0} (d : Devices L G) (o : Opening L G) where
     pub values : (x : Place) (z : Value L G) → x ≢ y → Gives d o s x z → Gives d o s' x z
 
   -- The table shows the state after it, where the slots are the same but for that place's
-  pub shows_moved : (words : List ℕ) (t : table.State (Value L G) View) (s s' : State) (id : ℕ) (v w : View) (y : Place) (homes : List (slot.Option (Value L G))) → words ≡ t.words → Shows d o t s → get_elem? s.pool.core.views id ≡ some v → Moves s s' id v w y → HasPlace o y
+  pub shows_moved : (words : List ℕ) (t : table.State (Value L G) View) (s s' : State) (id : ℕ) (v w : View) (y : Place) (homes : List (slot.Option (Value L G))) → words ≡ t.words → Shows d o t s → get_elem? s.pool.core.views id ≡ some v → Moves s s' id v w y → IsPlaceIn o y
       → length homes ≡ slot_count o.config.frames → HasList o homes → ((i : ℕ) → i ≢ slot_of o.config.frames y → get_elem? homes i ≡ get_elem? t.homes i) → (IsHome y (set s.pool.core.views id w) → HasValue d o homes s' y)
       → Shows d o record { words = words; homes = homes; views = set t.views id w } s'
   shows_moved words t s s' id v w y homes same h there m within long list others here = record {
@@ -110,13 +110,13 @@ module _ {L G : Type 0} (d : Devices L G) (o : Opening L G) where
   }
 
   -- where it goes out of its slot
-  pub shows_out : (words : List ℕ) (t : table.State (Value L G) View) (s s' : State) (id : ℕ) (v w : View) (y : Place) → words ≡ t.words → Shows d o t s → get_elem? s.pool.core.views id ≡ some v → Moves s s' id v w y → HasPlace o y → (IsHome y (set s.pool.core.views id w) → ⊥)
+  pub shows_out : (words : List ℕ) (t : table.State (Value L G) View) (s s' : State) (id : ℕ) (v w : View) (y : Place) → words ≡ t.words → Shows d o t s → get_elem? s.pool.core.views id ≡ some v → Moves s s' id v w y → IsPlaceIn o y → (IsHome y (set s.pool.core.views id w) → ⊥)
       → Shows d o record { words = words; homes = set t.homes (slot_of o.config.frames y) slot.none; views = set t.views id w } s'
   shows_out words t s s' id v w y same h there m within away = shows_moved words t s s' id v w y (set t.homes (slot_of o.config.frames y) slot.none) same h there m within (length-set t.homes (slot_of o.config.frames y) slot.none ∙ h.slots) (list_stays o t.homes y slot.none h.fixed.few_lanes within h.list)
       (λ i n. set_else t.homes (slot_of o.config.frames y) i slot.none n) (λ home. absurd (away home))
 
   -- where it comes back into its slot, as this value
-  pub shows_back : (words : List ℕ) (t : table.State (Value L G) View) (s s' : State) (id : ℕ) (v w : View) (y : Place) (z : Value L G) → words ≡ t.words → Shows d o t s → get_elem? s.pool.core.views id ≡ some v → Moves s s' id v w y → HasPlace o y → Gives d o s' y z
+  pub shows_back : (words : List ℕ) (t : table.State (Value L G) View) (s s' : State) (id : ℕ) (v w : View) (y : Place) (z : Value L G) → words ≡ t.words → Shows d o t s → get_elem? s.pool.core.views id ≡ some v → Moves s s' id v w y → IsPlaceIn o y → Gives d o s' y z
       → Shows d o record { words = words; homes = set t.homes (slot_of o.config.frames y) (some z); views = set t.views id w } s'
   shows_back words t s s' id v w y z same h there m within gives = shows_moved words t s s' id v w y (set t.homes (slot_of o.config.frames y) (some z)) same h there m within (length-set t.homes (slot_of o.config.frames y) (some z) ∙ h.slots) (list_stays o t.homes y (some z) h.fixed.few_lanes within h.list)
       (λ i n. set_else t.homes (slot_of o.config.frames y) i (some z) n) (λ home. record { value = z; home = set_here t.homes (slot_of o.config.frames y) (some z) (let low = slot_low o y h.fixed.few_lanes within in let e = h.slots in omega arith); gives = gives })

@@ -23,19 +23,19 @@ use Rattle.history_core.proofs.Sound.{stay_untouched}
 use Rattle.table_rule.specs.declared.value.Value.{Value}
 use Rattle.table_rule.specs.declared.opening.Opening.{Opening}
 use Rattle.table_rule.specs.Layout.{end_place, lane_of_tag, state_place}
-use Rattle.table_rule.specs.Shows.{Devices, Held, IsOpened, IsPlaced}
+use Rattle.table_rule.specs.Shows.{Devices, Held, KeepsOpening, IsPlaced}
 use Rattle.table_rule.specs.TakenLanes.{IsBlockOf}
 use Rattle.table_rule.proofs.LanesOut.{block_number, map_at}
 use Rattle.frame_table.specs.declared.log_words.EndLoad.{EndLoad}
 use Rattle.frame_table.specs.declared.log_words.EndLoad.TheVariants.{Plain, Read, Checkpoint}
 use Rattle.frame_table.specs.declared.table.FrameTable.{FrameTable}
 use Rattle.frame_table.specs.Opened.{CopiesAreLogged, FitsHeld, FitsOpening, LoggedOrOpening, tells_look}
-use Rattle.frame_table.specs.Behind.{tells_word}
+use Rattle.frame_table.specs.WordSteps.{tells_word}
 use Rattle.frame_table.specs.EndLoads.{IsEndAllowed, ReadsHeld, ReadsOpening, end_kind, tells_end_load}
-use Rattle.frame_table.specs.Sees.{base_of, lanes_in, opened_of, relations_of}
-use Rattle.frame_table.specs.Tells.{always, looking, tells}
+use Rattle.frame_table.specs.Seats.{base_of, lanes_in, opened_of, relations_of}
+use Rattle.frame_table.specs.FrameSteps.{always, looking, tells}
 use Rattle.frame_table.proofs.Allowing.{allows_with}
-use Rattle.frame_table.proofs.Behind.{loads_end_there}
+use Rattle.frame_table.proofs.WordSteps.{loads_end_there}
 use Rattle.frame_table.proofs.Words.{looks}
 
 -- a log that ends where it begins has no entry
@@ -54,7 +54,7 @@ some_same p q e = cc
 not_both : {b : Bool} → b ≡ true → b ≡ false → ⊥
 not_both a b = cc
 
-module _ {L G : Type 0} (d : Devices L G) (o : Opening L G) (s : State) (h : IsOpened d o s) (laws : Laws s) where
+module _ {L G : Type 0} (d : Devices L G) (o : Opening L G) (s : State) (h : KeepsOpening d o s) (laws : Laws s) where
   -- A block of a lane whose contents were known at the start
   module _ (tag : Tag) (q : ℕ) (l : L) (known : Pages) (block : IsBlockOf o.catalog.value o.config.lanes q tag) (at : get_elem? o.lanes.value.items q ≡ some l) (told : d.contents l ≡ Some known) where
     abbrev word : ℕ

@@ -30,19 +30,19 @@ use Rattle.table_rule.specs.declared.turn.Place.{Place}
 use Rattle.table_rule.specs.declared.turn.Place.TheVariants as place
 use Rattle.table_rule.specs.declared.turn.Turn.TheVariants as turn
 use Rattle.table_rule.specs.Layout.{content_place, slot_of}
-use Rattle.table_rule.specs.Shows.{is_out, IsHome, Devices, Gives, GivesPage, IsOpened, HasValue, Shows, Held}
+use Rattle.table_rule.specs.Shows.{is_out, IsHome, Devices, Gives, GivesPage, KeepsOpening, HasValue, Shows, Held}
 use Rattle.frame_table.specs.Kinds.{FrameKind, pages, part_of, content_word, frame_after, link_after, view_after, state_after, IsAllowed, IsAllowedAround}
-use Rattle.frame_table.specs.Tells.{Did, SaysOf}
-use Rattle.frame_table.specs.PageWork.{CanTakePage, CanReturnPage, by_input, overwriting, input_page, page_went, page_came, ReturnsBy, page_out_link, applied_link, returned_link, read_home}
+use Rattle.frame_table.specs.FrameSteps.{Did, SaysOf}
+use Rattle.frame_table.specs.PageWork.{MayTakePage, MayReturnPage, by_input, overwriting, input_page, page_went, page_came, ReturnsBy, page_out_link, applied_link, returned_link, read_home}
 use Rattle.frame_table.proofs.Frames.{fixed_after, taken_same}
-use Rattle.frame_table.specs.Sees.{Touches}
+use Rattle.frame_table.specs.Seats.{Touches}
 use Rattle.frame_table.proofs.Kept.{frame_step}
 use Rattle.frame_table.proofs.Told.{link_is, touches, touches_on}
 use Rattle.frame_table.proofs.Moving.{SameWords, words_none, Moves, moves_on, shows_out, shows_back}
 
 module _ {L G : Type 0} (d : Devices L G) (o : Opening L G) where
   -- a step at the frame f that leaves its words moves its page alone
-  page_moves : (k : paged.Kind) (s : State) (id f : ℕ) (v : View) → IsOpened d o s → SameWords (s.pool.core.frame f) (frame_after (pages k) s f) → Moves d o s (state_after (pages k) s id f v) id v (view_after (pages k) s f v) (place.Page f)
+  page_moves : (k : paged.Kind) (s : State) (id f : ℕ) (v : View) → KeepsOpening d o s → SameWords (s.pool.core.frame f) (frame_after (pages k) s f) → Moves d o s (state_after (pages k) s id f v) id v (view_after (pages k) s f v) (place.Page f)
   page_moves k s id f v opened same = record {
     fixed = fixed_after d o (pages k) s id f v opened;
     views = refl;
@@ -99,7 +99,7 @@ module _ {L G : Type 0} (d : Devices L G) (o : Opening L G) where
     after = refl;
   }
 
-  pub page_goes_out : (slots id f : ℕ) (me : Me (Value L G) View) → f < o.config.frames → me.0.emptied ≡ false → CanTakePage (link me.0 f)
+  pub page_goes_out : (slots id f : ℕ) (me : Me (Value L G) View) → f < o.config.frames → me.0.emptied ≡ false → MayTakePage (link me.0 f)
       → Allows (Held d o) slots id me (content_place f) (λ n. n) (page_went f (slot_of o.config.frames (place.Page f)) (step slots (content_place f) 0 0 none) me)
   page_goes_out slots id f me below live can t h deep there small = of_value value_there.value value_there.home value_there.gives
     where
@@ -169,7 +169,7 @@ record Overwrites (k : paged.Kind) (s : State) (f : ℕ) (v : View) (page : Page
   pub page_is : (frame_after (pages k) s f).page ≡ page
   pub out : (link_after (pages k) s f v).out ≡ (link v f).out
 
-module _ (s : State) (id f : ℕ) (v : View) (page : Page) (laws : Laws s) (there : get_elem? s.pool.core.views id ≡ some v) (inside : f < s.pool.core.frames) (can : CanReturnPage page (link v f)) where
+module _ (s : State) (id f : ℕ) (v : View) (page : Page) (laws : Laws s) (there : get_elem? s.pool.core.views id ≡ some v) (inside : f < s.pool.core.frames) (can : MayReturnPage page (link v f)) where
   -- with the image of the entry
   overwrites_logged : (link v f).unapplied ≡ true → Overwrites paged.overwrite_logged s f v page
   overwrites_logged e = let law = (laws.invariant.pool.pages.cells id v f there inside).unapplied e in let image : (link v f).image ≡ Some page = sym (ap (λ (b : Bool). cond b (link v f).image (input_page (link v f).io (link v f).read (link v f).out)) e) ∙ can.due in record {
@@ -214,7 +214,7 @@ module _ (s : State) (id f : ℕ) (v : View) (page : Page) (laws : Laws s) (ther
           (sym (ap (λ (b : Bool). cond b (link v f).image (input_page (link v f).io (link v f).read (link v f).out)) is) ∙ can.due)
 
 module _ {L G : Type 0} (d : Devices L G) (o : Opening L G) where
-  pub page_comes_back : (slots id f : ℕ) (me : Me (Value L G) View) (page : Page) → f < o.config.frames → me.0.emptied ≡ false → me.1 ≡ (slot_of o.config.frames (place.Page f), value.Page page) ∷ rest me.1 → CanReturnPage page (link me.0 f)
+  pub page_comes_back : (slots id f : ℕ) (me : Me (Value L G) View) (page : Page) → f < o.config.frames → me.0.emptied ≡ false → me.1 ≡ (slot_of o.config.frames (place.Page f), value.Page page) ∷ rest me.1 → MayReturnPage page (link me.0 f)
       → Allows (Held d o) slots id me (content_place f) (λ n. n) (page_came f (step slots (content_place f) 0 0 none) me)
   page_comes_back slots id f me page below live hand can t h deep there small = of_change (overwriting (link me.0 f)) refl (overwrites_or s id f me.0 page h.laws here inside can (overwriting (link me.0 f)) refl)
     where
@@ -306,7 +306,7 @@ module _ {L G : Type 0} (d : Devices L G) (o : Opening L G) where
           }
 
   -- the same, where the page was put into the seat's hand by the exchange
-  pub page_comes_from : (slots id f : ℕ) (me me' : Me (Value L G) View) (page : Page) → me' ≡ (me.0, (slot_of o.config.frames (place.Page f), value.Page page) ∷ rest me.1) → f < o.config.frames → me.0.emptied ≡ false → CanReturnPage page (link me.0 f)
+  pub page_comes_from : (slots id f : ℕ) (me me' : Me (Value L G) View) (page : Page) → me' ≡ (me.0, (slot_of o.config.frames (place.Page f), value.Page page) ∷ rest me.1) → f < o.config.frames → me.0.emptied ≡ false → MayReturnPage page (link me.0 f)
       → Allows (Held d o) slots id me' (content_place f) (λ n. n) (page_came f (step slots (content_place f) 0 0 none) me')
   page_comes_from slots id f me me' page e below live can = subst (λ (x : Me (Value L G) View). Allows (Held d o) slots id x (content_place f) (λ n. n) (page_came f (step slots (content_place f) 0 0 none) x)) (sym e)
       (page_comes_back slots id f (me.0, (slot_of o.config.frames (place.Page f), value.Page page) ∷ rest me.1) page below live refl can)
@@ -339,7 +339,7 @@ over_is : (f found : ℕ) (v w : View) (q : Page) (d : Did (pages paged.page_bac
 over_is f found v w q d e = ((d.laws.invariant.pool.pages.cells d.seat v f d.there d.inside).overwritten q e).page
 
 -- The link after the page came back
-module _ (f found : ℕ) (v w : View) (page : Page) (can : CanReturnPage page (link v f)) where
+module _ (f found : ℕ) (v w : View) (page : Page) (can : MayReturnPage page (link v f)) where
   abbrev l : Link
   l = link v f
 

@@ -16,7 +16,7 @@ use Rattle.table_rule.specs.declared.value.Value.{Value}
 use Rattle.table_rule.specs.Shows.{starting}
 use Rattle.frame_table.specs.declared.table.FrameTable.{FrameTable}
 use Rattle.frame_table.specs.Closes.{CanClose}
-use Rattle.frame_table.specs.Sees.{CanUnpin, Fits, Looked, SameSeat, Touches, pinned_link, unpinned_link}
+use Rattle.frame_table.specs.Seats.{MayUnpin, Fits, Looked, SameSeat, Touches, pinned_link, unpinned_link}
 
 -- an item of a list of the same
 same_all : {A : Type 0} (n i : ℕ) (x : A) → get_or (replicate n x) i x ≡ x
@@ -82,5 +82,5 @@ module _ {L G : Type 0} (t : FrameTable L G) where
 pub free_unpinned : (ring : Bool) (l m n : Link) → Looked (pinned_link ring l) m → Looked (unpinned_link m) n → IsFree l → IsFree n
 free_unpinned ring l m n a b h = record { no_pin = b.role; no_header = b.header ∙ a.header ∙ h.no_header; no_content = b.content ∙ a.content ∙ h.no_content; no_io = b.io ∙ a.io ∙ h.no_io; page_home = b.out ∙ a.out ∙ h.page_home; no_wait = b.waits (a.waits h.no_wait) }
 
-pub can_unpin : (ring : Bool) (l m : Link) → Looked (pinned_link ring l) m → IsFree l → CanUnpin m
+pub can_unpin : (ring : Bool) (l m : Link) → Looked (pinned_link ring l) m → IsFree l → MayUnpin m
 can_unpin ring l m a h = record { pinned = λ e. let no : HandedOut ≡ Absent = sym a.role ∙ e in absurd (cc); no_content = a.content ∙ h.no_content; no_io = a.io ∙ h.no_io; no_wait = a.waits h.no_wait }

@@ -23,16 +23,16 @@ use Rattle.page_core.specs.Tallies.{sharers, copies, weigh, share_weight}
 use Rattle.grid.proofs.Sums.{term_le, total-none}
 use Rattle.history_core.specs.Laws.{Laws}
 use Rattle.history_core.specs.State.{State}
-use Rattle.frame_table.specs.Kinds.{FrameKind, Part, part_of, pins, state_word}
-use Rattle.frame_table.specs.Sees.{IsWordOf, Looked}
-use Rattle.frame_table.specs.Tells.{Did, Looks, SaysOf, looking}
+use Rattle.frame_table.specs.Kinds.{FrameKind, FrameWord, part_of, pins, state_word}
+use Rattle.frame_table.specs.Seats.{IsWordOf, Looked}
+use Rattle.frame_table.specs.FrameSteps.{Did, Looks, SaysOf, looking}
 use Rattle.frame_table.specs.Content.{looking_content, has_exclusive}
 use Rattle.frame_table.proofs.Told.{link_is, loads_link, looks_link, seen_still}
 
 -- what the word shows that a step at a state word found
 pub word_seen : (k : FrameKind) → part_of k ≡ state_word → (f found : ℕ) (v w : View) → Did k f v w found → IsWordOf (link v f) (fields found)
 word_seen k part f found v w d = let column = d.laws.invariant.pool.core.grid.columns f d.inside in let cell = d.laws.invariant.pool.core.grid.cells d.seat v f d.there d.inside in
-    subst (IsWordOf (link v f)) (subst (λ (p : Part). SaysOf p found (d.state.pool.core.frame f)) part d.says) record {
+    subst (IsWordOf (link v f)) (subst (λ (p : FrameWord). SaysOf p found (d.state.pool.core.frame f)) part d.says) record {
       dirty = column.dirty;
       valid = column.valid;
       usage = column.usage;

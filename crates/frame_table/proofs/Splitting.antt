@@ -25,8 +25,8 @@ use Rattle.table_rule.specs.declared.turn.Place.{Place}
 use Rattle.table_rule.specs.declared.turn.Place.TheVariants as place
 use Rattle.table_rule.specs.declared.turn.Turn.{Turn}
 use Rattle.table_rule.specs.declared.turn.Turn.TheVariants as turn
-use Rattle.table_rule.specs.Shows.{IsOpened, is_out, HasPlace, is_taken, IsHome, Devices, Shows, Held}
-use Rattle.frame_table.specs.Tells.{kept_view, split_view}
+use Rattle.table_rule.specs.Shows.{KeepsOpening, is_out, IsPlaceIn, is_taken, IsHome, Devices, Shows, Held}
+use Rattle.frame_table.specs.FrameSteps.{kept_view, split_view}
 use Rattle.frame_table.proofs.Frames.{lane_none, device_none, gives_same, same_out, home_before}
 
 module _ {L G : Type 0} (d : Devices L G) (o : Opening L G) where
@@ -40,7 +40,7 @@ module _ {L G : Type 0} (d : Devices L G) (o : Opening L G) where
   taken_stays s views turn.Log = refl
 
   -- The table shows it, where no value comes home by it
-  shows_views : (t : table.State (Value L G) View) (s : State) (views : List View) → Shows d o t s → ((x : Place) → HasPlace o x → IsHome x views → IsHome x s.pool.core.views) → Shows d o (record t { views = views }) (with_views s views)
+  shows_views : (t : table.State (Value L G) View) (s : State) (views : List View) → Shows d o t s → ((x : Place) → IsPlaceIn o x → IsHome x views → IsHome x s.pool.core.views) → Shows d o (record t { views = views }) (with_views s views)
   shows_views t s views h home = record {
     fixed = let f = h.fixed in record { frames = f.frames; backends = f.backends; base = f.base; partitions = f.partitions; partition_of = f.partition_of; is_block = f.is_block; names = f.names; lanes = f.lanes; lane_of = f.lane_of; few_backends = f.few_backends; few_lanes = f.few_lanes; known = f.known; origin = f.origin; reads = f.reads; writes = f.writes; log_faults = f.log_faults };
     words = h.words;
@@ -66,7 +66,7 @@ module _ {L G : Type 0} (d : Devices L G) (o : Opening L G) where
       }
 
 -- who holds nothing has nothing out
-pub free_home : {L G : Type 0} (d : Devices L G) (o : Opening L G) (s : State) (j : ℕ) (u : View) → IsOpened d o s → Laws s → get_elem? s.pool.core.views j ≡ some u → HoldsNothing u → (x : Place) → HasPlace o x → is_out x u ≡ false
+pub free_home : {L G : Type 0} (d : Devices L G) (o : Opening L G) (s : State) (j : ℕ) (u : View) → KeepsOpening d o s → Laws s → get_elem? s.pool.core.views j ≡ some u → HoldsNothing u → (x : Place) → IsPlaceIn o x → is_out x u ≡ false
 free_home d o s j u h laws there free (place.Page f) has = ap (λ (z : Option (List ℕ)). is_some z) (free.frames f).page_home
 free_home d o s j u h laws there free (place.Of (turn.Partition p)) has = ap (λ (z : Option (List MapEntry)). is_some z) ((laws.invariant.pool.core.turns.cells j u p there (let e = h.partitions in omega arith)).resting (free.partitions p)).0
 free_home d o s j u h laws there free (place.Of (turn.Lane q)) has = ap (λ (z : Option TakenLane). is_some z) ((laws.invariant.lanes.cells j u q there (let e = h.lanes in omega arith)).hold.resting (free.lanes q))

@@ -15,10 +15,10 @@ use Rattle.history_core.proofs.Trail.{Ticks, listed_made, next_tick, next_word}
 use Rattle.table_rule.specs.declared.opening.Opening.{Opening}
 use Rattle.table_rule.specs.Layout.{flushed_place, hand_place}
 use Rattle.table_rule.specs.Shows.{Devices}
-use Rattle.frame_table.specs.Behind.{DidWord, add_hand, raise_flushed}
-use Rattle.frame_table.specs.Kinds.{Part, state_word, FrameKind, pins, pages, part_of, frame_after, view_after}
+use Rattle.frame_table.specs.WordSteps.{DidWord, add_hand, raise_flushed}
+use Rattle.frame_table.specs.Kinds.{FrameWord, state_word, FrameKind, pins, pages, part_of, frame_after, view_after}
 use Rattle.frame_table.specs.Stores.{Makes, MustStore, HandMustMove, FlushedMustRise}
-use Rattle.frame_table.specs.Tells.{part_place, SaysOf, Did}
+use Rattle.frame_table.specs.FrameSteps.{part_place, SaysOf, Did}
 
 -- each kind at the state word but a load lists the change
 lists_change : (k : FrameKind) → part_of k ≡ state_word → k ≢ pins pin.load_state → (s : State) (f : ℕ) (v : View) → (view_after k s f v).changes ≡ v.changes ++ record { frame = f; found = (s.pool.core.frame f).word; left = (frame_after k s f).word } ∷ []
@@ -68,8 +68,8 @@ module _ {L G : Type 0} (d : Devices L G) (o : Opening L G) where
       let r = allows t h h0.wide h0.there h0.small in
       let w : View = r.0 in
       let h' = r.3 in
-      let did : Did k f me.0 w n = subst (λ (j : FrameKind). Did j f me.0 w n) is (r.4.1 f (ap (λ (p : Part). part_place p f) (sym at))) in
-      let was : (did.state.pool.core.frame f).word ≡ fields n = subst (λ (p : Part). SaysOf p n (did.state.pool.core.frame f)) part did.says in
+      let did : Did k f me.0 w n = subst (λ (j : FrameKind). Did j f me.0 w n) is (r.4.1 f (ap (λ (p : FrameWord). part_place p f) (sym at))) in
+      let was : (did.state.pool.core.frame f).word ≡ fields n = subst (λ (p : FrameWord). SaysOf p n (did.state.pool.core.frame f)) part did.says in
       let listed : w.changes ≡ me.0.changes ++ record { frame = f; found = (did.state.pool.core.frame f).word; left = (frame_after k did.state f).word } ∷ [] = ap (λ (v : View). v.changes) did.after ∙ lists_change k part moves did.state f me.0 in
       let here : get_elem? h.state.pool.core.views id ≡ some me.0 = ap (λ (l : List View). get_elem? l id) (sym h.shows.views) ∙ h0.there in
       let trail : Follows h'.state.pool.core.frame (set h.state.pool.core.views id w) = subst (Follows h'.state.pool.core.frame) (sym h'.shows.views ∙ ap (λ (l : List View). set l id w) h.shows.views) h'.laws.trail.words in

@@ -22,8 +22,8 @@ use Rattle.table_rule.specs.Layout.{partition_of_tag, tag_partition, tag_place}
 use Rattle.table_rule.specs.Shows.{Devices, Held}
 use Rattle.table_rule.proofs.Tags.{packed_is, unpacked_is}
 use Rattle.frame_table.specs.Kinds.{pins}
-use Rattle.frame_table.specs.Sees.{MayChange, NamesIn, NamesStored}
-use Rattle.frame_table.specs.Tells.{Did, always, tells, tells_tag}
+use Rattle.frame_table.specs.Seats.{MayChange, NamesIn, NamesStored}
+use Rattle.frame_table.specs.FrameSteps.{Did, always, tells, tells_tag}
 use Rattle.frame_table.proofs.Allowing.{allows_with}
 use Rattle.frame_table.proofs.Holding.{read_after, tag_loads, tag_read}
 use Rattle.frame_table.proofs.Seeing.{handed_settled}

@@ -38,18 +38,18 @@ use Rattle.table_rule.specs.declared.turn.Turn.{Turn}
 use Rattle.table_rule.specs.declared.turn.Turn.TheVariants.{Partition, Lane, Log}
 use Rattle.table_rule.specs.Layout.{latch_place}
 use Rattle.history_core.specs.Laws.{Laws}
-use Rattle.table_rule.specs.Shows.{ShowsFrame, ShowsLatches, is_taken, HasTurn, is_out, IsHome, Devices, IsOpened, Shows, Held}
-use Rattle.frame_table.specs.Turning.{MayLeave, TurnAllowed, IsInside, part_kind, lane_kind, log_kind, view_turned, state_turned, turn_event, DidTurn, SameWork, work_of, IsTurned, took, left}
+use Rattle.table_rule.specs.Shows.{ShowsFrame, ShowsLatches, is_taken, HasTurn, is_out, IsHome, Devices, KeepsOpening, Shows, Held}
+use Rattle.frame_table.specs.Latches.{MayLeave, LatchAllowed, HasLatch, part_kind, lane_kind, log_kind, view_latched, state_latched, turn_event, DidTurn, SameWork, work_of, IsTurned, took, left}
 use Rattle.history_core.proofs.Laws.{laws_kept}
 use Rattle.frame_table.proofs.Frames.{frame_else, put_keeps, same_at, home_before, SameLane, SameDevice, lane_none, device_none, SameValues, gives_same}
 
 -- what a step at a latch leaves, and what it makes of it
-turned_frame : (takes : Bool) (x : Turn) (s : State) (i : ℕ) (v : View) (f : ℕ) → (state_turned takes x s i v).pool.core.frame f ≡ s.pool.core.frame f
+turned_frame : (takes : Bool) (x : Turn) (s : State) (i : ℕ) (v : View) (f : ℕ) → (state_latched takes x s i v).pool.core.frame f ≡ s.pool.core.frame f
 turned_frame takes (Partition p) s i v f = refl
 turned_frame takes (Lane q) s i v f = refl
 turned_frame takes Log s i v f = refl
 
-turned_views : (takes : Bool) (x : Turn) (s : State) (i : ℕ) (v : View) → (state_turned takes x s i v).pool.core.views ≡ set s.pool.core.views i (view_turned takes x s v)
+turned_views : (takes : Bool) (x : Turn) (s : State) (i : ℕ) (v : View) → (state_latched takes x s i v).pool.core.views ≡ set s.pool.core.views i (view_latched takes x s v)
 turned_views takes (Partition p) s i v = refl
 turned_views takes (Lane q) s i v = refl
 turned_views takes Log s i v = refl
@@ -90,13 +90,13 @@ same_latch n lanes Log (Partition q) few a b e = absurd (omega arith)
 same_latch n lanes Log (Lane q) few a b e = absurd (omega arith)
 same_latch n lanes Log Log few a b e = refl
 
-taken_is : (takes : Bool) (x : Turn) (s : State) (i : ℕ) (v : View) → is_taken x (state_turned takes x s i v) ≡ takes
+taken_is : (takes : Bool) (x : Turn) (s : State) (i : ℕ) (v : View) → is_taken x (state_latched takes x s i v) ≡ takes
 taken_is takes (Partition p) s i v = ap (λ (pt : pool.Partition). pt.taken) (put_here s.pool.core.partition p (parts.partition_after (part_kind takes) (s.pool.core.partition p) (hold v p))) ∙ part_taken takes (s.pool.core.partition p) (hold v p)
 taken_is takes (Lane q) s i v = ap (λ (ln : history.Lane). ln.taken) (put_here s.lane q (lanes.lane_after (lane_kind takes) (s.lane q))) ∙ lane_taken takes (s.lane q)
 taken_is true Log s i v = refl
 taken_is false Log s i v = refl
 
-taken_else : (takes : Bool) (x y : Turn) (s : State) (i : ℕ) (v : View) → y ≢ x → is_taken y (state_turned takes x s i v) ≡ is_taken y s
+taken_else : (takes : Bool) (x y : Turn) (s : State) (i : ℕ) (v : View) → y ≢ x → is_taken y (state_latched takes x s i v) ≡ is_taken y s
 taken_else takes (Partition p) (Partition q) s i v n = ap (λ (pt : pool.Partition). pt.taken) (put_else s.pool.core.partition p (parts.partition_after (part_kind takes) (s.pool.core.partition p) (hold v p)) q (λ e. n (ap (λ (k : ℕ). Partition k) e)))
 taken_else takes (Partition p) (Lane q) s i v n = refl
 taken_else takes (Partition p) Log s i v n = refl
@@ -107,7 +107,7 @@ taken_else takes Log (Partition q) s i v n = refl
 taken_else takes Log (Lane q) s i v n = refl
 taken_else takes Log Log s i v n = absurd (n refl)
 
-turned_out : (takes : Bool) (x : Turn) (s : State) (v : View) (y : Place) → is_out y (view_turned takes x s v) ≡ is_out y v
+turned_out : (takes : Bool) (x : Turn) (s : State) (v : View) (y : Place) → is_out y (view_latched takes x s v) ≡ is_out y v
 turned_out takes (Partition p) s v (place.Page f) = refl
 turned_out takes (Partition p) s v (place.Of (Partition q)) = ap (λ (z : Option (List MapEntry)). is_some z) (same_at (λ (h : PartitionHold). h.out) v.partitions p q (parts.hold_after (part_kind takes) (hold v p)) no_partition (part_out takes (hold v p)))
 turned_out takes (Partition p) s v (place.Of (Lane q)) = refl
@@ -122,12 +122,12 @@ turned_out takes Log s v (place.Of (Lane q)) = refl
 turned_out true Log s v (place.Of Log) = refl
 turned_out false Log s v (place.Of Log) = refl
 
-turned_map : (takes : Bool) (x : Turn) (s : State) (i : ℕ) (v : View) (p : ℕ) → ((state_turned takes x s i v).pool.core.partition p).map ≡ (s.pool.core.partition p).map
+turned_map : (takes : Bool) (x : Turn) (s : State) (i : ℕ) (v : View) (p : ℕ) → ((state_latched takes x s i v).pool.core.partition p).map ≡ (s.pool.core.partition p).map
 turned_map takes (Partition q) s i v p = put_keeps (λ (pt : pool.Partition). pt.map) s.pool.core.partition q (parts.partition_after (part_kind takes) (s.pool.core.partition q) (hold v q)) p (part_map takes (s.pool.core.partition q) (hold v q))
 turned_map takes (Lane q) s i v p = refl
 turned_map takes Log s i v p = refl
 
-turned_lane : (takes : Bool) (x : Turn) (s : State) (i : ℕ) (v : View) (r : ℕ) → SameLane (s.lane r) ((state_turned takes x s i v).lane r)
+turned_lane : (takes : Bool) (x : Turn) (s : State) (i : ℕ) (v : View) (r : ℕ) → SameLane (s.lane r) ((state_latched takes x s i v).lane r)
 turned_lane takes (Partition q) s i v r = lane_none (s.lane r)
 turned_lane takes (Lane q) s i v r = dite (ℕ_discrete r q)
     (λ e. subst (SameLane (s.lane r)) (sym (put_at s.lane q (lanes.lane_after (lane_kind takes) (s.lane q)) r e)) (subst (λ (k : ℕ). SameLane (s.lane k) (lanes.lane_after (lane_kind takes) (s.lane q))) (sym e) (lane_same takes (s.lane q))))
@@ -135,7 +135,7 @@ turned_lane takes (Lane q) s i v r = dite (ℕ_discrete r q)
 turned_lane takes Log s i v r = lane_none (s.lane r)
 
 -- a step at a latch is a step of the state
-turn_step : {L G : Type 0} (d : Devices L G) (o : Opening L G) (takes : Bool) (x : Turn) (s : State) (i : ℕ) (v : View) → IsOpened d o s → HasTurn o.config.lanes x → get_elem? s.pool.core.views i ≡ some v → v.emptied ≡ false → TurnAllowed takes x s v → Step (turn_event takes x i) s (state_turned takes x s i v)
+turn_step : {L G : Type 0} (d : Devices L G) (o : Opening L G) (takes : Bool) (x : Turn) (s : State) (i : ℕ) (v : View) → KeepsOpening d o s → HasTurn o.config.lanes x → get_elem? s.pool.core.views i ≡ some v → v.emptied ≡ false → LatchAllowed takes x s v → Step (turn_event takes x i) s (state_latched takes x s i v)
 turn_step d o true (Partition p) s i v h has there live a = pools (page_steps.cores (pin_steps.turns i p parts.take_turn v there live (let e = h.partitions in omega arith) (record { free = a }))) tt
 turn_step d o false (Partition p) s i v h has there live a = pools (page_steps.cores (pin_steps.turns i p parts.leave_turn v there live (let e = h.partitions in omega arith) (record { held = a.0; home = a.1; settled = a.2 }))) tt
 turn_step d o true (Lane q) s i v h has there live a = steps.lanes i q (lane_kind true) v there live (let e = h.lanes in omega arith) (record { free = a }) tt
@@ -143,14 +143,14 @@ turn_step d o false (Lane q) s i v h has there live a = steps.lanes i q (lane_ki
 turn_step d o true Log s i v h has there live a = steps.logs i (log_kind true) v there live (record { free = a }) tt
 turn_step d o false Log s i v h has there live a = steps.logs i (log_kind false) v there live (record { held = a.0; home = a.1; entered = a.2 }) tt
 
-turned_device : (takes : Bool) (x : Turn) (s : State) (i : ℕ) (v : View) → SameDevice s.device (state_turned takes x s i v).device
+turned_device : (takes : Bool) (x : Turn) (s : State) (i : ℕ) (v : View) → SameDevice s.device (state_latched takes x s i v).device
 turned_device takes (Partition p) s i v = device_none s.device
 turned_device takes (Lane q) s i v = device_none s.device
 turned_device true Log s i v = record { bytes = refl; synced = refl; faults = refl; down = refl }
 turned_device false Log s i v = record { bytes = refl; synced = refl; faults = refl; down = refl }
 
 module _ {L G : Type 0} (d : Devices L G) (o : Opening L G) where
-  fixed_turned : (takes : Bool) (x : Turn) (s : State) (i : ℕ) (v : View) → IsOpened d o s → IsOpened d o (state_turned takes x s i v)
+  fixed_turned : (takes : Bool) (x : Turn) (s : State) (i : ℕ) (v : View) → KeepsOpening d o s → KeepsOpening d o (state_latched takes x s i v)
   fixed_turned takes (Partition p) s i v h = record { frames = h.frames; backends = h.backends; base = h.base; partitions = h.partitions; partition_of = h.partition_of; is_block = h.is_block; names = h.names; lanes = h.lanes; lane_of = h.lane_of; few_backends = h.few_backends; few_lanes = h.few_lanes; known = h.known; origin = h.origin; reads = h.reads; writes = h.writes; log_faults = h.log_faults }
   fixed_turned takes (Lane q) s i v h = record {
     frames = h.frames;
@@ -172,19 +172,19 @@ module _ {L G : Type 0} (d : Devices L G) (o : Opening L G) where
   }
   fixed_turned takes Log s i v h = record { frames = h.frames; backends = h.backends; base = h.base; partitions = h.partitions; partition_of = h.partition_of; is_block = h.is_block; names = h.names; lanes = h.lanes; lane_of = h.lane_of; few_backends = h.few_backends; few_lanes = h.few_lanes; known = h.known; origin = h.origin; reads = h.reads; writes = h.writes; log_faults = h.log_faults }
 
-  turned_values : (takes : Bool) (x : Turn) (s : State) (i : ℕ) (v : View) → SameValues d o s (state_turned takes x s i v)
+  turned_values : (takes : Bool) (x : Turn) (s : State) (i : ℕ) (v : View) → SameValues d o s (state_latched takes x s i v)
   turned_values takes x s i v = record { page = λ f. ap (λ (fr : Frame). fr.page) (turned_frame takes x s i v f); map = turned_map takes x s i v; count = turned_count takes x s i v; lane = turned_lane takes x s i v; device = turned_device takes x s i v }
     where
-      turned_count : (takes : Bool) (x : Turn) (s : State) (i : ℕ) (v : View) → (state_turned takes x s i v).lanes ≡ s.lanes
+      turned_count : (takes : Bool) (x : Turn) (s : State) (i : ℕ) (v : View) → (state_latched takes x s i v).lanes ≡ s.lanes
       turned_count takes (Partition p) s i v = refl
       turned_count takes (Lane q) s i v = refl
       turned_count takes Log s i v = refl
 
   turned_latches : (takes : Bool) (x : Turn) (words : List ℕ) (s : State) (i : ℕ) (v : View) → o.config.lanes ≤ 16 → HasTurn o.config.lanes x → latch_place o.config.frames x < length words → ShowsLatches o.config.frames o.config.lanes words s
-      → ShowsLatches o.config.frames o.config.lanes (set words (latch_place o.config.frames x) (flag_weight takes)) (state_turned takes x s i v)
+      → ShowsLatches o.config.frames o.config.lanes (set words (latch_place o.config.frames x) (flag_weight takes)) (state_latched takes x s i v)
   turned_latches takes x words s i v few has low h = let n = o.config.frames in let at : ℕ = latch_place n x in record {
     latch = λ y has_y. dite (ℕ_discrete (latch_place n y) at)
-        (λ e. ap (λ (z : ℕ). get_or (set words at (flag_weight takes)) z 0) e ∙ get_or-set_same words at (flag_weight takes) 0 low ∙ ap flag_weight (sym (taken_is takes x s i v) ∙ ap (λ (z : Turn). is_taken z (state_turned takes x s i v)) (sym (same_latch n o.config.lanes y x few has_y has e))))
+        (λ e. ap (λ (z : ℕ). get_or (set words at (flag_weight takes)) z 0) e ∙ get_or-set_same words at (flag_weight takes) 0 low ∙ ap flag_weight (sym (taken_is takes x s i v) ∙ ap (λ (z : Turn). is_taken z (state_latched takes x s i v)) (sym (same_latch n o.config.lanes y x few has_y has e))))
         (λ ne. get_or-set_other words at (latch_place n y) (flag_weight takes) 0 ne ∙ h.latch y has_y ∙ ap flag_weight (sym (taken_else takes x y s i v (λ e. ne (ap (latch_place n) e)))));
     end = get_or-set_other words at (3 * n + 145) (flag_weight takes) 0 (λ e. past x has few (sym e)) ∙ h.end ∙ end_stays takes x;
     flushed = get_or-set_other words at (3 * n + 146) (flag_weight takes) 0 (λ e. past_more x has few (sym e)) ∙ h.flushed ∙ flushed_stays takes x;
@@ -206,17 +206,17 @@ module _ {L G : Type 0} (d : Devices L G) (o : Opening L G) where
       past_hand (Lane q) has few e = omega arith
       past_hand Log has few e = omega arith
 
-      hand_stays : (takes : Bool) (x : Turn) → s.hand ≡ (state_turned takes x s i v).hand
+      hand_stays : (takes : Bool) (x : Turn) → s.hand ≡ (state_latched takes x s i v).hand
       hand_stays takes (Partition p) = refl
       hand_stays takes (Lane q) = refl
       hand_stays takes Log = refl
 
-      end_stays : (takes : Bool) (x : Turn) → s.end ≡ (state_turned takes x s i v).end
+      end_stays : (takes : Bool) (x : Turn) → s.end ≡ (state_latched takes x s i v).end
       end_stays takes (Partition p) = refl
       end_stays takes (Lane q) = refl
       end_stays takes Log = refl
 
-      flushed_stays : (takes : Bool) (x : Turn) → s.flushed ≡ (state_turned takes x s i v).flushed
+      flushed_stays : (takes : Bool) (x : Turn) → s.flushed ≡ (state_latched takes x s i v).flushed
       flushed_stays takes (Partition p) = refl
       flushed_stays takes (Lane q) = refl
       flushed_stays takes Log = refl
@@ -228,8 +228,8 @@ module _ {L G : Type 0} (d : Devices L G) (o : Opening L G) where
 
   -- The table shows the state after a step at a latch
   shows_turned : (takes : Bool) (x : Turn) (t : table.State (Value L G) View) (s : State) (id : ℕ) (c : List (ℕ × Value L G)) (v : View) → Shows d o t s → get_elem? s.pool.core.views id ≡ some v → HasTurn o.config.lanes x
-      → Shows d o (stepped t (latch_place o.config.frames x) (flag_weight takes) id c (view_turned takes x s v) keeps) (state_turned takes x s id v)
-  shows_turned takes x t s id c v h there has = let w : View = view_turned takes x s v in let at : ℕ = latch_place o.config.frames x in let few = h.fixed.few_lanes in let low = low_latch x has few in record {
+      → Shows d o (stepped t (latch_place o.config.frames x) (flag_weight takes) id c (view_latched takes x s v) keeps) (state_latched takes x s id v)
+  shows_turned takes x t s id c v h there has = let w : View = view_latched takes x s v in let at : ℕ = latch_place o.config.frames x in let few = h.fixed.few_lanes in let low = low_latch x has few in record {
     fixed = fixed_turned takes x s id v h.fixed;
     words = length-set t.words at (flag_weight takes) ∙ h.words;
     slots = h.slots;
@@ -237,16 +237,16 @@ module _ {L G : Type 0} (d : Devices L G) (o : Opening L G) where
     frame = λ g inside. subst (ShowsFrame (set t.words at (flag_weight takes)) g) (sym (turned_frame takes x s id v g)) (frame_else t.words at (flag_weight takes) g (s.pool.core.frame g) (λ e. let l = low.0 in omega arith) (λ e. let l = low.0 in omega arith) (λ e. let l = low.0 in omega arith) (h.frame g inside));
     latches = turned_latches takes x t.words s id v few has (let l = low.1 in let wide = h.words in omega arith) h.latches;
     homes = λ y inside home. let old = h.homes y inside (home_before s.pool.core.views id v w y there (λ e. sym (turned_out takes x s v y) ∙ e) (subst (IsHome y) (turned_views takes x s id v) home)) in
-        record { value = old.value; home = old.home; gives = gives_same d o s (state_turned takes x s id v) (turned_values takes x s id v) y old.value old.gives };
+        record { value = old.value; home = old.home; gives = gives_same d o s (state_latched takes x s id v) (turned_values takes x s id v) y old.value old.gives };
     list = h.list;
   }
 
-  is_inside : (x : Turn) (s : State) → IsOpened d o s → HasTurn o.config.lanes x → IsInside x s
+  is_inside : (x : Turn) (s : State) → KeepsOpening d o s → HasTurn o.config.lanes x → HasLatch x s
   is_inside (Partition p) s h has = let e = h.partitions in omega arith
   is_inside (Lane q) s h has = let e = h.lanes in omega arith
   is_inside Log s h has = tt
 
-  turn_told : (takes : Bool) (x : Turn) (s : State) (id : ℕ) (v : View) → Laws s → IsInside x s → get_elem? s.pool.core.views id ≡ some v → v.emptied ≡ false → TurnAllowed takes x s v → DidTurn takes x v (view_turned takes x s v)
+  turn_told : (takes : Bool) (x : Turn) (s : State) (id : ℕ) (v : View) → Laws s → HasLatch x s → get_elem? s.pool.core.views id ≡ some v → v.emptied ≡ false → LatchAllowed takes x s v → DidTurn takes x v (view_latched takes x s v)
   turn_told takes x s id v laws inside there live a = record { state = s; laws = laws; seat = id; there = there; live = live; inside = inside; allowed = a; after = refl }
 
   -- taking a latch, where it is free
@@ -267,11 +267,11 @@ module _ {L G : Type 0} (d : Devices L G) (o : Opening L G) where
           let same : stepped t at (either (eqb n 0) 1 n) id me.1 me.0 keeps ≡ t = (λ i. record { words = (ap (λ (b : Bool). set t.words at (either b 1 n)) (ne_eqb n 0 not_zero) ∙ set-get_or t.words at 0) i; homes = t.homes; views = set_again t.views id me.0 there i }) in
           (me.0, keeps, tt, subst (Held d o) (sym same) h, (refl, (λ z. absurd (not_zero z)), λ z. refl))
       of_taken false e = let at : ℕ = latch_place o.config.frames x in let n : ℕ = get_or t.words at 0 in let zero_is : n ≡ 0 = word_is ∙ ap flag_weight e in let s = h.state in (
-        view_turned true x s me.0,
+        view_latched true x s me.0,
         keeps,
         tt,
-        subst (λ (m : ℕ). Held d o (stepped t at m id me.1 (view_turned true x s me.0) keeps)) (sym (ap (λ (b : Bool). either b 1 n) (eq-eqb n 0 zero_is))) record {
-          state = state_turned true x s id me.0;
+        subst (λ (m : ℕ). Held d o (stepped t at m id me.1 (view_latched true x s me.0) keeps)) (sym (ap (λ (b : Bool). either b 1 n) (eq-eqb n 0 zero_is))) record {
+          state = state_latched true x s id me.0;
           shows = shows_turned true x t s id me.1 me.0 h.shows abbrev_there has;
           laws = laws_kept (turn_step d o true x s id me.0 h.shows.fixed has abbrev_there live e) h.laws;
         },
@@ -282,11 +282,11 @@ module _ {L G : Type 0} (d : Devices L G) (o : Opening L G) where
   pub leaves_there : (slots id : ℕ) (x : Turn) (me : Me (Value L G) View) → HasTurn o.config.lanes x → me.0.emptied ≡ false → MayLeave x me.0
       → Allows (Held d o) slots id me (latch_place o.config.frames x) (λ _. 0) (λ _. left x (step slots (latch_place o.config.frames x) 0 0 none) me 0)
   leaves_there slots id x me has live may t h deep there small = let s = h.state in let here : get_elem? s.pool.core.views id ≡ some me.0 = ap (λ (l : List View). get_elem? l id) (sym h.shows.views) ∙ there in (
-    view_turned false x s me.0,
+    view_latched false x s me.0,
     keeps,
     tt,
     record {
-      state = state_turned false x s id me.0;
+      state = state_latched false x s id me.0;
       shows = shows_turned false x t s id me.1 me.0 h.shows here has;
       laws = laws_kept (turn_step d o false x s id me.0 h.shows.fixed has here live may) h.laws;
     },
@@ -308,7 +308,7 @@ log_work : (v : View) → work_of (record v { device_calls = v.device_calls ++ [
 log_work v i = record (work_of v) { device_calls = append-nil v.device_calls i; met = no_met v i; saw_down = or-false v.saw_down i }
 
 -- what a step at a latch makes of the view
-work_after : (takes : Bool) (x : Turn) (s : State) (v : View) → SameWork v (view_turned takes x s v)
+work_after : (takes : Bool) (x : Turn) (s : State) (v : View) → SameWork v (view_latched takes x s v)
 work_after takes (Partition p) s v = refl
 work_after true (Lane q) s v = lane_work v
 work_after false (Lane q) s v = lane_work v
@@ -318,7 +318,7 @@ work_after false Log s v = log_work v
 pub turn_work : (takes : Bool) (x : Turn) (v w : View) → DidTurn takes x v w → SameWork v w
 turn_work takes x v w d = ap work_of d.after ∙ work_after takes x d.state v
 
-turned_so : (takes : Bool) (x : Turn) (s : State) (v : View) → IsInside x s → length v.partitions ≡ s.pool.core.partitions → length v.lanes ≡ s.lanes → IsTurned takes x v (view_turned takes x s v)
+turned_so : (takes : Bool) (x : Turn) (s : State) (v : View) → HasLatch x s → length v.partitions ≡ s.pool.core.partitions → length v.lanes ≡ s.lanes → IsTurned takes x v (view_latched takes x s v)
 turned_so takes (Partition p) s v inside parts_wide lanes_wide = (get_or-set_same v.partitions p (parts.hold_after (part_kind takes) (hold v p)) no_partition (omega arith), (λ q n. get_or-set_other v.partitions p q (parts.hold_after (part_kind takes) (hold v p)) no_partition n), refl, refl)
 turned_so true (Lane q) s v inside parts_wide lanes_wide = (get_or-set_same v.lanes q (lanes.lane_hold_after (lane_kind true) v.flushed (swept_by v) (lane_hold v q)) no_lane (omega arith), (λ r n. get_or-set_other v.lanes q r (lanes.lane_hold_after (lane_kind true) v.flushed (swept_by v) (lane_hold v q)) no_lane n), refl, refl)
 turned_so false (Lane q) s v inside parts_wide lanes_wide = (get_or-set_same v.lanes q (lanes.lane_hold_after (lane_kind false) v.flushed (swept_by v) (lane_hold v q)) no_lane (omega arith), (λ r n. get_or-set_other v.lanes q r (lanes.lane_hold_after (lane_kind false) v.flushed (swept_by v) (lane_hold v q)) no_lane n), refl, refl)

@@ -18,9 +18,9 @@ use Rattle.pin_core.proofs.Schedules.{few, own_pins}
 use Rattle.page_core.specs.Kinds as paged
 use Rattle.history_core.specs.State.{State}
 use Rattle.history_core.proofs.Trail.{Lists, pins_list, pages_list}
-use Rattle.frame_table.specs.Kinds.{FrameKind, pins, pages, part_of, load_of, block_at, link_after, view_after}
-use Rattle.frame_table.specs.Sees.{SameSelf, Grows, Touches, Looked, CanUnpin, loaded_link, pinned_link, unpinned_link, locked_link}
-use Rattle.frame_table.specs.Tells.{Choice, choice_part, part_place, Did, Looks, still, again, Tried, if_found, if_unlocked, chosen, has_locked, looking}
+use Rattle.frame_table.specs.Kinds.{FrameKind, pins, pages, part_of, load_of, block_of_frame, link_after, view_after}
+use Rattle.frame_table.specs.Seats.{SameSelf, Grows, Touches, Looked, MayUnpin, loaded_link, pinned_link, unpinned_link, locked_link}
+use Rattle.frame_table.specs.FrameSteps.{Choice, choice_part, part_place, Did, Looks, still, again, Tried, if_found, if_unlocked, chosen, has_locked, looking}
 
 pub self_after : (k : FrameKind) (s : State) (f : ℕ) (v : View) → SameSelf v (view_after k s f v)
 self_after (pins k) s f v = refl
@@ -39,7 +39,7 @@ grows_after (pins k) s f v = let fr = s.pool.core.frame f in record {
   changes = added_to f fr.word (pin.frame_after k fr).word v.changes (pin.changes_after k f fr v.changes) (pins_list k f fr v.changes);
   steps = omega arith;
 }
-grows_after (pages k) s f v = let fr = s.pool.core.frame f in let b = block_at s f in record {
+grows_after (pages k) s f v = let fr = s.pool.core.frame f in let b = block_of_frame s f in record {
   loads = (map (pin.load_of v) (paged.seen_by k f fr), refl);
   changes = added_to f fr.word (paged.frame_after k b fr).word v.changes (paged.changes_after k f b fr v.changes) (pages_list k f b fr v.changes);
   steps = omega arith;
@@ -179,7 +179,7 @@ looks_on f v u w first still = first
 looks_on f v u w first (again {u = x} found l d) = again found (looks_on f v u x first l) d
 
 -- what may be unpinned still may after loads
-pub looks_unpin : (f : ℕ) (v w : View) → Looks f v w → CanUnpin (link v f) → CanUnpin (link w f)
+pub looks_unpin : (f : ℕ) (v w : View) → Looks f v w → MayUnpin (link v f) → MayUnpin (link w f)
 looks_unpin f v w l a = let e = looks_link f v w l in record { pinned = λ r. a.pinned (sym e.role ∙ r); no_content = e.content ∙ a.no_content; no_io = e.io ∙ a.no_io; no_wait = e.waits a.no_wait }
 
 -- after a load, a compare-exchange of the state word

@@ -26,7 +26,7 @@ use Rattle.table_rule.specs.declared.opening.Opening.{Opening}
 use Rattle.table_rule.specs.Layout.{tag_partition, state_place}
 use Rattle.frame_table.specs.Kinds.{FrameKind, pins, part_of, load_of, frame_after, link_after, IsAllowed, IsAllowedAround}
 use Rattle.table_rule.specs.Shows.{ShowsFrame, Devices, Shows, Held}
-use Rattle.frame_table.specs.Tells.{part_place, has_locked, has_tag, always, if_found, if_unlocked, chosen, tells, looking}
+use Rattle.frame_table.specs.FrameSteps.{part_place, has_locked, has_tag, always, if_found, if_unlocked, chosen, tells, looking}
 use Rattle.frame_table.proofs.Frames.{Asks}
 use Rattle.frame_table.proofs.Acting.{acts}
 

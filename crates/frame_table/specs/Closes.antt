@@ -10,9 +10,9 @@ use Rattle.history_core.specs.State.{State}
 use Rattle.history_core.specs.Laws.{Laws}
 use Rattle.table_rule.specs.declared.opening.Opening.{Opening}
 use Rattle.table_rule.specs.declared.value.Value.{Value}
-use Rattle.table_rule.specs.Shows.{Devices, IsLane, IsLog, IsOpened}
+use Rattle.table_rule.specs.Shows.{Devices, IsLane, IsLog, KeepsOpening}
 use Rattle.frame_table.specs.declared.table.FrameTable.{FrameTable}
-use Rattle.frame_table.specs.Sees.{Fits}
+use Rattle.frame_table.specs.Seats.{Fits}
 
 module _ {L G : Type 0} where
   -- The seat may close the table: it is the first backend's, which holds nothing, and all others are joined into it
@@ -28,7 +28,7 @@ module _ {L G : Type 0} where
   pub record Closes (d : Devices L G) (o : Opening L G) (v : View) (lanes : List L) (log : G) : Type 0 where
     pub state : State
     pub laws : Laws state
-    pub opened : IsOpened d o state
+    pub opened : KeepsOpening d o state
     pub first : get_elem? state.pool.core.views 0 ≡ some v
     pub others : (i : ℕ) (u : View) → i ≢ 0 → get_elem? state.pool.core.views i ≡ some u → u ≡ emptied_view
     pub counted : length lanes ≡ o.config.lanes

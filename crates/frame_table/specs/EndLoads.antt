@@ -11,9 +11,9 @@ use Rattle.table_rule.specs.declared.value.Value.{Value}
 use Rattle.frame_table.specs.declared.log_words.EndLoad.{EndLoad}
 use Rattle.frame_table.specs.declared.log_words.EndLoad.TheVariants.{Plain, Read, Checkpoint}
 use Rattle.frame_table.specs.declared.table.FrameTable.{FrameTable}
-use Rattle.frame_table.specs.Opened.{CopiesAreLogged, IsHeld, WasAtOpening}
-use Rattle.frame_table.specs.Behind.{WordKind, load_end, read_end, begin_checkpoint, IsCopied, tells_word}
-use Rattle.frame_table.specs.Sees.{base_of}
+use Rattle.frame_table.specs.Opened.{CopiesAreLogged, WasHeld, WasAtOpening}
+use Rattle.frame_table.specs.WordSteps.{WordKind, load_end, read_end, begin_checkpoint, IsCopied, tells_word}
+use Rattle.frame_table.specs.Seats.{base_of}
 
 abbrev pub end_kind : EndLoad → WordKind
 end_kind Plain = load_end
@@ -27,7 +27,7 @@ IsEndAllowed frames _ v = Unit {0}
 
 -- the page that was copied, and is read, is the one that its lane held at the start
 abbrev pub ReadsHeld : List RelEntry → ℕ → List (Option Pages) → EndLoad → View → Type 0
-ReadsHeld relations lanes held (Read f) v = (tag : Tag) (page : Page) → (link v f).tag ≡ Some (packed_tag tag) → (link v f).copied ≡ Some page → IsHeld relations lanes held tag page
+ReadsHeld relations lanes held (Read f) v = (tag : Tag) (page : Page) → (link v f).tag ≡ Some (packed_tag tag) → (link v f).copied ≡ Some page → WasHeld relations lanes held tag page
 ReadsHeld relations lanes held _ v = Unit {0}
 
 module _ {L G : Type 0} where

@@ -23,7 +23,7 @@ use Rattle.table_rule.specs.declared.value.Value.{Value}
 use Rattle.table_rule.specs.LogCalls.{block_record}
 
 -- The page p of a tag's block may become an entry, by the view v at the frame f, where the log ends at `start`
-pub record MayEnter (f : ℕ) (tag : Tag) (p : Page) (start : ℕ) (v : View) : Type 0 where
+pub record MayBecomeEntry (f : ℕ) (tag : Tag) (p : Page) (start : ℕ) (v : View) : Type 0 where
   -- this is the end as the view has loaded it under the log's latch
   pub loaded : v.log.end ≡ Some start
   -- the view's pin remembers the tag
@@ -50,7 +50,7 @@ pub record IsRecord (relations : List RelEntry) (tag : Tag) (start : ℕ) (p : P
 -- The log's end may be stored as `end`: the view has appended the record of such an entry, and that ends there
 pub record MayStoreEnd (relations : List RelEntry) (f : ℕ) (tag : Tag) (p : Page) (end : ℕ) (v : View) : Type 0 where
   pub start : ℕ
-  pub enters : MayEnter f tag p start v
+  pub enters : MayBecomeEntry f tag p start v
   pub next : end ≡ start + record_size
   pub bytes : List ℕ
   pub is_record : IsRecord relations tag start p bytes

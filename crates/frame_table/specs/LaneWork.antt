@@ -33,8 +33,8 @@ use Rattle.table_rule.specs.declared.value.Value.{Value}
 use Rattle.table_rule.specs.declared.value.Value.TheVariants as value
 use Rattle.table_rule.specs.LaneCalls.{LaneDevices, LaneDid}
 use Rattle.frame_table.specs.declared.table.FrameTable.{FrameTable}
-use Rattle.frame_table.specs.Sees.{relations_of, lanes_in, opened_of}
-use Rattle.table_rule.specs.TakenLanes.{IsBlockOf, HoldsBlocks, taken_of, page_held}
+use Rattle.frame_table.specs.Seats.{relations_of, lanes_in, opened_of}
+use Rattle.table_rule.specs.TakenLanes.{IsBlockOf, HoldsBlocks, taken_lane, page_held}
 
 -- The view v became w by these steps of its backend, one right after the other
 pub record DidSteps (events : ℕ → List Event) (v w : View) : Type 0 where
@@ -84,18 +84,18 @@ module _ {L : Type 0} (d : LaneDevices L) (q : ℕ) (after : L) where
   back_events SyncFailed i = steps.lane i q (fail_sync (d.write_faults after)) ∷ steps.lane i q (lane_back true) ∷ []
 
   -- the device call that it was; after a write that failed the lane holds any page for the block
-  abbrev pub calls_of : LaneCall → List DeviceCall
-  calls_of Untouched = []
-  calls_of (Read f tag page) = device.LaneRead q (packed_tag tag) true ∷ []
-  calls_of (ReadFailed tag) = device.LaneRead q (packed_tag tag) false ∷ []
-  calls_of (Written f tag page) = device.LaneWrite q (packed_tag tag) page.value true ∷ []
-  calls_of (WriteFailed f tag page) = device.LaneWrite q (packed_tag tag) (page_held (d.contents after) tag page.value) false ∷ []
-  calls_of Synced = device.LaneSync q true ∷ []
-  calls_of SyncFailed = device.LaneSync q false ∷ []
+  abbrev pub device_calls_of : LaneCall → List DeviceCall
+  device_calls_of Untouched = []
+  device_calls_of (Read f tag page) = device.LaneRead q (packed_tag tag) true ∷ []
+  device_calls_of (ReadFailed tag) = device.LaneRead q (packed_tag tag) false ∷ []
+  device_calls_of (Written f tag page) = device.LaneWrite q (packed_tag tag) page.value true ∷ []
+  device_calls_of (WriteFailed f tag page) = device.LaneWrite q (packed_tag tag) (page_held (d.contents after) tag page.value) false ∷ []
+  device_calls_of Synced = device.LaneSync q true ∷ []
+  device_calls_of SyncFailed = device.LaneSync q false ∷ []
 
 -- what the view has at the frame of the call
-abbrev pub read_link : Page → Link → Link
-read_link page l = record l { read = Some page; read_is_home = false }
+abbrev pub lane_read_link : Page → Link → Link
+lane_read_link page l = record l { read = Some page; read_is_home = false }
 
 abbrev pub written_link : Link → Link
 written_link l = record l { last_write = Done }
@@ -104,7 +104,7 @@ abbrev pub unwritten_link : Link → Link
 unwritten_link l = record l { last_write = Failed }
 
 abbrev pub links_of : LaneCall → View → List Link
-links_of (Read f tag page) v = slice_set v.links f (read_link page.value (link v f))
+links_of (Read f tag page) v = slice_set v.links f (lane_read_link page.value (link v f))
 links_of (Written f tag page) v = slice_set v.links f (written_link (link v f))
 links_of (WriteFailed f tag page) v = slice_set v.links f (unwritten_link (link v f))
 links_of _ v = v.links
@@ -117,9 +117,9 @@ met_of SyncFailed = record { reads = 0; writes = 1; logs = 0 }
 met_of _ = record { reads = 0; writes = 0; logs = 0 }
 
 -- how many steps it is, and whether it is a sync
-abbrev pub steps_of : LaneCall → ℕ
-steps_of Untouched = 1
-steps_of _ = 2
+abbrev pub call_steps : LaneCall → ℕ
+call_steps Untouched = 1
+call_steps _ = 2
 
 abbrev pub is_sync : LaneCall → Bool
 is_sync Synced = true
@@ -136,31 +136,31 @@ abbrev pub back_view : {L : Type 0} → LaneDevices L → ℕ → L → LaneCall
 back_view d q after call v = record v {
   links = links_of call v;
   lanes = slice_set v.lanes q (back_lane (swept_lane call v (lane_hold v q)));
-  steps = v.steps + steps_of call;
-  device_calls = v.device_calls ++ calls_of d q after call;
+  steps = v.steps + call_steps call;
+  device_calls = v.device_calls ++ device_calls_of d q after call;
   met = sum_of_met v.met (met_of call);
   dirtied_or_synced = v.dirtied_or_synced || is_sync call;
 }
 
 -- The view has at the call's frame what was noted, and at all others what it had
-pub record Notes (f : ℕ) (l : Link) (v w : View) : Type 0 where
+pub record NotesAt (f : ℕ) (l : Link) (v w : View) : Type 0 where
   pub here : link w f ≡ l
   pub others : (g : ℕ) → g ≢ f → link w g ≡ link v g
 
 abbrev pub IsNoted : LaneCall → View → View → Type 0
-IsNoted (Read f tag page) v w = Notes f (read_link page.value (link v f)) v w
-IsNoted (Written f tag page) v w = Notes f (written_link (link v f)) v w
-IsNoted (WriteFailed f tag page) v w = Notes f (unwritten_link (link v f)) v w
+IsNoted (Read f tag page) v w = NotesAt f (lane_read_link page.value (link v f)) v w
+IsNoted (Written f tag page) v w = NotesAt f (written_link (link v f)) v w
+IsNoted (WriteFailed f tag page) v w = NotesAt f (unwritten_link (link v f)) v w
 IsNoted _ v w = w.links ≡ v.links
 
 -- A read may be noted: the view has the input right, isn't just putting an earlier read into the frame, and its pin remembers the tag
-pub record CanNoteRead (tag : Tag) (l : Link) : Type 0 where
+pub record MayNoteRead (tag : Tag) (l : Link) : Type 0 where
   pub right : l.io ≡ Input
   pub fresh : l.overwritten ≡ None
   pub remembered : l.tag ≡ Some (packed_tag tag)
 
 -- A write may be noted: the view has the output right, the page is the one that it copied there, up to whose position the log is flushed, and its pin remembers the tag
-pub record CanNoteWrite (tag : Tag) (page : Page) (flushed : ℕ) (l : Link) : Type 0 where
+pub record MayNoteWrite (tag : Tag) (page : Page) (flushed : ℕ) (l : Link) : Type 0 where
   pub right : l.io ≡ Output
   pub copied : l.copied ≡ Some page
   pub remembered : l.tag ≡ Some (packed_tag tag)
@@ -168,10 +168,10 @@ pub record CanNoteWrite (tag : Tag) (page : Page) (flushed : ℕ) (l : Link) : T
 
 -- What a call asks of the view; its block is one of the lane
 abbrev pub MayNote : List RelEntry → ℕ → ℕ → LaneCall → View → Type 0
-MayNote relations lanes q (Read f tag page) v = IsBlockOf relations lanes q tag × CanNoteRead tag (link v f)
+MayNote relations lanes q (Read f tag page) v = IsBlockOf relations lanes q tag × MayNoteRead tag (link v f)
 MayNote relations lanes q (ReadFailed tag) v = IsBlockOf relations lanes q tag
-MayNote relations lanes q (Written f tag page) v = IsBlockOf relations lanes q tag × CanNoteWrite tag page.value (lane_hold v q).flushed (link v f)
-MayNote relations lanes q (WriteFailed f tag page) v = IsBlockOf relations lanes q tag × CanNoteWrite tag page.value (lane_hold v q).flushed (link v f)
+MayNote relations lanes q (Written f tag page) v = IsBlockOf relations lanes q tag × MayNoteWrite tag page.value (lane_hold v q).flushed (link v f)
+MayNote relations lanes q (WriteFailed f tag page) v = IsBlockOf relations lanes q tag × MayNoteWrite tag page.value (lane_hold v q).flushed (link v f)
 MayNote relations lanes q Untouched v = Unit {0}
 MayNote relations lanes q Synced v = Unit {0}
 MayNote relations lanes q SyncFailed v = Unit {0}
@@ -186,31 +186,31 @@ module _ {L : Type 0} (d : LaneDevices L) where
   was_known opened q = is_known_in (get_elem? opened q)
 
   -- What holds of a lane as it goes out: where its contents are known it holds each block of the relations that lies there, and they are known where they were when the table was opened
-  pub record IsTaken (known : Bool) (relations : List RelEntry) (lanes q : ℕ) (l : L) : Type 0 where
+  pub record IsTakenLane (known : Bool) (relations : List RelEntry) (lanes q : ℕ) (l : L) : Type 0 where
     pub holds : HoldsBlocks d relations lanes q l
     pub known_still : is_some (d.contents l) ≡ known
 
   -- A lane may come back as l, with its call: it went out as `before`, and the call made this of it
   pub record MayReturn (known : Bool) (relations : List RelEntry) (lanes q : ℕ) (v : View) (l : NotedLane L) : Type 0 where
     pub before : L
-    pub out : (lane_hold v q).out ≡ Some (taken_of d relations lanes q before)
+    pub out : (lane_hold v q).out ≡ Some (taken_lane d relations lanes q before)
     pub once : (lane_hold v q).change ≡ lane_change.Untouched
-    pub taken : IsTaken known relations lanes q before
+    pub taken : IsTakenLane known relations lanes q before
     pub did : LaneDid d before l.device l.call
     pub may : MayNote relations lanes q l.call v
 
 module _ {L G : Type 0} where
   -- the lane went out with the seat, from this slot
   abbrev pub lane_went : LaneDevices L → Bool → List RelEntry → ℕ → ℕ → ℕ → table.Step (Value L G) → Me (Value L G) View → ℕ → Me (Value L G) View → Type 0
-  lane_went d known relations lanes q place st m found m' = (l : NotedLane L) × (m'.1 ≡ (place, value.Lane l) ∷ m.1) × (l.call ≡ Untouched) × IsTaken d known relations lanes q l.device
-      × (m'.0 ≡ out_view q (taken_of d relations lanes q l.device) m.0) × DidSteps (out_events q (taken_of d relations lanes q l.device)) m.0 m'.0
+  lane_went d known relations lanes q place st m found m' = (l : NotedLane L) × (m'.1 ≡ (place, value.Lane l) ∷ m.1) × (l.call ≡ Untouched) × IsTakenLane d known relations lanes q l.device
+      × (m'.0 ≡ out_view q (taken_lane d relations lanes q l.device) m.0) × DidSteps (out_events q (taken_lane d relations lanes q l.device)) m.0 m'.0
 
   -- in a table: what its lane is, when it may go out and when it may come back
   abbrev pub taken_at : LaneDevices L → FrameTable L G → ℕ → L → TakenLane
-  taken_at d t q l = taken_of d (relations_of t) (lanes_in t) q l
+  taken_at d t q l = taken_lane d (relations_of t) (lanes_in t) q l
 
   abbrev pub IsTakenFrom : LaneDevices L → FrameTable L G → ℕ → L → Type 0
-  IsTakenFrom d t q l = IsTaken d (was_known d (opened_of t) q) (relations_of t) (lanes_in t) q l
+  IsTakenFrom d t q l = IsTakenLane d (was_known d (opened_of t) q) (relations_of t) (lanes_in t) q l
 
   abbrev pub MayReturnTo : LaneDevices L → FrameTable L G → ℕ → View → NotedLane L → Type 0
   MayReturnTo d t q v l = MayReturn d (was_known d (opened_of t) q) (relations_of t) (lanes_in t) q v l

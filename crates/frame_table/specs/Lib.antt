@@ -1,11 +1,11 @@
 pub mod Kinds
-pub mod Tells
-pub mod Sees
-pub mod Behind
+pub mod FrameSteps
+pub mod Seats
+pub mod WordSteps
 pub mod Opened
 pub mod EndLoads
 pub mod Content
-pub mod Turning
+pub mod Latches
 pub mod PageWork
 pub mod Closes
 pub mod LaneWork

@@ -24,7 +24,7 @@ use Rattle.table_rule.specs.declared.noted_log.NotedLog.{NotedLog}
 use Rattle.table_rule.specs.declared.value.Value.{Value}
 use Rattle.table_rule.specs.declared.value.Value.TheVariants as value
 use Rattle.table_rule.specs.LogCalls.{LogDid, has_failed}
-use Rattle.frame_table.specs.Entering.{MayEnter, IsRecord}
+use Rattle.frame_table.specs.Entering.{MayBecomeEntry, IsRecord}
 
 -- The view v became w by a step of the kind k at the log
 pub record DidLog (k : LogKind) (v w : View) : Type 0 where
@@ -105,7 +105,7 @@ view_home call v = record v {
 -- What the view has where this record was to be appended: its page may be entered, and under this latch no record was appended before, and no sync made
 pub record MayAppend (relations : List RelEntry) (f : ℕ) (tag : Tag) (p : Page) (bytes : List ℕ) (v : View) : Type 0 where
   pub start : ℕ
-  pub enters : MayEnter f tag p start v
+  pub enters : MayBecomeEntry f tag p start v
   pub is_record : IsRecord relations tag start p bytes
   pub entered : v.log.appended ≡ None
   pub unsynced : v.log.synced ≡ false
@@ -135,7 +135,7 @@ IsFresh x = (x.call ≡ log_call.Untouched) × (record_size ≤ vec_capacity x.b
 -- A log tells its bytes, where they are known, how many of them are durable, and how many calls failed
 module _ {G : Type 0} (bytes : G → Option (List ℕ)) (synced faults calls : G → ℕ) where
   -- the device was taken as this
-  pub record IsTaken (g : G) (taken : TakenLog) : Type 0 where
+  pub record IsTakenLog (g : G) (taken : TakenLog) : Type 0 where
     pub told : taken.bytes ≡ bytes g
     pub durable : (known : List ℕ) → bytes g ≡ Some known → taken.synced ≡ synced g
     pub counted : taken.faults ≡ faults g
@@ -144,7 +144,7 @@ module _ {G : Type 0} (bytes : G → Option (List ℕ)) (synced faults calls : G
   -- The log x went out, and the view v became w
   pub record LogWent (x : NotedLog G) (v w : View) : Type 0 where
     pub taken : TakenLog
-    pub is_taken : IsTaken x.device taken
+    pub is_taken : IsTakenLog x.device taken
     pub down : taken.down ≡ x.down
     pub after : w ≡ view_out taken v
     pub did : GoesOut taken x.down v w
@@ -155,7 +155,7 @@ module _ {G : Type 0} (bytes : G → Option (List ℕ)) (synced faults calls : G
     pub before : G
     pub out : v.log.out ≡ Some taken
     pub unnoted : v.log.change ≡ change.Untouched
-    pub was : IsTaken before taken
+    pub was : IsTakenLog before taken
     pub did : LogDid bytes synced faults calls before x.device x.call
     pub marked : IsMarked x.call taken.down v.log.end x.down
     pub may : MayCall relations x.call v

@@ -17,23 +17,23 @@ use Rattle.pin_core.specs.State.{Page, link}
 use Rattle.table_rule.specs.declared.value.Value.{Value}
 use Rattle.table_rule.specs.TakenLanes.{IsBlockOf}
 use Rattle.frame_table.specs.declared.table.FrameTable.{FrameTable}
-use Rattle.frame_table.specs.Sees.{frames_of, lanes_in, opened_of, relations_of}
-use Rattle.frame_table.specs.Tells.{always, looking, tells}
+use Rattle.frame_table.specs.Seats.{frames_of, lanes_in, opened_of, relations_of}
+use Rattle.frame_table.specs.FrameSteps.{always, looking, tells}
 
 -- The page of a tag's block is the one that its lane, of so many, held at the start, where that is known: `held` has the pages of each lane then
-abbrev pub IsHeld : List RelEntry → ℕ → List (Option Pages) → Tag → Page → Type 0
-IsHeld relations lanes held tag page = (q : ℕ) (known : Pages) → IsBlockOf relations lanes q tag → get_elem? held q ≡ some (Some known) → known tag ≡ Some page
+abbrev pub WasHeld : List RelEntry → ℕ → List (Option Pages) → Tag → Page → Type 0
+WasHeld relations lanes held tag page = (q : ℕ) (known : Pages) → IsBlockOf relations lanes q tag → get_elem? held q ≡ some (Some known) → known tag ≡ Some page
 
 -- and that page is sound
-abbrev pub IsHeldSound : List RelEntry → ℕ → List (Option Pages) → Tag → Type 0
-IsHeldSound relations lanes held tag = (q : ℕ) (known : Pages) (page : Page) → IsBlockOf relations lanes q tag → get_elem? held q ≡ some (Some known) → known tag ≡ Some page → is_sound_page page ≡ true
+abbrev pub WasHeldSound : List RelEntry → ℕ → List (Option Pages) → Tag → Type 0
+WasHeldSound relations lanes held tag = (q : ℕ) (known : Pages) (page : Page) → IsBlockOf relations lanes q tag → get_elem? held q ≡ some (Some known) → known tag ≡ Some page → is_sound_page page ≡ true
 
 -- What a backend has at a frame, and a state word that it loads there, show of the page that the frame's block had at the start, where its pin remembers the tag
 pub record FitsHeld (relations : List RelEntry) (lanes : ℕ) (held : List (Option Pages)) (l : Link) (w : StateWord) : Type 0 where
   -- a page that the lane gave and that isn't sound is the page at the start
-  pub unsound : (tag : Tag) (page : Page) → l.tag ≡ Some (packed_tag tag) → l.read ≡ Some page → is_sound_page page ≡ false → IsHeld relations lanes held tag page
+  pub unsound : (tag : Tag) (page : Page) → l.tag ≡ Some (packed_tag tag) → l.read ≡ Some page → is_sound_page page ≡ false → WasHeld relations lanes held tag page
   -- that of a valid frame was sound
-  pub valid : (tag : Tag) → l.tag ≡ Some (packed_tag tag) → w.valid ≡ true → IsHeldSound relations lanes held tag
+  pub valid : (tag : Tag) → l.tag ≡ Some (packed_tag tag) → w.valid ≡ true → WasHeldSound relations lanes held tag
 
 -- each page that a view notes as copied has a position in the log at this end or before it, or is the one at the start
 abbrev pub CopiesAreLogged : List RelEntry → ℕ → List (Option Pages) → ℕ → ℕ → View → Type 0

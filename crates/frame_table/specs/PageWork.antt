@@ -12,10 +12,10 @@ use Rattle.page_core.specs.Kinds.{copied_after}
 use Rattle.table_rule.specs.declared.value.Value.{Value}
 use Rattle.table_rule.specs.declared.value.Value.TheVariants as value
 use Rattle.frame_table.specs.Kinds.{pages}
-use Rattle.frame_table.specs.Tells.{Did}
+use Rattle.frame_table.specs.FrameSteps.{Did}
 
 -- The page may go out: under the exclusive lock, with the copy latch, or under an input right
-pub record CanTakePage (l : Link) : Type 0 where
+pub record MayTakePage (l : Link) : Type 0 where
   pub home : l.out ≡ None
   pub shared : l.content ≡ Shared → l.copying ≡ true
   pub unlocked : l.content ≡ Unlocked → l.io ≡ Input
@@ -41,7 +41,7 @@ abbrev pub page_due : Link → Option Page
 page_due l = if l.unapplied then l.image else input_page l.io l.read l.out
 
 -- The page may come back as this page
-pub record CanReturnPage (page : Page) (l : Link) : Type 0 where
+pub record MayReturnPage (page : Page) (l : Link) : Type 0 where
   pub out : l.out ≢ None
   pub once : l.overwritten ≡ None
   pub due : page_due l ≡ Some page

@@ -12,9 +12,9 @@ use Rattle.table_rule.specs.declared.value.Value.{Value}
 use Rattle.table_rule.specs.declared.opening.Opening.{Opening}
 use Rattle.table_rule.specs.Layout.{end_place, flushed_place, hand_place, state_place}
 use Rattle.table_rule.specs.Shows.{Devices, Held}
-use Rattle.frame_table.specs.Behind.{add_hand, raise_flushed, tells_word}
+use Rattle.frame_table.specs.WordSteps.{add_hand, raise_flushed, tells_word}
 use Rattle.frame_table.specs.Kinds.{state_word, FrameKind, frame_after}
-use Rattle.frame_table.specs.Tells.{Choice, chosen, choice_part, tells}
+use Rattle.frame_table.specs.FrameSteps.{Choice, chosen, choice_part, tells}
 
 -- The word `left` is what the kind makes of a frame f that had the word `found`
 pub record Makes (k : FrameKind) (f : ℕ) (found left : StateWord) : Type 0 where

@@ -3,7 +3,7 @@ ghost use Rattle.std.specs.Prelude.{◌≡◌, ◌<◌, ◌≤◌, true};
 ghost use Rattle.block_tag.specs.Catalogue.{blocks_at};
 ghost use Rattle.block_tag.specs.Names.{names_block};
 ghost use Rattle.table_rule.specs.Blocks.{has_block};
-ghost use Rattle.frame_table.specs.Sees.{lanes_in, relations_of};
+ghost use Rattle.frame_table.specs.Seats.{lanes_in, relations_of};
 
 use crate::table::FrameTable;
 use block_tag::Tag;

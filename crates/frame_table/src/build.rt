@@ -2,7 +2,7 @@
 ghost use Rattle.std.specs.Prelude.{◌≡◌, ◌≤◌, ◌^◌, [], length, IfOk, IfErr};
 ghost use Rattle.table_rule.specs.Shows.{AreLanes, IsNewLog, devices, starting};
 ghost use Rattle.frame_table.specs.Closes.{CanClose, Closes};
-ghost use Rattle.frame_table.specs.Sees.{Fits};
+ghost use Rattle.frame_table.specs.Seats.{Fits};
 
 use crate::table::{BuildRefused, FrameTable};
 use atomic_table::{Refused, Seat, Table};

@@ -8,8 +8,8 @@ ghost use Rattle.pin_core.specs.Kinds as kinds;
 ghost use Rattle.pin_core.specs.Steps.{HoldsNoHeader};
 ghost use Rattle.frame_table.specs.Kinds.{pins};
 ghost use Rattle.frame_table.specs.Opened.{FitsHeld, FitsOpening};
-ghost use Rattle.frame_table.specs.Sees.{CanStep, CanUnpin, Holds, IsWordOf, Looked, SameMarks, SameSeat, Touches, lanes_in, opened_of, relations_of, loaded_link, locked_link, pinned_link, unlocked_link, unpinned_link};
-ghost use Rattle.frame_table.specs.Tells.{Did, Looks, Refuses, Tried, chosen, has_locked, has_tag, if_found, if_unlocked, looking};
+ghost use Rattle.frame_table.specs.Seats.{CanStep, MayUnpin, HoldsHeader, IsWordOf, Looked, SameMarks, SameSeat, Touches, lanes_in, opened_of, relations_of, loaded_link, locked_link, pinned_link, unlocked_link, unpinned_link};
+ghost use Rattle.frame_table.specs.FrameSteps.{Did, Looks, Refuses, Tried, chosen, has_locked, has_tag, if_found, if_unlocked, looking};
 
 use crate::pin::{Pin, TryPin};
 use crate::plays::{AtLook, Does, LockHeader, Look, Step, UnlockHeader, Unpin};
@@ -18,13 +18,10 @@ use atomic_table::Seat;
 use log_device::LogDevice;
 use pin_core::View;
 use segment_store::BlockLane;
-use state_word::{Flag, has, locked, pinned, unpinned};
+use state_word::{Flag, LOCKED, has, locked, pinned, unpinned};
 use std::marker::Brand;
 use std::sync::Wait;
 use table_rule::{Value, state_place};
-
-/// The bit of a locked header.
-const LOCKED: u64 = 1 << 22;
 
 impl<L: BlockLane, G: LogDevice> FrameTable<L, G> {
     fn look_at<D: AtLook>(&self, seat: &mut Seat<Value<L, G>, View>, _frame: u32) -> u64
@@ -113,7 +110,7 @@ impl<L: BlockLane, G: LogDevice> FrameTable<L, G> {
     /// Gives up a pin, once the header is not locked (`UnpinBuffer`). A backend that holds that header itself would wait for ever.
     pub fn unpin<R: Wait>(&self, rt: &R, seat: &mut Seat<Value<L, G>, View>, pin: Pin)
         requires seat { CanStep self.now seat.old pin.frame }
-        requires pinned { CanUnpin (link seat.old.me.0 pin.frame) }
+        requires pinned { MayUnpin (link seat.old.me.0 pin.frame) }
         ensures seat { SameSeat seat.old seat.new }
         ensures touches { Touches pin.frame seat.old.me.0 seat.new.me.0 }
         ensures marks { SameMarks seat.old.me.0 seat.new.me.0 }
@@ -131,7 +128,7 @@ impl<L: BlockLane, G: LogDevice> FrameTable<L, G> {
 
     fn try_unpin(&self, seat: &mut Seat<Value<L, G>, View>, frame: u32) -> bool
         requires seat { CanStep self.now seat.old frame }
-        requires pinned { CanUnpin (link seat.old.me.0 frame) }
+        requires pinned { MayUnpin (link seat.old.me.0 frame) }
         ensures seat { SameSeat seat.old seat.new }
         ensures did { Tried (pins kinds.unpin) frame seat.old.me.0 seat.new.me.0 result }
     {
@@ -144,7 +141,7 @@ impl<L: BlockLane, G: LogDevice> FrameTable<L, G> {
 
     fn swap_unpin(&self, seat: &mut Seat<Value<L, G>, View>, frame: u32, was: u64) -> u64
         requires seat { CanStep self.now seat.old frame }
-        requires pinned { CanUnpin (link seat.old.me.0 frame) }
+        requires pinned { MayUnpin (link seat.old.me.0 frame) }
         requires was { (has_locked was ≡ false) × (0 < (fields was).pins) }
         ensures seat { SameSeat seat.old seat.new }
         ensures did { Did (chosen (if_found (pins kinds.unpin)) was result) frame seat.old.me.0 seat.new.me.0 result }
@@ -193,7 +190,7 @@ impl<L: BlockLane, G: LogDevice> FrameTable<L, G> {
     /// Unlocks the header that the backend holds, the word as it was (`UnlockBufHdr`).
     pub fn unlock_header(&self, seat: &mut Seat<Value<L, G>, View>, frame: u32)
         requires seat { CanStep self.now seat.old frame }
-        requires held { Holds (link seat.old.me.0 frame) }
+        requires held { HoldsHeader (link seat.old.me.0 frame) }
         ensures seat { SameSeat seat.old seat.new }
         ensures touches { Touches frame seat.old.me.0 seat.new.me.0 }
         ensures marks { SameMarks seat.old.me.0 seat.new.me.0 }

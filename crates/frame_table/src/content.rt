@@ -4,8 +4,8 @@ ghost use Rattle.pin_core.specs.declared.view.Content.TheVariants.{Shared};
 ghost use Rattle.pin_core.specs.State.{link};
 ghost use Rattle.page_core.specs.Kinds as kinds;
 ghost use Rattle.frame_table.specs.Kinds.{pages};
-ghost use Rattle.frame_table.specs.Sees.{CanStep, SameMarks, SameSeat, Touches};
-ghost use Rattle.frame_table.specs.Tells.{Did};
+ghost use Rattle.frame_table.specs.Seats.{CanStep, SameMarks, SameSeat, Touches};
+ghost use Rattle.frame_table.specs.FrameSteps.{Did};
 ghost use Rattle.frame_table.specs.Content.{CanDropCopy, CanDropExclusive, CanDropShare, CanLock, copying_link, exclusive_link, has_copying, has_exclusive, looking_content, shared_link, unexclusive_link, unshared_link};
 
 use crate::content_plays::{Exclude, LeaveCopy, LookContent, Share, TakeCopy, Unexclude, Unshare};

@@ -1,5 +1,5 @@
 //! What each step of content locks, of input and output, and of waits tells its seat.
-ghost use Rattle.frame_table.specs.Tells.{always, if_found};
+ghost use Rattle.frame_table.specs.FrameSteps.{always, if_found};
 ghost use Rattle.frame_table.specs.Kinds.{pages};
 ghost use Rattle.frame_table.specs.Content.{looking_content};
 ghost use Rattle.page_core.specs.Kinds as page;

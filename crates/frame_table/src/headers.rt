@@ -10,8 +10,8 @@ ghost use Rattle.pin_core.specs.Kinds as kinds;
 ghost use Rattle.pin_core.specs.Steps.{HasNoVictim};
 ghost use Rattle.table_rule.specs.Blocks.{has_block, is_block};
 ghost use Rattle.frame_table.specs.Kinds.{pins};
-ghost use Rattle.frame_table.specs.Sees.{CanErase, CanStep, CanStore, CanStoreAs, HasFlag, HasRoom, HoldsNumber, IsAlone, IsUsed, NamesStored, SameMarks, SameSeat, Stores, Touches, assigned_link, cleared_link, partitions_stored, read_link, relations_of, stored_link, tag_word, unlocked_link, victim_link};
-ghost use Rattle.frame_table.specs.Tells.{Did, always, storing};
+ghost use Rattle.frame_table.specs.Seats.{CanErase, CanStep, CanStoreTag, CanStoreAs, HasFlag, HasRoom, HoldsNumber, HasOnlyPin, IsUsed, NamesStored, SameMarks, SameSeat, Stores, Touches, assigned_link, cleared_link, partitions_stored, read_link, relations_of, stored_link, tag_word, unlocked_link, victim_link};
+ghost use Rattle.frame_table.specs.FrameSteps.{Did, always, storing};
 
 use crate::pin::Pin;
 use crate::plays::{Assign, Clear, Does, EraseTag, LoadTag, LowerUsage, Related, Step, VictimPin};
@@ -21,20 +21,12 @@ use block_tag::Tag;
 use log_device::LogDevice;
 use pin_core::View;
 use segment_store::BlockLane;
-use state_word::{assigned, cleared, unlock_with, usage_down};
+use state_word::{assigned, cleared, pinned_by_holder, unlock_with, usage_down};
 use std::marker::Brand;
 use table_rule::{Value, state_place, tag_place};
 
 /// The tag word of a frame without a tag.
 const NO_TAG: u64 = u64::MAX;
-
-/// The word with one more pin, the usage count as it was, and the header not locked (`PinBuffer_Locked`).
-fn victim_pinned(word: u64) -> u64
-    requires { (fields word).pins + 1 < 2 ^ 18 }
-    ensures { fields result ≡ unlocked_fields (record (fields word) { pins = (fields word).pins + 1 }) }
-{
-    unlock_with(word + 1)
-}
 
 impl<L: BlockLane, G: LogDevice> FrameTable<L, G> {
     fn load_packed<D: Related>(&self, seat: &mut Seat<Value<L, G>, View>, frame: u32) -> u64
@@ -82,7 +74,7 @@ impl<L: BlockLane, G: LogDevice> FrameTable<L, G> {
     {
         self.table
             .shared
-            .swap::<Step<VictimPin>>(seat, state_place(frame), victim_pinned(word));
+            .swap::<Step<VictimPin>>(seat, state_place(frame), pinned_by_holder(word));
         Pin { frame }
     }
 
@@ -111,8 +103,8 @@ impl<L: BlockLane, G: LogDevice> FrameTable<L, G> {
         requires kind { D.choice ≡ always (storing (Some _tag)) }
         requires packed { (packed ≡ packed_tag _tag) × (unpacked_tag packed ≡ Some _tag) }
         requires seat { CanStep self.now seat.old frame }
-        requires alone { IsAlone (link seat.old.me.0 frame) }
-        requires tag { CanStore (relations_of self.now) _tag seat.old.me.0 frame }
+        requires alone { HasOnlyPin (link seat.old.me.0 frame) }
+        requires tag { CanStoreTag (relations_of self.now) _tag seat.old.me.0 frame }
         ensures seat { SameSeat seat.old seat.new }
         ensures did { (now : ℕ) × Did (storing (Some _tag)) frame seat.old.me.0 seat.new.me.0 now }
     {
@@ -123,7 +115,7 @@ impl<L: BlockLane, G: LogDevice> FrameTable<L, G> {
 
     fn store_none(&self, seat: &mut Seat<Value<L, G>, View>, frame: u32)
         requires seat { CanStep self.now seat.old frame }
-        requires alone { IsAlone (link seat.old.me.0 frame) }
+        requires alone { HasOnlyPin (link seat.old.me.0 frame) }
         requires tag { CanErase seat.old.me.0 frame }
         ensures seat { SameSeat seat.old seat.new }
         ensures did { (now : ℕ) × Did (storing None) frame seat.old.me.0 seat.new.me.0 now }
@@ -137,7 +129,7 @@ impl<L: BlockLane, G: LogDevice> FrameTable<L, G> {
     /// The pair is named in change then, until the map is back with it.
     pub fn store_tag(&self, seat: &mut Seat<Value<L, G>, View>, frame: u32, tag: Option<Tag>)
         requires seat { CanStep self.now seat.old frame }
-        requires alone { IsAlone (link seat.old.me.0 frame) }
+        requires alone { HasOnlyPin (link seat.old.me.0 frame) }
         requires tag { CanStoreAs (relations_of self.now) tag seat.old.me.0 frame }
         ensures seat { SameSeat seat.old seat.new }
         ensures stores { Stores frame seat.old.me.0 seat.new.me.0 }

@@ -8,7 +8,7 @@ ghost use Rattle.table_rule.specs.declared.turn.Place.TheVariants.{Of};
 ghost use Rattle.table_rule.specs.declared.value.Value.TheVariants as value;
 ghost use Rattle.table_rule.specs.LaneCalls.{lane_devices};
 ghost use Rattle.table_rule.specs.Layout.{latch_place, slot_of};
-ghost use Rattle.frame_table.specs.Sees.{CanTurn, frames_of, lanes_in, opened_of, relations_of};
+ghost use Rattle.frame_table.specs.Seats.{CanTurn, frames_of, lanes_in, opened_of, relations_of};
 ghost use Rattle.frame_table.specs.LaneWork.{DidSteps, IsNoted, IsTakenFrom, LaneStep, MayReturnTo, WentOut, back_events, back_lane, back_view, out_events, out_lane, out_view, swept_lane, taken_at, was_known};
 
 use crate::lane_plays::{AtLane, Back, LaneOut, Returns};
@@ -18,14 +18,14 @@ use log_device::LogDevice;
 use pin_core::View;
 use segment_store::BlockLane;
 use std::marker::Brand;
-use table_rule::{NotedLane, Turn, Value};
+use table_rule::{FIRST_LANE, NotedLane, Turn, Value};
 
 impl<L: BlockLane, G: LogDevice> FrameTable<L, G> {
     /// The slot of a lane.
     fn lane_slot(&self, lane: u32) -> usize
         ensures { result ≡ slot_of (frames_of self.now) (Of (Lane lane)) }
     {
-        self.config.frames as usize + 128 + lane as usize
+        self.config.frames as usize + FIRST_LANE + lane as usize
     }
 
     fn lane_out_at<D: AtLane>(

@@ -16,7 +16,7 @@ mod lanes;
 mod log_plays;
 mod log_words;
 mod logs;
-mod mapped;
+mod map_pins;
 mod maps;
 mod pages;
 mod pin;

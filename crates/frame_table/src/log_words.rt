@@ -1,10 +1,10 @@
 //! Calls at the words of the log, and at the clock's hand.
 ghost use Rattle.std.specs.Prelude.{◌≡◌, ℕ, ◌≤◌, true, map, Some};
 ghost use Rattle.history_core.specs.Steps.{has_raised};
-ghost use Rattle.frame_table.specs.Behind.{DidWord, add_hand, load_flushed, load_hand, raise_flushed, view_of};
+ghost use Rattle.frame_table.specs.WordSteps.{DidWord, add_hand, load_flushed, load_hand, raise_flushed, view_of};
 ghost use Rattle.frame_table.specs.Opened.{CopiesAreLogged, LoggedOrOpening};
 ghost use Rattle.frame_table.specs.EndLoads.{IsEndAllowed, ReadsHeld, ReadsOpening, end_kind};
-ghost use Rattle.frame_table.specs.Sees.{IsSeat, SameSeat, base_of, frames_of, lanes_in, opened_of, relations_of};
+ghost use Rattle.frame_table.specs.Seats.{IsSeat, SameSeat, base_of, frames_of, lanes_in, opened_of, relations_of};
 
 use crate::table::FrameTable;
 use crate::word_plays::{AddHand, AtEndLoad, LoadEnd, LoadFlushed, LoadHand, RaiseFlushed, StepAt};

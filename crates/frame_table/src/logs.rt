@@ -12,7 +12,7 @@ ghost use Rattle.table_rule.specs.declared.turn.Place.TheVariants.{Of};
 ghost use Rattle.table_rule.specs.declared.value.Value.TheVariants as value;
 ghost use Rattle.table_rule.specs.Layout.{latch_place, slot_of};
 ghost use Rattle.frame_table.specs.Entering.{DidEnter, MayStoreEnd, view_entered};
-ghost use Rattle.frame_table.specs.Sees.{CanTurn, IsSeat, SameSeat, frames_of, relations_of};
+ghost use Rattle.frame_table.specs.Seats.{CanTurn, IsSeat, SameSeat, frames_of, relations_of};
 ghost use Rattle.frame_table.specs.LogWork.{IsLogOut, LogCame, LogWent, MayComeHome, view_home};
 
 use crate::log_plays::{AtEnd, AtLog, LogBack, LogOut, StoreEnd};
@@ -22,14 +22,14 @@ use log_device::LogDevice;
 use pin_core::View;
 use segment_store::BlockLane;
 use std::marker::Brand;
-use table_rule::{NotedLog, Turn, Value, end_place};
+use table_rule::{LOG_PLACE, NotedLog, Turn, Value, end_place};
 
 impl<L: BlockLane, G: LogDevice> FrameTable<L, G> {
     /// The slot of the log.
     fn log_slot(&self) -> usize
         ensures { result ≡ slot_of (frames_of self.now) (Of Log) }
     {
-        self.config.frames as usize + 144
+        self.config.frames as usize + LOG_PLACE
     }
 
     fn log_out_at<D: AtLog>(

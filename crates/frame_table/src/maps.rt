@@ -9,8 +9,8 @@ ghost use Rattle.table_rule.specs.declared.turn.Place.TheVariants.{Of};
 ghost use Rattle.table_rule.specs.declared.value.Value.TheVariants as value;
 ghost use Rattle.table_rule.specs.Layout.{latch_place, slot_of};
 ghost use Rattle.table_rule.specs.Shows.{AreApart, entry_of};
-ghost use Rattle.frame_table.specs.Sees.{CanTurn, frames_of};
-ghost use Rattle.frame_table.specs.Turning.{AreBelow, ComesBack, DidMap, GivesFrames, HasNamed, HasRoomFor, IsMap, MapStep, MayComeBack, SameWork, TakesPair, back_hold, out_hold};
+ghost use Rattle.frame_table.specs.Seats.{CanTurn, frames_of};
+ghost use Rattle.frame_table.specs.Latches.{AreBelow, ComesBack, DidMap, GivesFrames, HasNamed, HasRoomFor, IsMap, MapStep, MayComeBack, SameWork, TakesPair, back_hold, out_hold};
 
 use crate::plays::{AtMap, MapBack, MapOut};
 use crate::table::FrameTable;

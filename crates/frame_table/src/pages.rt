@@ -7,9 +7,9 @@ ghost use Rattle.table_rule.specs.declared.value.Value.TheVariants as value;
 ghost use Rattle.table_rule.specs.declared.turn.Place.TheVariants as place;
 ghost use Rattle.table_rule.specs.Layout.{slot_of};
 ghost use Rattle.frame_table.specs.Kinds.{pages};
-ghost use Rattle.frame_table.specs.PageWork.{CanReturnPage, CanTakePage, IsPage, ReturnsBy, overwriting, page_out_link, returned_link};
-ghost use Rattle.frame_table.specs.Sees.{CanStep, SameMarks, Touches, frames_of};
-ghost use Rattle.frame_table.specs.Tells.{Did};
+ghost use Rattle.frame_table.specs.PageWork.{MayReturnPage, MayTakePage, IsPage, ReturnsBy, overwriting, page_out_link, returned_link};
+ghost use Rattle.frame_table.specs.Seats.{CanStep, SameMarks, Touches, frames_of};
+ghost use Rattle.frame_table.specs.FrameSteps.{Did};
 
 use crate::plays::{AtPage, PageBack, PageOut};
 use crate::table::FrameTable;
@@ -30,7 +30,7 @@ impl<L: BlockLane, G: LogDevice> FrameTable<L, G> {
     ) -> Value<L, G>
         requires known { (D.frame ≡ _frame) × (D.slot ≡ slot) × (slot ≡ slot_of (frames_of self.now) (place.Page _frame)) }
         requires seat { CanStep self.now seat.old _frame }
-        requires can { CanTakePage (link seat.old.me.0 _frame) }
+        requires can { MayTakePage (link seat.old.me.0 _frame) }
         ensures seat { (seat.new.table_id ≡ seat.old.table_id) × (seat.new.id ≡ seat.old.id) }
         ensures hand { seat.new.me.1 ≡ (slot, value.Away) ∷ seat.old.me.1 }
         ensures page { (page : List ℕ) × (found : ℕ) × IsPage result page × ((link seat.new.me.0 _frame).out ≡ Some page) × Did (pages kinds.page_out) _frame seat.old.me.0 seat.new.me.0 found }
@@ -45,7 +45,7 @@ impl<L: BlockLane, G: LogDevice> FrameTable<L, G> {
     /// The page of a frame goes out with the seat: under the exclusive lock, with the copy latch, or under an input right.
     pub fn page_out(&self, seat: &mut Seat<Value<L, G>, View>, frame: u32) -> Page
         requires seat { CanStep self.now seat.old frame }
-        requires can { CanTakePage (link seat.old.me.0 frame) }
+        requires can { MayTakePage (link seat.old.me.0 frame) }
         ensures seat { (seat.new.table_id ≡ seat.old.table_id) × (seat.new.id ≡ seat.old.id) }
         ensures hand { seat.new.me.1 ≡ (slot_of (frames_of self.now) (place.Page frame), value.Away) ∷ seat.old.me.1 }
         ensures touches { Touches frame seat.old.me.0 seat.new.me.0 }
@@ -70,7 +70,7 @@ impl<L: BlockLane, G: LogDevice> FrameTable<L, G> {
         requires known { (D.frame ≡ _frame) × (slot ≡ slot_of (frames_of self.now) (place.Page _frame)) }
         requires seat { CanStep self.now seat.old _frame }
         requires hand { seat.old.me.1 ≡ (slot, value.Away) ∷ rest seat.old.me.1 }
-        requires can { CanReturnPage page (link seat.old.me.0 _frame) }
+        requires can { MayReturnPage page (link seat.old.me.0 _frame) }
         ensures seat { (seat.new.table_id ≡ seat.old.table_id) × (seat.new.id ≡ seat.old.id) }
         ensures hand { seat.new.me.1 ≡ rest seat.old.me.1 }
         ensures did { (found : ℕ) × ReturnsBy (overwriting (link seat.old.me.0 _frame)) _frame seat.old.me.0 seat.new.me.0 found }
@@ -87,7 +87,7 @@ impl<L: BlockLane, G: LogDevice> FrameTable<L, G> {
     pub fn page_back(&self, seat: &mut Seat<Value<L, G>, View>, frame: u32, page: Page)
         requires seat { CanStep self.now seat.old frame }
         requires hand { seat.old.me.1 ≡ (slot_of (frames_of self.now) (place.Page frame), value.Away) ∷ rest seat.old.me.1 }
-        requires can { CanReturnPage page (link seat.old.me.0 frame) }
+        requires can { MayReturnPage page (link seat.old.me.0 frame) }
         ensures seat { (seat.new.table_id ≡ seat.old.table_id) × (seat.new.id ≡ seat.old.id) }
         ensures hand { seat.new.me.1 ≡ rest seat.old.me.1 }
         ensures touches { Touches frame seat.old.me.0 seat.new.me.0 }

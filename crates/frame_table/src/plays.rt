@@ -4,10 +4,10 @@ ghost use Rattle.segment_store.specs.Contents.{Pages};
 ghost use Rattle.frame_table.specs.Opened.{tells_look};
 ghost use Rattle.block_tag.specs.declared.catalogue.RelEntry.{RelEntry};
 ghost use Rattle.pin_core.specs.declared.view.MapEntry.{MapEntry};
-ghost use Rattle.frame_table.specs.Tells.{tells, tells_tag, Choice, always, if_found, if_unlocked, looking};
+ghost use Rattle.frame_table.specs.FrameSteps.{tells, tells_tag, Choice, always, if_found, if_unlocked, looking};
 ghost use Rattle.frame_table.specs.Kinds.{pins};
 ghost use Rattle.frame_table.specs.PageWork.{page_came, page_went};
-ghost use Rattle.frame_table.specs.Turning.{left, map_came, map_went, took};
+ghost use Rattle.frame_table.specs.Latches.{left, map_came, map_went, took};
 ghost use Rattle.table_rule.specs.declared.turn.Turn.{Turn};
 ghost use Rattle.table_rule.specs.declared.turn.Turn.TheVariants.{Log};
 ghost use Rattle.pin_core.specs.Kinds as pin;
@@ -235,7 +235,7 @@ pub(crate) struct NewSeat<J> {
 }
 
 impl<J: Known> Split<View> for NewSeat<J> {
-    ghost use Rattle.frame_table.specs.Tells.{kept_view, split_view};
+    ghost use Rattle.frame_table.specs.FrameSteps.{kept_view, split_view};
 
     ghost left = { kept_view };
 

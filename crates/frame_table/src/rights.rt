@@ -6,8 +6,8 @@ ghost use Rattle.pin_core.specs.State.{link};
 ghost use Rattle.page_core.specs.Kinds as kinds;
 ghost use Rattle.page_core.specs.Steps.{HasNoIo, HasNoWriteOut, MayWait};
 ghost use Rattle.frame_table.specs.Kinds.{pages};
-ghost use Rattle.frame_table.specs.Sees.{CanStep, Looked, MarksBegun, MarksDirty, MarksEnded, SameMarks, SameSeat, Touches, unlocked_link};
-ghost use Rattle.frame_table.specs.Tells.{Did, Tried, always, chosen, has_locked, if_found};
+ghost use Rattle.frame_table.specs.Seats.{CanStep, Looked, MarksBegun, MarksDirty, MarksEnded, SameMarks, SameSeat, Touches, unlocked_link};
+ghost use Rattle.frame_table.specs.FrameSteps.{Did, Tried, always, chosen, has_locked, if_found};
 ghost use Rattle.frame_table.specs.Content.{CanAwait, CanBeginIo, CanClearJust, CanFinishIo, CanNeed, CanWake, begun_link, dirtied_link, finished_link, listed_link, start_of, waiting_link};
 
 use crate::content_plays::{ClearJustDirtied, ClearWaiter, MarkDirty, NeedCheckpoint};

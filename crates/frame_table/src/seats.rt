@@ -2,8 +2,8 @@
 ghost use Rattle.std.specs.Prelude.{◌≡◌, ℕ, ◌<◌, false, []};
 ghost use Rattle.pin_core.specs.State.{hold, idle, joined_view, link, no_partition};
 ghost use Rattle.pin_core.specs.Steps.{HoldsNothing};
-ghost use Rattle.frame_table.specs.Sees.{Fits, SameSeat};
-ghost use Rattle.frame_table.specs.Tells.{kept_view, split_view};
+ghost use Rattle.frame_table.specs.Seats.{Fits, SameSeat};
+ghost use Rattle.frame_table.specs.FrameSteps.{kept_view, split_view};
 
 use crate::plays::{Joined, Known, NewSeat};
 use crate::table::FrameTable;

@@ -2,8 +2,8 @@
 ghost use Rattle.std.specs.Prelude.{◌≡◌, ◌<◌, true, false};
 ghost use Rattle.table_rule.specs.Layout.{latch_place, word_count};
 ghost use Rattle.table_rule.specs.Shows.{HasTurn};
-ghost use Rattle.frame_table.specs.Sees.{CanTurn, SameSeat, frames_of};
-ghost use Rattle.frame_table.specs.Turning.{DidTurn, IsTurned, MayLeave, SameWork};
+ghost use Rattle.frame_table.specs.Seats.{CanTurn, SameSeat, frames_of};
+ghost use Rattle.frame_table.specs.Latches.{DidTurn, IsTurned, MayLeave, SameWork};
 
 use crate::plays::{AtTurn, LeaveTurn, TakeTurn};
 use crate::table::FrameTable;
@@ -13,7 +13,7 @@ use pin_core::View;
 use segment_store::BlockLane;
 use std::marker::Brand;
 use std::sync::Wait;
-use table_rule::{Turn, Value};
+use table_rule::{FIRST_LANE, LOG_PLACE, Turn, Value};
 
 impl<L: BlockLane, G: LogDevice> FrameTable<L, G> {
     /// The place of a latch's word.
@@ -23,8 +23,8 @@ impl<L: BlockLane, G: LogDevice> FrameTable<L, G> {
         let frames = 3 * self.config.frames as usize;
         match turn {
             Turn::Partition(partition) => frames + partition as usize,
-            Turn::Lane(lane) => frames + 128 + lane as usize,
-            Turn::Log => frames + 144,
+            Turn::Lane(lane) => frames + FIRST_LANE + lane as usize,
+            Turn::Log => frames + LOG_PLACE,
         }
     }
 

@@ -4,7 +4,7 @@ ghost use Rattle.atomic_table.specs.Table.{rest};
 ghost use Rattle.table_rule.specs.declared.value.Value.TheVariants as value;
 ghost use Rattle.table_rule.specs.Layout.{slot_of};
 ghost use Rattle.table_rule.specs.Shows.{devices};
-ghost use Rattle.frame_table.specs.Sees.{frames_of};
+ghost use Rattle.frame_table.specs.Seats.{frames_of};
 ghost use Rattle.frame_table.specs.Values.{CameBackAs, MayGoOut, MayReturnAs, WentOutAs};
 
 use crate::table::FrameTable;

@@ -5,7 +5,7 @@ ghost use Rattle.segment_store.specs.Contents.{Pages};
 ghost use Rattle.frame_table.specs.declared.log_words.EndLoad.{EndLoad};
 ghost use Rattle.frame_table.specs.declared.log_words.EndLoad.TheVariants.{Plain};
 ghost use Rattle.frame_table.specs.EndLoads.{tells_end_load};
-ghost use Rattle.frame_table.specs.Behind.{WordKind, tells_word, load_flushed, raise_flushed, load_hand, add_hand};
+ghost use Rattle.frame_table.specs.WordSteps.{WordKind, tells_word, load_flushed, raise_flushed, load_hand, add_hand};
 
 use atomic_table::Play;
 use pin_core::View;

@@ -12,7 +12,7 @@ use Rattle.grid.proofs.Lists.{at_end, put_at, put_else, put_same}
 use Rattle.pin_core.specs.Turns.{found}
 use Rattle.table_rule.specs.declared.value.Mapped.{Mapped}
 use Rattle.table_rule.specs.Shows.{AreApart, entry_of}
-use Rattle.frame_table.specs.Turning.{AreBelow}
+use Rattle.frame_table.specs.Latches.{AreBelow}
 use Rattle.frame_table.proofs.Fitting.{apart_head, apart_tail, found_below, found_here, found_else}
 
 -- whether an entry is of the tag, or of another one

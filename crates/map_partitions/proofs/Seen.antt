@@ -15,9 +15,9 @@ use Rattle.pin_core.specs.Tallies.{flag_weight}
 use Rattle.pin_core.specs.Turns.{found, map_out, owed_by}
 use Rattle.grid.proofs.Sums.{term_le}
 use Rattle.table_rule.specs.declared.turn.Turn.TheVariants.{Partition}
-use Rattle.frame_table.specs.Sees.{RemembersNoOther}
-use Rattle.frame_table.specs.Turning.{DidMap, DidTurn, IsTurned, MapStep, back_hold}
-use Rattle.map_partitions.specs.Partition.{Holds, entries_seen}
+use Rattle.frame_table.specs.Seats.{RemembersNoOther}
+use Rattle.frame_table.specs.Latches.{DidMap, DidTurn, IsTurned, MapStep, back_hold}
+use Rattle.map_partitions.specs.Partition.{HoldsLatch, entries_seen}
 
 -- the map that goes out is the one that the view has seen
 seen_was : (was entries : List MapEntry) (p : ℕ) (v w : View) → DidMap (map_out was) p v w → (hold v p).seen ≡ Some entries → found was ≡ found entries
@@ -28,7 +28,7 @@ pub seen_after : (was made entries : List MapEntry) (p : ℕ) (v u w : View) (ch
 seen_after was made entries p v u w change d back made_is seen = ap (λ (x : PartitionHold). found (unwrap_or x.seen [])) back.here ∙ made_is ∙ ap change (seen_was was entries p v u d seen)
 
 -- who takes a latch has nothing of it before
-pub holds_free : (p : ℕ) (v w : View) → DidTurn true (Partition p) v w → IsTurned true (Partition p) v w → Holds Settled w p
+pub holds_free : (p : ℕ) (v w : View) → DidTurn true (Partition p) v w → IsTurned true (Partition p) v w → HoldsLatch Settled w p
 holds_free p v w d turned = record {
   held = ap (λ (h : PartitionHold). h.held) turned.0;
   home = ap (λ (h : PartitionHold). h.out) turned.0 ∙ rests.0;
@@ -49,7 +49,7 @@ none_owed true c e = refl
 none_owed false c e = e
 
 -- the frame that the map gives then has the tag, so a pin there remembers no other
-pub remembers_no_other : (was : List MapEntry) (p tag f : ℕ) (v u : View) → DidMap (map_out was) p v u → Holds Settled v p → found was tag ≡ Some f → RemembersNoOther tag (link v f)
+pub remembers_no_other : (was : List MapEntry) (p tag f : ℕ) (v u : View) → DidMap (map_out was) p v u → HoldsLatch Settled v p → found was tag ≡ Some f → RemembersNoOther tag (link v f)
 remembers_no_other was p tag f v u d h gives other is = sym ((d.laws.invariant.pool.core.grid.cells d.seat v f d.there (d.laws.invariant.pool.core.maps.mapped p tag f at).inside).remembers other is).1 ∙ has_tag
   where
     at : (d.state.pool.core.partition p).map tag ≡ Some f
@@ -64,6 +64,6 @@ remembers_no_other was p tag f v u d h gives other is = sym ((d.laws.invariant.p
     has_tag : (d.state.pool.core.frame f).tag ≡ tag
     has_tag = dite (ℕ_discrete (d.state.pool.core.frame f).tag tag) (λ e. e) (λ n. absurd (let no : Settled ≡ Leaving tag f = sym owed ∙ law.found at n in cc))
 
-pub found_remembers : (r : Option ℕ) (was : List MapEntry) (p tag : ℕ) (v u w : View) → DidMap (map_out was) p v u → Holds Settled v p → r ≡ found was tag → w.links ≡ v.links → IfSome r (λ f. RemembersNoOther tag (link w f))
+pub found_remembers : (r : Option ℕ) (was : List MapEntry) (p tag : ℕ) (v u w : View) → DidMap (map_out was) p v u → HoldsLatch Settled v p → r ≡ found was tag → w.links ≡ v.links → IfSome r (λ f. RemembersNoOther tag (link w f))
 found_remembers None was p tag v u w d h e same = tt
 found_remembers (Some f) was p tag v u w d h e same = subst (λ (l : List Link). RemembersNoOther tag (slice_index_or l f idle)) (sym same) (remembers_no_other was p tag f v u d h (sym e))

@@ -2,9 +2,9 @@
 ghost use Rattle.std.specs.Prelude.{true, false};
 ghost use Rattle.pin_core.specs.declared.view.MapChange.TheVariants.{Settled};
 ghost use Rattle.table_rule.specs.declared.turn.Turn.TheVariants.{Partition};
-ghost use Rattle.frame_table.specs.Sees.{CanTurn, SameSeat};
-ghost use Rattle.frame_table.specs.Turning.{DidTurn, IsTurned, MayLeave, SameWork};
-ghost use Rattle.map_partitions.specs.Partition.{Holds};
+ghost use Rattle.frame_table.specs.Seats.{CanTurn, SameSeat};
+ghost use Rattle.frame_table.specs.Latches.{DidTurn, IsTurned, MayLeave, SameWork};
+ghost use Rattle.map_partitions.specs.Partition.{HoldsLatch};
 
 use atomic_table::Seat;
 use frame_table::FrameTable;
@@ -25,7 +25,7 @@ pub fn take_turn<L: BlockLane, G: LogDevice, R: Wait>(
     ensures seat { SameSeat seat.old seat.new }
     ensures work { SameWork seat.old.me.0 seat.new.me.0 }
     ensures turned { IsTurned true (Partition partition) seat.old.me.0 seat.new.me.0 }
-    ensures holds { Holds Settled seat.new.me.0 partition }
+    ensures holds { HoldsLatch Settled seat.new.me.0 partition }
     ensures did { DidTurn true (Partition partition) seat.old.me.0 seat.new.me.0 }
 {
     table.take_turn(rt, seat, Turn::Partition(partition));

@@ -11,7 +11,7 @@ use Rattle.table_rule.specs.declared.noted_lane.NotedLane.{NotedLane}
 use Rattle.table_rule.specs.declared.noted_log.NotedLog.{NotedLog}
 use Rattle.table_rule.specs.declared.value.Value.{Value}
 use Rattle.table_rule.specs.declared.value.Value.TheVariants as value
-use Rattle.table_rule.specs.Laid.{lanes_in, IsPlain, EndsWith}
+use Rattle.table_rule.specs.Laid.{lanes_among, HasNoDevices, EndsWith}
 use Rattle.table_rule.proofs.Laying.{lanes_append, plain_left, plain_right, took_plain, took_lane, lane_room, lanes_before, snoc_same}
 use Rattle.table_rule.proofs.Opens.{left_at, right_at, length_low}
 
@@ -56,18 +56,18 @@ module _ {L G : Type 0} where
     pub within : i ≤ length xs
     pub full : (k : ℕ) → k < i → get_or filled k false ≡ true
     pub empty : (k : ℕ) → i ≤ k → get_or filled k false ≡ false
-    pub done : lanes_in (take i xs) ++ reverse lanes ≡ lanes_in xs
-    pub plain : IsPlain (take i xs)
+    pub done : lanes_among (take i xs) ++ reverse lanes ≡ lanes_among xs
+    pub plain : HasNoDevices (take i xs)
 
   module _ (xs : List (Value L G)) (filled : List Bool) (i : ℕ) (lanes : List L) (y : Value L G) (at : get_elem? xs i ≡ some y) (h : Left xs filled (i + 1) lanes) where
-    pub left_plain : lanes_in (y ∷ []) ≡ [] → Left xs (set filled i false) i lanes
+    pub left_plain : lanes_among (y ∷ []) ≡ [] → Left xs (set filled i false) i lanes
     left_plain none = let s = one_more filled (length xs) i h.wide (let b = h.within in omega arith) h.full h.empty in record {
       wide = length_set filled i false ∙ h.wide;
       within = (let b = h.within in omega arith);
       full = s.0;
       empty = s.1;
-      done = took_plain (take (i + 1) xs) (take i xs) y (reverse lanes) (lanes_in xs) (take_more xs i (i + 1) y refl at) none h.done;
-      plain = plain_left (take i xs) (y ∷ []) (subst IsPlain (take_more xs i (i + 1) y refl at) h.plain);
+      done = took_plain (take (i + 1) xs) (take i xs) y (reverse lanes) (lanes_among xs) (take_more xs i (i + 1) y refl at) none h.done;
+      plain = plain_left (take i xs) (y ∷ []) (subst HasNoDevices (take_more xs i (i + 1) y refl at) h.plain);
     }
 
     pub left_lane : (l : NotedLane L) → y ≡ value.Lane l → Left xs (set filled i false) i (lanes ++ l.device ∷ [])
@@ -76,22 +76,22 @@ module _ {L G : Type 0} where
       within = (let b = h.within in omega arith);
       full = s.0;
       empty = s.1;
-      done = took_lane (take (i + 1) xs) (take i xs) l lanes (lanes_in xs) (take_more xs i (i + 1) y refl at ∙ ap (λ (z : Value L G). take i xs ++ z ∷ []) is) h.done;
-      plain = plain_left (take i xs) (y ∷ []) (subst IsPlain (take_more xs i (i + 1) y refl at) h.plain);
+      done = took_lane (take (i + 1) xs) (take i xs) l lanes (lanes_among xs) (take_more xs i (i + 1) y refl at ∙ ap (λ (z : Value L G). take i xs ++ z ∷ []) is) h.done;
+      plain = plain_left (take i xs) (y ∷ []) (subst HasNoDevices (take_more xs i (i + 1) y refl at) h.plain);
     }
 
     -- there is room for it, where there was for all
-    pub left_room : (l : NotedLane L) → y ≡ value.Lane l → length lanes < length (lanes_in xs)
-    left_room l is = lane_room (take (i + 1) xs) (take i xs) l lanes (lanes_in xs) (take_more xs i (i + 1) y refl at ∙ ap (λ (z : Value L G). take i xs ++ z ∷ []) is) h.done
+    pub left_room : (l : NotedLane L) → y ≡ value.Lane l → length lanes < length (lanes_among xs)
+    left_room l is = lane_room (take (i + 1) xs) (take i xs) l lanes (lanes_among xs) (take_more xs i (i + 1) y refl at ∙ ap (λ (z : Value L G). take i xs ++ z ∷ []) is) h.done
 
     -- it is neither the log nor the list
     pub left_log : (g : NotedLog G) → y ≡ value.Log g → ⊥
-    unfolding IsPlain
-    left_log g is = plain_right (take i xs) (value.Log g ∷ []) (subst IsPlain (take_more xs i (i + 1) y refl at ∙ ap (λ (z : Value L G). take i xs ++ z ∷ []) is) h.plain)
+    unfolding HasNoDevices
+    left_log g is = plain_right (take i xs) (value.Log g ∷ []) (subst HasNoDevices (take_more xs i (i + 1) y refl at ∙ ap (λ (z : Value L G). take i xs ++ z ∷ []) is) h.plain)
 
     pub left_list : (v : Vec L Global) → y ≡ value.Lanes v → ⊥
-    unfolding IsPlain
-    left_list v is = plain_right (take i xs) (value.Lanes v ∷ []) (subst IsPlain (take_more xs i (i + 1) y refl at ∙ ap (λ (z : Value L G). take i xs ++ z ∷ []) is) h.plain)
+    unfolding HasNoDevices
+    left_list v is = plain_right (take i xs) (value.Lanes v ∷ []) (subst HasNoDevices (take_more xs i (i + 1) y refl at ∙ ap (λ (z : Value L G). take i xs ++ z ∷ []) is) h.plain)
 
   -- a slot behind the others
   module _ (xs : List (Value L G)) (g : NotedLog G) (list : Vec L Global) (ends : EndsWith g list xs) where
@@ -118,8 +118,8 @@ module _ {L G : Type 0} where
       full = λ k low. get_or-set_other (set filled (m + 1) false) m k false false (λ e. absurd (omega arith)) ∙ get_or-set_other filled (m + 1) k false false (λ e. absurd (omega arith)) ∙ full k (omega arith);
       empty = λ k high. dite (ℕ_discrete k m) (λ e. ap (λ (x : ℕ). get_or (set (set filled (m + 1) false) m false) x false) e ∙ get_or-set_same (set filled (m + 1) false) m false false (let z = length_set filled (m + 1) false in omega arith))
           (λ n. get_or-set_other (set filled (m + 1) false) m k false false n ∙ dite (ℕ_discrete k (m + 1)) (λ e. ap (λ (x : ℕ). get_or (set filled (m + 1) false) x false) e ∙ get_or-set_same filled (m + 1) false false (omega arith)) (λ o. get_or-set_other filled (m + 1) k false false o ∙ beyond filled k (omega arith)));
-      done = ap (λ (l : List L). lanes_in (take m xs) ++ reverse l) none ∙ append-nil (lanes_in (take m xs)) ∙ ap lanes_in others_are ∙ lanes_before xs ends.others g list ends.is;
-      plain = subst IsPlain (sym others_are) ends.plain;
+      done = ap (λ (l : List L). lanes_among (take m xs) ++ reverse l) none ∙ append-nil (lanes_among (take m xs)) ∙ ap lanes_among others_are ∙ lanes_before xs ends.others g list ends.is;
+      plain = subst HasNoDevices (sym others_are) ends.plain;
     }
       where
         beyond : (l : List Bool) (k : ℕ) → length l ≤ k → get_or l k false ≡ false
@@ -135,13 +135,13 @@ module _ {L G : Type 0} (xs zs : List (Value L G)) (filled : List Bool) (i : ℕ
   abbrev before : Left xs filled (i - 1 + 1) lanes
   before = subst (λ (k : ℕ). Left xs filled k lanes) {x = i} {y = i - 1 + 1} (omega arith) h
 
-  pub took_other : (filled' : List Bool) → filled' ≡ set filled (i - 1) false → lanes_in (y ∷ []) ≡ [] → Left xs filled' (i - 1) lanes
+  pub took_other : (filled' : List Bool) → filled' ≡ set filled (i - 1) false → lanes_among (y ∷ []) ≡ [] → Left xs filled' (i - 1) lanes
   took_other filled' is none = subst (λ (f : List Bool). Left xs f (i - 1) lanes) (sym is) (left_plain xs filled (i - 1) lanes y here before none)
 
   pub took_one : (filled' : List Bool) (l : NotedLane L) (more : List L) → filled' ≡ set filled (i - 1) false → y ≡ value.Lane l → more ≡ lanes ++ l.device ∷ [] → Left xs filled' (i - 1) more
   took_one filled' l more is lane all = subst (Left xs filled' (i - 1)) (sym all) (subst (λ (f : List Bool). Left xs f (i - 1) (lanes ++ l.device ∷ [])) (sym is) (left_lane xs filled (i - 1) lanes y here before l lane))
 
-  pub one_fits : (l : NotedLane L) → y ≡ value.Lane l → length lanes < length (lanes_in xs)
+  pub one_fits : (l : NotedLane L) → y ≡ value.Lane l → length lanes < length (lanes_among xs)
   one_fits l lane = left_room xs filled (i - 1) lanes y here before l lane
 
   pub no_log : (g : NotedLog G) → y ≡ value.Log g → ⊥
@@ -171,15 +171,15 @@ module _ {L G : Type 0} where
   log_in g (value.Log h) = h
   log_in g _ = g
 
-  pub list_room : (list l : Vec L Global) (xs : List (Value L G)) (y : Value L G) → y ≡ value.Lanes list → y ≡ value.Lanes l → list.items ≡ [] → length (lanes_in xs) ≤ vec_capacity list → (l.items ≡ []) × (length (lanes_in xs) ≤ vec_capacity l)
-  list_room list l xs y a b none room = let same : list ≡ l = ap (list_in list) (sym a ∙ b) in (subst (λ (v : Vec L Global). v.items ≡ []) same none, subst (λ (v : Vec L Global). length (lanes_in xs) ≤ vec_capacity v) same room)
+  pub list_room : (list l : Vec L Global) (xs : List (Value L G)) (y : Value L G) → y ≡ value.Lanes list → y ≡ value.Lanes l → list.items ≡ [] → length (lanes_among xs) ≤ vec_capacity list → (l.items ≡ []) × (length (lanes_among xs) ≤ vec_capacity l)
+  list_room list l xs y a b none room = let same : list ≡ l = ap (list_in list) (sym a ∙ b) in (subst (λ (v : Vec L Global). v.items ≡ []) same none, subst (λ (v : Vec L Global). length (lanes_among xs) ≤ vec_capacity v) same room)
 
   pub log_same : (g h : NotedLog G) (y : Value L G) → y ≡ value.Log g → y ≡ value.Log h → h.device ≡ g.device
   log_same g h y a b = ap (λ (x : NotedLog G). x.device) (ap (log_in g) (sym b ∙ a))
 
   -- once none are left
-  pub all_left : (xs : List (Value L G)) (filled : List Bool) (i : ℕ) (lanes : List L) → Left xs filled i lanes → i ≡ 0 → reverse lanes ≡ lanes_in xs
-  unfolding lanes_in
+  pub all_left : (xs : List (Value L G)) (filled : List Bool) (i : ℕ) (lanes : List L) → Left xs filled i lanes → i ≡ 0 → reverse lanes ≡ lanes_among xs
+  unfolding lanes_among
   all_left xs filled zero lanes h e = h.done
   all_left xs filled (suc i) lanes h e = absurd (omega arith)
 
@@ -196,14 +196,14 @@ module _ {A : Type 0} where
   pub two_last : (l : List A) (m : ℕ) (a b : A) → length l ≡ m + 2 → get_elem? l m ≡ some a → get_elem? l (m + 1) ≡ some b → l ≡ (take m l ++ a ∷ []) ++ b ∷ []
   two_last l m a b long first second = sym (take_all (m + 2) l (omega arith)) ∙ take_more l (m + 1) (m + 2) b (omega arith) second ∙ ap (λ (z : List A). z ++ b ∷ []) (take_more l m (m + 1) a refl first)
 
-none_there : (L G : Type 0) → length (lanes_in {L = L} {G = G} []) ≡ 0
-unfolding lanes_in
+none_there : (L G : Type 0) → length (lanes_among {L = L} {G = G} []) ≡ 0
+unfolding lanes_among
 none_there L G = refl
 
 module _ {L G : Type 0} where
   -- values are plain where each is
-  pub plain_each : (l : List (Value L G)) → ((i : ℕ) (y : Value L G) → get_elem? l i ≡ some y → IsPlain (y ∷ [])) → IsPlain l
-  unfolding IsPlain
+  pub plain_each : (l : List (Value L G)) → ((i : ℕ) (y : Value L G) → get_elem? l i ≡ some y → HasNoDevices (y ∷ [])) → HasNoDevices l
+  unfolding HasNoDevices
   plain_each [] h = tt
   plain_each (value.Page p ∷ l) h = plain_each l (λ i y e. h (suc i) y e)
   plain_each (value.Map m ∷ l) h = plain_each l (λ i y e. h (suc i) y e)
@@ -214,45 +214,45 @@ module _ {L G : Type 0} where
 
   -- The values from a on, so many, are lanes, and no others
   pub record LanesAt (a k : ℕ) (l : List (Value L G)) : Type 0 where
-    pub before : (i : ℕ) (y : Value L G) → get_elem? l i ≡ some y → i < a → lanes_in (y ∷ []) ≡ []
+    pub before : (i : ℕ) (y : Value L G) → get_elem? l i ≡ some y → i < a → lanes_among (y ∷ []) ≡ []
     pub there : (q i : ℕ) (y : Value L G) → i ≡ a + q → q < k → get_elem? l i ≡ some y → (v : NotedLane L) × (y ≡ value.Lane v)
-    pub behind : (i : ℕ) (y : Value L G) → get_elem? l i ≡ some y → a + k ≤ i → lanes_in (y ∷ []) ≡ []
+    pub behind : (i : ℕ) (y : Value L G) → get_elem? l i ≡ some y → a + k ≤ i → lanes_among (y ∷ []) ≡ []
     pub long : a + k ≤ length l
 
   -- and so the lanes among them are those
   pub record AreThose (a k : ℕ) (l : List (Value L G)) : Type 0 where
-    pub counted : length (lanes_in l) ≡ k
-    pub each : (q i : ℕ) (v : NotedLane L) → i ≡ a + q → q < k → get_elem? l i ≡ some (value.Lane v) → get_elem? (lanes_in l) q ≡ some v.device
+    pub counted : length (lanes_among l) ≡ k
+    pub each : (q i : ℕ) (v : NotedLane L) → i ≡ a + q → q < k → get_elem? l i ≡ some (value.Lane v) → get_elem? (lanes_among l) q ≡ some v.device
 
-  no_lane : (y : Value L G) (l : List (Value L G)) → lanes_in (y ∷ []) ≡ [] → lanes_in (y ∷ l) ≡ lanes_in l
-  no_lane y l e = lanes_append (y ∷ []) l ∙ ap (λ (z : List L). z ++ lanes_in l) e
+  no_lane : (y : Value L G) (l : List (Value L G)) → lanes_among (y ∷ []) ≡ [] → lanes_among (y ∷ l) ≡ lanes_among l
+  no_lane y l e = lanes_append (y ∷ []) l ∙ ap (λ (z : List L). z ++ lanes_among l) e
 
-  a_lane : (v : NotedLane L) (y : Value L G) (l : List (Value L G)) → y ≡ value.Lane v → lanes_in (y ∷ l) ≡ v.device ∷ lanes_in l
-  unfolding lanes_in
-  a_lane v y l e = ap (λ (z : Value L G). lanes_in (z ∷ l)) e
+  a_lane : (v : NotedLane L) (y : Value L G) (l : List (Value L G)) → y ≡ value.Lane v → lanes_among (y ∷ l) ≡ v.device ∷ lanes_among l
+  unfolding lanes_among
+  a_lane v y l e = ap (λ (z : Value L G). lanes_among (z ∷ l)) e
 
   abbrev lane_of : NotedLane L → Value L G → NotedLane L
   lane_of v (value.Lane w) = w
   lane_of v _ = v
 
   -- one more value before them, one more of them, and one more behind them
-  those_before : (y : Value L G) (l : List (Value L G)) (a k : ℕ) → lanes_in (y ∷ []) ≡ [] → AreThose a k l → AreThose (suc a) k (y ∷ l)
+  those_before : (y : Value L G) (l : List (Value L G)) (a k : ℕ) → lanes_among (y ∷ []) ≡ [] → AreThose a k l → AreThose (suc a) k (y ∷ l)
   those_before y l a k none h = record { counted = ap (λ (z : List L). length z) (no_lane y l none) ∙ h.counted; each = λ q i v is low e. ap (λ (z : List L). get_elem? z q) (no_lane y l none) ∙ moved q i v is low e }
     where
-      moved : (q i : ℕ) (v : NotedLane L) → i ≡ suc a + q → q < k → get_elem? (y ∷ l) i ≡ some (value.Lane v) → get_elem? (lanes_in l) q ≡ some v.device
+      moved : (q i : ℕ) (v : NotedLane L) → i ≡ suc a + q → q < k → get_elem? (y ∷ l) i ≡ some (value.Lane v) → get_elem? (lanes_among l) q ≡ some v.device
       moved q zero v is low e = absurd (omega arith)
       moved q (suc j) v is low e = h.each q j v (omega arith) low e
 
   those_lane : (y : Value L G) (l : List (Value L G)) (k : ℕ) (w : NotedLane L) → y ≡ value.Lane w → AreThose 0 k l → AreThose 0 (suc k) (y ∷ l)
   those_lane y l k w lane h = record { counted = ap (λ (z : List L). length z) (a_lane w y l lane) ∙ (let b = h.counted in omega arith); each = λ q i v is low e. ap (λ (z : List L). get_elem? z q) (a_lane w y l lane) ∙ moved q i v is low e }
     where
-      moved : (q i : ℕ) (v : NotedLane L) → i ≡ 0 + q → q < suc k → get_elem? (y ∷ l) i ≡ some (value.Lane v) → get_elem? (w.device ∷ lanes_in l) q ≡ some v.device
+      moved : (q i : ℕ) (v : NotedLane L) → i ≡ 0 + q → q < suc k → get_elem? (y ∷ l) i ≡ some (value.Lane v) → get_elem? (w.device ∷ lanes_among l) q ≡ some v.device
       moved zero zero v is low e = ap (λ (x : NotedLane L). some x.device) (ap (lane_of w) (sym lane ∙ some-injective y (value.Lane v) e))
       moved zero (suc j) v is low e = absurd (omega arith)
       moved (suc q) zero v is low e = absurd (omega arith)
       moved (suc q) (suc j) v is low e = h.each q j v (omega arith) (omega arith) e
 
-  those_behind : (y : Value L G) (l : List (Value L G)) → lanes_in (y ∷ []) ≡ [] → AreThose 0 0 l → AreThose 0 0 (y ∷ l)
+  those_behind : (y : Value L G) (l : List (Value L G)) → lanes_among (y ∷ []) ≡ [] → AreThose 0 0 l → AreThose 0 0 (y ∷ l)
   those_behind y l none h = record { counted = ap (λ (z : List L). length z) (no_lane y l none) ∙ h.counted; each = λ q i v is low e. absurd (omega arith) }
 
   pub are_those : (l : List (Value L G)) (a k : ℕ) → LanesAt a k l → AreThose a k l
@@ -285,8 +285,8 @@ module _ {L G : Type 0} where
   IsOther (value.Lanes l) = ⊥
   IsOther value.Away = Unit {0}
 
-  pub other_plain : (y : Value L G) → IsOther y → IsPlain (y ∷ [])
-  unfolding IsPlain
+  pub other_plain : (y : Value L G) → IsOther y → HasNoDevices (y ∷ [])
+  unfolding HasNoDevices
   other_plain (value.Page p) h = tt
   other_plain (value.Map m) h = tt
   other_plain (value.Lane l) h = absurd h
@@ -294,8 +294,8 @@ module _ {L G : Type 0} where
   other_plain (value.Lanes l) h = absurd h
   other_plain value.Away h = tt
 
-  pub other_lanes : (y : Value L G) → IsOther y → lanes_in (y ∷ []) ≡ []
-  unfolding lanes_in
+  pub other_lanes : (y : Value L G) → IsOther y → lanes_among (y ∷ []) ≡ []
+  unfolding lanes_among
   other_lanes (value.Page p) h = refl
   other_lanes (value.Map m) h = refl
   other_lanes (value.Lane l) h = absurd h
@@ -304,16 +304,16 @@ module _ {L G : Type 0} where
   other_lanes value.Away h = refl
 
 -- a lane is plain, and neither the log nor the list is a lane
-pub lane_plain : (L G : Type 0) (l : NotedLane L) → IsPlain {L = L} {G = G} (value.Lane l ∷ [])
-unfolding IsPlain
+pub lane_plain : (L G : Type 0) (l : NotedLane L) → HasNoDevices {L = L} {G = G} (value.Lane l ∷ [])
+unfolding HasNoDevices
 lane_plain L G l = tt
 
-pub log_lanes : (L G : Type 0) (g : NotedLog G) → lanes_in {L = L} {G = G} (value.Log g ∷ []) ≡ []
-unfolding lanes_in
+pub log_lanes : (L G : Type 0) (g : NotedLog G) → lanes_among {L = L} {G = G} (value.Log g ∷ []) ≡ []
+unfolding lanes_among
 log_lanes L G g = refl
 
-pub list_lanes : (L G : Type 0) (l : Vec L Global) → lanes_in {L = L} {G = G} (value.Lanes l ∷ []) ≡ []
-unfolding lanes_in
+pub list_lanes : (L G : Type 0) (l : Vec L Global) → lanes_among {L = L} {G = G} (value.Lanes l ∷ []) ≡ []
+unfolding lanes_among
 list_lanes L G l = refl
 
 -- values end with one log

@@ -18,7 +18,7 @@ use Rattle.history_core.specs.State.{Lane}
 use Rattle.history_core.specs.Lanes.{IsBlockPage, CanTakeOut}
 use Rattle.table_rule.specs.Shows.{Devices, IsLane, IsPlaced}
 use Rattle.table_rule.specs.LaneCalls.{HoldsTheSame, TookPage, TorePage}
-use Rattle.table_rule.specs.TakenLanes.{IsBlockOf, blocks_in, page_named, mark_named, block_page, page_held, pages_of, taken_of, HoldsBlocks, lanes_of}
+use Rattle.table_rule.specs.TakenLanes.{IsBlockOf, blocks_in, page_named, mark_named, block_page, page_held, block_pages, taken_lane, HoldsBlocks, lane_devices_of}
 use Rattle.table_rule.proofs.Tags.{packed_is, unpacked_is}
 use Rattle.table_rule.proofs.TakenBlocks.{block_listed, block_placed}
 
@@ -47,10 +47,10 @@ module _ {L G : Type 0} (d : Devices L G) (relations : List RelEntry) (lanes q :
   pub block_number : (tag : Tag) → IsBlockOf relations lanes q tag → IsPlaced relations lanes q (packed_tag tag) tag
   block_number tag h = record { named = packed_is tag h.named; listed = h.listed; placed = h.placed }
 
-  pub holds_blocks : (l : L) (ln : Lane) → IsLane d relations lanes q l ln → HoldsBlocks (lanes_of d) relations lanes q l
+  pub holds_blocks : (l : L) (ln : Lane) → IsLane d relations lanes q l ln → HoldsBlocks (lane_devices_of d) relations lanes q l
   holds_blocks l ln is tag block known told = ap (λ (x : Option Page). is_some x) (is.pages known (packed_tag tag) tag told (block_number tag block))
 
-  pub can_go_out : (l : L) (ln : Lane) (h : LaneHold) → IsLane d relations lanes q l ln → h.held ≡ true → h.out ≡ None → CanTakeOut (taken_of (lanes_of d) relations lanes q l) ln h
+  pub can_go_out : (l : L) (ln : Lane) (h : LaneHold) → IsLane d relations lanes q l ln → h.held ≡ true → h.out ≡ None → CanTakeOut (taken_lane (lane_devices_of d) relations lanes q l) ln h
   can_go_out l ln h is held home = record { held = held; home = home; reads = sym is.reads; writes = sym is.writes; pages = λ blocks k b told at. of_contents (d.contents l) refl blocks k b told at }
     where
       of_block : (known : Pages) (word : ℕ) (tag : Tag) → d.contents l ≡ Some known → IsPlaced relations lanes q word tag → IsBlockPage ln (block_page known (d.failed_writes l) word)
@@ -59,14 +59,14 @@ module _ {L G : Type 0} (d : Devices L G) (relations : List RelEntry) (lanes q :
         failed = is.failed known word tag told placed ∙ sym (ap (mark_named (d.failed_writes l)) placed.named);
       }
 
-      of_contents : (c : Option Pages) → d.contents l ≡ c → (blocks : List BlockPage) (k : ℕ) (b : BlockPage) → pages_of (blocks_in relations lanes q) c (d.failed_writes l) ≡ Some blocks → get_elem? blocks k ≡ some b → IsBlockPage ln b
+      of_contents : (c : Option Pages) → d.contents l ≡ c → (blocks : List BlockPage) (k : ℕ) (b : BlockPage) → block_pages (blocks_in relations lanes q) c (d.failed_writes l) ≡ Some blocks → get_elem? blocks k ≡ some b → IsBlockPage ln b
       of_contents None e blocks k b told at = absurd (let no : None ≡ Some blocks = told in cc)
       of_contents (Some known) e blocks k b told at = let found = map_at (block_page known (d.failed_writes l)) (blocks_in relations lanes q) k b (ap (λ (l : List BlockPage). get_elem? l k) (same_Some _ _ told) ∙ at) in
           let placed = block_placed relations lanes q k found.0 found.1 in subst (IsBlockPage ln) found.2 (of_block known found.0 placed.0 e placed.1)
 
   -- the state has the lane as it was, where its blocks and its counts are what was noted as it went out
-  pub still_is : (l : L) (ln : Lane) → HoldsBlocks (lanes_of d) relations lanes q l → ln.known ≡ is_some (d.contents l) → ln.read_faults ≡ d.read_faults l → ln.write_faults ≡ d.write_faults l
-      → ((blocks : List BlockPage) (k : ℕ) (b : BlockPage) → (taken_of (lanes_of d) relations lanes q l).pages ≡ Some blocks → get_elem? blocks k ≡ some b → IsBlockPage ln b) → IsLane d relations lanes q l ln
+  pub still_is : (l : L) (ln : Lane) → HoldsBlocks (lane_devices_of d) relations lanes q l → ln.known ≡ is_some (d.contents l) → ln.read_faults ≡ d.read_faults l → ln.write_faults ≡ d.write_faults l
+      → ((blocks : List BlockPage) (k : ℕ) (b : BlockPage) → (taken_lane (lane_devices_of d) relations lanes q l).pages ≡ Some blocks → get_elem? blocks k ≡ some b → IsBlockPage ln b) → IsLane d relations lanes q l ln
   still_is l ln holds known reads writes blocks = record {
     known = known;
     pages = λ pages word tag told placed. let b = of_block pages word tag told placed in
@@ -78,11 +78,11 @@ module _ {L G : Type 0} (d : Devices L G) (relations : List RelEntry) (lanes q :
     where
       of_block : (pages : Pages) (word : ℕ) (tag : Tag) → d.contents l ≡ Some pages → IsPlaced relations lanes q word tag → IsBlockPage ln (block_page pages (d.failed_writes l) word)
       of_block pages word tag told placed = let listed = block_listed relations lanes q word tag placed in
-          blocks (map (block_page pages (d.failed_writes l)) (blocks_in relations lanes q)) listed.0 (block_page pages (d.failed_writes l) word) (ap (λ (c : Option Pages). pages_of (blocks_in relations lanes q) c (d.failed_writes l)) told) (at_map (block_page pages (d.failed_writes l)) (blocks_in relations lanes q) listed.0 word listed.1)
+          blocks (map (block_page pages (d.failed_writes l)) (blocks_in relations lanes q)) listed.0 (block_page pages (d.failed_writes l) word) (ap (λ (c : Option Pages). block_pages (blocks_in relations lanes q) c (d.failed_writes l)) told) (at_map (block_page pages (d.failed_writes l)) (blocks_in relations lanes q) listed.0 word listed.1)
 
   module _ (before after : L) (ln ln' : Lane) (is : IsLane d relations lanes q before ln) (known : ln'.known ≡ ln.known) (reads : ln'.read_faults ≡ d.read_faults after) (writes : ln'.write_faults ≡ d.write_faults after) where
     -- after a call that leaves the blocks
-    pub kept_lane : HoldsTheSame (lanes_of d) before after → ln'.stored ≡ ln.stored → ln'.failed ≡ ln.failed → IsLane d relations lanes q after ln'
+    pub kept_lane : HoldsTheSame (lane_devices_of d) before after → ln'.stored ≡ ln.stored → ln'.failed ≡ ln.failed → IsLane d relations lanes q after ln'
     kept_lane same stored failed = record {
       known = known ∙ is.known ∙ ap (λ (c : Option Pages). is_some c) (sym same.contents);
       pages = λ pages word tag told placed. is.pages pages word tag (sym same.contents ∙ told) placed ∙ ap (λ (g : ℕ → Page). Some (g word)) (sym stored);
@@ -128,10 +128,10 @@ module _ {L G : Type 0} (d : Devices L G) (relations : List RelEntry) (lanes q :
                 by_test true = refl
                 by_test false = refl
 
-    pub took_page : (tag : Tag) (page : Page) → IsBlockOf relations lanes q tag → TookPage (lanes_of d) tag page before after → ln'.stored ≡ put ln.stored (packed_tag tag) page → ln'.failed ≡ put ln.failed (packed_tag tag) false → IsLane d relations lanes q after ln'
+    pub took_page : (tag : Tag) (page : Page) → IsBlockOf relations lanes q tag → TookPage (lane_devices_of d) tag page before after → ln'.stored ≡ put ln.stored (packed_tag tag) page → ln'.failed ≡ put ln.failed (packed_tag tag) false → IsLane d relations lanes q after ln'
     took_page tag page block took stored failed = written_lane tag page false block took.unknown (λ pages told. (took.pages pages told, took.failed pages told)) stored failed
 
-    pub tore_page : (tag : Tag) (page : Page) → IsBlockOf relations lanes q tag → TorePage (lanes_of d) tag before after → ln'.stored ≡ put ln.stored (packed_tag tag) (page_held (d.contents after) tag page) → ln'.failed ≡ put ln.failed (packed_tag tag) true → IsLane d relations lanes q after ln'
+    pub tore_page : (tag : Tag) (page : Page) → IsBlockOf relations lanes q tag → TorePage (lane_devices_of d) tag before after → ln'.stored ≡ put ln.stored (packed_tag tag) (page_held (d.contents after) tag page) → ln'.failed ≡ put ln.failed (packed_tag tag) true → IsLane d relations lanes q after ln'
     tore_page tag page block tore stored failed = written_lane tag (page_held (d.contents after) tag page) true block tore.unknown (λ pages told. (of_after pages (d.contents after) (tore.pages pages told), tore.failed pages told)) stored failed
       where
         of_after : (pages : Pages) (c : Option Pages) → IsSomeAnd c (IsTorn tag pages) → c ≡ Some (with_page tag (page_held c tag page) pages)

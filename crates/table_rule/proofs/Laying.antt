@@ -17,7 +17,7 @@ use Rattle.table_rule.specs.declared.value.Mapped.{Mapped}
 use Rattle.table_rule.specs.declared.noted_lane.NotedLane.{NotedLane}
 use Rattle.table_rule.specs.declared.noted_log.NotedLog.{NotedLog}
 use Rattle.table_rule.specs.Shows.{GivesMap, entry_of}
-use Rattle.table_rule.specs.Laid.{AreBlank, AreFresh, AreMaps, AddsMaps, home_lane, zero_page, lanes_in, EndsWith, IsPlain}
+use Rattle.table_rule.specs.Laid.{AreBlank, AreFresh, AreMaps, AddsMaps, home_lane, zero_page, lanes_among, EndsWith, HasNoDevices}
 
 pub blank_none : AreBlank [] 0
 blank_none = record { wide = refl; states = λ f h. absurd (omega arith); tags = λ f h. absurd (omega arith); contents = λ f h. absurd (omega arith) }
@@ -51,8 +51,8 @@ module _ {L G : Type 0} where
   }
 
   -- lanes and logs of two lists
-  pub lanes_append : (xs ys : List (Value L G)) → lanes_in (xs ++ ys) ≡ lanes_in xs ++ lanes_in ys
-  unfolding lanes_in
+  pub lanes_append : (xs ys : List (Value L G)) → lanes_among (xs ++ ys) ≡ lanes_among xs ++ lanes_among ys
+  unfolding lanes_among
   lanes_append [] ys = refl
   lanes_append (value.Page p ∷ xs) ys = lanes_append xs ys
   lanes_append (value.Map m ∷ xs) ys = lanes_append xs ys
@@ -61,8 +61,8 @@ module _ {L G : Type 0} where
   lanes_append (value.Lanes l ∷ xs) ys = lanes_append xs ys
   lanes_append (value.Away ∷ xs) ys = lanes_append xs ys
 
-  pub plain_left : (xs ys : List (Value L G)) → IsPlain (xs ++ ys) → IsPlain xs
-  unfolding IsPlain
+  pub plain_left : (xs ys : List (Value L G)) → HasNoDevices (xs ++ ys) → HasNoDevices xs
+  unfolding HasNoDevices
   plain_left [] ys h = tt
   plain_left (value.Page p ∷ xs) ys h = plain_left xs ys h
   plain_left (value.Map m ∷ xs) ys h = plain_left xs ys h
@@ -71,8 +71,8 @@ module _ {L G : Type 0} where
   plain_left (value.Lanes l ∷ xs) ys h = absurd h
   plain_left (value.Away ∷ xs) ys h = plain_left xs ys h
 
-  pub plain_right : (xs ys : List (Value L G)) → IsPlain (xs ++ ys) → IsPlain ys
-  unfolding IsPlain
+  pub plain_right : (xs ys : List (Value L G)) → HasNoDevices (xs ++ ys) → HasNoDevices ys
+  unfolding HasNoDevices
   plain_right [] ys h = h
   plain_right (value.Page p ∷ xs) ys h = plain_right xs ys h
   plain_right (value.Map m ∷ xs) ys h = plain_right xs ys h
@@ -81,8 +81,8 @@ module _ {L G : Type 0} where
   plain_right (value.Lanes l ∷ xs) ys h = absurd h
   plain_right (value.Away ∷ xs) ys h = plain_right xs ys h
 
-  pub plain_both : (xs ys : List (Value L G)) → IsPlain xs → IsPlain ys → IsPlain (xs ++ ys)
-  unfolding IsPlain
+  pub plain_both : (xs ys : List (Value L G)) → HasNoDevices xs → HasNoDevices ys → HasNoDevices (xs ++ ys)
+  unfolding HasNoDevices
   plain_both [] ys h k = k
   plain_both (value.Page p ∷ xs) ys h k = plain_both xs ys h k
   plain_both (value.Map m ∷ xs) ys h k = plain_both xs ys h k
@@ -92,33 +92,33 @@ module _ {L G : Type 0} where
   plain_both (value.Away ∷ xs) ys h k = plain_both xs ys h k
 
 -- the devices among the slots at the start
-pub lanes_pages : (L G : Type 0) (n : ℕ) → lanes_in {L = L} {G = G} (replicate n (value.Page zero_page)) ≡ []
-unfolding lanes_in
+pub lanes_pages : (L G : Type 0) (n : ℕ) → lanes_among {L = L} {G = G} (replicate n (value.Page zero_page)) ≡ []
+unfolding lanes_among
 lanes_pages L G zero = refl
 lanes_pages L G (suc n) = lanes_pages L G n
 
-pub plain_pages : (L G : Type 0) (n : ℕ) → IsPlain {L = L} {G = G} (replicate n (value.Page zero_page))
-unfolding IsPlain
+pub plain_pages : (L G : Type 0) (n : ℕ) → HasNoDevices {L = L} {G = G} (replicate n (value.Page zero_page))
+unfolding HasNoDevices
 plain_pages L G zero = tt
 plain_pages L G (suc n) = plain_pages L G n
 
-pub lanes_aways : (L G : Type 0) (n : ℕ) → lanes_in {L = L} {G = G} (replicate n value.Away) ≡ []
-unfolding lanes_in
+pub lanes_aways : (L G : Type 0) (n : ℕ) → lanes_among {L = L} {G = G} (replicate n value.Away) ≡ []
+unfolding lanes_among
 lanes_aways L G zero = refl
 lanes_aways L G (suc n) = lanes_aways L G n
 
-pub plain_aways : (L G : Type 0) (n : ℕ) → IsPlain {L = L} {G = G} (replicate n value.Away)
-unfolding IsPlain
+pub plain_aways : (L G : Type 0) (n : ℕ) → HasNoDevices {L = L} {G = G} (replicate n value.Away)
+unfolding HasNoDevices
 plain_aways L G zero = tt
 plain_aways L G (suc n) = plain_aways L G n
 
-pub lanes_lanes : (L G : Type 0) (ls : List L) → lanes_in {L = L} {G = G} (map home_lane ls) ≡ ls
-unfolding lanes_in
+pub lanes_lanes : (L G : Type 0) (ls : List L) → lanes_among {L = L} {G = G} (map home_lane ls) ≡ ls
+unfolding lanes_among
 lanes_lanes L G [] = refl
 lanes_lanes L G (l ∷ ls) = ap (λ (z : List L). l ∷ z) (lanes_lanes L G ls)
 
-pub plain_lanes : (L G : Type 0) (ls : List L) → IsPlain {L = L} {G = G} (map home_lane ls)
-unfolding IsPlain
+pub plain_lanes : (L G : Type 0) (ls : List L) → HasNoDevices {L = L} {G = G} (map home_lane ls)
+unfolding HasNoDevices
 plain_lanes L G [] = tt
 plain_lanes L G (l ∷ ls) = plain_lanes L G ls
 
@@ -145,63 +145,63 @@ module _ {L G : Type 0} where
   popped xs ys r y e is = e ∙ ap (λ (o : Option (Value L G)). ys ++ option_to_list o) is
 
   -- no log is left, where none was
-  pub plain_popped : (xs ys : List (Value L G)) (y : Value L G) → xs ≡ ys ++ y ∷ [] → IsPlain xs → IsPlain ys
-  plain_popped xs ys y e h = plain_left ys (y ∷ []) (subst IsPlain e h)
+  pub plain_popped : (xs ys : List (Value L G)) (y : Value L G) → xs ≡ ys ++ y ∷ [] → HasNoDevices xs → HasNoDevices ys
+  plain_popped xs ys y e h = plain_left ys (y ∷ []) (subst HasNoDevices e h)
 
   -- and it was neither a log nor the list
-  pub no_log_popped : (xs ys : List (Value L G)) (y : Value L G) (g : NotedLog G) → xs ≡ ys ++ y ∷ [] → y ≡ value.Log g → IsPlain xs → ⊥
-  unfolding IsPlain
-  no_log_popped xs ys y g e is h = plain_right ys (value.Log g ∷ []) (subst IsPlain (e ∙ ap (λ (z : Value L G). ys ++ z ∷ []) is) h)
+  pub no_log_popped : (xs ys : List (Value L G)) (y : Value L G) (g : NotedLog G) → xs ≡ ys ++ y ∷ [] → y ≡ value.Log g → HasNoDevices xs → ⊥
+  unfolding HasNoDevices
+  no_log_popped xs ys y g e is h = plain_right ys (value.Log g ∷ []) (subst HasNoDevices (e ∙ ap (λ (z : Value L G). ys ++ z ∷ []) is) h)
 
-  pub no_list_popped : (xs ys : List (Value L G)) (y : Value L G) (l : Vec L Global) → xs ≡ ys ++ y ∷ [] → y ≡ value.Lanes l → IsPlain xs → ⊥
-  unfolding IsPlain
-  no_list_popped xs ys y l e is h = plain_right ys (value.Lanes l ∷ []) (subst IsPlain (e ∙ ap (λ (z : Value L G). ys ++ z ∷ []) is) h)
+  pub no_list_popped : (xs ys : List (Value L G)) (y : Value L G) (l : Vec L Global) → xs ≡ ys ++ y ∷ [] → y ≡ value.Lanes l → HasNoDevices xs → ⊥
+  unfolding HasNoDevices
+  no_list_popped xs ys y l e is h = plain_right ys (value.Lanes l ∷ []) (subst HasNoDevices (e ∙ ap (λ (z : Value L G). ys ++ z ∷ []) is) h)
 
   -- a page, a map and an empty place are no lanes
-  pub no_lane_page : (y : Value L G) (p : List ℕ) → y ≡ value.Page p → lanes_in (y ∷ []) ≡ []
-  unfolding lanes_in
-  no_lane_page y p e = ap (λ (z : Value L G). lanes_in (z ∷ [])) e
+  pub no_lane_page : (y : Value L G) (p : List ℕ) → y ≡ value.Page p → lanes_among (y ∷ []) ≡ []
+  unfolding lanes_among
+  no_lane_page y p e = ap (λ (z : Value L G). lanes_among (z ∷ [])) e
 
-  pub no_lane_map : (y : Value L G) (m : Vec Mapped Global) → y ≡ value.Map m → lanes_in (y ∷ []) ≡ []
-  unfolding lanes_in
-  no_lane_map y m e = ap (λ (z : Value L G). lanes_in (z ∷ [])) e
+  pub no_lane_map : (y : Value L G) (m : Vec Mapped Global) → y ≡ value.Map m → lanes_among (y ∷ []) ≡ []
+  unfolding lanes_among
+  no_lane_map y m e = ap (λ (z : Value L G). lanes_among (z ∷ [])) e
 
-  pub no_lane_away : (y : Value L G) → y ≡ value.Away → lanes_in (y ∷ []) ≡ []
-  unfolding lanes_in
-  no_lane_away y e = ap (λ (z : Value L G). lanes_in (z ∷ [])) e
+  pub no_lane_away : (y : Value L G) → y ≡ value.Away → lanes_among (y ∷ []) ≡ []
+  unfolding lanes_among
+  no_lane_away y e = ap (λ (z : Value L G). lanes_among (z ∷ [])) e
 
   -- that is no lane
-  pub took_plain : (xs ys : List (Value L G)) (y : Value L G) (zs all : List L) → xs ≡ ys ++ y ∷ [] → lanes_in (y ∷ []) ≡ [] → lanes_in xs ++ zs ≡ all → lanes_in ys ++ zs ≡ all
-  took_plain xs ys y zs all e plain done = ap (λ (l : List L). l ++ zs) (sym (ap lanes_in e ∙ lanes_append ys (y ∷ []) ∙ ap (λ (l : List L). lanes_in ys ++ l) plain ∙ append-nil (lanes_in ys))) ∙ done
+  pub took_plain : (xs ys : List (Value L G)) (y : Value L G) (zs all : List L) → xs ≡ ys ++ y ∷ [] → lanes_among (y ∷ []) ≡ [] → lanes_among xs ++ zs ≡ all → lanes_among ys ++ zs ≡ all
+  took_plain xs ys y zs all e plain done = ap (λ (l : List L). l ++ zs) (sym (ap lanes_among e ∙ lanes_append ys (y ∷ []) ∙ ap (λ (l : List L). lanes_among ys ++ l) plain ∙ append-nil (lanes_among ys))) ∙ done
 
   -- before any was taken
-  pub all_taken : (xs : List (Value L G)) (zs : List L) → zs ≡ [] → lanes_in xs ++ reverse zs ≡ lanes_in xs
-  all_taken xs zs e = ap (λ (l : List L). lanes_in xs ++ reverse l) e ∙ append-nil (lanes_in xs)
+  pub all_taken : (xs : List (Value L G)) (zs : List L) → zs ≡ [] → lanes_among xs ++ reverse zs ≡ lanes_among xs
+  all_taken xs zs e = ap (λ (l : List L). lanes_among xs ++ reverse l) e ∙ append-nil (lanes_among xs)
 
   -- what stands before the log and the list has the same lanes
-  pub lanes_before : (xs ys : List (Value L G)) (g : NotedLog G) (l : Vec L Global) → xs ≡ (ys ++ value.Log g ∷ []) ++ value.Lanes l ∷ [] → lanes_in ys ≡ lanes_in xs
-  unfolding lanes_in
-  lanes_before xs ys g l e = sym (ap lanes_in e ∙ lanes_append (ys ++ value.Log g ∷ []) (value.Lanes l ∷ []) ∙ append-nil (lanes_in (ys ++ value.Log g ∷ [])) ∙ lanes_append ys (value.Log g ∷ []) ∙ append-nil (lanes_in ys))
+  pub lanes_before : (xs ys : List (Value L G)) (g : NotedLog G) (l : Vec L Global) → xs ≡ (ys ++ value.Log g ∷ []) ++ value.Lanes l ∷ [] → lanes_among ys ≡ lanes_among xs
+  unfolding lanes_among
+  lanes_before xs ys g l e = sym (ap lanes_among e ∙ lanes_append (ys ++ value.Log g ∷ []) (value.Lanes l ∷ []) ∙ append-nil (lanes_among (ys ++ value.Log g ∷ [])) ∙ lanes_append ys (value.Log g ∷ []) ∙ append-nil (lanes_among ys))
 
   -- after all were taken
-  pub taken_all : (xs : List (Value L G)) (zs all : List L) → length xs ≡ 0 → lanes_in xs ++ reverse zs ≡ all → reverse zs ≡ all
-  unfolding lanes_in
+  pub taken_all : (xs : List (Value L G)) (zs all : List L) → length xs ≡ 0 → lanes_among xs ++ reverse zs ≡ all → reverse zs ≡ all
+  unfolding lanes_among
   taken_all [] zs all n done = done
   taken_all (x ∷ xs) zs all n done = absurd (omega arith)
 
   -- where a lane stands last, fewer were taken than there are
-  pub lane_room : (xs ys : List (Value L G)) (l : NotedLane L) (zs all : List L) → xs ≡ ys ++ value.Lane l ∷ [] → lanes_in xs ++ reverse zs ≡ all → length zs < length all
-  unfolding lanes_in
-  lane_room xs ys l zs all e done = let a = ap (λ (m : List L). length m) done in let b = length-append (lanes_in xs) (reverse zs) in let c = length-reverse zs in
-      let d = ap (λ (m : List L). length m) (ap lanes_in e ∙ lanes_append ys (value.Lane l ∷ [])) in let f = length-append (lanes_in ys) (l.device ∷ []) in omega arith
+  pub lane_room : (xs ys : List (Value L G)) (l : NotedLane L) (zs all : List L) → xs ≡ ys ++ value.Lane l ∷ [] → lanes_among xs ++ reverse zs ≡ all → length zs < length all
+  unfolding lanes_among
+  lane_room xs ys l zs all e done = let a = ap (λ (m : List L). length m) done in let b = length-append (lanes_among xs) (reverse zs) in let c = length-reverse zs in
+      let d = ap (λ (m : List L). length m) (ap lanes_among e ∙ lanes_append ys (value.Lane l ∷ [])) in let f = length-append (lanes_among ys) (l.device ∷ []) in omega arith
 
   -- and that is one
-  pub took_lane : (xs ys : List (Value L G)) (l : NotedLane L) (zs all : List L) → xs ≡ ys ++ value.Lane l ∷ [] → lanes_in xs ++ reverse zs ≡ all → lanes_in ys ++ reverse (zs ++ l.device ∷ []) ≡ all
-  unfolding lanes_in
-  took_lane xs ys l zs all e done = ap (λ (m : List L). lanes_in ys ++ m) (reverse-append zs (l.device ∷ [])) ∙ sym (append_assoc (lanes_in ys) (l.device ∷ []) (reverse zs)) ∙ ap (λ (m : List L). m ++ reverse zs) (sym (ap lanes_in e ∙ lanes_append ys (value.Lane l ∷ []))) ∙ done
+  pub took_lane : (xs ys : List (Value L G)) (l : NotedLane L) (zs all : List L) → xs ≡ ys ++ value.Lane l ∷ [] → lanes_among xs ++ reverse zs ≡ all → lanes_among ys ++ reverse (zs ++ l.device ∷ []) ≡ all
+  unfolding lanes_among
+  took_lane xs ys l zs all e done = ap (λ (m : List L). lanes_among ys ++ m) (reverse-append zs (l.device ∷ [])) ∙ sym (append_assoc (lanes_among ys) (l.device ∷ []) (reverse zs)) ∙ ap (λ (m : List L). m ++ reverse zs) (sym (ap lanes_among e ∙ lanes_append ys (value.Lane l ∷ []))) ∙ done
 
-  pub lanes_maps : (n : ℕ) (ys : List (Value L G)) → AreMaps n ys → lanes_in ys ≡ []
-  unfolding lanes_in
+  pub lanes_maps : (n : ℕ) (ys : List (Value L G)) → AreMaps n ys → lanes_among ys ≡ []
+  unfolding lanes_among
   lanes_maps n [] h = refl
   lanes_maps n (value.Page p ∷ ys) h = absurd (h 0 (value.Page p) refl)
   lanes_maps n (value.Map m ∷ ys) h = lanes_maps n ys (λ k y e. h (suc k) y e)
@@ -210,8 +210,8 @@ module _ {L G : Type 0} where
   lanes_maps n (value.Lanes l ∷ ys) h = absurd (h 0 (value.Lanes l) refl)
   lanes_maps n (value.Away ∷ ys) h = absurd (h 0 value.Away refl)
 
-  pub plain_maps : (n : ℕ) (ys : List (Value L G)) → AreMaps n ys → IsPlain ys
-  unfolding IsPlain
+  pub plain_maps : (n : ℕ) (ys : List (Value L G)) → AreMaps n ys → HasNoDevices ys
+  unfolding HasNoDevices
   plain_maps n [] h = tt
   plain_maps n (value.Page p ∷ ys) h = absurd (h 0 (value.Page p) refl)
   plain_maps n (value.Map m ∷ ys) h = plain_maps n ys (λ k y e. h (suc k) y e)
@@ -240,25 +240,25 @@ laid_all n k page s₀ s₁ s₂ s₃ s₄ s₅ s₆ maps lanes aways log list n
 module _ {L G : Type 0} where
   pub record Ended (xs ys : List (Value L G)) (g : NotedLog G) (l : Vec L Global) : Type 0 where
     pub ends : EndsWith g l xs
-    pub plain : IsPlain ys
+    pub plain : HasNoDevices ys
     pub empty : l.items ≡ []
-    pub room : length (lanes_in ys) ≤ vec_capacity l
-    pub lanes : lanes_in ys ≡ lanes_in xs
+    pub room : length (lanes_among ys) ≤ vec_capacity l
+    pub lanes : lanes_among ys ≡ lanes_among xs
 
   abbrev list_in : Vec L Global → Value L G → Vec L Global
   list_in l (value.Lanes m) = m
   list_in l _ = l
 
   pub popped_ends : (xs ps ys : List (Value L G)) (g : NotedLog G) (l : Vec L Global) → xs ≡ ps ++ value.Lanes l ∷ [] → ps ≡ ys ++ value.Log g ∷ []
-      → (h : NotedLog G) (m : Vec L Global) → EndsWith h m xs → m.items ≡ [] → length (lanes_in xs) ≤ vec_capacity m → Ended xs ys g l
+      → (h : NotedLog G) (m : Vec L Global) → EndsWith h m xs → m.items ≡ [] → length (lanes_among xs) ≤ vec_capacity m → Ended xs ys g l
   popped_ends xs ps ys g l a b h m ends empty room = let is : xs ≡ (ys ++ value.Log g ∷ []) ++ value.Lanes l ∷ [] = a ∙ ap (λ (z : List (Value L G)). z ++ value.Lanes l ∷ []) b in
       let outer = snoc_same (ends.others ++ value.Log h ∷ []) (ys ++ value.Log g ∷ []) (value.Lanes m) (value.Lanes l) (sym ends.is ∙ is) in
       let inner = snoc_same ends.others ys (value.Log h) (value.Log g) outer.0 in
       let same : m ≡ l = ap (list_in m) outer.1 in
       let lanes = lanes_before xs ys g l is in record {
-        ends = record { others = ys; is = is; plain = subst IsPlain inner.0 ends.plain };
-        plain = subst IsPlain inner.0 ends.plain;
+        ends = record { others = ys; is = is; plain = subst HasNoDevices inner.0 ends.plain };
+        plain = subst HasNoDevices inner.0 ends.plain;
         empty = subst (λ (v : Vec L Global). v.items ≡ []) same empty;
-        room = subst (λ (v : Vec L Global). length (lanes_in ys) ≤ vec_capacity v) same (subst (λ (z : List L). length z ≤ vec_capacity m) (sym lanes) room);
+        room = subst (λ (v : Vec L Global). length (lanes_among ys) ≤ vec_capacity v) same (subst (λ (z : List L). length z ≤ vec_capacity m) (sym lanes) room);
         lanes = lanes;
       }

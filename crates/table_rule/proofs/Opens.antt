@@ -32,8 +32,8 @@ use Rattle.table_rule.specs.declared.turn.Turn.TheVariants as turn
 use Rattle.pin_core.specs.Tallies.{flag_weight}
 use Rattle.table_rule.specs.Layout.{latch_place, word_count, tag_partition, partition_of_tag, tag_lane, lane_of_tag}
 use Rattle.table_rule.specs.Blocks.{is_block, log_name, name_of, name_in, no_name, block_name, has_block}
-use Rattle.table_rule.specs.Shows.{is_taken, HasTurn, ShowsFrame, IsHome, Devices, IsPlaced, IsLane, IsLog, AreLanes, IsNewLog, GivesMap, HasPlace, HasValue, Held, starting}
-use Rattle.table_rule.specs.Laid.{AreOpening, AreSlots, EndsWith, home_lane, home_log, zero_page, lanes_in, IsPlain}
+use Rattle.table_rule.specs.Shows.{is_taken, HasTurn, ShowsFrame, IsHome, Devices, IsPlaced, IsLane, IsLog, AreLanes, IsNewLog, GivesMap, IsPlaceIn, HasValue, Held, starting}
+use Rattle.table_rule.specs.Laid.{AreOpening, AreSlots, EndsWith, home_lane, home_log, zero_page, lanes_among, HasNoDevices}
 use Rattle.table_rule.proofs.Laying.{lanes_append, plain_both, lanes_pages, plain_pages, lanes_aways, plain_aways, lanes_lanes, plain_lanes, lanes_maps, plain_maps, lanes_before, snoc_same}
 
 zero_fields : zero_word ≡ fields 0
@@ -282,7 +282,7 @@ module _ {L G : Type 0} (d : Devices L G) (o : Opening L G) where
   abbrev store : Store
   store = store_of d o.catalog.value lanes o.log.value o.base
 
-  homes : (ys : List (Value L G)) → AreSlots o.config.frames o.lanes.value.items o.log.value ys → length o.lanes.value.items ≡ o.config.lanes → AreLanes d o.catalog.value o.lanes.value.items → IsNewLog {L = L} {G = G} d o.base o.log.value → (x : Place) → HasPlace o x → IsHome x start.pool.core.views → HasValue d o (map some ys) start x
+  homes : (ys : List (Value L G)) → AreSlots o.config.frames o.lanes.value.items o.log.value ys → length o.lanes.value.items ≡ o.config.lanes → AreLanes d o.catalog.value o.lanes.value.items → IsNewLog {L = L} {G = G} d o.base o.log.value → (x : Place) → IsPlaceIn o x → IsHome x start.pool.core.views → HasValue d o (map some ys) start x
   homes ys h count are new (place.Page f) below out = record { value = value.Page zero_page; home = at_map some ys f (value.Page zero_page) (page_at d n lanes o.log.value ys h f below); gives = refl }
   homes ys h count are new (place.Of (turn.Partition p)) below out = let t = map_at d n lanes o.log.value ys h p below in record { value = t.0; home = at_map some ys (n + p) t.0 t.1; gives = t.2 }
   homes ys h count are new (place.Of (turn.Lane q)) below out = let t = there_at lanes q (omega arith) in record {
@@ -354,23 +354,23 @@ module _ {L G : Type 0} (n : ℕ) (lanes : List L) (log : G) (ys : List (Value L
   abbrev before_log : List (Value L G)
   before_log = ((replicate n (value.Page zero_page) ++ h.maps) ++ map home_lane lanes) ++ replicate (16 - length lanes) value.Away
 
-  plain_before : IsPlain before_log
+  plain_before : HasNoDevices before_log
   plain_before = plain_both ((replicate n (value.Page zero_page) ++ h.maps) ++ map home_lane lanes) (replicate (16 - length lanes) value.Away)
       (plain_both (replicate n (value.Page zero_page) ++ h.maps) (map home_lane lanes) (plain_both (replicate n (value.Page zero_page)) h.maps (plain_pages L G n) (plain_maps n h.maps h.are_maps)) (plain_lanes L G lanes)) (plain_aways L G (16 - length lanes))
 
-  none_before : lanes_in (replicate n (value.Page zero_page) ++ h.maps) ≡ []
-  none_before = lanes_append (replicate n (value.Page zero_page)) h.maps ∙ ap (λ (l : List L). l ++ lanes_in h.maps) (lanes_pages L G n) ∙ lanes_maps n h.maps h.are_maps
+  none_before : lanes_among (replicate n (value.Page zero_page) ++ h.maps) ≡ []
+  none_before = lanes_append (replicate n (value.Page zero_page)) h.maps ∙ ap (λ (l : List L). l ++ lanes_among h.maps) (lanes_pages L G n) ∙ lanes_maps n h.maps h.are_maps
 
-  lanes_there : lanes_in before_log ≡ lanes
+  lanes_there : lanes_among before_log ≡ lanes
   lanes_there = lanes_append ((replicate n (value.Page zero_page) ++ h.maps) ++ map home_lane lanes) (replicate (16 - length lanes) value.Away)
-      ∙ ap (λ (l : List L). lanes_in ((replicate n (value.Page zero_page) ++ h.maps) ++ map home_lane lanes) ++ l) (lanes_aways L G (16 - length lanes)) ∙ append-nil (lanes_in ((replicate n (value.Page zero_page) ++ h.maps) ++ map home_lane lanes))
-      ∙ lanes_append (replicate n (value.Page zero_page) ++ h.maps) (map home_lane lanes) ∙ ap (λ (l : List L). l ++ lanes_in {L = L} {G = G} (map home_lane lanes)) none_before ∙ lanes_lanes L G lanes
+      ∙ ap (λ (l : List L). lanes_among ((replicate n (value.Page zero_page) ++ h.maps) ++ map home_lane lanes) ++ l) (lanes_aways L G (16 - length lanes)) ∙ append-nil (lanes_among ((replicate n (value.Page zero_page) ++ h.maps) ++ map home_lane lanes))
+      ∙ lanes_append (replicate n (value.Page zero_page) ++ h.maps) (map home_lane lanes) ∙ ap (λ (l : List L). l ++ lanes_among {L = L} {G = G} (map home_lane lanes)) none_before ∙ lanes_lanes L G lanes
 
   -- the devices come back from such slots
   pub laid_ends : (xs : List (Value L G)) → xs ≡ ys → EndsWith (home_log h.room log) h.list xs
   laid_ends xs e = record { others = before_log; is = e ∙ h.is; plain = plain_before }
 
-  pub lanes_are : (xs : List (Value L G)) → xs ≡ ys → lanes_in xs ≡ lanes
+  pub lanes_are : (xs : List (Value L G)) → xs ≡ ys → lanes_among xs ≡ lanes
   lanes_are xs e = sym (lanes_before xs before_log (home_log h.room log) h.list (e ∙ h.is)) ∙ lanes_there
 
   pub log_is : (xs : List (Value L G)) (g : NotedLog G) (list : Vec L Global) → xs ≡ ys → EndsWith g list xs → g.device ≡ log

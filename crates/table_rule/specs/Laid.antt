@@ -66,30 +66,30 @@ module _ {L G : Type 0} where
     pub is : after ≡ before ++ maps
 
   -- the lanes among values
-  unfoldable pub lanes_in : List (Value L G) → List L
-  lanes_in [] = []
-  lanes_in (value.Page p ∷ ys) = lanes_in ys
-  lanes_in (value.Map m ∷ ys) = lanes_in ys
-  lanes_in (value.Lane l ∷ ys) = l.device ∷ lanes_in ys
-  lanes_in (value.Log g ∷ ys) = lanes_in ys
-  lanes_in (value.Lanes l ∷ ys) = lanes_in ys
-  lanes_in (value.Away ∷ ys) = lanes_in ys
+  unfoldable pub lanes_among : List (Value L G) → List L
+  lanes_among [] = []
+  lanes_among (value.Page p ∷ ys) = lanes_among ys
+  lanes_among (value.Map m ∷ ys) = lanes_among ys
+  lanes_among (value.Lane l ∷ ys) = l.device ∷ lanes_among ys
+  lanes_among (value.Log g ∷ ys) = lanes_among ys
+  lanes_among (value.Lanes l ∷ ys) = lanes_among ys
+  lanes_among (value.Away ∷ ys) = lanes_among ys
 
   -- neither a log nor a list of lanes is among them
-  unfoldable pub IsPlain : List (Value L G) → Type 0
-  IsPlain [] = Unit {0}
-  IsPlain (value.Page p ∷ ys) = IsPlain ys
-  IsPlain (value.Map m ∷ ys) = IsPlain ys
-  IsPlain (value.Lane l ∷ ys) = IsPlain ys
-  IsPlain (value.Log g ∷ ys) = ⊥
-  IsPlain (value.Lanes l ∷ ys) = ⊥
-  IsPlain (value.Away ∷ ys) = IsPlain ys
+  unfoldable pub HasNoDevices : List (Value L G) → Type 0
+  HasNoDevices [] = Unit {0}
+  HasNoDevices (value.Page p ∷ ys) = HasNoDevices ys
+  HasNoDevices (value.Map m ∷ ys) = HasNoDevices ys
+  HasNoDevices (value.Lane l ∷ ys) = HasNoDevices ys
+  HasNoDevices (value.Log g ∷ ys) = ⊥
+  HasNoDevices (value.Lanes l ∷ ys) = ⊥
+  HasNoDevices (value.Away ∷ ys) = HasNoDevices ys
 
   -- the log and the list stand behind the other values
   pub record EndsWith (g : NotedLog G) (list : Vec L Global) (ys : List (Value L G)) : Type 0 where
     pub others : List (Value L G)
     pub is : ys ≡ (others ++ value.Log g ∷ []) ++ value.Lanes list ∷ []
-    pub plain : IsPlain others
+    pub plain : HasNoDevices others
 
   -- The slots of n frames: a page of zeros for each, 128 empty maps, 16 places for lanes, the log, and the list of lanes
   pub record AreSlots (n : ℕ) (lanes : List L) (log : G) (ys : List (Value L G)) : Type 0 where

@@ -71,8 +71,8 @@ module _ {L : Type 0} (d : LaneDevices L) where
     pub failed : (known : Pages) → d.contents before ≡ Some known → d.failed_writes after ≡ with_mark tag true (d.failed_writes before)
 
   -- One call more was made
-  abbrev pub CountsOne : L → L → Type 0
-  CountsOne before after = d.calls after ≡ d.calls before + 1
+  abbrev pub CountsCall : L → L → Type 0
+  CountsCall before after = d.calls after ≡ d.calls before + 1
 
   -- The blocks that are to be synced are those that were, the block that was written too, or none
   abbrev pub KeepsUnsynced : L → L → Type 0
@@ -87,9 +87,9 @@ module _ {L : Type 0} (d : LaneDevices L) where
   -- What the call made of the lane
   abbrev pub LaneDid : L → L → LaneCall → Type 0
   LaneDid before after Untouched = after ≡ before
-  LaneDid before after (Read f tag page) = HoldsTheSame before after × CountsTheSame before after × Gave tag page.value before × KeepsUnsynced before after × CountsOne before after
-  LaneDid before after (ReadFailed tag) = HoldsTheSame before after × ReadRose before after × KeepsUnsynced before after × CountsOne before after
-  LaneDid before after (Written f tag page) = TookPage tag page.value before after × CountsTheSame before after × AddsUnsynced tag before after × CountsOne before after
-  LaneDid before after (WriteFailed f tag page) = TorePage tag before after × WriteRose before after × AddsUnsynced tag before after × CountsOne before after
-  LaneDid before after Synced = HoldsTheSame before after × CountsTheSame before after × HasSyncedAll after × CountsOne before after
-  LaneDid before after SyncFailed = HoldsTheSame before after × WriteRose before after × KeepsUnsynced before after × CountsOne before after
+  LaneDid before after (Read f tag page) = HoldsTheSame before after × CountsTheSame before after × Gave tag page.value before × KeepsUnsynced before after × CountsCall before after
+  LaneDid before after (ReadFailed tag) = HoldsTheSame before after × ReadRose before after × KeepsUnsynced before after × CountsCall before after
+  LaneDid before after (Written f tag page) = TookPage tag page.value before after × CountsTheSame before after × AddsUnsynced tag before after × CountsCall before after
+  LaneDid before after (WriteFailed f tag page) = TorePage tag before after × WriteRose before after × AddsUnsynced tag before after × CountsCall before after
+  LaneDid before after Synced = HoldsTheSame before after × CountsTheSame before after × HasSyncedAll after × CountsCall before after
+  LaneDid before after SyncFailed = HoldsTheSame before after × WriteRose before after × KeepsUnsynced before after × CountsCall before after

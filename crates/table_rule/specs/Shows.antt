@@ -166,12 +166,12 @@ module _ {L G : Type 0} where
   Gives d o s (place.Of turn.Log) y = GivesLog d y s.device
 
   -- whether a table has the place
-  abbrev pub HasPlace : Opening L G → Place → Type 0
-  HasPlace o (place.Page f) = f < o.config.frames
-  HasPlace o (place.Of x) = HasTurn o.config.lanes x
+  abbrev pub IsPlaceIn : Opening L G → Place → Type 0
+  IsPlaceIn o (place.Page f) = f < o.config.frames
+  IsPlaceIn o (place.Of x) = HasTurn o.config.lanes x
 
   -- What was fixed when the table was opened
-  pub record IsOpened (d : Devices L G) (o : Opening L G) (s : State) : Type 0 where
+  pub record KeepsOpening (d : Devices L G) (o : Opening L G) (s : State) : Type 0 where
     pub frames : s.pool.core.frames ≡ o.config.frames
     pub backends : s.pool.core.backends ≡ o.config.passes
     pub base : s.log.base ≡ o.base
@@ -208,14 +208,14 @@ module _ {L G : Type 0} where
 
   -- What a table shows of a state
   pub record Shows (d : Devices L G) (o : Opening L G) (t : table.State (Value L G) View) (s : State) : Type 0 where
-    pub fixed : IsOpened d o s
+    pub fixed : KeepsOpening d o s
     pub words : length t.words ≡ word_count o.config.frames
     pub slots : length t.homes ≡ slot_count o.config.frames
     pub views : t.views ≡ s.pool.core.views
     pub frame : (f : ℕ) → f < o.config.frames → ShowsFrame t.words f (s.pool.core.frame f)
     pub latches : ShowsLatches o.config.frames o.config.lanes t.words s
     -- a value that no view has out is in its slot
-    pub homes : (x : Place) → HasPlace o x → IsHome x s.pool.core.views → HasValue d o t.homes s x
+    pub homes : (x : Place) → IsPlaceIn o x → IsHome x s.pool.core.views → HasValue d o t.homes s x
     pub list : HasList o t.homes
 
   -- The rule: the table shows a state that has the law. The state has besides what no word shows: the pages of the blocks after the log, its entries, and what is out

@@ -13,8 +13,8 @@ use Rattle.table_rule.specs.Shows.{Devices}
 use Rattle.table_rule.specs.LaneCalls.{LaneDevices, lane_devices}
 
 -- the lanes among the devices
-abbrev pub lanes_of : {L G : Type 0} → Devices L G → LaneDevices L
-lanes_of d = lane_devices d.contents d.failed_writes d.unsynced d.read_faults d.write_faults d.lane_calls
+abbrev pub lane_devices_of : {L G : Type 0} → Devices L G → LaneDevices L
+lane_devices_of d = lane_devices d.contents d.failed_writes d.unsynced d.read_faults d.write_faults d.lane_calls
 
 -- A block of the relations that lies in the lane q of so many
 pub record IsBlockOf (relations : List RelEntry) (lanes q : ℕ) (tag : Tag) : Type 0 where
@@ -52,14 +52,14 @@ abbrev pub page_held : Option Pages → Tag → List ℕ → List ℕ
 page_held None tag page = page
 page_held (Some known) tag page = unwrap_or (known tag) page
 
-abbrev pub pages_of : List ℕ → Option Pages → Marks → Option (List BlockPage)
-pages_of blocks None marks = None
-pages_of blocks (Some known) marks = Some (map (block_page known marks) blocks)
+abbrev pub block_pages : List ℕ → Option Pages → Marks → Option (List BlockPage)
+block_pages blocks None marks = None
+block_pages blocks (Some known) marks = Some (map (block_page known marks) blocks)
 
 module _ {L : Type 0} (d : LaneDevices L) (relations : List RelEntry) (lanes q : ℕ) where
   -- what the lane q is
-  abbrev pub taken_of : L → TakenLane
-  taken_of l = record { pages = pages_of (blocks_in relations lanes q) (d.contents l) (d.failed_writes l); read_faults = d.read_faults l; write_faults = d.write_faults l; calls = d.calls l }
+  abbrev pub taken_lane : L → TakenLane
+  taken_lane l = record { pages = block_pages (blocks_in relations lanes q) (d.contents l) (d.failed_writes l); read_faults = d.read_faults l; write_faults = d.write_faults l; calls = d.calls l }
 
   -- where its contents are known it holds each block that lies there
   abbrev pub HoldsBlocks : L → Type 0

@@ -4,8 +4,9 @@ ghost use Rattle.std.specs.Global.{Global};
 ghost use Rattle.table_rule.specs.declared.noted_log.NotedLog.{NotedLog};
 ghost use Rattle.table_rule.specs.declared.value.Value.{Value};
 ghost use Rattle.table_rule.specs.declared.value.Value.TheVariants as value;
-ghost use Rattle.table_rule.specs.Laid.{AddsMaps, AreBlank, AreFresh, AreOpening, AreSlots, EndsWith, IsPlain, IsRoom, home_lane, lanes_in, zero_page};
+ghost use Rattle.table_rule.specs.Laid.{AddsMaps, AreBlank, AreFresh, AreOpening, AreSlots, EndsWith, HasNoDevices, IsRoom, home_lane, lanes_among, zero_page};
 
+use crate::layout::LOG_PLACE;
 use crate::noted_lane::NotedLane;
 use crate::noted_log::NotedLog;
 use crate::value::{Mapped, Value};
@@ -52,7 +53,7 @@ pub fn opening_words(alloc: Global, frames: u32, base: u64) -> Result<Vec<u64>, 
     ensures { IfOk result (λ v. AreOpening v.items frames base) }
 {
     let mut words = blank_words(alloc, frames)?;
-    add_zeros(&mut words, 145)?;
+    add_zeros(&mut words, LOG_PLACE + 1)?;
     words.push(base)?;
     words.push(base)?;
     words.push(0)?;
@@ -173,9 +174,9 @@ impl Room {
 
 /// The lanes among the slots come back into their list.
 fn take_lanes<L, G>(mut slots: Vec<Value<L, G>>, lanes: &mut Vec<L>)
-    requires plain { IsPlain slots.items }
-    requires room { (lanes.old.items ≡ []) × (length (lanes_in slots.items) ≤ vec_capacity lanes.old) }
-    ensures { lanes.new.items ≡ lanes_in slots.items }
+    requires plain { HasNoDevices slots.items }
+    requires room { (lanes.old.items ≡ []) × (length (lanes_among slots.items) ≤ vec_capacity lanes.old) }
+    ensures { lanes.new.items ≡ lanes_among slots.items }
 {
     while let Some(value) = slots.pop() {
         match value {
@@ -193,8 +194,8 @@ fn take_lanes<L, G>(mut slots: Vec<Value<L, G>>, lanes: &mut Vec<L>)
 
 /// The devices come back out of the slots.
 pub fn take_back<L, G>(mut slots: Vec<Value<L, G>>) -> (Vec<L>, G)
-    requires { (g : NotedLog G) × (list : Vec L Global) × EndsWith g list slots.items × (list.items ≡ []) × (length (lanes_in slots.items) ≤ vec_capacity list) }
-    ensures { (g : NotedLog G) × (list : Vec L Global) × EndsWith g list slots.items × (result.0.items ≡ lanes_in slots.items) × (result.1 ≡ g.device) }
+    requires { (g : NotedLog G) × (list : Vec L Global) × EndsWith g list slots.items × (list.items ≡ []) × (length (lanes_among slots.items) ≤ vec_capacity list) }
+    ensures { (g : NotedLog G) × (list : Vec L Global) × EndsWith g list slots.items × (result.0.items ≡ lanes_among slots.items) × (result.1 ≡ g.device) }
 {
     let mut lanes = match slots.pop() {
         Some(Value::Lanes(lanes)) => lanes,

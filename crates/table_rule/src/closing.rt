@@ -3,7 +3,7 @@ ghost use Rattle.std.specs.Prelude.{◌≡◌, ◌≤◌, [], List, Vec, length,
 ghost use Rattle.std.specs.Global.{Global};
 ghost use Rattle.std.specs.Slots.{IsFull, slots_items};
 ghost use Rattle.table_rule.specs.declared.noted_log.NotedLog.{NotedLog};
-ghost use Rattle.table_rule.specs.Laid.{EndsWith, lanes_in};
+ghost use Rattle.table_rule.specs.Laid.{EndsWith, lanes_among};
 
 use crate::build::put;
 use crate::value::Value;
@@ -13,8 +13,8 @@ use std::alloc::Global;
 /// The devices come back out of the slots of a table that is closed.
 pub fn take_closed<L, G>(mut closed: Closed<Value<L, G>, Global>) -> (Vec<L>, G)
     requires full { IsFull closed.slots }
-    requires ends { (g : NotedLog G) × (list : Vec L Global) × EndsWith g list (slots_items closed.slots) × (list.items ≡ []) × (length (lanes_in (slots_items closed.slots)) ≤ vec_capacity list) }
-    ensures { (g : NotedLog G) × (list : Vec L Global) × EndsWith g list (slots_items closed.slots) × (result.0.items ≡ lanes_in (slots_items closed.slots)) × (result.1 ≡ g.device) }
+    requires ends { (g : NotedLog G) × (list : Vec L Global) × EndsWith g list (slots_items closed.slots) × (list.items ≡ []) × (length (lanes_among (slots_items closed.slots)) ≤ vec_capacity list) }
+    ensures { (g : NotedLog G) × (list : Vec L Global) × EndsWith g list (slots_items closed.slots) × (result.0.items ≡ lanes_among (slots_items closed.slots)) × (result.1 ≡ g.device) }
 {
     let mut left = closed.slot_count();
     left -= 1;

@@ -2,11 +2,22 @@
 ghost use Rattle.std.specs.Prelude.{◌≡◌};
 ghost use Rattle.table_rule.specs.Layout as layout;
 
-/// How many words follow those of the frames.
-pub const OTHER_WORDS: usize = 148;
+use block_tag::PARTITIONS;
 
-/// How many slots follow those of the frames.
-pub const OTHER_SLOTS: usize = 146;
+/// The most lanes of a table.
+pub const MOST_LANES: usize = 16;
+
+/// Where the first lane's latch and slot lie after those of the frames: behind the partitions.
+pub const FIRST_LANE: usize = PARTITIONS as usize;
+
+/// Where the log's latch and slot lie after those of the frames: behind the lanes.
+pub const LOG_PLACE: usize = FIRST_LANE + MOST_LANES;
+
+/// How many words follow those of the frames: the latches, the log's end, the flushed position and the clock's hand.
+pub const OTHER_WORDS: usize = LOG_PLACE + 4;
+
+/// How many slots follow those of the frames: what the latches guard, and the list in which the lanes came.
+pub const OTHER_SLOTS: usize = LOG_PLACE + 2;
 
 /// The place of a frame's state word.
 pub fn state_place(frame: u32) -> usize
@@ -33,19 +44,19 @@ pub fn content_place(frame: u32) -> usize
 pub fn end_place(frames: u32) -> usize
     ensures { result ≡ layout.end_place frames }
 {
-    3 * frames as usize + 145
+    3 * frames as usize + LOG_PLACE + 1
 }
 
 /// The place of the flushed position.
 pub fn flushed_place(frames: u32) -> usize
     ensures { result ≡ layout.flushed_place frames }
 {
-    3 * frames as usize + 146
+    3 * frames as usize + LOG_PLACE + 2
 }
 
 /// The place of the clock's hand.
 pub fn hand_place(frames: u32) -> usize
     ensures { result ≡ layout.hand_place frames }
 {
-    3 * frames as usize + 147
+    3 * frames as usize + LOG_PLACE + 3
 }

@@ -9,8 +9,8 @@ use Rattle.pin_core.specs.State.{hold, link}
 use Rattle.table_rule.specs.declared.value.Value.{Value}
 use Rattle.frame_table.specs.declared.pin.Pin.{Pin}
 use Rattle.frame_table.specs.declared.table.FrameTable.{FrameTable}
-use Rattle.frame_table.specs.Sees.{Looked, SameSeat, frames_of, mapped_link}
-use Rattle.frame_table.specs.Turning.{SameWork}
+use Rattle.frame_table.specs.Seats.{Looked, SameSeat, frames_of, mapped_link}
+use Rattle.frame_table.specs.Latches.{SameWork}
 use Rattle.table_tests.specs.Work.{IsCalm, IsQuiet, Keeps, KeepsBeside, OnlyPins, PinsBlock, PinsNone}
 use Rattle.table_tests.proofs.Seats.{keeps_on}
 use Rattle.table_tests.proofs.Working.{beside_on, calm_looked, keeps_worked, links_worked, not_victim, only_pins}

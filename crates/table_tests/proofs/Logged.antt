@@ -11,7 +11,7 @@ use Rattle.pin_core.specs.State.{idle, link, no_lane}
 use Rattle.table_rule.specs.declared.value.Value.{Value}
 use Rattle.frame_table.specs.declared.table.FrameTable.{FrameTable}
 use Rattle.frame_table.specs.Content.{unexclusive_link}
-use Rattle.frame_table.specs.Sees.{SameSeat}
+use Rattle.frame_table.specs.Seats.{SameSeat}
 use Rattle.wal_flush.specs.Latched.{KeepsWork}
 use Rattle.table_tests.specs.Work.{Changes, IsCalm, IsQuietBeside, KeepsBeside, OnlyPins}
 use Rattle.table_tests.proofs.Working.{same_hold}

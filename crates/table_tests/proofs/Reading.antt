@@ -22,10 +22,10 @@ use Rattle.frame_table.specs.Content.{finished_link}
 use Rattle.table_rule.specs.declared.noted_lane.LaneCall.{LaneCall}
 use Rattle.table_rule.specs.declared.noted_lane.LaneCall.TheVariants as lane_call
 use Rattle.table_rule.specs.LaneCalls.{NotesRead}
-use Rattle.frame_table.specs.LaneWork.{IsNoted, LaneStep, read_link}
-use Rattle.frame_table.specs.Sees.{Looked}
-use Rattle.frame_table.specs.Tells.{Did}
-use Rattle.frame_table.specs.Turning.{IsTurned}
+use Rattle.frame_table.specs.LaneWork.{IsNoted, LaneStep, lane_read_link}
+use Rattle.frame_table.specs.Seats.{Looked}
+use Rattle.frame_table.specs.FrameSteps.{Did}
+use Rattle.frame_table.specs.Latches.{IsTurned}
 use Rattle.frame_table.proofs.Told.{link_is, self_after}
 use Rattle.table_tests.specs.Work.{IsCalm, LanesHome, PinsBlock, Reads}
 
@@ -76,7 +76,7 @@ read_call f tag page call (Ok x) n = of_notes f tag page call n
 read_call f tag page call (Err x) e = subst (IsReadCall f) (sym e) tt
 
 pub reads_noted : (f : ℕ) (tag : Tag) (call : LaneCall) (v w : View) → IsReadCall f call → IsNoted call v w → Reads tag (link v f) → Reads tag (link w f)
-reads_noted f tag (lane_call.Read g t p) v w e noted r = let there : link w f ≡ read_link p.value (link v f) = subst (λ (x : ℕ). link w x ≡ read_link p.value (link v x)) e noted.here in
+reads_noted f tag (lane_call.Read g t p) v w e noted r = let there : link w f ≡ lane_read_link p.value (link v f) = subst (λ (x : ℕ). link w x ≡ lane_read_link p.value (link v x)) e noted.here in
     subst (Reads tag) (sym there) record { pinned = r.pinned; remembered = r.remembered; no_header = r.no_header; no_content = r.no_content; right = r.right; home = r.home; fresh = r.fresh; settled = r.settled; no_copy = r.no_copy; assigned = r.assigned; no_wait = r.no_wait }
 reads_noted f tag (lane_call.ReadFailed t) v w e noted r = subst (λ (l : List Link). Reads tag (get_or l f idle)) (sym noted) r
 reads_noted f tag lane_call.Untouched v w e noted r = absurd e

@@ -12,8 +12,8 @@ use Rattle.table_rule.specs.declared.noted_lane.LaneCall.{LaneCall}
 use Rattle.table_rule.specs.declared.noted_lane.LaneCall.TheVariants as lane_call
 use Rattle.table_rule.specs.declared.noted_lane.NotedLane.{NotedLane}
 use Rattle.table_rule.specs.LaneCalls.{LaneDevices, LaneDid, NotesRead, NotesWritten, NotesWriteFailed}
-use Rattle.table_rule.specs.TakenLanes.{IsBlockOf, taken_of}
-use Rattle.frame_table.specs.LaneWork.{CanNoteRead, CanNoteWrite, IsTaken, MayNote, MayReturn, out_lane}
+use Rattle.table_rule.specs.TakenLanes.{IsBlockOf, taken_lane}
+use Rattle.frame_table.specs.LaneWork.{MayNoteRead, MayNoteWrite, IsTakenLane, MayNote, MayReturn, out_lane}
 
 -- a block of the relations lies in the one lane
 pub in_one_lane : (relations : List RelEntry) (lanes : ℕ) (tag : Tag) → lanes ≡ 1 → names_block tag ≡ true → has_block relations tag ≡ true → IsBlockOf relations lanes 0 tag
@@ -24,8 +24,8 @@ in_one_lane relations lanes tag one named listed = record { named = named; liste
 
 -- what a call asks of a view that it is noted for
 module _ (relations : List RelEntry) (lanes q : ℕ) (v : View) (f : ℕ) (tag : Tag) (page : Page) (block : IsBlockOf relations lanes q tag) where
-  read_noted : (call : LaneCall) → CanNoteRead tag (link v f) → NotesRead f tag page call → MayNote relations lanes q call v
-  read_noted (lane_call.Read g t p) can n = (subst (λ (x : Tag). IsBlockOf relations lanes q x) (sym n.1) block, subst (λ (x : ℕ). CanNoteRead t (link v x)) (sym n.0) (subst (λ (x : Tag). CanNoteRead x (link v f)) (sym n.1) can))
+  read_noted : (call : LaneCall) → MayNoteRead tag (link v f) → NotesRead f tag page call → MayNote relations lanes q call v
+  read_noted (lane_call.Read g t p) can n = (subst (λ (x : Tag). IsBlockOf relations lanes q x) (sym n.1) block, subst (λ (x : ℕ). MayNoteRead t (link v x)) (sym n.0) (subst (λ (x : Tag). MayNoteRead x (link v f)) (sym n.1) can))
   read_noted lane_call.Untouched can n = absurd n
   read_noted (lane_call.ReadFailed t) can n = absurd n
   read_noted (lane_call.Written g t p) can n = absurd n
@@ -33,18 +33,18 @@ module _ (relations : List RelEntry) (lanes q : ℕ) (v : View) (f : ℕ) (tag :
   read_noted lane_call.Synced can n = absurd n
   read_noted lane_call.SyncFailed can n = absurd n
 
-  pub may_note_read : {A E : Type 0} (call : LaneCall) (r : Result A E) → CanNoteRead tag (link v f) → MatchResult r (λ _. NotesRead f tag page call) (λ _. call ≡ lane_call.ReadFailed tag) → MayNote relations lanes q call v
+  pub may_note_read : {A E : Type 0} (call : LaneCall) (r : Result A E) → MayNoteRead tag (link v f) → MatchResult r (λ _. NotesRead f tag page call) (λ _. call ≡ lane_call.ReadFailed tag) → MayNote relations lanes q call v
   may_note_read call (Ok x) can n = read_noted call can n
   may_note_read call (Err x) can e = subst (λ (c : LaneCall). MayNote relations lanes q c v) (sym e) block
 
   -- the page of a write is one whose log was flushed before the lane went out
-  written_at : (g : ℕ) (t : Tag) (p : Page) → CanNoteWrite tag page (lane_hold v q).flushed (link v f) → g ≡ f → t ≡ tag → p ≡ page → IsBlockOf relations lanes q t × CanNoteWrite t p (lane_hold v q).flushed (link v g)
+  written_at : (g : ℕ) (t : Tag) (p : Page) → MayNoteWrite tag page (lane_hold v q).flushed (link v f) → g ≡ f → t ≡ tag → p ≡ page → IsBlockOf relations lanes q t × MayNoteWrite t p (lane_hold v q).flushed (link v g)
   written_at g t p can same_frame same_tag same_page = (
     subst (λ (x : Tag). IsBlockOf relations lanes q x) (sym same_tag) block,
-    subst (λ (x : ℕ). CanNoteWrite t p (lane_hold v q).flushed (link v x)) (sym same_frame) (subst (λ (x : Tag). CanNoteWrite x p (lane_hold v q).flushed (link v f)) (sym same_tag) (subst (λ (x : Page). CanNoteWrite tag x (lane_hold v q).flushed (link v f)) (sym same_page) can)),
+    subst (λ (x : ℕ). MayNoteWrite t p (lane_hold v q).flushed (link v x)) (sym same_frame) (subst (λ (x : Tag). MayNoteWrite x p (lane_hold v q).flushed (link v f)) (sym same_tag) (subst (λ (x : Page). MayNoteWrite tag x (lane_hold v q).flushed (link v f)) (sym same_page) can)),
   )
 
-  written_noted : (call : LaneCall) → CanNoteWrite tag page (lane_hold v q).flushed (link v f) → NotesWritten f tag page call → MayNote relations lanes q call v
+  written_noted : (call : LaneCall) → MayNoteWrite tag page (lane_hold v q).flushed (link v f) → NotesWritten f tag page call → MayNote relations lanes q call v
   written_noted (lane_call.Written g t p) can n = written_at g t p.value can n.0 n.1 n.2
   written_noted lane_call.Untouched can n = absurd n
   written_noted (lane_call.Read g t p) can n = absurd n
@@ -53,7 +53,7 @@ module _ (relations : List RelEntry) (lanes q : ℕ) (v : View) (f : ℕ) (tag :
   written_noted lane_call.Synced can n = absurd n
   written_noted lane_call.SyncFailed can n = absurd n
 
-  failed_noted : (call : LaneCall) → CanNoteWrite tag page (lane_hold v q).flushed (link v f) → NotesWriteFailed f tag page call → MayNote relations lanes q call v
+  failed_noted : (call : LaneCall) → MayNoteWrite tag page (lane_hold v q).flushed (link v f) → NotesWriteFailed f tag page call → MayNote relations lanes q call v
   failed_noted (lane_call.WriteFailed g t p) can n = written_at g t p.value can n.0 n.1 n.2
   failed_noted lane_call.Untouched can n = absurd n
   failed_noted (lane_call.Read g t p) can n = absurd n
@@ -62,10 +62,10 @@ module _ (relations : List RelEntry) (lanes q : ℕ) (v : View) (f : ℕ) (tag :
   failed_noted lane_call.Synced can n = absurd n
   failed_noted lane_call.SyncFailed can n = absurd n
 
-  pub may_note_write : {A E : Type 0} (call : LaneCall) (r : Result A E) → CanNoteWrite tag page (lane_hold v q).flushed (link v f) → MatchResult r (λ _. NotesWritten f tag page call) (λ _. NotesWriteFailed f tag page call) → MayNote relations lanes q call v
+  pub may_note_write : {A E : Type 0} (call : LaneCall) (r : Result A E) → MayNoteWrite tag page (lane_hold v q).flushed (link v f) → MatchResult r (λ _. NotesWritten f tag page call) (λ _. NotesWriteFailed f tag page call) → MayNote relations lanes q call v
   may_note_write call (Ok x) can n = written_noted call can n
   may_note_write call (Err x) can n = failed_noted call can n
 
 -- a lane that went out, and was called once, may come back
-pub may_return : {L : Type 0} (d : LaneDevices L) (known : Bool) (relations : List RelEntry) (lanes q flushed swept : ℕ) (v : View) (before : L) (l : NotedLane L) → lane_hold v q ≡ record (out_lane (taken_of d relations lanes q before) flushed no_lane) { swept = swept } → IsTaken d known relations lanes q before → LaneDid d before l.device l.call → MayNote relations lanes q l.call v → MayReturn d known relations lanes q v l
+pub may_return : {L : Type 0} (d : LaneDevices L) (known : Bool) (relations : List RelEntry) (lanes q flushed swept : ℕ) (v : View) (before : L) (l : NotedLane L) → lane_hold v q ≡ record (out_lane (taken_lane d relations lanes q before) flushed no_lane) { swept = swept } → IsTakenLane d known relations lanes q before → LaneDid d before l.device l.call → MayNote relations lanes q l.call v → MayReturn d known relations lanes q v l
 may_return d known relations lanes q flushed swept v before l out taken did may = record { before = before; out = ap (λ (h : LaneHold). h.out) out; once = ap (λ (h : LaneHold). h.change) out; taken = taken; did = did; may = may }

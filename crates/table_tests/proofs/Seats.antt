@@ -4,7 +4,7 @@ use Rattle.state_word.specs.Fields.{fields}
 use Rattle.atomic_table.specs.Table.{Me}
 use Rattle.pin_core.specs.Kinds.{lock_header}
 use Rattle.frame_table.specs.Kinds.{FrameKind, pins}
-use Rattle.frame_table.specs.Tells.{Did, Looks, kept_view, split_view}
+use Rattle.frame_table.specs.FrameSteps.{Did, Looks, kept_view, split_view}
 use Rattle.atomic_table.specs.declared.shared.Seat.{Seat}
 use Rattle.pin_core.specs.declared.view.View.{View}
 use Rattle.pin_core.specs.State.{link, joined_view}
@@ -12,7 +12,7 @@ use Rattle.pin_core.specs.Steps.{HoldsNothing, IsFree}
 use Rattle.table_rule.specs.declared.value.Value.{Value}
 use Rattle.frame_table.specs.declared.table.FrameTable.{FrameTable}
 use Rattle.frame_table.specs.Closes.{CanClose}
-use Rattle.frame_table.specs.Sees.{CanStep, Fits, Holds, Looked, SameSeat, Touches, frames_of, locked_link, pinned_link, unlocked_link, unpinned_link}
+use Rattle.frame_table.specs.Seats.{CanStep, Fits, HoldsHeader, Looked, SameSeat, Touches, frames_of, locked_link, pinned_link, unlocked_link, unpinned_link}
 use Rattle.frame_table.proofs.Resting.{rests_on, free_unpinned, new_rests}
 use Rattle.frame_table.proofs.Told.{looks_link, touches_on}
 use Rattle.clock_sweep.proofs.Keeping.{same_on}
@@ -55,7 +55,7 @@ settled k f found v w d none = of_pending (link v f).pending refl
     of_pending true e = absurd (((d.laws.invariant.pool.core.grid.cells d.seat v f d.there d.inside).pending e).held none)
 
 -- who holds no header and locks one has stored no tag word under it
-pub holds_locked : (f word : ℕ) (v w : View) → (link v f).header ≡ None → Looked (locked_link word (link v f)) (link w f) → (u : View) (was : ℕ) → Looks f v u → Did (pins lock_header) f u w was → Holds (link w f)
+pub holds_locked : (f word : ℕ) (v w : View) → (link v f).header ≡ None → Looked (locked_link word (link v f)) (link w f) → (u : View) (was : ℕ) → Looks f v u → Did (pins lock_header) f u w was → HoldsHeader (link w f)
 holds_locked f word v w none locked u was looks did = let before = looks_link f v u looks in record {
   held = λ gone. let no : Some (fields word) ≡ None = sym locked.header ∙ gone in absurd (cc);
   settled = locked.pending ∙ sym before.pending ∙ settled (pins lock_header) f was u w did (before.header ∙ none);

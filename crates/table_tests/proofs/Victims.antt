@@ -12,7 +12,7 @@ use Rattle.pin_core.specs.declared.view.Role.TheVariants.{Absent}
 use Rattle.pin_core.specs.State.{link, no_lane}
 use Rattle.table_rule.specs.declared.value.Value.{Value}
 use Rattle.frame_table.specs.declared.table.FrameTable.{FrameTable}
-use Rattle.frame_table.specs.Sees.{Looked, SameSeat, SameSelf, Touches, unlocked_link, unpinned_link}
+use Rattle.frame_table.specs.Seats.{Looked, SameSeat, SameSelf, Touches, unlocked_link, unpinned_link}
 use Rattle.clock_sweep.specs.Keeping.{GetsHeader}
 use Rattle.clock_sweep.specs.Keeping as sweeping
 use Rattle.table_tests.specs.Work.{IsCalm, Keeps, KeepsBeside, OnlyPins, SamePins}
@@ -20,7 +20,7 @@ use Rattle.table_tests.proofs.Working.{calm_looked, calm_unlocked, same_hold}
 
 module _ {L G : Type 0} (t : FrameTable L G) (s s' : Seat (Value L G) View) (p : OnlyPins t s) (same : SameSeat s s') where
   -- no header was taken
-  pub kept_pins : sweeping.Keeps s.me.0 s'.me.0 → OnlyPins t s' × SamePins s s'
+  pub kept_pins : sweeping.KeepsFrames s.me.0 s'.me.0 → OnlyPins t s' × SamePins s s'
   kept_pins k = (
     record {
       quiet = record { fits = same.table ∙ p.quiet.fits; live = ap (λ (x : View). x.emptied) k.aside ∙ p.quiet.live; hand = same.hand ∙ p.quiet.hand; frames = λ f. calm_looked (link s.me.0 f) (link s'.me.0 f) (k.links f) (p.quiet.frames f); lanes = λ n. ap (λ (l : List LaneHold). (get_or l n no_lane).held) (ap (λ (x : View). x.lanes) k.aside) ∙ p.quiet.lanes n; log = ap (λ (h : LogHold). h.held) (ap (λ (x : View). x.log) k.aside) ∙ p.quiet.log };

@@ -25,12 +25,12 @@ use Rattle.history_core.specs.State.{State}
 use Rattle.history_core.specs.Laws.{Laws}
 use Rattle.table_rule.specs.declared.value.Value.{Value}
 use Rattle.frame_table.specs.declared.table.FrameTable.{FrameTable}
-use Rattle.frame_table.specs.Sees.{CanUnpin, HoldsWord, Looked, SameSeat, SameSelf, NamesIn, Touches, assigned_link, locked_link, pinned_link, stored_link, unlocked_link, unpinned_link, victim_link}
+use Rattle.frame_table.specs.Seats.{MayUnpin, HoldsWord, Looked, SameSeat, SameSelf, NamesIn, Touches, assigned_link, locked_link, pinned_link, stored_link, unlocked_link, unpinned_link, victim_link}
 use Rattle.table_rule.specs.declared.turn.Turn.TheVariants.{Partition}
 use Rattle.frame_table.specs.Content.{CanDropExclusive, CanDropShare, exclusive_link, shared_link, unexclusive_link, unshared_link}
-use Rattle.frame_table.specs.Tells.{kept_view}
-use Rattle.frame_table.specs.Turning.{DidTurn, IsTurned, MapStep, SameWork, back_hold}
-use Rattle.map_partitions.specs.Partition.{Holds}
+use Rattle.frame_table.specs.FrameSteps.{kept_view}
+use Rattle.frame_table.specs.Latches.{DidTurn, IsTurned, MapStep, SameWork, back_hold}
+use Rattle.map_partitions.specs.Partition.{HoldsLatch}
 use Rattle.frame_table.proofs.Told.{touches_on}
 use Rattle.clock_sweep.proofs.Keeping.{same_on}
 use Rattle.table_tests.specs.Work.{IsCalm, IsInside, IsQuiet, IsQuietBeside, KeepsBeside, KeepsOthers, OnlyPins, PinsBlock, PinsNone, Rests, SameLatches}
@@ -78,7 +78,7 @@ drop_shared l m c e = subst CanDropShare (sym e) record { right = refl; no_copy 
 pub drop_exclusive : (l m : Link) → IsCalm l → m ≡ exclusive_link l → CanDropExclusive m
 drop_exclusive l m c e = subst CanDropExclusive (sym e) record { right = refl; settled = c.applied; page_home = c.page_home }
 
-pub may_unpin : (l : Link) → IsCalm l → l.role ≡ HandedOut → CanUnpin l
+pub may_unpin : (l : Link) → IsCalm l → l.role ≡ HandedOut → MayUnpin l
 may_unpin l c out = record { pinned = λ none. (let no : HandedOut ≡ Absent = sym out ∙ none in absurd (cc)); no_content = c.no_content; no_io = c.no_io; no_wait = c.no_wait }
 
 -- who doesn't hold a latch names no pair there
@@ -151,7 +151,7 @@ module _ (p : ℕ) (c : MapChange) (entries : List MapEntry) (v u x y w : View) 
 
 -- A view that held no latch takes one
 module _ (p : ℕ) (v w : View) (d : DidTurn true (Partition p) v w) (turned : IsTurned true (Partition p) v w) (free : (q : ℕ) → (hold v q).held ≡ false) where
-  pub inside_taken : Holds Settled w p → IsInside p w
+  pub inside_taken : HoldsLatch Settled w p → IsInside p w
   inside_taken h = record {
     held = h.held;
     home = h.home;

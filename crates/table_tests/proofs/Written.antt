@@ -28,7 +28,7 @@ use Rattle.state_word.specs.declared.word.IoEnd.TheVariants.{ReadOk, WriteOk, Ba
 use Rattle.page_core.specs.Kinds.{saw_valid}
 use Rattle.frame_table.specs.Content.{CanDropShare, begun_link, finished_link, shared_link, unshared_link}
 use Rattle.frame_table.specs.LaneWork.{IsNoted, unwritten_link, written_link}
-use Rattle.frame_table.specs.Sees.{Looked, SameSeat, Touches}
+use Rattle.frame_table.specs.Seats.{Looked, SameSeat, Touches}
 use Rattle.wal_flush.specs.declared.flushes.FlushLog.{FlushLog}
 use Rattle.wal_flush.specs.declared.flushes.FlushLog.TheVariants.{LogShort, LogDown, LogFault}
 use Rattle.wal_flush.specs.Flushes as flushes

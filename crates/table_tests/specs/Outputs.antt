@@ -15,9 +15,9 @@ use Rattle.pin_core.specs.declared.view.View.{View}
 use Rattle.pin_core.specs.State.{Page}
 use Rattle.page_core.specs.Kinds as paged
 use Rattle.frame_table.specs.Kinds.{pages}
-use Rattle.frame_table.specs.Tells.{Did}
+use Rattle.frame_table.specs.FrameSteps.{Did}
 use Rattle.content_locks.specs.Io.{BeginsIo, EndsIo, FindsNothing, LocksHeader}
-use Rattle.content_locks.specs.Locks.{Copies, Locks}
+use Rattle.content_locks.specs.Locks.{Copies, LocksContent}
 use Rattle.wal_flush.specs.declared.flushes.FlushLog.{FlushLog}
 use Rattle.wal_flush.specs.Flushes.{Flushed, FlushRefused, unflushed_view}
 use Rattle.table_tests.specs.declared.writing.FlushError.{FlushError}
@@ -60,7 +60,7 @@ pub record FindsClean (f : ℕ) (v w : View) : Type 0 where
   pub shared : View
   pub found : View
   pub was : ℕ
-  pub shares : Locks paged.share f v shared
+  pub shares : LocksContent paged.share f v shared
   pub finds : FindsNothing false f shared found
   pub unshares : Did (pages paged.unshare) f found w was
   pub calls : w.device_calls ≡ v.device_calls
@@ -123,7 +123,7 @@ pub record UnderShare (Work : View → View → Type 0) (f : ℕ) (v w : View) :
   pub begun : View
   pub ended : View
   pub was : ℕ
-  pub shares : Locks paged.share f v shared
+  pub shares : LocksContent paged.share f v shared
   pub begins : BeginsIo false f shared begun
   pub work : Work begun ended
   pub unshares : Did (pages paged.unshare) f ended w was

@@ -15,7 +15,7 @@ use Rattle.pin_core.specs.Steps.{HasNoVictim, HoldsNothing}
 use Rattle.table_rule.specs.Blocks.{has_block}
 use Rattle.table_rule.specs.declared.value.Value.{Value}
 use Rattle.frame_table.specs.declared.table.FrameTable.{FrameTable}
-use Rattle.frame_table.specs.Sees.{Fits, frames_of, lanes_in, relations_of}
+use Rattle.frame_table.specs.Seats.{Fits, frames_of, lanes_in, relations_of}
 use Rattle.table_tests.specs.declared.copying.Course.{Course}
 
 -- the one relation of the tests' tables: its number is 16384, and its main fork has 64 blocks

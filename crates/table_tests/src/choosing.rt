@@ -3,7 +3,7 @@ ghost use Rattle.std.specs.Prelude.{◌≡◌, ◌<◌, ◌≤◌, ℕ};
 ghost use Rattle.pin_core.specs.declared.view.Role.TheVariants.{Absent};
 ghost use Rattle.pin_core.specs.State.{link};
 ghost use Rattle.frame_table.specs.Closes.{CanClose};
-ghost use Rattle.frame_table.specs.Sees.{frames_of};
+ghost use Rattle.frame_table.specs.Seats.{frames_of};
 ghost use Rattle.table_tests.specs.Work.{IsSmall, Keeps, OnlyPins, PinsNone, SamePins};
 
 use crate::entering::{enter_block, leave_block};

@@ -3,7 +3,7 @@ ghost use Rattle.std.specs.Prelude.{◌≡◌, ◌<◌, true};
 ghost use Rattle.std.specs.Thread.{IsSync};
 ghost use Rattle.pin_core.specs.State.{link};
 ghost use Rattle.frame_table.specs.Closes.{CanClose};
-ghost use Rattle.frame_table.specs.Sees.{frames_of};
+ghost use Rattle.frame_table.specs.Seats.{frames_of};
 ghost use Rattle.table_tests.specs.Work.{ChangesOn, CopiesOn, HasBlock, Keeps, KeepsBeside, OnlyPins, PinsBlock, PinsNone, SeesPage, backends_of};
 
 use crate::entering::enter_block;

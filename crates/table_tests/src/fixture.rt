@@ -1,7 +1,7 @@
 //! A small table.
 ghost use Rattle.std.specs.Prelude.{◌≡◌, ◌<◌, ◌≤◌, ◌^◌, IfOk};
 ghost use Rattle.frame_table.specs.Closes.{CanClose};
-ghost use Rattle.frame_table.specs.Sees.{frames_of};
+ghost use Rattle.frame_table.specs.Seats.{frames_of};
 ghost use Rattle.table_tests.specs.Work.{HasBlock, IsSmall, OnlyPins, PinsNone, relations};
 
 use crate::devices::{TestLane, TestLog};

@@ -2,7 +2,7 @@
 ghost use Rattle.std.specs.Prelude.{◌≡◌, ◌<◌, Some, true};
 ghost use Rattle.std.specs.Bool.{OnTrue};
 ghost use Rattle.pin_core.specs.State.{link};
-ghost use Rattle.frame_table.specs.Sees.{frames_of};
+ghost use Rattle.frame_table.specs.Seats.{frames_of};
 ghost use Rattle.table_tests.specs.Work.{HasBlock, IsQuiet, IsQuietBeside, KeepsBeside, LanesHome, OnlyPins, PinsBlock, Reads, SameLatches};
 
 use crate::fixture::{Table, TableSeat};

@@ -2,7 +2,7 @@
 ghost use Rattle.std.specs.Prelude.{◌≡◌, ◌<◌};
 ghost use Rattle.std.specs.Thread.{IsSync};
 ghost use Rattle.frame_table.specs.Closes.{CanClose};
-ghost use Rattle.frame_table.specs.Sees.{frames_of};
+ghost use Rattle.frame_table.specs.Seats.{frames_of};
 ghost use Rattle.table_tests.specs.Work.{Keeps, Rests, backends_of};
 
 use crate::fixture::{Table, TableSeat};

@@ -8,7 +8,7 @@ ghost use Rattle.pin_core.specs.declared.view.Io.TheVariants.{Output, Quiet};
 ghost use Rattle.pin_core.specs.declared.view.LastWrite.TheVariants.{Done};
 ghost use Rattle.pin_core.specs.State.{link};
 ghost use Rattle.frame_table.specs.Closes.{CanClose};
-ghost use Rattle.frame_table.specs.Sees.{frames_of};
+ghost use Rattle.frame_table.specs.Seats.{frames_of};
 ghost use Rattle.table_tests.specs.Outputs.{ClearsJust, FrameAnswer, FrameSteps, OutSteps, PageAnswer, PageSteps, Shares};
 ghost use Rattle.table_tests.specs.Work.{HasBlock, IsQuietBeside, KeepsBeside, LanesHome, OnlyPins, PinsBlock, PinsNone, SameLatches};
 

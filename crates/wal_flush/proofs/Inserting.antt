@@ -10,10 +10,10 @@ use Rattle.history_core.specs.Log.{record_size}
 use Rattle.history_core.specs.State.{last_position}
 use Rattle.table_rule.specs.declared.turn.Turn.TheVariants.{Log}
 use Rattle.frame_table.specs.Entering.{entered_link}
-use Rattle.frame_table.specs.Turning.{DidTurn}
+use Rattle.frame_table.specs.Latches.{DidTurn}
 use Rattle.wal_flush.specs.declared.inserts.InsertError.{InsertError}
 use Rattle.wal_flush.specs.Latched.{KeepsWork, Opens, UnderLatch, as_counted}
-use Rattle.wal_flush.specs.Inserts.{EnterRefused, Enters, InsertRefused, Inserts, SeesEnd, inserted_view, refused_view}
+use Rattle.wal_flush.specs.Inserts.{EnterRefused, Enters, InsertRefused, Inserts, InsertSeesEnd, inserted_view, refused_view}
 use Rattle.wal_flush.proofs.Views.{insert_view, inserted_link, other_links, refused_sees, refused_work, unentered_view}
 
 module _ (relations : List RelEntry) (f : ℕ) (tag : Tag) (end : ℕ) (v loaded worked w : View) (opens : Opens end v loaded) (leaves : DidTurn false Log worked w) (result : Result ℕ InsertError) where
@@ -72,6 +72,6 @@ work_stays v w (Ok lsn) none = none
 work_stays v w (Err why) e = refused_work why v w e
 
 -- the log end that it names was seen
-pub seen_refused : (relations : List RelEntry) (f : ℕ) (tag : Tag) (p : Page) (v w : View) (result : Result ℕ InsertError) → IfErr result (InsertRefused relations f tag p v w) → IfErr result (λ why. SeesEnd why w)
+pub seen_refused : (relations : List RelEntry) (f : ℕ) (tag : Tag) (p : Page) (v w : View) (result : Result ℕ InsertError) → IfErr result (InsertRefused relations f tag p v w) → IfErr result (λ why. InsertSeesEnd why w)
 seen_refused relations f tag p v w (Ok lsn) none = none
 seen_refused relations f tag p v w (Err why) r = refused_sees relations f tag p why v w r

@@ -12,7 +12,7 @@ use Rattle.history_core.specs.Device.{LogKind, take_log, leave_log, log_out, app
 use Rattle.history_core.specs.Steps.{has_loaded}
 use Rattle.table_rule.specs.declared.turn.Turn.TheVariants.{Log}
 use Rattle.frame_table.specs.LogWork.{DidLog, DidTwo}
-use Rattle.frame_table.specs.Turning.{DidTurn}
+use Rattle.frame_table.specs.Latches.{DidTurn}
 use Rattle.wal_flush.specs.Latched.{FindsDown, GoesOutUp, Opens, downed, faulted, opened_log}
 
 -- a step that counts no call of the log and no fault, and one that counts these

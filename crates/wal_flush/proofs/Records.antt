@@ -19,7 +19,7 @@ use Rattle.table_rule.specs.LogCalls.{IsAppended, IsFailedAppend, LogDid}
 use Rattle.table_rule.specs.declared.noted_log.LogCall.{LogCall}
 use Rattle.table_rule.specs.declared.noted_log.LogCall.TheVariants as log_call
 use Rattle.table_rule.specs.declared.noted_log.NotedLog.{NotedLog}
-use Rattle.frame_table.specs.Entering.{IsRecord, MayEnter}
+use Rattle.frame_table.specs.Entering.{IsRecord, MayBecomeEntry}
 use Rattle.frame_table.specs.LogWork.{ComesHome, DidTwo, GoesOut, IsPart, LogCame, LogWent}
 use Rattle.wal_flush.specs.Flushes.{FailsToSync}
 use Rattle.wal_flush.specs.Inserts.{CanInsert, FailsToAppend}
@@ -27,7 +27,7 @@ use Rattle.wal_flush.specs.Latched.{GoesOutUp, opened_log}
 use Rattle.page_layout.proofs.Positions.{length_with, sound_with, used_with}
 
 -- the page with the position of its entry's end may be entered
-pub may_enter : (relations : List RelEntry) (f : ℕ) (tag : Tag) (p q : Page) (start : ℕ) (v : View) → CanInsert relations f tag p v → v.log ≡ opened_log start → length p ≡ 8192 → start + record_size ≤ last_position → q ≡ with_lsn (start + record_size) p → lsn_of q ≡ start + record_size → MayEnter f tag q start v
+pub may_enter : (relations : List RelEntry) (f : ℕ) (tag : Tag) (p q : Page) (start : ℕ) (v : View) → CanInsert relations f tag p v → v.log ≡ opened_log start → length p ≡ 8192 → start + record_size ≤ last_position → q ≡ with_lsn (start + record_size) p → lsn_of q ≡ start + record_size → MayBecomeEntry f tag q start v
 may_enter relations f tag p q start v can opened full room is ends = let long : 8 ≤ length p = omega arith in record {
   loaded = ap (λ (h : LogHold). h.end) opened;
   named = can.named;

@@ -15,7 +15,7 @@ use Rattle.pin_core.specs.State.{Page, idle, link, no_log}
 use Rattle.history_core.specs.Device.{take_log, leave_log, log_out, append, sync_log, log_back}
 use Rattle.history_core.specs.Log.{record_size}
 use Rattle.history_core.specs.Steps.{has_loaded}
-use Rattle.frame_table.specs.Behind.{DidWord, load_flushed, raise_flushed, view_of}
+use Rattle.frame_table.specs.WordSteps.{DidWord, load_flushed, raise_flushed, view_of}
 use Rattle.segment_store.specs.Contents.{Pages}
 use Rattle.frame_table.specs.declared.table.FrameTable.{FrameTable}
 use Rattle.frame_table.specs.Opened.{LoggedOrOpening}
@@ -28,7 +28,7 @@ use Rattle.wal_flush.specs.Latched.{FindsDown, KeepsWork, kept_of, UnderLatch, a
 use Rattle.wal_flush.specs.Inserts.{EnterRefused, Enters, InsertRefused, inserted_view, refused_view}
 use Rattle.wal_flush.specs.Inserts as inserting
 use Rattle.wal_flush.specs.Flushes as flushing
-use Rattle.wal_flush.specs.Flushes.{FindsFlushed, FlushRefused, Flushed, already, meanwhile, by_sync, Flushes, HolderRefused, Looks, still, again, SeesFlushed, SeesUnflushed, StillUnflushed, SyncRefused, Syncs, Tries, WasFlushed, as_looked, synced_view, unflushed_view}
+use Rattle.wal_flush.specs.Flushes.{FindsFlushed, FlushRefused, Flushed, already, meanwhile, by_sync, Flushes, HolderRefused, LoadsBelow, still, again, SeesFlushed, SeesUnflushed, StillUnflushed, SyncRefused, SyncsLog, Tries, WasFlushed, as_looked, synced_view, unflushed_view}
 use Rattle.wal_flush.proofs.LogSteps.{quiet, counting, opens_view, leaves_view, free_log, appended_view, synced_view as after_sync, unappended_view, unsynced_view, down_view}
 
 -- but for steps and loads w is t, where it is x, and x is t so
@@ -101,11 +101,11 @@ found_view lsn end v w u free = let none = free_log v u.opens.held u.opens.takes
 abbrev raised : View → View
 raised v = view_of raise_flushed 0 v
 
-flushed_view : (lsn end : ℕ) (v w : View) → UnderLatch end (StillUnflushed lsn end Syncs) v w → v.log.held ≡ false → w ≡ as_looked (synced_view v) w
+flushed_view : (lsn end : ℕ) (v w : View) → UnderLatch end (StillUnflushed lsn end SyncsLog) v w → v.log.held ≡ false → w ≡ as_looked (synced_view v) w
 flushed_view lsn end v w u free = let none = free_log v u.opens.held u.opens.takes free in let a = u.work in let b = a.work in
     let done : View → View = λ x. raised (quiet (log_back false) (counting sync_log (x.device_calls ++ LogSync true ∷ []) x.met x.saw_down (quiet (log_out b.went.taken) x))) in
     let big : View = quiet leave_log (done (after_look a.second.found (opened end v))) in
-    looked_as (synced_view v) w big (around end (StillUnflushed lsn end Syncs) v w u (λ x. done (after_look a.second.found x)) (b.raises.after ∙ ap raised (after_sync a.looked b.out b.went b.home b.syncs) ∙ ap done a.second.did.after)) (λ i. record big { log = (left_hold v v.log.appended none refl) i })
+    looked_as (synced_view v) w big (around end (StillUnflushed lsn end SyncsLog) v w u (λ x. done (after_look a.second.found x)) (b.raises.after ∙ ap raised (after_sync a.looked b.out b.went b.home b.syncs) ∙ ap done a.second.did.after)) (λ i. record big { log = (left_hold v v.log.appended none refl) i })
 
 unsynced : (lsn end : ℕ) (why : FlushLog) (v w : View) → UnderLatch end (HolderRefused lsn end why) v w → v.log.held ≡ false → w ≡ as_looked (unflushed_view why v) w
 unsynced lsn end (flush_log.LogShort l at) v w u free = let none = free_log v u.opens.held u.opens.takes free in
@@ -124,7 +124,7 @@ unsynced lsn end flush_log.LogFault v w u free = let none = free_log v u.opens.h
 saw : (found : ℕ) (v w : View) → DidWord load_flushed v w found → w ≡ as_looked v w
 saw found v w d = d.after ∙ ap (as_looked v) (sym d.after)
 
-looks_view : (lsn : ℕ) (v w : View) → Looks lsn v w → w ≡ as_looked v w
+looks_view : (lsn : ℕ) (v w : View) → LoadsBelow lsn v w → w ≡ as_looked v w
 looks_view lsn v w still = refl
 looks_view lsn v w (again {u = u} before s) = saw s.found u w s.did ∙ ap (λ (x : View). as_looked x w) (looks_view lsn v u before)
 
@@ -189,12 +189,12 @@ seen_after end Work v w u more = let a = ap (λ (x : View). x.end_seen) u.opens.
 down_seen : (at : ℕ) (v w : View) → FindsDown at v w → v.end_seen ≤ w.end_seen
 down_seen at v w d = let e = ap (λ (x : View). x.end_seen) (down_view at v w d) in omega arith
 
-pub refused_sees : (relations : List RelEntry) (f : ℕ) (tag : Tag) (p : Page) (why : InsertError) (v w : View) → InsertRefused relations f tag p v w why → inserting.SeesEnd why w
+pub refused_sees : (relations : List RelEntry) (f : ℕ) (tag : Tag) (p : Page) (why : InsertError) (v w : View) → InsertRefused relations f tag p v w why → inserting.InsertSeesEnd why w
 refused_sees relations f tag p (insert_error.LogFull at) v w (end, u) = let e = seen_after end (EnterRefused relations f tag p end (insert_error.LogFull at)) v w u (let x = ap (λ (x : View). x.end_seen) u.work.2 in omega arith) in let is = u.work.0 in omega arith
 refused_sees relations f tag p (insert_error.LogDown at) v w (end, u) = let e = seen_after end (EnterRefused relations f tag p end (insert_error.LogDown at)) v w u (down_seen at u.loaded u.worked u.work.2) in let is = u.work.0 in omega arith
 refused_sees relations f tag p insert_error.LogFault v w r = tt
 
-pub unflushed_sees : (lsn : ℕ) (why : FlushLog) (v w : View) → FlushRefused lsn v w why → flushing.SeesEnd why w
+pub unflushed_sees : (lsn : ℕ) (why : FlushLog) (v w : View) → FlushRefused lsn v w why → flushing.FlushSeesEnd why w
 unflushed_sees lsn (flush_log.LogShort l at) v w (end, t) = let e = seen_after end (HolderRefused lsn end (flush_log.LogShort l at)) t.looked w t.work (let x = ap (λ (x : View). x.end_seen) t.work.work.3 in omega arith) in let is = t.work.work.1 in omega arith
 unflushed_sees lsn (flush_log.LogDown at) v w (end, t) = let a = t.work.work in let e = seen_after end (HolderRefused lsn end (flush_log.LogDown at)) t.looked w t.work (let x = ap (λ (x : View). x.end_seen) a.second.did.after in let y = down_seen at a.looked t.work.worked a.work.1 in omega arith) in let is = a.work.0 in omega arith
 unflushed_sees lsn flush_log.LogFault v w r = tt

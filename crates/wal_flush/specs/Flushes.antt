@@ -3,7 +3,7 @@ use Rattle.std.specs.Prelude.{◌≡◌, ℕ, ◌<◌, ◌≤◌, true, false, [
 use Rattle.pin_core.specs.declared.view.DeviceCall.TheVariants.{LogSync}
 use Rattle.pin_core.specs.declared.view.View.{View}
 use Rattle.history_core.specs.Device.{sync_log, fail_sync, log_back}
-use Rattle.frame_table.specs.Behind.{DidWord, load_flushed, raise_flushed}
+use Rattle.frame_table.specs.WordSteps.{DidWord, load_flushed, raise_flushed}
 use Rattle.segment_store.specs.Contents.{Pages}
 use Rattle.frame_table.specs.declared.table.FrameTable.{FrameTable}
 use Rattle.frame_table.specs.Opened.{LoggedOrOpening}
@@ -27,18 +27,18 @@ pub record SeesUnflushed (lsn : ℕ) (v w : View) : Type 0 where
   pub before : found < lsn
 
 -- so it was, any number of times
-pub data Looks (lsn : ℕ) : View → View → Type 0 where
-  still : {v : View} → Looks lsn v v
-  again : {v u w : View} → Looks lsn v u → SeesUnflushed lsn u w → Looks lsn v w
+pub data LoadsBelow (lsn : ℕ) : View → View → Type 0 where
+  still : {v : View} → LoadsBelow lsn v v
+  again : {v u w : View} → LoadsBelow lsn v u → SeesUnflushed lsn u w → LoadsBelow lsn v w
 
 -- It was loaded until it was at `lsn` or behind it
 pub record Awaits (lsn : ℕ) (v w : View) : Type 0 where
   pub last : View
-  pub waits : Looks lsn v last
+  pub waits : LoadsBelow lsn v last
   pub sees : SeesFlushed lsn last w
 
 -- The one call of the log was a sync, which was done, and the flushed position was raised to the log's end
-pub record Syncs (v w : View) : Type 0 where
+pub record SyncsLog (v w : View) : Type 0 where
   pub out : View
   pub home : View
   pub found : ℕ
@@ -68,7 +68,7 @@ pub record StillUnflushed (lsn end : ℕ) (Work : View → View → Type 0) (v w
 -- What the holder of the latch did where it found the log flushed up to `lsn`, or flushed it
 abbrev pub HolderFlushed : ℕ → ℕ → FlushedBy → View → View → Type 0
 HolderFlushed lsn end Another v w = FindsFlushed lsn end v w
-HolderFlushed lsn end Holder v w = StillUnflushed lsn end Syncs v w
+HolderFlushed lsn end Holder v w = StillUnflushed lsn end SyncsLog v w
 
 -- Why the log, which ends at `end`, is not synced, and what was done
 abbrev pub SyncRefused : ℕ → FlushLog → View → View → Type 0
@@ -99,7 +99,7 @@ pub record WasFlushed (lsn : ℕ) (v w : View) : Type 0 where
 pub record Flushes (lsn : ℕ) (v w : View) : Type 0 where
   pub end : ℕ
   pub synced : View
-  pub tried : Tries lsn end (StillUnflushed lsn end Syncs) v synced
+  pub tried : Tries lsn end (StillUnflushed lsn end SyncsLog) v synced
   pub awaits : Awaits lsn synced w
 
 -- the view v, with the steps and loads that w counts, the log end and the flushed position that w has seen, and where it raised that position to
@@ -107,10 +107,10 @@ abbrev pub as_looked : View → View → View
 as_looked v w = record v { steps = w.steps; loads = w.loads; end_seen = w.end_seen; flushed = w.flushed; raised_to = w.raised_to }
 
 -- The log end that a refusal names was seen
-abbrev pub SeesEnd : FlushLog → View → Type 0
-SeesEnd (LogShort lsn end) w = end ≤ w.end_seen
-SeesEnd (LogDown at) w = at ≤ w.end_seen
-SeesEnd LogFault w = Unit {0}
+abbrev pub FlushSeesEnd : FlushLog → View → Type 0
+FlushSeesEnd (LogShort lsn end) w = end ≤ w.end_seen
+FlushSeesEnd (LogDown at) w = at ≤ w.end_seen
+FlushSeesEnd LogFault w = Unit {0}
 
 -- where the log is too short each page that the view has copied has a position at its end or before it, or is the one that its block's lane held as the table was opened, where that is known
 abbrev pub ShortOf : {L G : Type 0} → (L → Option Pages) → FrameTable L G → View → FlushLog → Type 0

@@ -84,10 +84,10 @@ pub record Inserts (relations : List RelEntry) (f : ℕ) (tag : Tag) (p : Page) 
   pub work : UnderLatch start (Enters relations f tag start p) v w
 
 -- the log end that a refusal names was seen
-abbrev pub SeesEnd : InsertError → View → Type 0
-SeesEnd (LogFull end) w = end ≤ w.end_seen
-SeesEnd (LogDown at) w = at ≤ w.end_seen
-SeesEnd LogFault w = Unit {0}
+abbrev pub InsertSeesEnd : InsertError → View → Type 0
+InsertSeesEnd (LogFull end) w = end ≤ w.end_seen
+InsertSeesEnd (LogDown at) w = at ≤ w.end_seen
+InsertSeesEnd LogFault w = Unit {0}
 
 -- the view then: the write is the last of its calls, whose place is its front, and it has called the log once
 abbrev pub inserted_view : ℕ → ℕ → Page → ℕ → View → View

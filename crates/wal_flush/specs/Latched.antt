@@ -6,9 +6,9 @@ use Rattle.pin_core.specs.declared.view.View.{View}
 use Rattle.pin_core.specs.State.{no_log}
 use Rattle.history_core.specs.Device.{log_out, log_back, see_down}
 use Rattle.table_rule.specs.declared.turn.Turn.TheVariants.{Log}
-use Rattle.frame_table.specs.Behind.{DidWord, load_end}
+use Rattle.frame_table.specs.WordSteps.{DidWord, load_end}
 use Rattle.frame_table.specs.LogWork.{DidLog, DidTwo}
-use Rattle.frame_table.specs.Turning.{DidTurn}
+use Rattle.frame_table.specs.Latches.{DidTurn}
 
 -- The view v became w: the log's latch was taken, and the log's end loaded as `end`
 pub record Opens (end : ℕ) (v w : View) : Type 0 where

@@ -1,10 +1,10 @@
 //! Flushes (`XLogFlush`).
 ghost use Rattle.std.specs.Prelude.{◌≡◌, ◌<◌, ◌≤◌, false, IfErr, IfOk, MatchResult};
 ghost use Rattle.table_rule.specs.declared.turn.Turn.TheVariants.{Log};
-ghost use Rattle.frame_table.specs.Sees.{CanTurn, IsSeat, SameSeat};
-ghost use Rattle.frame_table.specs.Turning.{MayLeave};
+ghost use Rattle.frame_table.specs.Seats.{CanTurn, IsSeat, SameSeat};
+ghost use Rattle.frame_table.specs.Latches.{MayLeave};
 ghost use Rattle.wal_flush.specs.Latched.{KeepsWork, opened_log};
-ghost use Rattle.wal_flush.specs.Flushes.{Awaits, Flushed, FlushRefused, HolderFlushed, HolderRefused, SeesEnd, ShortOf, SyncRefused, Syncs, as_looked, unflushed_view};
+ghost use Rattle.wal_flush.specs.Flushes.{Awaits, Flushed, FlushRefused, HolderFlushed, HolderRefused, FlushSeesEnd, ShortOf, SyncRefused, SyncsLog, as_looked, unflushed_view};
 
 use crate::outings::{take_end, take_log};
 use atomic_table::Seat;
@@ -38,7 +38,7 @@ enum FlushedBy {
     Holder,
 }
 
-/// Syncs the log, and raises the flushed position to its end, as it was loaded under the latch.
+/// SyncsLog the log, and raises the flushed position to its end, as it was loaded under the latch.
 fn sync<L: BlockLane, G: LogDevice>(
     table: &FrameTable<L, G>,
     seat: &mut Seat<Value<L, G>, View>,
@@ -50,7 +50,7 @@ fn sync<L: BlockLane, G: LogDevice>(
     ensures can { CanTurn table.now seat.new Log }
     ensures leaves { MayLeave Log seat.new.me.0 }
     ensures flushed { seat.new.me.0.flushed ≡ seat.old.me.0.flushed }
-    ensures synced { IfOk result (λ _. Syncs seat.old.me.0 seat.new.me.0) }
+    ensures synced { IfOk result (λ _. SyncsLog seat.old.me.0 seat.new.me.0) }
     ensures cause { IfErr result (λ why. SyncRefused end why seat.old.me.0 seat.new.me.0) }
 {
     let mut log = match take_log(table, seat) {
@@ -132,7 +132,7 @@ pub fn flush_to<L: BlockLane, G: LogDevice, R: Wait>(
     ensures flushed { MatchResult result (λ _. lsn ≤ seat.new.me.0.flushed) (λ _. seat.new.me.0.flushed < lsn) }
     ensures left { IfErr result (λ why. seat.new.me.0 ≡ as_looked (unflushed_view why seat.old.me.0) seat.new.me.0) }
     ensures did { IfOk result (λ _. Flushed lsn seat.old.me.0 seat.new.me.0) }
-    ensures seen { IfErr result (λ why. SeesEnd why seat.new.me.0) }
+    ensures seen { IfErr result (λ why. FlushSeesEnd why seat.new.me.0) }
     ensures short { IfErr result (ShortOf L.contents table.now seat.old.me.0) }
     ensures cause { IfErr result (FlushRefused lsn seat.old.me.0 seat.new.me.0) }
 {

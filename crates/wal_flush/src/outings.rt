@@ -9,7 +9,7 @@ ghost use Rattle.table_rule.specs.declared.value.Value.TheVariants as value;
 ghost use Rattle.table_rule.specs.Layout.{slot_of};
 ghost use Rattle.frame_table.specs.LogWork.{LogWent};
 ghost use Rattle.frame_table.specs.Opened.{LoggedOrOpening};
-ghost use Rattle.frame_table.specs.Sees.{CanTurn, IsSeat, SameSeat, frames_of};
+ghost use Rattle.frame_table.specs.Seats.{CanTurn, IsSeat, SameSeat, frames_of};
 ghost use Rattle.wal_flush.specs.Latched.{FindsDown, Opens, opened_log};
 
 use atomic_table::Seat;

@@ -1,7 +1,7 @@
 //! The log's two positions.
 ghost use Rattle.std.specs.Prelude.{◌≡◌, ◌≤◌};
-ghost use Rattle.frame_table.specs.Behind.{DidWord, load_end, load_flushed, view_of};
-ghost use Rattle.frame_table.specs.Sees.{IsSeat, SameSeat, base_of};
+ghost use Rattle.frame_table.specs.WordSteps.{DidWord, load_end, load_flushed, view_of};
+ghost use Rattle.frame_table.specs.Seats.{IsSeat, SameSeat, base_of};
 
 use atomic_table::Seat;
 use frame_table::{EndLoad, FrameTable, Value};

@@ -1,4 +1,4 @@
-use Rattle.frame_table.specs.Sees.{SameSeat, frames_of}
+use Rattle.frame_table.specs.Seats.{SameSeat, frames_of}
 use Rattle.clock_sweep.specs.Choosing.{LeavesFree}
 use Rattle.clock_sweep.proofs.choice.from_free_list.Given as goal
 

@@ -1,5 +1,5 @@
 use Rattle.std.proofs.Common.{◌≡◌, ◌≤◌}
-use Rattle.frame_table.specs.Sees.{SameSeat, frames_of}
+use Rattle.frame_table.specs.Seats.{SameSeat, frames_of}
 use Rattle.clock_sweep.specs.Choosing.{Sweeps}
 use Rattle.clock_sweep.proofs.clock.from_clock.Given as goal
 

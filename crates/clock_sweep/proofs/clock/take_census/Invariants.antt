@@ -1,5 +1,5 @@
 use Rattle.std.proofs.Common.{◌≡◌}
-use Rattle.frame_table.specs.Sees.{SameSeat}
+use Rattle.frame_table.specs.Seats.{SameSeat}
 use Rattle.clock_sweep.specs.Choosing.{Counts}
 use Rattle.clock_sweep.proofs.clock.take_census.Given as goal
 

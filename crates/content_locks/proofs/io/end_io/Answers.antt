@@ -1,9 +1,9 @@
 use Rattle.std.proofs.Common.{ℕ, sym, subst}
-use Rattle.frame_table.specs.Sees.{Touches}
+use Rattle.frame_table.specs.Seats.{Touches}
 use Rattle.frame_table.proofs.Told.{touches_on}
 use Rattle.state_word.specs.Fields.{fields}
 use Rattle.pin_core.specs.State.{link}
-use Rattle.frame_table.specs.Sees.{IsWordOf}
+use Rattle.frame_table.specs.Seats.{IsWordOf}
 use Rattle.frame_table.proofs.Marks.{ended_marks_on}
 use Rattle.content_locks.specs.Io.{LocksHeader}
 use Rattle.content_locks.proofs.io.end_io.Goals as goal

@@ -1,5 +1,5 @@
 use Rattle.pin_core.specs.State.{link}
-use Rattle.frame_table.specs.Sees.{Looked, SameMarks, SameSeat, Touches}
+use Rattle.frame_table.specs.Seats.{Looked, SameMarks, SameSeat, Touches}
 use Rattle.content_locks.specs.Io.{Waits}
 use Rattle.content_locks.proofs.io.start_io.Given as goal
 

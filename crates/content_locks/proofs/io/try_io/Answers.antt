@@ -4,7 +4,7 @@ use Rattle.pin_core.specs.declared.view.Link.{Link}
 use Rattle.content_locks.specs.Io.{is_nothing}
 use Rattle.content_locks.proofs.InOut.{unlocked_back, begun_back, can_begin, tag_there, begins, finds, quiet_locked, sees}
 use Rattle.std.specs.Prelude.{not, ◌||◌}
-use Rattle.frame_table.specs.Sees.{Marks}
+use Rattle.frame_table.specs.Seats.{ViewMarks}
 use Rattle.frame_table.proofs.Told.{touches_on}
 use Rattle.content_locks.proofs.io.try_io.Goals as goal
 
@@ -20,7 +20,7 @@ pub begin_io-requires-clause-view : goal.begin_io-requires-clause-view
 begin_io-requires-clause-view g c = let k = c.lock_header-word.ensures in can_begin _ _ _ k.locked _ c.requires.view (sym c.has.ensures ∙ c.if-has.false) (sym c.shows_nothing.ensures ∙ c.if-shows_nothing.false) (tag_there _ _ _ _ k.did k.locked)
 
 pub returns-clause-tried : goal.returns-clause-tried
-returns-clause-tried g c = let b = c.begin_io.ensures in (b.right.0, b.right.1, begun_back _ _ _ c.lock_header-word.ensures.locked _ _ b.begun, begins _ _ _ _ c.lock_header-word.ensures.did _ _ b.did, b.marks ∙ ap (λ (m : Marks). record m { had_output = m.had_output || not c.args.input }) c.lock_header-word.ensures.marks)
+returns-clause-tried g c = let b = c.begin_io.ensures in (b.right.0, b.right.1, begun_back _ _ _ c.lock_header-word.ensures.locked _ _ b.begun, begins _ _ _ _ c.lock_header-word.ensures.did _ _ b.did, b.marks ∙ ap (λ (m : ViewMarks). record m { had_output = m.had_output || not c.args.input }) c.lock_header-word.ensures.marks)
 
 pub begin_io-requires-clause-quiet : goal.begin_io-requires-clause-quiet
 begin_io-requires-clause-quiet g c = let k = c.lock_header-word.ensures in quiet_locked _ _ _ _ k.touches k.locked c.requires.quiet

@@ -1,6 +1,6 @@
 use Rattle.std.proofs.Common.{ℕ, sym, subst}
 use Rattle.pin_core.specs.State.{link}
-use Rattle.frame_table.specs.Sees.{CanUnpin}
+use Rattle.frame_table.specs.Seats.{MayUnpin}
 use Rattle.table_tests.proofs.Working.{keeps_touched, may_unpin, none_given_up, pinned_pins, pins_given_up}
 use Rattle.table_tests.proofs.choosing.touch.Goals as goal
 
@@ -16,4 +16,4 @@ pub unpin-requires-clause-pinned : goal.unpin-requires-clause-pinned
 unpin-requires-clause-pinned g c =
     let a = c.try_pin.ensures in
     let p = pinned_pins _ _ _ c.requires.pins.0 _ _ a.seat a.touches c.in-Ok.ensures.pinned in
-    subst (λ (f : ℕ). CanUnpin (link c.try_pin.new.seat.me.0 f)) (sym c.in-Ok.ensures.pin) (may_unpin _ (p.quiet.frames c.args.frame) c.in-Ok.ensures.pinned.role)
+    subst (λ (f : ℕ). MayUnpin (link c.try_pin.new.seat.me.0 f)) (sym c.in-Ok.ensures.pin) (may_unpin _ (p.quiet.frames c.args.frame) c.in-Ok.ensures.pinned.role)

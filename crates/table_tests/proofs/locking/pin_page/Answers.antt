@@ -1,8 +1,8 @@
 use Rattle.std.proofs.Common.{◌≡◌, ℕ, subst, sym, ◌∙◌}
 use Rattle.pin_core.specs.declared.view.Role.TheVariants.{Absent, HandedOut}
 use Rattle.pin_core.specs.State.{link}
-use Rattle.frame_table.specs.Sees.{CanUnpin}
-use Rattle.frame_table.specs.Tells.{looking}
+use Rattle.frame_table.specs.Seats.{MayUnpin}
+use Rattle.frame_table.specs.FrameSteps.{looking}
 use Rattle.frame_table.proofs.Seeing.{sees_valid}
 use Rattle.table_tests.proofs.Seats.{settled}
 use Rattle.table_tests.proofs.Working.{beside_on, keeps_touched, looked_pins, may_unpin, pinned_pins, pins_given_up}
@@ -30,7 +30,7 @@ unpin-requires-clause-pinned g c =
     let a = c.try_pin.ensures in
     let l = c.look.ensures in
     let pins = looked_pins _ _ _ (pinned_pins _ _ _ c.requires.pins.0 _ _ a.seat a.touches c.in-Ok.ensures.pinned) _ l.seat l.touches l.link in
-    subst (λ (f : ℕ). CanUnpin (link c.look.new.seat.me.0 f)) (sym c.in-Ok.ensures.pin) (may_unpin _ (pins.quiet.frames c.args.frame) (l.link.role ∙ c.in-Ok.ensures.pinned.role))
+    subst (λ (f : ℕ). MayUnpin (link c.look.new.seat.me.0 f)) (sym c.in-Ok.ensures.pin) (may_unpin _ (pins.quiet.frames c.args.frame) (l.link.role ∙ c.in-Ok.ensures.pinned.role))
 
 pub returns-clause-pins : goal.returns-clause-pins
 returns-clause-pins g c =

@@ -3,7 +3,7 @@ use Rattle.pin_core.specs.declared.view.LogHold.{LogHold}
 use Rattle.pin_core.specs.declared.view.View.{View}
 use Rattle.pin_core.specs.State.{Page}
 use Rattle.table_rule.specs.LogCalls.{LogDid}
-use Rattle.frame_table.specs.Sees.{relations_of}
+use Rattle.frame_table.specs.Seats.{relations_of}
 use Rattle.frame_table.proofs.LogCalling.{appends_out, home_after_append}
 use Rattle.wal_flush.specs.Inserts.{FailsToAppend}
 use Rattle.wal_flush.proofs.LogSteps.{down_at_end}

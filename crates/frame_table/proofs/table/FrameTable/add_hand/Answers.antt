@@ -1,5 +1,5 @@
 use Rattle.std.proofs.Common.{rules, arith}
-use Rattle.frame_table.proofs.Behind.{adds_hand_there}
+use Rattle.frame_table.proofs.WordSteps.{adds_hand_there}
 use Rattle.frame_table.proofs.table.FrameTable.add_hand.Goals as goal
 
 pub fetch_add-requires : goal.fetch_add-requires

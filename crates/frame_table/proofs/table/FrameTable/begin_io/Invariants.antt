@@ -1,5 +1,5 @@
 use Rattle.frame_table.specs.Kinds.{pages}
-use Rattle.frame_table.specs.Tells.{always}
+use Rattle.frame_table.specs.FrameSteps.{always}
 use Rattle.frame_table.specs.Content.{start_of}
 use Rattle.frame_table.proofs.table.FrameTable.begin_io.Given as goal
 

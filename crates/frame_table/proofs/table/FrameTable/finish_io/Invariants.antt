@@ -1,6 +1,6 @@
 use Rattle.page_core.specs.Kinds.{end_io}
 use Rattle.frame_table.specs.Kinds.{pages}
-use Rattle.frame_table.specs.Tells.{always}
+use Rattle.frame_table.specs.FrameSteps.{always}
 use Rattle.frame_table.proofs.table.FrameTable.finish_io.Given as goal
 
 -- the end is the caller's

@@ -1,5 +1,5 @@
 use Rattle.std.proofs.Common.{rules, arith}
-use Rattle.frame_table.proofs.Behind.{flushed_below, loads_flushed_there}
+use Rattle.frame_table.proofs.WordSteps.{flushed_below, loads_flushed_there}
 use Rattle.frame_table.proofs.table.FrameTable.load_flushed.Goals as goal
 
 pub load-requires : goal.load-requires

@@ -1,5 +1,5 @@
 use Rattle.std.proofs.Common.{rules, arith}
-use Rattle.frame_table.proofs.Behind.{loads_hand_there}
+use Rattle.frame_table.proofs.WordSteps.{loads_hand_there}
 use Rattle.frame_table.proofs.table.FrameTable.load_hand.Goals as goal
 
 pub load-requires : goal.load-requires

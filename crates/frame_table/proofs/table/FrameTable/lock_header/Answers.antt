@@ -1,7 +1,7 @@
 use Rattle.std.proofs.Common.{rules, refl, sym, ◌∙◌, ap}
 use Rattle.pin_core.specs.Kinds.{lock_header}
 use Rattle.frame_table.specs.Kinds.{pins}
-use Rattle.frame_table.specs.Tells.{still, again}
+use Rattle.frame_table.specs.FrameSteps.{still, again}
 use Rattle.frame_table.proofs.Told.{touches, touches_on, looks_touch, looks_headless, on_locked, on_unlocked, locked_after}
 use Rattle.frame_table.proofs.Seeing.{word_locked}
 use Rattle.frame_table.proofs.Marks.{did_marks, looks_marks}

@@ -1,5 +1,5 @@
-use Rattle.frame_table.specs.Sees.{SameSeat}
-use Rattle.frame_table.specs.Tells.{Looks}
+use Rattle.frame_table.specs.Seats.{SameSeat}
+use Rattle.frame_table.specs.FrameSteps.{Looks}
 use Rattle.frame_table.proofs.table.FrameTable.lock_header.Given as goal
 
 abbrev pub invariant-loop : goal.invariant-loop

@@ -1,5 +1,5 @@
 use Rattle.std.proofs.Common.{refl}
-use Rattle.frame_table.specs.Tells.{looking}
+use Rattle.frame_table.specs.FrameSteps.{looking}
 use Rattle.frame_table.proofs.Origins.{opened_fits}
 use Rattle.frame_table.proofs.Told.{touches, loads_link, looked}
 use Rattle.frame_table.proofs.Seeing.{handed_sees, need_not_write, passes_clean, sees_over, word_seen}

@@ -1,7 +1,7 @@
 use Rattle.std.proofs.Common.{List, subst, sym}
 use Rattle.pin_core.specs.declared.view.MapEntry.{MapEntry}
 use Rattle.pin_core.specs.State.{hold}
-use Rattle.frame_table.specs.Turning.{HasNamed}
+use Rattle.frame_table.specs.Latches.{HasNamed}
 use Rattle.frame_table.proofs.Mapping.{out_named}
 use Rattle.frame_table.proofs.table.FrameTable.map_out.Goals as goal
 

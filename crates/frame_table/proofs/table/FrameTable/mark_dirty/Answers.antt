@@ -1,7 +1,7 @@
 use Rattle.std.proofs.Common.{refl, ◌∙◌, ap}
 use Rattle.page_core.specs.Kinds.{mark_dirty}
 use Rattle.frame_table.specs.Kinds.{pages}
-use Rattle.frame_table.specs.Tells.{still}
+use Rattle.frame_table.specs.FrameSteps.{still}
 use Rattle.frame_table.proofs.Told.{looks_touch, looks_link, not_yet, at_last, tried_touches}
 use Rattle.frame_table.proofs.HeldWords.{dirtied_after}
 use Rattle.frame_table.proofs.Marks.{dirtied_marks}

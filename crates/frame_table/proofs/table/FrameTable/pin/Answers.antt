@@ -1,8 +1,8 @@
 use Rattle.std.proofs.Common.{refl, sym, ◌∙◌, true, ℕ, subst}
 use Rattle.pin_core.specs.Kinds.{pin_mapped}
 use Rattle.frame_table.specs.Kinds.{pins}
-use Rattle.frame_table.specs.Sees.{Finds}
-use Rattle.frame_table.specs.Tells.{Tried, still}
+use Rattle.frame_table.specs.Seats.{Finds}
+use Rattle.frame_table.specs.FrameSteps.{Tried, still}
 use Rattle.frame_table.proofs.Told.{looks_touch, looks_link, not_yet, at_last, tried_touches}
 use Rattle.frame_table.proofs.Holding.{finds_on, mapped_after}
 use Rattle.frame_table.proofs.Marks.{tried_marks}

@@ -1,7 +1,7 @@
 use Rattle.std.proofs.Common.{ℕ, Option, ap, ◌∙◌, rules, arith}
 use Rattle.std.specs.Prelude.{unwrap_or}
 use Rattle.history_core.specs.Steps.{has_raised}
-use Rattle.frame_table.proofs.Behind.{raises_there}
+use Rattle.frame_table.proofs.WordSteps.{raises_there}
 use Rattle.frame_table.proofs.table.FrameTable.raise_flushed.Goals as goal
 
 pub swap-requires : goal.swap-requires

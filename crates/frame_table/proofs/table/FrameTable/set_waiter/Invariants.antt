@@ -1,6 +1,6 @@
 use Rattle.page_core.specs.Kinds.{set_waiter}
 use Rattle.frame_table.specs.Kinds.{pages}
-use Rattle.frame_table.specs.Tells.{always}
+use Rattle.frame_table.specs.FrameSteps.{always}
 use Rattle.frame_table.proofs.table.FrameTable.set_waiter.Given as goal
 
 -- the number is the caller's

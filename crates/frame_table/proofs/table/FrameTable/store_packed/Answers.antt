@@ -2,7 +2,7 @@ use Rattle.std.proofs.Common.{rules, arith, ap, sym, ◌∙◌, Some}
 use Rattle.block_tag.specs.Names.{unpacked_tag}
 use Rattle.frame_table.proofs.Holding.{stores_as}
 use Rattle.frame_table.proofs.Told.{of_choice}
-use Rattle.frame_table.specs.Tells.{always, storing}
+use Rattle.frame_table.specs.FrameSteps.{always, storing}
 use Rattle.frame_table.proofs.table.FrameTable.store_packed.Goals as goal
 
 pub swap-requires : goal.swap-requires

@@ -1,7 +1,7 @@
 use Rattle.std.proofs.Common.{None, Some, Option, subst, sym, ◌≡◌}
 use Rattle.block_tag.specs.declared.tag.Tag.{Tag}
-use Rattle.frame_table.specs.Sees.{CanStoreAs, NamesStored, partitions_stored}
-use Rattle.frame_table.specs.Tells.{Did, storing}
+use Rattle.frame_table.specs.Seats.{CanStoreAs, NamesStored, partitions_stored}
+use Rattle.frame_table.specs.FrameSteps.{Did, storing}
 use Rattle.frame_table.proofs.Holding.{stored_partitions, names_erased}
 use Rattle.frame_table.proofs.Marks.{did_marks}
 use Rattle.frame_table.proofs.table.FrameTable.store_tag.Goals as goal

@@ -1,5 +1,5 @@
 use Rattle.std.proofs.Common.{Some}
-use Rattle.frame_table.specs.Tells.{always, storing}
+use Rattle.frame_table.specs.FrameSteps.{always, storing}
 use Rattle.frame_table.proofs.table.FrameTable.store_tag.Given as goal
 
 -- the tag that is stored

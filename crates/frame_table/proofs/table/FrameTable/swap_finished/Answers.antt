@@ -1,7 +1,7 @@
 use Rattle.std.proofs.Common.{rules, arith, refl}
 use Rattle.page_core.specs.Kinds.{end_io}
 use Rattle.frame_table.specs.Kinds.{pages}
-use Rattle.frame_table.specs.Tells.{always}
+use Rattle.frame_table.specs.FrameSteps.{always}
 use Rattle.frame_table.proofs.Told.{of_choice}
 use Rattle.frame_table.proofs.HeldWords.{finishes_there, as_held}
 use Rattle.frame_table.proofs.table.FrameTable.swap_finished.Goals as goal

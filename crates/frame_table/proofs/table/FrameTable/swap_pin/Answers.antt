@@ -1,7 +1,7 @@
 use Rattle.std.proofs.Common.{rules, arith}
 use Rattle.pin_core.specs.Kinds.{pin}
 use Rattle.frame_table.specs.Kinds.{pins}
-use Rattle.frame_table.specs.Tells.{if_found}
+use Rattle.frame_table.specs.FrameSteps.{if_found}
 use Rattle.frame_table.proofs.Told.{of_choice}
 use Rattle.frame_table.proofs.Words.{pins_there}
 use Rattle.frame_table.proofs.table.FrameTable.swap_pin.Goals as goal

@@ -1,6 +1,6 @@
 use Rattle.std.proofs.Common.{true, subst}
 use Rattle.pin_core.specs.declared.view.View.{View}
-use Rattle.frame_table.specs.Turning.{DidTurn}
+use Rattle.frame_table.specs.Latches.{DidTurn}
 use Rattle.frame_table.proofs.Taking.{turn_after}
 use Rattle.frame_table.proofs.table.FrameTable.take_turn.Goals as goal
 

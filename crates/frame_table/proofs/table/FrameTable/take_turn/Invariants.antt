@@ -1,5 +1,5 @@
 use Rattle.std.proofs.Common.{◌≡◌}
-use Rattle.frame_table.specs.Sees.{SameSeat}
+use Rattle.frame_table.specs.Seats.{SameSeat}
 use Rattle.frame_table.proofs.table.FrameTable.take_turn.Given as goal
 
 -- the latch

@@ -1,7 +1,7 @@
 use Rattle.std.proofs.Common.{refl}
 use Rattle.pin_core.specs.Kinds.{pin_mapped}
 use Rattle.frame_table.specs.Kinds.{pins}
-use Rattle.frame_table.specs.Tells.{still, again}
+use Rattle.frame_table.specs.FrameSteps.{still, again}
 use Rattle.frame_table.proofs.Told.{few_pins, tried}
 use Rattle.frame_table.proofs.Holding.{finds_on}
 use Rattle.frame_table.proofs.table.FrameTable.try_mapped.Goals as goal

@@ -1,6 +1,6 @@
 use Rattle.pin_core.specs.Kinds.{pin_mapped}
 use Rattle.frame_table.specs.Kinds.{pins}
-use Rattle.frame_table.specs.Tells.{if_found}
+use Rattle.frame_table.specs.FrameSteps.{if_found}
 use Rattle.frame_table.proofs.table.FrameTable.try_mapped.Given as goal
 
 -- the tag, and whether the pin is for a ring

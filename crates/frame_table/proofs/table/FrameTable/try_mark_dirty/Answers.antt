@@ -1,7 +1,7 @@
 use Rattle.std.proofs.Common.{refl, sym, ◌∙◌}
 use Rattle.page_core.specs.Kinds.{mark_dirty}
 use Rattle.frame_table.specs.Kinds.{pages}
-use Rattle.frame_table.specs.Tells.{still, again}
+use Rattle.frame_table.specs.FrameSteps.{still, again}
 use Rattle.frame_table.proofs.Told.{tried}
 use Rattle.frame_table.proofs.table.FrameTable.try_mark_dirty.Goals as goal
 

@@ -1,7 +1,7 @@
 use Rattle.std.proofs.Common.{refl, ◌∙◌}
 use Rattle.pin_core.specs.Kinds.{pin}
 use Rattle.frame_table.specs.Kinds.{pins}
-use Rattle.frame_table.specs.Tells.{looking}
+use Rattle.frame_table.specs.FrameSteps.{looking}
 use Rattle.frame_table.proofs.Told.{few_pins, looked, looked_on, touches, touches_on, on_hit, on_miss}
 use Rattle.frame_table.proofs.Marks.{did_marks}
 use Rattle.frame_table.proofs.table.FrameTable.try_pin.Goals as goal

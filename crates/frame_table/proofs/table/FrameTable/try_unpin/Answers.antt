@@ -1,7 +1,7 @@
 use Rattle.std.proofs.Common.{refl, sym, ◌∙◌}
 use Rattle.pin_core.specs.Kinds.{unpin}
 use Rattle.frame_table.specs.Kinds.{pins}
-use Rattle.frame_table.specs.Tells.{still, again}
+use Rattle.frame_table.specs.FrameSteps.{still, again}
 use Rattle.frame_table.proofs.Told.{some_pins, tried}
 use Rattle.frame_table.proofs.table.FrameTable.try_unpin.Goals as goal
 

@@ -1,7 +1,7 @@
 use Rattle.std.proofs.Common.{refl, ◌∙◌, ap}
 use Rattle.pin_core.specs.Kinds.{unpin}
 use Rattle.frame_table.specs.Kinds.{pins}
-use Rattle.frame_table.specs.Tells.{still}
+use Rattle.frame_table.specs.FrameSteps.{still}
 use Rattle.frame_table.proofs.Told.{looks_touch, looks_unpin, not_yet, at_last, tried_touches, unpinned_after}
 use Rattle.frame_table.proofs.Marks.{tried_marks}
 use Rattle.pin_core.specs.declared.view.View.{View}

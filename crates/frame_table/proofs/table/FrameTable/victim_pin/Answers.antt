@@ -11,7 +11,7 @@ pub swap-requires : goal.swap-requires
 swap-requires g c = (
   search rules,
   (let e = c.state_place.ensures in omega arith),
-  rw c.state_place.ensures (victims_there _ c.args.self.now.table.shared.key _ _ _ _ _ _ c.requires.seat.inside c.requires.seat.live c.requires.held.held c.requires.absent c.requires.only c.requires.held.knows c.victim_pinned.ensures),
+  rw c.state_place.ensures (victims_there _ c.args.self.now.table.shared.key _ _ _ _ _ _ c.requires.seat.inside c.requires.seat.live c.requires.held.held c.requires.absent c.requires.only c.requires.held.knows c.pinned_by_holder.ensures),
 )
 
 pub returns-clause-did : goal.returns-clause-did
@@ -26,5 +26,5 @@ returns-clause-pinned g c = link_is (pins pin_victim) _ _ _ _ (returns-clause-di
 pub returns-clause-marks : goal.returns-clause-marks
 returns-clause-marks g c = did_marks (pins pin_victim) tt _ _ _ _ (returns-clause-did g c)
 
-pub victim_pinned-requires : goal.victim_pinned-requires
-victim_pinned-requires g c = let a = c.requires.few in omega arith
+pub pinned_by_holder-requires : goal.pinned_by_holder-requires
+pinned_by_holder-requires g c = let a = c.requires.few in omega arith

@@ -17,7 +17,7 @@ use Rattle.frame_table.specs.declared.pin.TryPin.{TryPin}
 use Rattle.frame_table.specs.declared.pin.TryPin.TheVariants.{Locked, Untagged, Changed}
 use Rattle.table_rule.specs.Blocks.{is_block}
 use Rattle.table_rule.specs.Layout.{state_place, tag_place, content_place, tag_partition}
-use Rattle.frame_table.specs.Kinds.{Part, state_word, tag_word, content_word, FrameKind, pins, part_of, load_of, IsAllowed, IsAllowedAround, view_after}
+use Rattle.frame_table.specs.Kinds.{FrameWord, state_word, tag_word, content_word, FrameKind, pins, part_of, load_of, IsAllowed, IsAllowedAround, view_after}
 
 abbrev pub has_locked : ℕ → Bool
 has_locked w = (fields w).locked
@@ -26,13 +26,13 @@ abbrev pub has_tag : ℕ → Bool
 has_tag w = (fields w).tag_valid
 
 -- the place of a word of the frame f
-abbrev pub part_place : Part → ℕ → ℕ
+abbrev pub part_place : FrameWord → ℕ → ℕ
 part_place state_word f = state_place f
 part_place tag_word f = tag_place f
 part_place content_word f = content_place f
 
 -- what a number in a word says of its frame
-abbrev pub SaysOf : Part → ℕ → Frame → Type 0
+abbrev pub SaysOf : FrameWord → ℕ → Frame → Type 0
 SaysOf state_word n fr = fr.word ≡ fields n
 SaysOf tag_word n fr = fr.tag ≡ n
 SaysOf content_word n fr = (fr.sharers ≡ n % 2 ^ 18) × (fr.exclusive ≡ bit 18 n) × (fr.copying ≡ bit 19 n) × (n < 2 ^ 20)
@@ -68,7 +68,7 @@ chosen (if_found k) first found = cond (nat_eq found first) k (load_of (part_of 
 chosen (if_unlocked k) first found = cond (has_locked found) (load_of (part_of k)) k
 
 -- the word that it is at
-abbrev pub choice_part : Choice → Part
+abbrev pub choice_part : Choice → FrameWord
 choice_part (always k) = part_of k
 choice_part (if_found k) = part_of k
 choice_part (if_unlocked k) = part_of k

@@ -48,21 +48,21 @@ log_kind true = logs.take_log
 log_kind false = logs.leave_log
 
 -- where a latch may be taken, or left
-abbrev pub TurnAllowed : Bool → Turn → State → View → Type 0
-TurnAllowed true x s v = is_taken x s ≡ false
-TurnAllowed false x s v = MayLeave x v
+abbrev pub LatchAllowed : Bool → Turn → State → View → Type 0
+LatchAllowed true x s v = is_taken x s ≡ false
+LatchAllowed false x s v = MayLeave x v
 
 -- What it makes of the view
-abbrev pub view_turned : Bool → Turn → State → View → View
-view_turned takes (Partition p) s v = parts.view_turned (part_kind takes) p (hold v p) v
-view_turned takes (Lane q) s v = stepped (laned (lane_kind takes) q v v)
-view_turned takes Log s v = logs.view_logged (log_kind takes) v
+abbrev pub view_latched : Bool → Turn → State → View → View
+view_latched takes (Partition p) s v = parts.view_turned (part_kind takes) p (hold v p) v
+view_latched takes (Lane q) s v = stepped (laned (lane_kind takes) q v v)
+view_latched takes Log s v = logs.view_logged (log_kind takes) v
 
 -- and of the state, by backend i, whose view is v
-abbrev pub state_turned : Bool → Turn → State → ℕ → View → State
-state_turned takes (Partition p) s i v = record s { pool = record s.pool { core = pin_steps.state_turned (part_kind takes) s.pool.core i p v } }
-state_turned takes (Lane q) s i v = record s { pool = aside s.pool i (view_turned takes (Lane q) s v); lane = put s.lane q (lanes.lane_after (lane_kind takes) (s.lane q)) }
-state_turned takes Log s i v = record s { pool = aside s.pool i (view_turned takes Log s v); device = logs.device_after (log_kind takes) s.end s.device }
+abbrev pub state_latched : Bool → Turn → State → ℕ → View → State
+state_latched takes (Partition p) s i v = record s { pool = record s.pool { core = pin_steps.state_turned (part_kind takes) s.pool.core i p v } }
+state_latched takes (Lane q) s i v = record s { pool = aside s.pool i (view_latched takes (Lane q) s v); lane = put s.lane q (lanes.lane_after (lane_kind takes) (s.lane q)) }
+state_latched takes Log s i v = record s { pool = aside s.pool i (view_latched takes Log s v); device = logs.device_after (log_kind takes) s.end s.device }
 
 abbrev pub turn_event : Bool → Turn → ℕ → Event
 turn_event takes (Partition p) i = steps.pool (page_steps.pins_and_maps (pin_steps.turn i p (part_kind takes)))
@@ -70,10 +70,10 @@ turn_event takes (Lane q) i = steps.lane i q (lane_kind takes)
 turn_event takes Log i = steps.log i (log_kind takes)
 
 -- whether the state has the latch
-abbrev pub IsInside : Turn → State → Type 0
-IsInside (Partition p) s = p < s.pool.core.partitions
-IsInside (Lane q) s = q < s.lanes
-IsInside Log s = Unit {0}
+abbrev pub HasLatch : Turn → State → Type 0
+HasLatch (Partition p) s = p < s.pool.core.partitions
+HasLatch (Lane q) s = q < s.lanes
+HasLatch Log s = Unit {0}
 
 -- The view v became w by taking a latch, or by leaving it
 pub record DidTurn (takes : Bool) (x : Turn) (v w : View) : Type 0 where
@@ -84,9 +84,9 @@ pub record DidTurn (takes : Bool) (x : Turn) (v w : View) : Type 0 where
   pub seat : ℕ
   pub there : get_elem? state.pool.core.views seat ≡ some v
   pub live : v.emptied ≡ false
-  pub inside : IsInside x state
-  pub allowed : TurnAllowed takes x state v
-  pub after : w ≡ view_turned takes x state v
+  pub inside : HasLatch x state
+  pub allowed : LatchAllowed takes x state v
+  pub after : w ≡ view_latched takes x state v
 
 -- What a step at a latch leaves of a view: all but what it has of latches, and the count of its steps
 abbrev pub work_of : View → View

@@ -35,26 +35,26 @@ abbrev pub SameSelf : View → View → Type 0
 SameSelf v w = self_of w ≡ self_of v
 
 -- What a view has marked, written and ended
-pub record Marks : Type 0 where
+pub record ViewMarks : Type 0 where
   pub dirtied_or_synced : Bool
   pub had_output : Bool
   pub last_ended : Option StateWord
 
-abbrev pub marks_of : View → Marks
-marks_of v = record { dirtied_or_synced = v.dirtied_or_synced; had_output = v.had_output; last_ended = v.last_ended }
+abbrev pub view_marks : View → ViewMarks
+view_marks v = record { dirtied_or_synced = v.dirtied_or_synced; had_output = v.had_output; last_ended = v.last_ended }
 
 abbrev pub SameMarks : View → View → Type 0
-SameMarks v w = marks_of w ≡ marks_of v
+SameMarks v w = view_marks w ≡ view_marks v
 
 -- A view that marked a frame dirty, one that began to read or to write a page, and one that ended it with this word
 abbrev pub MarksDirty : View → View → Type 0
-MarksDirty v w = marks_of w ≡ record (marks_of v) { dirtied_or_synced = true }
+MarksDirty v w = view_marks w ≡ record (view_marks v) { dirtied_or_synced = true }
 
 abbrev pub MarksBegun : Bool → View → View → Type 0
-MarksBegun input v w = marks_of w ≡ record (marks_of v) { had_output = v.had_output || not input }
+MarksBegun input v w = view_marks w ≡ record (view_marks v) { had_output = v.had_output || not input }
 
 abbrev pub MarksEnded : StateWord → View → View → Type 0
-MarksEnded stored v w = marks_of w ≡ record (marks_of v) { last_ended = Some stored }
+MarksEnded stored v w = view_marks w ≡ record (view_marks v) { last_ended = Some stored }
 
 -- What a view lists is only added to, and what it counts doesn't fall
 pub record Grows (v w : View) : Type 0 where
@@ -135,14 +135,14 @@ abbrev pub unlocked_link : Link → Link
 unlocked_link l = record l { header = None }
 
 -- What a view must not have at a frame whose pin it gives up
-pub record CanUnpin (l : Link) : Type 0 where
+pub record MayUnpin (l : Link) : Type 0 where
   pub pinned : l.role ≢ Absent
   pub no_content : l.content ≡ Unlocked
   pub no_io : l.io ≡ Quiet
   pub no_wait : l.waits ≡ None
 
 -- The view holds the header of a frame, whose tag word it hasn't stored
-pub record Holds (l : Link) : Type 0 where
+pub record HoldsHeader (l : Link) : Type 0 where
   pub held : l.header ≢ None
   pub settled : l.pending ≡ false
 
@@ -169,7 +169,7 @@ abbrev pub HasFlag : Bool → StateWord → Type 0
 HasFlag flag w = w.tag_valid ≡ flag
 
 -- The view's victim pin is the frame's only pin, and it does nothing else there
-pub record IsAlone (l : Link) : Type 0 where
+pub record HasOnlyPin (l : Link) : Type 0 where
   pub word : HoldsWord (λ w. w.pins ≡ 1) l
   pub settled : l.pending ≡ false
   pub victim : l.role ≡ Victim
@@ -202,7 +202,7 @@ pub record Finds (v : View) (tag f : ℕ) : Type 0 where
   pub finds : (entries : List MapEntry) → (hold v (tag_partition tag)).seen ≡ Some entries → found entries tag ≡ Some f
 
 -- A tag may be stored: it is of a block of the relations, the frame has none, and the map of its partition lacks it
-pub record CanStore (relations : List RelEntry) (tag : Tag) (v : View) (f : ℕ) : Type 0 where
+pub record CanStoreTag (relations : List RelEntry) (tag : Tag) (v : View) (f : ℕ) : Type 0 where
   pub named : names_block tag ≡ true
   pub listed : has_block relations tag ≡ true
   pub word : HoldsWord (HasFlag false) (link v f)
@@ -217,7 +217,7 @@ pub record CanErase (v : View) (f : ℕ) : Type 0 where
 
 abbrev pub CanStoreAs : List RelEntry → Option Tag → View → ℕ → Type 0
 CanStoreAs relations None v f = CanErase v f
-CanStoreAs relations (Some tag) v f = CanStore relations tag v f
+CanStoreAs relations (Some tag) v f = CanStoreTag relations tag v f
 
 -- the links after the steps under a header
 abbrev pub victim_link : Link → Link

@@ -6,8 +6,8 @@ ghost use Rattle.pin_core.specs.declared.view.Role.TheVariants.{Absent};
 ghost use Rattle.pin_core.specs.State.{link};
 ghost use Rattle.pin_core.specs.Kinds as kinds;
 ghost use Rattle.frame_table.specs.Kinds.{pins};
-ghost use Rattle.frame_table.specs.Sees.{CanStep, Finds, Looked, SameMarks, SameSeat, Touches, mapped_link};
-ghost use Rattle.frame_table.specs.Tells.{Did, Tried, chosen, has_locked, if_found};
+ghost use Rattle.frame_table.specs.Seats.{CanStep, Finds, Looked, SameMarks, SameSeat, Touches, mapped_link};
+ghost use Rattle.frame_table.specs.FrameSteps.{Did, Tried, chosen, has_locked, if_found};
 
 use crate::pin::Pin;
 use crate::plays::{Does, Step};
