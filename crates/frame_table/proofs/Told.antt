@@ -20,7 +20,7 @@ use Rattle.history_core.specs.State.{State}
 use Rattle.history_core.proofs.Trail.{Lists, pins_list, pages_list}
 use Rattle.frame_table.specs.Kinds.{FrameKind, pins, pages, part_of, load_of, block_of_frame, link_after, view_after}
 use Rattle.frame_table.specs.Seats.{SameSelf, Grows, Touches, Looked, MayUnpin, loaded_link, pinned_link, unpinned_link, locked_link}
-use Rattle.frame_table.specs.FrameSteps.{Choice, choice_part, part_place, Did, Looks, still, again, Tried, if_found, if_unlocked, chosen, has_locked, looking}
+use Rattle.frame_table.specs.FrameSteps.{Choice, choice_part, part_place, Did, Looks, still, again, Tried, Unpinned, if_found, if_unlocked, chosen, has_locked, looking}
 
 pub self_after : (k : FrameKind) (s : State) (f : ℕ) (v : View) → SameSelf v (view_after k s f v)
 self_after (pins k) s f v = refl
@@ -201,6 +201,10 @@ at_last k f v u w b e first t = tried_after k f v u w true first (subst (Tried k
 -- a kind was done after loads
 pub tried_touches : (k : FrameKind) → ((s : State) (f : ℕ) (v : View) → (view_after k s f v).partitions ≡ v.partitions) → (f : ℕ) (v w : View) → Tried k f v w true → Touches f v w
 tried_touches k none f v w t = touches_on f v t.0 w (looks_touch f v t.0 t.2) (touches k none f t.1 t.0 w t.3)
+
+-- a pin was given up after more loads
+pub unpinned_on : (f word : ℕ) (v u w : View) → Looks f v u → Unpinned f word u w → Unpinned f word v w
+unpinned_on f word v u w first t = (t.0, t.1, looks_on f v u t.0 first t.2, t.3, t.4)
 
 pub unpinned_after : (f : ℕ) (v w : View) → Tried (pins pin.unpin) f v w true → Looked (unpinned_link (link v f)) (link w f)
 unpinned_after f v w t = subst (Looked (unpinned_link (link v f))) (sym (link_is (pins pin.unpin) f t.1 t.0 w t.3)) (unpinned_looked (link v f) (link t.0 f) (looks_link f v t.0 t.2))

@@ -3,7 +3,7 @@ use Rattle.std.specs.Prelude.{◌≡◌, ◌≢◌, ℕ, ◌+◌, ◌<◌, ◌�
 use mathlib.Core.Option.{some}
 use lib.ListN.{get_elem?}
 use Rattle.atomic_table.specs.Table.{Me, Step}
-use Rattle.state_word.specs.Fields.{fields, bit}
+use Rattle.state_word.specs.Fields.{fields, unpinned_fields, bit}
 use Rattle.block_tag.specs.declared.tag.Tag.{Tag}
 use Rattle.block_tag.specs.declared.catalogue.RelEntry.{RelEntry}
 use Rattle.block_tag.specs.Names.{packed_tag}
@@ -95,6 +95,10 @@ pub data Looks (f : ℕ) : View → View → Type 0 where
 abbrev pub Tried : FrameKind → ℕ → View → View → Bool → Type 0
 Tried k f v w true = (u : View) × (was : ℕ) × Looks f v u × Did k f u w was
 Tried k f v w false = Looks f v w
+
+-- after loads a pin was given up, and this is the word that was left
+abbrev pub Unpinned : ℕ → ℕ → View → View → Type 0
+Unpinned f word v w = (u : View) × (was : ℕ) × Looks f v u × Did (pins pin.unpin) f u w was × (fields word ≡ unpinned_fields (fields was))
 
 -- why a frame is not pinned
 abbrev pub Refuses : ℕ → View → View → TryPin → Type 0

@@ -1,5 +1,5 @@
 //! Calls at state words.
-ghost use Rattle.std.specs.Prelude.{◌≡◌, ◌≢◌, ℕ, ◌<◌, map, true, false, Some, None, IfOk, IfErr, MatchResult};
+ghost use Rattle.std.specs.Prelude.{◌≡◌, ◌≢◌, ℕ, ◌<◌, map, true, false, Some, None, IfOk, IfErr, MatchOption, MatchResult};
 ghost use Rattle.state_word.specs.Fields.{fields, locked_fields, pinned_fields, unpinned_fields};
 ghost use Rattle.pin_core.specs.declared.view.View.{View};
 ghost use Rattle.pin_core.specs.declared.view.Role.TheVariants.{Absent, HandedOut};
@@ -9,7 +9,7 @@ ghost use Rattle.pin_core.specs.Steps.{HoldsNoHeader};
 ghost use Rattle.frame_table.specs.Kinds.{pins};
 ghost use Rattle.frame_table.specs.Opened.{FitsHeld, FitsOpening};
 ghost use Rattle.frame_table.specs.Seats.{CanStep, MayUnpin, HoldsHeader, IsWordOf, Looked, SameMarks, SameSeat, Touches, lanes_in, opened_of, relations_of, loaded_link, locked_link, pinned_link, unlocked_link, unpinned_link};
-ghost use Rattle.frame_table.specs.FrameSteps.{Did, Looks, Refuses, Tried, chosen, has_locked, has_tag, if_found, if_unlocked, looking};
+ghost use Rattle.frame_table.specs.FrameSteps.{Did, Looks, Refuses, Unpinned, chosen, has_locked, has_tag, if_found, if_unlocked, looking};
 
 use crate::pin::{Pin, TryPin};
 use crate::plays::{AtLook, Does, LockHeader, Look, Step, UnlockHeader, Unpin};
@@ -107,36 +107,39 @@ impl<L: BlockLane, G: LogDevice> FrameTable<L, G> {
         }
     }
 
-    /// Gives up a pin, once the header is not locked (`UnpinBuffer`). A backend that holds that header itself would wait for ever.
-    pub fn unpin<R: Wait>(&self, rt: &R, seat: &mut Seat<Value<L, G>, View>, pin: Pin)
+    /// Gives up a pin, once the header is not locked, and answers the word that is left (`UnpinBuffer`). A backend that holds that header itself would wait for ever.
+    pub fn unpin<R: Wait>(&self, rt: &R, seat: &mut Seat<Value<L, G>, View>, pin: Pin) -> u64
         requires seat { CanStep self.now seat.old pin.frame }
         requires pinned { MayUnpin (link seat.old.me.0 pin.frame) }
         ensures seat { SameSeat seat.old seat.new }
         ensures touches { Touches pin.frame seat.old.me.0 seat.new.me.0 }
         ensures marks { SameMarks seat.old.me.0 seat.new.me.0 }
         ensures unpinned { Looked (unpinned_link (link seat.old.me.0 pin.frame)) (link seat.new.me.0 pin.frame) }
-        ensures did { Tried (pins kinds.unpin) pin.frame seat.old.me.0 seat.new.me.0 true }
+        ensures did { Unpinned pin.frame result seat.old.me.0 seat.new.me.0 }
     {
         let Pin { frame } = pin;
         for _ in rt.forever() {
-            if self.try_unpin(seat, frame) {
-                return;
+            if let Some(left) = self.try_unpin(seat, frame) {
+                return left;
             }
         }
         unreachable!()
     }
 
-    fn try_unpin(&self, seat: &mut Seat<Value<L, G>, View>, frame: u32) -> bool
+    fn try_unpin(&self, seat: &mut Seat<Value<L, G>, View>, frame: u32) -> Option<u64>
         requires seat { CanStep self.now seat.old frame }
         requires pinned { MayUnpin (link seat.old.me.0 frame) }
         ensures seat { SameSeat seat.old seat.new }
-        ensures did { Tried (pins kinds.unpin) frame seat.old.me.0 seat.new.me.0 result }
+        ensures did { MatchOption result (Looks frame seat.old.me.0 seat.new.me.0) (λ left. Unpinned frame left seat.old.me.0 seat.new.me.0) }
     {
         let was = self.look(seat, frame);
         if has(was, Flag::Locked) {
-            return false;
+            return None;
         }
-        self.swap_unpin(seat, frame, was) == was
+        if self.swap_unpin(seat, frame, was) != was {
+            return None;
+        }
+        Some(unpinned(was))
     }
 
     fn swap_unpin(&self, seat: &mut Seat<Value<L, G>, View>, frame: u32, was: u64) -> u64
