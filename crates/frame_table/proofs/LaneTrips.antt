@@ -53,9 +53,9 @@ use Rattle.table_rule.specs.TakenLanes.{IsBlockOf, taken_lane, page_held, lane_d
 use Rattle.table_rule.proofs.Tags.{packed_is}
 use Rattle.table_rule.proofs.LanesOut.{block_number, holds_blocks, can_go_out, still_is, kept_lane, took_page, tore_page}
 use Rattle.table_rule.proofs.Opens.{there_at}
-use Rattle.frame_table.specs.LaneWork.{DidSteps, out_events, out_lane, out_view, back_events, back_view, MayNote, MayNoteRead, MayNoteWrite, was_known, is_known_in, IsTakenLane, MayReturn, NotesAt, IsNoted, links_of, lane_read_link, written_link, unwritten_link, lane_went, came_by, WentOut, taken_at}
+use Rattle.frame_table.specs.LaneWork.{DidSteps, out_events, out_lane, out_view, back_events, back_view, MayNote, MayNoteRead, MayNoteWrite, was_known, is_known_in, IsTakenLane, MayReturn, NotesAt, IsNoted, back_lane, swept_lane, links_of, lane_read_link, written_link, unwritten_link, lane_went, came_by, WentOut, taken_at}
 use Rattle.frame_table.specs.declared.table.FrameTable.{FrameTable}
-use Rattle.frame_table.specs.Seats.{relations_of, lanes_in, opened_of}
+use Rattle.frame_table.specs.Seats.{frames_of, relations_of, lanes_in, opened_of}
 use Rattle.frame_table.proofs.Moving.{Moves, shows_out, shows_back}
 use Rattle.frame_table.proofs.LaneWork.{rises}
 use Rattle.frame_table.proofs.LaneRuns.{Comes, Stands, alone_view, written_view, written_state, calls_alone, one_step, reads_noted, writes_noted, written_link_is, written_frame_is, written_hold_is, view_alone, view_read, view_written}
@@ -104,7 +104,7 @@ module _ {L G : Type 0} (d : Devices L G) (o : Opening L G) where
           none_more n = omega arith
 
   pub goes_out : (slots id q : ℕ) (me : Me (Value L G) View) → length o.lanes.value.items ≡ o.config.lanes → q < o.config.lanes → me.0.emptied ≡ false → (lane_hold me.0 q).held ≡ true → (lane_hold me.0 q).out ≡ None
-      → Allows (Held d o) slots id me (latch_place o.config.frames (turn.Lane q)) (λ n. n) (lane_went (lane_devices_of d) (was_known (lane_devices_of d) o.lanes.value.items q) o.catalog.value o.config.lanes q (slot_of o.config.frames (place.Of (turn.Lane q))) (step slots (latch_place o.config.frames (turn.Lane q)) 0 0 none) me)
+      → Allows (Held d o) slots id me (latch_place o.config.frames (turn.Lane q)) (λ n. n) (lane_went (lane_devices_of d) (was_known (lane_devices_of d) o.lanes.value.items q) o.catalog.value o.config.lanes o.config.frames q (slot_of o.config.frames (place.Of (turn.Lane q))) (step slots (latch_place o.config.frames (turn.Lane q)) 0 0 none) me)
   goes_out slots id q me counted below live held out t h deep there small = of_value value_there.value value_there.home value_there.gives
     where
       here : get_elem? h.state.pool.core.views id ≡ some me.0
@@ -129,7 +129,7 @@ module _ {L G : Type 0} (d : Devices L G) (o : Opening L G) where
 
       of_value : (y : Value L G) → get_elem? t.homes (slot_of o.config.frames (place.Of (turn.Lane q))) ≡ some (some y) → GivesLane d o.catalog.value h.state.lanes q y (h.state.lane q)
           → (w : View) × (a : table.Act (Value L G)) × table.Valid t.homes me.1 a × Held d o (stepped t (latch_place o.config.frames (turn.Lane q)) (get_or t.words (latch_place o.config.frames (turn.Lane q)) 0) id me.1 w a)
-          × lane_went (lane_devices_of d) (was_known (lane_devices_of d) o.lanes.value.items q) o.catalog.value o.config.lanes q (slot_of o.config.frames (place.Of (turn.Lane q))) (step slots (latch_place o.config.frames (turn.Lane q)) 0 0 none) me (get_or t.words (latch_place o.config.frames (turn.Lane q)) 0) (w, table.carried_after me.1 a)
+          × lane_went (lane_devices_of d) (was_known (lane_devices_of d) o.lanes.value.items q) o.catalog.value o.config.lanes o.config.frames q (slot_of o.config.frames (place.Of (turn.Lane q))) (step slots (latch_place o.config.frames (turn.Lane q)) 0 0 none) me (get_or t.words (latch_place o.config.frames (turn.Lane q)) 0) (w, table.carried_after me.1 a)
       of_value (value.Lane l) home gives_it = (
         out_view q taken me.0,
         takes (slot_of o.config.frames (place.Of (turn.Lane q))) (value.Lane l),
@@ -146,6 +146,7 @@ module _ {L G : Type 0} (d : Devices L G) (o : Opening L G) where
           record { holds = holds_blocks d o.catalog.value o.config.lanes q l.device (h.state.lane q) is_lane; known_still = sym is_lane.known ∙ known_of h.state q h.shows.fixed h.laws counted below },
           refl,
           record { state = h.state; laws = h.laws; next = comes.next; seat = id; there = here; live = live; run = comes.run; after = ap (λ (x : List View). get_elem? x id) moves.views ∙ set_here h.state.pool.core.views id me.0 (out_view q taken me.0) here },
+          ((h.laws.invariant.pool.core.views.wide id me.0 here live).0 ∙ h.shows.fixed.frames, h.laws.invariant.wide id me.0 here live ∙ h.shows.fixed.lanes),
         ),
       )
         where
@@ -380,6 +381,29 @@ is_noted relations lanes q (WriteFailed f tag page) v w may links = notes_at f (
 is_noted relations lanes q Synced v w may links = links
 is_noted relations lanes q SyncFailed v w may links = links
 
+-- a lane's latch comes back swept up to what it was, or further
+swept_on : (c : LaneCall) (v : View) (h : LaneHold) → h.swept ≤ (swept_lane c v h).swept
+swept_on Untouched v h = omega arith
+swept_on (Read f tag page) v h = omega arith
+swept_on (ReadFailed tag) v h = omega arith
+swept_on (Written f tag page) v h = omega arith
+swept_on (WriteFailed f tag page) v h = omega arith
+swept_on Synced v h = omega arith
+swept_on SyncFailed v h = omega arith
+
+pub still_swept : (c : LaneCall) (q : ℕ) (v w : View) → w.lanes ≡ set v.lanes q (back_lane (swept_lane c v (lane_hold v q))) → (r : ℕ) → (lane_hold v r).swept ≤ (lane_hold w r).swept
+still_swept c q v w lanes r = dite (ℕ_discrete r q)
+    (λ e. subst (λ (n : ℕ). (lane_hold v n).swept ≤ (lane_hold w n).swept) (sym e) here)
+    (λ n. let is = ap (λ (l : List LaneHold). (get_or l r no_lane).swept) lanes ∙ ap (λ (h : LaneHold). h.swept) (get_or-set_other v.lanes q r back no_lane n) in omega (arith, is))
+  where
+    back : LaneHold
+    back = back_lane (swept_lane c v (lane_hold v q))
+
+    here : (lane_hold v q).swept ≤ (lane_hold w q).swept
+    here = dite (dec_lt q (length v.lanes))
+        (λ low. let is = ap (λ (l : List LaneHold). (get_or l q no_lane).swept) lanes ∙ ap (λ (h : LaneHold). h.swept) (get_or-set_same v.lanes q back no_lane low) in let more = swept_on c v (lane_hold v q) in omega (arith, is, more))
+        (λ n. let none : lane_hold v q ≡ no_lane = get_or-eq_default v.lanes no_lane (omega arith) in let zero = ap (λ (h : LaneHold). h.swept) none in omega (arith, zero))
+
 -- the slot in hand that a step gave
 pub in_hand : {S : Type 0} (k slot : ℕ) (y : S) (c old : List (ℕ × S)) → k ≡ slot → c ≡ (k, y) ∷ old → c ≡ (slot, y) ∷ rest c
 in_hand k slot y c old same e = e ∙ ap (λ (i : ℕ). (i, y) ∷ old) same ∙ ap (λ (r : List (ℕ × _)). (slot, y) ∷ r) (sym (ap rest e))
@@ -390,14 +414,15 @@ first_value y (x ∷ xs) = x.1
 
 -- what the call gives is the lane that went out
 pub went_out : {L G : Type 0} (d : LaneDevices L) (t : FrameTable L G) (q slot : ℕ) (m m' m'' : Me (Value L G) View) (z : Value L G)
-    → lane_went d (was_known d (opened_of t) q) (relations_of t) (lanes_in t) q slot (step 0 0 0 0 none) m 0 m' → m'.1 ≡ (slot, z) ∷ rest m'.1 → m''.0 ≡ m'.0 → WentOut d t q z m.0 m''.0
-went_out d t q slot m m' m'' z (l, hand, untouched, taken, view, did) e same = record {
+    → lane_went d (was_known d (opened_of t) q) (relations_of t) (lanes_in t) (frames_of t) q slot (step 0 0 0 0 none) m 0 m' → m'.1 ≡ (slot, z) ∷ rest m'.1 → m''.0 ≡ m'.0 → WentOut d t q z m.0 m''.0
+went_out d t q slot m m' m'' z (l, hand, untouched, taken, view, did, wide) e same = record {
   lane = l;
   is = ap (first_value z) (sym e ∙ hand);
   untouched = untouched;
   taken = taken;
   view = same ∙ view;
   did = subst (DidSteps (out_events q (taken_at d t q l.device)) m.0) (sym same) did;
+  wide = wide;
 }
 
 -- For callers: a lane that went out comes back after a call

@@ -1,5 +1,5 @@
 -- A lane goes out with the holder of its latch, and comes back with the call that was made of it.
-use Rattle.std.specs.Prelude.{◌≡◌, ◌≢◌, ℕ, ◌+◌, ◌≤◌, Bool, true, false, List, [], ◌∷◌, ◌++◌, max, slice_set, Some, None, is_some, ◌||◌}
+use Rattle.std.specs.Prelude.{◌≡◌, ◌≢◌, ℕ, ◌+◌, ◌≤◌, Bool, true, false, List, [], ◌∷◌, ◌++◌, length, max, slice_set, Some, None, is_some, ◌||◌}
 use mathlib.Core.Option.{some}
 use mathlib.Core.Option as slot
 use lib.ListN.{get_elem?}
@@ -33,7 +33,7 @@ use Rattle.table_rule.specs.declared.value.Value.{Value}
 use Rattle.table_rule.specs.declared.value.Value.TheVariants as value
 use Rattle.table_rule.specs.LaneCalls.{LaneDevices, LaneDid}
 use Rattle.frame_table.specs.declared.table.FrameTable.{FrameTable}
-use Rattle.frame_table.specs.Seats.{relations_of, lanes_in, opened_of}
+use Rattle.frame_table.specs.Seats.{frames_of, relations_of, lanes_in, opened_of}
 use Rattle.table_rule.specs.TakenLanes.{IsBlockOf, HoldsBlocks, taken_lane, page_held}
 
 -- The view v became w by these steps of its backend, one right after the other
@@ -55,6 +55,10 @@ pub record LaneStep (q : ℕ) (h : LaneHold) (v w : View) : Type 0 where
   pub others : (r : ℕ) → r ≢ q → lane_hold w r ≡ lane_hold v r
   pub partitions : w.partitions ≡ v.partitions
   pub log : w.log ≡ v.log
+
+-- the view has so many links, one for each frame, and so many of lanes
+abbrev pub IsWide : ℕ → ℕ → View → Type 0
+IsWide frames lanes v = (length v.links ≡ frames) × (length v.lanes ≡ lanes)
 
 -- The lane goes out
 abbrev pub out_events : ℕ → TakenLane → ℕ → List Event
@@ -201,9 +205,9 @@ module _ {L : Type 0} (d : LaneDevices L) where
 
 module _ {L G : Type 0} where
   -- the lane went out with the seat, from this slot
-  abbrev pub lane_went : LaneDevices L → Bool → List RelEntry → ℕ → ℕ → ℕ → table.Step (Value L G) → Me (Value L G) View → ℕ → Me (Value L G) View → Type 0
-  lane_went d known relations lanes q place st m found m' = (l : NotedLane L) × (m'.1 ≡ (place, value.Lane l) ∷ m.1) × (l.call ≡ Untouched) × IsTakenLane d known relations lanes q l.device
-      × (m'.0 ≡ out_view q (taken_lane d relations lanes q l.device) m.0) × DidSteps (out_events q (taken_lane d relations lanes q l.device)) m.0 m'.0
+  abbrev pub lane_went : LaneDevices L → Bool → List RelEntry → ℕ → ℕ → ℕ → ℕ → table.Step (Value L G) → Me (Value L G) View → ℕ → Me (Value L G) View → Type 0
+  lane_went d known relations lanes frames q place st m found m' = (l : NotedLane L) × (m'.1 ≡ (place, value.Lane l) ∷ m.1) × (l.call ≡ Untouched) × IsTakenLane d known relations lanes q l.device
+      × (m'.0 ≡ out_view q (taken_lane d relations lanes q l.device) m.0) × DidSteps (out_events q (taken_lane d relations lanes q l.device)) m.0 m'.0 × IsWide frames lanes m.0
 
   -- in a table: what its lane is, when it may go out and when it may come back
   abbrev pub taken_at : LaneDevices L → FrameTable L G → ℕ → L → TakenLane
@@ -223,6 +227,7 @@ module _ {L G : Type 0} where
     pub taken : IsTakenFrom d t q lane.device
     pub view : w ≡ out_view q (taken_at d t q lane.device) v
     pub did : DidSteps (out_events q (taken_at d t q lane.device)) v w
+    pub wide : IsWide (frames_of t) (lanes_in t) v
 
   -- a value came back by these steps, which make this of the view
   abbrev pub came_by : (ℕ → List Event) → (View → View) → table.Step (Value L G) → Me (Value L G) View → ℕ → Me (Value L G) View → Type 0

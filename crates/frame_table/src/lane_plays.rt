@@ -12,13 +12,15 @@ use segment_store::BlockLane;
 use std::marker::{Brand, PhantomData};
 use table_rule::Value;
 
-/// Which lane a step is at, of how many, the relations, whether the lane's contents were known at the start, and its slot. Each call picks it.
+/// Which lane a step is at, of how many, the relations, how many frames there are, whether the lane's contents were known at the start, and its slot. Each call picks it.
 pub(crate) trait AtLane {
     ghost known: { Bool };
 
     ghost relations: { List RelEntry };
 
     ghost lanes: { ℕ };
+
+    ghost frames: { ℕ };
 
     ghost lane: { ℕ };
 
@@ -32,6 +34,8 @@ impl AtLane for Brand {
 
     ghost lanes = { 0 };
 
+    ghost frames = { 0 };
+
     ghost lane = { 0 };
 
     ghost slot = { 0 };
@@ -42,7 +46,7 @@ pub(crate) struct LaneOut<D> {
 }
 
 impl<L: BlockLane, G, D: AtLane> Play<Value<L, G>, View> for LaneOut<D> {
-    ghost then = { lane_went (lane_devices L.contents L.failed_writes L.unsynced L.read_faults L.write_faults L.calls) D.known D.relations D.lanes D.lane D.slot };
+    ghost then = { lane_went (lane_devices L.contents L.failed_writes L.unsynced L.read_faults L.write_faults L.calls) D.known D.relations D.lanes D.frames D.lane D.slot };
 }
 
 /// By which steps a value comes back, and what they make of the view. Each call picks it.

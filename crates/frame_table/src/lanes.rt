@@ -1,5 +1,5 @@
 //! The lanes.
-ghost use Rattle.std.specs.Prelude.{◌≡◌, ◌∷◌, true, None};
+ghost use Rattle.std.specs.Prelude.{◌≡◌, ℕ, ◌≤◌, ◌∷◌, length, true, None};
 ghost use Rattle.atomic_table.specs.Table.{rest};
 ghost use Rattle.pin_core.specs.State.{lane_hold};
 ghost use Rattle.table_rule.specs.declared.noted_lane.LaneCall.TheVariants.{Untouched};
@@ -36,7 +36,7 @@ impl<L: BlockLane, G: LogDevice> FrameTable<L, G> {
         slot: usize,
     ) -> Value<L, G>
         requires known { D.known ≡ was_known (lane_devices L.contents L.failed_writes L.unsynced L.read_faults L.write_faults L.calls) (opened_of self.now) _lane }
-        requires lane { (D.relations ≡ relations_of self.now) × (D.lanes ≡ lanes_in self.now) × (D.lane ≡ _lane) × (D.slot ≡ slot) }
+        requires lane { (D.relations ≡ relations_of self.now) × (D.lanes ≡ lanes_in self.now) × (D.frames ≡ frames_of self.now) × (D.lane ≡ _lane) × (D.slot ≡ slot) }
         requires place { (place ≡ latch_place (frames_of self.now) (Lane _lane)) × (slot ≡ slot_of (frames_of self.now) (Of (Lane _lane))) }
         requires seat { CanTurn self.now seat.old (Lane _lane) }
         requires held { ((lane_hold seat.old.me.0 _lane).held ≡ true) × ((lane_hold seat.old.me.0 _lane).out ≡ None) }
@@ -55,6 +55,7 @@ impl<L: BlockLane, G: LogDevice> FrameTable<L, G> {
         requires held { ((lane_hold seat.old.me.0 lane).held ≡ true) × ((lane_hold seat.old.me.0 lane).out ≡ None) }
         ensures seat { (seat.new.table_id ≡ seat.old.table_id) × (seat.new.id ≡ seat.old.id) }
         ensures hand { seat.new.me.1 ≡ (slot_of (frames_of self.now) (Of (Lane lane)), value.Away) ∷ seat.old.me.1 }
+        ensures wide { (length seat.old.me.0.links ≡ frames_of self.now) × (length seat.old.me.0.lanes ≡ lanes_in self.now) }
         ensures untouched { result.call ≡ Untouched }
         ensures taken { IsTakenFrom (lane_devices L.contents L.failed_writes L.unsynced L.read_faults L.write_faults L.calls) self.now lane result.device }
         ensures view { seat.new.me.0 ≡ out_view lane (taken_at (lane_devices L.contents L.failed_writes L.unsynced L.read_faults L.write_faults L.calls) self.now lane result.device) seat.old.me.0 }
@@ -103,6 +104,7 @@ impl<L: BlockLane, G: LogDevice> FrameTable<L, G> {
         ensures hand { seat.new.me.1 ≡ rest seat.old.me.1 }
         ensures view { seat.new.me.0 ≡ back_view (lane_devices L.contents L.failed_writes L.unsynced L.read_faults L.write_faults L.calls) lane noted.device noted.call seat.old.me.0 }
         ensures back { LaneStep lane (back_lane (swept_lane noted.call seat.old.me.0 (lane_hold seat.old.me.0 lane))) seat.old.me.0 seat.new.me.0 }
+        ensures swept { (q : ℕ) → (lane_hold seat.old.me.0 q).swept ≤ (lane_hold seat.new.me.0 q).swept }
         ensures noted { IsNoted noted.call seat.old.me.0 seat.new.me.0 }
         ensures did { DidSteps (back_events (lane_devices L.contents L.failed_writes L.unsynced L.read_faults L.write_faults L.calls) lane noted.device noted.call) seat.old.me.0 seat.new.me.0 }
     {
