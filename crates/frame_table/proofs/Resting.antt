@@ -16,7 +16,7 @@ use Rattle.table_rule.specs.declared.value.Value.{Value}
 use Rattle.table_rule.specs.Shows.{starting}
 use Rattle.frame_table.specs.declared.table.FrameTable.{FrameTable}
 use Rattle.frame_table.specs.Closes.{CanClose}
-use Rattle.frame_table.specs.Seats.{MayUnpin, Fits, Looked, SameSeat, Touches, pinned_link, unpinned_link}
+use Rattle.frame_table.specs.Seats.{MayUnpin, Fits, IsIdle, Looked, SameSeat, Touches, pinned_link, unpinned_link}
 
 -- an item of a list of the same
 same_all : {A : Type 0} (n i : ℕ) (x : A) → get_or (replicate n x) i x ≡ x
@@ -34,6 +34,16 @@ new_rests number base frames partitions lanes = record {
   partitions = λ p. ap (λ (h : PartitionHold). h.held) (same_all partitions p no_partition);
   lanes = λ n. ap (λ (h : LaneHold). h.held) (same_all lanes n no_lane);
   log = refl;
+}
+
+-- and has nothing
+pub first_idle : (base frames partitions lanes : ℕ) (v : View) → v ≡ first_view base frames partitions lanes → IsIdle v
+first_idle base frames partitions lanes v e = subst IsIdle (sym e) record {
+  links = λ f. same_all frames f idle;
+  holds = λ p. same_all partitions p no_partition;
+  lanes = λ q. same_all lanes q no_lane;
+  log = refl;
+  live = refl;
 }
 
 pub first_rests : (base frames partitions lanes : ℕ) → HoldsNothing (first_view base frames partitions lanes)

@@ -41,6 +41,7 @@ word_seen k part f found v w d = let column = d.laws.invariant.pool.core.grid.co
       remembered = λ there. of_tag there (link v f).tag refl;
       seen = cell.seen;
       output = λ writes. ((d.laws.invariant.pool.pages.cells d.seat v f d.there d.inside).output writes).0;
+      held = cell.header;
     }
   where
     of_tag : (link v f).tag ≢ None → (tag : Option ℕ) → (link v f).tag ≡ tag → (d.state.pool.core.frame f).word.tag_valid ≡ true
@@ -58,13 +59,18 @@ word_looked l m w a x = record {
   remembered = λ there. x.remembered (λ e. there (sym a.tag ∙ e));
   seen = λ saw. x.seen (a.seen_valid saw);
   output = λ writes. x.output (a.io ∙ writes);
+  held = λ own is. x.held own (a.header ∙ is);
 }
 
 pub word_locked : (f was word : ℕ) (v u w : View) → Looks f v u → Did (pins pin.lock_header) f u w was → fields word ≡ locked_fields (fields was) → IsWordOf (link v f) (fields word)
 word_locked f was word v u w looks d e = subst (IsWordOf (link v f)) (sym e) (held (word_looked (link v f) (link u f) (fields was) (looks_link f v u looks) (word_seen (pins pin.lock_header) refl f was u w d)))
   where
+    -- the view held no header yet
+    none : (own : StateWord) → (link v f).header ≡ Some own → ⊥
+    none own is = let no : None ≡ Some own = sym (d.around f) ∙ (looks_link f v u looks).header ∙ is in absurd (cc)
+
     held : IsWordOf (link v f) (fields was) → IsWordOf (link v f) (locked_fields (fields was))
-    held x = record { dirty = x.dirty; valid = x.valid; usage = x.usage; few = x.few; pinned = x.pinned; remembered = x.remembered; seen = x.seen; output = x.output }
+    held x = record { dirty = x.dirty; valid = x.valid; usage = x.usage; few = x.few; pinned = x.pinned; remembered = x.remembered; seen = x.seen; output = x.output; held = λ own is. absurd (none own is) }
 
 -- no tag word is stored where a view's pin is handed out
 pub handed_settled : (k : FrameKind) (f found : ℕ) (v w : View) → Did k f v w found → (link v f).role ≡ HandedOut → (link v f).pending ≡ false

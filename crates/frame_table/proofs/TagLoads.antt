@@ -77,6 +77,10 @@ tag_handed f found v w (Some tag) d known = λ handed. known (λ e. let no : Han
 pub packed_partition : (tag : Tag) → names_block tag ≡ true → tag_partition (packed_tag tag) ≡ partition_number tag
 packed_partition tag named = ap partition_of_tag (packed_is tag named)
 
+pub tag_placed : (r : Option Tag) → IfSome r (λ tag. names_block tag ≡ true) → IfSome r (λ tag. tag_partition (packed_tag tag) ≡ partition_number tag)
+tag_placed None named = tt
+tag_placed (Some tag) named = packed_partition tag named
+
 same_number : (a b : ℕ) → Some a ≡ Some b → a ≡ b
 same_number a b e = cc
 

@@ -16,7 +16,7 @@ use Rattle.pin_core.specs.State.{Page, link}
 use Rattle.pin_core.specs.Tallies.{flag_weight}
 use Rattle.history_core.specs.Laws.{Laws}
 use Rattle.history_core.specs.State.{State, next_hand}
-use Rattle.history_core.specs.Steps.{Step, aside, has_raised, looked, begins, reads, loads_end, loads_flushed, raises, loads_hand, adds_hand}
+use Rattle.history_core.specs.Steps.{Step, aside, has_raised, unmarked, looked, begins, reads, loads_end, loads_flushed, raises, loads_hand, adds_hand}
 use Rattle.history_core.proofs.Laws.{laws_kept}
 use Rattle.history_core.proofs.Beginning.{link_begun}
 use Rattle.table_rule.specs.declared.value.Value.{Value}
@@ -218,3 +218,26 @@ pub end_words : (what : EndLoad) (s : State) → word_of (end_kind what) s ≡ s
 end_words Plain s = refl
 end_words (Read f) s = refl
 end_words Checkpoint s = refl
+
+-- the log's end that is loaded is at the last one that the backend has seen, or behind it
+pub end_later : (what : EndLoad) (v w : View) (found : ℕ) → DidWord (end_kind what) v w found → v.end_seen ≤ found
+end_later Plain v w found d = let e : d.state.end ≡ found = d.says in let a = d.laws.ends d.seat v d.there in omega arith
+end_later (Read f) v w found d = let e : d.state.end ≡ found = d.says in let a = d.laws.ends d.seat v d.there in omega arith
+end_later Checkpoint v w found d = let e : d.state.end ≡ found = d.says in let a = d.laws.ends d.seat v d.there in omega arith
+
+-- and the backend has seen it then
+pub end_is_seen : (what : EndLoad) (v w : View) (found : ℕ) → DidWord (end_kind what) v w found → found ≤ w.end_seen
+end_is_seen Plain v w found d = let e : w.end_seen ≡ max v.end_seen found = ap (λ (x : View). x.end_seen) d.after in omega arith
+end_is_seen Checkpoint v w found d = let e : w.end_seen ≡ max v.end_seen found = ap (λ (x : View). x.end_seen) d.after in omega arith
+end_is_seen (Read f) v w found d = subst (λ (x : View). found ≤ x.end_seen) (sym d.after) (by_note (link v f).tag (link v f).copied d.allowed.1.remembered d.allowed.1.copied)
+  where
+    by_note : (t : Option ℕ) (c : Option Page) → t ≢ None → c ≢ None → found ≤ (read_of t c found v).end_seen
+    by_note None c some_tag some_page = absurd (some_tag refl)
+    by_note (Some tag) None some_tag some_page = absurd (some_page refl)
+    by_note (Some tag) (Some p) some_tag some_page = omega arith
+
+-- a checkpoint that starts takes its notes from each link
+pub unmarks : (what : EndLoad) (v w : View) (found : ℕ) → w ≡ view_of (end_kind what) found v → what ≡ Checkpoint → (f : ℕ) → link w f ≡ unmarked (link v f)
+unmarks Plain v w found is e f = absurd (cc e)
+unmarks (Read g) v w found is e f = absurd (cc e)
+unmarks Checkpoint v w found is e f = ap (λ (x : View). link x f) is ∙ link_begun v (view_of begin_checkpoint found v) (record { emptied = refl; number = refl; next = refl; joined = refl; links = refl; partitions = refl }) f

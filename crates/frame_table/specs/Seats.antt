@@ -16,7 +16,7 @@ use Rattle.pin_core.specs.declared.view.Io.TheVariants.{Quiet, Output}
 use Rattle.pin_core.specs.declared.view.MapEntry.{MapEntry}
 use Rattle.pin_core.specs.declared.view.MapChange.{MapChange}
 use Rattle.pin_core.specs.declared.view.MapChange.TheVariants.{Settled, Entering, Leaving}
-use Rattle.pin_core.specs.State.{link, hold, no_tag}
+use Rattle.pin_core.specs.State.{link, hold, lane_hold, idle, no_partition, no_lane, no_log, no_tag}
 use Rattle.pin_core.specs.declared.view.PartitionHold.{PartitionHold}
 use Rattle.pin_core.specs.Kinds.{tag_after, seen_valid_after, wait_after, holds_naming}
 use Rattle.pin_core.specs.Turns.{found}
@@ -86,6 +86,8 @@ pub record IsWordOf (l : Link) (w : StateWord) : Type 0 where
   pub seen : l.seen_valid ≡ true → w.valid ≡ true
   -- a frame to whose page the view has an output right is dirty
   pub output : l.io ≡ Output → w.dirty ≡ true
+  -- while the view holds the header the word is the one that it holds
+  pub held : (own : StateWord) → l.header ≡ Some own → w ≡ own
 
 -- What loads of the state word leave of a link: all but what the pin has seen, a wait, and the checkpoint's notes
 pub record Looked (l m : Link) : Type 0 where
@@ -175,6 +177,14 @@ pub record HasOnlyPin (l : Link) : Type 0 where
   pub victim : l.role ≡ Victim
   pub no_content : l.content ≡ Unlocked
   pub no_io : l.io ≡ Quiet
+
+-- The view of a backend that is there, and has nothing: at no frame, of no latch, and of the log
+pub record IsIdle (v : View) : Type 0 where
+  pub links : (f : ℕ) → link v f ≡ idle
+  pub holds : (p : ℕ) → hold v p ≡ no_partition
+  pub lanes : (q : ℕ) → lane_hold v q ≡ no_lane
+  pub log : v.log ≡ no_log
+  pub live : v.emptied ≡ false
 
 -- The view has the latch of a partition, whose map it may change: no change is named or made yet
 pub record MayChange (v : View) (p : ℕ) : Type 0 where

@@ -2,7 +2,7 @@
 ghost use Rattle.std.specs.Prelude.{◌≡◌, ◌≤◌, ◌^◌, [], length, IfOk, IfErr};
 ghost use Rattle.table_rule.specs.Shows.{AreLanes, IsNewLog, devices, starting};
 ghost use Rattle.frame_table.specs.Closes.{CanClose, Closes};
-ghost use Rattle.frame_table.specs.Seats.{Fits};
+ghost use Rattle.frame_table.specs.Seats.{Fits, IsIdle};
 
 use crate::table::{BuildRefused, FrameTable};
 use atomic_table::{Refused, Seat, Table};
@@ -35,6 +35,7 @@ impl<L: BlockLane, G: LogDevice> FrameTable<L, G> {
         requires log { IsNewLog (devices L.contents L.failed_writes L.unsynced L.read_faults L.write_faults L.calls G.bytes G.synced G.faults G.calls) base log }
         ensures key { IfOk result (λ t. (t.0.table.shared.key.config ≡ config) × (t.0.table.shared.key.catalog.value ≡ catalog) × (t.0.table.shared.key.lanes.value ≡ lanes) × (t.0.table.shared.key.log.value ≡ log) × (t.0.table.shared.key.base ≡ base)) }
         ensures seat { IfOk result (λ t. Fits t.0 t.1 × (t.1.id ≡ 0) × (t.1.me ≡ (starting t.0.table.shared.key, []))) }
+        ensures rest { IfOk result (λ t. IsIdle t.1.me.0) }
         ensures back { IfErr result (λ r. (r.lanes.items ≡ lanes.items) × (r.log ≡ log)) }
     {
         let Ok(words) = opening_words(alloc, config.frames, base) else {

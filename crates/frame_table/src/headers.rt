@@ -1,7 +1,7 @@
 //! Calls at tag words, and calls under a buffer header.
 ghost use Rattle.std.specs.Prelude.{◌≡◌, ◌≢◌, ◌+◌, ◌<◌, ◌≤◌, ◌^◌, ℕ, true, false, Some, None, IfSome};
 ghost use Rattle.state_word.specs.Fields.{fields, unlocked_fields};
-ghost use Rattle.block_tag.specs.Names.{names_block, packed_tag, unpacked_tag};
+ghost use Rattle.block_tag.specs.Names.{names_block, packed_tag, partition_number, unpacked_tag};
 ghost use Rattle.pin_core.specs.declared.view.View.{View};
 ghost use Rattle.pin_core.specs.declared.view.MapChange.TheVariants.{Entering};
 ghost use Rattle.pin_core.specs.declared.view.Role.TheVariants.{Absent, HandedOut};
@@ -9,6 +9,7 @@ ghost use Rattle.pin_core.specs.State.{hold, link, no_tag};
 ghost use Rattle.pin_core.specs.Kinds as kinds;
 ghost use Rattle.pin_core.specs.Steps.{HasNoVictim};
 ghost use Rattle.table_rule.specs.Blocks.{has_block, is_block};
+ghost use Rattle.table_rule.specs.Layout.{tag_partition};
 ghost use Rattle.frame_table.specs.Kinds.{pins};
 ghost use Rattle.frame_table.specs.Seats.{CanErase, CanStep, CanStoreTag, CanStoreAs, HasFlag, HasRoom, HoldsNumber, HasOnlyPin, IsUsed, NamesStored, SameMarks, SameSeat, Stores, Touches, assigned_link, cleared_link, partitions_stored, read_link, relations_of, stored_link, tag_word, unlocked_link, victim_link};
 ghost use Rattle.frame_table.specs.FrameSteps.{Did, always, storing};
@@ -49,6 +50,7 @@ impl<L: BlockLane, G: LogDevice> FrameTable<L, G> {
         ensures marks { SameMarks seat.old.me.0 seat.new.me.0 }
         ensures named { IfSome result (λ tag. names_block tag ≡ true) }
         ensures listed { IfSome result (λ tag. has_block (relations_of self.now) tag ≡ true) }
+        ensures placed { IfSome result (λ tag. tag_partition (packed_tag tag) ≡ partition_number tag) }
         ensures handed { IfSome result (λ tag. (link seat.old.me.0 frame).role ≡ HandedOut → (link seat.new.me.0 frame).tag ≡ Some (packed_tag tag)) }
         ensures settled { IfSome result (λ tag. (link seat.old.me.0 frame).role ≢ Absent → (link seat.old.me.0 frame).pending ≡ false → (link seat.new.me.0 frame).tag ≡ Some (packed_tag tag)) }
         ensures read { link seat.new.me.0 frame ≡ read_link result (link seat.old.me.0 frame) }

@@ -1,8 +1,10 @@
 //! Calls at the words of the log, and at the clock's hand.
 ghost use Rattle.std.specs.Prelude.{◌≡◌, ℕ, ◌≤◌, true, map, Some};
-ghost use Rattle.history_core.specs.Steps.{has_raised};
+ghost use Rattle.pin_core.specs.State.{link};
+ghost use Rattle.history_core.specs.Steps.{has_raised, unmarked};
 ghost use Rattle.frame_table.specs.WordSteps.{DidWord, add_hand, load_flushed, load_hand, raise_flushed, view_of};
 ghost use Rattle.frame_table.specs.Opened.{CopiesAreLogged, LoggedOrOpening};
+ghost use Rattle.frame_table.specs.declared.log_words.EndLoad.TheVariants.{Checkpoint};
 ghost use Rattle.frame_table.specs.EndLoads.{IsEndAllowed, ReadsHeld, ReadsOpening, end_kind};
 ghost use Rattle.frame_table.specs.Seats.{IsSeat, SameSeat, base_of, frames_of, lanes_in, opened_of, relations_of};
 
@@ -41,13 +43,16 @@ impl<L: BlockLane, G: LogDevice> FrameTable<L, G> {
         self.table.shared.load::<LoadEnd<D>>(seat, at)
     }
 
-    /// The log's end, and what it is loaded for: as the place of a read it joins the backend's calls, and is its front then. A read whose place is the log's base is of the page that the block's lane held as the table was opened, where that is known; and then each page that the backend has copied has a position at the end or before it, or is that one.
+    /// The log's end, and what it is loaded for: as the place of a read it joins the backend's calls, and is its front then. The end never falls: it is at the last end that the backend has seen, or behind it. A checkpoint that starts has passed no frame, and listed none. A read whose place is the log's base is of the page that the block's lane held as the table was opened, where that is known; and then each page that the backend has copied has a position at the end or before it, or is that one.
     pub fn load_log_end(&self, seat: &mut Seat<Value<L, G>, View>, what: EndLoad) -> u64
         requires seat { IsSeat self.now seat.old }
         requires allowed { IsEndAllowed (frames_of self.now) what seat.old.me.0 }
         ensures seat { SameSeat seat.old seat.new }
         ensures view { seat.new.me.0 ≡ view_of (end_kind what) result seat.old.me.0 }
         ensures front { seat.old.me.0.front ≤ result }
+        ensures later { seat.old.me.0.end_seen ≤ result }
+        ensures seen { result ≤ seat.new.me.0.end_seen }
+        ensures unmarked { what ≡ Checkpoint → (f : ℕ) → link seat.new.me.0 f ≡ unmarked (link seat.old.me.0 f) }
         ensures base { base_of self.now ≤ result }
         ensures origin { ReadsOpening L.contents self.now what result seat.old.me.0 }
         ensures logged { LoggedOrOpening L.contents self.now result seat.old.me.0 }

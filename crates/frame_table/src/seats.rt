@@ -1,6 +1,6 @@
 //! Seats come, and go.
 ghost use Rattle.std.specs.Prelude.{◌≡◌, ℕ, ◌<◌, false, []};
-ghost use Rattle.pin_core.specs.State.{hold, idle, joined_view, link, no_partition};
+ghost use Rattle.pin_core.specs.State.{hold, idle, joined_view, lane_hold, link, no_lane, no_log, no_partition};
 ghost use Rattle.pin_core.specs.Steps.{HoldsNothing};
 ghost use Rattle.frame_table.specs.Seats.{Fits, SameSeat};
 ghost use Rattle.frame_table.specs.FrameSteps.{kept_view, split_view};
@@ -37,6 +37,9 @@ impl<L: BlockLane, G: LogDevice> FrameTable<L, G> {
         ensures new { result.me ≡ (split_view self.now.table.shared.key.base seat.old.me.0, []) }
         ensures links { (f : ℕ) → link result.me.0 f ≡ idle }
         ensures holds { (p : ℕ) → hold result.me.0 p ≡ no_partition }
+        ensures lanes { (q : ℕ) → lane_hold result.me.0 q ≡ no_lane }
+        ensures log { result.me.0.log ≡ no_log }
+        ensures live { result.me.0.emptied ≡ false }
     {
         self.split_at::<Brand>(seat)
     }

@@ -1,6 +1,9 @@
 use Rattle.std.proofs.Common.{arith, ◌∙◌, sym, ap, List, length, subst, ℕ}
+use Rattle.atomic_table.specs.Table.{Me}
+use Rattle.pin_core.specs.declared.view.View.{View}
 use Rattle.table_rule.specs.Laid.{AreOpening, home_log}
 use Rattle.table_rule.proofs.Opens.{opens_built, laid_ends, lanes_are, log_is}
+use Rattle.frame_table.proofs.Resting.{first_idle}
 use Rattle.frame_table.proofs.table.FrameTable.build.Goals as goal
 
 pub new-requires : goal.new-requires
@@ -21,3 +24,6 @@ returns-in-Err-clause-back g c = let s = c.lay.ensures in let same = c.in-Err.en
   t.3 ∙ lanes_are _ _ _ _ s _ same,
   t.4 ∙ log_is _ _ _ _ s _ _ _ same t.2,
 )
+
+pub returns-in-Ok-new-clause-rest : goal.returns-in-Ok-new-clause-rest
+returns-in-Ok-new-clause-rest g c = first_idle c.args.base c.args.config.frames 128 c.args.config.lanes _ (ap (λ (m : Me _ View). m.0) c.in-Ok-new.ensures.ok.4)
