@@ -157,6 +157,7 @@ gives_lane d relations lanes q (value.Lane l) ln ln' e h = (
     writes = e.writes ∙ h.0.writes;
   },
   h.1,
+  h.2,
 )
 gives_lane d relations lanes q (value.Page p) ln ln' e h = h
 gives_lane d relations lanes q (value.Map m) ln ln' e h = h

@@ -143,6 +143,7 @@ module _ {L G : Type 0} (d : Devices L G) (o : Opening L G) where
           l,
           refl,
           gives_it.1,
+          gives_it.2,
           record { holds = holds_blocks d o.catalog.value o.config.lanes q l.device (h.state.lane q) is_lane; known_still = sym is_lane.known ∙ known_of h.state q h.shows.fixed h.laws counted below },
           refl,
           record { state = h.state; laws = h.laws; next = comes.next; seat = id; there = here; live = live; run = comes.run; after = ap (λ (x : List View). get_elem? x id) moves.views ∙ set_here h.state.pool.core.views id me.0 (out_view q taken me.0) here },
@@ -338,10 +339,10 @@ module _ {L G : Type 0} (d : Devices L G) (o : Opening L G) where
     }
 
   -- the lane comes back as r: the device l after its call, without the note
-  comes_home : (slots id q : ℕ) (v : View) (c : List (ℕ × Value L G)) (l r : NotedLane L) → length o.lanes.value.items ≡ o.config.lanes → q < o.config.lanes → v.emptied ≡ false → r.device ≡ l.device → r.call ≡ Untouched → MayReturn (lane_devices_of d) (was_known (lane_devices_of d) o.lanes.value.items q) o.catalog.value o.config.lanes q v l
+  comes_home : (slots id q : ℕ) (v : View) (c : List (ℕ × Value L G)) (l r : NotedLane L) → length o.lanes.value.items ≡ o.config.lanes → q < o.config.lanes → v.emptied ≡ false → r.number ≡ l.number → r.device ≡ l.device → r.call ≡ Untouched → MayReturn (lane_devices_of d) (was_known (lane_devices_of d) o.lanes.value.items q) o.catalog.value o.config.lanes q v l
       → ((x : L) → d.read_faults x < 2 ^ 64) → ((x : L) → d.write_faults x < 2 ^ 64)
       → Allows (Held d o) slots id (v, (slot_of o.config.frames (place.Of (turn.Lane q)), value.Lane r) ∷ c) (latch_place o.config.frames (turn.Lane q)) (λ n. n) (came_by (back_events (lane_devices_of d) q l.device l.call) (back_view (lane_devices_of d) q l.device l.call) (step slots (latch_place o.config.frames (turn.Lane q)) 0 0 none) (v, (slot_of o.config.frames (place.Of (turn.Lane q)), value.Lane r) ∷ c))
-  comes_home slots id q v c l r counted below live same untouched m reads_fit writes_fit t h deep there small = let s : State = h.state in let at : ℕ = latch_place o.config.frames (turn.Lane q) in let w : View = back_view (lane_devices_of d) q l.device l.call v in
+  comes_home slots id q v c l r counted below live numbered same untouched m reads_fit writes_fit t h deep there small = let s : State = h.state in let at : ℕ = latch_place o.config.frames (turn.Lane q) in let w : View = back_view (lane_devices_of d) q l.device l.call v in
       let here : get_elem? s.pool.core.views id ≡ some v = ap (λ (x : List View). get_elem? x id) (sym h.shows.views) ∙ there in
       let stands : Stands d o s id q v = record { opened = h.shows.fixed; laws = h.laws; there = here; live = live; below = (let e = h.shows.fixed.lanes in omega arith) } in
       let ret : Returns s id q v (back_events (lane_devices_of d) q l.device l.call id) w l.device = returns s id q v stands counted below l m reads_fit writes_fit l.call m.did m.may in
@@ -352,18 +353,18 @@ module _ {L G : Type 0} (d : Devices L G) (o : Opening L G) where
         tt,
         record {
           state = ret.comes.next;
-          shows = shows_back d o (set t.words at (get_or t.words at 0)) t s ret.comes.next id v w (place.Of (turn.Lane q)) (value.Lane r) (set-get_or t.words at 0) h.shows here moves below (is, untouched);
+          shows = shows_back d o (set t.words at (get_or t.words at 0)) t s ret.comes.next id v w (place.Of (turn.Lane q)) (value.Lane r) (set-get_or t.words at 0) h.shows here moves below (is, untouched, numbered ∙ m.number);
           laws = ret.comes.laws;
         },
         (refl, refl, record { state = s; laws = h.laws; next = ret.comes.next; seat = id; there = here; live = live; run = ret.comes.run; after = ap (λ (x : List View). get_elem? x id) moves.views ∙ set_here s.pool.core.views id v w here }),
       )
 
   -- the seat is as the exchange of the slot left it
-  pub comes_back : (slots id q : ℕ) (me me' : Me (Value L G) View) (l r : NotedLane L) → me' ≡ (me.0, (slot_of o.config.frames (place.Of (turn.Lane q)), value.Lane r) ∷ rest me.1) → length o.lanes.value.items ≡ o.config.lanes → q < o.config.lanes → me.0.emptied ≡ false → r.device ≡ l.device → r.call ≡ Untouched
+  pub comes_back : (slots id q : ℕ) (me me' : Me (Value L G) View) (l r : NotedLane L) → me' ≡ (me.0, (slot_of o.config.frames (place.Of (turn.Lane q)), value.Lane r) ∷ rest me.1) → length o.lanes.value.items ≡ o.config.lanes → q < o.config.lanes → me.0.emptied ≡ false → r.number ≡ l.number → r.device ≡ l.device → r.call ≡ Untouched
       → MayReturn (lane_devices_of d) (was_known (lane_devices_of d) o.lanes.value.items q) o.catalog.value o.config.lanes q me.0 l → ((x : L) → d.read_faults x < 2 ^ 64) → ((x : L) → d.write_faults x < 2 ^ 64)
       → Allows (Held d o) slots id me' (latch_place o.config.frames (turn.Lane q)) (λ n. n) (came_by (back_events (lane_devices_of d) q l.device l.call) (back_view (lane_devices_of d) q l.device l.call) (step slots (latch_place o.config.frames (turn.Lane q)) 0 0 none) me')
-  comes_back slots id q me me' l r e counted below live same untouched m reads_fit writes_fit = let at : ℕ = latch_place o.config.frames (turn.Lane q) in
-      subst (λ (x : Me (Value L G) View). Allows (Held d o) slots id x at (λ n. n) (came_by (back_events (lane_devices_of d) q l.device l.call) (back_view (lane_devices_of d) q l.device l.call) (step slots at 0 0 none) x)) (sym e) (comes_home slots id q me.0 (rest me.1) l r counted below live same untouched m reads_fit writes_fit)
+  comes_back slots id q me me' l r e counted below live numbered same untouched m reads_fit writes_fit = let at : ℕ = latch_place o.config.frames (turn.Lane q) in
+      subst (λ (x : Me (Value L G) View). Allows (Held d o) slots id x at (λ n. n) (came_by (back_events (lane_devices_of d) q l.device l.call) (back_view (lane_devices_of d) q l.device l.call) (step slots at 0 0 none) x)) (sym e) (comes_home slots id q me.0 (rest me.1) l r counted below live numbered same untouched m reads_fit writes_fit)
 
 -- what the view has at the frame of the call
 notes_at : (f : ℕ) (l : Link) (v w : View) → f < length v.links → w.links ≡ set v.links f l → NotesAt f l v w
@@ -415,10 +416,11 @@ first_value y (x ∷ xs) = x.1
 -- what the call gives is the lane that went out
 pub went_out : {L G : Type 0} (d : LaneDevices L) (t : FrameTable L G) (q slot : ℕ) (m m' m'' : Me (Value L G) View) (z : Value L G)
     → lane_went d (was_known d (opened_of t) q) (relations_of t) (lanes_in t) (frames_of t) q slot (step 0 0 0 0 none) m 0 m' → m'.1 ≡ (slot, z) ∷ rest m'.1 → m''.0 ≡ m'.0 → WentOut d t q z m.0 m''.0
-went_out d t q slot m m' m'' z (l, hand, untouched, taken, view, did, wide) e same = record {
+went_out d t q slot m m' m'' z (l, hand, untouched, number, taken, view, did, wide) e same = record {
   lane = l;
   is = ap (first_value z) (sym e ∙ hand);
   untouched = untouched;
+  number = number;
   taken = taken;
   view = same ∙ view;
   did = subst (DidSteps (out_events q (taken_at d t q l.device)) m.0) (sym same) did;
@@ -456,6 +458,6 @@ module _ (relations : List RelEntry) (lanes q f : ℕ) (tag : Tag) (page : Page)
   write_may (Err x) Synced can wrong = absurd wrong
   write_may (Err x) SyncFailed can wrong = absurd wrong
 
-pub may_return : {L : Type 0} (d : LaneDevices L) (known : Bool) (relations : List RelEntry) (lanes q flushed : ℕ) (h : LaneHold) (v : View) (before : L) (l : NotedLane L) → lane_hold v q ≡ out_lane (taken_lane d relations lanes q before) flushed h → IsTakenLane d known relations lanes q before → LaneDid d before l.device l.call → MayNote relations lanes q l.call v
+pub may_return : {L : Type 0} (d : LaneDevices L) (known : Bool) (relations : List RelEntry) (lanes q flushed : ℕ) (h : LaneHold) (v : View) (before : L) (l : NotedLane L) → l.number ≡ q → lane_hold v q ≡ out_lane (taken_lane d relations lanes q before) flushed h → IsTakenLane d known relations lanes q before → LaneDid d before l.device l.call → MayNote relations lanes q l.call v
     → MayReturn d known relations lanes q v l
-may_return d known relations lanes q flushed h v before l hold taken did may = record { before = before; out = ap (λ (h : LaneHold). h.out) hold; once = ap (λ (h : LaneHold). h.change) hold; taken = taken; did = did; may = may }
+may_return d known relations lanes q flushed h v before l number hold taken did may = record { number = number; before = before; out = ap (λ (h : LaneHold). h.out) hold; once = ap (λ (h : LaneHold). h.change) hold; taken = taken; did = did; may = may }

@@ -194,8 +194,9 @@ module _ {L : Type 0} (d : LaneDevices L) where
     pub holds : HoldsBlocks d relations lanes q l
     pub known_still : is_some (d.contents l) ≡ known
 
-  -- A lane may come back as l, with its call: it went out as `before`, and the call made this of it
+  -- A lane may come back as l, with its number and its call: it went out as `before`, and the call made this of it
   pub record MayReturn (known : Bool) (relations : List RelEntry) (lanes q : ℕ) (v : View) (l : NotedLane L) : Type 0 where
+    pub number : l.number ≡ q
     pub before : L
     pub out : (lane_hold v q).out ≡ Some (taken_lane d relations lanes q before)
     pub once : (lane_hold v q).change ≡ lane_change.Untouched
@@ -206,7 +207,7 @@ module _ {L : Type 0} (d : LaneDevices L) where
 module _ {L G : Type 0} where
   -- the lane went out with the seat, from this slot
   abbrev pub lane_went : LaneDevices L → Bool → List RelEntry → ℕ → ℕ → ℕ → ℕ → table.Step (Value L G) → Me (Value L G) View → ℕ → Me (Value L G) View → Type 0
-  lane_went d known relations lanes frames q place st m found m' = (l : NotedLane L) × (m'.1 ≡ (place, value.Lane l) ∷ m.1) × (l.call ≡ Untouched) × IsTakenLane d known relations lanes q l.device
+  lane_went d known relations lanes frames q place st m found m' = (l : NotedLane L) × (m'.1 ≡ (place, value.Lane l) ∷ m.1) × (l.call ≡ Untouched) × (l.number ≡ q) × IsTakenLane d known relations lanes q l.device
       × (m'.0 ≡ out_view q (taken_lane d relations lanes q l.device) m.0) × DidSteps (out_events q (taken_lane d relations lanes q l.device)) m.0 m'.0 × IsWide frames lanes m.0
 
   -- in a table: what its lane is, when it may go out and when it may come back
@@ -224,6 +225,7 @@ module _ {L G : Type 0} where
     pub lane : NotedLane L
     pub is : y ≡ value.Lane lane
     pub untouched : lane.call ≡ Untouched
+    pub number : lane.number ≡ q
     pub taken : IsTakenFrom d t q lane.device
     pub view : w ≡ out_view q (taken_at d t q lane.device) v
     pub did : DidSteps (out_events q (taken_at d t q lane.device)) v w

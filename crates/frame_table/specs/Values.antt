@@ -36,7 +36,7 @@ module _ {L G : Type 0} where
   abbrev pub WentOutAs : Devices L G → FrameTable L G → Place → Value L G → View → View → Type 0
   WentOutAs d t (place.Page f) (value.Page p) v w = Touches f v w × SameMarks v w × (link w f ≡ page_out_link p (link v f)) × ((link w f).overwritten ≡ None) × ((found : ℕ) × Did (pages kinds.page_out) f v w found)
   WentOutAs d t (place.Of (Partition p)) (value.Map m) v w = AreApart m.items × (frames_of t ≤ vec_capacity m) × HasRoomFor (hold v p) m × SameWork v w × MapStep p (out_hold (map entry_of m.items) (hold v p)) v w × AreBelow (frames_of t) m.items × DidMap (map_out (map entry_of m.items)) p v w
-  WentOutAs d t (place.Of (Lane q)) (value.Lane l) v w = (l.call ≡ lane_call.Untouched) × IsTakenFrom (lane_devices_of d) t q l.device × (w ≡ out_view q (taken_at (lane_devices_of d) t q l.device) v) × DidSteps (out_events q (taken_at (lane_devices_of d) t q l.device)) v w
+  WentOutAs d t (place.Of (Lane q)) (value.Lane l) v w = (l.call ≡ lane_call.Untouched) × (l.number ≡ q) × IsTakenFrom (lane_devices_of d) t q l.device × (w ≡ out_view q (taken_at (lane_devices_of d) t q l.device) v) × DidSteps (out_events q (taken_at (lane_devices_of d) t q l.device)) v w
   WentOutAs d t (place.Of Log) (value.Log g) v w = (g.call ≡ log_call.Untouched) × (record_size ≤ vec_capacity g.buffer) × LogWent d.bytes d.synced d.log_faults d.log_calls g v w
   WentOutAs d t x y v w = ⊥
 

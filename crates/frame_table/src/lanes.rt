@@ -56,6 +56,7 @@ impl<L: BlockLane, G: LogDevice> FrameTable<L, G> {
         ensures seat { (seat.new.table_id ≡ seat.old.table_id) × (seat.new.id ≡ seat.old.id) }
         ensures hand { seat.new.me.1 ≡ (slot_of (frames_of self.now) (Of (Lane lane)), value.Away) ∷ seat.old.me.1 }
         ensures wide { (length seat.old.me.0.links ≡ frames_of self.now) × (length seat.old.me.0.lanes ≡ lanes_in self.now) }
+        ensures number { result.number ≡ lane }
         ensures untouched { result.call ≡ Untouched }
         ensures taken { IsTakenFrom (lane_devices L.contents L.failed_writes L.unsynced L.read_faults L.write_faults L.calls) self.now lane result.device }
         ensures view { seat.new.me.0 ≡ out_view lane (taken_at (lane_devices L.contents L.failed_writes L.unsynced L.read_faults L.write_faults L.calls) self.now lane result.device) seat.old.me.0 }
@@ -95,7 +96,7 @@ impl<L: BlockLane, G: LogDevice> FrameTable<L, G> {
         self.table.shared.load::<Back<D>>(seat, place);
     }
 
-    /// The lane is back, and has no call noted. A fault is counted where the call failed; a page that was read or written is noted at its frame.
+    /// The lane is back, the one of that number, and has no call noted. A fault is counted where the call failed; a page that was read or written is noted at its frame.
     pub fn lane_back(&self, seat: &mut Seat<Value<L, G>, View>, lane: u32, noted: NotedLane<L>)
         requires seat { CanTurn self.now seat.old (Lane lane) }
         requires hand { seat.old.me.1 ≡ (slot_of (frames_of self.now) (Of (Lane lane)), value.Away) ∷ rest seat.old.me.1 }

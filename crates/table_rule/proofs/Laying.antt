@@ -3,7 +3,7 @@ use Rattle.std.proofs.Common.{◌≡◌, ℕ, zero, suc, ◌+◌, ◌*◌, ◌<�
 use Rattle.std.proofs.lemmas.List.{get_or_append_left, get_or-append-add, length-reverse, reverse-append, append-nil}
 use Rattle.std.specs.Prelude.{vec_capacity}
 use mathlib.Core.Logic.{dite}
-use mathlib.Core.Option.{some, some-ne-none}
+use mathlib.Core.Option.{some, some-injective, some-ne-none}
 use native.Mathlib.Decide.{ℕ_discrete}
 use lib.ListN.{get_elem?}
 use Rattle.std.specs.Option.{option_to_list}
@@ -17,7 +17,7 @@ use Rattle.table_rule.specs.declared.value.Mapped.{Mapped}
 use Rattle.table_rule.specs.declared.noted_lane.NotedLane.{NotedLane}
 use Rattle.table_rule.specs.declared.noted_log.NotedLog.{NotedLog}
 use Rattle.table_rule.specs.Shows.{GivesMap, entry_of}
-use Rattle.table_rule.specs.Laid.{AreBlank, AreFresh, AreMaps, AddsMaps, home_lane, zero_page, lanes_among, EndsWith, HasNoDevices}
+use Rattle.table_rule.specs.Laid.{AreBlank, AreFresh, AreMaps, AddsMaps, home_lane, home_lanes, zero_page, lanes_among, EndsWith, HasNoDevices}
 
 pub blank_none : AreBlank [] 0
 blank_none = record { wide = refl; states = λ f h. absurd (omega arith); tags = λ f h. absurd (omega arith); contents = λ f h. absurd (omega arith) }
@@ -112,15 +112,30 @@ unfolding HasNoDevices
 plain_aways L G zero = tt
 plain_aways L G (suc n) = plain_aways L G n
 
-pub lanes_lanes : (L G : Type 0) (ls : List L) → lanes_among {L = L} {G = G} (map home_lane ls) ≡ ls
+pub lanes_lanes : (L G : Type 0) (q : ℕ) (ls : List L) → lanes_among {L = L} {G = G} (home_lanes q ls) ≡ ls
 unfolding lanes_among
-lanes_lanes L G [] = refl
-lanes_lanes L G (l ∷ ls) = ap (λ (z : List L). l ∷ z) (lanes_lanes L G ls)
+lanes_lanes L G q [] = refl
+lanes_lanes L G q (l ∷ ls) = ap (λ (z : List L). l ∷ z) (lanes_lanes L G (q + 1) ls)
 
-pub plain_lanes : (L G : Type 0) (ls : List L) → HasNoDevices {L = L} {G = G} (map home_lane ls)
+pub plain_lanes : (L G : Type 0) (q : ℕ) (ls : List L) → HasNoDevices {L = L} {G = G} (home_lanes q ls)
 unfolding HasNoDevices
-plain_lanes L G [] = tt
-plain_lanes L G (l ∷ ls) = plain_lanes L G ls
+plain_lanes L G q [] = tt
+plain_lanes L G q (l ∷ ls) = plain_lanes L G (q + 1) ls
+
+-- there are as many as lanes, each with the number of its place
+pub lanes_counted : (L G : Type 0) (q : ℕ) (ls : List L) → length (home_lanes {L = L} {G = G} q ls) ≡ length ls
+lanes_counted L G q [] = refl
+lanes_counted L G q (l ∷ ls) = ap suc (lanes_counted L G (q + 1) ls)
+
+pub lane_numbered : (L G : Type 0) (q k n : ℕ) (ls : List L) (l : L) → n ≡ q + k → get_elem? ls k ≡ some l → get_elem? (home_lanes {L = L} {G = G} q ls) k ≡ some (home_lane n l)
+lane_numbered L G q k n [] l e at = absurd (some-ne-none l (sym at))
+lane_numbered L G q zero n (x ∷ ls) l e at = ap (λ (y : L). some (home_lane {L = L} {G = G} q y)) (some-injective x l at) ∙ ap (λ (m : ℕ). some (home_lane {L = L} {G = G} m l)) {x = q} {y = n} (omega (arith, e))
+lane_numbered L G q (suc k) n (x ∷ ls) l e at = lane_numbered L G (q + 1) k n ls l (omega (arith, e)) at
+
+-- one more lane was put behind the values, by the number of its place
+pub laid_lane : {L G : Type 0} (slots slots' : List (Value L G)) (lanes rest : List L) (l : L) (n m : ℕ) (all : List (Value L G)) → lanes ≡ rest ++ l ∷ [] → slots' ≡ slots ++ home_lane n l ∷ [] → m ≡ n + 1 → slots ++ home_lanes n (reverse lanes) ≡ all → slots' ++ home_lanes m (reverse rest) ≡ all
+laid_lane slots slots' lanes rest l n m all popped put next done = ap (λ (s : List (Value _ _)). s ++ home_lanes m (reverse rest)) put ∙ append_assoc slots (home_lane n l ∷ []) (home_lanes m (reverse rest))
+    ∙ ap (λ (k : ℕ). slots ++ home_lane n l ∷ home_lanes k (reverse rest)) next ∙ ap (λ (ls : List _). slots ++ home_lanes n ls) (sym (ap (λ (ls : List _). reverse ls) popped ∙ reverse-append rest (l ∷ []))) ∙ done
 
 abbrev head_or : {A : Type 0} → A → List A → A
 head_or d [] = d

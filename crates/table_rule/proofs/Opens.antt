@@ -31,10 +31,10 @@ use Rattle.table_rule.specs.declared.turn.Turn.{Turn}
 use Rattle.table_rule.specs.declared.turn.Turn.TheVariants as turn
 use Rattle.pin_core.specs.Tallies.{flag_weight}
 use Rattle.table_rule.specs.Layout.{latch_place, word_count, tag_partition, partition_of_tag, tag_lane, lane_of_tag}
-use Rattle.table_rule.specs.Blocks.{is_block, log_name, name_of, name_in, no_name, block_name, has_block}
+use Rattle.table_rule.specs.Blocks.{is_block, log_name, name_of, name_in}
 use Rattle.table_rule.specs.Shows.{is_taken, HasTurn, ShowsFrame, IsHome, Devices, IsPlaced, IsLane, IsLog, AreLanes, IsNewLog, GivesMap, IsPlaceIn, HasValue, Held, starting}
-use Rattle.table_rule.specs.Laid.{AreOpening, AreSlots, EndsWith, home_lane, home_log, zero_page, lanes_among, HasNoDevices}
-use Rattle.table_rule.proofs.Laying.{lanes_append, plain_both, lanes_pages, plain_pages, lanes_aways, plain_aways, lanes_lanes, plain_lanes, lanes_maps, plain_maps, lanes_before, snoc_same}
+use Rattle.table_rule.specs.Laid.{AreOpening, AreSlots, EndsWith, home_lane, home_lanes, home_log, zero_page, lanes_among, HasNoDevices}
+use Rattle.table_rule.proofs.Laying.{lanes_append, plain_both, lanes_pages, plain_pages, lanes_aways, plain_aways, lanes_lanes, plain_lanes, lanes_counted, lane_numbered, lanes_maps, plain_maps, lanes_before, snoc_same}
 
 zero_fields : zero_word ≡ fields 0
 unfolding fields
@@ -197,9 +197,6 @@ module _ {L G : Type 0} (d : Devices L G) (relations : List RelEntry) (lanes : L
 
 -- the slots of the start
 module _ {L G : Type 0} (d : Devices L G) (n : ℕ) (lanes : List L) (log : G) (ys : List (Value L G)) (h : AreSlots n lanes log ys) where
-  abbrev lane_value : L → Value L G
-  lane_value l = home_lane l
-
   abbrev away_value : Value L G
   away_value = value.Away
 
@@ -210,7 +207,7 @@ module _ {L G : Type 0} (d : Devices L G) (n : ℕ) (lanes : List L) (log : G) (
   maps_part = pages_part ++ h.maps
 
   abbrev lanes_part : List (Value L G)
-  lanes_part = maps_part ++ map home_lane lanes
+  lanes_part = maps_part ++ home_lanes 0 lanes
 
   abbrev all_part : List (Value L G)
   all_part = lanes_part ++ replicate (16 - length lanes) value.Away
@@ -225,7 +222,7 @@ module _ {L G : Type 0} (d : Devices L G) (n : ℕ) (lanes : List L) (log : G) (
   maps_long = length-append pages_part h.maps ∙ (let a = pages_long in let b = h.counted in omega arith)
 
   lanes_long : length lanes_part ≡ n + 128 + length lanes
-  lanes_long = length-append maps_part (map home_lane lanes) ∙ (let a = maps_long in let b = length-map lanes lane_value in omega arith)
+  lanes_long = length-append maps_part (home_lanes 0 lanes) ∙ (let a = maps_long in let b = lanes_counted L G 0 lanes in omega arith)
 
   all_long : length all_part ≡ n + 144
   all_long = length-append lanes_part (replicate (16 - length lanes) value.Away) ∙ (let a = lanes_long in let b = length-replicate (16 - length lanes) away_value in let c = h.few in omega arith)
@@ -243,7 +240,7 @@ module _ {L G : Type 0} (d : Devices L G) (n : ℕ) (lanes : List L) (log : G) (
   in_lanes i low = in_all i (let a = h.few in omega arith) ∙ left_at lanes_part (replicate (16 - length lanes) value.Away) i (let a = lanes_long in omega arith)
 
   in_maps : (i : ℕ) → i < n + 128 → get_elem? ys i ≡ get_elem? maps_part i
-  in_maps i low = in_lanes i (omega arith) ∙ left_at maps_part (map home_lane lanes) i (let a = maps_long in omega arith)
+  in_maps i low = in_lanes i (omega arith) ∙ left_at maps_part (home_lanes 0 lanes) i (let a = maps_long in omega arith)
 
   page_at : (f : ℕ) → f < n → get_elem? ys f ≡ some (value.Page zero_page)
   page_at f low = in_maps f (omega arith) ∙ left_at pages_part h.maps f (let a = pages_long in omega arith) ∙ same_at_replicate n f (value.Page zero_page) low
@@ -251,8 +248,8 @@ module _ {L G : Type 0} (d : Devices L G) (n : ℕ) (lanes : List L) (log : G) (
   map_at : (p : ℕ) → p < 128 → (y : Value L G) × (get_elem? ys (n + p) ≡ some y) × GivesMap n y (λ _. None)
   map_at p low = let t = there_at h.maps p (let a = h.counted in omega arith) in (t.0, in_maps (n + p) (omega arith) ∙ right_at pages_part h.maps (n + p) p (let a = pages_long in omega arith) ∙ t.1, h.are_maps p t.0 t.1)
 
-  lane_at : (q : ℕ) (l : L) → get_elem? lanes q ≡ some l → get_elem? ys (n + 128 + q) ≡ some (home_lane l)
-  lane_at q l at = let low = length_low lanes q l at in in_lanes (n + 128 + q) (omega arith) ∙ right_at maps_part (map home_lane lanes) (n + 128 + q) q (let a = maps_long in omega arith) ∙ at_map home_lane lanes q l at
+  lane_at : (q : ℕ) (l : L) → get_elem? lanes q ≡ some l → get_elem? ys (n + 128 + q) ≡ some (home_lane q l)
+  lane_at q l at = let low = length_low lanes q l at in in_lanes (n + 128 + q) (omega arith) ∙ right_at maps_part (home_lanes 0 lanes) (n + 128 + q) q (let a = maps_long in omega arith) ∙ lane_numbered L G 0 q q lanes l (omega arith) at
 
   spare_at : (q : ℕ) → length lanes ≤ q → q < 16 → get_elem? ys (n + 128 + q) ≡ some value.Away
   spare_at q from below = in_all (n + 128 + q) (omega arith) ∙ right_at lanes_part (replicate (16 - length lanes) value.Away) (n + 128 + q) (q - length lanes) (let a = lanes_long in omega arith) ∙ same_at_replicate (16 - length lanes) (q - length lanes) value.Away (omega arith)
@@ -286,9 +283,9 @@ module _ {L G : Type 0} (d : Devices L G) (o : Opening L G) where
   homes ys h count are new (place.Page f) below out = record { value = value.Page zero_page; home = at_map some ys f (value.Page zero_page) (page_at d n lanes o.log.value ys h f below); gives = refl }
   homes ys h count are new (place.Of (turn.Partition p)) below out = let t = map_at d n lanes o.log.value ys h p below in record { value = t.0; home = at_map some ys (n + p) t.0 t.1; gives = t.2 }
   homes ys h count are new (place.Of (turn.Lane q)) below out = let t = there_at lanes q (omega arith) in record {
-    value = home_lane t.0;
-    home = at_map some ys (n + 128 + q) (home_lane t.0) (lane_at d n lanes o.log.value ys h q t.0 t.1);
-    gives = (subst (λ (m : ℕ). IsLane d o.catalog.value m q t.0 (history.fresh_lane o.base store q)) count (fresh_is d o.catalog.value lanes o.log.value o.base are q t.0 t.1), refl);
+    value = home_lane q t.0;
+    home = at_map some ys (n + 128 + q) (home_lane q t.0) (lane_at d n lanes o.log.value ys h q t.0 t.1);
+    gives = (subst (λ (m : ℕ). IsLane d o.catalog.value m q t.0 (history.fresh_lane o.base store q)) count (fresh_is d o.catalog.value lanes o.log.value o.base are q t.0 t.1), refl, refl);
   }
   homes ys h count are new (place.Of turn.Log) below out = record {
     value = value.Log (home_log h.room o.log.value);
@@ -352,19 +349,19 @@ module _ {L G : Type 0} (d : Devices L G) (o : Opening L G) where
 -- the devices among the slots
 module _ {L G : Type 0} (n : ℕ) (lanes : List L) (log : G) (ys : List (Value L G)) (h : AreSlots n lanes log ys) where
   abbrev before_log : List (Value L G)
-  before_log = ((replicate n (value.Page zero_page) ++ h.maps) ++ map home_lane lanes) ++ replicate (16 - length lanes) value.Away
+  before_log = ((replicate n (value.Page zero_page) ++ h.maps) ++ home_lanes 0 lanes) ++ replicate (16 - length lanes) value.Away
 
   plain_before : HasNoDevices before_log
-  plain_before = plain_both ((replicate n (value.Page zero_page) ++ h.maps) ++ map home_lane lanes) (replicate (16 - length lanes) value.Away)
-      (plain_both (replicate n (value.Page zero_page) ++ h.maps) (map home_lane lanes) (plain_both (replicate n (value.Page zero_page)) h.maps (plain_pages L G n) (plain_maps n h.maps h.are_maps)) (plain_lanes L G lanes)) (plain_aways L G (16 - length lanes))
+  plain_before = plain_both ((replicate n (value.Page zero_page) ++ h.maps) ++ home_lanes 0 lanes) (replicate (16 - length lanes) value.Away)
+      (plain_both (replicate n (value.Page zero_page) ++ h.maps) (home_lanes 0 lanes) (plain_both (replicate n (value.Page zero_page)) h.maps (plain_pages L G n) (plain_maps n h.maps h.are_maps)) (plain_lanes L G 0 lanes)) (plain_aways L G (16 - length lanes))
 
   none_before : lanes_among (replicate n (value.Page zero_page) ++ h.maps) ≡ []
   none_before = lanes_append (replicate n (value.Page zero_page)) h.maps ∙ ap (λ (l : List L). l ++ lanes_among h.maps) (lanes_pages L G n) ∙ lanes_maps n h.maps h.are_maps
 
   lanes_there : lanes_among before_log ≡ lanes
-  lanes_there = lanes_append ((replicate n (value.Page zero_page) ++ h.maps) ++ map home_lane lanes) (replicate (16 - length lanes) value.Away)
-      ∙ ap (λ (l : List L). lanes_among ((replicate n (value.Page zero_page) ++ h.maps) ++ map home_lane lanes) ++ l) (lanes_aways L G (16 - length lanes)) ∙ append-nil (lanes_among ((replicate n (value.Page zero_page) ++ h.maps) ++ map home_lane lanes))
-      ∙ lanes_append (replicate n (value.Page zero_page) ++ h.maps) (map home_lane lanes) ∙ ap (λ (l : List L). l ++ lanes_among {L = L} {G = G} (map home_lane lanes)) none_before ∙ lanes_lanes L G lanes
+  lanes_there = lanes_append ((replicate n (value.Page zero_page) ++ h.maps) ++ home_lanes 0 lanes) (replicate (16 - length lanes) value.Away)
+      ∙ ap (λ (l : List L). lanes_among ((replicate n (value.Page zero_page) ++ h.maps) ++ home_lanes 0 lanes) ++ l) (lanes_aways L G (16 - length lanes)) ∙ append-nil (lanes_among ((replicate n (value.Page zero_page) ++ h.maps) ++ home_lanes 0 lanes))
+      ∙ lanes_append (replicate n (value.Page zero_page) ++ h.maps) (home_lanes 0 lanes) ∙ ap (λ (l : List L). l ++ lanes_among {L = L} {G = G} (home_lanes 0 lanes)) none_before ∙ lanes_lanes L G 0 lanes
 
   -- the devices come back from such slots
   pub laid_ends : (xs : List (Value L G)) → xs ≡ ys → EndsWith (home_log h.room log) h.list xs

@@ -1,5 +1,5 @@
 -- The words and the slots of a table at the start.
-use Rattle.std.specs.Prelude.{◌≡◌, ℕ, ◌*◌, ◌-◌, ◌<◌, ◌≤◌, List, [], ◌∷◌, ◌++◌, Vec, vec_len, vec_capacity, length, map, replicate, slice_index, None}
+use Rattle.std.specs.Prelude.{◌≡◌, ℕ, ◌*◌, ◌-◌, ◌<◌, ◌≤◌, List, [], ◌∷◌, ◌++◌, ◌+◌, Vec, vec_len, vec_capacity, length, replicate, slice_index, None}
 use Rattle.std.specs.Global.{Global}
 use mathlib.Core.Option.{some}
 use lib.ListN.{get_elem?}
@@ -10,7 +10,6 @@ use Rattle.table_rule.specs.Layout.{state_place, tag_place, content_place}
 use Rattle.history_core.specs.Log.{record_size}
 use Rattle.table_rule.specs.declared.build.Room.{Room}
 use Rattle.table_rule.specs.declared.noted_lane.LaneCall.TheVariants as lane_call
-use Rattle.table_rule.specs.declared.noted_lane.NotedLane.{NotedLane}
 use Rattle.table_rule.specs.declared.noted_log.LogCall.TheVariants as log_call
 use Rattle.table_rule.specs.declared.noted_log.NotedLog.{NotedLog}
 use Rattle.table_rule.specs.declared.value.Mapped.{Mapped}
@@ -50,9 +49,14 @@ abbrev pub home_log : {G : Type 0} → Vec ℕ Global → G → NotedLog G
 home_log room g = record { device = g; down = None; buffer = room; call = log_call.Untouched }
 
 module _ {L G : Type 0} where
-  -- a lane that is home
-  abbrev pub home_lane : L → Value L G
-  home_lane l = value.Lane (record { device = l; call = lane_call.Untouched })
+  -- the lane of a number, as it is home
+  abbrev pub home_lane : ℕ → L → Value L G
+  home_lane q l = value.Lane (record { number = q; device = l; call = lane_call.Untouched })
+
+  -- and lanes in a row, from this number on
+  abbrev pub home_lanes : ℕ → List L → List (Value L G)
+  home_lanes q [] = []
+  home_lanes q (l ∷ ls) = home_lane q l ∷ home_lanes (q + 1) ls
 
   -- each value is an empty map with room for n entries
   abbrev pub AreMaps : ℕ → List (Value L G) → Type 0
@@ -102,4 +106,4 @@ module _ {L G : Type 0} where
     pub list : Vec L Global
     pub empty : list.items ≡ []
     pub list_room : length lanes ≤ vec_capacity list
-    pub is : ys ≡ ((((replicate n (value.Page zero_page) ++ maps) ++ map home_lane lanes) ++ replicate (16 - length lanes) value.Away) ++ value.Log (home_log room log) ∷ []) ++ value.Lanes list ∷ []
+    pub is : ys ≡ ((((replicate n (value.Page zero_page) ++ maps) ++ home_lanes 0 lanes) ++ replicate (16 - length lanes) value.Away) ++ value.Log (home_log room log) ∷ []) ++ value.Lanes list ∷ []

@@ -149,9 +149,9 @@ module _ {L G : Type 0} where
   GivesMap n (value.Map entries) m = GivesEntries n entries m
   GivesMap n _ m = ⊥
 
-  -- a lane and the log are home without the note of a call
+  -- a lane and the log are home without the note of a call, and a lane with its number
   abbrev pub GivesLane : Devices L G → List RelEntry → ℕ → ℕ → Value L G → Lane → Type 0
-  GivesLane d relations lanes q (value.Lane l) ln = IsLane d relations lanes q l.device ln × (l.call ≡ lane_call.Untouched)
+  GivesLane d relations lanes q (value.Lane l) ln = IsLane d relations lanes q l.device ln × (l.call ≡ lane_call.Untouched) × (l.number ≡ q)
   GivesLane d relations lanes q _ ln = ⊥
 
   -- and there is room for a record

@@ -1,10 +1,10 @@
 //! What a table is built of.
-ghost use Rattle.std.specs.Prelude.{◌≡◌, ◌+◌, ◌<◌, Vec, ◌≤◌, List, [], ◌∷◌, ◌++◌, length, map, replicate, vec_len, vec_capacity, IfOk};
+ghost use Rattle.std.specs.Prelude.{◌≡◌, ◌+◌, ◌<◌, Vec, ◌≤◌, List, [], ◌∷◌, ◌++◌, length, replicate, vec_len, vec_capacity, IfOk};
 ghost use Rattle.std.specs.Global.{Global};
 ghost use Rattle.table_rule.specs.declared.noted_log.NotedLog.{NotedLog};
 ghost use Rattle.table_rule.specs.declared.value.Value.{Value};
 ghost use Rattle.table_rule.specs.declared.value.Value.TheVariants as value;
-ghost use Rattle.table_rule.specs.Laid.{AddsMaps, AreBlank, AreFresh, AreOpening, AreSlots, EndsWith, HasNoDevices, IsRoom, home_lane, lanes_among, zero_page};
+ghost use Rattle.table_rule.specs.Laid.{AddsMaps, AreBlank, AreFresh, AreOpening, AreSlots, EndsWith, HasNoDevices, IsRoom, home_lanes, lanes_among, zero_page};
 
 use crate::layout::LOG_PLACE;
 use crate::noted_lane::NotedLane;
@@ -115,16 +115,20 @@ fn put_maps<L, G>(slots: &mut Vec<Value<L, G>>, mut maps: Vec<Vec<Mapped>>, _fra
     }
 }
 
-/// The list of lanes is empty then, with room for them.
+/// Each lane has the number of its place in the list. The list is empty then, with room for them.
 fn put_lanes<L, G>(slots: &mut Vec<Value<L, G>>, lanes: &mut Vec<L>)
-    requires { vec_len slots.old + vec_len lanes.old ≤ vec_capacity slots.old }
-    ensures items { slots.new.items ≡ slots.old.items ++ map home_lane lanes.old.items }
+    requires room { vec_len slots.old + vec_len lanes.old ≤ vec_capacity slots.old }
+    requires few { vec_len lanes.old ≤ 16 }
+    ensures items { slots.new.items ≡ slots.old.items ++ home_lanes 0 lanes.old.items }
+    ensures counted { vec_len slots.new ≡ vec_len slots.old + vec_len lanes.old }
     ensures room { vec_capacity slots.old ≤ vec_capacity slots.new }
     ensures empty { (lanes.new.items ≡ []) × (vec_len lanes.old ≤ vec_capacity lanes.new) }
 {
     lanes.reverse();
+    let mut number = 0;
     while let Some(lane) = lanes.pop() {
-        put(slots, Value::Lane(NotedLane::new(lane)));
+        put(slots, Value::Lane(NotedLane::new(number, lane)));
+        number += 1;
     }
 }
 

@@ -38,18 +38,20 @@ pub enum LaneCall {
     SyncFailed,
 }
 
-/// A lane, and the call of it that was made since it went out.
+/// A lane, with its number in the table, and the call of it that was made since it went out.
 pub struct NotedLane<L> {
+    number: u32,
     device: L,
     call: LaneCall,
 }
 
 impl<L> NotedLane<L> {
     /// A lane that wasn't called.
-    pub(crate) fn new(device: L) -> NotedLane<L>
-        ensures { result ≡ record { device = device; call = lane_call.Untouched } }
+    pub(crate) fn new(number: u32, device: L) -> NotedLane<L>
+        ensures { result ≡ record { number = number; device = device; call = lane_call.Untouched } }
     {
         NotedLane {
+            number,
             device,
             call: LaneCall::Untouched,
         }
@@ -57,10 +59,11 @@ impl<L> NotedLane<L> {
 
     /// The lane without the note of a call.
     pub fn settled(self) -> NotedLane<L>
+        ensures number { result.number ≡ self.number }
         ensures device { result.device ≡ self.device }
         ensures call { result.call ≡ lane_call.Untouched }
     {
-        NotedLane::new(self.into_device())
+        NotedLane::new(self.number, self.into_device())
     }
 
     /// The lane itself.
@@ -68,6 +71,7 @@ impl<L> NotedLane<L> {
         ensures { result ≡ self.device }
     {
         let NotedLane {
+            number: _number,
             device,
             call: _call,
         } = self;
@@ -80,6 +84,7 @@ impl<L: BlockLane> NotedLane<L> {
     pub fn read(&mut self, frame: u32, tag: Tag, page: &mut Page) -> Result<(), Failed>
         requires untouched { self.old.call ≡ lane_call.Untouched }
         requires held { ForSome (L.contents self.old.device) (λ pages. IsSome (pages tag)) }
+        ensures number { self.new.number ≡ self.old.number }
         ensures page { OnOk result (IfSome (L.contents self.old.device) (λ pages. pages tag ≡ Some page.new)) }
         ensures call { MatchResult result (λ _. NotesRead frame tag page.new self.new.call) (λ _. self.new.call ≡ lane_call.ReadFailed tag) }
         ensures did { LaneDid (lane_devices L.contents L.failed_writes L.unsynced L.read_faults L.write_faults L.calls) self.old.device self.new.device self.new.call }
@@ -104,6 +109,7 @@ impl<L: BlockLane> NotedLane<L> {
     pub fn write(&mut self, frame: u32, tag: Tag, page: &Page) -> Result<(), Failed>
         requires untouched { self.old.call ≡ lane_call.Untouched }
         requires held { ForSome (L.contents self.old.device) (λ pages. IsSome (pages tag)) }
+        ensures number { self.new.number ≡ self.old.number }
         ensures call { MatchResult result (λ _. NotesWritten frame tag page.now self.new.call) (λ _. NotesWriteFailed frame tag page.now self.new.call) }
         ensures did { LaneDid (lane_devices L.contents L.failed_writes L.unsynced L.read_faults L.write_faults L.calls) self.old.device self.new.device self.new.call }
     {
@@ -131,6 +137,7 @@ impl<L: BlockLane> NotedLane<L> {
     /// Makes the writes so far last (`smgrimmedsync`).
     pub fn sync(&mut self) -> Result<(), Failed>
         requires untouched { self.old.call ≡ lane_call.Untouched }
+        ensures number { self.new.number ≡ self.old.number }
         ensures call { MatchResult result (λ _. self.new.call ≡ lane_call.Synced) (λ _. self.new.call ≡ lane_call.SyncFailed) }
         ensures did { LaneDid (lane_devices L.contents L.failed_writes L.unsynced L.read_faults L.write_faults L.calls) self.old.device self.new.device self.new.call }
     {
