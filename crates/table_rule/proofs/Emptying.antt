@@ -13,7 +13,7 @@ use Rattle.table_rule.specs.declared.value.Value.{Value}
 use Rattle.table_rule.specs.declared.value.Value.TheVariants as value
 use Rattle.table_rule.specs.Laid.{lanes_among, HasNoDevices, EndsWith}
 use Rattle.table_rule.proofs.Laying.{lanes_append, plain_left, plain_right, took_plain, took_lane, lane_room, lanes_before, snoc_same}
-use Rattle.table_rule.proofs.Opens.{left_at, right_at, length_low}
+use Rattle.table_rule.proofs.Opens.{left_at, right_at}
 
 module _ {A : Type 0} where
   -- one more of the first items of a list

@@ -1,6 +1,5 @@
 -- What a catalogue says of blocks, by the numbers of their tags.
-use Rattle.std.specs.Prelude.{ℕ, ◌+◌, ◌<◌, Bool, true, false, nat_lt, nat_eq, ◌&&◌, List, [], ◌∷◌, ◌++◌, filter, map, replicate, slice_get, Option, Some, None, unwrap_or}
-use Rattle.std.specs.Option.{option_map}
+use Rattle.std.specs.Prelude.{ℕ, Bool, false, nat_lt, List, ◌++◌, replicate, slice_get, Option, Some, None}
 use Rattle.byteorder.specs.Endian.{little_bytes}
 use Rattle.block_tag.specs.declared.tag.Tag.{Tag}
 use Rattle.block_tag.specs.declared.catalogue.RelEntry.{RelEntry}

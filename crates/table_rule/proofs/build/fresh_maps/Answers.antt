@@ -1,6 +1,4 @@
-use Rattle.std.proofs.Common.{arith, sym, subst, List, Vec}
-use Rattle.std.specs.Global.{Global}
-use Rattle.table_rule.specs.declared.value.Mapped.{Mapped}
+use Rattle.std.proofs.Common.{arith, sym, subst}
 use Rattle.table_rule.specs.Laid.{AreFresh}
 use Rattle.table_rule.proofs.Laying.{fresh_more}
 use Rattle.table_rule.proofs.build.fresh_maps.Goals as goal

@@ -1,4 +1,4 @@
-use Rattle.std.proofs.Common.{arith, ap, sym, subst, ◌-◌, ◌+◌, ◌≡◌, ℕ, List, ◌∷◌, [], length, length-append}
+use Rattle.std.proofs.Common.{arith, ap, sym, subst, ◌-◌, ◌+◌, ℕ, List, ◌∷◌, [], length, length-append}
 use Rattle.std.specs.Prelude.{vec_len}
 use Rattle.table_rule.specs.declared.value.Value.{Value}
 use Rattle.table_rule.specs.declared.value.Value.TheVariants as value

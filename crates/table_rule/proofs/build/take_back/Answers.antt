@@ -1,4 +1,4 @@
-use Rattle.std.proofs.Common.{ap, sym, List, ◌∷◌, [], ◌++◌, ◌∙◌}
+use Rattle.std.proofs.Common.{ap, ◌∷◌, [], ◌++◌, ◌∙◌}
 use Rattle.table_rule.specs.declared.value.Value.{Value}
 use Rattle.table_rule.proofs.Laying.{Ended, popped_ends}
 use Rattle.table_rule.proofs.build.take_back.Given.{Over}

@@ -1,6 +1,5 @@
-use Rattle.std.proofs.Common.{rules, arith, sym, ◌∙◌, ap, subst, length, ◌≡◌, ◌++◌, ◌∷◌, []}
+use Rattle.std.proofs.Common.{rules, arith, ◌∙◌, ap, length, ◌≡◌, ◌++◌, ◌∷◌, []}
 use Rattle.table_rule.specs.declared.value.Value.{Value}
-use Rattle.table_rule.specs.Laid.{HasNoDevices}
 use Rattle.table_rule.proofs.Laying.{plain_popped, no_log_popped, no_list_popped, no_lane_page, no_lane_map, no_lane_away, took_plain, took_lane, taken_all, lane_room, all_taken}
 use Rattle.table_rule.proofs.build.take_lanes.Goals as goal
 

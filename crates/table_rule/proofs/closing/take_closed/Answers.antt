@@ -1,6 +1,5 @@
-use Rattle.std.proofs.Common.{arith, sym, ◌≡◌, ◌∙◌}
+use Rattle.std.proofs.Common.{arith, sym, ◌∙◌}
 use Rattle.std.specs.Slots.{slots_counts}
-use Rattle.table_rule.specs.declared.value.Value.TheVariants as value
 use Rattle.table_rule.proofs.Laying.{no_lane_page, no_lane_map, no_lane_away}
 use Rattle.table_rule.proofs.Emptying.{took_other, took_one, one_fits, no_log, no_list, is_list, is_log, begins, list_room, log_same, all_left}
 use Rattle.table_rule.proofs.closing.take_closed.Goals as goal

@@ -1,6 +1,6 @@
 use Rattle.std.proofs.Common.{◌≡◌, ◌≤◌, length}
 use Rattle.std.specs.Prelude.{vec_capacity}
-use Rattle.std.specs.Slots.{slots_items, slots_filled, slots_len}
+use Rattle.std.specs.Slots.{slots_items, slots_filled}
 use Rattle.table_rule.specs.Laid.{lanes_among}
 use Rattle.table_rule.proofs.Emptying.{Left}
 use Rattle.table_rule.proofs.closing.take_closed.Given as goal
