@@ -1,5 +1,5 @@
 -- What the steps of a choice leave of the view.
-use Rattle.std.proofs.Common.{◌≡◌, ◌≢◌, ℕ, Option, IfNone, Result, Ok, Err, IfOk, IfErr, ◌<◌, ◌≤◌, List, [], ◌∷◌, length, Bool, true, false, Some, None, sym, refl, ap, ◌∙◌, subst, arith, length-append}
+use Rattle.std.proofs.Common.{◌≡◌, ◌≢◌, ℕ, Option, IfNone, Result, Ok, Err, IfOk, IfErr, ◌<◌, ◌≤◌, List, [], ◌∷◌, append-nil, length, Bool, true, false, Some, None, sym, refl, ap, ◌∙◌, subst, arith, length-append}
 use Rattle.std.specs.List.{All}
 use Rattle.std.proofs.lemmas.List.Elements.{All-nil, All-push}
 use mathlib.Core.Logic.{dite}
@@ -13,16 +13,18 @@ use Rattle.pin_core.specs.declared.view.Role.TheVariants.{Absent, HandedOut, Vic
 use Rattle.pin_core.specs.State.{link}
 use Rattle.pin_core.proofs.Schedules.{own_pins}
 use Rattle.state_word.specs.declared.word.StateWord.{StateWord}
+use Rattle.pin_core.specs.declared.view.Seen.TheVariants as seen
 use Rattle.pin_core.specs.Kinds as pin
+use Rattle.pin_core.specs.Kinds.{load_of}
 use Rattle.pin_core.specs.Steps.{HoldsNoHeader}
 use Rattle.history_core.specs.State.{State}
 use Rattle.table_rule.specs.declared.value.Value.{Value}
 use Rattle.frame_table.specs.declared.table.FrameTable.{FrameTable}
 use Rattle.frame_table.specs.Kinds.{pins, view_after}
-use Rattle.frame_table.specs.WordSteps.{DidWord, add_hand}
-use Rattle.frame_table.specs.Seats.{CanStep, HoldsHeader, IsSeat, Looked, SameSeat, frames_of, locked_link, unlocked_link}
+use Rattle.frame_table.specs.WordSteps.{DidWord, add_hand, load_hand}
+use Rattle.frame_table.specs.Seats.{CanStep, Grows, HoldsHeader, IsSeat, Looked, SameSeat, frames_of, locked_link, unlocked_link}
 use Rattle.frame_table.specs.FrameSteps.{Did, Looks, still, again, looking}
-use Rattle.frame_table.proofs.Told.{touches, link_is, looked, looked_on, looked_same, locked_after, looks_touch, looks_link}
+use Rattle.frame_table.proofs.Told.{grows, grows_none, grows_on, touches, link_is, looked, looked_on, looked_same, locked_after, looks_touch, looks_link}
 use Rattle.clock_sweep.specs.Keeping.{SameAside, aside_of, KeepsFrames, GetsHeader, SamePins}
 use Rattle.clock_sweep.specs.Choosing as choice
 use Rattle.clock_sweep.specs.Choosing.{TakesHeader, LeavesFrame, Skips, LeavesRing, LeavesFree, Counts, NextIs, Passes, Sweeps, Comes, Chooses, FindsNone, Takes}
@@ -45,10 +47,10 @@ module _ (k : pin.Kind) (none : (s : State) (f : ℕ) (v : View) → (view_after
 
 -- a view that keeps all, one step after the other
 pub keeps_none : (v : View) → KeepsFrames v v
-keeps_none v = record { aside = aside_none v; links = λ g. looked_same (link v g) (link v g) refl }
+keeps_none v = record { aside = aside_none v; grows = grows_none v; links = λ g. looked_same (link v g) (link v g) refl }
 
 pub keeps_on : (v u w : View) → KeepsFrames v u → KeepsFrames u w → KeepsFrames v w
-keeps_on v u w a b = record { aside = aside_on v u w a.aside b.aside; links = λ g. looked_on (link v g) (link u g) (link w g) (a.links g) (b.links g) }
+keeps_on v u w a b = record { aside = aside_on v u w a.aside b.aside; grows = grows_on v u w a.grows b.grows; links = λ g. looked_on (link v g) (link u g) (link w g) (a.links g) (b.links g) }
 
 pub keeps_same : (v w : View) → w ≡ v → KeepsFrames v w
 keeps_same v w e = subst (KeepsFrames v) (sym e) (keeps_none v)
@@ -63,6 +65,7 @@ same_pins v w a g = (a.links g).role
 pub keeps_looking : (f found : ℕ) (v w : View) → Did looking f v w found → KeepsFrames v w
 keeps_looking f found v w d = record {
   aside = aside pin.load_state (λ s g x. refl) f found v w d;
+  grows = grows looking f found v w d;
   links = λ g. dite (ℕ_discrete g f)
       (λ e. subst (λ (x : ℕ). Looked (link v x) (link w x)) (sym e) (looked f found v w d))
       (λ n. looked_same (link v g) (link w g) (others pin.load_state (λ s h x. refl) f found v w d g n));
@@ -72,10 +75,19 @@ pub keeps_looks : (f : ℕ) (v w : View) → Looks f v w → KeepsFrames v w
 keeps_looks f v w still = keeps_none v
 keeps_looks f v w (again {u = u} found before d) = keeps_on v u w (keeps_looks f v u before) (keeps_looking f found u w d)
 
--- the hand moves on
+-- the hand is loaded
+pub hand_grows : (found : ℕ) (v w : View) → DidWord load_hand v w found → Grows v w
+hand_grows found v w d = record {
+  loads = (load_of v (seen.Hand found) ∷ [], ap (λ (x : View). x.loads) d.after);
+  changes = ([], ap (λ (x : View). x.changes) d.after ∙ sym (append-nil v.changes));
+  steps = (let e = ap (λ (x : View). x.steps) d.after in omega arith);
+}
+
+-- it moves on
 pub keeps_hand : (found : ℕ) (v w : View) → DidWord add_hand v w found → KeepsFrames v w
 keeps_hand found v w d = subst (KeepsFrames v) (sym d.after) record {
   aside = refl;
+  grows = record { loads = ([], sym (append-nil v.loads)); changes = ([], sym (append-nil v.changes)); steps = omega arith };
   links = λ g. looked_same (link v g) (link v g) refl;
 }
 
@@ -87,6 +99,7 @@ module _ (f word : ℕ) (v w : View) (locks : TakesHeader f v w word) where
   pub gets : GetsHeader f word v w
   gets = let before = looks_touch f v locks.before locks.looks in record {
     aside = aside_on v locks.before w (keeps_looks f v locks.before locks.looks).aside (aside pin.lock_header (λ s g x. refl) f locks.was locks.before w locks.did);
+    grows = grows_on v locks.before w before.grows (grows (pins pin.lock_header) f locks.was locks.before w locks.did);
     here = locked_after f locks.was word v locks.before w locks.looks locks.did locks.held;
     others = λ g n. looked_same (link v g) (link w g) (others pin.lock_header (λ s h x. refl) f locks.was locks.before w locks.did g n ∙ before.others g n);
   }
@@ -130,9 +143,10 @@ unlocked_back word l m o a b none = record {
   listed = λ l. b.listed (a.listed l);
 }
 
-pub gives_up : (f word : ℕ) (v u w : View) → GetsHeader f word v u → HoldsNoHeader v → SameAside u w → ((g : ℕ) → g ≢ f → link w g ≡ link u g) → Looked (unlocked_link (link u f)) (link w f) → KeepsFrames v w
-gives_up f word v u w a none beside same here = record {
+pub gives_up : (f word : ℕ) (v u w : View) → GetsHeader f word v u → HoldsNoHeader v → SameAside u w → Grows u w → ((g : ℕ) → g ≢ f → link w g ≡ link u g) → Looked (unlocked_link (link u f)) (link w f) → KeepsFrames v w
+gives_up f word v u w a none beside more same here = record {
   aside = aside_on v u w a.aside beside;
+  grows = grows_on v u w a.grows more;
   links = λ g. dite (ℕ_discrete g f)
       (λ e. subst (λ (x : ℕ). Looked (link v x) (link w x)) (sym e) (unlocked_back word (link v f) (link u f) (link w f) a.here here (none f)))
       (λ n. looked_on (link v g) (link u g) (link w g) (a.others g n) (looked_same (link u g) (link w g) (same g n)));
@@ -141,6 +155,7 @@ gives_up f word v u w a none beside same here = record {
 pub unlocks_keep : (f word found : ℕ) (v u w : View) → TakesHeader f v u word → HoldsNoHeader v → Did (pins pin.unlock_header) f u w found → KeepsFrames v w
 unlocks_keep f word found v u w locks none d = gives_up f word v u w (gets f word v u locks) none
     (aside pin.unlock_header (λ s g x. refl) f found u w d)
+    (grows (pins pin.unlock_header) f found u w d)
     (others pin.unlock_header (λ s g x. refl) f found u w d)
     (looked_same (unlocked_link (link u f)) (link w f) (link_is (pins pin.unlock_header) f found u w d))
 
@@ -150,6 +165,7 @@ unlocked_looked l m a = record { role = a.role; tag = a.tag; ring = a.ring; head
 pub lowers_keep : (f word : ℕ) (v u w : View) → TakesHeader f v u word → HoldsNoHeader v → Did (pins pin.lower_usage) f u w word → KeepsFrames v w
 lowers_keep f word v u w locks none d = gives_up f word v u w (gets f word v u locks) none
     (aside pin.lower_usage (λ s g x. refl) f word u w d)
+    (grows (pins pin.lower_usage) f word u w d)
     (others pin.lower_usage (λ s h x. refl) f word u w d)
     (looked_same (unlocked_link (link u f)) (link w f) (link_is (pins pin.lower_usage) f word u w d))
 
@@ -210,6 +226,7 @@ comes_keep n v w f left (u, tries, sweeps, next) none = keeps_on v u w (sweeps_k
 pub gets_on : (f word : ℕ) (v u w : View) → KeepsFrames v u → GetsHeader f word u w → GetsHeader f word v w
 gets_on f word v u w a b = record {
   aside = aside_on v u w a.aside b.aside;
+  grows = grows_on v u w a.grows b.grows;
   here = looked_on (locked_link word (link v f)) (locked_link word (link u f)) (link w f) (relocked (link v f) (link u f) (a.links f)) b.here;
   others = λ g n. looked_on (link v g) (link u g) (link w g) (a.links g) (b.others g n);
 }

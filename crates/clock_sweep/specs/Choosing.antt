@@ -16,7 +16,7 @@ use Rattle.clock_sweep.specs.declared.clock.Treated.{Treated}
 use Rattle.clock_sweep.specs.declared.clock.Treated.TheVariants.{Chosen, Passed}
 use Rattle.clock_sweep.specs.Keeping.{SamePins}
 
--- The header of the frame f was locked, after loads, and its word is held
+-- The header of the frame f was locked, after loads, and this word is held: the word found, locked (`LocksHeader` of `content_locks` names the word found alone)
 pub record TakesHeader (f : ℕ) (v w : View) (word : ℕ) : Type 0 where
   pub before : View
   pub was : ℕ

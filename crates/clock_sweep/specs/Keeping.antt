@@ -2,7 +2,7 @@
 use Rattle.std.specs.Prelude.{◌≡◌, ◌≢◌, ℕ, []}
 use Rattle.pin_core.specs.declared.view.View.{View}
 use Rattle.pin_core.specs.State.{link}
-use Rattle.frame_table.specs.Seats.{Looked, locked_link}
+use Rattle.frame_table.specs.Seats.{Grows, Looked, locked_link}
 
 -- What a choice leaves of a view: all but its links, and what it lists and counts of steps, loads, changed words and moves of the hand
 abbrev pub aside_of : View → View
@@ -12,14 +12,16 @@ aside_of v = record v { links = []; steps = 0; ticks = 0; loads = []; changes = 
 abbrev pub SameAside : View → View → Type 0
 SameAside v w = aside_of w ≡ aside_of v
 
--- The view has at each frame what it had, but for what loads note
+-- The view has at each frame what it had, but for what loads note, and lists and counts no less
 pub record KeepsFrames (v w : View) : Type 0 where
   pub aside : SameAside v w
+  pub grows : Grows v w
   pub links : (g : ℕ) → Looked (link v g) (link w g)
 
 -- and it has got the header of the frame f, with this word
 pub record GetsHeader (f word : ℕ) (v w : View) : Type 0 where
   pub aside : SameAside v w
+  pub grows : Grows v w
   pub here : Looked (locked_link word (link v f)) (link w f)
   pub others : (g : ℕ) → g ≢ f → Looked (link v g) (link w g)
 

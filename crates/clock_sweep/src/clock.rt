@@ -3,7 +3,7 @@ ghost use Rattle.std.specs.Prelude.{◌≡◌, ◌<◌, ◌≤◌, ℕ, false, I
 ghost use Rattle.pin_core.specs.declared.view.View.{View};
 ghost use Rattle.pin_core.specs.Steps.{HoldsNoHeader};
 ghost use Rattle.frame_table.specs.WordSteps.{DidWord, load_hand, view_of};
-ghost use Rattle.frame_table.specs.Seats.{CanStep, IsSeat, SameSeat, frames_of};
+ghost use Rattle.frame_table.specs.Seats.{CanStep, Grows, IsSeat, SameSeat, frames_of};
 ghost use Rattle.clock_sweep.specs.CensusList.{new_census};
 ghost use Rattle.clock_sweep.specs.Choosing.{Comes, Counts, FindsUnpinned, NextIs, Sweeps, Takes, Treats};
 
@@ -39,6 +39,7 @@ pub fn hand<L: BlockLane, G: LogDevice>(
 ) -> u64
     requires { IsSeat table.now seat.old }
     ensures seat { SameSeat seat.old seat.new }
+    ensures grows { Grows seat.old.me.0 seat.new.me.0 }
     ensures view { seat.new.me.0 ≡ view_of load_hand result seat.old.me.0 }
     ensures did { DidWord load_hand seat.old.me.0 seat.new.me.0 result }
 {

@@ -1,6 +1,6 @@
 //! What a choice answers.
 
-/// A frame that was chosen, whose header this backend holds. It has to be pinned, or its header unlocked: both take its number.
+/// A frame that was chosen, whose header this backend holds. It has to be pinned, by a call that takes its number and its word, or its header unlocked, which takes the number alone.
 pub struct Held {
     pub(crate) frame: u32,
     pub(crate) word: u64,

@@ -36,7 +36,7 @@ pub record MayEndIo (end : IoEnd) (l : Link) : Type 0 where
   pub home : l.io ≡ Input → l.out ≡ None
   pub ends : EndsAs end l
 
--- Loads of the state word of f, and then its header was locked, where the word was `was`
+-- Loads of the state word of f, and then its header was locked, where the word found was `was` (`TakesHeader` of `clock_sweep` names the word that is held then, too)
 pub record LocksHeader (f : ℕ) (v w : View) (was : ℕ) : Type 0 where
   pub before : View
   pub looks : Looks f v before

@@ -15,7 +15,7 @@ use Rattle.frame_table.specs.Content.{copying_link, has_exclusive, looking_conte
 use Rattle.content_locks.specs.declared.locks.TryLock.{TryLock}
 use Rattle.content_locks.specs.declared.locks.TryLock.TheVariants.{Busy, Changed}
 
--- the view v became w by loads of the content word of f
+-- the view v became w by loads of the content word of f (`Looks` of `frame_table` is by loads of its state word)
 pub data LooksAtContent (f : ℕ) : View → View → Type 0 where
   still : {v : View} → LooksAtContent f v v
   again : {v u w : View} (found : ℕ) → LooksAtContent f v u → Did looking_content f u w found → LooksAtContent f v w

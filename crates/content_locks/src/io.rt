@@ -58,6 +58,8 @@ fn try_io<L: BlockLane, G: LogDevice, R: Wait>(
         return TryIo::InProgress;
     }
     if shows_nothing(word, input) {
+        // The word is held already. But to lock a header shows a pin no flag, and this load does:
+        // a backend that finds nothing to read has a pin that has seen BM_VALID.
         table.look(seat, frame);
         table.unlock_header(seat, frame);
         return TryIo::Nothing;

@@ -1,2 +1,3 @@
 pub mod FiniteMaps
 pub mod Seen
+pub mod Growing

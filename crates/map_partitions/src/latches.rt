@@ -2,7 +2,7 @@
 ghost use Rattle.std.specs.Prelude.{true, false};
 ghost use Rattle.pin_core.specs.declared.view.MapChange.TheVariants.{Settled};
 ghost use Rattle.table_rule.specs.declared.turn.Turn.TheVariants.{Partition};
-ghost use Rattle.frame_table.specs.Seats.{CanTurn, SameSeat};
+ghost use Rattle.frame_table.specs.Seats.{CanTurn, Grows, SameSeat};
 ghost use Rattle.frame_table.specs.Latches.{DidTurn, IsTurned, MayLeave, SameWork};
 ghost use Rattle.map_partitions.specs.Partition.{HoldsLatch};
 
@@ -24,6 +24,7 @@ pub fn take_turn<L: BlockLane, G: LogDevice, R: Wait>(
     requires seat { CanTurn table.now seat.old (Partition partition) }
     ensures seat { SameSeat seat.old seat.new }
     ensures work { SameWork seat.old.me.0 seat.new.me.0 }
+    ensures grows { Grows seat.old.me.0 seat.new.me.0 }
     ensures turned { IsTurned true (Partition partition) seat.old.me.0 seat.new.me.0 }
     ensures holds { HoldsLatch Settled seat.new.me.0 partition }
     ensures did { DidTurn true (Partition partition) seat.old.me.0 seat.new.me.0 }
@@ -41,6 +42,7 @@ pub fn give_turn<L: BlockLane, G: LogDevice>(
     requires may { MayLeave (Partition partition) seat.old.me.0 }
     ensures seat { SameSeat seat.old seat.new }
     ensures work { SameWork seat.old.me.0 seat.new.me.0 }
+    ensures grows { Grows seat.old.me.0 seat.new.me.0 }
     ensures turned { IsTurned false (Partition partition) seat.old.me.0 seat.new.me.0 }
     ensures did { DidTurn false (Partition partition) seat.old.me.0 seat.new.me.0 }
 {

@@ -6,7 +6,7 @@ ghost use Rattle.pin_core.specs.declared.view.MapChange.TheVariants.{Settled};
 ghost use Rattle.pin_core.specs.State.{hold, link};
 ghost use Rattle.pin_core.specs.Turns.{found};
 ghost use Rattle.table_rule.specs.declared.turn.Turn.TheVariants.{Partition};
-ghost use Rattle.frame_table.specs.Seats.{CanTurn, Finds, Lacks, RemembersNoOther, SameSeat, frames_of};
+ghost use Rattle.frame_table.specs.Seats.{CanTurn, Finds, Grows, Lacks, RemembersNoOther, SameSeat, frames_of};
 ghost use Rattle.frame_table.specs.Latches.{MapStep, SameWork, back_hold};
 ghost use Rattle.map_partitions.specs.Partition.{HoldsLatch, WentAndCame, entries_seen};
 
@@ -30,6 +30,7 @@ pub fn find<L: BlockLane, G: LogDevice>(
     requires holds { HoldsLatch Settled seat.old.me.0 (partition_number tag.now) }
     ensures seat { SameSeat seat.old seat.new }
     ensures work { SameWork seat.old.me.0 seat.new.me.0 }
+    ensures grows { Grows seat.old.me.0 seat.new.me.0 }
     ensures found { result ≡ found (entries_seen seat.new.me.0 (partition_number tag.now)) (packed_tag tag.now) }
     ensures inside { IfSome result (λ frame. frame < frames_of table.now) }
     ensures finds { IfSome result (λ frame. Finds seat.new.me.0 (packed_tag tag.now) frame) }

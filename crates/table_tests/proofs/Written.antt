@@ -31,8 +31,9 @@ use Rattle.frame_table.specs.LaneWork.{IsNoted, unwritten_link, written_link}
 use Rattle.frame_table.specs.Seats.{Looked, SameSeat, Touches}
 use Rattle.wal_flush.specs.declared.flushes.FlushLog.{FlushLog}
 use Rattle.wal_flush.specs.declared.flushes.FlushLog.TheVariants.{LogShort, LogDown, LogFault}
-use Rattle.wal_flush.specs.Flushes as flushes
-use Rattle.wal_flush.specs.Flushes.{Flushed, FlushRefused, as_looked, unflushed_view}
+use Rattle.wal_flush.specs.declared.flushes.FlushedBy.{FlushedBy}
+use Rattle.wal_flush.specs.declared.flushes.FlushedBy.TheVariants.{NoSync, OneSync}
+use Rattle.wal_flush.specs.Flushes.{Flushed, FlushRefused, as_looked, flushed_view, unflushed_view}
 use Rattle.table_tests.specs.declared.writing.FlushError.{FlushError}
 use Rattle.table_tests.specs.declared.writing.FlushError.TheVariants.{Log, WriteFault}
 use Rattle.table_tests.specs.Outputs.{FrameAnswer, LogRefused, PageAnswer, Shares, WritesLogged, Wrote, syncs_of}
@@ -93,7 +94,7 @@ shares_noted f tag lane_call.SyncFailed v w e noted r = absurd e
 
 -- a write after a flush of the log
 pub wrote_flushed : (done took : Bool) (tag : Tag) (page : Page) (lsn : ℕ) (v u w : View) → took ≡ done → lsn ≡ lsn_of page → Flushed lsn v u → lsn ≤ u.flushed → w.device_calls ≡ u.device_calls ++ LaneWrite 0 (packed_tag tag) page took ∷ [] → w.flushed ≡ u.flushed → Wrote done tag page v w
-wrote_flushed done took tag page lsn v u w is at did first calls flushed = of_flushed did
+wrote_flushed done took tag page lsn v u w is at did first calls flushed = of_flushed did.by did.view
   where
     log_first : lsn_of page ≤ w.flushed
     log_first = subst (λ (n : ℕ). lsn_of page ≤ n) (sym flushed) (subst (λ (n : ℕ). n ≤ u.flushed) at first)
@@ -101,13 +102,9 @@ wrote_flushed done took tag page lsn v u w is at did first calls flushed = of_fl
     written : (before : List DeviceCall) → u.device_calls ≡ before → w.device_calls ≡ before ++ LaneWrite 0 (packed_tag tag) page done ∷ []
     written before e = subst (λ (l : List DeviceCall). w.device_calls ≡ l ++ LaneWrite 0 (packed_tag tag) page done ∷ []) e (subst (λ (b : Bool). w.device_calls ≡ u.device_calls ++ LaneWrite 0 (packed_tag tag) page b ∷ []) is calls)
 
-    unsynced : u ≡ as_looked v u → Wrote done tag page v w
-    unsynced same = record { synced = false; calls = written (v.device_calls ++ []) (ap (λ (x : View). x.device_calls) same ∙ sym (append-nil v.device_calls)); log_first = log_first }
-
-    of_flushed : Flushed lsn v u → Wrote done tag page v w
-    of_flushed (flushes.already sees same) = unsynced same
-    of_flushed (flushes.meanwhile was same) = unsynced same
-    of_flushed (flushes.by_sync did same) = record { synced = true; calls = written (v.device_calls ++ LogSync true ∷ []) (ap (λ (x : View). x.device_calls) same); log_first = log_first }
+    of_flushed : (by : FlushedBy) → u ≡ as_looked (flushed_view by v) u → Wrote done tag page v w
+    of_flushed NoSync same = record { synced = false; calls = written (v.device_calls ++ []) (ap (λ (x : View). x.device_calls) same ∙ sym (append-nil v.device_calls)); log_first = log_first }
+    of_flushed OneSync same = record { synced = true; calls = written (v.device_calls ++ LogSync true ∷ []) (ap (λ (x : View). x.device_calls) same); log_first = log_first }
 
 -- steps before it and after it that call no device
 pub wrote_between : (done : Bool) (tag : Tag) (page : Page) (v u x w : View) → u.device_calls ≡ v.device_calls → Wrote done tag page u x → w.device_calls ≡ x.device_calls → w.flushed ≡ x.flushed → Wrote done tag page v w

@@ -72,6 +72,6 @@ work_stays v w (Ok lsn) none = none
 work_stays v w (Err why) e = refused_work why v w e
 
 -- the log end that it names was seen
-pub seen_refused : (relations : List RelEntry) (f : ℕ) (tag : Tag) (p : Page) (v w : View) (result : Result ℕ InsertError) → IfErr result (InsertRefused relations f tag p v w) → IfErr result (λ why. InsertSeesEnd why w)
+pub seen_refused : (relations : List RelEntry) (f : ℕ) (tag : Tag) (p : Page) (v w : View) (result : Result ℕ InsertError) → IfErr result (InsertRefused relations f tag p v w) → IfErr result (λ why. InsertSeesEnd why v w)
 seen_refused relations f tag p v w (Ok lsn) none = none
 seen_refused relations f tag p v w (Err why) r = refused_sees relations f tag p why v w r

@@ -1,5 +1,5 @@
 -- What the steps at the log make of a view.
-use Rattle.std.proofs.Common.{◌≡◌, ℕ, ◌+◌, Bool, true, false, ◌||◌, List, [], ◌∷◌, ◌++◌, append-nil, Option, Some, None, lit<, refl, sym, ap, ◌∙◌, arith}
+use Rattle.std.proofs.Common.{◌≡◌, ℕ, ◌+◌, ◌≤◌, Bool, true, false, ◌||◌, List, [], ◌∷◌, ◌++◌, append-nil, Option, Some, None, lit<, refl, sym, ap, ◌∙◌, arith}
 use Rattle.pin_core.specs.declared.view.DeviceCall.{DeviceCall}
 use Rattle.pin_core.specs.declared.view.DeviceCall.TheVariants.{LogAppend, LogSync}
 use Rattle.pin_core.specs.declared.view.LogChange.TheVariants.{Untouched}
@@ -11,6 +11,7 @@ use Rattle.pin_core.specs.State.{Page, no_log, sum_of_met}
 use Rattle.history_core.specs.Device.{LogKind, take_log, leave_log, log_out, append, fail_append, sync_log, fail_sync, log_back, see_down, calls_by, met_by, sees_down, log_hold_after, view_logged}
 use Rattle.history_core.specs.Steps.{has_loaded}
 use Rattle.table_rule.specs.declared.turn.Turn.TheVariants.{Log}
+use Rattle.frame_table.specs.WordSteps.{DidWord, load_end}
 use Rattle.frame_table.specs.LogWork.{DidLog, DidTwo}
 use Rattle.frame_table.specs.Latches.{DidTurn}
 use Rattle.wal_flush.specs.Latched.{FindsDown, GoesOutUp, Opens, downed, faulted, opened_log}
@@ -111,3 +112,10 @@ free_log v w d free = let law = d.laws.invariant.device.cells d.seat v 0 d.there
 -- once it has taken it and loaded the end
 pub opened_hold : (end : ℕ) (v w : View) → Opens end v w → v.log.held ≡ false → w.log ≡ opened_log end
 opened_hold end v w o free = ap (λ (x : View). x.log) (opens_view end v w o) ∙ ap (λ (h : LogHold). record h { held = true; end = Some end }) (free_log v o.held o.takes free)
+
+-- the log's end never falls, so one that is loaded is at or behind all that the view had seen
+pub end_later : (found : ℕ) (v w : View) → DidWord load_end v w found → v.end_seen ≤ found
+end_later found v w d = let seen = d.laws.ends d.seat v d.there in let is = d.says in omega arith
+
+pub opens_later : (end : ℕ) (v w : View) → Opens end v w → v.end_seen ≤ end
+opens_later end v w o = let seen = end_later end o.held w o.loads in let same = ap (λ (x : View). x.end_seen) o.takes.after in omega arith

@@ -22,14 +22,16 @@ use Rattle.frame_table.specs.Opened.{LoggedOrOpening}
 use Rattle.frame_table.specs.Entering.{entered_link, view_entered}
 use Rattle.wal_flush.specs.declared.inserts.InsertError.{InsertError}
 use Rattle.wal_flush.specs.declared.inserts.InsertError.TheVariants as insert_error
+use Rattle.wal_flush.specs.declared.flushes.FlushedBy.{FlushedBy}
+use Rattle.wal_flush.specs.declared.flushes.FlushedBy.TheVariants.{NoSync, OneSync}
 use Rattle.wal_flush.specs.declared.flushes.FlushLog.{FlushLog}
 use Rattle.wal_flush.specs.declared.flushes.FlushLog.TheVariants as flush_log
 use Rattle.wal_flush.specs.Latched.{FindsDown, KeepsWork, kept_of, UnderLatch, as_counted, downed, faulted}
 use Rattle.wal_flush.specs.Inserts.{EnterRefused, Enters, InsertRefused, inserted_view, refused_view}
 use Rattle.wal_flush.specs.Inserts as inserting
 use Rattle.wal_flush.specs.Flushes as flushing
-use Rattle.wal_flush.specs.Flushes.{FindsFlushed, FlushRefused, Flushed, already, meanwhile, by_sync, Flushes, HolderRefused, LoadsBelow, still, again, SeesFlushed, SeesUnflushed, StillUnflushed, SyncRefused, SyncsLog, Tries, WasFlushed, as_looked, synced_view, unflushed_view}
-use Rattle.wal_flush.proofs.LogSteps.{quiet, counting, opens_view, leaves_view, free_log, appended_view, synced_view as after_sync, unappended_view, unsynced_view, down_view}
+use Rattle.wal_flush.specs.Flushes.{FindsFlushed, FlushRefused, Flushed, already, meanwhile, by_sync, Flushes, HolderRefused, LoadsBelow, still, again, SeesFlushed, SeesUnflushed, StillUnflushed, SyncRefused, SyncsLog, Tries, WasFlushed, as_looked, flushed_view, unflushed_view}
+use Rattle.wal_flush.proofs.LogSteps.{quiet, counting, opens_later, opens_view, leaves_view, free_log, appended_view, synced_view as after_sync, unappended_view, unsynced_view, down_view}
 
 -- but for steps and loads w is t, where it is x, and x is t so
 counted_as : (t w x : View) → w ≡ x → x ≡ as_counted t x → w ≡ as_counted t w
@@ -101,11 +103,11 @@ found_view lsn end v w u free = let none = free_log v u.opens.held u.opens.takes
 abbrev raised : View → View
 raised v = view_of raise_flushed 0 v
 
-flushed_view : (lsn end : ℕ) (v w : View) → UnderLatch end (StillUnflushed lsn end SyncsLog) v w → v.log.held ≡ false → w ≡ as_looked (synced_view v) w
-flushed_view lsn end v w u free = let none = free_log v u.opens.held u.opens.takes free in let a = u.work in let b = a.work in
+once_synced : (lsn end : ℕ) (v w : View) → UnderLatch end (StillUnflushed lsn end SyncsLog) v w → v.log.held ≡ false → w ≡ as_looked (flushed_view OneSync v) w
+once_synced lsn end v w u free = let none = free_log v u.opens.held u.opens.takes free in let a = u.work in let b = a.work in
     let done : View → View = λ x. raised (quiet (log_back false) (counting sync_log (x.device_calls ++ LogSync true ∷ []) x.met x.saw_down (quiet (log_out b.went.taken) x))) in
     let big : View = quiet leave_log (done (after_look a.second.found (opened end v))) in
-    looked_as (synced_view v) w big (around end (StillUnflushed lsn end SyncsLog) v w u (λ x. done (after_look a.second.found x)) (b.raises.after ∙ ap raised (after_sync a.looked b.out b.went b.home b.syncs) ∙ ap done a.second.did.after)) (λ i. record big { log = (left_hold v v.log.appended none refl) i })
+    looked_as (flushed_view OneSync v) w big (around end (StillUnflushed lsn end SyncsLog) v w u (λ x. done (after_look a.second.found x)) (b.raises.after ∙ ap raised (after_sync a.looked b.out b.went b.home b.syncs) ∙ ap done a.second.did.after)) (λ i. record big { log = (left_hold v v.log.appended none refl) i })
 
 unsynced : (lsn end : ℕ) (why : FlushLog) (v w : View) → UnderLatch end (HolderRefused lsn end why) v w → v.log.held ≡ false → w ≡ as_looked (unflushed_view why v) w
 unsynced lsn end (flush_log.LogShort l at) v w u free = let none = free_log v u.opens.held u.opens.takes free in
@@ -136,17 +138,23 @@ still_free : (found : ℕ) (v w : View) → DidWord load_flushed v w found → v
 still_free found v w d free = ap (λ (x : View). x.log.held) d.after ∙ free
 
 pub sees : (lsn : ℕ) (v w : View) → SeesFlushed lsn v w → Flushed lsn v w
-sees lsn v w s = already s (saw s.found v w s.did)
+sees lsn v w s = record { by = NoSync; work = already s; view = saw s.found v w s.did }
 
 pub was_flushed : (lsn : ℕ) (v w : View) → WasFlushed lsn v w → v.log.held ≡ false → Flushed lsn v w
-was_flushed lsn v w b free = let t = b.tried in let s = t.first in
-    meanwhile b (found_view lsn b.end t.looked w t.work (still_free s.found v t.looked s.did free) ∙ ap (λ (x : View). as_looked x w) (saw s.found v t.looked s.did))
+was_flushed lsn v w b free = let t = b.tried in let s = t.first in record {
+  by = NoSync;
+  work = meanwhile b;
+  view = found_view lsn b.end t.looked w t.work (still_free s.found v t.looked s.did free) ∙ ap (λ (x : View). as_looked x w) (saw s.found v t.looked s.did);
+}
 
 pub flushes : (lsn : ℕ) (v w : View) → Flushes lsn v w → v.log.held ≡ false → Flushed lsn v w
-flushes lsn v w b free = let t = b.tried in let s = t.first in let a = b.awaits in by_sync b (
-    saw a.sees.found a.last w a.sees.did ∙ ap (λ (x : View). as_looked x w) (looks_view lsn b.synced a.last a.waits)
-    ∙ ap (λ (x : View). as_looked x w) (flushed_view lsn b.end t.looked b.synced t.work (still_free s.found v t.looked s.did free))
-    ∙ ap (λ (x : View). as_looked (synced_view x) w) (saw s.found v t.looked s.did))
+flushes lsn v w b free = let t = b.tried in let s = t.first in let a = b.awaits in record {
+  by = OneSync;
+  work = by_sync b;
+  view = saw a.sees.found a.last w a.sees.did ∙ ap (λ (x : View). as_looked x w) (looks_view lsn b.synced a.last a.waits)
+      ∙ ap (λ (x : View). as_looked x w) (once_synced lsn b.end t.looked b.synced t.work (still_free s.found v t.looked s.did free))
+      ∙ ap (λ (x : View). as_looked (flushed_view OneSync x) w) (saw s.found v t.looked s.did);
+}
 
 pub unflushed : (lsn end : ℕ) (why : FlushLog) (v w : View) → Tries lsn end (HolderRefused lsn end why) v w → v.log.held ≡ false → w ≡ as_looked (unflushed_view why v) w
 unflushed lsn end why v w t free = let s = t.first in
@@ -167,10 +175,9 @@ holder_refused lsn end flush_log.LogFault v u w within s failed = record { withi
 counted_work : (v w : View) (calls : List DeviceCall) (met : Met) (down : Bool) → w ≡ as_looked (record v { device_calls = calls; met = met; saw_down = down }) w → KeepsWork v w
 counted_work v w calls met down e = ap kept_of e
 
-pub flushed_work : (lsn : ℕ) (v w : View) → Flushed lsn v w → KeepsWork v w
-flushed_work lsn v w (already s e) = counted_work v w v.device_calls v.met v.saw_down e
-flushed_work lsn v w (meanwhile s e) = counted_work v w v.device_calls v.met v.saw_down e
-flushed_work lsn v w (by_sync s e) = counted_work v w (v.device_calls ++ LogSync true ∷ []) v.met v.saw_down e
+pub flushed_work : (by : FlushedBy) (v w : View) → w ≡ as_looked (flushed_view by v) w → KeepsWork v w
+flushed_work NoSync v w e = counted_work v w v.device_calls v.met v.saw_down e
+flushed_work OneSync v w e = counted_work v w (v.device_calls ++ LogSync true ∷ []) v.met v.saw_down e
 
 pub unflushed_work : (why : FlushLog) (v w : View) → w ≡ as_looked (unflushed_view why v) w → KeepsWork v w
 unflushed_work (flush_log.LogShort l at) v w e = counted_work v w v.device_calls v.met v.saw_down e
@@ -189,14 +196,26 @@ seen_after end Work v w u more = let a = ap (λ (x : View). x.end_seen) u.opens.
 down_seen : (at : ℕ) (v w : View) → FindsDown at v w → v.end_seen ≤ w.end_seen
 down_seen at v w d = let e = ap (λ (x : View). x.end_seen) (down_view at v w d) in omega arith
 
-pub refused_sees : (relations : List RelEntry) (f : ℕ) (tag : Tag) (p : Page) (why : InsertError) (v w : View) → InsertRefused relations f tag p v w why → inserting.InsertSeesEnd why w
-refused_sees relations f tag p (insert_error.LogFull at) v w (end, u) = let e = seen_after end (EnterRefused relations f tag p end (insert_error.LogFull at)) v w u (let x = ap (λ (x : View). x.end_seen) u.work.2 in omega arith) in let is = u.work.0 in omega arith
-refused_sees relations f tag p (insert_error.LogDown at) v w (end, u) = let e = seen_after end (EnterRefused relations f tag p end (insert_error.LogDown at)) v w u (down_seen at u.loaded u.worked u.work.2) in let is = u.work.0 in omega arith
+pub refused_sees : (relations : List RelEntry) (f : ℕ) (tag : Tag) (p : Page) (why : InsertError) (v w : View) → InsertRefused relations f tag p v w why → inserting.InsertSeesEnd why v w
+refused_sees relations f tag p (insert_error.LogFull at) v w (end, u) = let is = u.work.0 in
+    let later = opens_later end v u.loaded u.opens in
+    let e = seen_after end (EnterRefused relations f tag p end (insert_error.LogFull at)) v w u (let x = ap (λ (x : View). x.end_seen) u.work.2 in omega arith) in (omega arith, omega arith)
+refused_sees relations f tag p (insert_error.LogDown at) v w (end, u) = let is = u.work.0 in
+    let later = opens_later end v u.loaded u.opens in
+    let e = seen_after end (EnterRefused relations f tag p end (insert_error.LogDown at)) v w u (down_seen at u.loaded u.worked u.work.2) in (omega arith, omega arith)
 refused_sees relations f tag p insert_error.LogFault v w r = tt
 
-pub unflushed_sees : (lsn : ℕ) (why : FlushLog) (v w : View) → FlushRefused lsn v w why → flushing.FlushSeesEnd why w
-unflushed_sees lsn (flush_log.LogShort l at) v w (end, t) = let e = seen_after end (HolderRefused lsn end (flush_log.LogShort l at)) t.looked w t.work (let x = ap (λ (x : View). x.end_seen) t.work.work.3 in omega arith) in let is = t.work.work.1 in omega arith
-unflushed_sees lsn (flush_log.LogDown at) v w (end, t) = let a = t.work.work in let e = seen_after end (HolderRefused lsn end (flush_log.LogDown at)) t.looked w t.work (let x = ap (λ (x : View). x.end_seen) a.second.did.after in let y = down_seen at a.looked t.work.worked a.work.1 in omega arith) in let is = a.work.0 in omega arith
+-- where the flushed position was looked at before
+tries_later : (lsn end : ℕ) (Work : View → View → Type 0) (v w : View) (t : Tries lsn end Work v w) → v.end_seen ≤ end
+tries_later lsn end Work v w t = let same = ap (λ (x : View). x.end_seen) t.first.did.after in let later = opens_later end t.looked t.work.loaded t.work.opens in omega arith
+
+pub unflushed_sees : (lsn : ℕ) (why : FlushLog) (v w : View) → FlushRefused lsn v w why → flushing.FlushSeesEnd why v w
+unflushed_sees lsn (flush_log.LogShort l at) v w (end, t) = let is = t.work.work.1 in
+    let later = tries_later lsn end (HolderRefused lsn end (flush_log.LogShort l at)) v w t in
+    let e = seen_after end (HolderRefused lsn end (flush_log.LogShort l at)) t.looked w t.work (let x = ap (λ (x : View). x.end_seen) t.work.work.3 in omega arith) in (omega arith, omega arith)
+unflushed_sees lsn (flush_log.LogDown at) v w (end, t) = let a = t.work.work in let is = a.work.0 in
+    let later = tries_later lsn end (HolderRefused lsn end (flush_log.LogDown at)) v w t in
+    let e = seen_after end (HolderRefused lsn end (flush_log.LogDown at)) t.looked w t.work (let x = ap (λ (x : View). x.end_seen) a.second.did.after in let y = down_seen at a.looked t.work.worked a.work.1 in omega arith) in (omega arith, omega arith)
 unflushed_sees lsn flush_log.LogFault v w r = tt
 
 -- Copies that are logged or of the opening stay so where no link changes

@@ -9,7 +9,7 @@ use Rattle.frame_table.specs.declared.table.FrameTable.{FrameTable}
 use Rattle.frame_table.specs.Opened.{LoggedOrOpening}
 use Rattle.frame_table.specs.LogWork.{DidTwo}
 use Rattle.wal_flush.specs.declared.flushes.FlushedBy.{FlushedBy}
-use Rattle.wal_flush.specs.declared.flushes.FlushedBy.TheVariants.{Another, Holder}
+use Rattle.wal_flush.specs.declared.flushes.FlushedBy.TheVariants.{NoSync, OneSync}
 use Rattle.wal_flush.specs.declared.flushes.FlushLog.{FlushLog}
 use Rattle.wal_flush.specs.declared.flushes.FlushLog.TheVariants.{LogShort, LogDown, LogFault}
 use Rattle.wal_flush.specs.Latched.{FindsDown, GoesOutUp, UnderLatch, downed, faulted}
@@ -67,8 +67,8 @@ pub record StillUnflushed (lsn end : ℕ) (Work : View → View → Type 0) (v w
 
 -- What the holder of the latch did where it found the log flushed up to `lsn`, or flushed it
 abbrev pub HolderFlushed : ℕ → ℕ → FlushedBy → View → View → Type 0
-HolderFlushed lsn end Another v w = FindsFlushed lsn end v w
-HolderFlushed lsn end Holder v w = StillUnflushed lsn end SyncsLog v w
+HolderFlushed lsn end NoSync v w = FindsFlushed lsn end v w
+HolderFlushed lsn end OneSync v w = StillUnflushed lsn end SyncsLog v w
 
 -- Why the log, which ends at `end`, is not synced, and what was done
 abbrev pub SyncRefused : ℕ → FlushLog → View → View → Type 0
@@ -106,26 +106,34 @@ pub record Flushes (lsn : ℕ) (v w : View) : Type 0 where
 abbrev pub as_looked : View → View → View
 as_looked v w = record v { steps = w.steps; loads = w.loads; end_seen = w.end_seen; flushed = w.flushed; raised_to = w.raised_to }
 
--- The log end that a refusal names was seen
-abbrev pub FlushSeesEnd : FlushLog → View → Type 0
-FlushSeesEnd (LogShort lsn end) w = end ≤ w.end_seen
-FlushSeesEnd (LogDown at) w = at ≤ w.end_seen
-FlushSeesEnd LogFault w = Unit {0}
+-- The log end that a refusal names was seen, and is at or behind all that the view had seen of it
+abbrev pub FlushSeesEnd : FlushLog → View → View → Type 0
+FlushSeesEnd (LogShort lsn end) v w = (v.end_seen ≤ end) × (end ≤ w.end_seen)
+FlushSeesEnd (LogDown at) v w = (v.end_seen ≤ at) × (at ≤ w.end_seen)
+FlushSeesEnd LogFault v w = Unit {0}
 
 -- where the log is too short each page that the view has copied has a position at its end or before it, or is the one that its block's lane held as the table was opened, where that is known
 abbrev pub ShortOf : {L G : Type 0} → (L → Option Pages) → FrameTable L G → View → FlushLog → Type 0
 ShortOf contents t v (LogShort lsn end) = LoggedOrOpening contents t end v
 ShortOf contents t v _ = Unit {0}
 
--- the view after a sync
-abbrev pub synced_view : View → View
-synced_view v = record v { device_calls = v.device_calls ++ LogSync true ∷ [] }
+-- the view once the log is flushed: no device was called, or one sync was done
+abbrev pub flushed_view : FlushedBy → View → View
+flushed_view NoSync v = v
+flushed_view OneSync v = record v { device_calls = v.device_calls ++ LogSync true ∷ [] }
 
--- The log is flushed up to `lsn`: it was so already, or was once the latch was taken, and no device was called; or one sync was done
-pub data Flushed (lsn : ℕ) (v w : View) : Type 0 where
-  already : SeesFlushed lsn v w → w ≡ as_looked v w → Flushed lsn v w
-  meanwhile : WasFlushed lsn v w → w ≡ as_looked v w → Flushed lsn v w
-  by_sync : Flushes lsn v w → w ≡ as_looked (synced_view v) w → Flushed lsn v w
+-- What was done until the log was flushed up to `lsn`: it was so already, or was once the latch was taken; or one sync was done
+pub data FlushWork (lsn : ℕ) (v w : View) : FlushedBy → Type 0 where
+  already : SeesFlushed lsn v w → FlushWork lsn v w NoSync
+  meanwhile : WasFlushed lsn v w → FlushWork lsn v w NoSync
+  by_sync : Flushes lsn v w → FlushWork lsn v w OneSync
+
+-- The log is flushed up to `lsn`
+pub record Flushed (lsn : ℕ) (v w : View) : Type 0 where
+  pub by : FlushedBy
+  pub work : FlushWork lsn v w by
+  -- and this is all that it makes of the view
+  pub view : w ≡ as_looked (flushed_view by v) w
 
 -- the view after a refusal
 abbrev pub unflushed_view : FlushLog → View → View

@@ -83,11 +83,11 @@ pub record Inserts (relations : List RelEntry) (f : ℕ) (tag : Tag) (p : Page) 
   pub room : lsn ≤ last_position
   pub work : UnderLatch start (Enters relations f tag start p) v w
 
--- the log end that a refusal names was seen
-abbrev pub InsertSeesEnd : InsertError → View → Type 0
-InsertSeesEnd (LogFull end) w = end ≤ w.end_seen
-InsertSeesEnd (LogDown at) w = at ≤ w.end_seen
-InsertSeesEnd LogFault w = Unit {0}
+-- the log end that a refusal names was seen, and is at or behind all that the view had seen of it
+abbrev pub InsertSeesEnd : InsertError → View → View → Type 0
+InsertSeesEnd (LogFull end) v w = (v.end_seen ≤ end) × (end ≤ w.end_seen)
+InsertSeesEnd (LogDown at) v w = (v.end_seen ≤ at) × (at ≤ w.end_seen)
+InsertSeesEnd LogFault v w = Unit {0}
 
 -- the view then: the write is the last of its calls, whose place is its front, and it has called the log once
 abbrev pub inserted_view : ℕ → ℕ → Page → ℕ → View → View

@@ -1,10 +1,11 @@
 //! Flushes (`XLogFlush`).
 ghost use Rattle.std.specs.Prelude.{◌≡◌, ◌<◌, ◌≤◌, false, IfErr, IfOk, MatchResult};
 ghost use Rattle.table_rule.specs.declared.turn.Turn.TheVariants.{Log};
-ghost use Rattle.frame_table.specs.Seats.{CanTurn, IsSeat, SameSeat};
+ghost use Rattle.frame_table.specs.Seats.{CanTurn, Grows, IsSeat, SameSeat};
 ghost use Rattle.frame_table.specs.Latches.{MayLeave};
 ghost use Rattle.wal_flush.specs.Latched.{KeepsWork, opened_log};
-ghost use Rattle.wal_flush.specs.Flushes.{Awaits, Flushed, FlushRefused, HolderFlushed, HolderRefused, FlushSeesEnd, ShortOf, SyncRefused, SyncsLog, as_looked, unflushed_view};
+ghost use Rattle.wal_flush.specs.declared.flushes.FlushedBy.{FlushedBy};
+ghost use Rattle.wal_flush.specs.Flushes.{Awaits, Flushed, FlushRefused, FlushSeesEnd, HolderFlushed, HolderRefused, ShortOf, SyncRefused, SyncsLog, as_looked, flushed_view, unflushed_view};
 
 use crate::outings::{take_end, take_log};
 use atomic_table::Seat;
@@ -30,15 +31,15 @@ pub enum FlushLog {
     LogFault,
 }
 
-/// Who flushed the log as far as was asked for.
+/// By how many syncs of a flush the log got as far as was asked for.
 enum FlushedBy {
-    /// Another backend, before the latch was taken.
-    Another,
-    /// The holder of the latch, by a sync.
-    Holder,
+    /// It was flushed so far already, or was by the time that the latch was taken.
+    NoSync,
+    /// The holder of the latch made one.
+    OneSync,
 }
 
-/// SyncsLog the log, and raises the flushed position to its end, as it was loaded under the latch.
+/// Syncs the log, and raises the flushed position to its end, as it was loaded under the latch.
 fn sync<L: BlockLane, G: LogDevice>(
     table: &FrameTable<L, G>,
     seat: &mut Seat<Value<L, G>, View>,
@@ -88,10 +89,10 @@ fn flush_held<L: BlockLane, G: LogDevice>(
         return Err(FlushLog::LogShort { lsn, end });
     }
     if lsn <= table.load_flushed(seat) {
-        return Ok(FlushedBy::Another);
+        return Ok(FlushedBy::NoSync);
     }
     match sync(table, seat, end) {
-        Ok(()) => Ok(FlushedBy::Holder),
+        Ok(()) => Ok(FlushedBy::OneSync),
         Err(why) => Err(why),
     }
 }
@@ -129,10 +130,12 @@ pub fn flush_to<L: BlockLane, G: LogDevice, R: Wait>(
     requires free { seat.old.me.0.log.held ≡ false }
     ensures seat { SameSeat seat.old seat.new }
     ensures work { KeepsWork seat.old.me.0 seat.new.me.0 }
+    ensures grows { Grows seat.old.me.0 seat.new.me.0 }
     ensures flushed { MatchResult result (λ _. lsn ≤ seat.new.me.0.flushed) (λ _. seat.new.me.0.flushed < lsn) }
     ensures left { IfErr result (λ why. seat.new.me.0 ≡ as_looked (unflushed_view why seat.old.me.0) seat.new.me.0) }
+    ensures view { IfOk result (λ _. (by : FlushedBy) × (seat.new.me.0 ≡ as_looked (flushed_view by seat.old.me.0) seat.new.me.0)) }
     ensures did { IfOk result (λ _. Flushed lsn seat.old.me.0 seat.new.me.0) }
-    ensures seen { IfErr result (λ why. FlushSeesEnd why seat.new.me.0) }
+    ensures seen { IfErr result (λ why. FlushSeesEnd why seat.old.me.0 seat.new.me.0) }
     ensures short { IfErr result (ShortOf L.contents table.now seat.old.me.0) }
     ensures cause { IfErr result (FlushRefused lsn seat.old.me.0 seat.new.me.0) }
 {
@@ -144,8 +147,8 @@ pub fn flush_to<L: BlockLane, G: LogDevice, R: Wait>(
     table.leave_turn(seat, Turn::Log);
     match result {
         Ok(by) => match by {
-            FlushedBy::Another => Ok(()),
-            FlushedBy::Holder => {
+            FlushedBy::NoSync => Ok(()),
+            FlushedBy::OneSync => {
                 await_flushed(table, rt, seat, lsn);
                 Ok(())
             }

@@ -9,7 +9,7 @@ ghost use Rattle.table_rule.specs.declared.value.Value.TheVariants as value;
 ghost use Rattle.table_rule.specs.Layout.{slot_of};
 ghost use Rattle.frame_table.specs.LogWork.{LogWent};
 ghost use Rattle.frame_table.specs.Opened.{LoggedOrOpening};
-ghost use Rattle.frame_table.specs.Seats.{CanTurn, IsSeat, SameSeat, frames_of};
+ghost use Rattle.frame_table.specs.Seats.{CanTurn, Grows, IsSeat, SameSeat, frames_of};
 ghost use Rattle.wal_flush.specs.Latched.{FindsDown, Opens, opened_log};
 
 use atomic_table::Seat;
@@ -29,10 +29,12 @@ pub(crate) fn take_end<L: BlockLane, G: LogDevice, R: Wait>(
     requires seat { IsSeat table.now seat.old }
     requires free { seat.old.me.0.log.held ≡ false }
     ensures seat { SameSeat seat.old seat.new }
+    ensures grows { Grows seat.old.me.0 seat.new.me.0 }
     ensures can { CanTurn table.now seat.new Log }
     ensures held { seat.new.me.0.log ≡ opened_log result }
     ensures links { seat.new.me.0.links ≡ seat.old.me.0.links }
     ensures front { seat.old.me.0.front ≤ result }
+    ensures later { seat.old.me.0.end_seen ≤ result }
     ensures logged { LoggedOrOpening L.contents table.now result seat.old.me.0 }
     ensures did { Opens result seat.old.me.0 seat.new.me.0 }
 {

@@ -1,7 +1,7 @@
 //! The log's two positions.
 ghost use Rattle.std.specs.Prelude.{◌≡◌, ◌≤◌};
 ghost use Rattle.frame_table.specs.WordSteps.{DidWord, load_end, load_flushed, view_of};
-ghost use Rattle.frame_table.specs.Seats.{IsSeat, SameSeat, base_of};
+ghost use Rattle.frame_table.specs.Seats.{Grows, IsSeat, SameSeat, base_of};
 
 use atomic_table::Seat;
 use frame_table::{EndLoad, FrameTable, Value};
@@ -17,8 +17,10 @@ pub fn log_end<L: BlockLane, G: LogDevice>(
 ) -> Lsn
     requires { IsSeat table.now seat.old }
     ensures seat { SameSeat seat.old seat.new }
+    ensures grows { Grows seat.old.me.0 seat.new.me.0 }
     ensures view { seat.new.me.0 ≡ view_of load_end result seat.old.me.0 }
     ensures front { seat.old.me.0.front ≤ result }
+    ensures later { seat.old.me.0.end_seen ≤ result }
     ensures base { base_of table.now ≤ result }
     ensures did { DidWord load_end seat.old.me.0 seat.new.me.0 result }
 {
@@ -32,6 +34,7 @@ pub fn flushed<L: BlockLane, G: LogDevice>(
 ) -> Lsn
     requires { IsSeat table.now seat.old }
     ensures seat { SameSeat seat.old seat.new }
+    ensures grows { Grows seat.old.me.0 seat.new.me.0 }
     ensures view { seat.new.me.0 ≡ view_of load_flushed result seat.old.me.0 }
     ensures flushed { seat.old.me.0.flushed ≤ result }
     ensures did { DidWord load_flushed seat.old.me.0 seat.new.me.0 result }

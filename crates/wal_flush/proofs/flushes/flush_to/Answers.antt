@@ -2,11 +2,18 @@ use Rattle.std.proofs.Common.{ap, subst}
 use Rattle.pin_core.specs.declared.view.View.{View}
 use Rattle.wal_flush.specs.declared.flushes.FlushedBy.{FlushedBy}
 use Rattle.wal_flush.specs.Flushes.{HolderFlushed}
-use Rattle.wal_flush.proofs.Views.{flushes, flushed_work, logged_on, short_of, unflushed, unflushed_sees, unflushed_work, was_flushed}
+use Rattle.wal_flush.proofs.Growing.{flush_grows, unflushed_grows}
+use Rattle.wal_flush.proofs.Views.{flushes, flushed_work, logged_on, sees, short_of, unflushed, unflushed_sees, unflushed_work, was_flushed}
 use Rattle.wal_flush.proofs.flushes.flush_to.Goals as goal
 
-pub returns-in-Another-clause-did : goal.returns-in-Another-clause-did
-returns-in-Another-clause-did g c = let h = c.flush_held-result.new.seat.me.0 in was_flushed _ _ _ record {
+pub returns-then-lsn-load_flushed-clause-did : goal.returns-then-lsn-load_flushed-clause-did
+returns-then-lsn-load_flushed-clause-did g c = sees _ _ _ record { found = c.load_flushed.result; did = c.load_flushed.ensures.did; enough = c.if-lsn-load_flushed.true }
+
+pub returns-then-lsn-load_flushed-clause-grows : goal.returns-then-lsn-load_flushed-clause-grows
+returns-then-lsn-load_flushed-clause-grows g c = flush_grows _ _ _ (returns-then-lsn-load_flushed-clause-did g c)
+
+pub returns-in-NoSync-clause-did : goal.returns-in-NoSync-clause-did
+returns-in-NoSync-clause-did g c = let h = c.flush_held-result.new.seat.me.0 in was_flushed _ _ _ record {
   end = c.take_end-end.result;
   tried = record {
     looked = c.load_flushed.new.seat.me.0;
@@ -15,14 +22,14 @@ returns-in-Another-clause-did g c = let h = c.flush_held-result.new.seat.me.0 in
       loaded = c.take_end-end.new.seat.me.0;
       worked = h;
       opens = c.take_end-end.ensures.did;
-      work = subst (λ (by : FlushedBy). HolderFlushed c.args.lsn c.take_end-end.result by c.take_end-end.new.seat.me.0 h) c.in-Another.is c.in-Ok.ensures.flushed;
+      work = subst (λ (by : FlushedBy). HolderFlushed c.args.lsn c.take_end-end.result by c.take_end-end.new.seat.me.0 h) c.in-NoSync.is c.in-Ok.ensures.flushed;
       leaves = c.leave_turn.ensures.did;
     };
   };
 } c.requires.free
 
-pub returns-in-Holder-clause-did : goal.returns-in-Holder-clause-did
-returns-in-Holder-clause-did g c = let h = c.flush_held-result.new.seat.me.0 in flushes _ _ _ record {
+pub returns-in-OneSync-clause-did : goal.returns-in-OneSync-clause-did
+returns-in-OneSync-clause-did g c = let h = c.flush_held-result.new.seat.me.0 in flushes _ _ _ record {
   end = c.take_end-end.result;
   synced = c.leave_turn.new.seat.me.0;
   tried = record {
@@ -32,7 +39,7 @@ returns-in-Holder-clause-did g c = let h = c.flush_held-result.new.seat.me.0 in 
       loaded = c.take_end-end.new.seat.me.0;
       worked = h;
       opens = c.take_end-end.ensures.did;
-      work = subst (λ (by : FlushedBy). HolderFlushed c.args.lsn c.take_end-end.result by c.take_end-end.new.seat.me.0 h) c.in-Holder.is c.in-Ok.ensures.flushed;
+      work = subst (λ (by : FlushedBy). HolderFlushed c.args.lsn c.take_end-end.result by c.take_end-end.new.seat.me.0 h) c.in-OneSync.is c.in-Ok.ensures.flushed;
       leaves = c.leave_turn.ensures.did;
     };
   };
@@ -53,11 +60,11 @@ pub returns-in-Err-clause-left : goal.returns-in-Err-clause-left
 unfolding returns-in-Err-clause-cause
 returns-in-Err-clause-left g c = unflushed _ c.take_end-end.result _ _ _ (returns-in-Err-clause-cause g c).1 c.requires.free
 
-pub returns-in-Another-clause-work : goal.returns-in-Another-clause-work
-returns-in-Another-clause-work g c = flushed_work _ _ _ (returns-in-Another-clause-did g c)
+pub returns-in-NoSync-clause-work : goal.returns-in-NoSync-clause-work
+returns-in-NoSync-clause-work g c = let d = returns-in-NoSync-clause-did g c in flushed_work d.by _ _ d.view
 
-pub returns-in-Holder-clause-work : goal.returns-in-Holder-clause-work
-returns-in-Holder-clause-work g c = flushed_work _ _ _ (returns-in-Holder-clause-did g c)
+pub returns-in-OneSync-clause-work : goal.returns-in-OneSync-clause-work
+returns-in-OneSync-clause-work g c = let d = returns-in-OneSync-clause-did g c in flushed_work d.by _ _ d.view
 
 pub returns-in-Err-clause-work : goal.returns-in-Err-clause-work
 returns-in-Err-clause-work g c = unflushed_work _ _ _ (returns-in-Err-clause-left g c)
@@ -68,3 +75,18 @@ returns-in-Err-clause-seen g c = unflushed_sees _ _ _ _ (returns-in-Err-clause-c
 pub returns-in-Err-clause-short : goal.returns-in-Err-clause-short
 unfolding returns-in-Err-clause-cause
 returns-in-Err-clause-short g c = short_of g.L.BlockLane.contents c.args.table.now _ c.take_end-end.result _ _ _ (returns-in-Err-clause-cause g c).1 (logged_on g.L.BlockLane.contents c.args.table.now _ c.args.seat.now.me.0 c.load_flushed.new.seat.me.0 (ap (λ (x : View). x.links) c.load_flushed.ensures.view) c.take_end-end.ensures.logged)
+
+pub returns-in-NoSync-clause-view : goal.returns-in-NoSync-clause-view
+returns-in-NoSync-clause-view g c = let d = returns-in-NoSync-clause-did g c in (d.by, d.view)
+
+pub returns-in-NoSync-clause-grows : goal.returns-in-NoSync-clause-grows
+returns-in-NoSync-clause-grows g c = flush_grows _ _ _ (returns-in-NoSync-clause-did g c)
+
+pub returns-in-OneSync-clause-view : goal.returns-in-OneSync-clause-view
+returns-in-OneSync-clause-view g c = let d = returns-in-OneSync-clause-did g c in (d.by, d.view)
+
+pub returns-in-OneSync-clause-grows : goal.returns-in-OneSync-clause-grows
+returns-in-OneSync-clause-grows g c = flush_grows _ _ _ (returns-in-OneSync-clause-did g c)
+
+pub returns-in-Err-clause-grows : goal.returns-in-Err-clause-grows
+returns-in-Err-clause-grows g c = unflushed_grows _ _ _ _ (returns-in-Err-clause-cause g c)

@@ -1,4 +1,5 @@
 use Rattle.wal_flush.proofs.Inserting.{did_insert, view_inserted, link_inserted, others_stay, refused_insert, seen_refused, view_refused, work_stays}
+use Rattle.wal_flush.proofs.Growing.{insert_grows}
 use Rattle.wal_flush.proofs.inserts.insert.Goals as goal
 
 pub returns-clause-view : goal.returns-clause-view
@@ -25,3 +26,6 @@ returns-clause-work g c = work_stays _ _ _ (returns-clause-left g c)
 
 pub returns-clause-seen : goal.returns-clause-seen
 returns-clause-seen g c = seen_refused _ _ _ _ _ _ _ (returns-clause-cause g c)
+
+pub returns-clause-grows : goal.returns-clause-grows
+returns-clause-grows g c = insert_grows _ _ _ _ _ _ _ _ (returns-clause-did g c) (returns-clause-cause g c)
