@@ -31,8 +31,9 @@ pub enum FlushLog {
     LogFault,
 }
 
-/// By how many syncs of a flush the log got as far as was asked for.
-enum FlushedBy {
+/// By how many syncs of a flush the log got as far as was asked for, which the contract of `flush_to` names.
+#[derive(Clone, Copy, PartialEq, Eq, Debug)]
+pub enum FlushedBy {
     /// It was flushed so far already, or was by the time that the latch was taken.
     NoSync,
     /// The holder of the latch made one.

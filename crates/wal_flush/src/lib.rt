@@ -7,7 +7,7 @@ mod inserts;
 mod outings;
 mod words;
 
-pub use flushes::{FlushLog, flush_to};
+pub use flushes::{FlushLog, FlushedBy, flush_to};
 pub use head::begin_log;
 pub use inserts::{InsertError, insert};
 pub use words::{flushed, log_end};
