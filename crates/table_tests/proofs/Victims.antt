@@ -1,7 +1,8 @@
 -- Seats that choose a victim.
-use Rattle.std.proofs.Common.{◌≡◌, ℕ, List, get_or, sym, ap, ◌∙◌, subst}
+use Rattle.std.proofs.Common.{◌≡◌, ℕ, Some, None, List, get_or, sym, ap, ◌∙◌, subst}
 use mathlib.Core.Logic.{dite}
 use native.Mathlib.Decide.{ℕ_discrete}
+use Rattle.state_word.specs.Fields.{fields}
 use Rattle.atomic_table.specs.declared.shared.Seat.{Seat}
 use Rattle.pin_core.specs.declared.view.View.{View}
 use Rattle.pin_core.specs.declared.view.Link.{Link}
@@ -12,7 +13,7 @@ use Rattle.pin_core.specs.declared.view.Role.TheVariants.{Absent}
 use Rattle.pin_core.specs.State.{link, no_lane}
 use Rattle.table_rule.specs.declared.value.Value.{Value}
 use Rattle.frame_table.specs.declared.table.FrameTable.{FrameTable}
-use Rattle.frame_table.specs.Seats.{Looked, SameSeat, SameSelf, Touches, unlocked_link, unpinned_link}
+use Rattle.frame_table.specs.Seats.{HoldsHeader, Looked, SameSeat, SameSelf, Touches, unlocked_link, unpinned_link}
 use Rattle.clock_sweep.specs.Keeping.{GetsHeader}
 use Rattle.clock_sweep.specs.Keeping as sweeping
 use Rattle.table_tests.specs.Work.{IsCalm, Keeps, KeepsBeside, OnlyPins, SamePins}
@@ -30,7 +31,14 @@ module _ {L G : Type 0} (t : FrameTable L G) (s s' : Seat (Value L G) View) (p :
     λ f. (k.links f).role,
   )
 
-  -- one was taken, and given up again
+  -- one was taken
+  pub holds_taken : (f word : ℕ) → GetsHeader f word s.me.0 s'.me.0 → HoldsHeader (link s'.me.0 f)
+  holds_taken f word g = record {
+    held = λ none. let no : Some (fields word) ≡ None = sym g.here.header ∙ none in absurd (cc);
+    settled = g.here.pending ∙ (p.quiet.frames f).assigned;
+  }
+
+  -- and given up again
   module _ (f word : ℕ) (g : GetsHeader f word s.me.0 s'.me.0) (s'' : Seat (Value L G) View) (again : SameSeat s' s'') (after : Touches f s'.me.0 s''.me.0) (unlocked : link s''.me.0 f ≡ unlocked_link (link s'.me.0 f)) where
     pins_same : SamePins s s''
     pins_same h = dite (ℕ_discrete h f)
