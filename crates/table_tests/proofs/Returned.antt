@@ -67,5 +67,5 @@ module _ (relations : List RelEntry) (lanes q : ℕ) (v : View) (f : ℕ) (tag :
   may_note_write call (Err x) can n = failed_noted call can n
 
 -- a lane that went out, and was called once, may come back
-pub may_return : {L : Type 0} (d : LaneDevices L) (known : Bool) (relations : List RelEntry) (lanes q flushed swept : ℕ) (v : View) (before : L) (l : NotedLane L) → lane_hold v q ≡ record (out_lane (taken_lane d relations lanes q before) flushed no_lane) { swept = swept } → IsTakenLane d known relations lanes q before → LaneDid d before l.device l.call → MayNote relations lanes q l.call v → MayReturn d known relations lanes q v l
-may_return d known relations lanes q flushed swept v before l out taken did may = record { before = before; out = ap (λ (h : LaneHold). h.out) out; once = ap (λ (h : LaneHold). h.change) out; taken = taken; did = did; may = may }
+pub may_return : {L : Type 0} (d : LaneDevices L) (known : Bool) (relations : List RelEntry) (lanes q flushed swept : ℕ) (v : View) (before : L) (l : NotedLane L) → l.number ≡ q → lane_hold v q ≡ record (out_lane (taken_lane d relations lanes q before) flushed no_lane) { swept = swept } → IsTakenLane d known relations lanes q before → LaneDid d before l.device l.call → MayNote relations lanes q l.call v → MayReturn d known relations lanes q v l
+may_return d known relations lanes q flushed swept v before l number out taken did may = record { number = number; before = before; out = ap (λ (h : LaneHold). h.out) out; once = ap (λ (h : LaneHold). h.change) out; taken = taken; did = did; may = may }

@@ -62,6 +62,7 @@ fn choose_beneath<R: Wait>(
     }
     let pin = enter_block(table, rt, seat, frame, block(table, frame))?;
     let chosen = choose_beneath(table, rt, seat, sweep, census, frame + 1);
+    // No backend waits here, so the word that is left isn't needed.
     table.unpin(rt, seat, pin);
     chosen
 }
@@ -138,6 +139,7 @@ fn touch<R: Wait>(table: &Table, rt: &R, seat: &mut TableSeat, frame: u32) -> bo
     let Ok(pin) = table.try_pin(seat, frame, false) else {
         return false;
     };
+    // No backend waits here, so the word that is left isn't needed.
     table.unpin(rt, seat, pin);
     true
 }

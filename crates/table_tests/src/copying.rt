@@ -198,6 +198,7 @@ fn copy_second<R: Threads + Wait + Sync>(
 {
     let pin = pin_page(table, rt, second, course.frame)?;
     let copied = copy_beside(table, rt, writer, first, second, course, alloc);
+    // No backend waits here, so the word that is left isn't needed.
     table.unpin(rt, second, pin);
     Some(copied)
 }
@@ -221,6 +222,7 @@ fn copy_pinned<R: Threads + Wait + Sync>(
 {
     let pin = pin_page(table, rt, first, course.frame)?;
     let copied = copy_second(table, rt, writer, first, second, course, alloc);
+    // No backend waits here, so the word that is left isn't needed.
     table.unpin(rt, first, pin);
     copied
 }
@@ -250,6 +252,7 @@ fn copy_at<R: Threads + Wait + Sync>(
     let pin = enter_block(table, rt, writer, course.frame, course.tag)?;
     load_block(table, rt, writer, course.frame, course.tag, &mut page);
     let copied = copy_pinned(table, rt, writer, first, second, course, alloc);
+    // No backend waits here, so the word that is left isn't needed.
     table.unpin(rt, writer, pin);
     copied
 }

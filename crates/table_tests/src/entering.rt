@@ -117,6 +117,7 @@ pub fn enter_block<R: Wait>(
     if entered {
         return Some(pin);
     }
+    // No backend waits here, so the word that is left isn't needed.
     table.unpin(rt, seat, pin);
     None
 }
@@ -140,6 +141,7 @@ pub fn leave_block<R: Wait>(
     let Some(pin) = enter_block(table, rt, seat, frame, tag) else {
         return false;
     };
+    // No backend waits here, so the word that is left isn't needed.
     table.unpin(rt, seat, pin);
     true
 }
@@ -186,6 +188,7 @@ pub fn frame_of<R: Wait>(table: &Table, rt: &R, seat: &mut TableSeat, tag: Tag) 
 {
     let pin = pin_found(table, rt, seat, tag)?;
     let frame = pin.frame();
+    // No backend waits here, so the word that is left isn't needed.
     table.unpin(rt, seat, pin);
     Some(frame)
 }

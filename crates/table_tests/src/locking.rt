@@ -112,6 +112,7 @@ pub fn pin_page<R: Wait>(table: &Table, rt: &R, seat: &mut TableSeat, frame: u32
     if has(table.look(seat, frame), Flag::Valid) {
         return Some(pin);
     }
+    // No backend waits here, so the word that is left isn't needed.
     table.unpin(rt, seat, pin);
     None
 }
@@ -134,6 +135,7 @@ fn refusals_beside<R: Wait>(
     let pin = pin_page(table, rt, seat, frame)?;
     let exclusively = refused_by_exclusive(table, rt, holder, seat, frame);
     let shared = refused_by_shared(table, rt, holder, seat, frame);
+    // No backend waits here, so the word that is left isn't needed.
     table.unpin(rt, seat, pin);
     Some([exclusively, shared])
 }
@@ -159,6 +161,7 @@ fn refusals_at<R: Wait>(
     let pin = enter_block(table, rt, holder, frame, tag)?;
     load_block(table, rt, holder, frame, tag, page);
     let refused = refusals_beside(table, rt, holder, seat, frame);
+    // No backend waits here, so the word that is left isn't needed.
     table.unpin(rt, holder, pin);
     refused
 }

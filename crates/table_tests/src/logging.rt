@@ -153,6 +153,7 @@ pub fn put_twice<R: Wait>(
     let flushed = flush(table, rt, seat, frame, tag, lsn);
     let again = flush(table, rt, seat, frame, tag, lsn);
     let second = put(table, rt, seat, frame, tag, page);
+    // No backend waits here, so the word that is left isn't needed.
     table.unpin(rt, seat, pin);
     Some(Tries {
         first,
@@ -193,6 +194,7 @@ pub fn flush_late<R: Wait>(
     let second = put(table, rt, seat, frame, tag, page);
     let flushed = flush(table, rt, seat, frame, tag, lsn);
     let base = flush(table, rt, seat, frame, tag, 0);
+    // No backend waits here, so the word that is left isn't needed.
     table.unpin(rt, seat, pin);
     Some(LateFlushes {
         first,

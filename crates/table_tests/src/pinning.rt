@@ -19,6 +19,7 @@ pub fn refusal<R: Wait>(table: &Table, rt: &R, seat: &mut TableSeat, frame: u32)
 {
     match table.try_pin(seat, frame, false) {
         Ok(pin) => {
+            // No backend waits here, so the word that is left isn't needed.
             table.unpin(rt, seat, pin);
             None
         }

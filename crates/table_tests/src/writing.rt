@@ -215,6 +215,7 @@ pub fn flush_twice<R: Wait>(
     let put = put(table, rt, seat, frame, tag, page);
     let first = flush_frame(table, rt, seat, frame, tag, page);
     let second = flush_frame(table, rt, seat, frame, tag, page);
+    // No backend waits here, so the word that is left isn't needed.
     table.unpin(rt, seat, pin);
     Some(Flushes { put, first, second })
 }

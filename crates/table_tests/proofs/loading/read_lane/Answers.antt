@@ -39,5 +39,5 @@ lane_back-requires-clause-may g c =
     let o = c.lane_out-lane.ensures in
     let b = c.requires.block in
     let out : Reads c.args.tag (link c.lane_out-lane.new.seat.me.0 c.args.frame) = subst (λ (l : List Link). Reads c.args.tag (get_or l c.args.frame idle)) (sym (ap (λ (v : View). v.links) o.view ∙ ap (λ (x : View). x.links) c.take_turn.ensures.work)) c.requires.reads in
-    may_return _ _ _ _ _ _ _ c.lane_out-lane.new.seat.me.0 c.lane_out-lane.result.device c.read-read.new.self o.out.here o.taken c.read-read.ensures.did
+    may_return _ _ _ _ _ _ _ c.lane_out-lane.new.seat.me.0 c.lane_out-lane.result.device c.read-read.new.self (c.read-read.ensures.number ∙ o.number) o.out.here o.taken c.read-read.ensures.did
     (may_note_read _ _ _ c.lane_out-lane.new.seat.me.0 c.args.frame c.args.tag c.read-read.new.page (in_one_lane _ _ _ b.2 b.0 b.1) c.read-read.new.self.call c.read-read.result record { right = out.right; fresh = out.fresh; remembered = out.remembered } c.read-read.ensures.call)

@@ -47,7 +47,7 @@ lane_back-requires-clause-may g c =
     let b = c.requires.block in
     let links = ap (λ (v : View). v.links) o.view ∙ ap (λ (x : View). x.links) c.take_turn.ensures.work in
     let out : Shares Output c.args.tag (link c.lane_out-lane.new.seat.me.0 c.args.frame) = subst (λ (l : List Link). Shares Output c.args.tag (get_or l c.args.frame idle)) (sym links) c.requires.writes in
-    may_return _ _ _ _ _ _ _ c.lane_out-lane.new.seat.me.0 c.lane_out-lane.result.device c.write-written.new.self o.out.here o.taken c.write-written.ensures.did
+    may_return _ _ _ _ _ _ _ c.lane_out-lane.new.seat.me.0 c.lane_out-lane.result.device c.write-written.new.self (c.write-written.ensures.number ∙ o.number) o.out.here o.taken c.write-written.ensures.did
     (may_note_write _ _ _ c.lane_out-lane.new.seat.me.0 c.args.frame c.args.tag c.args.page.now (in_one_lane _ _ _ b.2 b.0 b.1) c.write-written.new.self.call c.write-written.result record {
       right = out.right;
       copied = ap (λ (l : List Link). (get_or l c.args.frame idle).copied) links ∙ c.requires.copied;
