@@ -41,9 +41,11 @@ returns-then-index-gt1-clause-others c =
     let several = several_same c.self.inside.pins.items c.in-Some.place c.index.result.now c.index_mut.result.now c.index.ensures c.index_mut.ensures.value stands.inside c.if-index-gt1.true in
     let shows = less_standing c.self.inside.pins.items c.args.frame c.in-Some.place _ c.index_mut.result.now stands c.index_mut.ensures.value refl (above_one _ several) in
     let here = ap tokens_of (held_standing c.self.inside.pins.items c.args.frame c.in-Some.place c.index_mut.result.now stands c.index_mut.ensures.value) in
-    let some = subst (λ (t : Tokens). 1 < tokens_of (held_at t c.args.frame)) c.self.view_is (subst (λ (n : ℕ). 1 < n) (sym here) several) in
-    (some, subst (λ (t : Tokens). held_at t c.args.frame ≢ None) (sym shows) (still_held (held_in c.self.inside.pins.items) c.args.frame (λ one. above_one _ several (sym here ∙ one))
-    (subst (λ (t : Tokens). held_at t c.args.frame ≢ None) (sym c.self.view_is) c.requires.pinned)))
+    let some = subst (λ (t : Tokens). 1 < tokens_of (held_at t c.args.frame)) c.self.view_is (subst (λ (n : ℕ). 1 < n) (sym here) several) in (
+      some,
+      subst (λ (t : Tokens). held_at t c.args.frame ≢ None) (sym shows) (still_held (held_in c.self.inside.pins.items) c.args.frame (λ one. above_one _ several (sym here ∙ one))
+          (subst (λ (t : Tokens). held_at t c.args.frame ≢ None) (sym c.self.view_is) c.requires.pinned)),
+    )
 
 pub invariant_of-self-2 : goal.invariant_of-self-2
 invariant_of-self-2 c =

@@ -1,0 +1,179 @@
+-- What came of a write of a frame's page, with other steps before it and after it.
+use Rattle.std.proofs.Common.{◌≡◌, ℕ, ◌≤◌, Bool, true, false, Option, Some, None, [], ◌∷◌, ◌++◌, ◌||◌, Result, Ok, Err, sym, refl, ap, ◌∙◌, subst, arith}
+use Rattle.std.proofs.lemmas.List.Elements.{All-cons, All-nil}
+use Rattle.std.specs.List.{All}
+use Rattle.access_rings.specs.RingState.{RingState}
+use Rattle.block_tag.specs.declared.tag.Tag.{Tag}
+use Rattle.block_tag.specs.Names.{packed_tag}
+use Rattle.page_layout.specs.Fields.{lsn_of}
+use Rattle.segment_store.specs.Contents.{Pages}
+use Rattle.state_word.specs.declared.word.IoEnd.TheVariants.{Bad}
+use Rattle.state_word.specs.declared.word.StateWord.{StateWord}
+use Rattle.state_word.specs.Fields.{fields, io_ended_fields, unlocked_fields}
+use Rattle.pin_core.specs.declared.view.DeviceCall.TheVariants.{LaneWrite, LogSync}
+use Rattle.pin_core.specs.declared.view.Content.TheVariants.{Unlocked}
+use Rattle.pin_core.specs.declared.view.Io.TheVariants.{Output}
+use Rattle.pin_core.specs.declared.view.Role.{Role}
+use Rattle.pin_core.specs.declared.view.Role.TheVariants.{Absent, HandedOut, Victim}
+use Rattle.pin_core.specs.Kinds.{seen_valid_after}
+use Rattle.pin_core.specs.declared.view.Link.{Link}
+use Rattle.pin_core.specs.declared.view.View.{View}
+use Rattle.pin_core.specs.State.{Page, link}
+use Rattle.frame_table.specs.declared.table.FrameTable.{FrameTable}
+use Rattle.frame_table.specs.Seats.{SameMarks, SameSelf, ViewMarks, loaded_link}
+use Rattle.frame_table.specs.WordSteps.{DidWord, load_flushed}
+use Rattle.content_locks.specs.Io.{EndsIo, FindsNothing}
+use Rattle.content_locks.specs.Locks.{Copies}
+use Rattle.wal_flush.specs.declared.flushes.FlushLog.{FlushLog}
+use Rattle.wal_flush.specs.declared.flushes.FlushLog.TheVariants.{LogShort, LogDown, LogFault}
+use Rattle.wal_flush.specs.Flushes.{FlushRefused}
+use Rattle.held_pins.specs.Rests.{Advances, LinkRests}
+use Rattle.held_pins.specs.Tokens.{HeldFrame, IsPinnedFor, Tokens, held_at}
+use Rattle.held_pins.proofs.Advancing.{advances_on}
+use Rattle.held_pins.proofs.Keeping.{beside_kept}
+use Rattle.buffer_frames.specs.declared.flushing.FlushError.{FlushError}
+use Rattle.buffer_frames.specs.declared.flushing.FlushError.TheVariants.{Log, WriteFault}
+use Rattle.buffer_frames.specs.Flushing.{CopiesAnd, EndedInError, FlushAnswer, LogRefuses, LogShows, RejectsVictim, WriteAnswer, Wrote, syncs_of, syncs_refused}
+use Rattle.buffer_frames.specs.Stages.{HasVictim, IsPinned}
+use Rattle.buffer_frames.specs.Working.{Calls, IsNoRead, Made, WorksAt}
+use Rattle.buffer_frames.proofs.WorkSteps.{made_after, made_before, made_none, made_on, within_on}
+
+pub had_output_marked : (v w : View) → SameMarks v w → w.had_output ≡ v.had_output
+had_output_marked v w m = ap (λ (x : ViewMarks). x.had_output) m
+
+-- an output that failed
+pub ended_in_error : (f : ℕ) (v w : View) → EndsIo Bad f v w → (link v f).io ≡ Output → v.had_output ≡ true → EndedInError w
+ended_in_error f v w e right had = let dirty = e.shows.output right in record {
+  output = ap (λ (x : ViewMarks). x.had_output) e.marks ∙ had;
+  word = unlocked_fields (io_ended_fields Bad (fields e.word));
+  is = ap (λ (x : ViewMarks). x.last_ended) e.marks;
+  valid = e.shows.dirty dirty;
+  dirty = dirty;
+  failed = refl;
+}
+
+pub error_marked : (v w : View) → SameMarks v w → EndedInError v → EndedInError w
+error_marked v w m e = record { output = had_output_marked v w m ∙ e.output; word = e.word; is = ap (λ (x : ViewMarks). x.last_ended) m ∙ e.is; valid = e.valid; dirty = e.dirty; failed = e.failed }
+
+-- a write, where no device is called before or after it
+wrote_between : (done : Bool) (q tag : ℕ) (page : Page) (v u x w : View) → u.device_calls ≡ v.device_calls → Advances v u → Wrote done q tag page u x → w.device_calls ≡ x.device_calls → Advances x w → Wrote done q tag page v w
+wrote_between done q tag page v u x w before a e after b = record {
+  ready = e.ready;
+  since = advances_on v u e.ready a e.since;
+  synced = e.synced;
+  log_calls = made_before (syncs_of e.synced) v u e.ready before e.log_calls;
+  log_first = e.log_first;
+  left = e.left;
+  whole = e.whole;
+  lane_call = made_after (LaneWrite q tag e.left done ∷ []) e.ready x w e.lane_call after;
+  until = advances_on e.ready x w e.until b;
+}
+
+module _ {L G : Type 0} (contents : L → Option Pages) (t : FrameTable L G) where
+  shows_after : (why : FlushLog) (tag : Tag) (page : Page) (x w : View) → x.end_seen ≤ w.end_seen → w.saw_down ≡ x.saw_down → LogShows contents t why tag page x → LogShows contents t why tag page w
+  shows_after (LogShort lsn end) tag page x w up same s = (s.0, s.1, (let a = s.2 in omega arith), s.3)
+  shows_after (LogDown at) tag page x w up same s = ((let a = s.0 in omega arith), same ∙ s.1)
+  shows_after LogFault tag page x w up same s = same ∙ s
+
+  refuses_between : (why : FlushLog) (tag : Tag) (page : Page) (v u x w : View) → u.device_calls ≡ v.device_calls → Advances v u → LogRefuses contents t why tag page u x → SameSelf x w → Advances x w → LogRefuses contents t why tag page v w
+  refuses_between why tag page v u x w before a r self b = record {
+    cause = within_on (λ y z. FlushRefused (lsn_of page) y z why) v u x w a r.cause b;
+    calls = made_after (syncs_refused why) v x w (made_before (syncs_refused why) v u x before r.calls) (ap (λ (y : View). y.device_calls) self);
+    shows = shows_after why tag page x w b.end_seen (ap (λ (y : View). y.saw_down) self) r.shows;
+  }
+
+  pub write_between : (q : ℕ) (tag : Tag) (page : Page) (v u x w : View) (r : Result Unit FlushError) → u.device_calls ≡ v.device_calls → Advances v u → WriteAnswer contents t q tag page u x r → SameSelf x w → Advances x w → WriteAnswer contents t q tag page v w r
+  write_between q tag page v u x w (Ok done) before a e self b = wrote_between true q (packed_tag tag) page v u x w before a e (ap (λ (y : View). y.device_calls) self) b
+  write_between q tag page v u x w (Err (Log why)) before a e self b = refuses_between why tag page v u x w before a e self b
+  write_between q tag page v u x w (Err (WriteFault failed)) before a e self b = (e.0, wrote_between false q (packed_tag tag) page v u x w before a e.1 (ap (λ (y : View). y.device_calls) self) b)
+
+  pub copies_between : (q : ℕ) (tag : Tag) (f : ℕ) (v u x w : View) (r : Result Unit FlushError) → u.device_calls ≡ v.device_calls → Advances v u → CopiesAnd (λ p a b. WriteAnswer contents t q tag p a b r) f u x → SameSelf x w → Advances x w → CopiesAnd (λ p a b. WriteAnswer contents t q tag p a b r) f v w
+  copies_between q tag f v u x w r before a c self b = record {
+    page = c.page;
+    sound = c.sound;
+    copies = within_on (Copies f c.page) v u x w a c.copies b;
+    work = write_between q tag c.page v u x w r before a c.work self b;
+  }
+
+  -- and of a flush
+  pub flush_between : (q : ℕ) (tag : Tag) (f : ℕ) (v u x w : View) (r : Result Bool FlushError) → u.device_calls ≡ v.device_calls → Advances v u → FlushAnswer contents t q tag f u x r → SameSelf x w → Advances x w → FlushAnswer contents t q tag f v w r
+  flush_between q tag f v u x w (Ok true) before a c self b = copies_between q tag f v u x w (Ok tt) before a c self b
+  flush_between q tag f v u x w (Ok false) before a c self b = record { finds = within_on (FindsNothing false f) v u x w a c.finds b; calls = ap (λ (y : View). y.device_calls) self ∙ c.calls ∙ before }
+  flush_between q tag f v u x w (Err why) before a c self b = copies_between q tag f v u x w (Err why) before a c self b
+
+-- A frame of which callers have tokens, and whose content is unlocked
+pub pinned_of_rests : (tag : Tag) (f : ℕ) (t : Tokens) (l : Link) → IsPinnedFor tag f t → LinkRests (held_at t f) l → l.content ≡ Unlocked → IsPinned (packed_tag tag) l × (l.seen_valid ≡ true)
+pinned_of_rests tag f t l p r unlocked = let there = p.there in let s = subst (λ (o : Option HeldFrame). LinkRests o l) there r in (
+  record {
+    calm = r.calm;
+    unlocked = unlocked;
+    pinned = λ none. (let no : HandedOut ≡ Absent = sym s.role ∙ none in absurd (cc));
+    remembered = s.tag ∙ ap Some p.same;
+  },
+  s.seen (λ none. (let no : Some p.held ≡ None = none in absurd (cc))),
+)
+
+pub rests_of_pinned : (tag : Tag) (f : ℕ) (t : Tokens) (l m : Link) → LinkRests (held_at t f) l → l.tag ≡ Some (packed_tag tag) → IsPinned (packed_tag tag) m → m.role ≡ l.role → m.seen_valid ≡ true → LinkRests (held_at t f) m
+rests_of_pinned tag f t l m r tagged p role seen = record { calm = p.calm; role = role ∙ r.role; tag = p.remembered ∙ sym tagged ∙ r.tag; seen = λ some. seen; unlocked = λ none. p.unlocked }
+
+-- no lane is read by a flush
+written_is_no_read : (q tag : ℕ) (left : Page) (done : Bool) → All IsNoRead (LaneWrite q tag left done ∷ [])
+written_is_no_read q tag left done = All-cons IsNoRead (LaneWrite q tag left done) [] tt (All-nil IsNoRead)
+
+wrote_reads_none : (synced : Bool) (q tag : ℕ) (left : Page) (done : Bool) → All IsNoRead (syncs_of synced ++ LaneWrite q tag left done ∷ [])
+wrote_reads_none true q tag left done = All-cons IsNoRead (LogSync true) (LaneWrite q tag left done ∷ []) tt (written_is_no_read q tag left done)
+wrote_reads_none false q tag left done = written_is_no_read q tag left done
+
+refused_reads_none : (why : FlushLog) → All IsNoRead (syncs_refused why)
+refused_reads_none (LogShort lsn end) = All-nil IsNoRead
+refused_reads_none (LogDown at) = All-nil IsNoRead
+refused_reads_none LogFault = All-cons IsNoRead (LogSync false) [] tt (All-nil IsNoRead)
+
+pub none_made : (v w : View) → Made [] v w → Calls IsNoRead v w
+none_made v w m = record { made = []; calls = m; each = All-nil IsNoRead }
+
+wrote_no_read : (done : Bool) (q tag : ℕ) (page : Page) (v w : View) → Wrote done q tag page v w → Calls IsNoRead v w
+wrote_no_read done q tag page v w e = record { made = syncs_of e.synced ++ LaneWrite q tag e.left done ∷ []; calls = made_on (syncs_of e.synced) (LaneWrite q tag e.left done ∷ []) v e.ready w e.log_calls e.lane_call; each = wrote_reads_none e.synced q tag e.left done }
+
+module _ {L G : Type 0} (contents : L → Option Pages) (t : FrameTable L G) where
+  write_no_read : (q : ℕ) (tag : Tag) (page : Page) (v w : View) (r : Result Unit FlushError) → WriteAnswer contents t q tag page v w r → Calls IsNoRead v w
+  write_no_read q tag page v w (Ok done) e = wrote_no_read true q (packed_tag tag) page v w e
+  write_no_read q tag page v w (Err (Log why)) e = record { made = syncs_refused why; calls = e.calls; each = refused_reads_none why }
+  write_no_read q tag page v w (Err (WriteFault failed)) e = wrote_no_read false q (packed_tag tag) page v w e.1
+
+  pub flush_no_read : (q : ℕ) (tag : Tag) (f : ℕ) (v w : View) (r : Result Bool FlushError) → FlushAnswer contents t q tag f v w r → Calls IsNoRead v w
+  flush_no_read q tag f v w (Ok true) c = write_no_read q tag c.page v w (Ok tt) c.work
+  flush_no_read q tag f v w (Ok false) c = none_made v w (made_none v w c.calls)
+  flush_no_read q tag f v w (Err why) c = write_no_read q tag c.page v w (Err why) c.work
+
+-- A victim
+pub victim_pinned : (tag f : ℕ) (t : Tokens) (v : View) → HasVictim f t v → (link v f).tag ≡ Some tag → IsPinned tag (link v f)
+victim_pinned tag f t v p remembered = record { calm = p.calm; unlocked = p.unlocked; pinned = λ none. (let no : Victim ≡ Absent = sym p.role ∙ none in absurd (cc)); remembered = remembered }
+
+pub victim_worked : (tag f : ℕ) (t : Tokens) (v w : View) → HasVictim f t v → WorksAt f v w → IsPinned tag (link w f) → (link w f).role ≡ (link v f).role → HasVictim f t w
+victim_worked tag f t v w p k r role = record { others = beside_kept f t v w k.others p.others; new = p.new; calm = r.calm; unlocked = r.unlocked; role = role ∙ p.role }
+
+-- it has seen BM_VALID once a load shows it
+pub victim_sees : (w : StateWord) (l m : Link) → m ≡ loaded_link w l → l.pending ≡ false → l.role ≡ Victim → w.valid ≡ true → m.seen_valid ≡ true
+victim_sees w l m e settled victim valid = ap (λ (x : Link). x.seen_valid) e
+    ∙ ap (λ (b : Bool). seen_valid_after b l.role w.valid l.seen_valid) settled
+    ∙ ap (λ (r : Role). seen_valid_after false r w.valid l.seen_valid) victim
+    ∙ ap (λ (b : Bool). b || l.seen_valid) valid
+
+-- The ring gave it up, with other steps before and after
+pub rejects_between : (f : ℕ) (from_ring : Bool) (before after : Option RingState) (v u x w : View) → Advances v u → RejectsVictim f from_ring before after u x → Advances x w → RejectsVictim f from_ring before after v w
+rejects_between f from_ring before after v u x w a r b = record {
+  came = r.came;
+  ring = r.ring;
+  was = r.was;
+  rejects = r.rejects;
+  empty = r.empty;
+  page = r.page;
+  copies = within_on (Copies f r.page) v u x w a r.copies b;
+  flushed = r.flushed;
+  loads = within_on (λ y z. DidWord load_flushed y z r.flushed) v u x w a r.loads b;
+  unflushed = r.unflushed;
+}
+
+pub reads_none_after : (v u w : View) → u.device_calls ≡ v.device_calls → Calls IsNoRead u w → Calls IsNoRead v w
+reads_none_after v u w e c = record { made = c.made; calls = made_before c.made v u w e c.calls; each = c.each }

@@ -1,0 +1,13 @@
+pub mod Outside
+pub mod Calm
+pub mod Pinning
+pub mod Latching
+pub mod Heading
+pub mod WorkSteps
+pub mod LaneTrips
+pub mod Links
+pub mod Rising
+pub mod Written
+pub mod Answering
+pub mod Noting
+pub mod Locating

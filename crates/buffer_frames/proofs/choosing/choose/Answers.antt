@@ -1,0 +1,18 @@
+use Rattle.std.proofs.Common.{refl, sym, ◌∙◌}
+use Rattle.frame_table.proofs.Told.{grows_on}
+use Rattle.buffer_frames.proofs.Heading.{victim_pinned}
+use Rattle.buffer_frames.proofs.Outside.{shape_keeping}
+use Rattle.buffer_frames.proofs.choosing.choose.Goals as goal
+
+pub returns-in-Ok-clause-grows : goal.returns-in-Ok-clause-grows
+returns-in-Ok-clause-grows g c = grows_on _ c.victim.new.seat.me.0 _ c.in-Ok.ensures.held.grows c.victim_pin-pin.ensures.touches.grows
+
+pub returns-in-Err-clause-grows : goal.returns-in-Err-clause-grows
+returns-in-Err-clause-grows g c = c.in-Err.ensures.left.grows
+
+pub returns-in-Ok-clause-ring : goal.returns-in-Ok-clause-ring
+returns-in-Ok-clause-ring g c = shape_keeping _ _ _ _ c.in-Ok.ensures.kept
+
+pub returns-in-Ok-clause-pinned : goal.returns-in-Ok-clause-pinned
+returns-in-Ok-clause-pinned g c = let v = c.in-Ok.ensures in let p = c.victim_pin-pin.ensures in
+    victim_pinned c.args._held.now c.in-Ok.held.frame c.into_frame-frame.result _ c.args.seat.now.me.0 c.victim.new.seat.me.0 c.into_frame-frame.ensures c.requires.rests v.held v.absent c.victim_pin-pin.result.frame c.victim_pin-pin.new.seat.me.0 p.pin p.touches.others p.pinned

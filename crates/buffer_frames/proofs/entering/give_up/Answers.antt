@@ -1,0 +1,9 @@
+use Rattle.buffer_frames.proofs.Calm.{victim_unpinned}
+use Rattle.buffer_frames.proofs.Latching.{remembers_unpinned}
+use Rattle.buffer_frames.proofs.entering.give_up.Goals as goal
+
+pub returns-clause-rests : goal.returns-clause-rests
+returns-clause-rests g c = let u = c.unpin.ensures in victim_unpinned c.args._held.now c.args.victim.frame c.args.seat.now.me.0 c.unpin.new.seat.me.0 c.requires.victim u.touches.others u.unpinned
+
+pub returns-clause-remembers : goal.returns-clause-remembers
+returns-clause-remembers g c tag f r = let u = c.unpin.ensures in remembers_unpinned tag f c.args.victim.frame c.args.seat.now.me.0 c.unpin.new.seat.me.0 u.touches.others u.unpinned r

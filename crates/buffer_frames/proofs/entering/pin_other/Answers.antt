@@ -1,0 +1,13 @@
+use Rattle.block_tag.specs.Names.{packed_tag}
+use Rattle.frame_table.proofs.Told.{grows_on}
+use Rattle.buffer_frames.proofs.Latching.{finds_same, remembers_unpinned}
+use Rattle.buffer_frames.proofs.entering.pin_other.Goals as goal
+
+pub returns-clause-grows : goal.returns-clause-grows
+returns-clause-grows g c = grows_on _ c.give_up.new.seat.me.0 _ c.give_up.ensures.grows c.pin_found.ensures.grows
+
+pub pin_found-requires-clause-finds : goal.pin_found-requires-clause-finds
+pin_found-requires-clause-finds g c = finds_same (packed_tag c.args.tag) c.args.frame c.args.seat.now.me.0 c.give_up.new.seat.me.0 c.give_up.ensures.partitions c.requires.finds
+
+pub pin_found-requires-clause-remembers : goal.pin_found-requires-clause-remembers
+pin_found-requires-clause-remembers g c = c.give_up.ensures.remembers (packed_tag c.args.tag) c.args.frame c.requires.remembers

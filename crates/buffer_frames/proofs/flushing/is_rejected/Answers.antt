@@ -1,0 +1,80 @@
+use Rattle.std.proofs.Common.{◌<◌, ℕ, Some, ap, sym, subst, ◌∙◌}
+use Rattle.std.proofs.lemmas.Bool.{OnFalse_at, OnFalse_from, OnTrue_at, OnTrue_from}
+use Rattle.block_tag.specs.Names.{packed_tag}
+use Rattle.pin_core.specs.declared.view.Io.TheVariants.{Quiet}
+use Rattle.pin_core.specs.declared.view.Link.{Link}
+use Rattle.pin_core.specs.declared.view.View.{View}
+use Rattle.pin_core.specs.State.{link}
+use Rattle.frame_table.specs.WordSteps.{DidWord, load_flushed}
+use Rattle.content_locks.specs.Locks.{Copies}
+use Rattle.held_pins.proofs.Advancing.{advances_none, advances_touched}
+use Rattle.held_pins.proofs.Keeping.{stands_self}
+use Rattle.buffer_frames.specs.Flushing.{RejectsVictim}
+use Rattle.buffer_frames.specs.Stages.{IsSharing}
+use Rattle.buffer_frames.proofs.Links.{may_copy, sharing_copied}
+use Rattle.buffer_frames.proofs.WorkSteps.{made_none, within_all, within_on, works_marked, works_on}
+use Rattle.buffer_frames.proofs.Written.{loaded_work, stands_flushed, works_loaded}
+use Rattle.buffer_frames.proofs.flushing.is_rejected.Goals as goal
+
+pub copy_out-requires-clause-view : goal.copy_out-requires-clause-view
+copy_out-requires-clause-view g c = may_copy Quiet (packed_tag c.args._tag) (link c.args.seat.now.me.0 c.args.frame) c.requires.shares
+
+pub returns-then-lsn-load_flushed-clause-stands : goal.returns-then-lsn-load_flushed-clause-stands
+returns-then-lsn-load_flushed-clause-stands g c = let o = c.copy_out.ensures in let l = c.load_flushed.ensures in
+    stands_flushed _ c.copy_out.new.seat c.load_flushed.new.seat l.seat (loaded_work c.load_flushed.result c.copy_out.new.seat.me.0 c.load_flushed.new.seat.me.0 l.did) (stands_self _ c.args.seat.now c.copy_out.new.seat o.seat o.touches.self c.requires.stands)
+
+pub returns-then-lsn-load_flushed-clause-works : goal.returns-then-lsn-load_flushed-clause-works
+returns-then-lsn-load_flushed-clause-works g c = let o = c.copy_out.ensures in let f = c.args.frame in
+    works_on f c.args.seat.now.me.0 c.copy_out.new.seat.me.0 c.load_flushed.new.seat.me.0 (works_marked f c.args.seat.now.me.0 c.copy_out.new.seat.me.0 o.touches o.marks) (works_loaded f c.load_flushed.result c.copy_out.new.seat.me.0 c.load_flushed.new.seat.me.0 c.load_flushed.ensures.did)
+
+pub returns-then-lsn-load_flushed-clause-shares : goal.returns-then-lsn-load_flushed-clause-shares
+returns-then-lsn-load_flushed-clause-shares g c = let tag = packed_tag c.args._tag in
+    subst (IsSharing Quiet tag) (sym (ap (λ (x : View). link x c.args.frame) c.load_flushed.ensures.view)) (sharing_copied Quiet tag c.copy_out.new.page (link c.args.seat.now.me.0 c.args.frame) (link c.copy_out.new.seat.me.0 c.args.frame) c.requires.shares c.copy_out.ensures.copied)
+
+pub returns-then-lsn-load_flushed-clause-role : goal.returns-then-lsn-load_flushed-clause-role
+returns-then-lsn-load_flushed-clause-role g c = ap (λ (x : View). (link x c.args.frame).role) c.load_flushed.ensures.view ∙ ap (λ (l : Link). l.role) c.copy_out.ensures.copied
+
+pub returns-then-lsn-load_flushed-clause-calls : goal.returns-then-lsn-load_flushed-clause-calls
+returns-then-lsn-load_flushed-clause-calls g c = made_none c.args.seat.now.me.0 c.load_flushed.new.seat.me.0 (ap (λ (x : View). x.device_calls) c.load_flushed.ensures.view ∙ ap (λ (x : View). x.device_calls) c.copy_out.ensures.touches.self)
+
+pub returns-then-lsn-load_flushed-clause-met : goal.returns-then-lsn-load_flushed-clause-met
+returns-then-lsn-load_flushed-clause-met g c = ap (λ (x : View). x.met) c.load_flushed.ensures.view ∙ ap (λ (x : View). x.met) c.copy_out.ensures.touches.self
+
+pub returns-clause-stands : goal.returns-clause-stands
+returns-clause-stands g c = let o = c.copy_out.ensures in let l = c.load_flushed.ensures in
+    stands_flushed _ c.copy_out.new.seat c.load_flushed.new.seat l.seat (loaded_work c.load_flushed.result c.copy_out.new.seat.me.0 c.load_flushed.new.seat.me.0 l.did) (stands_self _ c.args.seat.now c.copy_out.new.seat o.seat o.touches.self c.requires.stands)
+
+pub returns-clause-works : goal.returns-clause-works
+returns-clause-works g c = let o = c.copy_out.ensures in let f = c.args.frame in
+    works_on f c.args.seat.now.me.0 c.copy_out.new.seat.me.0 c.load_flushed.new.seat.me.0 (works_marked f c.args.seat.now.me.0 c.copy_out.new.seat.me.0 o.touches o.marks) (works_loaded f c.load_flushed.result c.copy_out.new.seat.me.0 c.load_flushed.new.seat.me.0 c.load_flushed.ensures.did)
+
+pub returns-clause-shares : goal.returns-clause-shares
+returns-clause-shares g c = let tag = packed_tag c.args._tag in
+    subst (IsSharing Quiet tag) (sym (ap (λ (x : View). link x c.args.frame) c.load_flushed.ensures.view)) (sharing_copied Quiet tag c.copy_out.new.page (link c.args.seat.now.me.0 c.args.frame) (link c.copy_out.new.seat.me.0 c.args.frame) c.requires.shares c.copy_out.ensures.copied)
+
+pub returns-clause-role : goal.returns-clause-role
+returns-clause-role g c = ap (λ (x : View). (link x c.args.frame).role) c.load_flushed.ensures.view ∙ ap (λ (l : Link). l.role) c.copy_out.ensures.copied
+
+pub returns-clause-calls : goal.returns-clause-calls
+returns-clause-calls g c = made_none c.args.seat.now.me.0 c.load_flushed.new.seat.me.0 (ap (λ (x : View). x.device_calls) c.load_flushed.ensures.view ∙ ap (λ (x : View). x.device_calls) c.copy_out.ensures.touches.self)
+
+pub returns-clause-met : goal.returns-clause-met
+returns-clause-met g c = ap (λ (x : View). x.met) c.load_flushed.ensures.view ∙ ap (λ (x : View). x.met) c.copy_out.ensures.touches.self
+
+pub returns-clause-rejected : goal.returns-clause-rejected
+returns-clause-rejected g c = let f = c.args.frame in let o = c.copy_out.ensures in let l = c.load_flushed.ensures in
+    OnTrue_from c.reject.result (RejectsVictim c.args.frame c.args.from_ring c.args.ring.now (Some c.reject.new.self) c.args.seat.now.me.0 c.load_flushed.new.seat.me.0) (λ yes. record {
+      came = c.if-not-from_ring.false;
+      ring = c.in-Some.ring;
+      was = c.in-Some.is;
+      rejects = c.reject.ensures.answer.0 yes;
+      empty = ap Some (OnTrue_at yes c.reject.ensures.rejected);
+      page = c.copy_out.new.page;
+      copies = within_on (Copies f c.copy_out.new.page) c.args.seat.now.me.0 c.args.seat.now.me.0 c.copy_out.new.seat.me.0 c.load_flushed.new.seat.me.0 (advances_none c.args.seat.now.me.0) (within_all (Copies f c.copy_out.new.page) c.args.seat.now.me.0 c.copy_out.new.seat.me.0 o.did) (works_loaded f c.load_flushed.result c.copy_out.new.seat.me.0 c.load_flushed.new.seat.me.0 l.did).advances;
+      flushed = c.load_flushed.result;
+      loads = within_on (λ a b. DidWord load_flushed a b c.load_flushed.result) c.args.seat.now.me.0 c.copy_out.new.seat.me.0 c.load_flushed.new.seat.me.0 c.load_flushed.new.seat.me.0 (advances_touched f c.args.seat.now.me.0 c.copy_out.new.seat.me.0 o.touches) (within_all (λ a b. DidWord load_flushed a b c.load_flushed.result) c.copy_out.new.seat.me.0 c.load_flushed.new.seat.me.0 l.did) (advances_none c.load_flushed.new.seat.me.0);
+      unflushed = subst (λ (n : ℕ). c.load_flushed.result < n) c.lsn.ensures c.if-lsn-load_flushed.false;
+    })
+
+pub returns-clause-ring : goal.returns-clause-ring
+returns-clause-ring g c = OnFalse_from _ _ (λ no. ap Some (OnFalse_at no c.reject.ensures.retained) ∙ sym c.in-Some.is)

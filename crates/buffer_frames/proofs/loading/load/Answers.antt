@@ -1,0 +1,92 @@
+use Rattle.std.proofs.Common.{ℕ, true, subst, sym, ◌∙◌}
+use Rattle.block_tag.specs.Names.{packed_tag}
+use Rattle.pin_core.specs.State.{link}
+use Rattle.held_pins.specs.Rests.{LinksRestBeside}
+use Rattle.held_pins.proofs.Keeping.{beside_kept, stands_self}
+use Rattle.buffer_frames.specs.Stages.{IsRead, IsReading}
+use Rattle.buffer_frames.specs.Working.{WorksAt}
+use Rattle.buffer_frames.proofs.Links.{begun_fresh, pins_worked, read_looked, read_of_pins, reading_begun}
+use Rattle.buffer_frames.proofs.WorkSteps.{headless, latches_worked, no_io, works_begun, works_marked, works_on}
+use Rattle.buffer_frames.proofs.loading.load.Goals as goal
+
+pub returns-then-has-clause-stands : goal.returns-then-has-clause-stands
+returns-then-has-clause-stands g c = let k = c.look.ensures in stands_self _ c.args.seat.now c.look.new.seat k.seat k.touches.self c.requires.stands
+
+pub returns-then-has-clause-works : goal.returns-then-has-clause-works
+returns-then-has-clause-works g c = let k = c.look.ensures in works_marked c.args.frame c.args.seat.now.me.0 c.look.new.seat.me.0 k.touches k.marks
+
+pub returns-then-has-clause-latches : goal.returns-then-has-clause-latches
+returns-then-has-clause-latches g c = latches_worked c.args.frame c.args.seat.now.me.0 c.look.new.seat.me.0 (returns-then-has-clause-works g c) c.requires.latches
+
+pub returns-then-has-clause-pinned : goal.returns-then-has-clause-pinned
+returns-then-has-clause-pinned g c = pins_worked (packed_tag c.args.tag) c.args.frame c.args.held.now c.args.seat.now.me.0 c.look.new.seat.me.0 c.requires.pinned (returns-then-has-clause-works g c)
+    (read_looked (packed_tag c.args.tag) (link c.args.seat.now.me.0 c.args.frame) (link c.look.new.seat.me.0 c.args.frame) c.look.ensures.link (read_of_pins (packed_tag c.args.tag) c.args.frame c.args.held.now c.args.seat.now.me.0 c.requires.pinned))
+
+pub returns-then-has-clause-shows : goal.returns-then-has-clause-shows
+returns-then-has-clause-shows g c = c.look.ensures.opening.valid c.args.tag c.requires.pinned.remembered (sym c.has.ensures ∙ c.if-has.true)
+
+pub start_io-requires-clause-headless : goal.start_io-requires-clause-headless
+start_io-requires-clause-headless g c = let k = c.look.ensures in let p = c.requires.pinned in
+    headless c.args.held.now c.args.frame c.look.new.seat.me.0 (beside_kept c.args.frame c.args.held.now c.args.seat.now.me.0 c.look.new.seat.me.0 k.touches.others p.others) (k.link.header ∙ p.calm.no_header)
+
+pub start_io-requires-clause-quiet : goal.start_io-requires-clause-quiet
+start_io-requires-clause-quiet g c = let k = c.look.ensures in let p = c.requires.pinned in
+    no_io c.args.held.now c.args.frame c.look.new.seat.me.0 (beside_kept c.args.frame c.args.held.now c.args.seat.now.me.0 c.look.new.seat.me.0 k.touches.others p.others) (k.link.io ∙ p.calm.no_io)
+
+pub see_page-requires-clause-stands : goal.see_page-requires-clause-stands
+see_page-requires-clause-stands g c = let k = c.look.ensures in let s = c.start_io.ensures in
+    stands_self _ c.look.new.seat c.start_io.new.seat s.seat s.touches.self (stands_self _ c.args.seat.now c.look.new.seat k.seat k.touches.self c.requires.stands)
+
+pub returns-in_default-clause-works : goal.returns-in_default-clause-works
+returns-in_default-clause-works g c = let k = c.look.ensures in let s = c.start_io.ensures in let f = c.args.frame in
+    works_on f c.args.seat.now.me.0 c.start_io.new.seat.me.0 c.see_page.new.seat.me.0 (works_on f c.args.seat.now.me.0 c.look.new.seat.me.0 c.start_io.new.seat.me.0 (works_marked f c.args.seat.now.me.0 c.look.new.seat.me.0 k.touches k.marks) (works_marked f c.look.new.seat.me.0 c.start_io.new.seat.me.0 s.touches c.in_default.ensures.marks)) c.see_page.ensures.works
+
+pub returns-in_default-clause-latches : goal.returns-in_default-clause-latches
+returns-in_default-clause-latches g c = latches_worked c.args.frame c.args.seat.now.me.0 c.see_page.new.seat.me.0 (returns-in_default-clause-works g c) c.requires.latches
+
+pub returns-in_default-clause-pinned : goal.returns-in_default-clause-pinned
+returns-in_default-clause-pinned g c = let f = c.args.frame in let tag = packed_tag c.args.tag in
+    pins_worked tag f c.args.held.now c.args.seat.now.me.0 c.see_page.new.seat.me.0 c.requires.pinned (returns-in_default-clause-works g c)
+    (read_looked tag (link c.start_io.new.seat.me.0 f) (link c.see_page.new.seat.me.0 f) c.see_page.ensures.link
+    (read_looked tag (link c.look.new.seat.me.0 f) (link c.start_io.new.seat.me.0 f) c.in_default.ensures.left
+    (read_looked tag (link c.args.seat.now.me.0 f) (link c.look.new.seat.me.0 f) c.look.ensures.link (read_of_pins tag f c.args.held.now c.args.seat.now.me.0 c.requires.pinned))))
+
+pub read_in-requires-clause-stands : goal.read_in-requires-clause-stands
+read_in-requires-clause-stands g c = let k = c.look.ensures in let s = c.start_io.ensures in
+    stands_self _ c.look.new.seat c.start_io.new.seat s.seat s.touches.self (stands_self _ c.args.seat.now c.look.new.seat k.seat k.touches.self c.requires.stands)
+
+pub read_in-requires-clause-others : goal.read_in-requires-clause-others
+read_in-requires-clause-others g c = let f = c.args.frame in
+    subst (λ (x : ℕ). LinksRestBeside x c.args.held.now c.start_io.new.seat.me.0) (sym c.in-Some.ensures.right.0)
+    (beside_kept f c.args.held.now c.args.seat.now.me.0 c.start_io.new.seat.me.0 (λ h n. c.start_io.ensures.touches.others h n ∙ c.look.ensures.touches.others h n) c.requires.pinned.others)
+
+pub read_in-requires-clause-reads : goal.read_in-requires-clause-reads
+read_in-requires-clause-reads g c = let f = c.args.frame in let tag = packed_tag c.args.tag in let s = c.in-Some.ensures in
+    subst (λ (x : ℕ). IsReading tag (link c.start_io.new.seat.me.0 x)) (sym s.right.0)
+    (reading_begun tag (link c.look.new.seat.me.0 f) (link c.start_io.new.seat.me.0 f)
+    (read_looked tag (link c.args.seat.now.me.0 f) (link c.look.new.seat.me.0 f) c.look.ensures.link (read_of_pins tag f c.args.held.now c.args.seat.now.me.0 c.requires.pinned))
+    s.begun (begun_fresh f s.did.word s.did.under c.start_io.new.seat.me.0 s.did.did))
+
+pub returns-in_err-read_in-clause-works : goal.returns-in_err-read_in-clause-works
+returns-in_err-read_in-clause-works g c = let k = c.look.ensures in let s = c.start_io.ensures in let f = c.args.frame in
+    works_on f c.args.seat.now.me.0 c.start_io.new.seat.me.0 c.read_in.new.seat.me.0 (works_on f c.args.seat.now.me.0 c.look.new.seat.me.0 c.start_io.new.seat.me.0 (works_marked f c.args.seat.now.me.0 c.look.new.seat.me.0 k.touches k.marks) (works_begun true f c.look.new.seat.me.0 c.start_io.new.seat.me.0 s.touches c.in-Some.ensures.marks))
+    (subst (λ (x : ℕ). WorksAt x c.start_io.new.seat.me.0 c.read_in.new.seat.me.0) c.in-Some.ensures.right.0 c.read_in.ensures.works)
+
+pub returns-in_err-read_in-clause-latches : goal.returns-in_err-read_in-clause-latches
+returns-in_err-read_in-clause-latches g c = latches_worked c.args.frame c.args.seat.now.me.0 c.read_in.new.seat.me.0 (returns-in_err-read_in-clause-works g c) c.requires.latches
+
+pub returns-in_err-read_in-clause-pinned : goal.returns-in_err-read_in-clause-pinned
+returns-in_err-read_in-clause-pinned g c = let f = c.args.frame in let tag = packed_tag c.args.tag in
+    pins_worked tag f c.args.held.now c.args.seat.now.me.0 c.read_in.new.seat.me.0 c.requires.pinned (returns-in_err-read_in-clause-works g c) (subst (λ (x : ℕ). IsRead tag (link c.read_in.new.seat.me.0 x)) c.in-Some.ensures.right.0 c.read_in.ensures.read)
+
+pub returns-clause-works : goal.returns-clause-works
+returns-clause-works g c = let k = c.look.ensures in let s = c.start_io.ensures in let f = c.args.frame in
+    works_on f c.args.seat.now.me.0 c.start_io.new.seat.me.0 c.read_in.new.seat.me.0 (works_on f c.args.seat.now.me.0 c.look.new.seat.me.0 c.start_io.new.seat.me.0 (works_marked f c.args.seat.now.me.0 c.look.new.seat.me.0 k.touches k.marks) (works_begun true f c.look.new.seat.me.0 c.start_io.new.seat.me.0 s.touches c.in-Some.ensures.marks))
+    (subst (λ (x : ℕ). WorksAt x c.start_io.new.seat.me.0 c.read_in.new.seat.me.0) c.in-Some.ensures.right.0 c.read_in.ensures.works)
+
+pub returns-clause-latches : goal.returns-clause-latches
+returns-clause-latches g c = latches_worked c.args.frame c.args.seat.now.me.0 c.read_in.new.seat.me.0 (returns-clause-works g c) c.requires.latches
+
+pub returns-clause-pinned : goal.returns-clause-pinned
+returns-clause-pinned g c = let f = c.args.frame in let tag = packed_tag c.args.tag in
+    pins_worked tag f c.args.held.now c.args.seat.now.me.0 c.read_in.new.seat.me.0 c.requires.pinned (returns-clause-works g c) (subst (λ (x : ℕ). IsRead tag (link c.read_in.new.seat.me.0 x)) c.in-Some.ensures.right.0 c.read_in.ensures.read)

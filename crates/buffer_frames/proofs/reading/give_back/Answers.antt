@@ -1,0 +1,6 @@
+use Rattle.block_tag.specs.Names.{packed_tag}
+use Rattle.buffer_frames.proofs.Calm.{pins_unpinned}
+use Rattle.buffer_frames.proofs.reading.give_back.Goals as goal
+
+pub returns-clause-rests : goal.returns-clause-rests
+returns-clause-rests g c = let u = c.unpin.ensures in pins_unpinned c.args._held.now (packed_tag c.args._tag) c.args.pin.frame c.args.seat.now.me.0 c.unpin.new.seat.me.0 c.requires.pinned u.touches.others u.unpinned

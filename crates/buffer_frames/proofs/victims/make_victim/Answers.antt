@@ -1,0 +1,52 @@
+use Rattle.std.proofs.Common.{◌∙◌}
+use Rattle.frame_table.proofs.Told.{grows_on}
+use Rattle.held_pins.proofs.Advancing.{advances_on}
+use Rattle.buffer_frames.proofs.Noting.{all_pinned_now, ended_outside}
+use Rattle.buffer_frames.proofs.Outside.{grows_outside}
+use Rattle.buffer_frames.proofs.victims.make_victim.Goals as goal
+
+pub returns-in-Err-clause-answer : goal.returns-in-Err-clause-answer
+returns-in-Err-clause-answer g c = let e = c.in-Err.ensures in (e.rests, (e.frames, all_pinned_now _ _ c.args.seat.now.me.0 c.choose.new.seat.me.0 _ e.cause))
+
+pub returns-in-Ok-false-clause-advances : goal.returns-in-Ok-false-clause-advances
+returns-in-Ok-false-clause-advances g c =
+    let a = grows_outside c.args.seat.now.me.0 c.tag_of_victim.new.seat.me.0 (grows_on _ c.choose.new.seat.me.0 _ c.choose.ensures.grows c.tag_of_victim.ensures.grows) (c.tag_of_victim.ensures.same ∙ c.choose.ensures.same) in
+    let b = advances_on c.args.seat.now.me.0 c.tag_of_victim.new.seat.me.0 c.flush_victim.new.seat.me.0 a c.flush_victim.ensures.works.advances in
+    advances_on c.args.seat.now.me.0 c.flush_victim.new.seat.me.0 c.give_up.new.seat.me.0 b (grows_outside c.flush_victim.new.seat.me.0 c.give_up.new.seat.me.0 c.give_up.ensures.grows c.give_up.ensures.same)
+
+pub returns-in-Err-flush_victim-clause-advances : goal.returns-in-Err-flush_victim-clause-advances
+returns-in-Err-flush_victim-clause-advances g c =
+    let a = grows_outside c.args.seat.now.me.0 c.tag_of_victim.new.seat.me.0 (grows_on _ c.choose.new.seat.me.0 _ c.choose.ensures.grows c.tag_of_victim.ensures.grows) (c.tag_of_victim.ensures.same ∙ c.choose.ensures.same) in
+    let b = advances_on c.args.seat.now.me.0 c.tag_of_victim.new.seat.me.0 c.flush_victim.new.seat.me.0 a c.flush_victim.ensures.works.advances in
+    let u = c.give_up-in-Err-flush_victim in
+    advances_on c.args.seat.now.me.0 c.flush_victim.new.seat.me.0 u.new.seat.me.0 b (grows_outside c.flush_victim.new.seat.me.0 u.new.seat.me.0 u.ensures.grows u.ensures.same)
+
+pub returns-in-Err-flush_victim-clause-answer : goal.returns-in-Err-flush_victim-clause-answer
+returns-in-Err-flush_victim-clause-answer g c = let s = c.in-Some.ensures in let f = c.in-Err-flush_victim.ensures in let u = c.give_up-in-Err-flush_victim in (
+  u.ensures.rests,
+  record {
+    frame = c.frame-frame.result;
+    tag = c.in-Some.tag;
+    named = s.tag;
+    listed = s.block;
+    before = c.tag_of_victim.new.seat.me.0;
+    after = c.flush_victim.new.seat.me.0;
+    since = grows_outside c.args.seat.now.me.0 c.tag_of_victim.new.seat.me.0 (grows_on _ c.choose.new.seat.me.0 _ c.choose.ensures.grows c.tag_of_victim.ensures.grows) (c.tag_of_victim.ensures.same ∙ c.choose.ensures.same);
+    answer = f.answer.1;
+    until = u.ensures.same;
+    ended = ended_outside c.flush_victim.new.seat.me.0 u.new.seat.me.0 u.ensures.same f.ended;
+  },
+)
+
+pub returns-then-erase-clause-advances : goal.returns-then-erase-clause-advances
+returns-then-erase-clause-advances g c =
+    let a = grows_outside c.args.seat.now.me.0 c.tag_of_victim.new.seat.me.0 (grows_on _ c.choose.new.seat.me.0 _ c.choose.ensures.grows c.tag_of_victim.ensures.grows) (c.tag_of_victim.ensures.same ∙ c.choose.ensures.same) in
+    let b = advances_on c.args.seat.now.me.0 c.tag_of_victim.new.seat.me.0 c.flush_victim.new.seat.me.0 a c.flush_victim.ensures.works.advances in
+    advances_on c.args.seat.now.me.0 c.flush_victim.new.seat.me.0 c.erase.new.seat.me.0 b (grows_outside c.flush_victim.new.seat.me.0 c.erase.new.seat.me.0 c.erase.ensures.grows c.erase.ensures.same)
+
+pub returns-clause-advances : goal.returns-clause-advances
+returns-clause-advances g c =
+    let a = grows_outside c.args.seat.now.me.0 c.tag_of_victim.new.seat.me.0 (grows_on _ c.choose.new.seat.me.0 _ c.choose.ensures.grows c.tag_of_victim.ensures.grows) (c.tag_of_victim.ensures.same ∙ c.choose.ensures.same) in
+    let b = advances_on c.args.seat.now.me.0 c.tag_of_victim.new.seat.me.0 c.flush_victim.new.seat.me.0 a c.flush_victim.ensures.works.advances in
+    let u = c.give_up-2 in
+    advances_on c.args.seat.now.me.0 c.flush_victim.new.seat.me.0 u.new.seat.me.0 b (grows_outside c.flush_victim.new.seat.me.0 u.new.seat.me.0 (grows_on _ c.erase.new.seat.me.0 _ c.erase.ensures.grows u.ensures.grows) (u.ensures.same ∙ c.erase.ensures.same))

@@ -1,0 +1,151 @@
+-- How the page of a frame goes to its lane, and why not.
+use Rattle.std.specs.Prelude.{◌≡◌, ℕ, ◌<◌, ◌≤◌, Bool, true, false, List, [], ◌∷◌, Option, Some, Result, Ok, Err}
+use Rattle.access_rings.specs.RingState.{RingState, Rejects, ring_after_rejection}
+use Rattle.block_tag.specs.declared.tag.Tag.{Tag}
+use Rattle.block_tag.specs.Names.{packed_tag}
+use Rattle.page_layout.specs.Fields.{lsn_of}
+use Rattle.page_layout.specs.Soundness.{is_sound_page}
+use Rattle.segment_store.specs.Contents.{Pages}
+use Rattle.state_word.specs.declared.word.StateWord.{StateWord}
+use Rattle.state_word.specs.Fields.{fields}
+use Rattle.pin_core.specs.declared.view.DeviceCall.{DeviceCall}
+use Rattle.pin_core.specs.declared.view.DeviceCall.TheVariants.{LaneWrite, LogSync}
+use Rattle.pin_core.specs.declared.view.Met.{Met}
+use Rattle.pin_core.specs.declared.view.View.{View}
+use Rattle.pin_core.specs.State.{Page}
+use Rattle.frame_table.specs.declared.table.FrameTable.{FrameTable}
+use Rattle.frame_table.specs.FrameSteps.{Did, looking}
+use Rattle.frame_table.specs.Opened.{WasAtOpening}
+use Rattle.frame_table.specs.WordSteps.{DidWord, load_flushed}
+use Rattle.content_locks.specs.Io.{FindsNothing}
+use Rattle.content_locks.specs.declared.locks.TryLock.{TryLock}
+use Rattle.content_locks.specs.Locks.{Copies, RefusesLock, ShowsExclusive}
+use Rattle.wal_flush.specs.declared.flushes.FlushLog.{FlushLog}
+use Rattle.wal_flush.specs.declared.flushes.FlushLog.TheVariants.{LogShort, LogDown, LogFault}
+use Rattle.wal_flush.specs.Flushes.{FlushRefused}
+use Rattle.held_pins.specs.Rests.{Advances}
+use Rattle.buffer_frames.specs.declared.flushing.FlushError.{FlushError}
+use Rattle.buffer_frames.specs.declared.flushing.FlushError.TheVariants.{Log, WriteFault}
+use Rattle.buffer_frames.specs.Working.{Made, Within, met_log, met_write}
+
+-- the faults that were met by a write of a lane that was done, or wasn't
+abbrev pub met_lane_write : Bool → Met → Met
+met_lane_write true m = m
+met_lane_write false m = met_write m
+
+-- the calls of the log that a flush makes: a sync, or none
+abbrev pub syncs_of : Bool → List DeviceCall
+syncs_of true = LogSync true ∷ []
+syncs_of false = []
+
+-- and those of one that refuses: where the log failed, the sync that did
+abbrev pub syncs_refused : FlushLog → List DeviceCall
+syncs_refused LogFault = LogSync false ∷ []
+syncs_refused (LogDown at) = []
+syncs_refused (LogShort lsn end) = []
+
+-- The lane q was called for the page, and this is what it has of the block since: the page itself, where the write was done
+pub record CallsLane (done : Bool) (q tag : ℕ) (page : Page) (v w : View) : Type 0 where
+  pub left : Page
+  pub whole : done ≡ true → left ≡ page
+  pub calls : Made (LaneWrite q tag left done ∷ []) v w
+
+-- The page went to the lane q, or failed to. Before that the log was synced at most, and the flushed position was seen at the page's position or behind it
+pub record Wrote (done : Bool) (q tag : ℕ) (page : Page) (v w : View) : Type 0 where
+  -- the view by then
+  pub ready : View
+  pub since : Advances v ready
+  pub synced : Bool
+  pub log_calls : Made (syncs_of synced) v ready
+  pub log_first : lsn_of page ≤ ready.flushed
+  -- and then the one call of the lane, which has this of the block since: the page itself, where the write was done
+  pub left : Page
+  pub whole : done ≡ true → left ≡ page
+  pub lane_call : Made (LaneWrite q tag left done ∷ []) ready w
+  pub until : Advances ready w
+
+-- The frame wasn't dirty, by a word that was loaded under its header in this call, and no device was called
+pub record FindsClean (f : ℕ) (v w : View) : Type 0 where
+  pub finds : Within (FindsNothing false f) v w
+  pub calls : w.device_calls ≡ v.device_calls
+
+-- There was an output right, and the word that the end of the last input or output stored is valid and dirty, and has BM_IO_ERROR
+pub record EndedInError (w : View) : Type 0 where
+  pub output : w.had_output ≡ true
+  pub word : StateWord
+  pub is : w.last_ended ≡ Some word
+  pub valid : word.valid ≡ true
+  pub dirty : word.dirty ≡ true
+  pub failed : word.failed ≡ true
+
+-- the faults that were met, by the refusal, and by the answer
+abbrev pub met_refused : FlushError → Met → Met
+met_refused (WriteFault tag) m = met_write m
+met_refused (Log LogFault) m = met_log m
+met_refused (Log (LogDown at)) m = m
+met_refused (Log (LogShort lsn end)) m = m
+
+abbrev pub met_flushing : {A : Type 0} → Result A FlushError → Met → Met
+met_flushing (Ok done) m = m
+met_flushing (Err why) m = met_refused why m
+
+-- The page is the one of the frame f, which is sound, as it was copied under the content lock in this call, and this came of its write
+pub record CopiesAnd (Work : Page → View → View → Type 0) (f : ℕ) (v w : View) : Type 0 where
+  pub page : Page
+  pub sound : is_sound_page page ≡ true
+  pub copies : Within (Copies f page) v w
+  pub work : Work page v w
+
+-- The ring gave the frame f up. It is for bulk reads, the frame came from its current place, and the log would have to be flushed for the frame's page, as that was copied in this call and the flushed position loaded. The place is empty then
+pub record RejectsVictim (f : ℕ) (from_ring : Bool) (before after : Option RingState) (v w : View) : Type 0 where
+  pub came : from_ring ≡ true
+  pub ring : RingState
+  pub was : before ≡ Some ring
+  pub rejects : Rejects ring f
+  pub empty : after ≡ Some (ring_after_rejection ring)
+  pub page : Page
+  pub copies : Within (Copies f page) v w
+  pub flushed : ℕ
+  pub loads : Within (λ a b. DidWord load_flushed a b flushed) v w
+  pub unflushed : flushed < lsn_of page
+
+module _ {L G : Type 0} (contents : L → Option Pages) (t : FrameTable L G) where
+  -- What a refusal of the log shows, of the page that was to be written: the log ended before its position, which is that of the page that the block's lane held as the table was opened, where that is known; or the log is down, and that was seen
+  abbrev pub LogShows : FlushLog → Tag → Page → View → Type 0
+  LogShows (LogShort lsn end) tag page w = (lsn ≡ lsn_of page) × (end < lsn) × (end ≤ w.end_seen) × WasAtOpening contents t tag page
+  LogShows (LogDown at) tag page w = (at ≤ w.end_seen) × (w.saw_down ≡ true)
+  LogShows LogFault tag page w = w.saw_down ≡ true
+
+  -- The log was not flushed up to the page's position, for this reason, and no lane was called
+  pub record LogRefuses (why : FlushLog) (tag : Tag) (page : Page) (v w : View) : Type 0 where
+    pub cause : Within (λ a b. FlushRefused (lsn_of page) a b why) v w
+    pub calls : Made (syncs_refused why) v w
+    pub shows : LogShows why tag page w
+
+  -- what came of a write of a page that was copied
+  abbrev pub WriteAnswer : ℕ → Tag → Page → View → View → Result Unit FlushError → Type 0
+  WriteAnswer q tag page v w (Ok done) = Wrote true q (packed_tag tag) page v w
+  WriteAnswer q tag page v w (Err (Log why)) = LogRefuses why tag page v w
+  WriteAnswer q tag page v w (Err (WriteFault failed)) = (failed ≡ tag) × Wrote false q (packed_tag tag) page v w
+
+  -- what came of a flush of the frame f
+  abbrev pub FlushAnswer : ℕ → Tag → ℕ → View → View → Result Bool FlushError → Type 0
+  FlushAnswer q tag f v w (Ok true) = CopiesAnd (λ page a b. WriteAnswer q tag page a b (Ok tt)) f v w
+  FlushAnswer q tag f v w (Ok false) = FindsClean f v w
+  FlushAnswer q tag f v w (Err why) = CopiesAnd (λ page a b. WriteAnswer q tag page a b (Err why)) f v w
+
+  -- A victim may be taken: it was clean by a word that was loaded in this call, or it was flushed
+  pub data FreesVictim (q : ℕ) (tag : Tag) (f : ℕ) (v w : View) : Type 0 where
+    clean : (word : ℕ) → Within (λ a b. Did looking f a b word) v w → (fields word).dirty ≡ false → Made [] v w → FreesVictim q tag f v w
+    flushed : (wrote : Bool) → FlushAnswer q tag f v w (Ok wrote) → FreesVictim q tag f v w
+
+  -- It is spared: its content lock was refused, or the ring gave it up
+  pub data SparesVictim (f : ℕ) (from_ring : Bool) (before after : Option RingState) (v w : View) : Type 0 where
+    locked : (why : TryLock) → Within (λ a b. RefusesLock ShowsExclusive f a b why) v w → after ≡ before → Made [] v w → SparesVictim f from_ring before after v w
+    rejected : RejectsVictim f from_ring before after v w → Made [] v w → SparesVictim f from_ring before after v w
+
+  -- what came of a dirty victim
+  abbrev pub VictimAnswer : ℕ → Tag → ℕ → Bool → Option RingState → Option RingState → View → View → Result Bool FlushError → Type 0
+  VictimAnswer q tag f from_ring before after v w (Ok true) = (after ≡ before) × FreesVictim q tag f v w
+  VictimAnswer q tag f from_ring before after v w (Ok false) = SparesVictim f from_ring before after v w
+  VictimAnswer q tag f from_ring before after v w (Err why) = (after ≡ before) × FlushAnswer q tag f v w (Err why)

@@ -1,0 +1,20 @@
+-- What calls that work at frames, and at the maps, leave of a view.
+use Rattle.std.specs.Prelude.{◌≡◌, ℕ, List, [], length, Option, option_map}
+use Rattle.pin_core.specs.declared.view.View.{View}
+use Rattle.access_rings.specs.declared.ring.RingKind.{RingKind}
+use Rattle.access_rings.specs.RingState.{RingState}
+
+-- What a call that works at frames and maps, and calls no device, leaves of a view: all but what it has of them, and what it lists and counts of loads, changed words, steps and moves of the hand
+abbrev pub outside_of : View → View
+outside_of v = record v { links = []; partitions = []; steps = 0; ticks = 0; loads = []; changes = [] }
+
+-- What a choice leaves of a ring: its kind, and how many places it has
+pub record RingShape : Type 0 where
+  pub kind : RingKind
+  pub places : ℕ
+
+abbrev pub shape_of : RingState → RingShape
+shape_of r = record { kind = r.kind; places = length r.places }
+
+abbrev pub ring_shape : Option RingState → Option RingShape
+ring_shape r = option_map shape_of r

@@ -1,0 +1,65 @@
+//! A victim is chosen and pinned.
+ghost use Rattle.std.specs.Prelude.{◌≡◌, ◌<◌, true, IfOk, IfErr, Some};
+ghost use Rattle.frame_table.specs.Seats.{Grows, SameSeat, frames_of};
+ghost use Rattle.clock_sweep.specs.Choosing.{frame_at_place, ring_gone_on};
+ghost use Rattle.held_pins.specs.Rests.{HasNoLatch, LinksRest, Stands};
+ghost use Rattle.buffer_frames.specs.Outside.{outside_of, ring_shape};
+ghost use Rattle.buffer_frames.specs.Stages.{HasVictim};
+ghost use Rattle.buffer_frames.specs.Victims.{AllPinned};
+
+use access_rings::Ring;
+use atomic_table::Seat;
+use clock_sweep::{Census, NoUnpinned, Sweep, victim};
+use frame_table::{FrameTable, Pin, Value};
+use held_pins::HeldPins;
+use log_device::LogDevice;
+use pin_core::View;
+use segment_store::BlockLane;
+use std::sync::Wait;
+
+/// A frame that was chosen and pinned.
+pub(crate) struct Chosen {
+    pub(crate) pin: Pin,
+    /// Whether it came from the ring's current place.
+    pub(crate) from_ring: bool,
+}
+
+/// Chooses a victim and pins it, its usage count unchanged (`GetVictimBuffer`).
+pub(crate) fn choose<L: BlockLane, G: LogDevice, R: Wait>(
+    table: &FrameTable<L, G>,
+    rt: &R,
+    seat: &mut Seat<Value<L, G>, View>,
+    _held: &HeldPins,
+    sweep: &Sweep,
+    census: &mut Census,
+    ring: &mut Option<Ring>,
+) -> Result<Chosen, NoUnpinned>
+    requires stands { Stands table.now seat.old }
+    requires rests { LinksRest _held.now seat.old.me.0 }
+    requires latches { HasNoLatch seat.old.me.0 }
+    requires census { census.old.frames ≡ frames_of table.now }
+    ensures seat { SameSeat seat.old seat.new }
+    ensures stands { Stands table.now seat.new }
+    ensures same { outside_of seat.new.me.0 ≡ outside_of seat.old.me.0 }
+    ensures grows { Grows seat.old.me.0 seat.new.me.0 }
+    ensures latches { HasNoLatch seat.new.me.0 }
+    ensures room { census.new.frames ≡ census.old.frames }
+    ensures ring { ring_shape ring.new ≡ ring_shape ring.old }
+    ensures inside { IfOk result (λ chosen. chosen.pin.frame < frames_of table.now) }
+    ensures pinned { IfOk result (λ chosen. HasVictim chosen.pin.frame _held.now seat.new.me.0) }
+    ensures place { IfOk result (λ chosen. chosen.from_ring ≡ true → frame_at_place ring.new ≡ Some chosen.pin.frame) }
+    ensures rests { IfErr result (λ _. LinksRest _held.now seat.new.me.0) }
+    ensures frames { IfErr result (λ why. why.frames ≡ frames_of table.now) }
+    ensures cause { IfErr result (λ _. AllPinned (frames_of table.now) (frame_at_place (ring_gone_on ring.old)) seat.old.me.0 seat.new.me.0 census.new.words) }
+{
+    match victim(table, rt, seat, sweep, census, ring) {
+        Ok(held) => {
+            let word = held.word();
+            let from_ring = held.is_from_ring();
+            let frame = held.into_frame();
+            let pin = table.victim_pin(seat, frame, word);
+            Ok(Chosen { pin, from_ring })
+        }
+        Err(why) => Err(why),
+    }
+}

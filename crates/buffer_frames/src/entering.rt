@@ -1,0 +1,192 @@
+//! A block comes into a victim.
+ghost use Rattle.std.specs.Prelude.{◌≡◌, ◌<◌, ℕ, true, IfNone, IfSome};
+ghost use Rattle.std.specs.Bool.{OnFalse, OnTrue};
+ghost use Rattle.block_tag.specs.Names.{names_block, packed_tag, partition_number};
+ghost use Rattle.pin_core.specs.declared.view.MapChange.TheVariants.{Settled};
+ghost use Rattle.table_rule.specs.Blocks.{has_block};
+ghost use Rattle.pin_core.specs.State.{link};
+ghost use Rattle.frame_table.specs.Seats.{Finds, Grows, Lacks, RemembersNoOther, SameSeat, frames_of, relations_of};
+ghost use Rattle.map_partitions.specs.Partition.{HoldsLatch};
+ghost use Rattle.held_pins.specs.Rests.{HasNoLatch, HasOneLatch, LinksRest, Stands};
+ghost use Rattle.held_pins.specs.Tokens.{IsNew};
+ghost use Rattle.buffer_frames.specs.Outside.{outside_of};
+ghost use Rattle.buffer_frames.specs.Stages.{HasVictim, Pins};
+
+use crate::lookup::pin_found;
+use atomic_table::Seat;
+use block_tag::Tag;
+use clock_sweep::Sweep;
+use frame_table::{FrameTable, Pin, Value};
+use held_pins::HeldPins;
+use log_device::LogDevice;
+use map_partitions::{enter, find, give_turn, take_turn};
+use pin_core::View;
+use segment_store::BlockLane;
+use state_word::{Flag, has, pins};
+use std::sync::Wait;
+
+/// Stores the tag in the victim, where no other backend has pinned it and it has no tag, and enters the pair. The pin is the caller's then.
+fn store_latched<L: BlockLane, G: LogDevice, R: Wait>(
+    table: &FrameTable<L, G>,
+    rt: &R,
+    seat: &mut Seat<Value<L, G>, View>,
+    _held: &HeldPins,
+    frame: u32,
+    tag: Tag,
+) -> bool
+    requires stands { Stands table.now seat.old }
+    requires latch { HasOneLatch (partition_number tag) seat.old.me.0 }
+    requires holds { HoldsLatch Settled seat.old.me.0 (partition_number tag) }
+    requires victim { HasVictim frame _held.now seat.old.me.0 }
+    requires inside { frame < frames_of table.now }
+    requires tag { names_block tag ≡ true }
+    requires block { has_block (relations_of table.now) tag ≡ true }
+    requires lacks { Lacks seat.old.me.0 (packed_tag tag) }
+    ensures seat { SameSeat seat.old seat.new }
+    ensures stands { Stands table.now seat.new }
+    ensures same { outside_of seat.new.me.0 ≡ outside_of seat.old.me.0 }
+    ensures grows { Grows seat.old.me.0 seat.new.me.0 }
+    ensures latch { HasOneLatch (partition_number tag) seat.new.me.0 }
+    ensures stored { OnTrue result (Pins (packed_tag tag) frame _held.now seat.new.me.0) }
+    ensures refused { OnFalse result (HasVictim frame _held.now seat.new.me.0) }
+{
+    let word = table.lock_header(rt, seat, frame);
+    if pins(word) != 1 || has(word, Flag::TagValid) {
+        table.unlock_header(seat, frame);
+        return false;
+    }
+    table.store_tag(seat, frame, Some(tag));
+    table.assign(seat, frame, word);
+    enter(table, seat, tag, frame);
+    true
+}
+
+/// Gives a victim up.
+pub(crate) fn give_up<L: BlockLane, G: LogDevice, R: Wait>(
+    table: &FrameTable<L, G>,
+    rt: &R,
+    seat: &mut Seat<Value<L, G>, View>,
+    _held: &HeldPins,
+    victim: Pin,
+)
+    requires stands { Stands table.now seat.old }
+    requires victim { HasVictim victim.frame _held.now seat.old.me.0 }
+    requires inside { victim.frame < frames_of table.now }
+    ensures seat { SameSeat seat.old seat.new }
+    ensures stands { Stands table.now seat.new }
+    ensures same { outside_of seat.new.me.0 ≡ outside_of seat.old.me.0 }
+    ensures grows { Grows seat.old.me.0 seat.new.me.0 }
+    ensures partitions { seat.new.me.0.partitions ≡ seat.old.me.0.partitions }
+    ensures remembers { (tag f : ℕ) → RemembersNoOther tag (link seat.old.me.0 f) → RemembersNoOther tag (link seat.new.me.0 f) }
+    ensures rests { LinksRest _held.now seat.new.me.0 }
+{
+    // No backend waits for its pin to be the only one yet, so the word that is left isn't needed.
+    table.unpin(rt, seat, victim);
+}
+
+/// Gives a victim up that another backend's frame stands for, and pins that frame, which a search of the map just gave. The victim goes to the free list.
+fn pin_other<L: BlockLane, G: LogDevice, R: Wait>(
+    table: &FrameTable<L, G>,
+    rt: &R,
+    seat: &mut Seat<Value<L, G>, View>,
+    held: &HeldPins,
+    sweep: &Sweep,
+    victim: Pin,
+    tag: Tag,
+    frame: u32,
+    ring: bool,
+) -> Pin
+    requires stands { Stands table.now seat.old }
+    requires latch { HasOneLatch (partition_number tag) seat.old.me.0 }
+    requires victim { HasVictim victim.frame held.now seat.old.me.0 }
+    requires own { victim.frame < frames_of table.now }
+    requires tag { names_block tag ≡ true }
+    requires new { IsNew tag held.now }
+    requires inside { frame < frames_of table.now }
+    requires finds { Finds seat.old.me.0 (packed_tag tag) frame }
+    requires remembers { RemembersNoOther (packed_tag tag) (link seat.old.me.0 frame) }
+    ensures seat { SameSeat seat.old seat.new }
+    ensures stands { Stands table.now seat.new }
+    ensures same { outside_of seat.new.me.0 ≡ outside_of seat.old.me.0 }
+    ensures grows { Grows seat.old.me.0 seat.new.me.0 }
+    ensures latch { HasOneLatch (partition_number tag) seat.new.me.0 }
+    ensures frame { result.frame ≡ frame }
+    ensures pinned { Pins (packed_tag tag) frame held.now seat.new.me.0 }
+{
+    let given = victim.frame();
+    give_up(table, rt, seat, held, victim);
+    sweep.free(rt, given);
+    pin_found(table, rt, seat, held, tag, frame, ring)
+}
+
+/// Searches the map once more, under the latch, and brings the block into the victim where it has no frame still. None where the victim isn't free any more.
+fn enter_latched<L: BlockLane, G: LogDevice, R: Wait>(
+    table: &FrameTable<L, G>,
+    rt: &R,
+    seat: &mut Seat<Value<L, G>, View>,
+    held: &HeldPins,
+    sweep: &Sweep,
+    victim: Pin,
+    tag: Tag,
+    ring: bool,
+) -> Option<Pin>
+    requires stands { Stands table.now seat.old }
+    requires latch { HasOneLatch (partition_number tag) seat.old.me.0 }
+    requires holds { HoldsLatch Settled seat.old.me.0 (partition_number tag) }
+    requires victim { HasVictim victim.frame held.now seat.old.me.0 }
+    requires inside { victim.frame < frames_of table.now }
+    requires tag { names_block tag ≡ true }
+    requires block { has_block (relations_of table.now) tag ≡ true }
+    requires new { IsNew tag held.now }
+    ensures seat { SameSeat seat.old seat.new }
+    ensures stands { Stands table.now seat.new }
+    ensures same { outside_of seat.new.me.0 ≡ outside_of seat.old.me.0 }
+    ensures grows { Grows seat.old.me.0 seat.new.me.0 }
+    ensures latch { HasOneLatch (partition_number tag) seat.new.me.0 }
+    ensures inside { IfSome result (λ p. p.frame < frames_of table.now) }
+    ensures pinned { IfSome result (λ p. Pins (packed_tag tag) p.frame held.now seat.new.me.0) }
+    ensures rests { IfNone result (LinksRest held.now seat.new.me.0) }
+{
+    if let Some(frame) = find(table, seat, &tag) {
+        return Some(pin_other(table, rt, seat, held, sweep, victim, tag, frame, ring));
+    }
+    if store_latched(table, rt, seat, held, victim.frame(), tag) {
+        return Some(victim);
+    }
+    give_up(table, rt, seat, held, victim);
+    None
+}
+
+/// Brings a block into a victim, or pins the frame that another backend has brought it into meanwhile (`BufferAlloc`). None where the victim isn't free any more.
+pub(crate) fn enter_or_pin<L: BlockLane, G: LogDevice, R: Wait>(
+    table: &FrameTable<L, G>,
+    rt: &R,
+    seat: &mut Seat<Value<L, G>, View>,
+    held: &HeldPins,
+    sweep: &Sweep,
+    victim: Pin,
+    tag: Tag,
+    ring: bool,
+) -> Option<Pin>
+    requires stands { Stands table.now seat.old }
+    requires latches { HasNoLatch seat.old.me.0 }
+    requires victim { HasVictim victim.frame held.now seat.old.me.0 }
+    requires inside { victim.frame < frames_of table.now }
+    requires tag { names_block tag ≡ true }
+    requires block { has_block (relations_of table.now) tag ≡ true }
+    requires new { IsNew tag held.now }
+    ensures seat { SameSeat seat.old seat.new }
+    ensures stands { Stands table.now seat.new }
+    ensures same { outside_of seat.new.me.0 ≡ outside_of seat.old.me.0 }
+    ensures grows { Grows seat.old.me.0 seat.new.me.0 }
+    ensures latches { HasNoLatch seat.new.me.0 }
+    ensures inside { IfSome result (λ p. p.frame < frames_of table.now) }
+    ensures pinned { IfSome result (λ p. Pins (packed_tag tag) p.frame held.now seat.new.me.0) }
+    ensures rests { IfNone result (LinksRest held.now seat.new.me.0) }
+{
+    let partition = tag.partition();
+    take_turn(table, rt, seat, partition);
+    let entered = enter_latched(table, rt, seat, held, sweep, victim, tag, ring);
+    give_turn(table, seat, partition);
+    entered
+}

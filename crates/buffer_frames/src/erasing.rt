@@ -1,0 +1,84 @@
+//! A victim loses its tag.
+ghost use Rattle.std.specs.Prelude.{◌≡◌, ◌<◌, Some, true};
+ghost use Rattle.block_tag.specs.Names.{names_block, packed_tag, partition_number};
+ghost use Rattle.pin_core.specs.declared.view.MapChange.TheVariants.{Settled};
+ghost use Rattle.pin_core.specs.State.{link};
+ghost use Rattle.frame_table.specs.Seats.{Grows, SameSeat, frames_of};
+ghost use Rattle.map_partitions.specs.Partition.{HoldsLatch};
+ghost use Rattle.held_pins.specs.Rests.{HasNoLatch, HasOneLatch, Stands};
+ghost use Rattle.buffer_frames.specs.Outside.{outside_of};
+ghost use Rattle.buffer_frames.specs.Stages.{HasVictim};
+
+use atomic_table::Seat;
+use block_tag::Tag;
+use frame_table::{FrameTable, Value};
+use held_pins::HeldPins;
+use log_device::LogDevice;
+use map_partitions::{give_turn, leave_out, take_turn};
+use pin_core::View;
+use segment_store::BlockLane;
+use state_word::{Flag, has, pins};
+use std::sync::Wait;
+
+/// Takes the tag from a victim, under the latch of its partition, where no other backend pins the frame and it isn't dirty.
+fn erase_latched<L: BlockLane, G: LogDevice, R: Wait>(
+    table: &FrameTable<L, G>,
+    rt: &R,
+    seat: &mut Seat<Value<L, G>, View>,
+    _held: &HeldPins,
+    frame: u32,
+    tag: &Tag,
+) -> bool
+    requires stands { Stands table.now seat.old }
+    requires latch { HasOneLatch (partition_number tag.now) seat.old.me.0 }
+    requires holds { HoldsLatch Settled seat.old.me.0 (partition_number tag.now) }
+    requires victim { HasVictim frame _held.now seat.old.me.0 }
+    requires inside { frame < frames_of table.now }
+    requires tag { names_block tag.now ≡ true }
+    requires remembered { (link seat.old.me.0 frame).tag ≡ Some (packed_tag tag.now) }
+    ensures seat { SameSeat seat.old seat.new }
+    ensures stands { Stands table.now seat.new }
+    ensures same { outside_of seat.new.me.0 ≡ outside_of seat.old.me.0 }
+    ensures grows { Grows seat.old.me.0 seat.new.me.0 }
+    ensures latch { HasOneLatch (partition_number tag.now) seat.new.me.0 }
+    ensures victim { HasVictim frame _held.now seat.new.me.0 }
+{
+    let word = table.lock_header(rt, seat, frame);
+    if pins(word) != 1 || has(word, Flag::Dirty) {
+        table.unlock_header(seat, frame);
+        return false;
+    }
+    table.store_tag(seat, frame, None);
+    table.clear(seat, frame, word);
+    leave_out(table, seat, tag);
+    true
+}
+
+/// Takes the tag from a victim, where no other backend pins the frame and it isn't dirty (`InvalidateVictimBuffer`).
+pub(crate) fn erase<L: BlockLane, G: LogDevice, R: Wait>(
+    table: &FrameTable<L, G>,
+    rt: &R,
+    seat: &mut Seat<Value<L, G>, View>,
+    held: &HeldPins,
+    frame: u32,
+    tag: &Tag,
+) -> bool
+    requires stands { Stands table.now seat.old }
+    requires latches { HasNoLatch seat.old.me.0 }
+    requires victim { HasVictim frame held.now seat.old.me.0 }
+    requires inside { frame < frames_of table.now }
+    requires tag { names_block tag.now ≡ true }
+    requires remembered { (link seat.old.me.0 frame).tag ≡ Some (packed_tag tag.now) }
+    ensures seat { SameSeat seat.old seat.new }
+    ensures stands { Stands table.now seat.new }
+    ensures same { outside_of seat.new.me.0 ≡ outside_of seat.old.me.0 }
+    ensures grows { Grows seat.old.me.0 seat.new.me.0 }
+    ensures latches { HasNoLatch seat.new.me.0 }
+    ensures victim { HasVictim frame held.now seat.new.me.0 }
+{
+    let partition = tag.partition();
+    take_turn(table, rt, seat, partition);
+    let erased = erase_latched(table, rt, seat, held, frame, tag);
+    give_turn(table, seat, partition);
+    erased
+}

@@ -1,0 +1,363 @@
+//! The page of a frame goes to its lane.
+ghost use Rattle.std.specs.Prelude.{[], ◌≡◌, ◌≢◌, ◌∷◌, ◌<◌, ◌≤◌, Some, true, false, IfErr, IfOk};
+ghost use Rattle.std.specs.Bool.{OnTrue, OnFalse};
+ghost use Rattle.block_tag.specs.Names.{lane_number, names_block, packed_tag};
+ghost use Rattle.page_layout.specs.Fields.{lsn_of};
+ghost use Rattle.pin_core.specs.declared.view.Content.TheVariants.{Unlocked};
+ghost use Rattle.pin_core.specs.declared.view.Io.TheVariants.{Output, Quiet};
+ghost use Rattle.pin_core.specs.declared.view.LastWrite.TheVariants.{Done};
+ghost use Rattle.pin_core.specs.State.{link};
+ghost use Rattle.table_rule.specs.Blocks.{has_block};
+ghost use Rattle.frame_table.specs.Seats.{SameMarks, SameSeat, frames_of, lanes_in, relations_of};
+ghost use Rattle.held_pins.specs.Rests.{HasNoLatch, LinksRest, LinksRestBeside, Stands};
+ghost use Rattle.held_pins.specs.Tokens.{IsPinnedFor};
+ghost use Rattle.buffer_frames.specs.Flushing.{CallsLane, CopiesAnd, EndedInError, FlushAnswer, RejectsVictim, VictimAnswer, WriteAnswer, met_flushing, met_lane_write};
+ghost use Rattle.buffer_frames.specs.Stages.{HasVictim, IsPinned, IsSharing};
+ghost use Rattle.buffer_frames.specs.Working.{Calls, IsNoRead, Made, WorksAt};
+
+use access_rings::{Ring, RingKind};
+use atomic_table::Seat;
+use block_tag::{Tag, lane_of};
+use content_locks::{IoRight, copy_out, end_io, share, start_io, try_share, unshare};
+use frame_table::{FrameTable, Turn, Value};
+use held_pins::HeldPins;
+use log_device::LogDevice;
+use page_layout::Page;
+use pin_core::View;
+use segment_store::BlockLane;
+use state_word::{Flag, IoEnd, has};
+use std::sync::Wait;
+use thiserror::Error;
+use wal_flush::{FlushLog, flush_to};
+
+/// Why a frame was not written.
+#[derive(Clone, Copy, PartialEq, Eq, Debug, Error)]
+pub enum FlushError {
+    /// The log was not flushed up to the page's position.
+    #[error("{0}")]
+    Log(FlushLog),
+    /// The lane failed to write the page of this block.
+    #[error("a page was not written")]
+    WriteFault { tag: Tag },
+}
+
+/// Clears BM_JUST_DIRTIED under the header, so that who dirties the frame from now on is seen as the write ends.
+fn clear_just<L: BlockLane, G: LogDevice, R: Wait>(
+    table: &FrameTable<L, G>,
+    rt: &R,
+    seat: &mut Seat<Value<L, G>, View>,
+    _held: &HeldPins,
+    frame: u32,
+    _tag: Tag,
+)
+    requires stands { Stands table.now seat.old }
+    requires others { LinksRestBeside frame _held.now seat.old.me.0 }
+    requires inside { frame < frames_of table.now }
+    requires shares { IsSharing Output (packed_tag _tag) (link seat.old.me.0 frame) }
+    ensures seat { SameSeat seat.old seat.new }
+    ensures stands { Stands table.now seat.new }
+    ensures works { WorksAt frame seat.old.me.0 seat.new.me.0 }
+    ensures marks { SameMarks seat.old.me.0 seat.new.me.0 }
+    ensures shares { IsSharing Output (packed_tag _tag) (link seat.new.me.0 frame) }
+    ensures role { (link seat.new.me.0 frame).role ≡ (link seat.old.me.0 frame).role }
+    ensures calls { Made [] seat.old.me.0 seat.new.me.0 }
+    ensures met { seat.new.me.0.met ≡ seat.old.me.0.met }
+{
+    let word = table.lock_header(rt, seat, frame);
+    table.clear_just_dirtied(seat, frame, word);
+}
+
+/// Writes the page that was copied to its lane, once the log is flushed up to the page's position. Whether the lane took it.
+fn write_lane<L: BlockLane, G: LogDevice, R: Wait>(
+    table: &FrameTable<L, G>,
+    rt: &R,
+    seat: &mut Seat<Value<L, G>, View>,
+    frame: u32,
+    tag: Tag,
+    page: &Page,
+) -> bool
+    requires stands { Stands table.now seat.old }
+    requires inside { frame < frames_of table.now }
+    requires tag { names_block tag ≡ true }
+    requires block { has_block (relations_of table.now) tag ≡ true }
+    requires shares { IsSharing Output (packed_tag tag) (link seat.old.me.0 frame) }
+    requires copied { (link seat.old.me.0 frame).copied ≡ Some page.now }
+    requires log_first { lsn_of page.now ≤ seat.old.me.0.flushed }
+    ensures seat { SameSeat seat.old seat.new }
+    ensures stands { Stands table.now seat.new }
+    ensures works { WorksAt frame seat.old.me.0 seat.new.me.0 }
+    ensures marks { SameMarks seat.old.me.0 seat.new.me.0 }
+    ensures shares { IsSharing Output (packed_tag tag) (link seat.new.me.0 frame) }
+    ensures role { (link seat.new.me.0 frame).role ≡ (link seat.old.me.0 frame).role }
+    ensures done { OnTrue result ((link seat.new.me.0 frame).last_write ≡ Done) }
+    ensures calls { CallsLane result (lane_number tag (lanes_in table.now)) (packed_tag tag) page.now seat.old.me.0 seat.new.me.0 }
+    ensures met { seat.new.me.0.met ≡ met_lane_write result seat.old.me.0.met }
+{
+    let lane = lane_of(&tag, table.lanes());
+    table.take_turn(rt, seat, Turn::Lane(lane));
+    let mut out = table.lane_out(seat, lane);
+    let written = out.write(frame, tag, page);
+    table.lane_back(seat, lane, out);
+    table.leave_turn(seat, Turn::Lane(lane));
+    written.is_ok()
+}
+
+/// Flushes the log up to the position of the page that was copied, and writes the page.
+fn write_logged<L: BlockLane, G: LogDevice, R: Wait>(
+    table: &FrameTable<L, G>,
+    rt: &R,
+    seat: &mut Seat<Value<L, G>, View>,
+    frame: u32,
+    tag: Tag,
+    page: &Page,
+) -> Result<(), FlushError>
+    requires stands { Stands table.now seat.old }
+    requires inside { frame < frames_of table.now }
+    requires tag { names_block tag ≡ true }
+    requires block { has_block (relations_of table.now) tag ≡ true }
+    requires shares { IsSharing Output (packed_tag tag) (link seat.old.me.0 frame) }
+    requires copied { (link seat.old.me.0 frame).copied ≡ Some page.now }
+    ensures seat { SameSeat seat.old seat.new }
+    ensures stands { Stands table.now seat.new }
+    ensures works { WorksAt frame seat.old.me.0 seat.new.me.0 }
+    ensures marks { SameMarks seat.old.me.0 seat.new.me.0 }
+    ensures shares { IsSharing Output (packed_tag tag) (link seat.new.me.0 frame) }
+    ensures role { (link seat.new.me.0 frame).role ≡ (link seat.old.me.0 frame).role }
+    ensures done { IfOk result (λ _. (link seat.new.me.0 frame).last_write ≡ Done) }
+    ensures answer { WriteAnswer L.contents table.now (lane_number tag (lanes_in table.now)) tag page.now seat.old.me.0 seat.new.me.0 result }
+    ensures met { seat.new.me.0.met ≡ met_flushing result seat.old.me.0.met }
+{
+    if let Err(why) = flush_to(table, rt, seat, page.lsn()) {
+        return Err(FlushError::Log(why));
+    }
+    if write_lane(table, rt, seat, frame, tag, page) {
+        Ok(())
+    } else {
+        Err(FlushError::WriteFault { tag })
+    }
+}
+
+/// Copies the frame's page, and writes the copy, where the backend has the right to, and ends that.
+fn write_out<L: BlockLane, G: LogDevice, R: Wait>(
+    table: &FrameTable<L, G>,
+    rt: &R,
+    seat: &mut Seat<Value<L, G>, View>,
+    held: &HeldPins,
+    right: IoRight,
+    tag: Tag,
+    page: &mut Page,
+) -> Result<(), FlushError>
+    requires stands { Stands table.now seat.old }
+    requires others { LinksRestBeside right.frame held.now seat.old.me.0 }
+    requires inside { right.frame < frames_of table.now }
+    requires tag { names_block tag ≡ true }
+    requires block { has_block (relations_of table.now) tag ≡ true }
+    requires shares { IsSharing Output (packed_tag tag) (link seat.old.me.0 right.frame) }
+    requires begun { seat.old.me.0.had_output ≡ true }
+    ensures seat { SameSeat seat.old seat.new }
+    ensures stands { Stands table.now seat.new }
+    ensures works { WorksAt right.frame seat.old.me.0 seat.new.me.0 }
+    ensures shares { IsSharing Quiet (packed_tag tag) (link seat.new.me.0 right.frame) }
+    ensures role { (link seat.new.me.0 right.frame).role ≡ (link seat.old.me.0 right.frame).role }
+    ensures answer { CopiesAnd (λ p v w. WriteAnswer L.contents table.now (lane_number tag (lanes_in table.now)) tag p v w result) right.frame seat.old.me.0 seat.new.me.0 }
+    ensures met { seat.new.me.0.met ≡ met_flushing result seat.old.me.0.met }
+    ensures ended { IfErr result (λ _. EndedInError seat.new.me.0) }
+{
+    let frame = right.frame();
+    clear_just(table, rt, seat, held, frame, tag);
+    copy_out(table, rt, seat, frame, page);
+    match write_logged(table, rt, seat, frame, tag, page) {
+        Ok(()) => {
+            end_io(table, rt, seat, right, IoEnd::WriteOk);
+            Ok(())
+        }
+        Err(why) => {
+            end_io(table, rt, seat, right, IoEnd::Bad);
+            Err(why)
+        }
+    }
+}
+
+/// Writes the page of a frame whose content lock the backend shares, where it is dirty, and gives the lock up. False where it is clean.
+fn flush_shared<L: BlockLane, G: LogDevice, R: Wait>(
+    table: &FrameTable<L, G>,
+    rt: &R,
+    seat: &mut Seat<Value<L, G>, View>,
+    held: &HeldPins,
+    frame: u32,
+    tag: Tag,
+    page: &mut Page,
+) -> Result<bool, FlushError>
+    requires stands { Stands table.now seat.old }
+    requires others { LinksRestBeside frame held.now seat.old.me.0 }
+    requires inside { frame < frames_of table.now }
+    requires tag { names_block tag ≡ true }
+    requires block { has_block (relations_of table.now) tag ≡ true }
+    requires shares { IsSharing Quiet (packed_tag tag) (link seat.old.me.0 frame) }
+    ensures seat { SameSeat seat.old seat.new }
+    ensures stands { Stands table.now seat.new }
+    ensures works { WorksAt frame seat.old.me.0 seat.new.me.0 }
+    ensures pinned { IsPinned (packed_tag tag) (link seat.new.me.0 frame) }
+    ensures role { (link seat.new.me.0 frame).role ≡ (link seat.old.me.0 frame).role }
+    ensures seen { (link seat.new.me.0 frame).seen_valid ≡ true }
+    ensures answer { FlushAnswer L.contents table.now (lane_number tag (lanes_in table.now)) tag frame seat.old.me.0 seat.new.me.0 result }
+    ensures met { seat.new.me.0.met ≡ met_flushing result seat.old.me.0.met }
+    ensures ended { IfErr result (λ _. EndedInError seat.new.me.0) }
+{
+    let Some(right) = start_io(table, rt, seat, frame, false) else {
+        unshare(table, seat, frame);
+        return Ok(false);
+    };
+    let written = write_out(table, rt, seat, held, right, tag, page);
+    unshare(table, seat, frame);
+    match written {
+        Ok(()) => Ok(true),
+        Err(why) => Err(why),
+    }
+}
+
+/// Writes the page of a frame that the backend pins, where it is dirty, once the log is flushed up to its position (`FlushBuffer`). False where it is clean.
+pub fn flush_pinned<L: BlockLane, G: LogDevice, R: Wait>(
+    table: &FrameTable<L, G>,
+    rt: &R,
+    seat: &mut Seat<Value<L, G>, View>,
+    held: &HeldPins,
+    frame: u32,
+    tag: Tag,
+    page: &mut Page,
+) -> Result<bool, FlushError>
+    requires stands { Stands table.now seat.old }
+    requires others { LinksRestBeside frame held.now seat.old.me.0 }
+    requires inside { frame < frames_of table.now }
+    requires tag { names_block tag ≡ true }
+    requires block { has_block (relations_of table.now) tag ≡ true }
+    requires pinned { IsPinned (packed_tag tag) (link seat.old.me.0 frame) }
+    requires seen { (link seat.old.me.0 frame).seen_valid ≡ true }
+    ensures seat { SameSeat seat.old seat.new }
+    ensures stands { Stands table.now seat.new }
+    ensures works { WorksAt frame seat.old.me.0 seat.new.me.0 }
+    ensures pinned { IsPinned (packed_tag tag) (link seat.new.me.0 frame) }
+    ensures role { (link seat.new.me.0 frame).role ≡ (link seat.old.me.0 frame).role }
+    ensures seen { (link seat.new.me.0 frame).seen_valid ≡ true }
+    ensures answer { FlushAnswer L.contents table.now (lane_number tag (lanes_in table.now)) tag frame seat.old.me.0 seat.new.me.0 result }
+    ensures met { seat.new.me.0.met ≡ met_flushing result seat.old.me.0.met }
+    ensures ended { IfErr result (λ _. EndedInError seat.new.me.0) }
+{
+    share(table, rt, seat, frame);
+    flush_shared(table, rt, seat, held, frame, tag, page)
+}
+
+/// Writes the page of a frame of which callers have tokens (`FlushOneBuffer`). False where it is clean.
+pub fn flush_frame<L: BlockLane, G: LogDevice, R: Wait>(
+    table: &FrameTable<L, G>,
+    rt: &R,
+    seat: &mut Seat<Value<L, G>, View>,
+    held: &HeldPins,
+    frame: u32,
+    tag: Tag,
+    page: &mut Page,
+) -> Result<bool, FlushError>
+    requires stands { Stands table.now seat.old }
+    requires latches { HasNoLatch seat.old.me.0 }
+    requires rests { LinksRest held.now seat.old.me.0 }
+    requires pinned { IsPinnedFor tag frame held.now }
+    requires unlocked { (link seat.old.me.0 frame).content ≡ Unlocked }
+    requires inside { frame < frames_of table.now }
+    requires tag { names_block tag ≡ true }
+    requires block { has_block (relations_of table.now) tag ≡ true }
+    ensures seat { SameSeat seat.old seat.new }
+    ensures stands { Stands table.now seat.new }
+    ensures latches { HasNoLatch seat.new.me.0 }
+    ensures works { WorksAt frame seat.old.me.0 seat.new.me.0 }
+    ensures rests { LinksRest held.now seat.new.me.0 }
+    ensures unlocked { (link seat.new.me.0 frame).content ≡ Unlocked }
+    ensures answer { FlushAnswer L.contents table.now (lane_number tag (lanes_in table.now)) tag frame seat.old.me.0 seat.new.me.0 result }
+    ensures met { seat.new.me.0.met ≡ met_flushing result seat.old.me.0.met }
+    ensures ended { IfErr result (λ _. EndedInError seat.new.me.0) }
+{
+    flush_pinned(table, rt, seat, held, frame, tag, page)
+}
+
+/// Whether the ring gives a dirty victim up, so that it needn't be written: it came from the current place of a ring for bulk reads, and the log would have to be flushed for it.
+fn is_rejected<L: BlockLane, G: LogDevice, R: Wait>(
+    table: &FrameTable<L, G>,
+    rt: &R,
+    seat: &mut Seat<Value<L, G>, View>,
+    frame: u32,
+    _tag: Tag,
+    page: &mut Page,
+    ring: &mut Option<Ring>,
+    from_ring: bool,
+) -> bool
+    requires stands { Stands table.now seat.old }
+    requires inside { frame < frames_of table.now }
+    requires shares { IsSharing Quiet (packed_tag _tag) (link seat.old.me.0 frame) }
+    ensures seat { SameSeat seat.old seat.new }
+    ensures stands { Stands table.now seat.new }
+    ensures works { WorksAt frame seat.old.me.0 seat.new.me.0 }
+    ensures shares { IsSharing Quiet (packed_tag _tag) (link seat.new.me.0 frame) }
+    ensures role { (link seat.new.me.0 frame).role ≡ (link seat.old.me.0 frame).role }
+    ensures calls { Made [] seat.old.me.0 seat.new.me.0 }
+    ensures met { seat.new.me.0.met ≡ seat.old.me.0.met }
+    ensures rejected { OnTrue result (RejectsVictim frame from_ring ring.old ring.new seat.old.me.0 seat.new.me.0) }
+    ensures ring { OnFalse result (ring.new ≡ ring.old) }
+{
+    let Some(ring) = ring else {
+        return false;
+    };
+    if !from_ring || ring.kind() != RingKind::BulkRead {
+        return false;
+    }
+    copy_out(table, rt, seat, frame, page);
+    if page.lsn() <= table.load_flushed(seat) {
+        return false;
+    }
+    ring.reject(frame)
+}
+
+/// Writes a dirty victim, unless its content lock is refused or the ring gives it up. Whether it may be taken; else another one is to be chosen.
+pub fn flush_victim<L: BlockLane, G: LogDevice, R: Wait>(
+    table: &FrameTable<L, G>,
+    rt: &R,
+    seat: &mut Seat<Value<L, G>, View>,
+    held: &HeldPins,
+    frame: u32,
+    tag: Tag,
+    page: &mut Page,
+    ring: &mut Option<Ring>,
+    from_ring: bool,
+) -> Result<bool, FlushError>
+    requires stands { Stands table.now seat.old }
+    requires latches { HasNoLatch seat.old.me.0 }
+    requires victim { HasVictim frame held.now seat.old.me.0 }
+    requires inside { frame < frames_of table.now }
+    requires tag { names_block tag ≡ true }
+    requires block { has_block (relations_of table.now) tag ≡ true }
+    requires remembered { (link seat.old.me.0 frame).tag ≡ Some (packed_tag tag) }
+    ensures seat { SameSeat seat.old seat.new }
+    ensures stands { Stands table.now seat.new }
+    ensures latches { HasNoLatch seat.new.me.0 }
+    ensures works { WorksAt frame seat.old.me.0 seat.new.me.0 }
+    ensures victim { HasVictim frame held.now seat.new.me.0 }
+    ensures remembered { (link seat.new.me.0 frame).tag ≡ Some (packed_tag tag) }
+    ensures answer { VictimAnswer L.contents table.now (lane_number tag (lanes_in table.now)) tag frame from_ring ring.old ring.new seat.old.me.0 seat.new.me.0 result }
+    ensures calls { Calls IsNoRead seat.old.me.0 seat.new.me.0 }
+    ensures met { seat.new.me.0.met ≡ met_flushing result seat.old.me.0.met }
+    ensures ended { IfErr result (λ _. EndedInError seat.new.me.0) }
+{
+    if !has(table.look(seat, frame), Flag::Dirty) {
+        return Ok(true);
+    }
+    if let Err(_why) = try_share(table, seat, frame) {
+        return Ok(false);
+    }
+    if is_rejected(table, rt, seat, frame, tag, page, ring, from_ring) {
+        unshare(table, seat, frame);
+        return Ok(false);
+    }
+    match flush_shared(table, rt, seat, held, frame, tag, page) {
+        // Whether it was written now, or was clean by then, it may be taken.
+        Ok(_written) => Ok(true),
+        Err(why) => Err(why),
+    }
+}

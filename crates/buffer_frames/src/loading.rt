@@ -1,0 +1,194 @@
+//! A block's page comes into its frame.
+ghost use Rattle.std.specs.Prelude.{[], ◌≡◌, ◌∷◌, ◌<◌, Some, true, IfOk, OnOk};
+ghost use Rattle.std.specs.Bool.{OnTrue};
+ghost use Rattle.block_tag.specs.Names.{lane_number, names_block, packed_tag};
+ghost use Rattle.pin_core.specs.declared.view.DeviceCall.TheVariants.{LaneRead};
+ghost use Rattle.pin_core.specs.State.{link};
+ghost use Rattle.table_rule.specs.Blocks.{has_block};
+ghost use Rattle.frame_table.specs.Opened.{WasSoundAtOpening};
+ghost use Rattle.frame_table.specs.Seats.{Looked, SameSeat, frames_of, lanes_in, relations_of};
+ghost use Rattle.held_pins.specs.Rests.{HasNoLatch, LinksRestBeside, Stands};
+ghost use Rattle.buffer_frames.specs.Loading.{LoadShows, loading_calls, met_lane_read, met_loading, reading_calls};
+ghost use Rattle.buffer_frames.specs.Stages.{IsRead, IsReading, Pins};
+ghost use Rattle.buffer_frames.specs.Working.{Made, WorksAt};
+
+use atomic_table::Seat;
+use block_tag::{Tag, lane_of};
+use content_locks::{IoRight, end_io, page_back, page_out, start_io};
+use frame_table::{FrameTable, Turn, Value};
+use held_pins::HeldPins;
+use log_device::LogDevice;
+use page_layout::Page;
+use pin_core::View;
+use segment_store::BlockLane;
+use state_word::{Flag, IoEnd, has};
+use std::mem::replace;
+use std::sync::Wait;
+
+/// Why a page didn't come.
+#[derive(Clone, Copy, PartialEq, Eq, Debug)]
+pub enum LoadError {
+    /// The lane failed to read it.
+    ReadFault,
+    /// The lane gave a page that isn't sound.
+    Unsound,
+}
+
+/// Reads a block from its lane, for the frame. Whether the lane gave a page.
+fn read_lane<L: BlockLane, G: LogDevice, R: Wait>(
+    table: &FrameTable<L, G>,
+    rt: &R,
+    seat: &mut Seat<Value<L, G>, View>,
+    frame: u32,
+    tag: Tag,
+    page: &mut Page,
+) -> bool
+    requires stands { Stands table.now seat.old }
+    requires inside { frame < frames_of table.now }
+    requires tag { names_block tag ≡ true }
+    requires block { has_block (relations_of table.now) tag ≡ true }
+    requires reads { IsReading (packed_tag tag) (link seat.old.me.0 frame) }
+    ensures seat { SameSeat seat.old seat.new }
+    ensures stands { Stands table.now seat.new }
+    ensures works { WorksAt frame seat.old.me.0 seat.new.me.0 }
+    ensures reads { IsReading (packed_tag tag) (link seat.new.me.0 frame) }
+    ensures given { OnTrue result ((link seat.new.me.0 frame).read ≡ Some page.new) }
+    ensures calls { Made (LaneRead (lane_number tag (lanes_in table.now)) (packed_tag tag) result ∷ []) seat.old.me.0 seat.new.me.0 }
+    ensures met { seat.new.me.0.met ≡ met_lane_read result seat.old.me.0.met }
+{
+    let lane = lane_of(&tag, table.lanes());
+    table.take_turn(rt, seat, Turn::Lane(lane));
+    let mut out = table.lane_out(seat, lane);
+    let read = out.read(frame, tag, page);
+    table.lane_back(seat, lane, out);
+    table.leave_turn(seat, Turn::Lane(lane));
+    read.is_ok()
+}
+
+/// The page that the lane gave becomes the frame's, whose old page comes out in its place.
+fn put_page<L: BlockLane, G: LogDevice>(
+    table: &FrameTable<L, G>,
+    seat: &mut Seat<Value<L, G>, View>,
+    frame: u32,
+    _tag: Tag,
+    page: &mut Page,
+)
+    requires stands { Stands table.now seat.old }
+    requires inside { frame < frames_of table.now }
+    requires reads { IsReading (packed_tag _tag) (link seat.old.me.0 frame) }
+    requires given { (link seat.old.me.0 frame).read ≡ Some page.old }
+    ensures seat { SameSeat seat.old seat.new }
+    ensures stands { Stands table.now seat.new }
+    ensures works { WorksAt frame seat.old.me.0 seat.new.me.0 }
+    ensures reads { IsReading (packed_tag _tag) (link seat.new.me.0 frame) }
+    ensures given { (link seat.new.me.0 frame).read ≡ Some page.old }
+    ensures home { (link seat.new.me.0 frame).read_is_home ≡ true }
+    ensures calls { Made [] seat.old.me.0 seat.new.me.0 }
+    ensures met { seat.new.me.0.met ≡ seat.old.me.0.met }
+{
+    let out = page_out(table, seat, frame);
+    let given = replace(page, out);
+    page_back(table, seat, frame, given);
+}
+
+/// Loads the state word of a frame whose BM_VALID the pin has seen. It shows that the block's page was sound as the table was opened, where that is known.
+fn see_page<L: BlockLane, G: LogDevice>(
+    table: &FrameTable<L, G>,
+    seat: &mut Seat<Value<L, G>, View>,
+    frame: u32,
+    _tag: Tag,
+)
+    requires stands { Stands table.now seat.old }
+    requires inside { frame < frames_of table.now }
+    requires remembered { (link seat.old.me.0 frame).tag ≡ Some (packed_tag _tag) }
+    requires seen { (link seat.old.me.0 frame).seen_valid ≡ true }
+    ensures seat { SameSeat seat.old seat.new }
+    ensures stands { Stands table.now seat.new }
+    ensures works { WorksAt frame seat.old.me.0 seat.new.me.0 }
+    ensures link { Looked (link seat.old.me.0 frame) (link seat.new.me.0 frame) }
+    ensures calls { Made [] seat.old.me.0 seat.new.me.0 }
+    ensures met { seat.new.me.0.met ≡ seat.old.me.0.met }
+    ensures sound { WasSoundAtOpening L.contents table.now _tag }
+{
+    // What the word shows is known of the pin already: the load is for what it shows of the page.
+    table.look(seat, frame);
+}
+
+/// Reads a block into the frame, where the backend has the right to, and ends that.
+fn read_in<L: BlockLane, G: LogDevice, R: Wait>(
+    table: &FrameTable<L, G>,
+    rt: &R,
+    seat: &mut Seat<Value<L, G>, View>,
+    _held: &HeldPins,
+    right: IoRight,
+    tag: Tag,
+    page: &mut Page,
+) -> Result<(), LoadError>
+    requires stands { Stands table.now seat.old }
+    requires others { LinksRestBeside right.frame _held.now seat.old.me.0 }
+    requires inside { right.frame < frames_of table.now }
+    requires tag { names_block tag ≡ true }
+    requires block { has_block (relations_of table.now) tag ≡ true }
+    requires reads { IsReading (packed_tag tag) (link seat.old.me.0 right.frame) }
+    ensures seat { SameSeat seat.old seat.new }
+    ensures stands { Stands table.now seat.new }
+    ensures works { WorksAt right.frame seat.old.me.0 seat.new.me.0 }
+    ensures read { IsRead (packed_tag tag) (link seat.new.me.0 right.frame) }
+    ensures seen { IfOk result (λ _. (link seat.new.me.0 right.frame).seen_valid ≡ true) }
+    ensures calls { Made (reading_calls (lane_number tag (lanes_in table.now)) (packed_tag tag) result) seat.old.me.0 seat.new.me.0 }
+    ensures met { seat.new.me.0.met ≡ met_loading result seat.old.me.0.met }
+    ensures shows { LoadShows L.contents table.now tag result }
+{
+    let frame = right.frame();
+    if !read_lane(table, rt, seat, frame, tag, page) {
+        end_io(table, rt, seat, right, IoEnd::Bad);
+        return Err(LoadError::ReadFault);
+    }
+    if !page.is_sound() {
+        // While the page that the lane gave is noted, a load shows that the block had it from the start.
+        table.look(seat, frame);
+        end_io(table, rt, seat, right, IoEnd::Bad);
+        return Err(LoadError::Unsound);
+    }
+    put_page(table, seat, frame, tag, page);
+    end_io(table, rt, seat, right, IoEnd::ReadOk);
+    see_page(table, seat, frame, tag);
+    Ok(())
+}
+
+/// Reads a block into the frame that is pinned for it, unless the page is there already (`ReadBuffer_common`). Whether it was there: no lane was read then.
+pub fn load<L: BlockLane, G: LogDevice, R: Wait>(
+    table: &FrameTable<L, G>,
+    rt: &R,
+    seat: &mut Seat<Value<L, G>, View>,
+    held: &HeldPins,
+    frame: u32,
+    tag: Tag,
+    page: &mut Page,
+) -> Result<bool, LoadError>
+    requires stands { Stands table.now seat.old }
+    requires latches { HasNoLatch seat.old.me.0 }
+    requires pinned { Pins (packed_tag tag) frame held.now seat.old.me.0 }
+    requires inside { frame < frames_of table.now }
+    requires tag { names_block tag ≡ true }
+    requires block { has_block (relations_of table.now) tag ≡ true }
+    ensures seat { SameSeat seat.old seat.new }
+    ensures stands { Stands table.now seat.new }
+    ensures latches { HasNoLatch seat.new.me.0 }
+    ensures works { WorksAt frame seat.old.me.0 seat.new.me.0 }
+    ensures pinned { Pins (packed_tag tag) frame held.now seat.new.me.0 }
+    ensures seen { IfOk result (λ _. (link seat.new.me.0 frame).seen_valid ≡ true) }
+    ensures calls { Made (loading_calls (lane_number tag (lanes_in table.now)) (packed_tag tag) result) seat.old.me.0 seat.new.me.0 }
+    ensures met { seat.new.me.0.met ≡ met_loading result seat.old.me.0.met }
+    ensures shows { LoadShows L.contents table.now tag result }
+{
+    if has(table.look(seat, frame), Flag::Valid) {
+        return Ok(true);
+    }
+    let Some(right) = start_io(table, rt, seat, frame, true) else {
+        see_page(table, seat, frame, tag);
+        return Ok(true);
+    };
+    read_in(table, rt, seat, held, right, tag, page)?;
+    Ok(false)
+}

@@ -1,0 +1,115 @@
+//! A block is looked up.
+ghost use Rattle.std.specs.Prelude.{◌≡◌, ◌<◌, true, IfSome, IfNone, MatchOption};
+ghost use Rattle.block_tag.specs.Names.{names_block, packed_tag, partition_number};
+ghost use Rattle.pin_core.specs.declared.view.MapChange.TheVariants.{Settled};
+ghost use Rattle.pin_core.specs.State.{link};
+ghost use Rattle.pin_core.specs.Kinds as kinds;
+ghost use Rattle.frame_table.specs.Kinds.{pins};
+ghost use Rattle.frame_table.specs.FrameSteps.{Tried};
+ghost use Rattle.frame_table.specs.Seats.{Finds, Grows, Lacks, RemembersNoOther, SameSeat, frames_of};
+ghost use Rattle.map_partitions.specs.Partition.{HoldsLatch};
+ghost use Rattle.held_pins.specs.Rests.{HasNoLatch, HasOneLatch, LinksRest, Stands};
+ghost use Rattle.held_pins.specs.Tokens.{IsNew};
+ghost use Rattle.buffer_frames.specs.Lookups.{SeesAndPins, SeesNone, UnderPartition};
+ghost use Rattle.buffer_frames.specs.Outside.{outside_of};
+ghost use Rattle.buffer_frames.specs.Stages.{Pins};
+
+use atomic_table::Seat;
+use block_tag::Tag;
+use frame_table::{FrameTable, Pin, Value};
+use held_pins::HeldPins;
+use log_device::LogDevice;
+use map_partitions::{find, give_turn, take_turn};
+use pin_core::View;
+use segment_store::BlockLane;
+use std::sync::Wait;
+
+/// Pins the frame that a search of the map just gave for a block that callers have no pin of, under its partition's latch.
+pub(crate) fn pin_found<L: BlockLane, G: LogDevice, R: Wait>(
+    table: &FrameTable<L, G>,
+    rt: &R,
+    seat: &mut Seat<Value<L, G>, View>,
+    _held: &HeldPins,
+    tag: Tag,
+    frame: u32,
+    ring: bool,
+) -> Pin
+    requires stands { Stands table.now seat.old }
+    requires rests { LinksRest _held.now seat.old.me.0 }
+    requires tag { names_block tag ≡ true }
+    requires new { IsNew tag _held.now }
+    requires inside { frame < frames_of table.now }
+    requires finds { Finds seat.old.me.0 (packed_tag tag) frame }
+    requires remembers { RemembersNoOther (packed_tag tag) (link seat.old.me.0 frame) }
+    ensures seat { SameSeat seat.old seat.new }
+    ensures stands { Stands table.now seat.new }
+    ensures same { outside_of seat.new.me.0 ≡ outside_of seat.old.me.0 }
+    ensures partitions { seat.new.me.0.partitions ≡ seat.old.me.0.partitions }
+    ensures grows { Grows seat.old.me.0 seat.new.me.0 }
+    ensures frame { result.frame ≡ frame }
+    ensures pinned { Pins (packed_tag tag) frame _held.now seat.new.me.0 }
+    ensures did { Tried (pins (kinds.pin_mapped (packed_tag tag) ring)) frame seat.old.me.0 seat.new.me.0 true }
+{
+    table.pin(rt, seat, tag, frame, ring)
+}
+
+/// Searches the map for a block that callers have no pin of, and pins the frame that it gives, under its partition's latch.
+pub(crate) fn pin_mapped<L: BlockLane, G: LogDevice, R: Wait>(
+    table: &FrameTable<L, G>,
+    rt: &R,
+    seat: &mut Seat<Value<L, G>, View>,
+    held: &HeldPins,
+    tag: Tag,
+    ring: bool,
+) -> Option<Pin>
+    requires stands { Stands table.now seat.old }
+    requires rests { LinksRest held.now seat.old.me.0 }
+    requires latch { HasOneLatch (partition_number tag) seat.old.me.0 }
+    requires holds { HoldsLatch Settled seat.old.me.0 (partition_number tag) }
+    requires tag { names_block tag ≡ true }
+    requires new { IsNew tag held.now }
+    ensures seat { SameSeat seat.old seat.new }
+    ensures stands { Stands table.now seat.new }
+    ensures same { outside_of seat.new.me.0 ≡ outside_of seat.old.me.0 }
+    ensures grows { Grows seat.old.me.0 seat.new.me.0 }
+    ensures latch { HasOneLatch (partition_number tag) seat.new.me.0 }
+    ensures inside { IfSome result (λ p. p.frame < frames_of table.now) }
+    ensures pinned { IfSome result (λ p. Pins (packed_tag tag) p.frame held.now seat.new.me.0) }
+    ensures rests { IfNone result (LinksRest held.now seat.new.me.0) }
+    ensures lacks { IfNone result (Lacks seat.new.me.0 (packed_tag tag)) }
+    ensures did { MatchOption result (SeesNone tag seat.old.me.0 seat.new.me.0) (λ p. SeesAndPins tag p.frame ring seat.old.me.0 seat.new.me.0) }
+{
+    let frame = find(table, seat, &tag)?;
+    Some(pin_found(table, rt, seat, held, tag, frame, ring))
+}
+
+/// Looks a block up that callers have no pin of, and pins the frame that has it (`BufferAlloc`).
+pub(crate) fn look_up<L: BlockLane, G: LogDevice, R: Wait>(
+    table: &FrameTable<L, G>,
+    rt: &R,
+    seat: &mut Seat<Value<L, G>, View>,
+    held: &HeldPins,
+    tag: Tag,
+    ring: bool,
+) -> Option<Pin>
+    requires stands { Stands table.now seat.old }
+    requires rests { LinksRest held.now seat.old.me.0 }
+    requires latches { HasNoLatch seat.old.me.0 }
+    requires tag { names_block tag ≡ true }
+    requires new { IsNew tag held.now }
+    ensures seat { SameSeat seat.old seat.new }
+    ensures stands { Stands table.now seat.new }
+    ensures same { outside_of seat.new.me.0 ≡ outside_of seat.old.me.0 }
+    ensures grows { Grows seat.old.me.0 seat.new.me.0 }
+    ensures latches { HasNoLatch seat.new.me.0 }
+    ensures inside { IfSome result (λ p. p.frame < frames_of table.now) }
+    ensures pinned { IfSome result (λ p. Pins (packed_tag tag) p.frame held.now seat.new.me.0) }
+    ensures rests { IfNone result (LinksRest held.now seat.new.me.0) }
+    ensures did { MatchOption result (UnderPartition tag (SeesNone tag) seat.old.me.0 seat.new.me.0) (λ p. UnderPartition tag (SeesAndPins tag p.frame ring) seat.old.me.0 seat.new.me.0) }
+{
+    let partition = tag.partition();
+    take_turn(table, rt, seat, partition);
+    let pinned = pin_mapped(table, rt, seat, held, tag, ring);
+    give_turn(table, seat, partition);
+    pinned
+}

@@ -1,0 +1,172 @@
+//! A frame is freed for a block.
+ghost use Rattle.std.specs.Prelude.{◌≡◌, ◌<◌, Some, true, IfSome};
+ghost use Rattle.block_tag.specs.Names.{names_block, packed_tag};
+ghost use Rattle.pin_core.specs.State.{link};
+ghost use Rattle.table_rule.specs.Blocks.{has_block};
+ghost use Rattle.frame_table.specs.Seats.{Grows, SameSeat, frames_of, relations_of};
+ghost use Rattle.held_pins.specs.Rests.{Advances, HasNoLatch, LinksRest, Stands, kept_of};
+ghost use Rattle.held_pins.specs.Tokens.{IsNew};
+ghost use Rattle.buffer_frames.specs.Outside.{outside_of, ring_shape};
+ghost use Rattle.buffer_frames.specs.Stages.{HasVictim};
+ghost use Rattle.buffer_frames.specs.Victims.{ClaimAnswer, FreedAnswer, met_claimed, met_freed};
+ghost use Rattle.buffer_frames.specs.Working.{Calls, IsNoRead};
+
+use crate::choosing::{Chosen, choose};
+use crate::entering::{enter_or_pin, give_up};
+use crate::erasing::erase;
+use crate::flushing::{FlushError, flush_victim};
+use access_rings::Ring;
+use atomic_table::Seat;
+use block_tag::Tag;
+use clock_sweep::{Census, Sweep};
+use frame_table::{FrameTable, Pin, Value};
+use held_pins::HeldPins;
+use log_device::LogDevice;
+use page_layout::Page;
+use pin_core::View;
+use segment_store::BlockLane;
+use std::sync::Wait;
+use thiserror::Error;
+
+/// Why no frame was freed for a block.
+#[derive(Clone, Copy, PartialEq, Eq, Debug, Error)]
+pub enum VictimError {
+    /// Each of so many frames was seen pinned. The census has their words.
+    #[error("each of {frames} frames is pinned")]
+    NoUnpinned { frames: u32 },
+    /// The page of a dirty frame was not written.
+    #[error("{0}")]
+    Flush(FlushError),
+}
+
+/// What came of one try to free a frame.
+pub(crate) enum Freed {
+    /// The frame is a victim without a tag.
+    Ready(Pin),
+    /// Another victim is to be chosen.
+    Again,
+    Refused(VictimError),
+}
+
+/// The tag of a victim, if it has one.
+fn tag_of_victim<L: BlockLane, G: LogDevice>(
+    table: &FrameTable<L, G>,
+    seat: &mut Seat<Value<L, G>, View>,
+    _held: &HeldPins,
+    frame: u32,
+) -> Option<Tag>
+    requires stands { Stands table.now seat.old }
+    requires latches { HasNoLatch seat.old.me.0 }
+    requires victim { HasVictim frame _held.now seat.old.me.0 }
+    requires inside { frame < frames_of table.now }
+    ensures seat { SameSeat seat.old seat.new }
+    ensures stands { Stands table.now seat.new }
+    ensures same { outside_of seat.new.me.0 ≡ outside_of seat.old.me.0 }
+    ensures grows { Grows seat.old.me.0 seat.new.me.0 }
+    ensures latches { HasNoLatch seat.new.me.0 }
+    ensures victim { HasVictim frame _held.now seat.new.me.0 }
+    ensures tag { IfSome result (λ tag. names_block tag ≡ true) }
+    ensures block { IfSome result (λ tag. has_block (relations_of table.now) tag ≡ true) }
+    ensures remembered { IfSome result (λ tag. (link seat.new.me.0 frame).tag ≡ Some (packed_tag tag)) }
+{
+    table.load_tag(seat, frame)
+}
+
+/// One try to free a frame: chooses a victim and pins it, writes it where it is dirty, and takes its tag (`GetVictimBuffer`).
+fn make_victim<L: BlockLane, G: LogDevice, R: Wait>(
+    table: &FrameTable<L, G>,
+    rt: &R,
+    seat: &mut Seat<Value<L, G>, View>,
+    held: &HeldPins,
+    sweep: &Sweep,
+    census: &mut Census,
+    page: &mut Page,
+    ring: &mut Option<Ring>,
+) -> Freed
+    requires stands { Stands table.now seat.old }
+    requires rests { LinksRest held.now seat.old.me.0 }
+    requires latches { HasNoLatch seat.old.me.0 }
+    requires census { census.old.frames ≡ frames_of table.now }
+    ensures seat { SameSeat seat.old seat.new }
+    ensures stands { Stands table.now seat.new }
+    ensures latches { HasNoLatch seat.new.me.0 }
+    ensures room { census.new.frames ≡ census.old.frames }
+    ensures ring { ring_shape ring.new ≡ ring_shape ring.old }
+    ensures kept { kept_of seat.new.me.0 ≡ kept_of seat.old.me.0 }
+    ensures advances { Advances seat.old.me.0 seat.new.me.0 }
+    ensures answer { FreedAnswer L.contents table.now held.now census.new.words seat.old.me.0 seat.new.me.0 result }
+    ensures met { seat.new.me.0.met ≡ met_freed result seat.old.me.0.met }
+    ensures calls { Calls IsNoRead seat.old.me.0 seat.new.me.0 }
+{
+    let Chosen { pin, from_ring } = match choose(table, rt, seat, held, sweep, census, ring) {
+        Ok(chosen) => chosen,
+        Err(why) => {
+            return Freed::Refused(VictimError::NoUnpinned { frames: why.frames });
+        }
+    };
+    let frame = pin.frame();
+    let Some(tag) = tag_of_victim(table, seat, held, frame) else {
+        return Freed::Ready(pin);
+    };
+    match flush_victim(table, rt, seat, held, frame, tag, page, ring, from_ring) {
+        Ok(true) => {}
+        Ok(false) => {
+            give_up(table, rt, seat, held, pin);
+            return Freed::Again;
+        }
+        Err(why) => {
+            give_up(table, rt, seat, held, pin);
+            return Freed::Refused(VictimError::Flush(why));
+        }
+    }
+    if erase(table, rt, seat, held, frame, &tag) {
+        return Freed::Ready(pin);
+    }
+    give_up(table, rt, seat, held, pin);
+    Freed::Again
+}
+
+/// Frees a frame for a block and brings the block there, or pins the frame that another backend has brought it into meanwhile.
+pub(crate) fn claim<L: BlockLane, G: LogDevice, R: Wait>(
+    table: &FrameTable<L, G>,
+    rt: &R,
+    seat: &mut Seat<Value<L, G>, View>,
+    held: &HeldPins,
+    sweep: &Sweep,
+    census: &mut Census,
+    page: &mut Page,
+    tag: Tag,
+    ring: &mut Option<Ring>,
+) -> Result<Pin, VictimError>
+    requires stands { Stands table.now seat.old }
+    requires rests { LinksRest held.now seat.old.me.0 }
+    requires latches { HasNoLatch seat.old.me.0 }
+    requires census { census.old.frames ≡ frames_of table.now }
+    requires tag { names_block tag ≡ true }
+    requires block { has_block (relations_of table.now) tag ≡ true }
+    requires new { IsNew tag held.now }
+    ensures seat { SameSeat seat.old seat.new }
+    ensures stands { Stands table.now seat.new }
+    ensures latches { HasNoLatch seat.new.me.0 }
+    ensures room { census.new.frames ≡ census.old.frames }
+    ensures ring { ring_shape ring.new ≡ ring_shape ring.old }
+    ensures kept { kept_of seat.new.me.0 ≡ kept_of seat.old.me.0 }
+    ensures advances { Advances seat.old.me.0 seat.new.me.0 }
+    ensures answer { ClaimAnswer L.contents table.now (packed_tag tag) held.now census.new.words seat.old.me.0 seat.new.me.0 result }
+    ensures met { seat.new.me.0.met ≡ met_claimed result seat.old.me.0.met }
+    ensures calls { Calls IsNoRead seat.old.me.0 seat.new.me.0 }
+{
+    let ringed = ring.is_some();
+    for _ in rt.forever() {
+        match make_victim(table, rt, seat, held, sweep, census, page, ring) {
+            Freed::Ready(victim) => {
+                if let Some(pin) = enter_or_pin(table, rt, seat, held, sweep, victim, tag, ringed) {
+                    return Ok(pin);
+                }
+            }
+            Freed::Again => {}
+            Freed::Refused(why) => return Err(why),
+        }
+    }
+    unreachable!()
+}
