@@ -80,7 +80,7 @@ pub(crate) fn give_up<L: BlockLane, G: LogDevice, R: Wait>(
     ensures remembers { (tag f : ℕ) → RemembersNoOther tag (link seat.old.me.0 f) → RemembersNoOther tag (link seat.new.me.0 f) }
     ensures rests { LinksRest _held.now seat.new.me.0 }
 {
-    // No backend waits for its pin to be the only one yet, so the word that is left isn't needed.
+    // The word that is left tells whether a backend waits to be alone with the frame. It is not woken here yet.
     table.unpin(rt, seat, victim);
 }
 

@@ -103,7 +103,7 @@ fn give_back<L: BlockLane, G: LogDevice, R: Wait>(
     ensures touches { Touches pin.frame seat.old.me.0 seat.new.me.0 }
     ensures rests { LinksRest _held.now seat.new.me.0 }
 {
-    // No backend waits for its pin to be the only one yet, so the word that is left isn't needed.
+    // The word that is left tells whether a backend waits to be alone with the frame. It is not woken here yet.
     table.unpin(rt, seat, pin);
 }
 
