@@ -1,21 +1,19 @@
 -- Steps under the header of a frame that callers have no tokens of.
-use Rattle.std.proofs.Common.{◌≡◌, ◌≢◌, ℕ, Option, Some, None, true, false, sym, refl, ap, ◌∙◌, subst}
+use Rattle.std.proofs.Common.{◌≡◌, ◌≢◌, ℕ, Option, Some, None, true, sym, refl, ap, ◌∙◌, subst}
 use mathlib.Core.Logic.{dite}
 use native.Mathlib.Decide.{ℕ_discrete}
 use Rattle.state_word.specs.declared.word.StateWord.{StateWord}
 use Rattle.state_word.specs.Fields.{fields}
 use Rattle.pin_core.specs.declared.view.Link.{Link}
 use Rattle.pin_core.specs.declared.view.View.{View}
-use Rattle.pin_core.specs.declared.view.Role.{Role}
-use Rattle.pin_core.specs.declared.view.Role.TheVariants.{Absent, HandedOut, Victim}
-use Rattle.pin_core.specs.declared.view.Content.TheVariants.{Unlocked}
+use Rattle.pin_core.specs.declared.view.Role.TheVariants.{Absent, Victim}
 use Rattle.pin_core.specs.State.{link}
 use Rattle.pin_core.specs.Steps.{HasNoVictim, HoldsNoHeader}
-use Rattle.frame_table.specs.Seats.{HasRoom, HoldsNumber, HoldsWord, IsWordOf, Looked, assigned_link, cleared_link, locked_link, stored_link, unlocked_link, victim_link}
+use Rattle.frame_table.specs.Seats.{HoldsNumber, HoldsWord, IsWordOf, Looked, assigned_link, cleared_link, locked_link, stored_link, unlocked_link, victim_link}
 use Rattle.clock_sweep.specs.Keeping.{GetsHeader}
-use Rattle.held_pins.specs.Rests.{IsCalm, LinkRests, LinksRest, LinksRestBeside}
-use Rattle.held_pins.specs.Tokens.{HeldFrame, Tokens, held_at}
-use Rattle.held_pins.proofs.Keeping.{beside, beside_kept, beside_looked, calm_looked, link_same}
+use Rattle.held_pins.specs.Rests.{IsCalm, LinksRest, LinksRestBeside}
+use Rattle.held_pins.specs.Tokens.{Tokens, held_at}
+use Rattle.held_pins.proofs.Keeping.{beside, beside_kept, beside_looked, link_same}
 use Rattle.buffer_frames.specs.Stages.{HasVictim, Pins}
 use Rattle.buffer_frames.proofs.Calm.{none_absent, not_victim}
 

@@ -1,5 +1,5 @@
 -- Latches of partitions are taken and left.
-use Rattle.std.proofs.Common.{◌≡◌, ◌≢◌, ℕ, List, Option, Some, None, true, false, sym, refl, ap, ◌∙◌, subst, get_or}
+use Rattle.std.proofs.Common.{◌≡◌, ◌≢◌, ℕ, List, Some, None, true, false, sym, ap, ◌∙◌, subst, get_or}
 use mathlib.Core.Logic.{dite}
 use native.Mathlib.Decide.{ℕ_discrete}
 use Rattle.block_tag.specs.declared.tag.Tag.{Tag}

@@ -2,7 +2,7 @@
 use Rattle.std.proofs.Common.{◌≡◌, ℕ, List, [], ◌++◌, refl, sym, ap, ◌∙◌, append_assoc}
 use Rattle.std.proofs.lemmas.List.{append-nil}
 use Rattle.std.proofs.lemmas.List.Elements.{All-append, All-nil}
-use Rattle.std.specs.Prelude.{Ok, Err, Option, Bool, true, false, Result, MatchResult}
+use Rattle.std.specs.Prelude.{Ok, Err, Option, Bool, true, false, Result}
 use Rattle.segment_store.specs.Contents.{Pages}
 use Rattle.block_tag.specs.declared.tag.Tag.{Tag}
 use Rattle.pin_core.specs.declared.view.DeviceCall.{DeviceCall}
@@ -10,14 +10,13 @@ use Rattle.pin_core.specs.declared.view.View.{View}
 use Rattle.access_rings.specs.RingState.{RingState}
 use Rattle.frame_table.specs.declared.pin.Pin.{Pin}
 use Rattle.frame_table.specs.declared.table.FrameTable.{FrameTable}
-use Rattle.wal_flush.specs.declared.flushes.FlushLog.{FlushLog}
 use Rattle.held_pins.specs.Rests.{Advances, LinksRest}
 use Rattle.held_pins.specs.Tokens.{Tokens}
 use Rattle.held_pins.proofs.Advancing.{advances_none, advances_on}
 use Rattle.buffer_frames.specs.declared.flushing.FlushError.{FlushError}
 use Rattle.buffer_frames.specs.declared.victims.VictimError.{VictimError}
 use Rattle.buffer_frames.specs.declared.victims.VictimError.TheVariants.{Flush, NoUnpinned}
-use Rattle.buffer_frames.specs.Flushing.{EndedInError, SparesVictim, VictimAnswer, locked, rejected}
+use Rattle.buffer_frames.specs.Flushing.{EndedInError, VictimAnswer, locked, rejected}
 use Rattle.buffer_frames.specs.Outside.{outside_of, ring_shape}
 use Rattle.buffer_frames.specs.Victims.{AllPinned, ClaimAnswer, FindsAllPinned, LeavesDirty, VictimRefused}
 use Rattle.buffer_frames.specs.Working.{Calls}

@@ -1,22 +1,13 @@
 -- What calls that work at frames and maps leave of a view, as one equation, and what follows of it.
-use Rattle.std.proofs.Common.{◌≡◌, ◌≢◌, ℕ, ◌+◌, ◌≤◌, List, [], ◌++◌, Option, Some, None, true, false, Bool, get_or, sym, refl, ap, ◌∙◌, subst, arith, length-set}
-use Rattle.std.specs.Prelude.{IfNone, IfSome, MatchOption}
-use Rattle.std.proofs.lemmas.List.{append-nil}
+use Rattle.std.proofs.Common.{◌≡◌, ℕ, [], Option, Some, None, true, false, Bool, sym, refl, ap, ◌∙◌, arith, length-set}
 use Rattle.atomic_table.specs.declared.shared.Seat.{Seat}
-use Rattle.pin_core.specs.declared.view.DeviceCall.{DeviceCall}
-use Rattle.pin_core.specs.declared.view.LaneHold.{LaneHold}
-use Rattle.pin_core.specs.declared.view.Link.{Link}
-use Rattle.pin_core.specs.declared.view.Load.{Load}
-use Rattle.pin_core.specs.declared.view.LogHold.{LogHold}
-use Rattle.pin_core.specs.declared.view.Met.{Met}
 use Rattle.pin_core.specs.declared.view.View.{View}
-use Rattle.pin_core.specs.declared.view.WordChange.{WordChange}
-use Rattle.pin_core.specs.State.{hold, idle, lane_hold, link, no_lane, no_log}
+use Rattle.pin_core.specs.State.{lane_hold}
 use Rattle.table_rule.specs.declared.value.Value.{Value}
 use Rattle.frame_table.specs.declared.table.FrameTable.{FrameTable}
-use Rattle.frame_table.specs.Seats.{Grows, SameMarks, SameSeat, SameSelf, self_of, view_marks}
-use Rattle.frame_table.specs.Latches.{SameWork, work_of}
-use Rattle.clock_sweep.specs.Keeping.{SameAside, aside_of}
+use Rattle.frame_table.specs.Seats.{Grows, SameMarks, SameSeat, SameSelf}
+use Rattle.frame_table.specs.Latches.{SameWork}
+use Rattle.clock_sweep.specs.Keeping.{SameAside}
 use Rattle.held_pins.specs.Rests.{Advances, HasNoDevice, Stands, kept_of}
 use Rattle.access_rings.specs.RingState.{RingState, ring_after_keep, ring_after_rejection}
 use Rattle.clock_sweep.specs.Choosing.{ring_gone_on, ring_keeping}

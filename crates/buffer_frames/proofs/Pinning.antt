@@ -1,5 +1,5 @@
 -- Frames that a map gives, and pins.
-use Rattle.std.proofs.Common.{◌≡◌, ◌≢◌, ℕ, List, Option, Some, None, Bool, sym, refl, ap, ◌∙◌, subst}
+use Rattle.std.proofs.Common.{◌≡◌, ◌≢◌, ℕ, Option, Some, None, Bool, refl, ap, ◌∙◌}
 use Rattle.std.specs.Prelude.{option_map}
 use Rattle.block_tag.specs.declared.tag.Tag.{Tag}
 use Rattle.block_tag.specs.Names.{packed_tag}
@@ -7,7 +7,7 @@ use Rattle.pin_core.specs.declared.view.Link.{Link}
 use Rattle.pin_core.specs.declared.view.View.{View}
 use Rattle.pin_core.specs.State.{link}
 use Rattle.frame_table.specs.Seats.{Looked, RemembersNoOther, mapped_link}
-use Rattle.held_pins.specs.Rests.{IsCalm, LinkRests, LinksRest}
+use Rattle.held_pins.specs.Rests.{IsCalm, LinksRest}
 use Rattle.held_pins.specs.Tokens.{HeldFrame, IsNew, Tokens, held_at}
 use Rattle.buffer_frames.specs.Stages.{Pins}
 use Rattle.held_pins.proofs.Keeping.{beside, beside_kept, calm_looked}

@@ -1,5 +1,5 @@
 -- What calls that work at frames, and at the maps, leave of a view.
-use Rattle.std.specs.Prelude.{◌≡◌, ℕ, List, [], length, Option, option_map}
+use Rattle.std.specs.Prelude.{ℕ, [], length, Option, option_map}
 use Rattle.pin_core.specs.declared.view.View.{View}
 use Rattle.access_rings.specs.declared.ring.RingKind.{RingKind}
 use Rattle.access_rings.specs.RingState.{RingState}

@@ -11,13 +11,11 @@ use Rattle.table_rule.specs.Blocks.{has_block}
 use Rattle.frame_table.specs.declared.pin.Pin.{Pin}
 use Rattle.frame_table.specs.declared.table.FrameTable.{FrameTable}
 use Rattle.frame_table.specs.Seats.{frames_of, lanes_in, relations_of}
-use Rattle.wal_flush.specs.declared.flushes.FlushLog.TheVariants.{LogDown, LogFault, LogShort}
 use Rattle.clock_sweep.specs.Choosing.{FindsNone}
 use Rattle.clock_sweep.specs.Keeping.{SamePins}
 use Rattle.held_pins.specs.Rests.{Advances, LinksRest}
 use Rattle.held_pins.specs.Tokens.{Tokens}
 use Rattle.buffer_frames.specs.declared.flushing.FlushError.{FlushError}
-use Rattle.buffer_frames.specs.declared.flushing.FlushError.TheVariants.{Log, WriteFault}
 use Rattle.buffer_frames.specs.declared.victims.Freed.{Freed}
 use Rattle.buffer_frames.specs.declared.victims.Freed.TheVariants.{Again, Ready, Refused}
 use Rattle.buffer_frames.specs.declared.victims.VictimError.{VictimError}

@@ -1,4 +1,3 @@
-use Rattle.std.proofs.Common.{refl, sym, ◌∙◌}
 use Rattle.frame_table.proofs.Told.{grows_on}
 use Rattle.buffer_frames.proofs.Heading.{victim_pinned}
 use Rattle.buffer_frames.proofs.Outside.{shape_keeping}

@@ -1,6 +1,6 @@
 use Rattle.block_tag.specs.Names.{packed_tag}
 use Rattle.frame_table.proofs.Told.{grows_on}
-use Rattle.buffer_frames.proofs.Latching.{finds_same, remembers_unpinned}
+use Rattle.buffer_frames.proofs.Latching.{finds_same}
 use Rattle.buffer_frames.proofs.entering.pin_other.Goals as goal
 
 pub returns-clause-grows : goal.returns-clause-grows

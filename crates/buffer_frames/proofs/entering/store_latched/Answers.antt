@@ -1,11 +1,9 @@
-use Rattle.std.proofs.Common.{ap, sym, subst, ◌∙◌, ◌≡◌, refl, rules, true, false}
-use Rattle.block_tag.specs.Names.{packed_tag, partition_number}
-use Rattle.state_word.specs.declared.word.StateWord.{StateWord}
-use Rattle.pin_core.specs.State.{link}
+use Rattle.std.proofs.Common.{◌∙◌, refl, rules, false}
+use Rattle.block_tag.specs.Names.{packed_tag}
 use Rattle.frame_table.specs.Seats.{HasFlag}
 use Rattle.frame_table.proofs.Told.{grows_on}
 use Rattle.held_pins.proofs.Keeping.{same_on}
-use Rattle.buffer_frames.proofs.Heading.{knows_word, number_stored, pins_assigned, victim_unlocked}
+use Rattle.buffer_frames.proofs.Heading.{knows_word, pins_assigned, victim_unlocked}
 use Rattle.buffer_frames.proofs.Latching.{holds_named, lacks_same, latch_changed, may_change}
 use Rattle.buffer_frames.proofs.Outside.{links_worked, outside_step, outside_worked, stands_outside}
 use Rattle.buffer_frames.proofs.entering.store_latched.Goals as goal

@@ -1,5 +1,5 @@
-use Rattle.std.proofs.Common.{ap, sym, subst, ◌∙◌, ◌≡◌, refl, rules, true, false}
-use Rattle.block_tag.specs.Names.{packed_tag, partition_number}
+use Rattle.std.proofs.Common.{sym, subst, ◌∙◌, ◌≡◌, refl, rules, true, false}
+use Rattle.block_tag.specs.Names.{packed_tag}
 use Rattle.state_word.specs.declared.word.StateWord.{StateWord}
 use Rattle.pin_core.specs.declared.view.MapChange.{MapChange}
 use Rattle.pin_core.specs.State.{link}

@@ -1,5 +1,4 @@
-use Rattle.std.proofs.Common.{ap, sym, subst, ◌∙◌}
-use Rattle.block_tag.specs.Names.{packed_tag, partition_number}
+use Rattle.block_tag.specs.Names.{packed_tag}
 use Rattle.frame_table.specs.declared.pin.Pin.{Pin}
 use Rattle.frame_table.proofs.Told.{grows_on}
 use Rattle.held_pins.proofs.Keeping.{links_same}

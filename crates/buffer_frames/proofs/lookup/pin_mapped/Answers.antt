@@ -1,5 +1,5 @@
-use Rattle.std.proofs.Common.{ap, sym, ◌∙◌}
-use Rattle.block_tag.specs.Names.{packed_tag, partition_number}
+use Rattle.std.proofs.Common.{sym, ◌∙◌}
+use Rattle.block_tag.specs.Names.{partition_number}
 use Rattle.frame_table.proofs.Told.{grows_on}
 use Rattle.map_partitions.specs.Partition.{entries_seen}
 use Rattle.held_pins.proofs.Keeping.{links_same}

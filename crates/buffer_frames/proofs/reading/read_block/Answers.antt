@@ -1,9 +1,6 @@
-use Rattle.std.proofs.Common.{ap, ◌∙◌}
-use Rattle.pin_core.specs.declared.view.Met.{Met}
 use Rattle.held_pins.proofs.Advancing.{advances_on}
-use Rattle.buffer_frames.specs.Working.{met_read}
 use Rattle.buffer_frames.proofs.Locating.{locates_given, locates_worked}
-use Rattle.buffer_frames.proofs.Outside.{grows_outside, kept_outside, met_outside}
+use Rattle.buffer_frames.proofs.Outside.{grows_outside}
 use Rattle.buffer_frames.proofs.reading.read_block.Goals as goal
 
 pub returns-in-Err-ReadFault-clause-advances : goal.returns-in-Err-ReadFault-clause-advances

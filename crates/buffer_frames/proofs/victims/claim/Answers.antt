@@ -1,5 +1,4 @@
 use Rattle.std.proofs.Common.{◌∙◌}
-use Rattle.pin_core.specs.declared.view.Met.{Met}
 use Rattle.held_pins.proofs.Advancing.{advances_on}
 use Rattle.held_pins.proofs.Keeping.{same_on}
 use Rattle.buffer_frames.proofs.Noting.{calls_by, calls_on, refused_from}
