@@ -1,0 +1,232 @@
+-- A pass reads a block.
+use Rattle.std.proofs.Common.{◌≡◌, ◌≢◌, ◌<◌, ◌≤◌, ◌+◌, ℕ, List, Option, Some, None, Result, Ok, Err, refl, sym, ap, ◌∙◌, subst, true, arith}
+use Rattle.std.specs.Prelude.{IfOk, option_map}
+use mathlib.Core.Logic.{dite}
+use native.Mathlib.Decide.{ℕ_discrete}
+use Rattle.block_tag.specs.declared.catalogue.RelEntry.{RelEntry}
+use Rattle.block_tag.specs.declared.tag.Tag.{Tag}
+use Rattle.block_tag.specs.Names.{lane_number, names_block, packed_tag, unpacked_tag}
+use Rattle.segment_store.specs.Contents.{Pages}
+use Rattle.pin_core.specs.declared.view.Met.{Met}
+use Rattle.pin_core.specs.declared.view.View.{View}
+use Rattle.pin_core.specs.State.{link}
+use Rattle.table_rule.specs.Blocks.{has_block, has_named, is_block}
+use Rattle.table_rule.proofs.Tags.{packed_is}
+use Rattle.frame_table.specs.declared.table.FrameTable.{FrameTable}
+use Rattle.frame_table.specs.Opened.{WasSoundAtOpening}
+use Rattle.frame_table.specs.Seats.{base_of, frames_of, lanes_in, relations_of}
+use Rattle.wal_flush.specs.declared.flushes.FlushLog.TheVariants as log
+use Rattle.held_pins.specs.Tokens.{HeldFrame, IsNew, IsPinnedFor, Tokens, held_at, tokens_more, tokens_with}
+use Rattle.held_pins.specs.Rests.{Advances, HasNoDevice, HasNoLatch, LinksRest, Rests, kept_of}
+use Rattle.held_pins.proofs.HeldLists.{more_tags, with_here, with_past}
+use Rattle.held_pins.proofs.Keeping.{rests_more, rests_more_pinned}
+use Rattle.buffer_frames.specs.declared.flushing.FlushError.TheVariants as flush
+use Rattle.buffer_frames.specs.declared.victims.VictimError.TheVariants as victim
+use Rattle.buffer_frames.specs.declared.reading.BlockError.{BlockError}
+use Rattle.buffer_frames.specs.declared.reading.BlockError.TheVariants as block
+use Rattle.buffer_frames.specs.Reads.{ReadAnswer, ReadCalls, met_read_block}
+use Rattle.buffer_frames.specs.Stages.{Pins}
+use Rattle.backend_pass.specs.declared.errors.ReadError.{ReadError}
+use Rattle.backend_pass.specs.declared.errors.ReadError.TheVariants.{PastEnd, PinsFull, NoUnpinned, ReadFault, WriteFault, LogFault, LogDown, LogShort, Unsound}
+use Rattle.backend_pass.specs.declared.manager.Manager.{Manager}
+use Rattle.backend_pass.specs.declared.met.Shown.{Shown}
+use Rattle.backend_pass.specs.declared.pinned.Pinned.{Pinned}
+use Rattle.backend_pass.specs.Managers.{Belongs}
+use Rattle.backend_pass.specs.Passes.{IsNumbered, IsShown, KeepsCalls, PassState, SamePass, shown_count}
+use Rattle.backend_pass.specs.Reading.{ReadingCalls, ReadingRefused, ReadsBlock, met_read_refused, read_refusal, shown_after}
+
+some_same : {A : Type 0} (x y : A) → Some x ≡ Some y → x ≡ y
+some_same x y e = cc
+
+some_none : {A : Type 0} (x : A) → Some x ≡ None → ⊥
+some_none x e = cc
+
+-- the number, and what is shown
+pub numbered_kept : (number id : ℕ) (v w : View) → kept_of w ≡ kept_of v → IsNumbered number id v → IsNumbered number id w
+numbered_kept number id v w e n = record { number_is = ap (λ (x : View). x.number) e ∙ n.number_is; first = n.first }
+
+pub shown_met : (v w : View) (s : Shown) → w.front ≡ v.front → w.met ≡ v.met → IsShown v s → IsShown w s
+shown_met v w s front met n = record {
+  front = n.front ∙ sym front;
+  reads = n.reads ∙ ap (λ (m : Met). shown_count m.reads) (sym met);
+  writes = n.writes ∙ ap (λ (m : Met). shown_count m.writes) (sym met);
+  logs = n.logs ∙ ap (λ (m : Met). shown_count m.logs) (sym met);
+}
+
+-- one fault more
+count_on : (n k : ℕ) → k ≡ shown_count n → shown_count (k + 1) ≡ shown_count (n + 1)
+count_on n k e = omega arith
+
+pub shown_refused : (v w : View) (s : Shown) (why : ReadError) → w.front ≡ v.front → w.met ≡ met_read_refused why v.met → IsShown v s → IsShown w (shown_after why s)
+shown_refused v w s (PastEnd block blocks) front met n = shown_met v w s front met n
+shown_refused v w s PinsFull front met n = shown_met v w s front met n
+shown_refused v w s (NoUnpinned frames) front met n = shown_met v w s front met n
+shown_refused v w s (ReadFault tag) front met n = record {
+  front = n.front ∙ sym front;
+  reads = count_on v.met.reads s.met.reads n.reads ∙ ap (λ (m : Met). shown_count m.reads) (sym met);
+  writes = n.writes ∙ ap (λ (m : Met). shown_count m.writes) (sym met);
+  logs = n.logs ∙ ap (λ (m : Met). shown_count m.logs) (sym met);
+}
+shown_refused v w s (WriteFault tag) front met n = record {
+  front = n.front ∙ sym front;
+  reads = n.reads ∙ ap (λ (m : Met). shown_count m.reads) (sym met);
+  writes = count_on v.met.writes s.met.writes n.writes ∙ ap (λ (m : Met). shown_count m.writes) (sym met);
+  logs = n.logs ∙ ap (λ (m : Met). shown_count m.logs) (sym met);
+}
+shown_refused v w s LogFault front met n = record {
+  front = n.front ∙ sym front;
+  reads = n.reads ∙ ap (λ (m : Met). shown_count m.reads) (sym met);
+  writes = n.writes ∙ ap (λ (m : Met). shown_count m.writes) (sym met);
+  logs = count_on v.met.logs s.met.logs n.logs ∙ ap (λ (m : Met). shown_count m.logs) (sym met);
+}
+shown_refused v w s (LogDown at) front met n = shown_met v w s front met n
+shown_refused v w s (LogShort lsn end) front met n = shown_met v w s front met n
+shown_refused v w s (Unsound tag) front met n = shown_met v w s front met n
+
+-- the faults of the frames' refusal are those of the pass's
+pub met_of_refusal : (why : BlockError) (m : Met) → met_read_block (Err why) m ≡ met_read_refused (read_refusal why) m
+met_of_refusal (block.NoFrame (victim.NoUnpinned frames)) m = refl
+met_of_refusal (block.NoFrame (victim.Flush (flush.WriteFault tag))) m = refl
+met_of_refusal (block.NoFrame (victim.Flush (flush.Log log.LogFault))) m = refl
+met_of_refusal (block.NoFrame (victim.Flush (flush.Log (log.LogDown at)))) m = refl
+met_of_refusal (block.NoFrame (victim.Flush (flush.Log (log.LogShort lsn end)))) m = refl
+met_of_refusal (block.ReadFault tag) m = refl
+met_of_refusal (block.Unsound tag) m = refl
+
+-- and so are its calls
+pub calls_of_refusal : (q : ℕ) (tag : Tag) (v w : View) (why : BlockError) → ReadCalls q tag v w (Err why) → ReadingCalls q tag v w (Err (read_refusal why))
+calls_of_refusal q tag v w (block.NoFrame (victim.NoUnpinned frames)) c = c
+calls_of_refusal q tag v w (block.NoFrame (victim.Flush (flush.WriteFault failed))) c = c
+calls_of_refusal q tag v w (block.NoFrame (victim.Flush (flush.Log log.LogFault))) c = c
+calls_of_refusal q tag v w (block.NoFrame (victim.Flush (flush.Log (log.LogDown at)))) c = c
+calls_of_refusal q tag v w (block.NoFrame (victim.Flush (flush.Log (log.LogShort lsn end)))) c = c
+calls_of_refusal q tag v w (block.ReadFault failed) c = c
+calls_of_refusal q tag v w (block.Unsound failed) c = c
+
+-- what rests after a read
+pub rests_pinned : (tag f : ℕ) (t : Tokens) (w : View) → HasNoDevice w → HasNoLatch w → Pins tag f t w → (link w f).seen_valid ≡ true → Rests (tokens_with f tag t) w
+rests_pinned tag f t w quiet latches p seen = record {
+  quiet = quiet;
+  links = rests_more_pinned f tag t w p.new p.others record {
+    calm = p.calm;
+    role = p.role;
+    tag = p.remembered;
+    seen = λ some. seen;
+    unlocked = λ none. absurd (some_none (record { frame = f; tag = tag; tokens = 1 }) none);
+  };
+  latches = latches;
+}
+
+pub rests_again : (f : ℕ) (t : Tokens) (v : View) → Rests t v → Rests (tokens_more f t) v
+rests_again f t v r = record { quiet = r.quiet; links = rests_more f t v r.links; latches = r.latches }
+
+-- it is the same pass
+pub same_kept : (p q : PassState) → q.table ≡ p.table → q.id ≡ p.id → q.census.frames ≡ p.census.frames → kept_of q.view ≡ kept_of p.view → Advances p.view q.view → SamePass p q
+same_kept p q table id census e advances = record {
+  table = table;
+  id = id;
+  frames = census;
+  number = ap (λ (x : View). x.number) e;
+  next = ap (λ (x : View). x.next) e;
+  joined = ap (λ (x : View). x.joined) e;
+  kept = ap (λ (x : View). x.kept) e;
+  upto = ap (λ (x : View). x.upto) e;
+  advances = advances;
+}
+
+pub calls_kept : (p q : PassState) → kept_of q.view ≡ kept_of p.view → KeepsCalls p q
+calls_kept p q e = record { calls = ap (λ (x : View). x.calls) e; front = ap (λ (x : View). x.front) e; place_loads = ap (λ (x : View). x.place_loads) e }
+
+-- the tag of a number
+packed_same : (a b : Tag) → packed_tag a ≡ packed_tag b → names_block a ≡ true → names_block b ≡ true → a ≡ b
+packed_same a b e named other = some_same a b (sym (packed_is a named) ∙ ap unpacked_tag e ∙ packed_is b other)
+
+block_of_tag : (relations : List RelEntry) (tag : Tag) → names_block tag ≡ true → has_block relations tag ≡ true → is_block relations (packed_tag tag) ≡ true
+unfolding is_block
+block_of_tag relations tag named listed = ap (has_named relations) (packed_is tag named) ∙ listed
+
+-- a frame of the tokens with a new one
+pub pinned_first : (tag : Tag) (f : ℕ) (t : Tokens) → held_at t f ≡ None → IsPinnedFor tag f (tokens_with f (packed_tag tag) t)
+pinned_first tag f t none = let h : HeldFrame = record { frame = f; tag = packed_tag tag; tokens = 1 } in record { held = h; there = with_here t h f refl none; same = refl }
+
+module _ {L G : Type 0} (contents : L → Option Pages) (t : FrameTable L G) where
+  -- why a block was not read
+  refused_as : (tag : Tag) (held : Tokens) (words : List ℕ) (p q : PassState) (why : BlockError) → words ≡ q.census.words → ReadAnswer contents t tag held words p.view q.view (Err why) → LinksRest held q.view × ReadingRefused contents t tag p q (read_refusal why)
+  refused_as tag held words p q (block.NoFrame (victim.NoUnpinned frames)) e a = subst (λ (ws : List ℕ). ReadAnswer contents t tag held ws p.view q.view (Err (block.NoFrame (victim.NoUnpinned frames)))) e a
+  refused_as tag held words p q (block.NoFrame (victim.Flush (flush.WriteFault failed))) e a = a
+  refused_as tag held words p q (block.NoFrame (victim.Flush (flush.Log log.LogFault))) e a = a
+  refused_as tag held words p q (block.NoFrame (victim.Flush (flush.Log (log.LogDown at)))) e a = a
+  refused_as tag held words p q (block.NoFrame (victim.Flush (flush.Log (log.LogShort lsn end)))) e a = a
+  refused_as tag held words p q (block.ReadFault failed) e a = a
+  refused_as tag held words p q (block.Unsound failed) e a = (a.0, (a.1, a.2))
+
+  pub refused_reads : (tag : Tag) (a p q : PassState) (why : BlockError) (answer : ReadError) → a ≡ p → answer ≡ read_refusal why → q.tokens ≡ a.tokens → ReadAnswer contents t tag a.tokens q.census.words a.view q.view (Err why)
+      → ReadCalls (lane_number tag (lanes_in t)) tag a.view q.view (Err why) → ReadsBlock contents t tag p q (Err answer)
+  refused_reads tag a p q why answer same is tokens r calls = subst (λ (x : PassState). ReadsBlock contents t tag x q (Err answer)) same (subst (λ (y : ReadError). ReadsBlock contents t tag a q (Err y)) (sym is) record {
+    answer = (tokens, (refused_as tag a.tokens q.census.words a q why refl r).1);
+    calls = calls_of_refusal (lane_number tag (lanes_in t)) tag a.view q.view why calls;
+  })
+
+  pub links_refused : (tag : Tag) (held : Tokens) (words : List ℕ) (v w : View) (why : BlockError) → ReadAnswer contents t tag held words v w (Err why) → LinksRest held w
+  links_refused tag held words v w (block.NoFrame why) a = a.0
+  links_refused tag held words v w (block.ReadFault failed) a = a.0
+  links_refused tag held words v w (block.Unsound failed) a = a.0
+
+module _ {L G : Type 0} (contents : L → Option Pages) (m : Manager L G) where
+  -- one token more, of a block that was sound
+  pub belongs_with : (p q : PassState) (tag : Tag) (f : ℕ) → q.table ≡ p.table → q.census.frames ≡ p.census.frames → q.view.front ≡ p.view.front → q.tokens ≡ tokens_with f (packed_tag tag) p.tokens
+      → held_at p.tokens f ≡ None → f < frames_of m.table → names_block tag ≡ true → has_block (relations_of m.table) tag ≡ true → IsNew tag p.tokens → WasSoundAtOpening contents m.table tag → Belongs contents m p → Belongs contents m q
+  belongs_with p q tag f table census front tokens none below named listed is_new sound b = record {
+    table = table ∙ b.table;
+    frames = census ∙ b.frames;
+    inside = λ g h e. dite (ℕ_discrete g f)
+        (λ d. subst (λ (x : ℕ). x < frames_of m.table) (sym d) below)
+        (λ n. b.inside g h (past g h n e));
+    blocks = λ g h e. dite (ℕ_discrete g f)
+        (λ d. subst (λ (x : ℕ). is_block (relations_of m.table) x ≡ true) (here g h d e) (block_of_tag (relations_of m.table) tag named listed))
+        (λ n. b.blocks g h (past g h n e));
+    alone = λ g i h k e d same. dite (ℕ_discrete g f)
+        (λ (x : g ≡ f). dite (ℕ_discrete i f)
+        (λ y. x ∙ sym y)
+        (λ n. absurd (is_new i k (past i k n d) (sym same ∙ sym (here g h x e)))))
+        (λ n. dite (ℕ_discrete i f)
+        (λ y. absurd (is_new g h (past g h n e) (same ∙ sym (here i k y d))))
+        (λ o. b.alone g i h k (past g h n e) (past i k o d) same));
+    sound = λ g h e other same is. dite (ℕ_discrete g f)
+        (λ d. subst (WasSoundAtOpening contents m.table) (packed_same tag other (here g h d e ∙ sym same) named is) sound)
+        (λ n. b.sound g h (past g h n e) other same is);
+    based = subst (λ (x : ℕ). base_of m.table ≤ x) (sym front) b.based;
+  }
+    where
+      new : HeldFrame
+      new = record { frame = f; tag = packed_tag tag; tokens = 1 }
+
+      past : (g : ℕ) (h : HeldFrame) → g ≢ f → held_at q.tokens g ≡ Some h → held_at p.tokens g ≡ Some h
+      past g h n e = sym (with_past p.tokens new g n) ∙ ap (λ (t : Tokens). held_at t g) (sym tokens) ∙ e
+
+      here : (g : ℕ) (h : HeldFrame) → g ≡ f → held_at q.tokens g ≡ Some h → packed_tag tag ≡ h.tag
+      here g h d e = ap (λ (x : HeldFrame). x.tag) (some_same new h (sym (with_here p.tokens new f refl none) ∙ ap (λ (t : Tokens). held_at t f) (sym tokens) ∙ ap (held_at q.tokens) (sym d) ∙ e))
+
+  -- a block that a pass has pinned was sound
+  pub sound_again : (p : PassState) (tag : Tag) (f : ℕ) → names_block tag ≡ true → IsPinnedFor tag f p.tokens → Belongs contents m p → WasSoundAtOpening contents m.table tag
+  sound_again p tag f named i b = b.sound f i.held i.there tag (sym i.same) named
+
+  -- in one frame
+  pub frame_again : (p : PassState) (tag : Tag) (f g : ℕ) → IsPinnedFor tag f p.tokens → IsPinnedFor tag g p.tokens → Belongs contents m p → f ≡ g
+  frame_again p tag f g x y b = b.alone f g x.held y.held x.there y.there (x.same ∙ sym y.same)
+
+-- a block isn't pinned and new
+pub not_both : (tag : Tag) (f : ℕ) (t : Tokens) → IsPinnedFor tag f t → IsNew tag t → ⊥
+not_both tag f t pinned new = new f pinned.held pinned.there pinned.same
+
+-- one token more
+pub pinned_more : (tag : Tag) (f : ℕ) (t : Tokens) → IsPinnedFor tag f t → IsPinnedFor tag f (tokens_more f t)
+pinned_more tag f t pinned = more (held_at t f) (held_at (tokens_more f t) f) refl refl (more_tags t f f)
+  where
+    more : (o p : Option HeldFrame) → held_at t f ≡ o → held_at (tokens_more f t) f ≡ p → option_map HeldFrame.tag p ≡ option_map HeldFrame.tag o → IsPinnedFor tag f (tokens_more f t)
+    more o (Some h) x y same = record { held = h; there = y; same = some_same h.tag (packed_tag tag) (same ∙ ap (option_map HeldFrame.tag) (sym x ∙ pinned.there) ∙ ap Some pinned.same) }
+    more o None x y same = absurd (some_none pinned.held.tag (sym (ap (option_map HeldFrame.tag) (sym x ∙ pinned.there)) ∙ sym same))
+
+pub pinned_read : {L G : Type 0} (contents : L → Option Pages) (t : FrameTable L G) (tag : Tag) (p q : PassState) (r : Result Pinned ReadError) → ReadsBlock contents t tag p q r → IfOk r (λ pinned. IsPinnedFor tag pinned.frame q.tokens)
+pinned_read contents t tag p q (Ok pinned) b = subst (IsPinnedFor tag pinned.frame) (sym b.answer.tokens) (pinned_first tag pinned.frame p.tokens b.answer.new)
+pinned_read contents t tag p q (Err why) b = tt

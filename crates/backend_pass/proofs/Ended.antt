@@ -1,0 +1,262 @@
+-- A manager is closed: what holds of the devices, by the view that took in all passes.
+use Rattle.std.proofs.Common.{◌≡◌, ◌≢◌, ◌⊎◌, ◌<◌, ◌≤◌, ℕ, zero, suc, Bool, true, false, nat_eq, ne_eqb, List, [], ◌∷◌, ◌++◌, length, get_or, refl, sym, ap, ◌∙◌, subst, inl, inr, ⊎_elim, arith}
+use Rattle.std.specs.Prelude.{◌||◌}
+use Rattle.std.proofs.Math.ListN.{get_or-map}
+use mathlib.Core.Logic.{dite}
+use mathlib.Core.Option.{some, some-injective, some-ne-none}
+use native.Mathlib.Decide.{ℕ_discrete}
+use lib.ListN.{get_elem?}
+use Rattle.grid.specs.Shape.{total}
+use Rattle.grid.proofs.Sums.{total-alone, total-none}
+use Rattle.pin_core.specs.declared.view.LaneHold.{LaneHold}
+use Rattle.pin_core.specs.declared.view.Link.{Link}
+use Rattle.pin_core.specs.declared.view.LogHold.{LogHold}
+use Rattle.pin_core.specs.declared.view.Met.{Met}
+use Rattle.pin_core.specs.declared.view.View.{View}
+use Rattle.pin_core.specs.State.{emptied_view, idle, joined_view, kept_checkpoint, lane_hold, link, no_lane, sum_of_met}
+use Rattle.pin_core.specs.Tallies.{flag_weight}
+use Rattle.history_core.specs.State.{State, failed}
+use Rattle.history_core.specs.Causes.{mark_weight}
+use Rattle.history_core.specs.Counts.{all_met, count_weigh, failed_reads, failed_writes, holders}
+use Rattle.history_core.specs.Debts.{has_listed, has_passed}
+use Rattle.history_core.specs.Device.{HasRisen, is_failed}
+use Rattle.history_core.specs.History.{IsHistory}
+use Rattle.history_core.specs.Laws.{Laws}
+use Rattle.history_core.specs.Promises.{AreStored}
+use Rattle.history_core.specs.Swept.{has_swept}
+use Rattle.history_core.proofs.History.{ends_in_history}
+use Rattle.history_core.proofs.Promises.{checkpoints_store, sweeps}
+use Rattle.table_rule.specs.declared.opening.Opening.{Opening}
+use Rattle.table_rule.specs.Shows.{Devices}
+use Rattle.frame_table.specs.Closes.{Closes}
+use Rattle.held_pins.specs.Tokens.{no_tokens}
+use Rattle.held_pins.specs.Rests.{Rests}
+use Rattle.backend_pass.specs.Passes.{PassState}
+use Rattle.backend_pass.specs.Managers.{IsFirstAt, first_in, others_in}
+use Rattle.backend_pass.specs.Closing.{ClosesAll, ClosesPass, joined_views, met_of, calls_of}
+use Rattle.backend_pass.proofs.Joining.{Joins, at_later, first_here, first_past, joins, others_here, others_past}
+
+-- the number of the first pass
+pub number_zero : (n : ℕ) → nat_eq n 0 ≡ true → n ≡ 0
+number_zero n e = dite (ℕ_discrete n 0) (λ z. z) (λ o. let f : false ≡ true = sym (ne_eqb n 0 o) ∙ e in absurd (apart f))
+  where
+    apart : false ≡ true → ⊥
+    apart f = cc
+
+-- each pass is the first or one of the others
+first_or_other : (ps : List PassState) (k i : ℕ) (p : PassState) → IsFirstAt k ps → get_elem? ps i ≡ some p → (p.view ≡ first_in ps) ⊎ ((j : ℕ) × (get_elem? (others_in ps) j ≡ some p))
+first_or_other [] k i p s e = absurd (some-ne-none p (sym e))
+first_or_other (x ∷ xs) zero zero p s e = inl (ap (λ (y : PassState). y.view) (sym (some-injective x p e)) ∙ sym (first_here x xs (s.here x refl)))
+first_or_other (x ∷ xs) zero (suc i) p s e = inr (i, ap (λ (l : List PassState). get_elem? l i) (others_here x xs (s.here x refl)) ∙ e)
+first_or_other (x ∷ xs) (suc k) zero p s e = inr (0, ap (λ (l : List PassState). get_elem? l 0) (others_past x xs s.before.0) ∙ e)
+first_or_other (x ∷ xs) (suc k) (suc i) p s e = ⊎_elim
+    (λ (t : p.view ≡ first_in xs). inl (t ∙ sym (first_past x xs s.before.0)))
+    (λ (t : (j : ℕ) × (get_elem? (others_in xs) j ≡ some p)). inr (suc t.0, ap (λ (l : List PassState). get_elem? l (suc t.0)) (others_past x xs s.before.0) ∙ t.1))
+    (first_or_other xs k i p (at_later k x xs s) e)
+
+-- and the first and the others are among them
+first_there : (ps : List PassState) (k : ℕ) → IsFirstAt k ps → (p : PassState) × (get_elem? ps k ≡ some p) × (p.view ≡ first_in ps)
+first_there [] k s = let inside = s.inside in absurd (omega arith)
+first_there (x ∷ xs) zero s = (x, refl, sym (first_here x xs (s.here x refl)))
+first_there (x ∷ xs) (suc k) s = let t = first_there xs k (at_later k x xs s) in (t.0, t.1, t.2 ∙ sym (first_past x xs s.before.0))
+
+other_there : (ps : List PassState) (k j : ℕ) (p : PassState) → IsFirstAt k ps → get_elem? (others_in ps) j ≡ some p → (i : ℕ) × (get_elem? ps i ≡ some p)
+other_there [] k j p s e = absurd (some-ne-none p (sym e))
+other_there (x ∷ xs) zero j p s e = (suc j, sym (ap (λ (l : List PassState). get_elem? l j) (others_here x xs (s.here x refl))) ∙ e)
+other_there (x ∷ xs) (suc k) zero p s e = (0, sym (ap (λ (l : List PassState). get_elem? l 0) (others_past x xs s.before.0)) ∙ e)
+other_there (x ∷ xs) (suc k) (suc j) p s e = let t = other_there xs k j p (at_later k x xs s) (sym (ap (λ (l : List PassState). get_elem? l (suc j)) (others_past x xs s.before.0)) ∙ e) in (suc t.0, t.1)
+
+-- the faults of all are those of the first and those of the others
+pub met_split : (ps : List PassState) (k : ℕ) → IsFirstAt k ps → met_of ps ≡ sum_of_met (first_in ps).met (met_of (others_in ps))
+met_split [] k s = let inside = s.inside in absurd (omega arith)
+met_split (x ∷ xs) zero s = ap (λ (v : View). sum_of_met v.met (met_of xs)) (sym (first_here x xs (s.here x refl))) ∙ ap (λ (l : List PassState). sum_of_met (first_in (x ∷ xs)).met (met_of l)) (sym (others_here x xs (s.here x refl)))
+met_split (x ∷ xs) (suc k) s = ap (sum_of_met x.view.met) (met_split xs k (at_later k x xs s)) ∙ swap x.view.met (first_in xs).met (met_of (others_in xs))
+    ∙ ap (λ (v : View). sum_of_met v.met (sum_of_met x.view.met (met_of (others_in xs)))) (sym (first_past x xs s.before.0))
+    ∙ ap (λ (l : List PassState). sum_of_met (first_in (x ∷ xs)).met (met_of l)) (sym (others_past x xs s.before.0))
+  where
+    same : (a b : Met) → a.reads ≡ b.reads → a.writes ≡ b.writes → a.logs ≡ b.logs → a ≡ b
+    same a b p q r k = record { reads = p k; writes = q k; logs = r k }
+
+    swap : (a b c : Met) → sum_of_met a (sum_of_met b c) ≡ sum_of_met b (sum_of_met a c)
+    swap a b c = same (sum_of_met a (sum_of_met b c)) (sum_of_met b (sum_of_met a c)) (omega arith) (omega arith) (omega arith)
+
+-- A view that took in the view u
+pub record TookIn (u w : View) : Type 0 where
+  pub front : u.front ≤ w.front
+  pub down : u.saw_down ≡ true → w.saw_down ≡ true
+  pub kept : (k : ℕ) × (get_elem? w.kept k ≡ some (kept_checkpoint u))
+
+or_right : (a b : Bool) → b ≡ true → (a || b) ≡ true
+or_right true b e = refl
+or_right false b e = e
+
+or_none : (a b : Bool) → a ≡ false → b ≡ false → (a || b) ≡ false
+or_none true b e f = e
+or_none false b e f = f
+
+behind : {A : Type 0} (xs : List A) (y : A) (ys : List A) → get_elem? (xs ++ y ∷ ys) (length xs) ≡ some y
+behind [] y ys = refl
+behind (x ∷ xs) y ys = behind xs y ys
+
+took_in : (v : View) (ps : List PassState) (j : ℕ) (p : PassState) → get_elem? ps j ≡ some p → TookIn p.view (joined_views v ps)
+took_in v [] j p e = absurd (some-ne-none p (sym e))
+took_in v (x ∷ xs) zero p e = let r = joins (joined_view v x.view) xs in let same = ap (λ (y : PassState). y.view) (some-injective x p e) in subst (λ (u : View). TookIn u (joined_views v (x ∷ xs))) same record {
+  front = let a = r.front in omega arith;
+  down = λ d. r.down (or_right v.saw_down x.view.saw_down d);
+  kept = r.kept (length v.kept) (kept_checkpoint x.view) (behind v.kept (kept_checkpoint x.view) x.view.kept);
+}
+took_in v (x ∷ xs) (suc j) p e = took_in (joined_view v x.view) xs j p e
+
+unmarked_joined : (v : View) (ps : List PassState) → v.dirtied_or_synced ≡ false → ((j : ℕ) (p : PassState) → get_elem? ps j ≡ some p → p.view.dirtied_or_synced ≡ false) → (joined_views v ps).dirtied_or_synced ≡ false
+unmarked_joined v [] e all = e
+unmarked_joined v (x ∷ xs) e all = unmarked_joined (joined_view v x.view) xs (or_none v.dirtied_or_synced x.view.dirtied_or_synced e (all 0 x refl)) (λ j p at. all (suc j) p at)
+
+-- what a checkpoint keeps of a view
+kept_passed : (u : View) (f : ℕ) → has_passed (kept_checkpoint u) f ≡ (link u f).passed
+kept_passed u f = get_or-map (λ (l : Link). l.passed) u.links f idle
+
+kept_listed : (u : View) (f : ℕ) → has_listed (kept_checkpoint u) f ≡ (link u f).listed
+kept_listed u f = get_or-map (λ (l : Link). l.listed) u.links f idle
+
+kept_swept : (u : View) (n : ℕ) → has_swept (kept_checkpoint u) n ≡ (lane_hold u n).swept
+kept_swept u n = get_or-map (λ (h : LaneHold). h.swept) u.lanes n no_lane
+
+-- Where all others are emptied, and the first view is w
+module _ (s : State) (h : Laws s) (w : View) (there : get_elem? s.pool.core.views 0 ≡ some w) (others : (i : ℕ) (u : View) → i ≢ 0 → get_elem? s.pool.core.views i ≡ some u → u ≡ emptied_view) where
+  is_one : (i : ℕ) (u : View) → get_elem? s.pool.core.views i ≡ some u → (w ≡ u) ⊎ (u ≡ emptied_view)
+  is_one zero u at = inl (some-injective w u (sym there ∙ at))
+  is_one (suc i) u at = inr (others (suc i) u (λ e. absurd (omega arith)) at)
+
+  within : w.front ≤ s.end
+  within = let a = (h.invariant.history.calls 0 w there).within in let b = h.invariant.ends in omega arith
+
+  saw : w.saw_down ≡ true → HasRisen s.log_faults s.device.faults
+  saw e = (h.invariant.device.columns 0 (omega arith)).rose ((h.invariant.device.cells 0 w 0 there (omega arith)).saw e)
+
+  -- a pass that was taken in
+  pub closes_other : (p : PassState) → TookIn p.view w → ClosesPass s p
+  closes_other p t = record {
+    front = let a = t.front in let b = within in omega arith;
+    down = λ e. saw (t.down e);
+    checked = λ c. (checkpoints_store s h.invariant h.debts).kept 0 t.kept.0 w (kept_checkpoint p.view) there t.kept.1
+        (λ f inside. (kept_passed p.view f ∙ (c f inside).0, kept_listed p.view f ∙ (c f inside).1));
+    swept = λ upto c. sweeps s h.invariant h.debts h.swept 0 upto w there
+        (inr (t.kept.0, kept_checkpoint p.view, t.kept.1, λ n inside. subst (λ (x : ℕ). upto ≤ x) (sym (kept_swept p.view n)) (c n inside)));
+  }
+
+  -- and the first one, with the view v
+  pub closes_first : (p : PassState) (ps : List PassState) → Joins p.view w ps → ClosesPass s p
+  closes_first p ps j = record {
+    front = let a = j.front in let b = within in omega arith;
+    down = λ e. saw (j.down e);
+    checked = λ c. subst (AreStored s) j.upto ((checkpoints_store s h.invariant h.debts).own 0 w there
+        (λ f inside. (ap (λ (l : List Link). (get_or l f idle).passed) j.links ∙ (c f inside).0, ap (λ (l : List Link). (get_or l f idle).listed) j.links ∙ (c f inside).1)));
+    swept = λ upto c. sweeps s h.invariant h.debts h.swept 0 upto w there
+        (inl (λ n inside. subst (λ (x : ℕ). upto ≤ x) (sym (ap (λ (l : List LaneHold). (get_or l n no_lane).swept) j.lanes)) (c n inside)));
+  }
+
+  -- the faults that all views count are those of w
+  reads_of : (all_met s.pool.core.views).reads ≡ w.met.reads
+  reads_of = total-alone (λ (u : View). u.met.reads) s.pool.core.views 0 w there (λ j u n at. ap (λ (x : View). x.met.reads) (others j u n at))
+
+  writes_of : (all_met s.pool.core.views).writes ≡ w.met.writes
+  writes_of = total-alone (λ (u : View). u.met.writes) s.pool.core.views 0 w there (λ j u n at. ap (λ (x : View). x.met.writes) (others j u n at))
+
+  logs_of : (all_met s.pool.core.views).logs ≡ w.met.logs
+  logs_of = total-alone (λ (u : View). u.met.logs) s.pool.core.views 0 w there (λ j u n at. ap (λ (x : View). x.met.logs) (others j u n at))
+
+  pub reads_rose : 0 < w.met.reads → (q : ℕ) × (q < s.lanes) × HasRisen (s.lane q).read_faults_at_start (s.lane q).read_faults
+  reads_rose met = h.counts.lanes.reads_rose (subst (λ (n : ℕ). 0 < n) (sym reads_of) met)
+
+  pub writes_rose : 0 < w.met.writes → (q : ℕ) × (q < s.lanes) × HasRisen (s.lane q).write_faults_at_start (s.lane q).write_faults
+  writes_rose met = h.counts.lanes.writes_rose (subst (λ (n : ℕ). 0 < n) (sym writes_of) met)
+
+  pub logs_rose : 0 < w.met.logs → HasRisen s.log_faults s.device.faults
+  logs_rose met = h.counts.log.rose (subst (λ (n : ℕ). 0 < n) (sym logs_of) met)
+
+  module _ (free : (n : ℕ) → (lane_hold w n).held ≡ false) (quiet : is_failed w.log.change ≡ false) where
+    none_hold : (q : ℕ) → total (λ (u : View). count_weigh holders (lane_hold u q)) s.pool.core.views ≡ 0
+    none_hold q = total-none (λ (u : View). count_weigh holders (lane_hold u q)) s.pool.core.views (λ j u at. ⊎_elim
+        (λ (e : w ≡ u). subst (λ (x : View). flag_weight (lane_hold x q).held ≡ 0) e (ap flag_weight (free q)))
+        (λ (e : u ≡ emptied_view). subst (λ (x : View). flag_weight (lane_hold x q).held ≡ 0) (sym e) refl)
+        (is_one j u at))
+
+    none_read : (q : ℕ) → q < s.lanes → total (λ (u : View). count_weigh failed_reads (lane_hold u q)) s.pool.core.views ≡ 0
+    none_read q inside = let a = (h.counts.lanes.lanes.columns q inside).split in let b = none_hold q in omega arith
+
+    none_written : (q : ℕ) → q < s.lanes → total (λ (u : View). count_weigh failed_writes (lane_hold u q)) s.pool.core.views ≡ 0
+    none_written q inside = let a = (h.counts.lanes.lanes.columns q inside).split in let b = none_hold q in omega arith
+
+    pub reads_met : (q : ℕ) → q < s.lanes → (s.lane q).read_faults_at_start < (s.lane q).read_faults → 0 < w.met.reads
+    reads_met q inside more = subst (λ (n : ℕ). 0 < n) reads_of ((h.counts.lanes.lanes.columns q inside).reads.is_met (none_read q inside) more)
+
+    pub writes_met : (q : ℕ) → q < s.lanes → (s.lane q).write_faults_at_start < (s.lane q).write_faults → 0 < w.met.writes
+    writes_met q inside more = subst (λ (n : ℕ). 0 < n) writes_of ((h.counts.lanes.lanes.columns q inside).writes.is_met (none_written q inside) more)
+
+    none_failed : (i : ℕ) (u : View) → get_elem? s.pool.core.views i ≡ some u → is_failed u.log.change ≡ false
+    none_failed i u at = ⊎_elim
+        (λ (e : w ≡ u). subst (λ (x : View). is_failed x.log.change ≡ false) e quiet)
+        (λ (e : u ≡ emptied_view). subst (λ (x : View). is_failed x.log.change ≡ false) (sym e) refl)
+        (is_one i u at)
+
+    pub logs_met : s.log_faults < s.device.faults → 0 < w.met.logs
+    logs_met more = subst (λ (n : ℕ). 0 < n) logs_of (h.counts.log.is_met none_failed more)
+
+  -- where w has no mark no write failed
+  pub unmarked : w.dirtied_or_synced ≡ false → ((tag : ℕ) → failed s tag ≡ false) × (w.met.writes ≡ 0)
+  unmarked e = let q = h.marks (total-alone mark_weight s.pool.core.views 0 w there (λ j u n at. ap mark_weight (others j u n at)) ∙ ap flag_weight e) in (q.blocks, (q.views 0 w there).met)
+
+  -- the calls are a history
+  pub history : IsHistory s.known s.origin s.log w.calls
+  history = ends_in_history s h.invariant h.spent w there (λ i u n at. ap (λ (x : View). x.emptied) (others i u n at))
+
+module _ {L G : Type 0} where
+  -- all of that
+  pub closes_all : (d : Devices L G) (o : Opening L G) (ps : List PassState) (lanes : List L) (log : G) (v w : View) (k : ℕ) → IsFirstAt k ps → first_in ps ≡ v → w ≡ joined_views v (others_in ps) → Rests no_tokens v → Closes d o w lanes log → ClosesAll d o ps lanes log
+  closes_all d o ps lanes log v w k at first is r c = record {
+    state = s;
+    laws = h;
+    opened = c.opened;
+    counted = c.counted;
+    lane = c.lane;
+    mark = c.mark;
+    device = c.device;
+    history = subst (IsHistory s.known s.origin s.log) (j.calls ∙ ap (λ (u : View). u.calls ++ calls_of (others_in ps)) (sym first)) (history s h w c.first c.others);
+    each = each;
+    reads_rose = λ more. reads_rose s h w c.first c.others (subst (λ (m : Met). 0 < m.reads) met more);
+    writes_rose = λ more. writes_rose s h w c.first c.others (subst (λ (m : Met). 0 < m.writes) met more);
+    logs_rose = λ more. logs_rose s h w c.first c.others (subst (λ (m : Met). 0 < m.logs) met more);
+    reads_met = λ q inside more. subst (λ (m : Met). 0 < m.reads) (sym met) (reads_met s h w c.first c.others free quiet q inside more);
+    writes_met = λ q inside more. subst (λ (m : Met). 0 < m.writes) (sym met) (writes_met s h w c.first c.others free quiet q inside more);
+    logs_met = λ more. subst (λ (m : Met). 0 < m.logs) (sym met) (logs_met s h w c.first c.others free quiet more);
+    unmarked = λ none. let u = unmarked s h w c.first c.others (no_mark none) in (u.0, ap (λ (m : Met). m.writes) met ∙ u.1);
+  }
+    where
+      s : State
+      s = c.state
+
+      h : Laws s
+      h = c.laws
+
+      j : Joins v w (others_in ps)
+      j = subst (λ (x : View). Joins v x (others_in ps)) (sym is) (joins v (others_in ps))
+
+      met : met_of ps ≡ w.met
+      met = met_split ps k at ∙ ap (λ (u : View). sum_of_met u.met (met_of (others_in ps))) first ∙ sym j.met
+
+      free : (n : ℕ) → (lane_hold w n).held ≡ false
+      free n = ap (λ (l : List LaneHold). (get_or l n no_lane).held) j.lanes ∙ r.quiet.free n
+
+      quiet : is_failed w.log.change ≡ false
+      quiet = ap (λ (l : LogHold). is_failed l.change) (j.log ∙ r.quiet.log)
+
+      each : (i : ℕ) (p : PassState) → get_elem? ps i ≡ some p → ClosesPass s p
+      each i p e = ⊎_elim
+          (λ (t : p.view ≡ first_in ps). closes_first s h w c.first c.others p (others_in ps) (subst (λ (x : View). Joins x w (others_in ps)) (sym (t ∙ first)) j))
+          (λ (t : (n : ℕ) × (get_elem? (others_in ps) n ≡ some p)). closes_other s h w c.first c.others p (subst (TookIn p.view) (sym is) (took_in v (others_in ps) t.0 p t.1)))
+          (first_or_other ps k i p at e)
+
+      no_mark : ((i : ℕ) (p : PassState) → get_elem? ps i ≡ some p → p.view.dirtied_or_synced ≡ false) → w.dirtied_or_synced ≡ false
+      no_mark none = let f = first_there ps k at in ap (λ (x : View). x.dirtied_or_synced) is ∙ unmarked_joined v (others_in ps)
+          (ap (λ (x : View). x.dirtied_or_synced) (sym (f.2 ∙ first)) ∙ none k f.0 f.1)
+          (λ n p e. let t = other_there ps k n p at e in none t.0 p t.1)

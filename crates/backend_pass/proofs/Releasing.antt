@@ -1,0 +1,144 @@
+-- A token comes back.
+use Rattle.std.proofs.Common.{◌≡◌, ◌≢◌, ℕ, Option, Some, None, refl, sym, ap, ◌∙◌, subst, true}
+use Rattle.std.specs.Prelude.{option_map, ◌≤◌}
+use mathlib.Core.Logic.{dite}
+use native.Mathlib.Decide.{ℕ_discrete}
+use Rattle.pin_core.specs.declared.view.Content.TheVariants.{Unlocked}
+use Rattle.pin_core.specs.declared.view.Link.{Link}
+use Rattle.pin_core.specs.declared.view.Role.TheVariants.{HandedOut, Absent}
+use Rattle.pin_core.specs.declared.view.View.{View}
+use Rattle.pin_core.specs.State.{link}
+use Rattle.segment_store.specs.Contents.{Pages}
+use Rattle.frame_table.specs.Seats.{Looked, MayUnpin, SameMarks, SameSelf, Touches, unpinned_link, base_of, relations_of}
+use Rattle.held_pins.specs.Tokens.{HeldFrame, Tokens, held_at, tokens_less, tokens_more, tokens_of}
+use Rattle.held_pins.specs.Rests.{IsCalm, LinkRests, Rests, Advances, role_of}
+use Rattle.held_pins.proofs.HeldLists.{less_others, less_tag, more_tags}
+use Rattle.held_pins.proofs.Keeping.{beside, beside_touched, devices_touched, latches_same, link_looked, rests_less, rests_without}
+use Rattle.held_pins.proofs.Advancing.{advances_none, advances_touched}
+use Rattle.backend_pass.specs.declared.manager.Manager.{Manager}
+use Rattle.backend_pass.specs.declared.met.Shown.{Shown}
+use Rattle.backend_pass.specs.Managers.{Belongs}
+use Rattle.backend_pass.specs.Passes.{IsNumbered, IsShown, PassState, SamePass, shown_count}
+use Rattle.table_rule.specs.Blocks.{is_block}
+
+-- The pin of the frame f was given up
+pub record Unpins (f : ℕ) (v w : View) : Type 0 where
+  pub touches : Touches f v w
+  pub marks : SameMarks v w
+  pub unpinned : Looked (unpinned_link (link v f)) (link w f)
+
+pub unpins_at : (f g : ℕ) (a b v w : View) → g ≡ f → a ≡ v → b ≡ w → Unpins g v w → Unpins f a b
+unpins_at f g a b v w e x y u = subst (λ (h : ℕ). Unpins h a b) e (subst (λ (z : View). Unpins g z b) (sym x) (subst (Unpins g v) (sym y) u))
+
+-- a pin that rests may be given up once its content is unlocked
+pub may_unpin : (o : Option HeldFrame) (h : HeldFrame) (l : Link) → o ≡ Some h → l.content ≡ Unlocked → LinkRests o l → MayUnpin l
+may_unpin o h l e unlocked r = record {
+  pinned = λ absent. handed (sym absent ∙ r.role ∙ ap (λ (x : Option HeldFrame). role_of x) e);
+  no_content = unlocked;
+  no_io = r.calm.no_io;
+  no_wait = r.calm.no_wait;
+}
+  where
+    handed : Absent ≡ HandedOut → ⊥
+    handed e = cc
+
+-- what is left rests
+unpinned_rests : (l : Link) → IsCalm l → l.content ≡ Unlocked → LinkRests None (unpinned_link l)
+unpinned_rests l c unlocked = record {
+  calm = record { no_header = c.no_header; assigned = c.assigned; no_copy = c.no_copy; applied = c.applied; no_io = c.no_io; page_home = c.page_home; no_wait = c.no_wait };
+  role = refl;
+  tag = refl;
+  seen = λ some. absurd (some refl);
+  unlocked = λ none. unlocked;
+}
+
+pub rests_unpinned : (f : ℕ) (t : Tokens) (v w : View) → Unpins f v w → (link v f).content ≡ Unlocked → held_at (tokens_less f t) f ≡ None → Rests t v → Rests (tokens_less f t) w
+rests_unpinned f t v w u unlocked none r = record {
+  quiet = devices_touched f v w u.touches r.quiet;
+  links = rests_without f t w none (beside_touched f t v w u.touches (beside f t v r.links)) (link_looked None (unpinned_link (link v f)) (link w f) u.unpinned (unpinned_rests (link v f) (r.links f).calm unlocked));
+  latches = latches_same v w u.touches.partitions r.latches;
+}
+
+pub rests_fewer : (f : ℕ) (t : Tokens) (v : View) → tokens_of (held_at t f) ≢ 1 → Rests t v → Rests (tokens_less f t) v
+rests_fewer f t v more r = record { quiet = r.quiet; links = rests_less f t v more r.links; latches = r.latches }
+
+-- the number, and what is shown
+pub numbered_self : (number id : ℕ) (v w : View) → SameSelf v w → IsNumbered number id v → IsNumbered number id w
+numbered_self number id v w e n = record { number_is = ap (λ (x : View). x.number) e ∙ n.number_is; first = n.first }
+
+pub shown_self : (v w : View) (s : Shown) → SameSelf v w → IsShown v s → IsShown w s
+shown_self v w s e n = record {
+  front = n.front ∙ sym (ap (λ (x : View). x.front) e);
+  reads = n.reads ∙ ap (λ (x : View). shown_count x.met.reads) (sym e);
+  writes = n.writes ∙ ap (λ (x : View). shown_count x.met.writes) (sym e);
+  logs = n.logs ∙ ap (λ (x : View). shown_count x.met.logs) (sym e);
+}
+
+-- it is the same pass
+pub same_none : (p q : PassState) → q.table ≡ p.table → q.id ≡ p.id → q.census ≡ p.census → q.view ≡ p.view → SamePass p q
+same_none p q table id census e = record {
+  table = table;
+  id = id;
+  frames = ap (λ c. c.frames) census;
+  number = ap (λ (x : View). x.number) e;
+  next = ap (λ (x : View). x.next) e;
+  joined = ap (λ (x : View). x.joined) e;
+  kept = ap (λ (x : View). x.kept) e;
+  upto = ap (λ (x : View). x.upto) e;
+  advances = subst (λ (w : View). Advances p.view w) (sym e) (advances_none p.view);
+}
+
+pub same_touched : (p q : PassState) (f : ℕ) → q.table ≡ p.table → q.id ≡ p.id → q.census ≡ p.census → Touches f p.view q.view → SamePass p q
+same_touched p q f table id census k = let e = k.self in record {
+  table = table;
+  id = id;
+  frames = ap (λ c. c.frames) census;
+  number = ap (λ (x : View). x.number) e;
+  next = ap (λ (x : View). x.next) e;
+  joined = ap (λ (x : View). x.joined) e;
+  kept = ap (λ (x : View). x.kept) e;
+  upto = ap (λ (x : View). x.upto) e;
+  advances = advances_touched f p.view q.view k;
+}
+
+-- The tokens u are of frames that are held in t, for the same blocks
+abbrev pub AreHeld : Tokens → Tokens → Type 0
+AreHeld t u = (g : ℕ) (h : HeldFrame) → held_at u g ≡ Some h → (k : HeldFrame) × (held_at t g ≡ Some k) × (k.tag ≡ h.tag)
+
+tag_held : (o p : Option HeldFrame) (h : HeldFrame) → option_map HeldFrame.tag p ≡ option_map HeldFrame.tag o → p ≡ Some h → (k : HeldFrame) × (o ≡ Some k) × (k.tag ≡ h.tag)
+tag_held (Some k) p h same e = (k, refl, some_tag k.tag h.tag (sym same ∙ ap (option_map HeldFrame.tag) e))
+  where
+    some_tag : (a b : ℕ) → Some a ≡ Some b → a ≡ b
+    some_tag a b e = cc
+tag_held None p h same e = absurd (some_none h.tag (sym (ap (option_map HeldFrame.tag) e) ∙ same))
+  where
+    some_none : (a : ℕ) → Some a ≡ None → ⊥
+    some_none a e = cc
+
+pub held_last : (f : ℕ) (t : Tokens) → held_at (tokens_less f t) f ≡ None → AreHeld t (tokens_less f t)
+held_last f t none g h e = dite (ℕ_discrete g f)
+    (λ d. absurd (some_none h (sym e ∙ ap (held_at (tokens_less f t)) d ∙ none)))
+    (λ n. (h, sym (less_others t f g n) ∙ e, refl))
+  where
+    some_none : (x : HeldFrame) → Some x ≡ None → ⊥
+    some_none x e = cc
+
+pub held_several : (f : ℕ) (t : Tokens) → tokens_of (held_at t f) ≢ 1 → AreHeld t (tokens_less f t)
+held_several f t more g h e = dite (ℕ_discrete g f)
+    (λ d. tag_held (held_at t g) (held_at (tokens_less f t) g) h (subst (λ (x : ℕ). option_map HeldFrame.tag (held_at (tokens_less f t) x) ≡ option_map HeldFrame.tag (held_at t x)) (sym d) (less_tag t f more)) e)
+    (λ n. (h, sym (less_others t f g n) ∙ e, refl))
+
+pub held_again : (f : ℕ) (t : Tokens) → AreHeld t (tokens_more f t)
+held_again f t g h e = tag_held (held_at t g) (held_at (tokens_more f t) g) h (more_tags t f g) e
+
+module _ {L G : Type 0} (contents : L → Option Pages) (m : Manager L G) where
+  pub belongs_held : (p q : PassState) → q.table ≡ p.table → q.census.frames ≡ p.census.frames → q.view.front ≡ p.view.front → AreHeld p.tokens q.tokens → Belongs contents m p → Belongs contents m q
+  belongs_held p q table census front held b = record {
+    table = table ∙ b.table;
+    frames = census ∙ b.frames;
+    inside = λ f h e. let k = held f h e in b.inside f k.0 k.1;
+    blocks = λ f h e. let k = held f h e in subst (λ (x : ℕ). is_block (relations_of m.table) x ≡ true) k.2 (b.blocks f k.0 k.1);
+    alone = λ f g h k e d same. let x = held f h e in let y = held g k d in b.alone f g x.0 y.0 x.1 y.1 (x.2 ∙ same ∙ sym y.2);
+    sound = λ f h e tag same. let k = held f h e in b.sound f k.0 k.1 tag (same ∙ sym k.2);
+    based = subst (λ (x : ℕ). base_of m.table ≤ x) (sym front) b.based;
+  }

@@ -1,0 +1,163 @@
+-- Passes at the start.
+use Rattle.std.proofs.Common.{◌≡◌, ◌+◌, ◌-◌, ℕ, zero, suc, List, [], ◌∷◌, ◌++◌, take, drop, ⊎_elim, Option, Some, None, replicate, length, get_or, refl, sym, ap, ◌∙◌, subst, add-one, arith}
+use mathlib.Core.Option.{some, some-injective, some-ne-none}
+use lib.ListN.{get_elem?}
+use Rattle.grid.proofs.Lists.{at_end}
+use Rattle.segment_store.specs.Contents.{Pages}
+use Rattle.pin_core.specs.declared.view.LaneHold.{LaneHold}
+use Rattle.pin_core.specs.declared.view.View.{View}
+use Rattle.pin_core.specs.State.{first_view, idle, new_view, no_lane, no_partition}
+use Rattle.clock_sweep.specs.CensusList.{new_census}
+use Rattle.frame_table.specs.FrameSteps.{split_view}
+use Rattle.frame_table.specs.Seats.{base_of, frames_of}
+use Rattle.held_pins.specs.Tokens.{HeldFrame, held_at, no_tokens}
+use Rattle.held_pins.specs.Rests.{LinkRests, Rests}
+use Rattle.backend_pass.specs.declared.kit.Kit.{Kit}
+use Rattle.backend_pass.specs.declared.manager.Manager.{Manager}
+use Rattle.backend_pass.specs.Kits.{AreFresh}
+use Rattle.backend_pass.specs.Managers.{AreNewPasses, Belongs, IsNewPass}
+use Rattle.backend_pass.specs.Passes.{IsFreshView, PassState}
+
+-- an item of a list of the same
+same_all : {A : Type 0} (n i : ℕ) (x : A) → get_or (replicate n x) i x ≡ x
+same_all zero i x = refl
+same_all (suc n) zero x = refl
+same_all (suc n) (suc i) x = same_all n i x
+
+idle_rests : LinkRests None idle
+idle_rests = record {
+  calm = record { no_header = refl; assigned = refl; no_copy = refl; applied = refl; no_io = refl; page_home = refl; no_wait = refl };
+  role = refl;
+  tag = refl;
+  seen = λ some. absurd (some refl);
+  unlocked = λ none. refl;
+}
+
+-- the first view rests
+first_rests : (base frames partitions lanes : ℕ) → Rests no_tokens (first_view base frames partitions lanes)
+first_rests base frames partitions lanes = record {
+  quiet = record {
+    live = refl;
+    free = λ n. ap (λ (h : LaneHold). h.held) (same_all lanes n no_lane);
+    home = λ n. ap (λ (h : LaneHold). h.out) (same_all lanes n no_lane);
+    log = refl;
+  };
+  links = λ f. subst (LinkRests None) (sym (same_all frames f idle)) idle_rests;
+  latches = λ p. same_all partitions p no_partition;
+}
+
+pub first_fresh : (id base frames partitions lanes : ℕ) (v : View) → id ≡ 0 → v ≡ first_view base frames partitions lanes → IsFreshView 0 id base v
+first_fresh id base frames partitions lanes v zero_id e = subst (IsFreshView 0 id base) (sym e) record {
+  rests = first_rests base frames partitions lanes;
+  numbered = record { number_is = refl; first = λ _. zero_id };
+  front = refl;
+  met = refl;
+}
+
+-- kits
+pub fresh_with : (frames : ℕ) (ks : List Kit) (k : Kit) → k.census ≡ new_census frames → AreFresh frames ks → AreFresh frames (ks ++ k ∷ [])
+fresh_with frames [] k e f = (e, tt)
+fresh_with frames (x ∷ xs) k e f = (f.0, fresh_with frames xs k e f.1)
+
+pub fresh_front : (frames : ℕ) (ks : List Kit) (k : Kit) → AreFresh frames (ks ++ k ∷ []) → AreFresh frames ks
+fresh_front frames [] k f = tt
+fresh_front frames (x ∷ xs) k f = (f.0, fresh_front frames xs k f.1)
+
+pub fresh_last : (frames : ℕ) (ks : List Kit) (k : Kit) → AreFresh frames (ks ++ k ∷ []) → k.census ≡ new_census frames
+fresh_last frames [] k f = f.0
+fresh_last frames (x ∷ xs) k f = fresh_last frames xs k f.1
+
+-- the first pass after all others were split from it
+abbrev pub first_at : (base frames partitions lanes next : ℕ) → View
+first_at base frames partitions lanes next = record (first_view base frames partitions lanes) { next = next }
+
+module _ {L G : Type 0} (contents : L → Option Pages) (m : Manager L G) (count : ℕ) where
+  none_held : (t : List HeldFrame) (f : ℕ) (h : HeldFrame) → t ≡ no_tokens → held_at t f ≡ Some h → ⊥
+  none_held t f h none e = some_none h (sym e ∙ ap (λ (x : List HeldFrame). held_at x f) none)
+    where
+      some_none : (x : HeldFrame) → Some x ≡ None → ⊥
+      some_none x e = cc
+
+  new_belongs : (p : PassState) (base : ℕ) → p.table ≡ m.table.table.shared.table_id → p.census ≡ new_census (frames_of m.table) → p.tokens ≡ no_tokens → p.view.front ≡ base → base ≡ base_of m.table → Belongs contents m p
+  new_belongs p base table census tokens front same = record {
+    table = table;
+    frames = ap (λ c. c.frames) census;
+    inside = λ f h e. absurd (none_held p.tokens f h tokens e);
+    blocks = λ f h e. absurd (none_held p.tokens f h tokens e);
+    alone = λ f g h k e d same. absurd (none_held p.tokens f h tokens e);
+    sound = λ f h e. absurd (none_held p.tokens f h tokens e);
+    based = omega arith;
+  }
+
+  pub split_new : (p : PassState) (base n i a b c : ℕ) → p.view ≡ new_view n base a b c → n ≡ i + 1 → base ≡ base_of m.table → p.table ≡ m.table.table.shared.table_id → p.tokens ≡ no_tokens → p.census ≡ new_census (frames_of m.table) → IsNewPass contents m count (i + 1) p
+  split_new p base n i a b c e number same table tokens census = record {
+    belongs = new_belongs p base table census tokens (ap (λ (v : View). v.front) e) same;
+    number = ap (λ (v : View). v.number) e ∙ number;
+    tokens = tokens;
+    census = census;
+    calls = ap (λ (v : View). v.calls) e;
+    front = ap (λ (v : View). v.front) e ∙ same;
+    device_calls = ap (λ (v : View). v.device_calls) e;
+    met = ap (λ (v : View). v.met) e;
+    unmarked = ap (λ (v : View). v.dirtied_or_synced) e;
+    up = ap (λ (v : View). v.saw_down) e;
+    upto = ap (λ (v : View). v.upto) e;
+    kept = ap (λ (v : View). v.kept) e;
+    joined = ap (λ (v : View). v.joined) e;
+    next = λ none. absurd (omega arith);
+  }
+
+  pub first_new : (p : PassState) (base a b c : ℕ) → p.view ≡ first_at base a b c count → base ≡ base_of m.table → p.table ≡ m.table.table.shared.table_id → p.tokens ≡ no_tokens → p.census ≡ new_census (frames_of m.table) → IsNewPass contents m count 0 p
+  first_new p base a b c e same table tokens census = record {
+    belongs = new_belongs p base table census tokens (ap (λ (v : View). v.front) e) same;
+    number = ap (λ (v : View). v.number) e;
+    tokens = tokens;
+    census = census;
+    calls = ap (λ (v : View). v.calls) e;
+    front = ap (λ (v : View). v.front) e ∙ same;
+    device_calls = ap (λ (v : View). v.device_calls) e;
+    met = ap (λ (v : View). v.met) e;
+    unmarked = ap (λ (v : View). v.dirtied_or_synced) e;
+    up = ap (λ (v : View). v.saw_down) e;
+    upto = ap (λ (v : View). v.upto) e;
+    kept = ap (λ (v : View). v.kept) e;
+    joined = ap (λ (v : View). v.joined) e;
+    next = λ none. ap (λ (v : View). v.next) e;
+  }
+
+  pub split_of_first : (p : PassState) (v : View) (base n i a b c : ℕ) → p.view ≡ split_view base v → v ≡ first_at base a b c n → n ≡ i + 1 → base ≡ base_of m.table → p.table ≡ m.table.table.shared.table_id → p.tokens ≡ no_tokens → p.census ≡ new_census (frames_of m.table) → IsNewPass contents m count (i + 1) p
+  split_of_first p v base n i a b c e first number same table tokens census = let f = first_at base a b c n in
+      split_new p base n i (length f.links) (length f.partitions) (length f.lanes) (e ∙ ap (split_view base) first) number same table tokens census
+
+  pub first_counted : (p : PassState) (base a b c n : ℕ) → p.view ≡ first_at base a b c n → n ≡ count → base ≡ base_of m.table → p.table ≡ m.table.table.shared.table_id → p.tokens ≡ no_tokens → p.census ≡ new_census (frames_of m.table) → IsNewPass contents m count 0 p
+  first_counted p base a b c n e number same table tokens census = first_new p base a b c (e ∙ ap (first_at base a b c) number) same table tokens census
+
+  -- the others, from number 1 on
+  abbrev pub OthersAreNew : List PassState → Type 0
+  OthersAreNew ps = (i : ℕ) (p : PassState) → get_elem? ps i ≡ some p → IsNewPass contents m count (i + 1) p
+
+  pub others_none : OthersAreNew []
+  others_none i p e = absurd (some-ne-none p (sym e))
+
+  pub others_with : (ps : List PassState) (p : PassState) → OthersAreNew ps → IsNewPass contents m count (length ps + 1) p → OthersAreNew (ps ++ p ∷ [])
+  others_with ps p each new i q e = ⊎_elim (λ (t : get_elem? ps i ≡ some q). each i q t)
+      (λ (t : (p ≡ q) × (i ≡ length ps)). subst (λ (j : ℕ). IsNewPass contents m count (j + 1) q) (sym t.1) (subst (IsNewPass contents m count (length ps + 1)) t.0 new)) (at_end ps p q i e)
+
+  pub all_new : (f : PassState) (ps : List PassState) → IsNewPass contents m count 0 f → OthersAreNew ps → length ps + 1 ≡ count → AreNewPasses contents m count (f ∷ ps)
+  all_new f ps first others counted = record { counted = omega arith; each = each }
+    where
+      each : (i : ℕ) (p : PassState) → get_elem? (f ∷ ps) i ≡ some p → IsNewPass contents m count i p
+      each zero p e = subst (IsNewPass contents m count 0) (some-injective f p e) first
+      each (suc i) p e = subst (λ (j : ℕ). IsNewPass contents m count j p) (add-one i) (others i p e)
+
+-- a list whose last element becomes the first
+drop_all : {A : Type 0} (xs ys : List A) → drop (length xs) (xs ++ ys) ≡ ys
+drop_all [] ys = refl
+drop_all (x ∷ xs) ys = drop_all xs ys
+
+take_all : {A : Type 0} (xs ys : List A) → take (length xs) (xs ++ ys) ≡ xs
+take_all [] ys = refl
+take_all (x ∷ xs) ys = ap (λ l. x ∷ l) (take_all xs ys)
+
+pub rotated : {A : Type 0} (xs : List A) (x : A) (n : ℕ) → n ≡ length xs + 1 → drop (n - 1) (xs ++ x ∷ []) ++ take (n - 1) (xs ++ x ∷ []) ≡ x ∷ xs
+rotated xs x n e = let k : n - 1 ≡ length xs = omega arith in ap (λ (i : ℕ). drop i (xs ++ x ∷ []) ++ take i (xs ++ x ∷ [])) k ∙ ap (λ l. l ++ take (length xs) (xs ++ x ∷ [])) (drop_all xs (x ∷ [])) ∙ ap (λ l. x ∷ l) (take_all xs (x ∷ []))

@@ -1,0 +1,42 @@
+use Rattle.std.proofs.Common.{◌≡◌, ◌∙◌, ℕ, Ok, true, ap, refl, sym, subst}
+use Rattle.held_pins.specs.Tokens.{IsNew, IsPinnedFor, Tokens, tokens_more}
+use Rattle.held_pins.specs.Rests.{Rests}
+use Rattle.backend_pass.specs.Managers.{Belongs}
+use Rattle.backend_pass.specs.Passes.{PassState, first_of}
+use Rattle.backend_pass.proofs.BlockReads.{frame_again, not_both, pinned_more, pinned_read, rests_again}
+use Rattle.backend_pass.proofs.Releasing.{AreHeld, belongs_held, held_again}
+use Rattle.backend_pass.proofs.pass.Pass.read_buffer.Goals as goal
+
+pub returns-in_default-clause-again : goal.returns-in_default-clause-again
+returns-in_default-clause-again g c none f pinned = absurd (not_both c.args.tag f c.self.inside.held (subst (λ (p : PassState). IsPinnedFor c.args.tag f p.tokens) (sym c.self.view_is) pinned) c.in_default.ensures.new)
+
+pub returns-in_default-clause-pinned : goal.returns-in_default-clause-pinned
+returns-in_default-clause-pinned g c = pinned_read {L = g.row.L.Denot} {G = g.row.G.Denot} g.L.BlockLane.contents c.args.manager.now.table c.args.tag _ c.read_new.new.self c.read_new.result c.read_new.ensures.answer
+
+pub invariant_of-self : goal.invariant_of-self
+invariant_of-self g c =
+    let i = c.self.invariant in
+    (i.0, subst (λ (t : Tokens). Rests t (first_of c.self.inside.seat.views)) (sym c.add_token.ensures) (rests_again c.in-Some.frame c.self.inside.held (first_of c.self.inside.seat.views) i.1), i.2, i.3)
+
+pub returns-clause-belongs : goal.returns-clause-belongs
+returns-clause-belongs g c =
+    belongs_held {L = g.row.L.Denot} {G = g.row.G.Denot} g.L.BlockLane.contents c.args.manager.now _ _ refl refl refl (subst (λ (t : Tokens). AreHeld c.self.inside.held t) (sym c.add_token.ensures) (held_again c.in-Some.frame c.self.inside.held))
+    (subst (Belongs {L = g.row.L.Denot} {G = g.row.G.Denot} g.L.BlockLane.contents c.args.manager.now) (sym c.self.view_is) c.requires.belongs)
+
+pub returns-clause-again : goal.returns-clause-again
+returns-clause-again g c none f pinned =
+    let here = subst (λ (p : PassState). IsPinnedFor c.args.tag c.in-Some.frame p.tokens) c.self.view_is c.in-Some.ensures.pinned in
+    let same : c.in-Some.frame ≡ f = frame_again {L = g.row.L.Denot} {G = g.row.G.Denot} g.L.BlockLane.contents c.args.manager.now c.args.self.now c.args.tag c.in-Some.frame f here pinned c.requires.belongs in
+    let tokens : c.add_token.new.self ≡ tokens_more f c.self.inside.held = c.add_token.ensures ∙ ap (λ (x : ℕ). tokens_more x c.self.inside.held) same in (
+      ap (λ (x : ℕ). Ok (record { frame = x; tag = c.args.tag; hit = true })) same,
+      again _ f c.self.view_is tokens,
+    )
+  where
+    again : (p : PassState) (f : ℕ) {q : PassState} {t : Tokens} → p ≡ q → t ≡ tokens_more f p.tokens → record p { tokens = t } ≡ record q { tokens = tokens_more f q.tokens }
+    again p f e tokens = ap (λ (t : Tokens). record p { tokens = t }) tokens ∙ ap (λ (x : PassState). record x { tokens = tokens_more f x.tokens }) e
+
+pub returns-clause-new : goal.returns-clause-new
+returns-clause-new g c none new = absurd (not_both c.args.tag c.in-Some.frame c.self.inside.held c.in-Some.ensures.pinned (subst (λ (p : PassState). IsNew c.args.tag p.tokens) (sym c.self.view_is) new))
+
+pub returns-clause-pinned : goal.returns-clause-pinned
+returns-clause-pinned g c = subst (IsPinnedFor c.args.tag c.in-Some.frame) (sym c.add_token.ensures) (pinned_more c.args.tag c.in-Some.frame c.self.inside.held c.in-Some.ensures.pinned)

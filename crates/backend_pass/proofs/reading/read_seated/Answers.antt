@@ -1,0 +1,70 @@
+use Rattle.std.proofs.Common.{◌≡◌, ◌∙◌, ap, subst}
+use Rattle.atomic_table.specs.declared.badge.Badge.{Badge}
+use Rattle.block_tag.specs.Names.{lane_number}
+use Rattle.pin_core.specs.declared.view.View.{View}
+use Rattle.frame_table.specs.Seats.{lanes_in}
+use Rattle.held_pins.specs.Rests.{Advances, HasNoDevice, HasNoLatch, LinksRest, kept_of}
+use Rattle.buffer_frames.specs.Reads.{ReadAnswer, ReadCalls, met_read_block}
+use Rattle.backend_pass.specs.Passes.{first_of}
+use Rattle.backend_pass.proofs.Seated.{moved, moved_one, one_view, view_of_seat}
+use Rattle.backend_pass.proofs.reading.read_seated.Goals as goal
+
+pub read_block-answer-requires-clause-stands : goal.read_block-answer-requires-clause-stands
+read_block-answer-requires-clause-stands g c =
+    let before = view_of_seat c.args.badge.now c.replace.result c.into_seat-seat.result.me.0 c.replace.ensures.value c.into_seat-seat.ensures.2 in record {
+      fits = c.into_seat-seat.ensures.0 ∙ ap (λ (b : Badge View). b.table_id) c.replace.ensures.value ∙ c.requires.table;
+      hand = c.into_seat-seat.ensures.3;
+      quiet = subst HasNoDevice before c.requires.rests.quiet;
+    }
+
+pub read_block-answer-requires-clause-rests : goal.read_block-answer-requires-clause-rests
+read_block-answer-requires-clause-rests g c =
+    let before = view_of_seat c.args.badge.now c.replace.result c.into_seat-seat.result.me.0 c.replace.ensures.value c.into_seat-seat.ensures.2 in
+    subst (LinksRest c.args.held.now) before c.requires.rests.links
+
+pub read_block-answer-requires-clause-latches : goal.read_block-answer-requires-clause-latches
+read_block-answer-requires-clause-latches g c =
+    let before = view_of_seat c.args.badge.now c.replace.result c.into_seat-seat.result.me.0 c.replace.ensures.value c.into_seat-seat.ensures.2 in
+    subst HasNoLatch before c.requires.rests.latches
+
+pub returns-clause-table : goal.returns-clause-table
+returns-clause-table g c = c.into_badge.ensures.0 ∙ c.read_block-answer.ensures.seat.table ∙ c.into_seat-seat.ensures.0 ∙ ap (λ (b : Badge View). b.table_id) c.replace.ensures.value
+
+pub returns-clause-id : goal.returns-clause-id
+returns-clause-id g c = c.into_badge.ensures.1 ∙ c.read_block-answer.ensures.seat.id ∙ c.into_seat-seat.ensures.1 ∙ ap (λ (b : Badge View). b.id) c.replace.ensures.value
+
+pub returns-clause-view : goal.returns-clause-view
+returns-clause-view g c = one_view c.into_badge.result c.read_block-answer.new.seat.me.0 c.into_badge.ensures.2
+
+pub returns-clause-quiet : goal.returns-clause-quiet
+returns-clause-quiet g c = moved_one HasNoDevice (first_of c.into_badge.result.views) c.read_block-answer.new.seat.me.0 (ap first_of c.into_badge.ensures.2) c.read_block-answer.ensures.stands.quiet
+
+pub returns-clause-latches : goal.returns-clause-latches
+returns-clause-latches g c = moved_one HasNoLatch (first_of c.into_badge.result.views) c.read_block-answer.new.seat.me.0 (ap first_of c.into_badge.ensures.2) c.read_block-answer.ensures.latches
+
+pub returns-clause-kept : goal.returns-clause-kept
+returns-clause-kept g c =
+    let before = view_of_seat c.args.badge.now c.replace.result c.into_seat-seat.result.me.0 c.replace.ensures.value c.into_seat-seat.ensures.2 in
+    moved (λ v w. kept_of w ≡ kept_of v) (first_of c.args.badge.now.views) (first_of c.into_badge.result.views) c.into_seat-seat.result.me.0 c.read_block-answer.new.seat.me.0 before (ap first_of c.into_badge.ensures.2) c.read_block-answer.ensures.kept
+
+pub returns-clause-advances : goal.returns-clause-advances
+returns-clause-advances g c =
+    let before = view_of_seat c.args.badge.now c.replace.result c.into_seat-seat.result.me.0 c.replace.ensures.value c.into_seat-seat.ensures.2 in
+    moved Advances (first_of c.args.badge.now.views) (first_of c.into_badge.result.views) c.into_seat-seat.result.me.0 c.read_block-answer.new.seat.me.0 before (ap first_of c.into_badge.ensures.2) c.read_block-answer.ensures.advances
+
+pub returns-clause-answer : goal.returns-clause-answer
+returns-clause-answer g c =
+    let before = view_of_seat c.args.badge.now c.replace.result c.into_seat-seat.result.me.0 c.replace.ensures.value c.into_seat-seat.ensures.2 in
+    moved (λ v w. ReadAnswer {L = g.row.L.Denot} {G = g.row.G.Denot} g.L.BlockLane.contents c.args.manager.now.table c.args.tag c.args.held.now c.read_block-answer.new.census.words v w c.read_block-answer.result)
+    (first_of c.args.badge.now.views) (first_of c.into_badge.result.views) c.into_seat-seat.result.me.0 c.read_block-answer.new.seat.me.0 before (ap first_of c.into_badge.ensures.2) c.read_block-answer.ensures.answer
+
+pub returns-clause-met : goal.returns-clause-met
+returns-clause-met g c =
+    let before = view_of_seat c.args.badge.now c.replace.result c.into_seat-seat.result.me.0 c.replace.ensures.value c.into_seat-seat.ensures.2 in
+    moved (λ v w. w.met ≡ met_read_block c.read_block-answer.result v.met) (first_of c.args.badge.now.views) (first_of c.into_badge.result.views) c.into_seat-seat.result.me.0 c.read_block-answer.new.seat.me.0 before (ap first_of c.into_badge.ensures.2) c.read_block-answer.ensures.met
+
+pub returns-clause-calls : goal.returns-clause-calls
+returns-clause-calls g c =
+    let before = view_of_seat c.args.badge.now c.replace.result c.into_seat-seat.result.me.0 c.replace.ensures.value c.into_seat-seat.ensures.2 in
+    moved (λ v w. ReadCalls (lane_number c.args.tag (lanes_in c.args.manager.now.table)) c.args.tag v w c.read_block-answer.result)
+    (first_of c.args.badge.now.views) (first_of c.into_badge.result.views) c.into_seat-seat.result.me.0 c.read_block-answer.new.seat.me.0 before (ap first_of c.into_badge.ensures.2) c.read_block-answer.ensures.calls

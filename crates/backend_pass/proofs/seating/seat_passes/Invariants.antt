@@ -1,0 +1,22 @@
+use Rattle.std.proofs.Common.{◌≡◌, ◌≤◌, ◌+◌, vec_len}
+use Rattle.std.specs.Prelude.{vec_capacity}
+use Rattle.clock_sweep.specs.CensusList.{new_census}
+use Rattle.frame_table.specs.Seats.{frames_of}
+use Rattle.held_pins.specs.Tokens.{no_tokens}
+use Rattle.backend_pass.specs.Kits.{AreFresh}
+use Rattle.backend_pass.proofs.Starting.{OthersAreNew, first_at}
+use Rattle.backend_pass.proofs.seating.seat_passes.Given as goal
+
+abbrev pub invariant-loop-number : goal.invariant-loop-number
+invariant-loop-number g l = record {
+  kits : vec_len l.kits + l.number ≡ l.fn.count;
+  fresh : AreFresh (frames_of l.fn.manager.table) l.kits.items;
+  table : l.first.table ≡ l.fn.manager.table.table.shared.table_id;
+  id : l.first.id ≡ 0;
+  view : l.first.view ≡ first_at l.fn.base l.fn.manager.table.table.shared.key.config.frames 128 l.fn.manager.table.table.shared.key.config.lanes l.number;
+  tokens : l.first.tokens ≡ no_tokens;
+  census : l.first.census ≡ new_census (frames_of l.fn.manager.table);
+  counted : vec_len l.passes + 1 ≡ l.number;
+  each : OthersAreNew {L = g.row.L.Denot} {G = g.row.G.Denot} g.L.BlockLane.contents l.fn.manager l.fn.count l.passes.items;
+  wide : l.fn.count ≤ vec_capacity l.passes;
+}

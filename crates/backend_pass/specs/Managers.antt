@@ -1,0 +1,103 @@
+-- A manager and its passes.
+use Rattle.std.specs.Prelude.{◌≡◌, ◌<◌, ◌≤◌, ℕ, List, [], ◌∷◌, length, take, get_or, true, false, nat_eq, Bool, Option, Some, if◌then◌else◌}
+use mathlib.Core.Option.{some}
+use lib.ListN.{get_elem?}
+use Rattle.std.specs.Global.{Vec}
+use Rattle.block_tag.specs.declared.catalogue.RelEntry.{RelEntry}
+use Rattle.block_tag.specs.declared.tag.Tag.{Tag}
+use Rattle.block_tag.specs.Names.{names_block, packed_tag}
+use Rattle.segment_store.specs.Contents.{Pages}
+use Rattle.table_rule.specs.declared.config.Config.{Config}
+use Rattle.atomic_table.specs.Seated.{TableId}
+use Rattle.pin_core.specs.declared.view.View.{View}
+use Rattle.pin_core.specs.State.{emptied_view}
+use Rattle.table_rule.specs.Blocks.{is_block}
+use Rattle.clock_sweep.specs.CensusList.{new_census}
+use Rattle.frame_table.specs.Opened.{WasSoundAtOpening}
+use Rattle.frame_table.specs.Seats.{base_of, frames_of, relations_of}
+use Rattle.held_pins.specs.Tokens.{HeldFrame, held_at, no_tokens}
+use Rattle.backend_pass.specs.declared.manager.Manager.{Manager}
+use Rattle.backend_pass.specs.Passes.{PassState}
+
+module _ {L G : Type 0} where
+  -- The manager was opened with these numbers, relations and devices, over a log that begins at `base`
+  pub record Opens (config : Config) (catalog : List RelEntry) (lanes : Vec L) (log : G) (base : ℕ) (m : Manager L G) : Type 0 where
+    pub config_is : m.table.table.shared.key.config ≡ config
+    pub catalog_is : m.table.table.shared.key.catalog.value ≡ catalog
+    pub lanes_are : m.table.table.shared.key.lanes.value ≡ lanes
+    pub log_is : m.table.table.shared.key.log.value ≡ log
+    pub base_is : m.table.table.shared.key.base ≡ base
+
+  -- The pass is one of the manager's
+  pub record Belongs (contents : L → Option Pages) (m : Manager L G) (p : PassState) : Type 0 where
+    pub table : p.table ≡ m.table.table.shared.table_id
+    pub frames : p.census.frames ≡ frames_of m.table
+    -- its tokens are of frames of the pool, which have blocks of the relations
+    pub inside : (f : ℕ) (h : HeldFrame) → held_at p.tokens f ≡ Some h → f < frames_of m.table
+    pub blocks : (f : ℕ) (h : HeldFrame) → held_at p.tokens f ≡ Some h → is_block (relations_of m.table) h.tag ≡ true
+    -- no two of them of one block
+    pub alone : (f g : ℕ) (h k : HeldFrame) → held_at p.tokens f ≡ Some h → held_at p.tokens g ≡ Some k → h.tag ≡ k.tag → f ≡ g
+    -- which were sound as the table was opened, where the lanes' contents at that time are known
+    pub sound : (f : ℕ) (h : HeldFrame) → held_at p.tokens f ≡ Some h → (tag : Tag) → packed_tag tag ≡ h.tag → names_block tag ≡ true → WasSoundAtOpening contents m.table tag
+    -- what it has read and put stands in the log, whose beginning is the front of a pass that has done neither
+    pub based : base_of m.table ≤ p.view.front
+
+  -- The pass number i of so many, which has done nothing yet
+  pub record IsNewPass (contents : L → Option Pages) (m : Manager L G) (passes i : ℕ) (p : PassState) : Type 0 where
+    pub belongs : Belongs contents m p
+    pub number : p.view.number ≡ i
+    pub tokens : p.tokens ≡ no_tokens
+    pub census : p.census ≡ new_census (frames_of m.table)
+    pub calls : p.view.calls ≡ []
+    pub front : p.view.front ≡ base_of m.table
+    pub device_calls : p.view.device_calls ≡ []
+    pub met : p.view.met ≡ record { reads = 0; writes = 0; logs = 0 }
+    pub unmarked : p.view.dirtied_or_synced ≡ false
+    pub up : p.view.saw_down ≡ false
+    pub upto : p.view.upto ≡ 0
+    pub kept : p.view.kept ≡ []
+    -- the first one has given the numbers of all others, and taken in none
+    pub joined : p.view.joined ≡ 0
+    pub next : i ≡ 0 → p.view.next ≡ passes
+
+  -- so many, in order
+  pub record AreNewPasses (contents : L → Option Pages) (m : Manager L G) (passes : ℕ) (ps : List PassState) : Type 0 where
+    pub counted : length ps ≡ passes
+    pub each : (i : ℕ) (p : PassState) → get_elem? ps i ≡ some p → IsNewPass contents m passes i p
+
+-- whether it is the first pass, that of number 0
+abbrev pub is_first : PassState → Bool
+is_first p = nat_eq p.view.number 0
+
+-- the view of the first pass, and the other passes
+abbrev pub first_in : List PassState → View
+first_in [] = emptied_view
+first_in (p ∷ ps) = if is_first p then p.view else first_in ps
+
+abbrev pub others_in : List PassState → List PassState
+others_in [] = []
+others_in (p ∷ ps) = if is_first p then ps else p ∷ others_in ps
+
+-- none is the first, and the first stands at this place
+abbrev pub AreOthers : List PassState → Type 0
+AreOthers [] = Unit {0}
+AreOthers (p ∷ ps) = (is_first p ≡ false) × AreOthers ps
+
+pub record IsFirstAt (place : ℕ) (ps : List PassState) : Type 0 where
+  pub inside : place < length ps
+  pub before : AreOthers (take place ps)
+  pub here : (p : PassState) → p ≡ get_or ps place p → is_first p ≡ true
+
+-- each is of the table, and has no token
+abbrev pub AreSpent : TableId → List PassState → Type 0
+AreSpent table [] = Unit {0}
+AreSpent table (p ∷ ps) = (p.table ≡ table) × (p.tokens ≡ no_tokens) × AreSpent table ps
+
+module _ {L G : Type 0} where
+  -- The passes are all that the manager gave, in any order, and none has a token
+  pub record AreAll (m : Manager L G) (ps : List PassState) : Type 0 where
+    pub nonempty : 0 < length ps
+    -- as many as the first one has given numbers for; it has taken in none
+    pub counted : length ps ≡ (first_in ps).next
+    pub joined : (first_in ps).joined ≡ 0
+    pub spent : AreSpent m.table.table.shared.table_id ps

@@ -1,0 +1,74 @@
+-- What contracts see of a pass.
+use Rattle.std.specs.Prelude.{◌≡◌, ℕ, List, [], ◌∷◌, min}
+use Rattle.atomic_table.specs.Seated.{TableId}
+use Rattle.pin_core.specs.declared.view.View.{View}
+use Rattle.pin_core.specs.State.{emptied_view}
+use Rattle.clock_sweep.specs.CensusList.{CensusList}
+use Rattle.held_pins.specs.Tokens.{HeldFrame, no_tokens}
+use Rattle.held_pins.specs.Rests.{Advances, Rests}
+use Rattle.backend_pass.specs.declared.met.Shown.{Shown}
+
+-- A backend of a manager between two calls
+pub record PassState : Type 0 where
+  -- its seat: the table's, with the number that the table gave it, and what it knows and has done
+  pub table : TableId
+  pub id : ℕ
+  pub view : View
+  -- the tokens that its callers have
+  pub tokens : List HeldFrame
+  -- the words that its last choice of a victim loaded, where that found each frame pinned
+  pub census : CensusList
+
+abbrev pub first_of : List View → View
+first_of [] = emptied_view
+first_of (v ∷ vs) = v
+
+-- a count as it is shown: it stands still at its type's last value
+abbrev pub shown_count : ℕ → ℕ
+shown_count n = min n 18446744073709551615
+
+-- What is shown of a view: its front, and the faults that it met
+pub record IsShown (v : View) (s : Shown) : Type 0 where
+  pub front : s.front ≡ v.front
+  pub reads : s.met.reads ≡ shown_count v.met.reads
+  pub writes : s.met.writes ≡ shown_count v.met.writes
+  pub logs : s.met.logs ≡ shown_count v.met.logs
+
+-- The number of a pass is its view's, and number 0 is the first seat's
+pub record IsNumbered (number id : ℕ) (v : View) : Type 0 where
+  pub number_is : v.number ≡ number
+  pub first : number ≡ 0 → id ≡ 0
+
+-- The view of a pass that has done nothing, over a log that begins at `base`
+pub record IsFreshView (number id base : ℕ) (v : View) : Type 0 where
+  pub rests : Rests no_tokens v
+  pub numbered : IsNumbered number id v
+  pub front : v.front ≡ base
+  pub met : v.met ≡ record { reads = 0; writes = 0; logs = 0 }
+
+-- It is the same pass: what each call leaves of it, and what only rises
+pub record SamePass (p q : PassState) : Type 0 where
+  pub table : q.table ≡ p.table
+  pub id : q.id ≡ p.id
+  pub frames : q.census.frames ≡ p.census.frames
+  pub number : q.view.number ≡ p.view.number
+  pub next : q.view.next ≡ p.view.next
+  pub joined : q.view.joined ≡ p.view.joined
+  pub kept : q.view.kept ≡ p.view.kept
+  pub upto : q.view.upto ≡ p.view.upto
+  pub advances : Advances p.view q.view
+
+-- What it read and put, and its front, are as they were
+pub record KeepsCalls (p q : PassState) : Type 0 where
+  pub calls : q.view.calls ≡ p.view.calls
+  pub front : q.view.front ≡ p.view.front
+  pub place_loads : q.view.place_loads ≡ p.view.place_loads
+
+-- whether it has marked a frame dirty or synced a lane
+abbrev pub KeepsMark : PassState → PassState → Type 0
+KeepsMark p q = q.view.dirtied_or_synced ≡ p.view.dirtied_or_synced
+
+-- No device was called
+pub record KeepsDevices (p q : PassState) : Type 0 where
+  pub device_calls : q.view.device_calls ≡ p.view.device_calls
+  pub met : q.view.met ≡ p.view.met

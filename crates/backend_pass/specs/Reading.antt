@@ -1,0 +1,116 @@
+-- How a pass reads a block, and what it is refused for.
+use Rattle.std.specs.Prelude.{◌≡◌, ℕ, ◌+◌, ◌<◌, nat_lt, nat_eq, true, false, List, [], ◌∷◌, Option, Some, None, Result, Ok, Err, if◌then◌else◌}
+use Rattle.block_tag.specs.declared.catalogue.RelEntry.{RelEntry}
+use Rattle.block_tag.specs.declared.tag.Tag.{Tag}
+use Rattle.block_tag.specs.Catalogue.{blocks_at}
+use Rattle.block_tag.specs.Names.{lane_number, packed_tag}
+use Rattle.segment_store.specs.Contents.{Pages}
+use Rattle.pin_core.specs.declared.view.DeviceCall.TheVariants.{LaneRead}
+use Rattle.pin_core.specs.declared.view.Met.{Met}
+use Rattle.pin_core.specs.declared.view.View.{View}
+use Rattle.pin_core.specs.State.{link}
+use Rattle.frame_table.specs.declared.table.FrameTable.{FrameTable}
+use Rattle.frame_table.specs.Opened.{WasSoundAtOpening}
+use Rattle.frame_table.specs.Seats.{frames_of, lanes_in}
+use Rattle.wal_flush.specs.declared.flushes.FlushLog.TheVariants as log
+use Rattle.held_pins.specs.Tokens.{Tokens, count_of, held_at, tokens_with}
+use Rattle.buffer_frames.specs.declared.flushing.FlushError.TheVariants as flush
+use Rattle.buffer_frames.specs.declared.victims.VictimError.TheVariants as victim
+use Rattle.buffer_frames.specs.declared.reading.BlockError.{BlockError}
+use Rattle.buffer_frames.specs.declared.reading.BlockError.TheVariants as block
+use Rattle.buffer_frames.specs.Loading.{WasUnsoundAtOpening, loading_calls}
+use Rattle.buffer_frames.specs.Reads.{Locates, Misses}
+use Rattle.buffer_frames.specs.Victims.{FindsAllPinned, LeavesDirty}
+use Rattle.buffer_frames.specs.Working.{met_log, met_read, met_write}
+use Rattle.backend_pass.specs.declared.errors.ReadError.{ReadError}
+use Rattle.backend_pass.specs.declared.errors.ReadError.TheVariants.{PastEnd, PinsFull, NoUnpinned, ReadFault, WriteFault, LogFault, LogDown, LogShort, Unsound}
+use Rattle.backend_pass.specs.declared.met.Met as shown
+use Rattle.backend_pass.specs.declared.met.Shown.{Shown}
+use Rattle.backend_pass.specs.declared.pinned.Pinned.{Pinned}
+use Rattle.backend_pass.specs.Passes.{PassState, shown_count}
+
+-- what is refused before anything is looked at: a block past the end of its fork, and then one token too many
+abbrev pub refused_at_once : List RelEntry → Tokens → Tag → Option ReadError
+refused_at_once relations tokens tag =
+    if nat_lt tag.block (blocks_at relations tag.rel.0 tag.fork) then (if nat_eq (count_of tokens) 8 then Some PinsFull else None)
+    else Some (PastEnd tag.block (blocks_at relations tag.rel.0 tag.fork))
+
+-- what a pass is refused for, by the refusal of its frames
+abbrev pub read_refusal : BlockError → ReadError
+read_refusal (block.NoFrame (victim.NoUnpinned frames)) = NoUnpinned frames
+read_refusal (block.NoFrame (victim.Flush (flush.WriteFault tag))) = WriteFault tag
+read_refusal (block.NoFrame (victim.Flush (flush.Log log.LogFault))) = LogFault
+read_refusal (block.NoFrame (victim.Flush (flush.Log (log.LogDown at)))) = LogDown at
+read_refusal (block.NoFrame (victim.Flush (flush.Log (log.LogShort lsn end)))) = LogShort lsn end
+read_refusal (block.ReadFault tag) = ReadFault tag
+read_refusal (block.Unsound tag) = Unsound tag
+
+-- the faults that were met, by the refusal, and by the answer
+abbrev pub met_read_refused : ReadError → Met → Met
+met_read_refused (PastEnd block blocks) m = m
+met_read_refused PinsFull m = m
+met_read_refused (NoUnpinned frames) m = m
+met_read_refused (ReadFault tag) m = met_read m
+met_read_refused (WriteFault tag) m = met_write m
+met_read_refused LogFault m = met_log m
+met_read_refused (LogDown at) m = m
+met_read_refused (LogShort lsn end) m = m
+met_read_refused (Unsound tag) m = m
+
+abbrev pub met_reading : Result Pinned ReadError → Met → Met
+met_reading (Ok pinned) m = m
+met_reading (Err why) m = met_read_refused why m
+
+-- what is shown after a refusal
+abbrev pub met_shown : ReadError → shown.Met → shown.Met
+met_shown (PastEnd block blocks) m = m
+met_shown PinsFull m = m
+met_shown (NoUnpinned frames) m = m
+met_shown (ReadFault tag) m = record m { reads = shown_count (m.reads + 1) }
+met_shown (WriteFault tag) m = record m { writes = shown_count (m.writes + 1) }
+met_shown LogFault m = record m { logs = shown_count (m.logs + 1) }
+met_shown (LogDown at) m = m
+met_shown (LogShort lsn end) m = m
+met_shown (Unsound tag) m = m
+
+abbrev pub shown_after : ReadError → Shown → Shown
+shown_after why s = record s { met = met_shown why s.met }
+
+-- The lane q was read for the block where the answer says so, and no lane else. Where the map gave no frame for it at first, all else was done after that
+abbrev pub ReadingCalls : ℕ → Tag → View → View → Result Pinned ReadError → Type 0
+ReadingCalls q tag v w (Ok pinned) = Locates tag pinned.frame (loading_calls q (packed_tag tag) (Ok pinned.hit)) v w
+ReadingCalls q tag v w (Err (ReadFault failed)) = (f : ℕ) × Locates tag f (LaneRead q (packed_tag tag) false ∷ []) v w
+ReadingCalls q tag v w (Err (Unsound failed)) = (f : ℕ) × Locates tag f (LaneRead q (packed_tag tag) true ∷ []) v w
+ReadingCalls q tag v w (Err why) = Misses tag [] v w
+
+module _ {L G : Type 0} (contents : L → Option Pages) (t : FrameTable L G) where
+  -- why a block was not read that was looked up: all frames were pinned; a victim's page was not written; or the block's own page was not read, or isn't sound, and wasn't as the table was opened, where that is known
+  abbrev pub ReadingRefused : Tag → PassState → PassState → ReadError → Type 0
+  ReadingRefused tag p q (PastEnd block blocks) = ⊥
+  ReadingRefused tag p q PinsFull = ⊥
+  ReadingRefused tag p q (NoUnpinned frames) = (frames ≡ frames_of t) × FindsAllPinned (frames_of t) p.view q.view q.census.words
+  ReadingRefused tag p q (ReadFault failed) = failed ≡ tag
+  ReadingRefused tag p q (WriteFault failed) = LeavesDirty contents t (flush.WriteFault failed) p.view q.view
+  ReadingRefused tag p q LogFault = LeavesDirty contents t (flush.Log log.LogFault) p.view q.view
+  ReadingRefused tag p q (LogDown at) = LeavesDirty contents t (flush.Log (log.LogDown at)) p.view q.view
+  ReadingRefused tag p q (LogShort lsn end) = LeavesDirty contents t (flush.Log (log.LogShort lsn end)) p.view q.view
+  ReadingRefused tag p q (Unsound failed) = (failed ≡ tag) × WasUnsoundAtOpening contents t tag
+
+  -- The block is pinned with its first token, BM_VALID was seen, and the block was sound as the table was opened, where that is known
+  pub record PinsFirst (tag : Tag) (p q : PassState) (pinned : Pinned) : Type 0 where
+    pub named : pinned.tag ≡ tag
+    pub tokens : q.tokens ≡ tokens_with pinned.frame (packed_tag tag) p.tokens
+    pub new : held_at p.tokens pinned.frame ≡ None
+    pub inside : pinned.frame < frames_of t
+    pub seen : (link q.view pinned.frame).seen_valid ≡ true
+    pub sound : WasSoundAtOpening contents t tag
+
+  -- what came of a block that was looked up
+  abbrev pub ReadingAnswer : Tag → PassState → PassState → Result Pinned ReadError → Type 0
+  ReadingAnswer tag p q (Ok pinned) = PinsFirst tag p q pinned
+  ReadingAnswer tag p q (Err why) = (q.tokens ≡ p.tokens) × ReadingRefused tag p q why
+
+  -- A block was looked up, with this answer and these calls of devices
+  pub record ReadsBlock (tag : Tag) (p q : PassState) (r : Result Pinned ReadError) : Type 0 where
+    pub answer : ReadingAnswer tag p q r
+    pub calls : ReadingCalls (lane_number tag (lanes_in t)) tag p.view q.view r

@@ -1,0 +1,75 @@
+//! Passes give their seats back.
+ghost use Rattle.std.specs.Prelude.{◌≡◌, ◌<◌, []};
+ghost use Rattle.frame_table.specs.Seats.{Fits, SameSeat};
+ghost use Rattle.held_pins.specs.Tokens.{no_tokens};
+ghost use Rattle.held_pins.specs.Rests.{Rests};
+ghost use Rattle.backend_pass.specs.Managers.{AreSpent, IsFirstAt, first_in, is_first};
+ghost use Rattle.backend_pass.specs.Closing.{joined_views};
+
+use crate::manager::Manager;
+use crate::pass::Pass;
+use atomic_table::Seat;
+use frame_table::Value;
+use log_device::LogDevice;
+use pin_core::View;
+use segment_store::BlockLane;
+
+impl Pass {
+    /// Whether it is the first pass, which has the first seat.
+    fn is_first(&self) -> bool
+        ensures { result ≡ is_first self.now }
+    {
+        self.number == 0
+    }
+
+    /// A pass without tokens ends, and its seat is left.
+    pub(crate) fn leave<L: BlockLane, G: LogDevice>(self) -> Seat<Value<L, G>, View>
+        requires { self.tokens ≡ no_tokens }
+        ensures table { result.table_id ≡ self.table }
+        ensures me { (result.me.0 ≡ self.view) × (result.me.1 ≡ []) }
+        ensures rests { Rests no_tokens self.view }
+        ensures first { self.view.number ≡ 0 → result.id ≡ 0 }
+    {
+        let Pass {
+            number: _,
+            seat,
+            held,
+            census: _,
+            page: _,
+            shown: _,
+        } = self;
+        held.spend();
+        seat.into_seat::<Value<L, G>>()
+    }
+}
+
+/// Where the first pass stands.
+pub(crate) fn place_of_first(passes: &[Pass]) -> usize
+    requires { 0 < (first_in passes.now).next }
+    ensures { IsFirstAt result passes.now }
+{
+    for place in 0..passes.len() {
+        if passes[place].is_first() {
+            return place;
+        }
+    }
+    unreachable!()
+}
+
+/// The first seat takes in what the other passes know, one after the other.
+pub(crate) fn join_all<L: BlockLane, G: LogDevice>(
+    manager: &Manager<L, G>,
+    seat: &mut Seat<Value<L, G>, View>,
+    mut others: Vec<Pass>,
+)
+    requires seat { Fits manager.now.table seat.old × (seat.old.id ≡ 0) }
+    requires others { AreSpent manager.now.table.table.shared.table_id others.items }
+    ensures seat { SameSeat seat.old seat.new }
+    ensures joined { seat.new.me.0 ≡ joined_views seat.old.me.0 others.items }
+{
+    others.reverse();
+    while let Some(pass) = others.pop() {
+        manager.table.join(seat, pass.leave());
+    }
+    others.destroy_empty();
+}

@@ -1,0 +1,121 @@
+//! A manager.
+ghost use Rattle.std.specs.Prelude.{◌≡◌, ◌≤◌, ◌%◌, ◌^◌, length, None, IfErr, IfOk, unwrap_or};
+ghost use Rattle.table_rule.specs.Shows.{AreLanes, IsNewLog, devices};
+ghost use Rattle.backend_pass.specs.declared.errors.StartError.TheVariants as why;
+ghost use Rattle.backend_pass.specs.Starting.{start_refusal};
+
+use crate::closing::{join_all, place_of_first};
+use crate::errors::{Setting, StartError, StartRefused};
+use crate::pass::Pass;
+use crate::rooms::Room;
+use crate::seating::seat_passes;
+use block_tag::Catalog;
+use clock_sweep::Sweep;
+use frame_table::{BuildRefused, Config, FrameTable};
+use log_device::LogDevice;
+use segment_store::BlockLane;
+use std::alloc::Global;
+
+/// The manager of a pool of buffers, which the passes share.
+pub struct Manager<L: BlockLane, G: LogDevice> {
+    pub(crate) table: FrameTable<L, G>,
+    pub(crate) sweep: Sweep,
+}
+
+/// What a configuration is refused for, where so many lanes are given.
+fn refusal(config: &Config, given: usize) -> Option<StartError>
+    ensures { result ≡ start_refusal config.now given }
+{
+    if !(16..=4096).contains(&config.frames) {
+        return Some(StartError::BadConfig {
+            which: Setting::Frames,
+            number: config.frames,
+        });
+    }
+    if !(1..=64).contains(&config.passes) {
+        return Some(StartError::BadConfig {
+            which: Setting::Passes,
+            number: config.passes,
+        });
+    }
+    if !(1..=16).contains(&config.lanes) {
+        return Some(StartError::BadConfig {
+            which: Setting::Lanes,
+            number: config.lanes,
+        });
+    }
+    if config.lanes as usize != given {
+        return Some(StartError::LanesDiffer {
+            wanted: config.lanes,
+            given,
+        });
+    }
+    None
+}
+
+impl<L: BlockLane, G: LogDevice> Manager<L, G> {
+    ghost use Rattle.backend_pass.specs.Managers.{AreAll, AreNewPasses, Opens};
+    ghost use Rattle.backend_pass.specs.Closing.{ClosesAll};
+
+    /// A manager of these relations and devices, over a log that begins at `base`, with all its passes, in the order of their numbers. A refusal gives the devices back uncalled.
+    pub fn start(
+        alloc: Global,
+        config: Config,
+        catalog: Catalog,
+        lanes: Vec<L>,
+        log: G,
+        base: u64,
+    ) -> Result<(Manager<L, G>, Vec<Pass>), StartRefused<L, G>>
+        requires base { (base % 8 ≡ 0) × (base ≤ 2 ^ 62) }
+        requires devices { AreLanes (devices L.contents L.failed_writes L.unsynced L.read_faults L.write_faults L.calls G.bytes G.synced G.faults G.calls) catalog lanes.items }
+        requires log { IsNewLog (devices L.contents L.failed_writes L.unsynced L.read_faults L.write_faults L.calls G.bytes G.synced G.faults G.calls) base log }
+        ensures fits { IfOk result (λ _. start_refusal config (length lanes.items) ≡ None) }
+        ensures refused { IfErr result (λ r. r.why ≡ unwrap_or (start_refusal config (length lanes.items)) why.Memory) }
+        ensures back { IfErr result (λ r. (r.lanes.items ≡ lanes.items) × (r.log ≡ log)) }
+        ensures opened { IfOk result (λ m. Opens config catalog lanes log base m.0) }
+        ensures passes { IfOk result (λ m. AreNewPasses L.contents m.0 config.passes m.1.items) }
+    {
+        if let Some(why) = refusal(&config, lanes.len()) {
+            return Err(StartRefused { why, lanes, log });
+        }
+        let Ok(room) = Room::take(alloc, config.frames, config.passes) else {
+            return Err(StartRefused {
+                why: StartError::Memory,
+                lanes,
+                log,
+            });
+        };
+        match FrameTable::build(alloc, config, catalog, lanes, log, base) {
+            Ok((table, seat)) => {
+                let Room {
+                    sweep,
+                    kits,
+                    passes,
+                } = room;
+                let manager = Manager { table, sweep };
+                let passes = seat_passes(&manager, seat, kits, passes, config.passes, base);
+                Ok((manager, passes))
+            }
+            Err(BuildRefused { lanes, log }) => {
+                room.spend();
+                Err(StartRefused {
+                    why: StartError::Memory,
+                    lanes,
+                    log,
+                })
+            }
+        }
+    }
+
+    /// The devices come back, when all passes are given back without tokens, in any order. The calls of the first pass and then those of the others, in the order of the list, are one history of the log.
+    pub fn close(self, mut passes: Vec<Pass>) -> (Vec<L>, G)
+        requires { AreAll self passes.items }
+        ensures { ClosesAll (devices L.contents L.failed_writes L.unsynced L.read_faults L.write_faults L.calls G.bytes G.synced G.faults G.calls) self.table.table.shared.key passes.items result.0.items result.1 }
+    {
+        let place = place_of_first(&passes);
+        let mut seat = passes.remove(place).leave();
+        join_all(&self, &mut seat, passes);
+        let Manager { table, sweep: _ } = self;
+        table.close(seat)
+    }
+}

@@ -1,0 +1,109 @@
+//! Passes.
+
+use crate::manager::Manager;
+use crate::met::{Met, Shown};
+use crate::pinned::Pinned;
+use atomic_table::Badge;
+use clock_sweep::Census;
+use crossbeam_utils::CachePadded;
+use frame_table::Value;
+use held_pins::HeldPins;
+use log_device::LogDevice;
+use page_layout::{Lsn, Page};
+use pin_core::View;
+use segment_store::BlockLane;
+use std::marker::Model;
+use std::mem::replace;
+use std::sync::Wait;
+
+/// A backend of a manager: the seat that it works with, the pins that it has handed out, and room of its own for a census and a page. `Manager::close` takes it back.
+pub struct Pass {
+    pub(crate) number: u32,
+    pub(crate) seat: Badge<View>,
+    pub(crate) held: HeldPins,
+    pub(crate) census: Census,
+    pub(crate) page: Page,
+    pub(crate) shown: CachePadded<Shown>,
+}
+
+impl Model for Pass {
+    ghost use Rattle.std.specs.Prelude.{◌≡◌, ◌∷◌, []};
+    ghost use Rattle.crossbeam_utils.specs.Padded.{padded_value};
+    ghost use Rattle.held_pins.specs.Rests.{Rests};
+    ghost use Rattle.backend_pass.specs.Passes.{IsNumbered, IsShown, PassState, first_of};
+
+    ghost Value = { PassState };
+
+    ghost view = { λ p. record { table = p.seat.table_id; id = p.seat.id; view = first_of p.seat.views; tokens = p.held; census = p.census } };
+
+    // Its seat has one view, which holds what its tokens say and nothing else.
+    ghost invariant = { λ p. (p.seat.views ≡ first_of p.seat.views ∷ []) × Rests p.held (first_of p.seat.views) × IsNumbered p.number p.seat.id (first_of p.seat.views) × IsShown (first_of p.seat.views) (padded_value p.shown) };
+}
+
+impl Pass {
+    ghost use Rattle.std.specs.Prelude.{◌≡◌, ◌≢◌, ℕ};
+    ghost use Rattle.pin_core.specs.declared.view.Content.TheVariants.{Unlocked};
+    ghost use Rattle.pin_core.specs.State.{link};
+    ghost use Rattle.held_pins.specs.Tokens.{IsPinnedFor, held_at, tokens_less, tokens_of};
+    ghost use Rattle.backend_pass.specs.Managers.{Belongs};
+    ghost use Rattle.backend_pass.specs.Passes.{KeepsCalls, KeepsDevices, KeepsMark, SamePass, shown_count};
+
+    /// The faults that the pass met.
+    pub fn met(&self) -> Met
+        ensures reads { result.reads ≡ shown_count self.now.view.met.reads }
+        ensures writes { result.writes ≡ shown_count self.now.view.met.writes }
+        ensures logs { result.logs ≡ shown_count self.now.view.met.logs }
+    {
+        self.shown.met
+    }
+
+    /// The largest place in the log of what the pass read and put; where the log begins, before that.
+    pub fn front(&self) -> Lsn
+        ensures { result ≡ self.now.view.front }
+    {
+        self.shown.front
+    }
+
+    /// The words of the frames, from frame 0 on, that the last choice of a victim loaded, where it found each frame pinned. They are of different moments.
+    pub fn census(&self) -> &[u64]
+        ensures { result.now ≡ self.now.census.words }
+    {
+        self.census.census()
+    }
+
+    /// Takes a token back (`ReleaseBuffer`). With the last one of its frame the pin is given up.
+    pub fn release<L: BlockLane, G: LogDevice, R: Wait>(
+        &mut self,
+        rt: &R,
+        manager: &Manager<L, G>,
+        pinned: Pinned,
+    )
+        requires belongs { Belongs L.contents manager.now self.old }
+        requires pinned { IsPinnedFor pinned.tag pinned.frame self.old.tokens }
+        requires unlocked { tokens_of (held_at self.old.tokens pinned.frame) ≡ 1 → (link self.old.view pinned.frame).content ≡ Unlocked }
+        ensures belongs { Belongs L.contents manager.now self.new }
+        ensures same { SamePass self.old self.new }
+        ensures tokens { self.new.tokens ≡ tokens_less pinned.frame self.old.tokens }
+        ensures census { self.new.census ≡ self.old.census }
+        ensures calls { KeepsCalls self.old self.new }
+        ensures mark { KeepsMark self.old self.new }
+        ensures devices { KeepsDevices self.old self.new }
+
+        // What the pass has at other frames is untouched, and all of it where another token of the frame is left.
+        ensures others { (g : ℕ) → g ≢ pinned.frame → link self.new.view g ≡ link self.old.view g }
+        ensures left { tokens_of (held_at self.old.tokens pinned.frame) ≢ 1 → self.new.view ≡ self.old.view }
+    {
+        let Pinned {
+            frame,
+            tag: _,
+            hit: _,
+        } = pinned;
+        let Some(pin) = self.held.take_token(frame) else {
+            return;
+        };
+        let mut seat = replace(&mut self.seat, Badge::blank()).into_seat::<Value<L, G>>();
+        // The word that is left tells whether a backend waits to be alone with the frame. It is not woken here yet.
+        manager.table.unpin(rt, &mut seat, pin);
+        self.seat = seat.into_badge();
+    }
+}

@@ -1,0 +1,254 @@
+//! A pass reads a block.
+ghost use Rattle.std.specs.Prelude.{◌≡◌, ◌∷◌, [], true};
+ghost use Rattle.block_tag.specs.Names.{lane_number, names_block};
+ghost use Rattle.table_rule.specs.Blocks.{has_block};
+ghost use Rattle.frame_table.specs.Seats.{frames_of, lanes_in, relations_of};
+ghost use Rattle.held_pins.specs.Rests.{Advances, HasNoDevice, HasNoLatch, Rests, kept_of};
+ghost use Rattle.held_pins.specs.Tokens.{IsNew};
+ghost use Rattle.buffer_frames.specs.Outside.{ring_shape};
+ghost use Rattle.buffer_frames.specs.Reads.{ReadAnswer, ReadCalls, met_read_block};
+ghost use Rattle.backend_pass.specs.Passes.{first_of};
+ghost use Rattle.backend_pass.specs.Reading.{read_refusal, shown_after};
+
+use crate::errors::ReadError;
+use crate::manager::Manager;
+use crate::met::{Met, Shown};
+use crate::pass::Pass;
+use crate::pinned::Pinned;
+use access_rings::Ring;
+use atomic_table::Badge;
+use block_tag::Tag;
+use buffer_frames::{BlockError, FlushError, PinnedBlock, VictimError, read_block};
+use clock_sweep::Census;
+use crossbeam_utils::CachePadded;
+use frame_table::Value;
+use held_pins::{HeldPins, MOST_TOKENS};
+use log_device::LogDevice;
+use page_layout::Page;
+use pin_core::View;
+use segment_store::BlockLane;
+use std::mem::replace;
+use std::sync::Wait;
+use wal_flush::FlushLog;
+
+/// The refusal of a pass whose frames refuse a block.
+fn refused(why: BlockError) -> ReadError
+    ensures { result ≡ read_refusal why }
+{
+    match why {
+        BlockError::NoFrame(VictimError::NoUnpinned { frames }) => ReadError::NoUnpinned { frames },
+        BlockError::NoFrame(VictimError::Flush(FlushError::WriteFault { tag })) => {
+            ReadError::WriteFault { tag }
+        }
+        BlockError::NoFrame(VictimError::Flush(FlushError::Log(FlushLog::LogFault))) => {
+            ReadError::LogFault
+        }
+        BlockError::NoFrame(VictimError::Flush(FlushError::Log(FlushLog::LogDown { at }))) => {
+            ReadError::LogDown { at }
+        }
+        BlockError::NoFrame(VictimError::Flush(FlushError::Log(FlushLog::LogShort { lsn, end }))) =>
+            { ReadError::LogShort { lsn, end } }
+        BlockError::ReadFault { tag } => ReadError::ReadFault { tag },
+        BlockError::Unsound { tag } => ReadError::Unsound { tag },
+    }
+}
+
+impl Shown {
+    /// After a refusal: a fault is counted.
+    fn after(self, why: &ReadError) -> Shown
+        ensures { result ≡ shown_after why.now self }
+    {
+        let Shown { front, met } = self;
+        let Met {
+            reads,
+            writes,
+            logs,
+        } = met;
+        match why {
+            ReadError::ReadFault { tag: _ } => Shown {
+                front,
+                met: Met {
+                    reads: reads.saturating_add(1),
+                    writes,
+                    logs,
+                },
+            },
+            ReadError::WriteFault { tag: _ } => Shown {
+                front,
+                met: Met {
+                    reads,
+                    writes: writes.saturating_add(1),
+                    logs,
+                },
+            },
+            ReadError::LogFault => Shown {
+                front,
+                met: Met {
+                    reads,
+                    writes,
+                    logs: logs.saturating_add(1),
+                },
+            },
+            _ => self,
+        }
+    }
+}
+
+/// Reads a block that callers have no token of, from the seat of a pass.
+fn read_seated<L: BlockLane, G: LogDevice, R: Wait>(
+    manager: &Manager<L, G>,
+    rt: &R,
+    badge: &mut Badge<View>,
+    held: &HeldPins,
+    census: &mut Census,
+    page: &mut Page,
+    tag: Tag,
+    ring: &mut Option<Ring>,
+) -> Result<PinnedBlock, BlockError>
+    requires table { badge.old.table_id ≡ manager.now.table.table.shared.table_id }
+    requires view { badge.old.views ≡ first_of badge.old.views ∷ [] }
+    requires rests { Rests held.now (first_of badge.old.views) }
+    requires census { census.old.frames ≡ frames_of manager.now.table }
+    requires tag { names_block tag ≡ true }
+    requires block { has_block (relations_of manager.now.table) tag ≡ true }
+    requires new { IsNew tag held.now }
+    ensures table { badge.new.table_id ≡ badge.old.table_id }
+    ensures id { badge.new.id ≡ badge.old.id }
+    ensures view { badge.new.views ≡ first_of badge.new.views ∷ [] }
+    ensures quiet { HasNoDevice (first_of badge.new.views) }
+    ensures latches { HasNoLatch (first_of badge.new.views) }
+    ensures room { census.new.frames ≡ census.old.frames }
+    ensures ring { ring_shape ring.new ≡ ring_shape ring.old }
+    ensures kept { kept_of (first_of badge.new.views) ≡ kept_of (first_of badge.old.views) }
+    ensures advances { Advances (first_of badge.old.views) (first_of badge.new.views) }
+    ensures answer { ReadAnswer L.contents manager.now.table tag held.now census.new.words (first_of badge.old.views) (first_of badge.new.views) result }
+    ensures met { (first_of badge.new.views).met ≡ met_read_block result (first_of badge.old.views).met }
+    ensures calls { ReadCalls (lane_number tag (lanes_in manager.now.table)) tag (first_of badge.old.views) (first_of badge.new.views) result }
+{
+    let mut seat = replace(badge, Badge::blank()).into_seat::<Value<L, G>>();
+    let answer = read_block(
+        &manager.table,
+        rt,
+        &mut seat,
+        held,
+        &manager.sweep,
+        census,
+        page,
+        tag,
+        ring,
+    );
+    *badge = seat.into_badge();
+    answer
+}
+
+impl Pass {
+    ghost use Rattle.std.specs.Prelude.{◌≡◌, ◌<◌, ℕ, None, Some, Ok, Err, IfErr, IfOk, true};
+    ghost use Rattle.block_tag.specs.Names.{names_block};
+    ghost use Rattle.pin_core.specs.State.{link};
+    ghost use Rattle.table_rule.specs.Blocks.{has_block};
+    ghost use Rattle.frame_table.specs.Opened.{WasSoundAtOpening};
+    ghost use Rattle.frame_table.specs.Seats.{relations_of};
+    ghost use Rattle.held_pins.specs.Tokens.{IsNew, IsPinnedFor, count_of, tokens_more};
+    ghost use Rattle.buffer_frames.specs.Outside.{ring_shape};
+    ghost use Rattle.backend_pass.specs.Managers.{Belongs};
+    ghost use Rattle.backend_pass.specs.Passes.{KeepsCalls, KeepsMark, PassState, SamePass};
+    ghost use Rattle.backend_pass.specs.Reading.{ReadsBlock, met_reading, refused_at_once};
+    ghost use Rattle.backend_pass.specs.declared.errors.ReadError.{ReadError};
+
+    /// Reads a block that callers have no token of.
+    fn read_new<L: BlockLane, G: LogDevice, R: Wait>(
+        &mut self,
+        rt: &R,
+        manager: &Manager<L, G>,
+        tag: Tag,
+        ring: &mut Option<Ring>,
+    ) -> Result<Pinned, ReadError>
+        requires belongs { Belongs L.contents manager.now self.old }
+        requires room { count_of self.old.tokens < MOST_TOKENS }
+        requires tag { names_block tag ≡ true }
+        requires block { has_block (relations_of manager.now.table) tag ≡ true }
+        requires new { IsNew tag self.old.tokens }
+        ensures belongs { Belongs L.contents manager.now self.new }
+        ensures same { SamePass self.old self.new }
+        ensures calls { KeepsCalls self.old self.new }
+        ensures mark { KeepsMark self.old self.new }
+        ensures ring { ring_shape ring.new ≡ ring_shape ring.old }
+        ensures answer { ReadsBlock L.contents manager.now.table tag self.old self.new result }
+        ensures met { self.new.view.met ≡ met_reading result self.old.view.met }
+    {
+        match read_seated(
+            manager,
+            rt,
+            &mut self.seat,
+            &self.held,
+            &mut self.census,
+            &mut self.page,
+            tag,
+            ring,
+        ) {
+            Ok(PinnedBlock { pin, hit }) => {
+                let frame = pin.frame();
+                self.held.add_pin(pin, tag);
+                Ok(Pinned { frame, tag, hit })
+            }
+            Err(cause) => {
+                let why = refused(cause);
+                let shown = self.shown.after(&why);
+                self.shown = CachePadded::new(shown);
+                Err(why)
+            }
+        }
+    }
+
+    /// Pins a block and gives a token of it (`ReadBuffer_common`). Where callers have one already no lane is read and no shared word changes. Else the block is looked up, and brought into a frame where it has none; of a ring where one is given. A refusal leaves the pass's pins as they were.
+    pub fn read_buffer<L: BlockLane, G: LogDevice, R: Wait>(
+        &mut self,
+        rt: &R,
+        manager: &Manager<L, G>,
+        tag: Tag,
+        ring: &mut Option<Ring>,
+    ) -> Result<Pinned, ReadError>
+        requires belongs { Belongs L.contents manager.now self.old }
+        ensures belongs { Belongs L.contents manager.now self.new }
+        ensures same { SamePass self.old self.new }
+        ensures calls { KeepsCalls self.old self.new }
+        ensures mark { KeepsMark self.old self.new }
+        ensures ring { ring_shape ring.new ≡ ring_shape ring.old }
+        ensures met { self.new.view.met ≡ met_reading result self.old.view.met }
+
+        // A block past the end and one token too many are refused, in this order, before anything is looked at, and nothing else is refused so.
+        ensures at_once { (why : ReadError) → refused_at_once (relations_of manager.now.table) self.old.tokens tag ≡ Some why → (result ≡ Err why) × (self.new ≡ self.old) }
+
+        // A further token of a block that is pinned changes nothing but the count of its tokens.
+        ensures again { refused_at_once (relations_of manager.now.table) self.old.tokens tag ≡ None → (f : ℕ) → IsPinnedFor tag f self.old.tokens → (result ≡ Ok (record { frame = f; tag = tag; hit = true })) × (self.new ≡ record self.old { tokens = tokens_more f self.old.tokens }) }
+
+        // Any other block is looked up.
+        ensures new { refused_at_once (relations_of manager.now.table) self.old.tokens tag ≡ None → IsNew tag self.old.tokens → ReadsBlock L.contents manager.now.table tag self.old self.new result }
+
+        ensures tag { IfOk result (λ pinned. pinned.tag ≡ tag) }
+        ensures pinned { IfOk result (λ pinned. IsPinnedFor tag pinned.frame self.new.tokens) }
+        ensures seen { IfOk result (λ pinned. (link self.new.view pinned.frame).seen_valid ≡ true) }
+        ensures sound { IfOk result (λ _. WasSoundAtOpening L.contents manager.now.table tag) }
+        ensures refused { IfErr result (λ _. self.new.tokens ≡ self.old.tokens) }
+    {
+        let blocks = manager.table.blocks(&tag);
+        if tag.block >= blocks {
+            return Err(ReadError::PastEnd {
+                block: tag.block,
+                blocks,
+            });
+        }
+        if self.held.is_full() {
+            return Err(ReadError::PinsFull);
+        }
+        let Some(frame) = self.held.frame_of(&tag) else {
+            return self.read_new(rt, manager, tag, ring);
+        };
+        self.held.add_token(frame);
+        Ok(Pinned {
+            frame,
+            tag,
+            hit: true,
+        })
+    }
+}
