@@ -5,6 +5,7 @@ use Rattle.block_tag.specs.declared.tag.Tag.{Tag}
 use Rattle.block_tag.specs.Catalogue.{blocks_at}
 use Rattle.block_tag.specs.Names.{lane_number, packed_tag}
 use Rattle.segment_store.specs.Contents.{Pages}
+use Rattle.pin_core.specs.declared.view.Content.TheVariants.{Unlocked}
 use Rattle.pin_core.specs.declared.view.DeviceCall.TheVariants.{LaneRead}
 use Rattle.pin_core.specs.declared.view.Met.{Met}
 use Rattle.pin_core.specs.declared.view.View.{View}
@@ -96,13 +97,14 @@ module _ {L G : Type 0} (contents : L → Option Pages) (t : FrameTable L G) whe
   ReadingRefused tag p q (LogShort lsn end) = LeavesDirty contents t (flush.Log (log.LogShort lsn end)) p.view q.view
   ReadingRefused tag p q (Unsound failed) = (failed ≡ tag) × WasUnsoundAtOpening contents t tag
 
-  -- The block is pinned with its first token, BM_VALID was seen, and the block was sound as the table was opened, where that is known
+  -- The block is pinned with its first token, BM_VALID was seen, no content lock is held there, and the block was sound as the table was opened, where that is known
   pub record PinsFirst (tag : Tag) (p q : PassState) (pinned : Pinned) : Type 0 where
     pub named : pinned.tag ≡ tag
     pub tokens : q.tokens ≡ tokens_with pinned.frame (packed_tag tag) p.tokens
     pub new : held_at p.tokens pinned.frame ≡ None
     pub inside : pinned.frame < frames_of t
     pub seen : (link q.view pinned.frame).seen_valid ≡ true
+    pub unlocked : (link q.view pinned.frame).content ≡ Unlocked
     pub sound : WasSoundAtOpening contents t tag
 
   -- what came of a block that was looked up
