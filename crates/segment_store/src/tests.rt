@@ -1,14 +1,18 @@
 //! Failures that leave a part, and real files and streams.
 use crate::{
-    BlockLane, FileHost, Host, HostError, LanePlan, LogOpen, MemFile, MemHost, MemLane, MemLogs,
+    BlockLane, FileHost, FileLane, Host, HostError, LanePlan, LogOpen, MemFile, MemHost, MemLane,
+    MemLogs,
 };
 use block_tag::{Fork, RelNo, Tag};
-use log_device::{Failed, FaultPlan, LogDevice, LogPlan};
+use log_device::{Failed, FaultPlan, FileLog, LogDevice, LogPlan};
 use page_layout::Page;
 use std::alloc::{AllocError, Global};
+use std::fs::OpenFile;
+use std::io::Write;
+use std::os::unix::fs::FileExt;
 use std::process::Abort;
 use std::test::Fail;
-use std::{fs, process};
+use std::{fs, io, process};
 
 fn tag(block: u32) -> Tag {
     Tag {
@@ -47,47 +51,99 @@ fn two_segments(alloc: Global) -> Result<Vec<Vec<u8>>, AllocError> {
     Ok(segments)
 }
 
-fn host_with(alloc: Global, segments: Vec<Vec<u8>>) -> Result<MemHost, AllocError> {
+/// A relation of two segments.
+fn two_segment_files(alloc: Global) -> Result<Vec<MemFile>, AllocError> {
+    let segments = two_segments(alloc)?;
     let path = String::from_str(alloc, "base/5/16384")?;
     let mut files = Vec::new(alloc);
     files.push(MemFile::new(alloc, path, segments))?;
-    let openings = FaultPlan::new(vec![in alloc; 2u64; 1]?);
-    let lanes = LanePlan {
-        reads: FaultPlan::new(vec![in alloc; 1u64; 1]?),
-        writes: FaultPlan::new(vec![in alloc; 2u64; 1]?),
-        syncs: FaultPlan::new(vec![in alloc; 1u64; 1]?),
-    };
-    let log_openings = FaultPlan::new(vec![in alloc; 2u64; 1]?);
+    Ok(files)
+}
+
+/// Of the calls this one fails.
+fn failing(alloc: Global, call: u64) -> Result<FaultPlan, AllocError> {
+    Ok(FaultPlan::new(vec![in alloc; call; 1]?))
+}
+
+fn lane_plan(alloc: Global) -> Result<LanePlan, AllocError> {
+    let reads = failing(alloc, 1)?;
+    let writes = failing(alloc, 2)?;
+    let syncs = failing(alloc, 1)?;
+    Ok(LanePlan {
+        reads,
+        writes,
+        syncs,
+    })
+}
+
+/// A host with a relation of two segments, whose second openings fail.
+fn host_in_memory(alloc: Global) -> Result<MemHost, AllocError> {
+    let files = two_segment_files(alloc)?;
+    let lanes = lane_plan(alloc)?;
+    let openings = failing(alloc, 2)?;
+    let log_openings = failing(alloc, 2)?;
     let logs = MemLogs::new(alloc, 8, log_openings, LogPlan::none(alloc));
     Ok(MemHost::new(alloc, files, openings, lanes, logs))
+}
+
+/// How many blocks and lanes a relation has as it is opened.
+fn open_sizes(host: &mut MemHost, alloc: Global, path: &str) -> Result<(u32, usize), HostError> {
+    let opened = host.relation(alloc, path, 2, 2)?;
+    Ok((opened.blocks, opened.lanes.len()))
 }
 
 #[test]
 fn openings_in_memory(rt: HostRuntime) -> Result<(), Fail> {
     let alloc = rt.alloc();
-    let mut host = host_with(alloc, two_segments(alloc)?)?;
-    let missing = host.relation(alloc, "base/5/16385", 2, 2).err();
-    assert_eq!(rt; missing, Some(HostError::Missing));
-    let failed = host.relation(alloc, "base/5/16384", 2, 2).err();
-    assert_eq!(rt; failed, Some(HostError::Failed));
-    let opened = host.relation(alloc, "base/5/16384", 2, 2)?;
-    assert_eq!(rt; (opened.blocks, opened.lanes.len()), (3, 2));
+    let mut host = host_in_memory(alloc)?;
+    let missing = open_sizes(&mut host, alloc, "base/5/16385");
+    let failed = open_sizes(&mut host, alloc, "base/5/16384");
+    let opened = open_sizes(&mut host, alloc, "base/5/16384");
+    assert_eq!(rt;
+        (missing, failed, opened),
+        (Err(HostError::Missing), Err(HostError::Failed), Ok((3, 2)))
+    );
     assert_eq!(rt; host.read_faults(), 1);
     Ok(())
 }
 
-/// The second block of the lane is read twice and written once, its first block is written before.
-fn use_lane(rt: &impl Abort, alloc: Global, lane: &mut MemLane) -> Result<(), Fail> {
-    let mut page = page_of(alloc, 7)?;
-    assert_eq!(rt; read_own(lane, tag(1), &mut page), None);
-    assert_eq!(rt; read_own(lane, tag(2), &mut page), Some(Err(Failed)));
-    assert_eq!(rt; read_own(lane, tag(2), &mut page), Some(Ok(())));
-    assert_eq!(rt; page.bytes(), [2u8; 8192].as_slice());
+/// A block of another lane is read, and the second block of the lane twice.
+fn read_lane(lane: &mut MemLane, page: &mut Page) -> [Option<Result<(), Failed>>; 3] {
+    let other = read_own(lane, tag(1), page);
+    let first = read_own(lane, tag(2), page);
+    let second = read_own(lane, tag(2), page);
+    [other, first, second]
+}
+
+/// The first block of the lane is written, then its second, and the lane is synced.
+fn write_lane(lane: &mut MemLane, page: &mut Page) -> [Option<Result<(), Failed>>; 3] {
     page.fill(&[7; 8192]);
-    assert_eq!(rt; write_own(lane, tag(0), &page), Some(Ok(())));
+    let first = write_own(lane, tag(0), page);
     page.fill(&[8; 8192]);
-    assert_eq!(rt; write_own(lane, tag(2), &page), Some(Err(Failed)));
-    assert_eq!(rt; lane.sync(), Err(Failed));
+    let second = write_own(lane, tag(2), page);
+    [first, second, Some(lane.sync())]
+}
+
+fn use_lane(rt: &impl Abort, lane: &mut MemLane, page: &mut Page) {
+    assert_eq!(rt;
+        read_lane(lane, page),
+        [None, Some(Err(Failed)), Some(Ok(()))]
+    );
+    assert_eq!(rt; page.bytes(), [2u8; 8192].as_slice());
+    assert_eq!(rt;
+        write_lane(lane, page),
+        [Some(Ok(())), Some(Err(Failed)), Some(Err(Failed))]
+    );
+}
+
+/// The relation is opened, its first lane used, and all are given back.
+fn use_relation(rt: &impl Abort, alloc: Global, host: &mut MemHost) -> Result<(), HostError> {
+    let mut page = page_of(alloc, 7).map_err(|_| HostError::Memory)?;
+    let mut lanes = host.relation(alloc, "base/5/16384", 2, 2)?.lanes;
+    if let Some(lane) = lanes.first_mut() {
+        use_lane(rt, lane, &mut page);
+    }
+    host.give_back(lanes, None);
     Ok(())
 }
 
@@ -96,30 +152,33 @@ fn bytes_at(bytes: &[u8], places: [usize; 4]) -> [u8; 4] {
     places.map(|place| bytes.get(place).copied().unwrap_or(0))
 }
 
+/// How long each of two segments is, and its bytes at these places.
+fn sizes_and_bytes(
+    segments: &[Vec<u8>],
+    full_places: [usize; 4],
+    short_places: [usize; 4],
+) -> Option<([usize; 2], [u8; 4], [u8; 4])> {
+    let [full, short] = segments else {
+        return None;
+    };
+    Some((
+        [full.len(), short.len()],
+        bytes_at(full, full_places),
+        bytes_at(short, short_places),
+    ))
+}
+
 #[test]
 fn lanes_are_given_back(rt: HostRuntime) -> Result<(), Fail> {
-    let alloc = rt.alloc();
-    let mut host = host_with(alloc, two_segments(alloc)?)?;
-    let mut opened = host.relation(alloc, "base/5/16384", 2, 2)?;
-    if let Some(lane) = opened.lanes.first_mut() {
-        use_lane(&rt, alloc, lane)?;
-    }
-    host.give_back(opened.lanes, None);
+    let mut host = host_in_memory(rt.alloc())?;
+    use_relation(&rt, rt.alloc(), &mut host)?;
     assert_eq!(rt; (host.read_faults(), host.write_faults()), (1, 2));
-    let segments = host.segments("base/5/16384");
-    assert_eq!(rt; segments.len(), 2);
-    let [full, short] = segments else {
-        return Ok(());
-    };
-    assert_eq!(rt;
-        bytes_at(full.as_slice(), [0, 8191, 8192, 16383]),
-        [7, 7, 1, 1]
+    let found = sizes_and_bytes(
+        host.segments("base/5/16384"),
+        [0, 8191, 8192, 16383],
+        [0, 8190, 8191, 8192],
     );
-    assert_eq!(rt;
-        bytes_at(short.as_slice(), [0, 8190, 8191, 8192]),
-        [8, 8, 3, 2]
-    );
-    assert_eq!(rt; (full.len(), short.len()), (16384, 8292));
+    assert_eq!(rt; found, Some(([16384, 8292], [7, 7, 1, 1], [8, 8, 3, 2])));
     Ok(())
 }
 
@@ -129,100 +188,225 @@ fn log_of(host: &MemHost) -> Option<(&[u8], usize)> {
         .map(|log| (log.bytes(), log.synced()))
 }
 
+/// A piece is appended, made durable, and another is appended.
+fn append_twice(log: &mut impl LogDevice) -> [Result<(), Failed>; 3] {
+    let first = log.append(b"one");
+    let synced = log.sync();
+    let second = log.append(b"of nine");
+    [first, synced, second]
+}
+
+/// The log is opened, written, and given back.
+fn use_log(rt: &impl Abort, alloc: Global, host: &mut MemHost) -> Result<(), LogOpen> {
+    let mut log = host.log(alloc, "log")?;
+    assert_eq!(rt; append_twice(&mut log), [Ok(()), Ok(()), Err(Failed)]);
+    assert_eq!(rt; log_of(host), Some((b"".as_slice(), 0)));
+    host.give_back(Vec::new(alloc), Some(log));
+    Ok(())
+}
+
+/// How many bytes a log has as it is opened, and how many of them are durable.
+fn log_sizes(host: &mut MemHost, alloc: Global) -> Result<(usize, usize), LogOpen> {
+    let log = host.log(alloc, "log")?;
+    Ok((log.bytes().len(), log.synced()))
+}
+
 #[test]
 fn logs_are_given_back(rt: HostRuntime) -> Result<(), Fail> {
-    let alloc = rt.alloc();
-    let mut host = host_with(alloc, two_segments(alloc)?)?;
+    let mut host = host_in_memory(rt.alloc())?;
     assert_eq!(rt; log_of(&host), None);
-    let mut log = host.log(alloc, "log")?;
-    assert_eq!(rt; (log.append(b"one"), log.sync()), (Ok(()), Ok(())));
-    assert_eq!(rt; log.append(b"of nine"), Err(Failed));
-    assert_eq!(rt; log_of(&host), Some((b"".as_slice(), 0)));
-    host.give_back(Vec::new(alloc), Some(log));
+    use_log(&rt, rt.alloc(), &mut host)?;
     assert_eq!(rt; log_of(&host), Some((b"oneof n".as_slice(), 3)));
-    assert_eq!(rt; host.log(alloc, "log").err(), Some(LogOpen::Failed));
+    Ok(())
+}
+
+#[test]
+fn logs_are_opened_again(rt: HostRuntime) -> Result<(), Fail> {
+    let mut host = host_in_memory(rt.alloc())?;
+    use_log(&rt, rt.alloc(), &mut host)?;
+    assert_eq!(rt; log_sizes(&mut host, rt.alloc()), Err(LogOpen::Failed));
     assert_eq!(rt; log_of(&host), Some((b"oneof n".as_slice(), 3)));
     assert_eq!(rt; host.log_faults(), 2);
-    let again = host.log(alloc, "log")?;
-    assert_eq!(rt; (again.bytes(), again.synced()), (b"".as_slice(), 0));
+    assert_eq!(rt; log_sizes(&mut host, rt.alloc()), Ok((0, 0)));
     assert_eq!(rt; log_of(&host), Some((b"".as_slice(), 0)));
     Ok(())
 }
 
-/// Makes the files of two segments, and gives their paths.
-fn two_files(rt: &HostRuntime) -> Result<(String, String), Fail> {
+/// A path below /tmp that no other process uses.
+fn own_path(rt: &HostRuntime, name: &str) -> Result<String, AllocError> {
     let id = process::id(rt.process());
-    let path = format!(in rt.alloc(); "/tmp/segment-store-{id}")?;
-    let second = format!(in rt.alloc(); "{path}.1")?;
-    fs::write(rt, path.as_str(), [1u8; 16384].as_slice())?;
-    fs::write(rt, second.as_str(), [2u8; 8292].as_slice())?;
-    Ok((path, second))
+    format!(in rt.alloc(); "/tmp/segment-store-{name}-{id}")
+}
+
+/// The path of the second segment.
+fn second_path(alloc: Global, path: &str) -> Result<String, AllocError> {
+    format!(in alloc; "{path}.1")
+}
+
+/// A block is written and synced, and two are read, the first of which isn't there.
+fn use_file_lane<F: FileExt + OpenFile + Drop>(
+    lane: &mut FileLane<F>,
+    page: &mut Page,
+) -> [Result<(), Failed>; 4] {
+    let written = lane.write(tag(1), page);
+    let synced = lane.sync();
+    let missing = lane.read(tag(3), page);
+    let read = lane.read(tag(2), page);
+    [written, synced, missing, read]
+}
+
+/// A block of each segment is read, of which the first was cut off.
+fn read_cut_off<F: FileExt + OpenFile + Drop>(
+    lane: &mut FileLane<F>,
+    page: &mut Page,
+) -> [Result<(), Failed>; 2] {
+    let cut_off = lane.read(tag(0), page);
+    let read = lane.read(tag(2), page);
+    [cut_off, read]
+}
+
+fn use_file_lanes<F: FileExt + OpenFile + Drop>(
+    rt: &impl Abort,
+    lanes: &mut [FileLane<F>],
+    page: &mut Page,
+) {
+    for lane in lanes {
+        assert_eq!(rt;
+            use_file_lane(lane, page),
+            [Ok(()), Ok(()), Err(Failed), Ok(())]
+        );
+        assert_eq!(rt; page.bytes(), [2u8; 8192].as_slice());
+    }
+}
+
+fn read_all_cut_off<F: FileExt + OpenFile + Drop>(
+    rt: &impl Abort,
+    lanes: &mut [FileLane<F>],
+    page: &mut Page,
+) {
+    for lane in lanes {
+        assert_eq!(rt; read_cut_off(lane, page), [Err(Failed), Ok(())]);
+    }
+}
+
+/// The bytes of a file round the ends of its two blocks.
+fn bytes_at_ends(rt: &HostRuntime, path: &str) -> Result<[u8; 4], io::Error> {
+    let stored = fs::read(rt, path)?;
+    Ok(bytes_at(&stored, [8191, 8192, 16383, 16384]))
+}
+
+/// The relation at a path is opened, its lanes used, its first file cut off, and its lanes given back.
+fn use_files(
+    rt: &impl Abort,
+    files: &HostRuntime,
+    host: &mut FileHost<HostRuntime>,
+    path: &str,
+) -> Result<(), Fail> {
+    let mut page = page_of(files.alloc(), 7)?;
+    let opened = host.relation(files.alloc(), path, 2, 3)?;
+    assert_eq!(rt; opened.blocks, 3);
+    let mut lanes = opened.lanes;
+    use_file_lanes(rt, &mut lanes, &mut page);
+    assert_eq!(rt; bytes_at_ends(files, path)?, [1, 2, 2, 0]);
+    fs::write(files, path, "cut off")?;
+    read_all_cut_off(rt, &mut lanes, &mut page);
+    host.give_back(lanes, None);
+    Ok(())
 }
 
 #[test]
 fn host_over_files(rt: HostRuntime) -> Result<(), Fail> {
-    let alloc = rt.alloc();
-    let (path, second) = two_files(&rt)?;
+    let path = own_path(&rt, "cut-off")?;
+    let second = second_path(rt.alloc(), &path)?;
+    fs::write(&rt, path.as_str(), [1u8; 16384].as_slice())?;
+    fs::write(&rt, second.as_str(), [2u8; 8292].as_slice())?;
     let mut host = FileHost::new(&rt);
-    let mut opened = host.relation(alloc, path.as_str(), 2, 3)?;
-    assert_eq!(rt; opened.blocks, 3);
-    let mut page = page_of(alloc, 7)?;
-    for lane in opened.lanes.as_mut_slice() {
-        assert_eq!(rt; lane.write(tag(1), &page), Ok(()));
-        assert_eq!(rt; lane.sync(), Ok(()));
-        assert_eq!(rt; lane.read(tag(3), &mut page), Err(Failed));
-        assert_eq!(rt; lane.read(tag(2), &mut page), Ok(()));
-        assert_eq!(rt; page.bytes(), [2u8; 8192].as_slice());
-    }
-    let stored = fs::read(&rt, path.as_str())?;
-    assert_eq!(rt; bytes_at(&stored, [8191, 8192, 16383, 16384]), [1, 2, 2, 0]);
-    fs::write(&rt, path.as_str(), "cut off")?;
-    for lane in opened.lanes.as_mut_slice() {
-        assert_eq!(rt; lane.read(tag(0), &mut page), Err(Failed));
-        assert_eq!(rt; lane.read(tag(2), &mut page), Ok(()));
-    }
-    host.give_back(opened.lanes, None);
+    use_files(&rt, &rt, &mut host, &path)?;
     assert_eq!(rt; (host.read_faults(), host.write_faults()), (6, 0));
     fs::remove_file(&rt, path.as_str())?;
     fs::remove_file(&rt, second.as_str())?;
     Ok(())
 }
 
+/// Two pieces are appended and made durable, and then the faults are counted.
+fn use_file_log<F: OpenFile + Write + Drop>(
+    log: &mut FileLog<F>,
+) -> ([Result<(), Failed>; 3], u64) {
+    let first = log.append(b"one");
+    let second = log.append(b" two");
+    let synced = log.sync();
+    ([first, second, synced], log.faults())
+}
+
+/// What a file holds is this.
+fn holds(rt: &HostRuntime, path: &str, bytes: &[u8]) -> Result<bool, io::Error> {
+    let stored = fs::read(rt, path)?;
+    Ok(stored.as_slice() == bytes)
+}
+
+/// A log is opened, written and given back.
+fn write_log(
+    alloc: Global,
+    host: &mut FileHost<HostRuntime>,
+    path: &str,
+) -> Result<([Result<(), Failed>; 3], u64), LogOpen> {
+    let mut log = host.log(alloc, path)?;
+    let used = use_file_log(&mut log);
+    host.give_back(Vec::new(alloc), Some(log));
+    Ok(used)
+}
+
 #[test]
 fn log_over_a_file(rt: HostRuntime) -> Result<(), Fail> {
-    let id = process::id(rt.process());
-    let path = format!(in rt.alloc(); "/tmp/segment-store-log-{id}")?;
+    let path = own_path(&rt, "log")?;
     fs::write(&rt, path.as_str(), "what was there before")?;
     let mut host = FileHost::new(&rt);
-    assert_eq!(rt; host.log(rt.alloc(), "/tmp").err(), Some(LogOpen::Failed));
-    let mut log = host.log(rt.alloc(), path.as_str())?;
-    assert_eq!(rt; (log.append(b"one"), log.append(b" two")), (Ok(()), Ok(())));
-    assert_eq!(rt; (log.sync(), log.faults()), (Ok(()), 0));
-    host.give_back(Vec::new(rt.alloc()), Some(log));
+    let refused = write_log(rt.alloc(), &mut host, "/tmp");
+    assert_eq!(rt; refused, Err(LogOpen::Failed));
+    let written = write_log(rt.alloc(), &mut host, &path);
+    assert_eq!(rt; written, Ok(([Ok(()), Ok(()), Ok(())], 0)));
     assert_eq!(rt; host.log_faults(), 1);
-    let stored = fs::read(&rt, path.as_str())?;
-    assert_eq!(rt; stored.as_slice(), b"one two".as_slice());
+    assert!(rt; holds(&rt, &path, b"one two")?);
     fs::remove_file(&rt, path.as_str())?;
     Ok(())
 }
 
+/// How many blocks a relation over files has as it is opened.
+fn open_blocks(
+    alloc: Global,
+    host: &mut FileHost<HostRuntime>,
+    path: &str,
+) -> Result<u32, HostError> {
+    let opened = host.relation(alloc, path, 1, 1)?;
+    Ok(opened.blocks)
+}
+
+/// Openings of a folder, of a relation whose second segment is a folder, and of a path through a file.
+fn openings_at(
+    alloc: Global,
+    host: &mut FileHost<HostRuntime>,
+    path: &str,
+) -> Result<[Result<u32, HostError>; 3], AllocError> {
+    let below = format!(in alloc; "{path}/16384")?;
+    let folder = open_blocks(alloc, host, "/tmp");
+    let second = open_blocks(alloc, host, path);
+    let through = open_blocks(alloc, host, &below);
+    Ok([folder, second, through])
+}
+
 #[test]
 fn openings_that_fail(rt: HostRuntime) -> Result<(), Fail> {
-    let id = process::id(rt.process());
-    let path = format!(in rt.alloc(); "/tmp/segment-store-whole-{id}")?;
-    let second = format!(in rt.alloc(); "{path}.1")?;
-    let below = format!(in rt.alloc(); "{path}/16384")?;
+    let path = own_path(&rt, "whole")?;
+    let second = second_path(rt.alloc(), &path)?;
     fs::write(&rt, path.as_str(), [1u8; 8192].as_slice())?;
     fs::create_dir(&rt, second.as_str())?;
     let mut host = FileHost::new(&rt);
-    for path in ["/tmp", path.as_str(), below.as_str()] {
-        let refused = host.relation(rt.alloc(), path, 1, 1).err();
-        assert_eq!(rt; refused, Some(HostError::Failed), "at {path}");
-    }
-    let missing = host
-        .relation(rt.alloc(), "/tmp/segment-store-missing/16384", 2, 1)
-        .err();
-    assert_eq!(rt; missing, Some(HostError::Missing));
+    assert_eq!(rt;
+        openings_at(rt.alloc(), &mut host, &path)?,
+        [Err(HostError::Failed); 3]
+    );
+    let missing = open_blocks(rt.alloc(), &mut host, "/tmp/segment-store-missing/16384");
+    assert_eq!(rt; missing, Err(HostError::Missing));
     assert_eq!(rt; host.read_faults(), 3);
     fs::remove_file(&rt, path.as_str())?;
     fs::remove_dir(&rt, second.as_str())?;
