@@ -25,6 +25,7 @@ use Rattle.frame_table.specs.WordSteps.{DidWord, add_hand, load_hand}
 use Rattle.frame_table.specs.Seats.{CanStep, Grows, HoldsHeader, IsSeat, Looked, SameSeat, frames_of, locked_link, unlocked_link}
 use Rattle.frame_table.specs.FrameSteps.{Did, Looks, still, again, looking}
 use Rattle.frame_table.proofs.Told.{grows, grows_none, grows_on, touches, link_is, looked, looked_on, looked_same, locked_after, looks_touch, looks_link}
+use Rattle.frame_table.proofs.Rising.{grows_loads}
 use Rattle.clock_sweep.specs.Keeping.{SameAside, aside_of, KeepsFrames, GetsHeader, SamePins}
 use Rattle.clock_sweep.specs.Choosing as choice
 use Rattle.clock_sweep.specs.Choosing.{TakesHeader, LeavesFrame, Skips, LeavesRing, LeavesFree, Counts, NextIs, Passes, Sweeps, Comes, Chooses, FindsNone, Takes}
@@ -77,11 +78,7 @@ keeps_looks f v w (again {u = u} found before d) = keeps_on v u w (keeps_looks f
 
 -- the hand is loaded
 pub hand_grows : (found : ℕ) (v w : View) → DidWord load_hand v w found → Grows v w
-hand_grows found v w d = record {
-  loads = (load_of v (seen.Hand found) ∷ [], ap (λ (x : View). x.loads) d.after);
-  changes = ([], ap (λ (x : View). x.changes) d.after ∙ sym (append-nil v.changes));
-  steps = (let e = ap (λ (x : View). x.steps) d.after in omega arith);
-}
+hand_grows found v w d = grows_loads (load_of v (seen.Hand found) ∷ []) v w (ap (λ (x : View). x.loads) d.after) (ap (λ (x : View). x.changes) d.after) (let e = ap (λ (x : View). x.steps) d.after in omega arith)
 
 -- it moves on
 pub keeps_hand : (found : ℕ) (v w : View) → DidWord add_hand v w found → KeepsFrames v w

@@ -30,3 +30,4 @@ pub mod LogWork
 pub mod Entering
 pub mod Events
 pub mod LogCalling
+pub mod Rising

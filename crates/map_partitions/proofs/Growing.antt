@@ -1,5 +1,5 @@
 -- What a view lists is only added to at a partition, and what it counts doesn't fall.
-use Rattle.std.proofs.Common.{◌≡◌, ℕ, ◌+◌, Bool, List, [], append-nil, sym, ap, ◌∙◌, arith}
+use Rattle.std.proofs.Common.{ℕ, Bool, List, ap}
 use Rattle.pin_core.specs.declared.view.View.{View}
 use Rattle.pin_core.specs.declared.view.MapChange.{MapChange}
 use Rattle.pin_core.specs.declared.view.MapEntry.{MapEntry}
@@ -8,17 +8,10 @@ use Rattle.table_rule.specs.declared.turn.Turn.TheVariants.{Partition}
 use Rattle.frame_table.specs.Seats.{Grows}
 use Rattle.frame_table.specs.Latches.{ComesBack, DidMap, DidTurn, as_it_was, entered, left_out}
 use Rattle.frame_table.proofs.Told.{grows_on}
-
--- a step that is counted, and lists nothing
-ticks : (v w : View) → w.loads ≡ v.loads → w.changes ≡ v.changes → w.steps ≡ v.steps + 1 → Grows v w
-ticks v w loads changes steps = record {
-  loads = ([], loads ∙ sym (append-nil v.loads));
-  changes = ([], changes ∙ sym (append-nil v.changes));
-  steps = omega arith;
-}
+use Rattle.frame_table.proofs.Rising.{listed_of, rises_ticked}
 
 map_grows : (k : TurnKind) (p : ℕ) (v w : View) → DidMap k p v w → Grows v w
-map_grows k p v w d = ticks v w (ap (λ (x : View). x.loads) d.after) (ap (λ (x : View). x.changes) d.after) (ap (λ (x : View). x.steps) d.after)
+map_grows k p v w d = (rises_ticked v w (ap listed_of d.after) (ap (λ (x : View). x.steps) d.after)).grows
 
 back_grows : (entries : List MapEntry) (p : ℕ) (v w : View) (change : MapChange) → ComesBack entries p v w change → Grows v w
 back_grows entries p v w change (as_it_was d) = map_grows _ p v w d
@@ -31,4 +24,4 @@ went_grows was entries p v u w change d back = grows_on v u w (map_grows (map_ou
 
 -- a latch is taken, or left
 pub turn_grows : (takes : Bool) (p : ℕ) (v w : View) → DidTurn takes (Partition p) v w → Grows v w
-turn_grows takes p v w d = ticks v w (ap (λ (x : View). x.loads) d.after) (ap (λ (x : View). x.changes) d.after) (ap (λ (x : View). x.steps) d.after)
+turn_grows takes p v w d = (rises_ticked v w (ap listed_of d.after) (ap (λ (x : View). x.steps) d.after)).grows

@@ -2,4 +2,4 @@ pub mod LogSteps
 pub mod Records
 pub mod Views
 pub mod Inserting
-pub mod Growing
+pub mod Rising

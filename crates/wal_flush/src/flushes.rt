@@ -1,7 +1,7 @@
 //! Flushes (`XLogFlush`).
 ghost use Rattle.std.specs.Prelude.{◌≡◌, ◌<◌, ◌≤◌, false, IfErr, IfOk, MatchResult};
 ghost use Rattle.table_rule.specs.declared.turn.Turn.TheVariants.{Log};
-ghost use Rattle.frame_table.specs.Seats.{CanTurn, Grows, IsSeat, SameSeat};
+ghost use Rattle.frame_table.specs.Seats.{CanTurn, IsSeat, OnlyRises, SameSeat};
 ghost use Rattle.frame_table.specs.Latches.{MayLeave};
 ghost use Rattle.wal_flush.specs.Latched.{KeepsWork, opened_log};
 ghost use Rattle.wal_flush.specs.declared.flushes.FlushedBy.{FlushedBy};
@@ -131,7 +131,7 @@ pub fn flush_to<L: BlockLane, G: LogDevice, R: Wait>(
     requires free { seat.old.me.0.log.held ≡ false }
     ensures seat { SameSeat seat.old seat.new }
     ensures work { KeepsWork seat.old.me.0 seat.new.me.0 }
-    ensures grows { Grows seat.old.me.0 seat.new.me.0 }
+    ensures rises { OnlyRises seat.old.me.0 seat.new.me.0 }
     ensures flushed { MatchResult result (λ _. lsn ≤ seat.new.me.0.flushed) (λ _. seat.new.me.0.flushed < lsn) }
     ensures left { IfErr result (λ why. seat.new.me.0 ≡ as_looked (unflushed_view why seat.old.me.0) seat.new.me.0) }
     ensures view { IfOk result (λ _. (by : FlushedBy) × (seat.new.me.0 ≡ as_looked (flushed_view by seat.old.me.0) seat.new.me.0)) }

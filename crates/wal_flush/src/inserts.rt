@@ -8,7 +8,7 @@ ghost use Rattle.history_core.specs.State.{last_position};
 ghost use Rattle.table_rule.specs.declared.turn.Turn.TheVariants.{Log};
 ghost use Rattle.table_rule.specs.Blocks.{has_block};
 ghost use Rattle.frame_table.specs.Entering.{MayStoreEnd, entered_link};
-ghost use Rattle.frame_table.specs.Seats.{CanTurn, Grows, IsSeat, SameSeat, relations_of};
+ghost use Rattle.frame_table.specs.Seats.{CanTurn, IsSeat, OnlyRises, SameSeat, relations_of};
 ghost use Rattle.frame_table.specs.Latches.{MayLeave};
 ghost use Rattle.wal_flush.specs.Latched.{KeepsWork, as_counted, opened_log};
 ghost use Rattle.wal_flush.specs.Inserts.{Appends, CanInsert, EnterRefused, Enters, InsertRefused, Inserts, InsertSeesEnd, inserted_view, refused_view};
@@ -153,7 +153,7 @@ pub fn insert<L: BlockLane, G: LogDevice, R: Wait>(
     requires free { seat.old.me.0.log.held ≡ false }
     requires can { CanInsert (relations_of table.now) frame tag page.old seat.old.me.0 }
     ensures seat { SameSeat seat.old seat.new }
-    ensures grows { Grows seat.old.me.0 seat.new.me.0 }
+    ensures rises { OnlyRises seat.old.me.0 seat.new.me.0 }
     ensures page { MatchResult result (λ lsn. page.new ≡ with_lsn lsn page.old) (λ _. page.new ≡ page.old) }
     ensures view { IfOk result (λ lsn. seat.new.me.0 ≡ as_counted (inserted_view frame (packed_tag tag) page.new lsn seat.old.me.0) seat.new.me.0) }
     ensures entered { IfOk result (λ _. link seat.new.me.0 frame ≡ entered_link page.new (link seat.old.me.0 frame)) }

@@ -2,15 +2,15 @@ use Rattle.std.proofs.Common.{ap, subst}
 use Rattle.pin_core.specs.declared.view.View.{View}
 use Rattle.wal_flush.specs.declared.flushes.FlushedBy.{FlushedBy}
 use Rattle.wal_flush.specs.Flushes.{HolderFlushed}
-use Rattle.wal_flush.proofs.Growing.{flush_grows, unflushed_grows}
+use Rattle.wal_flush.proofs.Rising.{flush_rises, unflushed_rises}
 use Rattle.wal_flush.proofs.Views.{flushes, flushed_work, logged_on, sees, short_of, unflushed, unflushed_sees, unflushed_work, was_flushed}
 use Rattle.wal_flush.proofs.flushes.flush_to.Goals as goal
 
 pub returns-then-lsn-load_flushed-clause-did : goal.returns-then-lsn-load_flushed-clause-did
 returns-then-lsn-load_flushed-clause-did g c = sees _ _ _ record { found = c.load_flushed.result; did = c.load_flushed.ensures.did; enough = c.if-lsn-load_flushed.true }
 
-pub returns-then-lsn-load_flushed-clause-grows : goal.returns-then-lsn-load_flushed-clause-grows
-returns-then-lsn-load_flushed-clause-grows g c = flush_grows _ _ _ (returns-then-lsn-load_flushed-clause-did g c)
+pub returns-then-lsn-load_flushed-clause-rises : goal.returns-then-lsn-load_flushed-clause-rises
+returns-then-lsn-load_flushed-clause-rises g c = flush_rises _ _ _ (returns-then-lsn-load_flushed-clause-did g c)
 
 pub returns-in-NoSync-clause-did : goal.returns-in-NoSync-clause-did
 returns-in-NoSync-clause-did g c = let h = c.flush_held-result.new.seat.me.0 in was_flushed _ _ _ record {
@@ -79,14 +79,14 @@ returns-in-Err-clause-short g c = short_of g.L.BlockLane.contents c.args.table.n
 pub returns-in-NoSync-clause-view : goal.returns-in-NoSync-clause-view
 returns-in-NoSync-clause-view g c = let d = returns-in-NoSync-clause-did g c in (d.by, d.view)
 
-pub returns-in-NoSync-clause-grows : goal.returns-in-NoSync-clause-grows
-returns-in-NoSync-clause-grows g c = flush_grows _ _ _ (returns-in-NoSync-clause-did g c)
+pub returns-in-NoSync-clause-rises : goal.returns-in-NoSync-clause-rises
+returns-in-NoSync-clause-rises g c = flush_rises _ _ _ (returns-in-NoSync-clause-did g c)
 
 pub returns-in-OneSync-clause-view : goal.returns-in-OneSync-clause-view
 returns-in-OneSync-clause-view g c = let d = returns-in-OneSync-clause-did g c in (d.by, d.view)
 
-pub returns-in-OneSync-clause-grows : goal.returns-in-OneSync-clause-grows
-returns-in-OneSync-clause-grows g c = flush_grows _ _ _ (returns-in-OneSync-clause-did g c)
+pub returns-in-OneSync-clause-rises : goal.returns-in-OneSync-clause-rises
+returns-in-OneSync-clause-rises g c = flush_rises _ _ _ (returns-in-OneSync-clause-did g c)
 
-pub returns-in-Err-clause-grows : goal.returns-in-Err-clause-grows
-returns-in-Err-clause-grows g c = unflushed_grows _ _ _ _ (returns-in-Err-clause-cause g c)
+pub returns-in-Err-clause-rises : goal.returns-in-Err-clause-rises
+returns-in-Err-clause-rises g c = unflushed_rises _ _ _ _ (returns-in-Err-clause-cause g c)

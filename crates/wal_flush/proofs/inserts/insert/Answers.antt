@@ -1,5 +1,5 @@
 use Rattle.wal_flush.proofs.Inserting.{did_insert, view_inserted, link_inserted, others_stay, refused_insert, seen_refused, view_refused, work_stays}
-use Rattle.wal_flush.proofs.Growing.{insert_grows}
+use Rattle.wal_flush.proofs.Rising.{insert_rises}
 use Rattle.wal_flush.proofs.inserts.insert.Goals as goal
 
 pub returns-clause-view : goal.returns-clause-view
@@ -27,5 +27,5 @@ returns-clause-work g c = work_stays _ _ _ (returns-clause-left g c)
 pub returns-clause-seen : goal.returns-clause-seen
 returns-clause-seen g c = seen_refused _ _ _ _ _ _ _ (returns-clause-cause g c)
 
-pub returns-clause-grows : goal.returns-clause-grows
-returns-clause-grows g c = insert_grows _ _ _ _ _ _ _ _ (returns-clause-did g c) (returns-clause-cause g c)
+pub returns-clause-rises : goal.returns-clause-rises
+returns-clause-rises g c = insert_rises _ _ _ _ _ _ _ _ (returns-clause-did g c) (returns-clause-cause g c)
