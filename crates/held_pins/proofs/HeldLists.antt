@@ -309,3 +309,21 @@ removed hs ks f i h k stands e d few counted is = record { shows = shows; frame 
 
     shows : held_in ks ≡ tokens_less f (held_in hs)
     shows = ap held_in (is ∙ ap (λ (n : ℕ). take i hs ++ drop n hs) (add-one i)) ∙ less_removed hs f i h stands e one
+
+-- a token that was given and comes back
+pub less_with : (t : Tokens) (h : HeldFrame) (f : ℕ) → f ≡ h.frame → h.tokens ≡ 1 → held_at t f ≡ None → tokens_less f (t ++ h ∷ []) ≡ t
+less_with [] h f e one none = less_last h [] f e one
+less_with (x ∷ xs) h f e one none = less_past x (xs ++ h ∷ []) f (none_past x xs f none) ∙ ap (λ (t : Tokens). x ∷ t) (less_with xs h f e one (none_rest x xs f none))
+
+pub less_more : (t : Tokens) (f : ℕ) → AreCounted t → held_at t f ≢ None → tokens_less f (tokens_more f t) ≡ t
+less_more [] f c some = absurd (some refl)
+less_more (h ∷ hs) f c some = let tokens = c.0 in dite (ℕ_discrete f h.frame)
+    (λ e. ap (tokens_less f) (more_here h hs f e) ∙ less_here (record h { tokens = h.tokens + 1 }) hs f e (λ one. omega arith) ∙ ap (λ (n : ℕ). record h { tokens = n } ∷ hs) (omega arith))
+    (λ n. ap (tokens_less f) (more_past h hs f n) ∙ less_past h (tokens_more f hs) f n ∙ ap (λ (t : Tokens). h ∷ t) (less_more hs f c.2 (λ none. some (held_past h hs f n ∙ none))))
+
+-- which isn't the last one, where there was one before
+pub more_several : (t : Tokens) (f : ℕ) → AreCounted t → held_at t f ≢ None → 1 < tokens_of (held_at (tokens_more f t) f)
+more_several [] f c some = absurd (some refl)
+more_several (h ∷ hs) f c some = let tokens = c.0 in dite (ℕ_discrete f h.frame)
+    (λ e. let a : tokens_of (held_at (tokens_more f (h ∷ hs)) f) ≡ h.tokens + 1 = ap (λ (t : Tokens). tokens_of (held_at t f)) (more_here h hs f e) ∙ ap tokens_of (held_here (record h { tokens = h.tokens + 1 }) hs f e) in omega arith)
+    (λ n. subst (λ (o : Option HeldFrame). 1 < tokens_of o) (sym (ap (λ (t : Tokens). held_at t f) (more_past h hs f n) ∙ held_past h (tokens_more f hs) f n)) (more_several hs f c.2 (λ none. some (held_past h hs f n ∙ none))))

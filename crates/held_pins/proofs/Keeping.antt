@@ -13,7 +13,7 @@ use Rattle.table_rule.specs.declared.value.Value.{Value}
 use Rattle.frame_table.specs.declared.table.FrameTable.{FrameTable}
 use Rattle.frame_table.specs.Seats.{Looked, SameSeat, SameSelf, Stores, Touches, self_of}
 use Rattle.held_pins.specs.Tokens.{HeldFrame, Tokens, held_at, tokens_less, tokens_more, tokens_of, tokens_with}
-use Rattle.held_pins.specs.Rests.{HasNoDevice, HasNoLatch, HasOneLatch, IsCalm, LinkRests, LinksRest, LinksRestBeside, Stands, kept_of, role_of}
+use Rattle.held_pins.specs.Rests.{HasNoDevice, HasNoLatch, HasOneLatch, IsCalm, LinkRests, LinksRest, LinksRestBeside, SameLocks, Stands, kept_by_calls, role_of}
 use Rattle.held_pins.proofs.HeldLists.{less_others, less_tag, more_tags, none_of, with_here, with_past}
 
 -- loads at a frame
@@ -64,6 +64,24 @@ links_same t v w e r g = subst (LinkRests (held_at t g)) (sym (link_same v w e g
 pub beside_same : (f : ℕ) (t : Tokens) (v w : View) → w.links ≡ v.links → LinksRestBeside f t v → LinksRestBeside f t w
 beside_same f t v w e r g n = subst (LinkRests (held_at t g)) (sym (link_same v w e g)) (r g n)
 
+-- Content locks are as they were: over no step, and over steps one after another
+pub same_locks_none : (v : View) → SameLocks v v
+same_locks_none v f = refl
+
+pub same_locks_on : (v u w : View) → SameLocks v u → SameLocks u w → SameLocks v w
+same_locks_on v u w a b f = b f ∙ a f
+
+-- over steps at the frame f that leave the lock there as it was
+pub same_locks_at : (f : ℕ) (v w : View) → ((g : ℕ) → g ≢ f → link w g ≡ link v g) → (link w f).content ≡ (link v f).content → SameLocks v w
+same_locks_at f v w others here g = dite (ℕ_discrete g f) (λ e. subst (λ (x : ℕ). (link w x).content ≡ (link v x).content) (sym e) here) (λ n. ap (λ (l : Link). l.content) (others g n))
+
+-- over loads, and in a view with the same links
+pub same_locks_looked : (v w : View) → ((g : ℕ) → Looked (link v g) (link w g)) → SameLocks v w
+same_locks_looked v w looked f = (looked f).content
+
+pub same_locks_linked : (v w : View) → w.links ≡ v.links → SameLocks v w
+same_locks_linked v w e f = ap (λ (l : Link). l.content) (link_same v w e f)
+
 -- and with the same latches of partitions
 pub latches_same : (v w : View) → w.partitions ≡ v.partitions → HasNoLatch v → HasNoLatch w
 latches_same v w e r p = ap (λ (l : List PartitionHold). get_or l p no_partition) e ∙ r p
@@ -92,8 +110,8 @@ pub devices_touched : (f : ℕ) (v w : View) → Touches f v w → HasNoDevice v
 devices_touched f v w k = devices_self v w k.self
 
 -- what a call keeps of a view
-pub kept_self : (v w : View) → SameSelf v w → w.dirtied_or_synced ≡ v.dirtied_or_synced → kept_of w ≡ kept_of v
-kept_self v w e m = ap (λ (x : View). kept_of x) both
+pub kept_self : (v w : View) → SameSelf v w → w.dirtied_or_synced ≡ v.dirtied_or_synced → kept_by_calls w ≡ kept_by_calls v
+kept_self v w e m = ap (λ (x : View). kept_by_calls x) both
   where
     both : record (self_of w) { dirtied_or_synced = w.dirtied_or_synced } ≡ record (self_of v) { dirtied_or_synced = v.dirtied_or_synced }
     both k = record (e k) { dirtied_or_synced = m k }

@@ -1,3 +1,2 @@
 pub mod HeldLists
 pub mod Keeping
-pub mod Advancing

@@ -1,5 +1,5 @@
 -- What a backend has between two calls, and what a call keeps of its view.
-use Rattle.std.specs.Prelude.{◌≡◌, ◌≢◌, ℕ, ◌≤◌, true, false, [], Option, Some, None, option_map}
+use Rattle.std.specs.Prelude.{◌≡◌, ◌≢◌, ℕ, true, false, [], Option, Some, None, option_map}
 use Rattle.atomic_table.specs.declared.shared.Seat.{Seat}
 use Rattle.pin_core.specs.declared.view.View.{View}
 use Rattle.pin_core.specs.declared.view.Link.{Link}
@@ -11,12 +11,12 @@ use Rattle.pin_core.specs.declared.view.MapChange.TheVariants.{Settled}
 use Rattle.pin_core.specs.State.{hold, lane_hold, link, no_log, no_partition}
 use Rattle.table_rule.specs.declared.value.Value.{Value}
 use Rattle.frame_table.specs.declared.table.FrameTable.{FrameTable}
-use Rattle.frame_table.specs.Seats.{Fits, Grows}
+use Rattle.frame_table.specs.Seats.{Fits}
 use Rattle.held_pins.specs.Tokens.{HeldFrame, Tokens, held_at}
 
 -- What calls of a backend keep of its view: all but what it has of frames, latches, lanes and the log, what it lists and counts of loads, changes, steps and moves of the hand, the positions of the log that it has seen, its calls of devices, the faults that it met, and what it last wrote. What it read and put, its front, its checkpoint and its mark are kept
-abbrev pub kept_of : View → View
-kept_of v = record v {
+abbrev pub kept_by_calls : View → View
+kept_by_calls v = record v {
   links = [];
   partitions = [];
   lanes = [];
@@ -34,13 +34,6 @@ kept_of v = record v {
   had_output = false;
   last_ended = None;
 }
-
--- What only rises: what is listed is added to, what is counted doesn't fall, and so with the positions up to which lanes were swept
-pub record Advances (v w : View) : Type 0 where
-  pub grows : Grows v w
-  pub swept : (q : ℕ) → (lane_hold v q).swept ≤ (lane_hold w q).swept
-  pub end_seen : v.end_seen ≤ w.end_seen
-  pub flushed : v.flushed ≤ w.flushed
 
 -- A backend has nothing at a frame but maybe a pin and a content lock
 pub record IsCalm (l : Link) : Type 0 where
@@ -71,6 +64,10 @@ LinksRest t v = (f : ℕ) → LinkRests (held_at t f) (link v f)
 
 abbrev pub LinksRestBeside : ℕ → Tokens → View → Type 0
 LinksRestBeside f t v = (g : ℕ) → g ≢ f → LinkRests (held_at t g) (link v g)
+
+-- The content locks that a view has are as they were
+abbrev pub SameLocks : View → View → Type 0
+SameLocks v w = (f : ℕ) → (link w f).content ≡ (link v f).content
 
 -- Neither the log's latch nor that of a lane is held
 pub record HasNoDevice (v : View) : Type 0 where

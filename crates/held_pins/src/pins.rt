@@ -106,7 +106,9 @@ impl HeldPins {
     pub fn add_token(&mut self, frame: u32)
         requires pinned { held_at self.old frame ≢ None }
         requires room { count_of self.old < MOST_TOKENS }
-        ensures { self.new ≡ tokens_more frame self.old }
+        ensures tokens { self.new ≡ tokens_more frame self.old }
+        ensures several { 1 < tokens_of (held_at self.new frame) }
+        ensures back { tokens_less frame self.new ≡ self.old }
     {
         let Some(place) = place_at(&self.pins, frame) else {
             unreachable!()
@@ -120,7 +122,8 @@ impl HeldPins {
         requires new { held_at self.old pin.frame ≡ None }
         requires room { count_of self.old < MOST_TOKENS }
         requires tag { names_block tag ≡ true }
-        ensures { self.new ≡ tokens_with pin.frame (packed_tag tag) self.old }
+        ensures tokens { self.new ≡ tokens_with pin.frame (packed_tag tag) self.old }
+        ensures back { tokens_less pin.frame self.new ≡ self.old }
     {
         self.count += 1;
         self.pins.push_reserved(HeldPin {
