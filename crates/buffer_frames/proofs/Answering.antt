@@ -1,5 +1,5 @@
 -- What came of a write of a frame's page, with other steps before it and after it.
-use Rattle.std.proofs.Common.{◌≡◌, ℕ, ◌≤◌, Bool, true, false, Option, Some, None, [], ◌∷◌, ◌++◌, ◌||◌, Result, Ok, Err, sym, refl, ap, ◌∙◌, subst, arith}
+use Rattle.std.proofs.Common.{◌≡◌, ℕ, ◌≤◌, Bool, true, false, Option, Some, None, [], ◌∷◌, ◌++◌, ◌||◌, ◌&&◌, Result, Ok, Err, sym, refl, ap, ◌∙◌, subst, arith}
 use Rattle.std.proofs.lemmas.List.Elements.{All-cons, All-nil}
 use Rattle.std.specs.List.{All}
 use Rattle.access_rings.specs.RingState.{RingState}
@@ -7,7 +7,7 @@ use Rattle.block_tag.specs.declared.tag.Tag.{Tag}
 use Rattle.block_tag.specs.Names.{packed_tag}
 use Rattle.page_layout.specs.Fields.{lsn_of}
 use Rattle.segment_store.specs.Contents.{Pages}
-use Rattle.state_word.specs.declared.word.IoEnd.TheVariants.{Bad}
+use Rattle.state_word.specs.declared.word.IoEnd.TheVariants.{Bad, WriteOk}
 use Rattle.state_word.specs.declared.word.StateWord.{StateWord}
 use Rattle.state_word.specs.Fields.{fields, io_ended_fields, unlocked_fields}
 use Rattle.pin_core.specs.declared.view.DeviceCall.TheVariants.{LaneWrite, LogSync}
@@ -20,22 +20,22 @@ use Rattle.pin_core.specs.declared.view.Link.{Link}
 use Rattle.pin_core.specs.declared.view.View.{View}
 use Rattle.pin_core.specs.State.{Page, link}
 use Rattle.frame_table.specs.declared.table.FrameTable.{FrameTable}
-use Rattle.frame_table.specs.Seats.{SameMarks, SameSelf, ViewMarks, loaded_link}
+use Rattle.frame_table.specs.Seats.{OnlyRises, SameMarks, SameSelf, ViewMarks, loaded_link}
 use Rattle.frame_table.specs.WordSteps.{DidWord, load_flushed}
 use Rattle.content_locks.specs.Io.{EndsIo, FindsNothing}
 use Rattle.content_locks.specs.Locks.{Copies}
 use Rattle.wal_flush.specs.declared.flushes.FlushLog.{FlushLog}
 use Rattle.wal_flush.specs.declared.flushes.FlushLog.TheVariants.{LogShort, LogDown, LogFault}
 use Rattle.wal_flush.specs.Flushes.{FlushRefused}
-use Rattle.held_pins.specs.Rests.{Advances, LinkRests}
+use Rattle.held_pins.specs.Rests.{LinkRests}
 use Rattle.held_pins.specs.Tokens.{HeldFrame, IsPinnedFor, Tokens, held_at}
-use Rattle.held_pins.proofs.Advancing.{advances_on}
+use Rattle.frame_table.proofs.Rising.{rises_none, rises_on}
 use Rattle.held_pins.proofs.Keeping.{beside_kept}
 use Rattle.buffer_frames.specs.declared.flushing.FlushError.{FlushError}
 use Rattle.buffer_frames.specs.declared.flushing.FlushError.TheVariants.{Log, WriteFault}
-use Rattle.buffer_frames.specs.Flushing.{CopiesAnd, EndedInError, FlushAnswer, LogRefuses, LogShows, RejectsVictim, WriteAnswer, Wrote, syncs_of, syncs_refused}
+use Rattle.buffer_frames.specs.Flushing.{ClearsJust, CopiesAnd, EndedInError, EndedWritten, FlushAnswer, LogRefuses, LogShows, RejectsVictim, WriteAnswer, WentToLane, log_syncs, syncs_refused}
 use Rattle.buffer_frames.specs.Stages.{HasVictim, IsPinned}
-use Rattle.buffer_frames.specs.Working.{Calls, IsNoRead, Made, WorksAt}
+use Rattle.buffer_frames.specs.Working.{Calls, IsFlushCall, Made, WorksAt}
 use Rattle.buffer_frames.proofs.WorkSteps.{made_after, made_before, made_none, made_on, within_on}
 
 pub had_output_marked : (v w : View) → SameMarks v w → w.had_output ≡ v.had_output
@@ -52,51 +52,71 @@ ended_in_error f v w e right had = let dirty = e.shows.output right in record {
   failed = refl;
 }
 
+both_left : (a b : Bool) → a && b ≡ true → a ≡ true
+both_left true b e = refl
+both_left false b e = e
+
+-- an output that was done
+pub ended_written : (f : ℕ) (v w : View) → EndsIo WriteOk f v w → (link v f).io ≡ Output → v.had_output ≡ true → EndedWritten w
+ended_written f v w e right had = record {
+  output = ap (λ (x : ViewMarks). x.had_output) e.marks ∙ had;
+  word = unlocked_fields (io_ended_fields WriteOk (fields e.word));
+  is = ap (λ (x : ViewMarks). x.last_ended) e.marks;
+  valid = e.shows.dirty (e.shows.output right);
+  done = refl;
+  again = λ dirty. both_left (fields e.word).just_dirtied (fields e.word).dirty dirty;
+}
+
+pub written_marked : (v w : View) → SameMarks v w → EndedWritten v → EndedWritten w
+written_marked v w m e = record { output = had_output_marked v w m ∙ e.output; word = e.word; is = ap (λ (x : ViewMarks). x.last_ended) m ∙ e.is; valid = e.valid; done = e.done; again = e.again }
+
 pub error_marked : (v w : View) → SameMarks v w → EndedInError v → EndedInError w
 error_marked v w m e = record { output = had_output_marked v w m ∙ e.output; word = e.word; is = ap (λ (x : ViewMarks). x.last_ended) m ∙ e.is; valid = e.valid; dirty = e.dirty; failed = e.failed }
 
 -- a write, where no device is called before or after it
-wrote_between : (done : Bool) (q tag : ℕ) (page : Page) (v u x w : View) → u.device_calls ≡ v.device_calls → Advances v u → Wrote done q tag page u x → w.device_calls ≡ x.device_calls → Advances x w → Wrote done q tag page v w
+wrote_between : (done : Bool) (q tag : ℕ) (page : Page) (v u x w : View) → u.device_calls ≡ v.device_calls → OnlyRises v u → WentToLane done q tag page u x → w.device_calls ≡ x.device_calls → OnlyRises x w → WentToLane done q tag page v w
 wrote_between done q tag page v u x w before a e after b = record {
   ready = e.ready;
-  since = advances_on v u e.ready a e.since;
+  since = rises_on v u e.ready a e.since;
   synced = e.synced;
-  log_calls = made_before (syncs_of e.synced) v u e.ready before e.log_calls;
+  log_calls = made_before (log_syncs e.synced) v u e.ready before e.log_calls;
   log_first = e.log_first;
   left = e.left;
   whole = e.whole;
   lane_call = made_after (LaneWrite q tag e.left done ∷ []) e.ready x w e.lane_call after;
-  until = advances_on e.ready x w e.until b;
+  until = rises_on e.ready x w e.until b;
 }
 
 module _ {L G : Type 0} (contents : L → Option Pages) (t : FrameTable L G) where
-  shows_after : (why : FlushLog) (tag : Tag) (page : Page) (x w : View) → x.end_seen ≤ w.end_seen → w.saw_down ≡ x.saw_down → LogShows contents t why tag page x → LogShows contents t why tag page w
-  shows_after (LogShort lsn end) tag page x w up same s = (s.0, s.1, (let a = s.2 in omega arith), s.3)
-  shows_after (LogDown at) tag page x w up same s = ((let a = s.0 in omega arith), same ∙ s.1)
-  shows_after LogFault tag page x w up same s = same ∙ s
+  shows_between : (why : FlushLog) (tag : Tag) (page : Page) (v u x w : View) → v.end_seen ≤ u.end_seen → x.end_seen ≤ w.end_seen → w.saw_down ≡ x.saw_down → LogShows contents t why tag page u x → LogShows contents t why tag page v w
+  shows_between (LogShort lsn end) tag page v u x w rose up same s = (s.0, s.1, (let a = s.2 in omega arith), (let a = s.3 in omega arith), s.4)
+  shows_between (LogDown at) tag page v u x w rose up same s = ((let a = s.0 in omega arith), (let a = s.1 in omega arith), same ∙ s.2)
+  shows_between LogFault tag page v u x w rose up same s = same ∙ s
 
-  refuses_between : (why : FlushLog) (tag : Tag) (page : Page) (v u x w : View) → u.device_calls ≡ v.device_calls → Advances v u → LogRefuses contents t why tag page u x → SameSelf x w → Advances x w → LogRefuses contents t why tag page v w
+  refuses_between : (why : FlushLog) (tag : Tag) (page : Page) (v u x w : View) → u.device_calls ≡ v.device_calls → OnlyRises v u → LogRefuses contents t why tag page u x → SameSelf x w → OnlyRises x w → LogRefuses contents t why tag page v w
   refuses_between why tag page v u x w before a r self b = record {
     cause = within_on (λ y z. FlushRefused (lsn_of page) y z why) v u x w a r.cause b;
     calls = made_after (syncs_refused why) v x w (made_before (syncs_refused why) v u x before r.calls) (ap (λ (y : View). y.device_calls) self);
-    shows = shows_after why tag page x w b.end_seen (ap (λ (y : View). y.saw_down) self) r.shows;
+    shows = shows_between why tag page v u x w a.end_seen b.end_seen (ap (λ (y : View). y.saw_down) self) r.shows;
   }
 
-  pub write_between : (q : ℕ) (tag : Tag) (page : Page) (v u x w : View) (r : Result Unit FlushError) → u.device_calls ≡ v.device_calls → Advances v u → WriteAnswer contents t q tag page u x r → SameSelf x w → Advances x w → WriteAnswer contents t q tag page v w r
+  pub write_between : (q : ℕ) (tag : Tag) (page : Page) (v u x w : View) (r : Result Unit FlushError) → u.device_calls ≡ v.device_calls → OnlyRises v u → WriteAnswer contents t q tag page u x r → SameSelf x w → OnlyRises x w → WriteAnswer contents t q tag page v w r
   write_between q tag page v u x w (Ok done) before a e self b = wrote_between true q (packed_tag tag) page v u x w before a e (ap (λ (y : View). y.device_calls) self) b
   write_between q tag page v u x w (Err (Log why)) before a e self b = refuses_between why tag page v u x w before a e self b
   write_between q tag page v u x w (Err (WriteFault failed)) before a e self b = (e.0, wrote_between false q (packed_tag tag) page v u x w before a e.1 (ap (λ (y : View). y.device_calls) self) b)
 
-  pub copies_between : (q : ℕ) (tag : Tag) (f : ℕ) (v u x w : View) (r : Result Unit FlushError) → u.device_calls ≡ v.device_calls → Advances v u → CopiesAnd (λ p a b. WriteAnswer contents t q tag p a b r) f u x → SameSelf x w → Advances x w → CopiesAnd (λ p a b. WriteAnswer contents t q tag p a b r) f v w
+  pub copies_between : (q : ℕ) (tag : Tag) (f : ℕ) (v u x w : View) (r : Result Unit FlushError) → u.device_calls ≡ v.device_calls → OnlyRises v u → CopiesAnd (λ p a b. WriteAnswer contents t q tag p a b r) f u x → SameSelf x w → OnlyRises x w → CopiesAnd (λ p a b. WriteAnswer contents t q tag p a b r) f v w
   copies_between q tag f v u x w r before a c self b = record {
     page = c.page;
     sound = c.sound;
-    copies = within_on (Copies f c.page) v u x w a c.copies b;
+    cleared = c.cleared;
+    clears = within_on (ClearsJust f) v u c.cleared c.cleared a c.clears (rises_none c.cleared);
+    copies = within_on (Copies f c.page) c.cleared c.cleared x w (rises_none c.cleared) c.copies b;
     work = write_between q tag c.page v u x w r before a c.work self b;
   }
 
   -- and of a flush
-  pub flush_between : (q : ℕ) (tag : Tag) (f : ℕ) (v u x w : View) (r : Result Bool FlushError) → u.device_calls ≡ v.device_calls → Advances v u → FlushAnswer contents t q tag f u x r → SameSelf x w → Advances x w → FlushAnswer contents t q tag f v w r
+  pub flush_between : (q : ℕ) (tag : Tag) (f : ℕ) (v u x w : View) (r : Result Bool FlushError) → u.device_calls ≡ v.device_calls → OnlyRises v u → FlushAnswer contents t q tag f u x r → SameSelf x w → OnlyRises x w → FlushAnswer contents t q tag f v w r
   flush_between q tag f v u x w (Ok true) before a c self b = copies_between q tag f v u x w (Ok tt) before a c self b
   flush_between q tag f v u x w (Ok false) before a c self b = record { finds = within_on (FindsNothing false f) v u x w a c.finds b; calls = ap (λ (y : View). y.device_calls) self ∙ c.calls ∙ before }
   flush_between q tag f v u x w (Err why) before a c self b = copies_between q tag f v u x w (Err why) before a c self b
@@ -116,35 +136,35 @@ pinned_of_rests tag f t l p r unlocked = let there = p.there in let s = subst (�
 pub rests_of_pinned : (tag : Tag) (f : ℕ) (t : Tokens) (l m : Link) → LinkRests (held_at t f) l → l.tag ≡ Some (packed_tag tag) → IsPinned (packed_tag tag) m → m.role ≡ l.role → m.seen_valid ≡ true → LinkRests (held_at t f) m
 rests_of_pinned tag f t l m r tagged p role seen = record { calm = p.calm; role = role ∙ r.role; tag = p.remembered ∙ sym tagged ∙ r.tag; seen = λ some. seen; unlocked = λ none. p.unlocked }
 
--- no lane is read by a flush
-written_is_no_read : (q tag : ℕ) (left : Page) (done : Bool) → All IsNoRead (LaneWrite q tag left done ∷ [])
-written_is_no_read q tag left done = All-cons IsNoRead (LaneWrite q tag left done) [] tt (All-nil IsNoRead)
+-- the calls of a flush
+written_is_flush_call : (q tag : ℕ) (left : Page) (done : Bool) → All IsFlushCall (LaneWrite q tag left done ∷ [])
+written_is_flush_call q tag left done = All-cons IsFlushCall (LaneWrite q tag left done) [] tt (All-nil IsFlushCall)
 
-wrote_reads_none : (synced : Bool) (q tag : ℕ) (left : Page) (done : Bool) → All IsNoRead (syncs_of synced ++ LaneWrite q tag left done ∷ [])
-wrote_reads_none true q tag left done = All-cons IsNoRead (LogSync true) (LaneWrite q tag left done ∷ []) tt (written_is_no_read q tag left done)
-wrote_reads_none false q tag left done = written_is_no_read q tag left done
+wrote_by_flush_calls : (synced : Bool) (q tag : ℕ) (left : Page) (done : Bool) → All IsFlushCall (log_syncs synced ++ LaneWrite q tag left done ∷ [])
+wrote_by_flush_calls true q tag left done = All-cons IsFlushCall (LogSync true) (LaneWrite q tag left done ∷ []) tt (written_is_flush_call q tag left done)
+wrote_by_flush_calls false q tag left done = written_is_flush_call q tag left done
 
-refused_reads_none : (why : FlushLog) → All IsNoRead (syncs_refused why)
-refused_reads_none (LogShort lsn end) = All-nil IsNoRead
-refused_reads_none (LogDown at) = All-nil IsNoRead
-refused_reads_none LogFault = All-cons IsNoRead (LogSync false) [] tt (All-nil IsNoRead)
+refused_by_flush_calls : (why : FlushLog) → All IsFlushCall (syncs_refused why)
+refused_by_flush_calls (LogShort lsn end) = All-nil IsFlushCall
+refused_by_flush_calls (LogDown at) = All-nil IsFlushCall
+refused_by_flush_calls LogFault = All-cons IsFlushCall (LogSync false) [] tt (All-nil IsFlushCall)
 
-pub none_made : (v w : View) → Made [] v w → Calls IsNoRead v w
-none_made v w m = record { made = []; calls = m; each = All-nil IsNoRead }
+pub none_made : (v w : View) → Made [] v w → Calls IsFlushCall v w
+none_made v w m = record { made = []; calls = m; each = All-nil IsFlushCall }
 
-wrote_no_read : (done : Bool) (q tag : ℕ) (page : Page) (v w : View) → Wrote done q tag page v w → Calls IsNoRead v w
-wrote_no_read done q tag page v w e = record { made = syncs_of e.synced ++ LaneWrite q tag e.left done ∷ []; calls = made_on (syncs_of e.synced) (LaneWrite q tag e.left done ∷ []) v e.ready w e.log_calls e.lane_call; each = wrote_reads_none e.synced q tag e.left done }
+wrote_makes_flush_calls : (done : Bool) (q tag : ℕ) (page : Page) (v w : View) → WentToLane done q tag page v w → Calls IsFlushCall v w
+wrote_makes_flush_calls done q tag page v w e = record { made = log_syncs e.synced ++ LaneWrite q tag e.left done ∷ []; calls = made_on (log_syncs e.synced) (LaneWrite q tag e.left done ∷ []) v e.ready w e.log_calls e.lane_call; each = wrote_by_flush_calls e.synced q tag e.left done }
 
 module _ {L G : Type 0} (contents : L → Option Pages) (t : FrameTable L G) where
-  write_no_read : (q : ℕ) (tag : Tag) (page : Page) (v w : View) (r : Result Unit FlushError) → WriteAnswer contents t q tag page v w r → Calls IsNoRead v w
-  write_no_read q tag page v w (Ok done) e = wrote_no_read true q (packed_tag tag) page v w e
-  write_no_read q tag page v w (Err (Log why)) e = record { made = syncs_refused why; calls = e.calls; each = refused_reads_none why }
-  write_no_read q tag page v w (Err (WriteFault failed)) e = wrote_no_read false q (packed_tag tag) page v w e.1
+  write_makes_flush_calls : (q : ℕ) (tag : Tag) (page : Page) (v w : View) (r : Result Unit FlushError) → WriteAnswer contents t q tag page v w r → Calls IsFlushCall v w
+  write_makes_flush_calls q tag page v w (Ok done) e = wrote_makes_flush_calls true q (packed_tag tag) page v w e
+  write_makes_flush_calls q tag page v w (Err (Log why)) e = record { made = syncs_refused why; calls = e.calls; each = refused_by_flush_calls why }
+  write_makes_flush_calls q tag page v w (Err (WriteFault failed)) e = wrote_makes_flush_calls false q (packed_tag tag) page v w e.1
 
-  pub flush_no_read : (q : ℕ) (tag : Tag) (f : ℕ) (v w : View) (r : Result Bool FlushError) → FlushAnswer contents t q tag f v w r → Calls IsNoRead v w
-  flush_no_read q tag f v w (Ok true) c = write_no_read q tag c.page v w (Ok tt) c.work
-  flush_no_read q tag f v w (Ok false) c = none_made v w (made_none v w c.calls)
-  flush_no_read q tag f v w (Err why) c = write_no_read q tag c.page v w (Err why) c.work
+  pub flush_makes_flush_calls : (q : ℕ) (tag : Tag) (f : ℕ) (v w : View) (r : Result Bool FlushError) → FlushAnswer contents t q tag f v w r → Calls IsFlushCall v w
+  flush_makes_flush_calls q tag f v w (Ok true) c = write_makes_flush_calls q tag c.page v w (Ok tt) c.work
+  flush_makes_flush_calls q tag f v w (Ok false) c = none_made v w (made_none v w c.calls)
+  flush_makes_flush_calls q tag f v w (Err why) c = write_makes_flush_calls q tag c.page v w (Err why) c.work
 
 -- A victim
 pub victim_pinned : (tag f : ℕ) (t : Tokens) (v : View) → HasVictim f t v → (link v f).tag ≡ Some tag → IsPinned tag (link v f)
@@ -161,7 +181,7 @@ victim_sees w l m e settled victim valid = ap (λ (x : Link). x.seen_valid) e
     ∙ ap (λ (b : Bool). b || l.seen_valid) valid
 
 -- The ring gave it up, with other steps before and after
-pub rejects_between : (f : ℕ) (from_ring : Bool) (before after : Option RingState) (v u x w : View) → Advances v u → RejectsVictim f from_ring before after u x → Advances x w → RejectsVictim f from_ring before after v w
+pub rejects_between : (f : ℕ) (from_ring : Bool) (before after : Option RingState) (v u x w : View) → OnlyRises v u → RejectsVictim f from_ring before after u x → OnlyRises x w → RejectsVictim f from_ring before after v w
 rejects_between f from_ring before after v u x w a r b = record {
   came = r.came;
   ring = r.ring;
@@ -175,5 +195,5 @@ rejects_between f from_ring before after v u x w a r b = record {
   unflushed = r.unflushed;
 }
 
-pub reads_none_after : (v u w : View) → u.device_calls ≡ v.device_calls → Calls IsNoRead u w → Calls IsNoRead v w
-reads_none_after v u w e c = record { made = c.made; calls = made_before c.made v u w e c.calls; each = c.each }
+pub flush_calls_after : (v u w : View) → u.device_calls ≡ v.device_calls → Calls IsFlushCall u w → Calls IsFlushCall v w
+flush_calls_after v u w e c = record { made = c.made; calls = made_before c.made v u w e c.calls; each = c.each }

@@ -25,9 +25,9 @@ use Rattle.table_rule.specs.LaneCalls.{LaneDevices, LaneDid, NotesRead, NotesWri
 use Rattle.table_rule.specs.TakenLanes.{IsBlockOf, page_held, taken_lane}
 use Rattle.frame_table.specs.Latches.{DidTurn, IsTurned, SameWork}
 use Rattle.frame_table.specs.LaneWork.{IsNoted, IsTakenLane, LaneStep, MayNote, MayNoteRead, MayNoteWrite, MayReturn, back_lane, back_view, device_calls_of, is_sync, lane_read_link, met_of, out_lane, out_view, swept_lane, unwritten_link, written_link}
-use Rattle.frame_table.specs.Seats.{SameMarks, view_marks}
-use Rattle.held_pins.specs.Rests.{Advances, HasNoDevice, kept_of}
-use Rattle.held_pins.proofs.Advancing.{advances_back, advances_on, advances_out, advances_turned}
+use Rattle.frame_table.specs.Seats.{OnlyRises, SameMarks, view_marks}
+use Rattle.held_pins.specs.Rests.{HasNoDevice, kept_by_calls}
+use Rattle.frame_table.proofs.Rising.{rises_back, rises_on, rises_out, rises_turned}
 use Rattle.buffer_frames.specs.Flushing.{CallsLane, met_lane_write}
 use Rattle.buffer_frames.specs.Loading.{met_lane_read}
 use Rattle.buffer_frames.specs.Stages.{IsReading}
@@ -43,11 +43,11 @@ module _ {L : Type 0} (d : LaneDevices L) (q : ℕ) (after : L) (call : LaneCall
     (out : x ≡ out_view q taken u) (went : LaneStep q (out_lane taken u.flushed (lane_hold u q)) u x)
     (back : y ≡ back_view d q after call x) (came : LaneStep q (back_lane (swept_lane call x (lane_hold x q))) x y)
     (left : SameWork y w) (leaves : DidTurn false (Lane q) y w) (free : IsTurned false (Lane q) y w) where
-  pub trip_kept : kept_of w ≡ kept_of v
-  trip_kept = ap kept_of left ∙ unmarked ∙ ap kept_of out ∙ ap kept_of took
+  pub trip_kept : kept_by_calls w ≡ kept_by_calls v
+  trip_kept = ap kept_by_calls left ∙ unmarked ∙ ap kept_by_calls out ∙ ap kept_by_calls took
     where
-      unmarked : kept_of y ≡ kept_of x
-      unmarked = ap kept_of back ∙ ap (λ (b : Bool). record (kept_of x) { dirtied_or_synced = b }) (ap (λ (b : Bool). x.dirtied_or_synced || b) plain.unsynced ∙ or-false x.dirtied_or_synced)
+      unmarked : kept_by_calls y ≡ kept_by_calls x
+      unmarked = ap kept_by_calls back ∙ ap (λ (b : Bool). record (kept_by_calls x) { dirtied_or_synced = b }) (ap (λ (b : Bool). x.dirtied_or_synced || b) plain.unsynced ∙ or-false x.dirtied_or_synced)
 
   pub trip_marks : SameMarks v w
   trip_marks = ap view_marks left ∙ unmarked ∙ ap view_marks out ∙ ap view_marks took
@@ -64,8 +64,8 @@ module _ {L : Type 0} (d : LaneDevices L) (q : ℕ) (after : L) (call : LaneCall
   pub trip_flushed : w.flushed ≡ v.flushed
   trip_flushed = ap (λ (z : View). z.flushed) left ∙ ap (λ (z : View). z.flushed) back ∙ ap (λ (z : View). z.flushed) out ∙ ap (λ (z : View). z.flushed) took
 
-  pub trip_advances : Advances v w
-  trip_advances = advances_on v u w (advances_turned true (Lane q) v u took turned takes) (advances_on u x w (advances_out q taken u x out went) (advances_on x y w (advances_back d q after call x y back came) (advances_turned false (Lane q) y w left free leaves)))
+  pub trip_advances : OnlyRises v w
+  trip_advances = rises_on v u w (rises_turned true (Lane q) v u took turned takes) (rises_on u x w (rises_out q taken u x out went) (rises_on x y w (rises_back d q after call x y back came) (rises_turned false (Lane q) y w left free leaves)))
 
   pub trip_quiet : HasNoDevice v → HasNoDevice w
   trip_quiet n = record {

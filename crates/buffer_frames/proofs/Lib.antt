@@ -1,4 +1,5 @@
 pub mod Outside
+pub mod SameLocks
 pub mod Calm
 pub mod Pinning
 pub mod Latching
@@ -6,7 +7,7 @@ pub mod Heading
 pub mod WorkSteps
 pub mod LaneTrips
 pub mod Links
-pub mod Rising
+pub mod Notes
 pub mod Written
 pub mod Answering
 pub mod Noting

@@ -10,9 +10,10 @@ use Rattle.pin_core.specs.declared.view.View.{View}
 use Rattle.access_rings.specs.RingState.{RingState}
 use Rattle.frame_table.specs.declared.pin.Pin.{Pin}
 use Rattle.frame_table.specs.declared.table.FrameTable.{FrameTable}
-use Rattle.held_pins.specs.Rests.{Advances, LinksRest}
+use Rattle.frame_table.specs.Seats.{OnlyRises}
+use Rattle.held_pins.specs.Rests.{LinksRest}
 use Rattle.held_pins.specs.Tokens.{Tokens}
-use Rattle.held_pins.proofs.Advancing.{advances_none, advances_on}
+use Rattle.frame_table.proofs.Rising.{rises_none, rises_on}
 use Rattle.buffer_frames.specs.declared.flushing.FlushError.{FlushError}
 use Rattle.buffer_frames.specs.declared.victims.VictimError.{VictimError}
 use Rattle.buffer_frames.specs.declared.victims.VictimError.TheVariants.{Flush, NoUnpinned}
@@ -48,20 +49,20 @@ ended_outside v w e x = record { output = ap (λ (y : View). y.had_output) e ∙
 
 -- A census of a call that it makes at once
 pub all_pinned_now : (n : ℕ) (place : Option ℕ) (v w : View) (words : List ℕ) → AllPinned n place v w words → FindsAllPinned n v w words
-all_pinned_now n place v w words all = record { start = v; since = advances_none v; pins = λ f. refl; place = place; all = all }
+all_pinned_now n place v w words all = record { start = v; since = rises_none v; pins = λ f. refl; place = place; all = all }
 
 -- and later, where the backend has just its callers' pins
-pub all_pinned_from : (t : Tokens) (n : ℕ) (v u w : View) (words : List ℕ) → LinksRest t v → LinksRest t u → Advances v u → FindsAllPinned n u w words → FindsAllPinned n v w words
-all_pinned_from t n v u w words a b since x = record { start = x.start; since = advances_on v u x.start since x.since; pins = λ f. x.pins f ∙ (b f).role ∙ sym (a f).role; place = x.place; all = x.all }
+pub all_pinned_from : (t : Tokens) (n : ℕ) (v u w : View) (words : List ℕ) → LinksRest t v → LinksRest t u → OnlyRises v u → FindsAllPinned n u w words → FindsAllPinned n v w words
+all_pinned_from t n v u w words a b since x = record { start = x.start; since = rises_on v u x.start since x.since; pins = λ f. x.pins f ∙ (b f).role ∙ sym (a f).role; place = x.place; all = x.all }
 
 module _ {L G : Type 0} (contents : L → Option Pages) (t : FrameTable L G) where
-  pub dirty_from : (why : FlushError) (v u w : View) → Advances v u → LeavesDirty contents t why u w → LeavesDirty contents t why v w
-  dirty_from why v u w since x = record { frame = x.frame; tag = x.tag; named = x.named; listed = x.listed; before = x.before; after = x.after; since = advances_on v u x.before since x.since; answer = x.answer; until = x.until; ended = x.ended }
+  pub dirty_from : (why : FlushError) (v u w : View) → OnlyRises v u → LeavesDirty contents t why u w → LeavesDirty contents t why v w
+  dirty_from why v u w since x = record { frame = x.frame; tag = x.tag; named = x.named; listed = x.listed; before = x.before; after = x.after; since = rises_on v u x.before since x.since; answer = x.answer; until = x.until; ended = x.ended }
 
-  pub refused_from : (held : Tokens) (words : List ℕ) (v u w : View) (why : VictimError) → LinksRest held v → LinksRest held u → Advances v u → VictimRefused contents t words u w why → VictimRefused contents t words v w why
+  pub refused_from : (held : Tokens) (words : List ℕ) (v u w : View) (why : VictimError) → LinksRest held v → LinksRest held u → OnlyRises v u → VictimRefused contents t words u w why → VictimRefused contents t words v w why
   refused_from held words v u w (NoUnpinned frames) a b since x = (x.0, all_pinned_from held _ v u w words a b since x.1)
   refused_from held words v u w (Flush why) a b since x = dirty_from why v u w since x
 
-  pub claim_from : (tag : ℕ) (held : Tokens) (words : List ℕ) (v u w : View) (r : Result Pin VictimError) → LinksRest held v → LinksRest held u → Advances v u → ClaimAnswer contents t tag held words u w r → ClaimAnswer contents t tag held words v w r
+  pub claim_from : (tag : ℕ) (held : Tokens) (words : List ℕ) (v u w : View) (r : Result Pin VictimError) → LinksRest held v → LinksRest held u → OnlyRises v u → ClaimAnswer contents t tag held words u w r → ClaimAnswer contents t tag held words v w r
   claim_from tag held words v u w (Ok pin) a b since x = x
   claim_from tag held words v u w (Err why) a b since x = (x.0, refused_from held words v u w why a b since x.1)

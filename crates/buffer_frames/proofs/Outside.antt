@@ -5,10 +5,10 @@ use Rattle.pin_core.specs.declared.view.View.{View}
 use Rattle.pin_core.specs.State.{lane_hold}
 use Rattle.table_rule.specs.declared.value.Value.{Value}
 use Rattle.frame_table.specs.declared.table.FrameTable.{FrameTable}
-use Rattle.frame_table.specs.Seats.{Grows, SameMarks, SameSeat, SameSelf}
+use Rattle.frame_table.specs.Seats.{Grows, OnlyRises, SameMarks, SameSeat, SameSelf}
 use Rattle.frame_table.specs.Latches.{SameWork}
 use Rattle.clock_sweep.specs.Keeping.{SameAside}
-use Rattle.held_pins.specs.Rests.{Advances, HasNoDevice, Stands, kept_of}
+use Rattle.held_pins.specs.Rests.{HasNoDevice, Stands, kept_by_calls}
 use Rattle.access_rings.specs.RingState.{RingState, ring_after_keep, ring_after_rejection}
 use Rattle.clock_sweep.specs.Choosing.{ring_gone_on, ring_keeping}
 use Rattle.buffer_frames.specs.Outside.{RingShape, outside_of, ring_shape, shape_of}
@@ -27,8 +27,8 @@ pub links_worked : (v w : View) → SameWork v w → w.links ≡ v.links
 links_worked v w work = ap (λ (x : View). x.links) work
 
 -- What follows of it
-pub kept_outside : (v w : View) → outside_of w ≡ outside_of v → kept_of w ≡ kept_of v
-kept_outside v w e = ap kept_of e
+pub kept_outside : (v w : View) → outside_of w ≡ outside_of v → kept_by_calls w ≡ kept_by_calls v
+kept_outside v w e = ap kept_by_calls e
 
 pub met_outside : (v w : View) → outside_of w ≡ outside_of v → w.met ≡ v.met
 met_outside v w e = ap (λ (x : View). x.met) e
@@ -48,7 +48,7 @@ pub stands_outside : {L G : Type 0} (t : FrameTable L G) (s s' : Seat (Value L G
 stands_outside t s s' same e k = record { fits = same.table ∙ k.fits; hand = same.hand ∙ k.hand; quiet = device_outside s.me.0 s'.me.0 e k.quiet }
 
 -- What only rises
-pub grows_outside : (v w : View) → Grows v w → outside_of w ≡ outside_of v → Advances v w
+pub grows_outside : (v w : View) → Grows v w → outside_of w ≡ outside_of v → OnlyRises v w
 grows_outside v w g e = let end : w.end_seen ≡ v.end_seen = ap (λ (x : View). x.end_seen) e in let flushed : w.flushed ≡ v.flushed = ap (λ (x : View). x.flushed) e in record {
   grows = g;
   swept = λ q. (let swept : (lane_hold w q).swept ≡ (lane_hold v q).swept = ap (λ (x : View). (lane_hold x q).swept) e in omega arith);

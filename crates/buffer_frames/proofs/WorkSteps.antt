@@ -9,15 +9,15 @@ use Rattle.pin_core.specs.Steps.{HoldsNoHeader}
 use Rattle.page_core.specs.Steps.{HasNoIo, IsWriteOf}
 use Rattle.pin_core.specs.declared.view.Io.TheVariants.{Quiet}
 use Rattle.state_word.specs.declared.word.StateWord.{StateWord}
-use Rattle.frame_table.specs.Seats.{MarksBegun, MarksEnded, SameMarks, SameSelf, Touches, ViewMarks}
-use Rattle.held_pins.specs.Rests.{Advances, HasNoDevice, HasNoLatch, LinksRestBeside}
+use Rattle.frame_table.specs.Seats.{MarksBegun, MarksEnded, OnlyRises, SameMarks, SameSelf, Touches, ViewMarks}
+use Rattle.held_pins.specs.Rests.{HasNoDevice, HasNoLatch, LinksRestBeside}
 use Rattle.held_pins.specs.Tokens.{Tokens}
-use Rattle.held_pins.proofs.Advancing.{advances_none, advances_on, advances_touched}
+use Rattle.frame_table.proofs.Rising.{rises_none, rises_on, rises_touched}
 use Rattle.held_pins.proofs.Keeping.{kept_self, latches_same}
 use Rattle.buffer_frames.specs.Working.{Made, Within, WorksAt}
 
 pub works_touched : (f : ℕ) (v w : View) → Touches f v w → w.dirtied_or_synced ≡ v.dirtied_or_synced → WorksAt f v w
-works_touched f v w t m = record { kept = kept_self v w t.self m; advances = advances_touched f v w t; partitions = t.partitions; others = t.others }
+works_touched f v w t m = record { kept = kept_self v w t.self m; advances = rises_touched f v w t; partitions = t.partitions; others = t.others }
 
 pub works_marked : (f : ℕ) (v w : View) → Touches f v w → SameMarks v w → WorksAt f v w
 works_marked f v w t m = works_touched f v w t (ap (λ (x : ViewMarks). x.dirtied_or_synced) m)
@@ -29,7 +29,7 @@ pub works_ended : (stored : StateWord) (f : ℕ) (v w : View) → Touches f v w 
 works_ended stored f v w t m = works_touched f v w t (ap (λ (x : ViewMarks). x.dirtied_or_synced) m)
 
 pub works_on : (f : ℕ) (v u w : View) → WorksAt f v u → WorksAt f u w → WorksAt f v w
-works_on f v u w a b = record { kept = b.kept ∙ a.kept; advances = advances_on v u w a.advances b.advances; partitions = b.partitions ∙ a.partitions; others = λ g n. b.others g n ∙ a.others g n }
+works_on f v u w a b = record { kept = b.kept ∙ a.kept; advances = rises_on v u w a.advances b.advances; partitions = b.partitions ∙ a.partitions; others = λ g n. b.others g n ∙ a.others g n }
 
 -- what is not held before such work isn't after it
 pub latches_worked : (f : ℕ) (v w : View) → WorksAt f v w → HasNoLatch v → HasNoLatch w
@@ -67,7 +67,7 @@ made_on a b v u w m n = n ∙ ap (λ (l : List DeviceCall). l ++ b) m ∙ append
 
 -- what was done in the course of a call
 pub within_all : (Work : View → View → Type 0) (v w : View) → Work v w → Within Work v w
-within_all Work v w d = record { before = v; after = w; since = advances_none v; work = d; until = advances_none w }
+within_all Work v w d = record { before = v; after = w; since = rises_none v; work = d; until = rises_none w }
 
-pub within_on : (Work : View → View → Type 0) (v u x w : View) → Advances v u → Within Work u x → Advances x w → Within Work v w
-within_on Work v u x w a d b = record { before = d.before; after = d.after; since = advances_on v u d.before a d.since; work = d.work; until = advances_on d.after x w d.until b }
+pub within_on : (Work : View → View → Type 0) (v u x w : View) → OnlyRises v u → Within Work u x → OnlyRises x w → Within Work v w
+within_on Work v u x w a d b = record { before = d.before; after = d.after; since = rises_on v u d.before a d.since; work = d.work; until = rises_on d.after x w d.until b }

@@ -10,7 +10,7 @@ use Rattle.pin_core.specs.State.{Page, link}
 use Rattle.table_rule.specs.declared.value.Value.{Value}
 use Rattle.frame_table.specs.declared.table.FrameTable.{FrameTable}
 use Rattle.frame_table.specs.WordSteps.{DidWord, load_flushed}
-use Rattle.frame_table.specs.Seats.{Grows, SameMarks, SameSeat, frames_of, view_marks}
+use Rattle.frame_table.specs.Seats.{OnlyRises, SameMarks, SameSeat, frames_of, view_marks}
 use Rattle.wal_flush.specs.declared.flushes.FlushedBy.{FlushedBy}
 use Rattle.wal_flush.specs.declared.flushes.FlushedBy.TheVariants.{NoSync, OneSync}
 use Rattle.wal_flush.specs.declared.flushes.FlushLog.{FlushLog}
@@ -18,21 +18,19 @@ use Rattle.wal_flush.specs.declared.flushes.FlushLog.TheVariants.{LogShort, LogD
 use Rattle.wal_flush.specs.Flushes.{FlushRefused, FlushSeesEnd, ShortOf, as_looked, flushed_view, unflushed_view}
 use Rattle.wal_flush.specs.Latched.{KeepsWork}
 use Rattle.wal_flush.specs.Latched.{kept_of as log_kept}
-use Rattle.wal_flush.proofs.Growing.{flushed_grows}
-use Rattle.held_pins.specs.Rests.{Advances, Stands, kept_of}
-use Rattle.held_pins.proofs.Advancing.{advances_by}
+use Rattle.wal_flush.proofs.Rising.{flushed_rises}
+use Rattle.held_pins.specs.Rests.{Stands, kept_by_calls}
 use Rattle.held_pins.proofs.Keeping.{devices_same, stands_on}
-use Rattle.buffer_frames.specs.Flushing.{CallsLane, LogRefuses, LogShows, Wrote, met_refused, syncs_of, syncs_refused}
+use Rattle.buffer_frames.specs.Flushing.{CallsLane, LogRefuses, LogShows, WentToLane, met_refused, log_syncs, syncs_refused}
 use Rattle.buffer_frames.specs.declared.flushing.FlushError.TheVariants.{Log}
 use Rattle.buffer_frames.specs.Working.{Made, WorksAt}
-use Rattle.buffer_frames.proofs.Rising.{Rises, flushed_rises}
 use Rattle.buffer_frames.proofs.WorkSteps.{made_none, within_all}
 
 -- what a flush of the log leaves
-pub works_flushed : (f : ℕ) (v w : View) → KeepsWork v w → Grows v w → Rises v w → WorksAt f v w
-works_flushed f v w e g r = record {
-  kept = ap kept_of e;
-  advances = advances_by v w g (ap (λ (x : View). x.lanes) e) r.end_seen r.flushed;
+pub works_flushed : (f : ℕ) (v w : View) → KeepsWork v w → OnlyRises v w → WorksAt f v w
+works_flushed f v w e rises = record {
+  kept = ap kept_by_calls e;
+  advances = rises;
   partitions = ap (λ (x : View). x.partitions) e;
   others = λ h n. ap (λ (x : View). link x h) e;
 }
@@ -44,7 +42,7 @@ pub marks_flushed : (v w : View) → KeepsWork v w → SameMarks v w
 marks_flushed v w e = ap view_marks e
 
 -- its calls, and the faults that it met
-flushed_made : (by : FlushedBy) (v w : View) → w ≡ as_looked (flushed_view by v) w → (synced : Bool) × Made (syncs_of synced) v w
+flushed_made : (by : FlushedBy) (v w : View) → w ≡ as_looked (flushed_view by v) w → (synced : Bool) × Made (log_syncs synced) v w
 flushed_made NoSync v w e = (false, made_none v w (ap (λ (x : View). x.device_calls) e))
 flushed_made OneSync v w e = (true, ap (λ (x : View). x.device_calls) e)
 
@@ -63,7 +61,7 @@ refused_met (LogDown at) v w e = ap (λ (x : View). x.met) e
 refused_met LogFault v w e = ap (λ (x : View). x.met) e
 
 -- A page went to its lane, or failed to, after a flush of the log
-pub wrote_flushed : (done took : Bool) (q tag : ℕ) (page : Page) (lsn : ℕ) (v u w : View) → took ≡ done → lsn ≡ lsn_of page → (by : FlushedBy) → u ≡ as_looked (flushed_view by v) u → lsn ≤ u.flushed → Advances v u → CallsLane took q tag page u w → Advances u w → Wrote done q tag page v w
+pub wrote_flushed : (done took : Bool) (q tag : ℕ) (page : Page) (lsn : ℕ) (v u w : View) → took ≡ done → lsn ≡ lsn_of page → (by : FlushedBy) → u ≡ as_looked (flushed_view by v) u → lsn ≤ u.flushed → OnlyRises v u → CallsLane took q tag page u w → OnlyRises u w → WentToLane done q tag page v w
 wrote_flushed done took q tag page lsn v u w is at by view first since calls until = let synced = flushed_made by v u view in let c = subst (λ (b : Bool). CallsLane b q tag page u w) is calls in record {
   ready = u;
   since = since;
@@ -78,17 +76,18 @@ wrote_flushed done took q tag page lsn v u w is at by view first since calls unt
 
 -- A refusal of the log, at the page's position
 module _ {L G : Type 0} (contents : L → Option Pages) (t : FrameTable L G) where
-  shows_at : (why : FlushLog) (tag : Tag) (page : Page) (f lsn : ℕ) (v w : View) → lsn ≡ lsn_of page → FlushRefused lsn v w why → w ≡ as_looked (unflushed_view why v) w → FlushSeesEnd why v w → ShortOf contents t v why → f < frames_of t → (link v f).tag ≡ Some (packed_tag tag) → (link v f).copied ≡ Some page → LogShows contents t why tag page w
+  shows_at : (why : FlushLog) (tag : Tag) (page : Page) (f lsn : ℕ) (v w : View) → lsn ≡ lsn_of page → FlushRefused lsn v w why → w ≡ as_looked (unflushed_view why v) w → FlushSeesEnd why v w → ShortOf contents t v why → f < frames_of t → (link v f).tag ≡ Some (packed_tag tag) → (link v f).copied ≡ Some page → LogShows contents t why tag page v w
   shows_at (LogShort l e) tag page f lsn v w at (end, tries) left seen short inside remembered copied = let r = tries.work.work in (
     r.0 ∙ at,
     subst (λ (n : ℕ). n < l) (sym r.1) (subst (λ (n : ℕ). end < n) (sym r.0) r.2),
+    seen.0,
     seen.1,
     λ q known pages block there are. ⊎_elim
         (λ (low : lsn_of page ≤ e). (let a = r.1 in let b = r.2 in absurd (omega arith)))
         (λ (x : pages tag ≡ Some page). x)
         (short f tag page inside remembered copied q known pages block there are),
   )
-  shows_at (LogDown at) tag page f lsn v w is cause left seen short inside remembered copied = (seen.1, ap (λ (x : View). x.saw_down) left)
+  shows_at (LogDown at) tag page f lsn v w is cause left seen short inside remembered copied = (seen.0, seen.1, ap (λ (x : View). x.saw_down) left)
   shows_at LogFault tag page f lsn v w is cause left seen short inside remembered copied = ap (λ (x : View). x.saw_down) left
 
   pub refuses_at : (why : FlushLog) (tag : Tag) (page : Page) (f lsn : ℕ) (v w : View) → lsn ≡ lsn_of page → FlushRefused lsn v w why → w ≡ as_looked (unflushed_view why v) w → FlushSeesEnd why v w → ShortOf contents t v why → f < frames_of t → (link v f).tag ≡ Some (packed_tag tag) → (link v f).copied ≡ Some page → LogRefuses contents t why tag page v w
@@ -103,4 +102,4 @@ pub loaded_work : (found : ℕ) (v w : View) → DidWord load_flushed v w found 
 loaded_work found v w d = ap log_kept d.after
 
 pub works_loaded : (f found : ℕ) (v w : View) → DidWord load_flushed v w found → WorksAt f v w
-works_loaded f found v w d = works_flushed f v w (loaded_work found v w d) (flushed_grows found v w d) (flushed_rises found v w d)
+works_loaded f found v w d = works_flushed f v w (loaded_work found v w d) (flushed_rises found v w d)

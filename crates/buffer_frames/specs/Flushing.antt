@@ -14,7 +14,9 @@ use Rattle.pin_core.specs.declared.view.Met.{Met}
 use Rattle.pin_core.specs.declared.view.View.{View}
 use Rattle.pin_core.specs.State.{Page}
 use Rattle.frame_table.specs.declared.table.FrameTable.{FrameTable}
+use Rattle.page_core.specs.Kinds.{clear_just_dirtied}
 use Rattle.frame_table.specs.FrameSteps.{Did, looking}
+use Rattle.frame_table.specs.Kinds.{pages}
 use Rattle.frame_table.specs.Opened.{WasAtOpening}
 use Rattle.frame_table.specs.WordSteps.{DidWord, load_flushed}
 use Rattle.content_locks.specs.Io.{FindsNothing}
@@ -23,7 +25,7 @@ use Rattle.content_locks.specs.Locks.{Copies, RefusesLock, ShowsExclusive}
 use Rattle.wal_flush.specs.declared.flushes.FlushLog.{FlushLog}
 use Rattle.wal_flush.specs.declared.flushes.FlushLog.TheVariants.{LogShort, LogDown, LogFault}
 use Rattle.wal_flush.specs.Flushes.{FlushRefused}
-use Rattle.held_pins.specs.Rests.{Advances}
+use Rattle.frame_table.specs.Seats.{OnlyRises}
 use Rattle.buffer_frames.specs.declared.flushing.FlushError.{FlushError}
 use Rattle.buffer_frames.specs.declared.flushing.FlushError.TheVariants.{Log, WriteFault}
 use Rattle.buffer_frames.specs.Working.{Made, Within, met_log, met_write}
@@ -34,9 +36,9 @@ met_lane_write true m = m
 met_lane_write false m = met_write m
 
 -- the calls of the log that a flush makes: a sync, or none
-abbrev pub syncs_of : Bool → List DeviceCall
-syncs_of true = LogSync true ∷ []
-syncs_of false = []
+abbrev pub log_syncs : Bool → List DeviceCall
+log_syncs true = LogSync true ∷ []
+log_syncs false = []
 
 -- and those of one that refuses: where the log failed, the sync that did
 abbrev pub syncs_refused : FlushLog → List DeviceCall
@@ -51,18 +53,18 @@ pub record CallsLane (done : Bool) (q tag : ℕ) (page : Page) (v w : View) : Ty
   pub calls : Made (LaneWrite q tag left done ∷ []) v w
 
 -- The page went to the lane q, or failed to. Before that the log was synced at most, and the flushed position was seen at the page's position or behind it
-pub record Wrote (done : Bool) (q tag : ℕ) (page : Page) (v w : View) : Type 0 where
+pub record WentToLane (done : Bool) (q tag : ℕ) (page : Page) (v w : View) : Type 0 where
   -- the view by then
   pub ready : View
-  pub since : Advances v ready
+  pub since : OnlyRises v ready
   pub synced : Bool
-  pub log_calls : Made (syncs_of synced) v ready
+  pub log_calls : Made (log_syncs synced) v ready
   pub log_first : lsn_of page ≤ ready.flushed
   -- and then the one call of the lane, which has this of the block since: the page itself, where the write was done
   pub left : Page
   pub whole : done ≡ true → left ≡ page
   pub lane_call : Made (LaneWrite q tag left done ∷ []) ready w
-  pub until : Advances ready w
+  pub until : OnlyRises ready w
 
 -- The frame wasn't dirty, by a word that was loaded under its header in this call, and no device was called
 pub record FindsClean (f : ℕ) (v w : View) : Type 0 where
@@ -78,6 +80,19 @@ pub record EndedInError (w : View) : Type 0 where
   pub dirty : word.dirty ≡ true
   pub failed : word.failed ≡ true
 
+-- There was an output right, and the word that the end of the last input or output stored is valid and has no BM_IO_ERROR. It is dirty only where it has BM_JUST_DIRTIED: the frame was dirtied again
+pub record EndedWritten (w : View) : Type 0 where
+  pub output : w.had_output ≡ true
+  pub word : StateWord
+  pub is : w.last_ended ≡ Some word
+  pub valid : word.valid ≡ true
+  pub done : word.failed ≡ false
+  pub again : word.dirty ≡ true → word.just_dirtied ≡ true
+
+-- BM_JUST_DIRTIED was cleared as the header of f was unlocked
+abbrev pub ClearsJust : ℕ → View → View → Type 0
+ClearsJust f v w = (word : ℕ) × Did (pages clear_just_dirtied) f v w word
+
 -- the faults that were met, by the refusal, and by the answer
 abbrev pub met_refused : FlushError → Met → Met
 met_refused (WriteFault tag) m = met_write m
@@ -89,11 +104,14 @@ abbrev pub met_flushing : {A : Type 0} → Result A FlushError → Met → Met
 met_flushing (Ok done) m = m
 met_flushing (Err why) m = met_refused why m
 
--- The page is the one of the frame f, which is sound, as it was copied under the content lock in this call, and this came of its write
+-- The page is the one of the frame f, which is sound, as it was copied under the content lock in this call, after BM_JUST_DIRTIED was cleared. This came of its write
 pub record CopiesAnd (Work : Page → View → View → Type 0) (f : ℕ) (v w : View) : Type 0 where
   pub page : Page
   pub sound : is_sound_page page ≡ true
-  pub copies : Within (Copies f page) v w
+  -- the view before the copy
+  pub cleared : View
+  pub clears : Within (ClearsJust f) v cleared
+  pub copies : Within (Copies f page) cleared w
   pub work : Work page v w
 
 -- The ring gave the frame f up. It is for bulk reads, the frame came from its current place, and the log would have to be flushed for the frame's page, as that was copied in this call and the flushed position loaded. The place is empty then
@@ -110,23 +128,23 @@ pub record RejectsVictim (f : ℕ) (from_ring : Bool) (before after : Option Rin
   pub unflushed : flushed < lsn_of page
 
 module _ {L G : Type 0} (contents : L → Option Pages) (t : FrameTable L G) where
-  -- What a refusal of the log shows, of the page that was to be written: the log ended before its position, which is that of the page that the block's lane held as the table was opened, where that is known; or the log is down, and that was seen
-  abbrev pub LogShows : FlushLog → Tag → Page → View → Type 0
-  LogShows (LogShort lsn end) tag page w = (lsn ≡ lsn_of page) × (end < lsn) × (end ≤ w.end_seen) × WasAtOpening contents t tag page
-  LogShows (LogDown at) tag page w = (at ≤ w.end_seen) × (w.saw_down ≡ true)
-  LogShows LogFault tag page w = w.saw_down ≡ true
+  -- What a refusal of the log shows, of the page that was to be written: the log ended before its position, which is that of the page that the block's lane held as the table was opened, where that is known; or the log is down, and that was seen. The end that is named was seen, and isn't before one that was seen at first
+  abbrev pub LogShows : FlushLog → Tag → Page → View → View → Type 0
+  LogShows (LogShort lsn end) tag page v w = (lsn ≡ lsn_of page) × (end < lsn) × (v.end_seen ≤ end) × (end ≤ w.end_seen) × WasAtOpening contents t tag page
+  LogShows (LogDown at) tag page v w = (v.end_seen ≤ at) × (at ≤ w.end_seen) × (w.saw_down ≡ true)
+  LogShows LogFault tag page v w = w.saw_down ≡ true
 
   -- The log was not flushed up to the page's position, for this reason, and no lane was called
   pub record LogRefuses (why : FlushLog) (tag : Tag) (page : Page) (v w : View) : Type 0 where
     pub cause : Within (λ a b. FlushRefused (lsn_of page) a b why) v w
     pub calls : Made (syncs_refused why) v w
-    pub shows : LogShows why tag page w
+    pub shows : LogShows why tag page v w
 
   -- what came of a write of a page that was copied
   abbrev pub WriteAnswer : ℕ → Tag → Page → View → View → Result Unit FlushError → Type 0
-  WriteAnswer q tag page v w (Ok done) = Wrote true q (packed_tag tag) page v w
+  WriteAnswer q tag page v w (Ok done) = WentToLane true q (packed_tag tag) page v w
   WriteAnswer q tag page v w (Err (Log why)) = LogRefuses why tag page v w
-  WriteAnswer q tag page v w (Err (WriteFault failed)) = (failed ≡ tag) × Wrote false q (packed_tag tag) page v w
+  WriteAnswer q tag page v w (Err (WriteFault failed)) = (failed ≡ tag) × WentToLane false q (packed_tag tag) page v w
 
   -- what came of a flush of the frame f
   abbrev pub FlushAnswer : ℕ → Tag → ℕ → View → View → Result Bool FlushError → Type 0

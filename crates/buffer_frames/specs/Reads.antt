@@ -11,8 +11,8 @@ use Rattle.pin_core.specs.State.{link}
 use Rattle.frame_table.specs.declared.pin.Pin.{Pin}
 use Rattle.frame_table.specs.declared.table.FrameTable.{FrameTable}
 use Rattle.frame_table.specs.Opened.{WasSoundAtOpening}
-use Rattle.frame_table.specs.Seats.{frames_of}
-use Rattle.held_pins.specs.Rests.{Advances, LinksRest}
+use Rattle.frame_table.specs.Seats.{OnlyRises, frames_of}
+use Rattle.held_pins.specs.Rests.{LinksRest}
 use Rattle.held_pins.specs.Tokens.{Tokens}
 use Rattle.buffer_frames.specs.declared.loading.LoadError.TheVariants as load
 use Rattle.buffer_frames.specs.declared.reading.BlockError.{BlockError}
@@ -23,37 +23,37 @@ use Rattle.buffer_frames.specs.Loading.{WasUnsoundAtOpening, loading_calls}
 use Rattle.buffer_frames.specs.Lookups.{SeesAndPins, SeesNone, UnderPartition}
 use Rattle.buffer_frames.specs.Stages.{Pins}
 use Rattle.buffer_frames.specs.Victims.{VictimRefused, met_victim}
-use Rattle.buffer_frames.specs.Working.{IsNoRead, Made, WorksAt, met_read}
+use Rattle.buffer_frames.specs.Working.{IsFlushCall, Made, WorksAt, met_read}
 
--- Calls of devices were made that aren't reads of lanes, and then these
+-- Calls of devices were made that a flush makes, and then these
 pub record MadeThen (last : List DeviceCall) (v w : View) : Type 0 where
   pub before : List DeviceCall
   pub calls : w.device_calls ≡ v.device_calls ++ (before ++ last)
-  pub each : All IsNoRead before
+  pub each : All IsFlushCall before
 
--- At first the map gave no frame for the block. All else was done after that, and these were its last calls of devices, the others no reads of lanes
+-- At first the map gave no frame for the block. All else was done after that, and these were its last calls of devices, the others those of flushes
 pub record Misses (tag : Tag) (last : List DeviceCall) (v w : View) : Type 0 where
   pub searched : View
   pub search : UnderPartition tag (SeesNone tag) v searched
-  pub until : Advances searched w
+  pub until : OnlyRises searched w
   pub calls : MadeThen last v w
 
--- At first the map gave the frame f, which was pinned then; no work was done at another one, and these were the calls of devices. Or it gave none
-pub data Locates (tag : Tag) (f : ℕ) (last : List DeviceCall) (v w : View) : Type 0 where
-  mapped : (ring : Bool) (pinned : View) → UnderPartition tag (SeesAndPins tag f ring) v pinned → WorksAt f pinned w → Made last v w → Locates tag f last v w
-  missed : Misses tag last v w → Locates tag f last v w
+-- At first the map gave the frame f, which was pinned then, for a ring or not; no work was done at another one, and these were the calls of devices. Or it gave none
+pub data Locates (tag : Tag) (f : ℕ) (ring : Bool) (last : List DeviceCall) (v w : View) : Type 0 where
+  mapped : (pinned : View) → UnderPartition tag (SeesAndPins tag f ring) v pinned → WorksAt f pinned w → Made last v w → Locates tag f ring last v w
+  missed : Misses tag last v w → Locates tag f ring last v w
 
 -- how a block was pinned, or wasn't
-abbrev pub PinAnswer : Tag → View → View → Result Pin VictimError → Type 0
-PinAnswer tag v w (Ok pin) = Locates tag pin.frame [] v w
-PinAnswer tag v w (Err why) = Misses tag [] v w
+abbrev pub PinAnswer : Tag → Bool → View → View → Result Pin VictimError → Type 0
+PinAnswer tag ring v w (Ok pin) = Locates tag pin.frame ring [] v w
+PinAnswer tag ring v w (Err why) = Misses tag [] v w
 
 -- and read: the lane q was read where the answer says so, and no lane else
-abbrev pub ReadCalls : ℕ → Tag → View → View → Result PinnedBlock BlockError → Type 0
-ReadCalls q tag v w (Ok block) = Locates tag block.pin.frame (loading_calls q (packed_tag tag) (Ok block.hit)) v w
-ReadCalls q tag v w (Err (NoFrame why)) = Misses tag [] v w
-ReadCalls q tag v w (Err (ReadFault failed)) = (f : ℕ) × Locates tag f (loading_calls q (packed_tag tag) (Err load.ReadFault)) v w
-ReadCalls q tag v w (Err (Unsound failed)) = (f : ℕ) × Locates tag f (loading_calls q (packed_tag tag) (Err load.Unsound)) v w
+abbrev pub ReadCalls : ℕ → Tag → Bool → View → View → Result PinnedBlock BlockError → Type 0
+ReadCalls q tag ring v w (Ok block) = Locates tag block.pin.frame ring (loading_calls q (packed_tag tag) (Ok block.hit)) v w
+ReadCalls q tag ring v w (Err (NoFrame why)) = Misses tag [] v w
+ReadCalls q tag ring v w (Err (ReadFault failed)) = (f : ℕ) × Locates tag f ring (loading_calls q (packed_tag tag) (Err load.ReadFault)) v w
+ReadCalls q tag ring v w (Err (Unsound failed)) = (f : ℕ) × Locates tag f ring (loading_calls q (packed_tag tag) (Err load.Unsound)) v w
 
 -- the faults that were met, by the answer
 abbrev pub met_read_block : Result PinnedBlock BlockError → Met → Met

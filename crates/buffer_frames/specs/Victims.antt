@@ -10,10 +10,10 @@ use Rattle.pin_core.specs.declared.view.View.{View}
 use Rattle.table_rule.specs.Blocks.{has_block}
 use Rattle.frame_table.specs.declared.pin.Pin.{Pin}
 use Rattle.frame_table.specs.declared.table.FrameTable.{FrameTable}
-use Rattle.frame_table.specs.Seats.{frames_of, lanes_in, relations_of}
+use Rattle.frame_table.specs.Seats.{OnlyRises, frames_of, lanes_in, relations_of}
 use Rattle.clock_sweep.specs.Choosing.{FindsNone}
 use Rattle.clock_sweep.specs.Keeping.{SamePins}
-use Rattle.held_pins.specs.Rests.{Advances, LinksRest}
+use Rattle.held_pins.specs.Rests.{LinksRest}
 use Rattle.held_pins.specs.Tokens.{Tokens}
 use Rattle.buffer_frames.specs.declared.flushing.FlushError.{FlushError}
 use Rattle.buffer_frames.specs.declared.victims.Freed.{Freed}
@@ -33,7 +33,7 @@ pub record AllPinned (n : ℕ) (place : Option ℕ) (v w : View) (words : List �
 -- So it was in a choice that this call made, as the view pinned just what it pinned at first
 pub record FindsAllPinned (n : ℕ) (v w : View) (words : List ℕ) : Type 0 where
   pub start : View
-  pub since : Advances v start
+  pub since : OnlyRises v start
   pub pins : SamePins v start
   pub place : Option ℕ
   pub all : AllPinned n place start w words
@@ -47,7 +47,7 @@ module _ {L G : Type 0} (contents : L → Option Pages) (t : FrameTable L G) whe
     pub listed : has_block (relations_of t) tag ≡ true
     pub before : View
     pub after : View
-    pub since : Advances v before
+    pub since : OnlyRises v before
     pub answer : FlushAnswer contents t (lane_number tag (lanes_in t)) tag frame before after (Err why)
     pub until : outside_of w ≡ outside_of after
     pub ended : EndedInError w

@@ -1,27 +1,34 @@
 -- What the work at one frame leaves of a view, and what was done in the course of a call.
-use Rattle.std.specs.Prelude.{◌≡◌, ◌≢◌, ℕ, ◌+◌, ◌++◌, List}
+use Rattle.std.specs.Prelude.{◌≡◌, ◌≢◌, ℕ, ◌+◌, ◌++◌, true, false, List}
 use Rattle.std.specs.List.{All}
 use Rattle.pin_core.specs.declared.view.DeviceCall.{DeviceCall}
-use Rattle.pin_core.specs.declared.view.DeviceCall.TheVariants.{LaneRead}
+use Rattle.pin_core.specs.declared.view.DeviceCall.TheVariants.{LaneWrite, LogSync}
+use Rattle.pin_core.specs.declared.view.Link.{Link}
 use Rattle.pin_core.specs.declared.view.Met.{Met}
 use Rattle.pin_core.specs.declared.view.View.{View}
 use Rattle.pin_core.specs.State.{link}
-use Rattle.held_pins.specs.Rests.{Advances, kept_of}
+use Rattle.frame_table.specs.Seats.{OnlyRises}
+use Rattle.held_pins.specs.Rests.{kept_by_calls}
 
 -- Work at the frame f, and at devices for its page: the view has at other frames, and at the partitions, what it had
 pub record WorksAt (f : ℕ) (v w : View) : Type 0 where
-  pub kept : kept_of w ≡ kept_of v
-  pub advances : Advances v w
+  pub kept : kept_by_calls w ≡ kept_by_calls v
+  pub advances : OnlyRises v w
   pub partitions : w.partitions ≡ v.partitions
   pub others : (g : ℕ) → g ≢ f → link w g ≡ link v g
+
+-- What the checkpoint of the view has noted of a frame is kept: one that it has passed stays passed, and none becomes one that it has to write
+pub record KeepsNotes (l m : Link) : Type 0 where
+  pub passed : l.passed ≡ true → m.passed ≡ true
+  pub listed : l.listed ≡ false → m.listed ≡ false
 
 -- This was done between v and w
 pub record Within (Work : View → View → Type 0) (v w : View) : Type 0 where
   pub before : View
   pub after : View
-  pub since : Advances v before
+  pub since : OnlyRises v before
   pub work : Work before after
-  pub until : Advances after w
+  pub until : OnlyRises after w
 
 -- These calls of devices were made
 abbrev pub Made : List DeviceCall → View → View → Type 0
@@ -33,9 +40,11 @@ pub record Calls (P : DeviceCall → Type 0) (v w : View) : Type 0 where
   pub calls : w.device_calls ≡ v.device_calls ++ made
   pub each : All P made
 
-abbrev pub IsNoRead : DeviceCall → Type 0
-IsNoRead (LaneRead lane tag done) = ⊥
-IsNoRead _ = Unit {0}
+-- a flush calls the log for a sync, or a lane for a write
+abbrev pub IsFlushCall : DeviceCall → Type 0
+IsFlushCall (LogSync done) = Unit {0}
+IsFlushCall (LaneWrite lane tag page done) = Unit {0}
+IsFlushCall _ = ⊥
 
 -- one more fault was met
 abbrev pub met_read : Met → Met

@@ -2,7 +2,7 @@
 ghost use Rattle.std.specs.Prelude.{◌≡◌, ◌<◌, true, IfOk, IfErr, Some};
 ghost use Rattle.frame_table.specs.Seats.{Grows, SameSeat, frames_of};
 ghost use Rattle.clock_sweep.specs.Choosing.{frame_at_place, ring_gone_on};
-ghost use Rattle.held_pins.specs.Rests.{HasNoLatch, LinksRest, Stands};
+ghost use Rattle.held_pins.specs.Rests.{HasNoLatch, LinksRest, SameLocks, Stands};
 ghost use Rattle.buffer_frames.specs.Outside.{outside_of, ring_shape};
 ghost use Rattle.buffer_frames.specs.Stages.{HasVictim};
 ghost use Rattle.buffer_frames.specs.Victims.{AllPinned};
@@ -42,6 +42,7 @@ pub(crate) fn choose<L: BlockLane, G: LogDevice, R: Wait>(
     ensures stands { Stands table.now seat.new }
     ensures same { outside_of seat.new.me.0 ≡ outside_of seat.old.me.0 }
     ensures grows { Grows seat.old.me.0 seat.new.me.0 }
+    ensures locks { SameLocks seat.old.me.0 seat.new.me.0 }
     ensures latches { HasNoLatch seat.new.me.0 }
     ensures room { census.new.frames ≡ census.old.frames }
     ensures ring { ring_shape ring.new ≡ ring_shape ring.old }

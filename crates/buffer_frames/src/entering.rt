@@ -7,7 +7,7 @@ ghost use Rattle.table_rule.specs.Blocks.{has_block};
 ghost use Rattle.pin_core.specs.State.{link};
 ghost use Rattle.frame_table.specs.Seats.{Finds, Grows, Lacks, RemembersNoOther, SameSeat, frames_of, relations_of};
 ghost use Rattle.map_partitions.specs.Partition.{HoldsLatch};
-ghost use Rattle.held_pins.specs.Rests.{HasNoLatch, HasOneLatch, LinksRest, Stands};
+ghost use Rattle.held_pins.specs.Rests.{HasNoLatch, HasOneLatch, LinksRest, SameLocks, Stands};
 ghost use Rattle.held_pins.specs.Tokens.{IsNew};
 ghost use Rattle.buffer_frames.specs.Outside.{outside_of};
 ghost use Rattle.buffer_frames.specs.Stages.{HasVictim, Pins};
@@ -46,6 +46,7 @@ fn store_latched<L: BlockLane, G: LogDevice, R: Wait>(
     ensures stands { Stands table.now seat.new }
     ensures same { outside_of seat.new.me.0 ≡ outside_of seat.old.me.0 }
     ensures grows { Grows seat.old.me.0 seat.new.me.0 }
+    ensures locks { SameLocks seat.old.me.0 seat.new.me.0 }
     ensures latch { HasOneLatch (partition_number tag) seat.new.me.0 }
     ensures stored { OnTrue result (Pins (packed_tag tag) frame _held.now seat.new.me.0) }
     ensures refused { OnFalse result (HasVictim frame _held.now seat.new.me.0) }
@@ -76,6 +77,7 @@ pub(crate) fn give_up<L: BlockLane, G: LogDevice, R: Wait>(
     ensures stands { Stands table.now seat.new }
     ensures same { outside_of seat.new.me.0 ≡ outside_of seat.old.me.0 }
     ensures grows { Grows seat.old.me.0 seat.new.me.0 }
+    ensures locks { SameLocks seat.old.me.0 seat.new.me.0 }
     ensures partitions { seat.new.me.0.partitions ≡ seat.old.me.0.partitions }
     ensures remembers { (tag f : ℕ) → RemembersNoOther tag (link seat.old.me.0 f) → RemembersNoOther tag (link seat.new.me.0 f) }
     ensures rests { LinksRest _held.now seat.new.me.0 }
@@ -109,6 +111,7 @@ fn pin_other<L: BlockLane, G: LogDevice, R: Wait>(
     ensures stands { Stands table.now seat.new }
     ensures same { outside_of seat.new.me.0 ≡ outside_of seat.old.me.0 }
     ensures grows { Grows seat.old.me.0 seat.new.me.0 }
+    ensures locks { SameLocks seat.old.me.0 seat.new.me.0 }
     ensures latch { HasOneLatch (partition_number tag) seat.new.me.0 }
     ensures frame { result.frame ≡ frame }
     ensures pinned { Pins (packed_tag tag) frame held.now seat.new.me.0 }
@@ -142,6 +145,7 @@ fn enter_latched<L: BlockLane, G: LogDevice, R: Wait>(
     ensures stands { Stands table.now seat.new }
     ensures same { outside_of seat.new.me.0 ≡ outside_of seat.old.me.0 }
     ensures grows { Grows seat.old.me.0 seat.new.me.0 }
+    ensures locks { SameLocks seat.old.me.0 seat.new.me.0 }
     ensures latch { HasOneLatch (partition_number tag) seat.new.me.0 }
     ensures inside { IfSome result (λ p. p.frame < frames_of table.now) }
     ensures pinned { IfSome result (λ p. Pins (packed_tag tag) p.frame held.now seat.new.me.0) }
@@ -179,6 +183,7 @@ pub(crate) fn enter_or_pin<L: BlockLane, G: LogDevice, R: Wait>(
     ensures stands { Stands table.now seat.new }
     ensures same { outside_of seat.new.me.0 ≡ outside_of seat.old.me.0 }
     ensures grows { Grows seat.old.me.0 seat.new.me.0 }
+    ensures locks { SameLocks seat.old.me.0 seat.new.me.0 }
     ensures latches { HasNoLatch seat.new.me.0 }
     ensures inside { IfSome result (λ p. p.frame < frames_of table.now) }
     ensures pinned { IfSome result (λ p. Pins (packed_tag tag) p.frame held.now seat.new.me.0) }

@@ -5,7 +5,7 @@ ghost use Rattle.pin_core.specs.declared.view.MapChange.TheVariants.{Settled};
 ghost use Rattle.pin_core.specs.State.{link};
 ghost use Rattle.frame_table.specs.Seats.{Grows, SameSeat, frames_of};
 ghost use Rattle.map_partitions.specs.Partition.{HoldsLatch};
-ghost use Rattle.held_pins.specs.Rests.{HasNoLatch, HasOneLatch, Stands};
+ghost use Rattle.held_pins.specs.Rests.{HasNoLatch, HasOneLatch, SameLocks, Stands};
 ghost use Rattle.buffer_frames.specs.Outside.{outside_of};
 ghost use Rattle.buffer_frames.specs.Stages.{HasVictim};
 
@@ -40,6 +40,7 @@ fn erase_latched<L: BlockLane, G: LogDevice, R: Wait>(
     ensures stands { Stands table.now seat.new }
     ensures same { outside_of seat.new.me.0 ≡ outside_of seat.old.me.0 }
     ensures grows { Grows seat.old.me.0 seat.new.me.0 }
+    ensures locks { SameLocks seat.old.me.0 seat.new.me.0 }
     ensures latch { HasOneLatch (partition_number tag.now) seat.new.me.0 }
     ensures victim { HasVictim frame _held.now seat.new.me.0 }
 {
@@ -73,6 +74,7 @@ pub(crate) fn erase<L: BlockLane, G: LogDevice, R: Wait>(
     ensures stands { Stands table.now seat.new }
     ensures same { outside_of seat.new.me.0 ≡ outside_of seat.old.me.0 }
     ensures grows { Grows seat.old.me.0 seat.new.me.0 }
+    ensures locks { SameLocks seat.old.me.0 seat.new.me.0 }
     ensures latches { HasNoLatch seat.new.me.0 }
     ensures victim { HasVictim frame held.now seat.new.me.0 }
 {

@@ -11,9 +11,9 @@ ghost use Rattle.table_rule.specs.Blocks.{has_block};
 ghost use Rattle.frame_table.specs.Seats.{SameMarks, SameSeat, frames_of, lanes_in, relations_of};
 ghost use Rattle.held_pins.specs.Rests.{HasNoLatch, LinksRest, LinksRestBeside, Stands};
 ghost use Rattle.held_pins.specs.Tokens.{IsPinnedFor};
-ghost use Rattle.buffer_frames.specs.Flushing.{CallsLane, CopiesAnd, EndedInError, FlushAnswer, RejectsVictim, VictimAnswer, WriteAnswer, met_flushing, met_lane_write};
+ghost use Rattle.buffer_frames.specs.Flushing.{CallsLane, CopiesAnd, EndedInError, EndedWritten, FlushAnswer, ClearsJust, RejectsVictim, VictimAnswer, WriteAnswer, met_flushing, met_lane_write};
 ghost use Rattle.buffer_frames.specs.Stages.{HasVictim, IsPinned, IsSharing};
-ghost use Rattle.buffer_frames.specs.Working.{Calls, IsNoRead, Made, WorksAt};
+ghost use Rattle.buffer_frames.specs.Working.{Calls, IsFlushCall, KeepsNotes, Made, Within, WorksAt};
 
 use access_rings::{Ring, RingKind};
 use atomic_table::Seat;
@@ -60,7 +60,9 @@ fn clear_just<L: BlockLane, G: LogDevice, R: Wait>(
     ensures marks { SameMarks seat.old.me.0 seat.new.me.0 }
     ensures shares { IsSharing Output (packed_tag _tag) (link seat.new.me.0 frame) }
     ensures role { (link seat.new.me.0 frame).role ≡ (link seat.old.me.0 frame).role }
+    ensures notes { KeepsNotes (link seat.old.me.0 frame) (link seat.new.me.0 frame) }
     ensures calls { Made [] seat.old.me.0 seat.new.me.0 }
+    ensures clears { Within (ClearsJust frame) seat.old.me.0 seat.new.me.0 }
     ensures met { seat.new.me.0.met ≡ seat.old.me.0.met }
 {
     let word = table.lock_header(rt, seat, frame);
@@ -89,6 +91,7 @@ fn write_lane<L: BlockLane, G: LogDevice, R: Wait>(
     ensures marks { SameMarks seat.old.me.0 seat.new.me.0 }
     ensures shares { IsSharing Output (packed_tag tag) (link seat.new.me.0 frame) }
     ensures role { (link seat.new.me.0 frame).role ≡ (link seat.old.me.0 frame).role }
+    ensures notes { KeepsNotes (link seat.old.me.0 frame) (link seat.new.me.0 frame) }
     ensures done { OnTrue result ((link seat.new.me.0 frame).last_write ≡ Done) }
     ensures calls { CallsLane result (lane_number tag (lanes_in table.now)) (packed_tag tag) page.now seat.old.me.0 seat.new.me.0 }
     ensures met { seat.new.me.0.met ≡ met_lane_write result seat.old.me.0.met }
@@ -123,6 +126,7 @@ fn write_logged<L: BlockLane, G: LogDevice, R: Wait>(
     ensures marks { SameMarks seat.old.me.0 seat.new.me.0 }
     ensures shares { IsSharing Output (packed_tag tag) (link seat.new.me.0 frame) }
     ensures role { (link seat.new.me.0 frame).role ≡ (link seat.old.me.0 frame).role }
+    ensures notes { KeepsNotes (link seat.old.me.0 frame) (link seat.new.me.0 frame) }
     ensures done { IfOk result (λ _. (link seat.new.me.0 frame).last_write ≡ Done) }
     ensures answer { WriteAnswer L.contents table.now (lane_number tag (lanes_in table.now)) tag page.now seat.old.me.0 seat.new.me.0 result }
     ensures met { seat.new.me.0.met ≡ met_flushing result seat.old.me.0.met }
@@ -159,9 +163,11 @@ fn write_out<L: BlockLane, G: LogDevice, R: Wait>(
     ensures works { WorksAt right.frame seat.old.me.0 seat.new.me.0 }
     ensures shares { IsSharing Quiet (packed_tag tag) (link seat.new.me.0 right.frame) }
     ensures role { (link seat.new.me.0 right.frame).role ≡ (link seat.old.me.0 right.frame).role }
+    ensures notes { KeepsNotes (link seat.old.me.0 right.frame) (link seat.new.me.0 right.frame) }
     ensures answer { CopiesAnd (λ p v w. WriteAnswer L.contents table.now (lane_number tag (lanes_in table.now)) tag p v w result) right.frame seat.old.me.0 seat.new.me.0 }
     ensures met { seat.new.me.0.met ≡ met_flushing result seat.old.me.0.met }
     ensures ended { IfErr result (λ _. EndedInError seat.new.me.0) }
+    ensures written { IfOk result (λ _. EndedWritten seat.new.me.0) }
 {
     let frame = right.frame();
     clear_just(table, rt, seat, held, frame, tag);
@@ -199,10 +205,12 @@ fn flush_shared<L: BlockLane, G: LogDevice, R: Wait>(
     ensures works { WorksAt frame seat.old.me.0 seat.new.me.0 }
     ensures pinned { IsPinned (packed_tag tag) (link seat.new.me.0 frame) }
     ensures role { (link seat.new.me.0 frame).role ≡ (link seat.old.me.0 frame).role }
+    ensures notes { KeepsNotes (link seat.old.me.0 frame) (link seat.new.me.0 frame) }
     ensures seen { (link seat.new.me.0 frame).seen_valid ≡ true }
     ensures answer { FlushAnswer L.contents table.now (lane_number tag (lanes_in table.now)) tag frame seat.old.me.0 seat.new.me.0 result }
     ensures met { seat.new.me.0.met ≡ met_flushing result seat.old.me.0.met }
     ensures ended { IfErr result (λ _. EndedInError seat.new.me.0) }
+    ensures written { IfOk result (λ wrote. wrote ≡ true → EndedWritten seat.new.me.0) }
 {
     let Some(right) = start_io(table, rt, seat, frame, false) else {
         unshare(table, seat, frame);
@@ -238,10 +246,12 @@ pub fn flush_pinned<L: BlockLane, G: LogDevice, R: Wait>(
     ensures works { WorksAt frame seat.old.me.0 seat.new.me.0 }
     ensures pinned { IsPinned (packed_tag tag) (link seat.new.me.0 frame) }
     ensures role { (link seat.new.me.0 frame).role ≡ (link seat.old.me.0 frame).role }
+    ensures notes { KeepsNotes (link seat.old.me.0 frame) (link seat.new.me.0 frame) }
     ensures seen { (link seat.new.me.0 frame).seen_valid ≡ true }
     ensures answer { FlushAnswer L.contents table.now (lane_number tag (lanes_in table.now)) tag frame seat.old.me.0 seat.new.me.0 result }
     ensures met { seat.new.me.0.met ≡ met_flushing result seat.old.me.0.met }
     ensures ended { IfErr result (λ _. EndedInError seat.new.me.0) }
+    ensures written { IfOk result (λ wrote. wrote ≡ true → EndedWritten seat.new.me.0) }
 {
     share(table, rt, seat, frame);
     flush_shared(table, rt, seat, held, frame, tag, page)
@@ -269,11 +279,13 @@ pub fn flush_frame<L: BlockLane, G: LogDevice, R: Wait>(
     ensures stands { Stands table.now seat.new }
     ensures latches { HasNoLatch seat.new.me.0 }
     ensures works { WorksAt frame seat.old.me.0 seat.new.me.0 }
+    ensures notes { KeepsNotes (link seat.old.me.0 frame) (link seat.new.me.0 frame) }
     ensures rests { LinksRest held.now seat.new.me.0 }
     ensures unlocked { (link seat.new.me.0 frame).content ≡ Unlocked }
     ensures answer { FlushAnswer L.contents table.now (lane_number tag (lanes_in table.now)) tag frame seat.old.me.0 seat.new.me.0 result }
     ensures met { seat.new.me.0.met ≡ met_flushing result seat.old.me.0.met }
     ensures ended { IfErr result (λ _. EndedInError seat.new.me.0) }
+    ensures written { IfOk result (λ wrote. wrote ≡ true → EndedWritten seat.new.me.0) }
 {
     flush_pinned(table, rt, seat, held, frame, tag, page)
 }
@@ -341,7 +353,7 @@ pub fn flush_victim<L: BlockLane, G: LogDevice, R: Wait>(
     ensures victim { HasVictim frame held.now seat.new.me.0 }
     ensures remembered { (link seat.new.me.0 frame).tag ≡ Some (packed_tag tag) }
     ensures answer { VictimAnswer L.contents table.now (lane_number tag (lanes_in table.now)) tag frame from_ring ring.old ring.new seat.old.me.0 seat.new.me.0 result }
-    ensures calls { Calls IsNoRead seat.old.me.0 seat.new.me.0 }
+    ensures calls { Calls IsFlushCall seat.old.me.0 seat.new.me.0 }
     ensures met { seat.new.me.0.met ≡ met_flushing result seat.old.me.0.met }
     ensures ended { IfErr result (λ _. EndedInError seat.new.me.0) }
 {

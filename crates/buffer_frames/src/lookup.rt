@@ -8,7 +8,7 @@ ghost use Rattle.frame_table.specs.Kinds.{pins};
 ghost use Rattle.frame_table.specs.FrameSteps.{Tried};
 ghost use Rattle.frame_table.specs.Seats.{Finds, Grows, Lacks, RemembersNoOther, SameSeat, frames_of};
 ghost use Rattle.map_partitions.specs.Partition.{HoldsLatch};
-ghost use Rattle.held_pins.specs.Rests.{HasNoLatch, HasOneLatch, LinksRest, Stands};
+ghost use Rattle.held_pins.specs.Rests.{HasNoLatch, HasOneLatch, LinksRest, SameLocks, Stands};
 ghost use Rattle.held_pins.specs.Tokens.{IsNew};
 ghost use Rattle.buffer_frames.specs.Lookups.{SeesAndPins, SeesNone, UnderPartition};
 ghost use Rattle.buffer_frames.specs.Outside.{outside_of};
@@ -46,6 +46,7 @@ pub(crate) fn pin_found<L: BlockLane, G: LogDevice, R: Wait>(
     ensures same { outside_of seat.new.me.0 ≡ outside_of seat.old.me.0 }
     ensures partitions { seat.new.me.0.partitions ≡ seat.old.me.0.partitions }
     ensures grows { Grows seat.old.me.0 seat.new.me.0 }
+    ensures locks { SameLocks seat.old.me.0 seat.new.me.0 }
     ensures frame { result.frame ≡ frame }
     ensures pinned { Pins (packed_tag tag) frame _held.now seat.new.me.0 }
     ensures did { Tried (pins (kinds.pin_mapped (packed_tag tag) ring)) frame seat.old.me.0 seat.new.me.0 true }
@@ -72,6 +73,7 @@ pub(crate) fn pin_mapped<L: BlockLane, G: LogDevice, R: Wait>(
     ensures stands { Stands table.now seat.new }
     ensures same { outside_of seat.new.me.0 ≡ outside_of seat.old.me.0 }
     ensures grows { Grows seat.old.me.0 seat.new.me.0 }
+    ensures locks { SameLocks seat.old.me.0 seat.new.me.0 }
     ensures latch { HasOneLatch (partition_number tag) seat.new.me.0 }
     ensures inside { IfSome result (λ p. p.frame < frames_of table.now) }
     ensures pinned { IfSome result (λ p. Pins (packed_tag tag) p.frame held.now seat.new.me.0) }
@@ -101,6 +103,7 @@ pub(crate) fn look_up<L: BlockLane, G: LogDevice, R: Wait>(
     ensures stands { Stands table.now seat.new }
     ensures same { outside_of seat.new.me.0 ≡ outside_of seat.old.me.0 }
     ensures grows { Grows seat.old.me.0 seat.new.me.0 }
+    ensures locks { SameLocks seat.old.me.0 seat.new.me.0 }
     ensures latches { HasNoLatch seat.new.me.0 }
     ensures inside { IfSome result (λ p. p.frame < frames_of table.now) }
     ensures pinned { IfSome result (λ p. Pins (packed_tag tag) p.frame held.now seat.new.me.0) }

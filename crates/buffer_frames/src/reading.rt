@@ -1,9 +1,9 @@
 //! A block is read.
-ghost use Rattle.std.specs.Prelude.{◌≡◌, ◌<◌, true};
+ghost use Rattle.std.specs.Prelude.{◌≡◌, ◌<◌, true, is_some};
 ghost use Rattle.block_tag.specs.Names.{lane_number, names_block, packed_tag};
 ghost use Rattle.table_rule.specs.Blocks.{has_block};
-ghost use Rattle.frame_table.specs.Seats.{Grows, SameSeat, Touches, frames_of, lanes_in, relations_of};
-ghost use Rattle.held_pins.specs.Rests.{Advances, HasNoLatch, LinksRest, Stands, kept_of};
+ghost use Rattle.frame_table.specs.Seats.{Grows, OnlyRises, SameSeat, Touches, frames_of, lanes_in, relations_of};
+ghost use Rattle.held_pins.specs.Rests.{HasNoLatch, LinksRest, Stands, kept_by_calls, SameLocks};
 ghost use Rattle.held_pins.specs.Tokens.{IsNew};
 ghost use Rattle.buffer_frames.specs.Outside.{outside_of, ring_shape};
 ghost use Rattle.buffer_frames.specs.Reads.{PinAnswer, ReadAnswer, ReadCalls, met_read_block};
@@ -70,11 +70,12 @@ fn pin_block<L: BlockLane, G: LogDevice, R: Wait>(
     ensures latches { HasNoLatch seat.new.me.0 }
     ensures room { census.new.frames ≡ census.old.frames }
     ensures ring { ring_shape ring.new ≡ ring_shape ring.old }
-    ensures kept { kept_of seat.new.me.0 ≡ kept_of seat.old.me.0 }
-    ensures advances { Advances seat.old.me.0 seat.new.me.0 }
+    ensures kept { kept_by_calls seat.new.me.0 ≡ kept_by_calls seat.old.me.0 }
+    ensures advances { OnlyRises seat.old.me.0 seat.new.me.0 }
+    ensures locks { SameLocks seat.old.me.0 seat.new.me.0 }
     ensures answer { ClaimAnswer L.contents table.now (packed_tag tag) held.now census.new.words seat.old.me.0 seat.new.me.0 result }
     ensures met { seat.new.me.0.met ≡ met_claimed result seat.old.me.0.met }
-    ensures calls { PinAnswer tag seat.old.me.0 seat.new.me.0 result }
+    ensures calls { PinAnswer tag (is_some ring.old) seat.old.me.0 seat.new.me.0 result }
 {
     let ringed = ring.is_some();
     if let Some(pin) = look_up(table, rt, seat, held, tag, ringed) {
@@ -101,6 +102,7 @@ fn give_back<L: BlockLane, G: LogDevice, R: Wait>(
     ensures latches { HasNoLatch seat.new.me.0 }
     ensures same { outside_of seat.new.me.0 ≡ outside_of seat.old.me.0 }
     ensures touches { Touches pin.frame seat.old.me.0 seat.new.me.0 }
+    ensures locks { SameLocks seat.old.me.0 seat.new.me.0 }
     ensures rests { LinksRest _held.now seat.new.me.0 }
 {
     // The word that is left tells whether a backend waits to be alone with the frame. It is not woken here yet.
@@ -131,11 +133,12 @@ pub fn read_block<L: BlockLane, G: LogDevice, R: Wait>(
     ensures latches { HasNoLatch seat.new.me.0 }
     ensures room { census.new.frames ≡ census.old.frames }
     ensures ring { ring_shape ring.new ≡ ring_shape ring.old }
-    ensures kept { kept_of seat.new.me.0 ≡ kept_of seat.old.me.0 }
-    ensures advances { Advances seat.old.me.0 seat.new.me.0 }
+    ensures kept { kept_by_calls seat.new.me.0 ≡ kept_by_calls seat.old.me.0 }
+    ensures advances { OnlyRises seat.old.me.0 seat.new.me.0 }
+    ensures locks { SameLocks seat.old.me.0 seat.new.me.0 }
     ensures answer { ReadAnswer L.contents table.now tag held.now census.new.words seat.old.me.0 seat.new.me.0 result }
     ensures met { seat.new.me.0.met ≡ met_read_block result seat.old.me.0.met }
-    ensures calls { ReadCalls (lane_number tag (lanes_in table.now)) tag seat.old.me.0 seat.new.me.0 result }
+    ensures calls { ReadCalls (lane_number tag (lanes_in table.now)) tag (is_some ring.old) seat.old.me.0 seat.new.me.0 result }
 {
     let pin = match pin_block(table, rt, seat, held, sweep, census, page, tag, ring) {
         Ok(pin) => pin,

@@ -3,13 +3,13 @@ ghost use Rattle.std.specs.Prelude.{◌≡◌, ◌<◌, Some, true, IfSome};
 ghost use Rattle.block_tag.specs.Names.{names_block, packed_tag};
 ghost use Rattle.pin_core.specs.State.{link};
 ghost use Rattle.table_rule.specs.Blocks.{has_block};
-ghost use Rattle.frame_table.specs.Seats.{Grows, SameSeat, frames_of, relations_of};
-ghost use Rattle.held_pins.specs.Rests.{Advances, HasNoLatch, LinksRest, Stands, kept_of};
+ghost use Rattle.frame_table.specs.Seats.{Grows, OnlyRises, SameSeat, frames_of, relations_of};
+ghost use Rattle.held_pins.specs.Rests.{HasNoLatch, LinksRest, Stands, kept_by_calls, SameLocks};
 ghost use Rattle.held_pins.specs.Tokens.{IsNew};
 ghost use Rattle.buffer_frames.specs.Outside.{outside_of, ring_shape};
 ghost use Rattle.buffer_frames.specs.Stages.{HasVictim};
 ghost use Rattle.buffer_frames.specs.Victims.{ClaimAnswer, FreedAnswer, met_claimed, met_freed};
-ghost use Rattle.buffer_frames.specs.Working.{Calls, IsNoRead};
+ghost use Rattle.buffer_frames.specs.Working.{Calls, IsFlushCall};
 
 use crate::choosing::{Chosen, choose};
 use crate::entering::{enter_or_pin, give_up};
@@ -63,6 +63,7 @@ fn tag_of_victim<L: BlockLane, G: LogDevice>(
     ensures stands { Stands table.now seat.new }
     ensures same { outside_of seat.new.me.0 ≡ outside_of seat.old.me.0 }
     ensures grows { Grows seat.old.me.0 seat.new.me.0 }
+    ensures locks { SameLocks seat.old.me.0 seat.new.me.0 }
     ensures latches { HasNoLatch seat.new.me.0 }
     ensures victim { HasVictim frame _held.now seat.new.me.0 }
     ensures tag { IfSome result (λ tag. names_block tag ≡ true) }
@@ -92,11 +93,12 @@ fn make_victim<L: BlockLane, G: LogDevice, R: Wait>(
     ensures latches { HasNoLatch seat.new.me.0 }
     ensures room { census.new.frames ≡ census.old.frames }
     ensures ring { ring_shape ring.new ≡ ring_shape ring.old }
-    ensures kept { kept_of seat.new.me.0 ≡ kept_of seat.old.me.0 }
-    ensures advances { Advances seat.old.me.0 seat.new.me.0 }
+    ensures kept { kept_by_calls seat.new.me.0 ≡ kept_by_calls seat.old.me.0 }
+    ensures advances { OnlyRises seat.old.me.0 seat.new.me.0 }
+    ensures locks { SameLocks seat.old.me.0 seat.new.me.0 }
     ensures answer { FreedAnswer L.contents table.now held.now census.new.words seat.old.me.0 seat.new.me.0 result }
     ensures met { seat.new.me.0.met ≡ met_freed result seat.old.me.0.met }
-    ensures calls { Calls IsNoRead seat.old.me.0 seat.new.me.0 }
+    ensures calls { Calls IsFlushCall seat.old.me.0 seat.new.me.0 }
 {
     let Chosen { pin, from_ring } = match choose(table, rt, seat, held, sweep, census, ring) {
         Ok(chosen) => chosen,
@@ -150,11 +152,12 @@ pub(crate) fn claim<L: BlockLane, G: LogDevice, R: Wait>(
     ensures latches { HasNoLatch seat.new.me.0 }
     ensures room { census.new.frames ≡ census.old.frames }
     ensures ring { ring_shape ring.new ≡ ring_shape ring.old }
-    ensures kept { kept_of seat.new.me.0 ≡ kept_of seat.old.me.0 }
-    ensures advances { Advances seat.old.me.0 seat.new.me.0 }
+    ensures kept { kept_by_calls seat.new.me.0 ≡ kept_by_calls seat.old.me.0 }
+    ensures advances { OnlyRises seat.old.me.0 seat.new.me.0 }
+    ensures locks { SameLocks seat.old.me.0 seat.new.me.0 }
     ensures answer { ClaimAnswer L.contents table.now (packed_tag tag) held.now census.new.words seat.old.me.0 seat.new.me.0 result }
     ensures met { seat.new.me.0.met ≡ met_claimed result seat.old.me.0.met }
-    ensures calls { Calls IsNoRead seat.old.me.0 seat.new.me.0 }
+    ensures calls { Calls IsFlushCall seat.old.me.0 seat.new.me.0 }
 {
     let ringed = ring.is_some();
     for _ in rt.forever() {

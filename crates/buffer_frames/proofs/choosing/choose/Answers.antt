@@ -1,6 +1,8 @@
 use Rattle.frame_table.proofs.Told.{grows_on}
 use Rattle.buffer_frames.proofs.Heading.{victim_pinned}
 use Rattle.buffer_frames.proofs.Outside.{shape_keeping}
+use Rattle.held_pins.proofs.Keeping.{same_locks_looked}
+use Rattle.buffer_frames.proofs.SameLocks.{same_locks_chosen}
 use Rattle.buffer_frames.proofs.choosing.choose.Goals as goal
 
 pub returns-in-Ok-clause-grows : goal.returns-in-Ok-clause-grows
@@ -15,3 +17,9 @@ returns-in-Ok-clause-ring g c = shape_keeping _ _ _ _ c.in-Ok.ensures.kept
 pub returns-in-Ok-clause-pinned : goal.returns-in-Ok-clause-pinned
 returns-in-Ok-clause-pinned g c = let v = c.in-Ok.ensures in let p = c.victim_pin-pin.ensures in
     victim_pinned c.args._held.now c.in-Ok.held.frame c.into_frame-frame.result _ c.args.seat.now.me.0 c.victim.new.seat.me.0 c.into_frame-frame.ensures c.requires.rests v.held v.absent c.victim_pin-pin.result.frame c.victim_pin-pin.new.seat.me.0 p.pin p.touches.others p.pinned
+
+pub returns-in-Ok-clause-locks : goal.returns-in-Ok-clause-locks
+returns-in-Ok-clause-locks g c = let v = c.in-Ok.ensures in let p = c.victim_pin-pin.ensures in same_locks_chosen c.in-Ok.held.frame c.into_frame-frame.result _ c.args.seat.now.me.0 c.victim.new.seat.me.0 c.victim_pin-pin.new.seat.me.0 c.into_frame-frame.ensures v.held p.touches.others p.pinned
+
+pub returns-in-Err-clause-locks : goal.returns-in-Err-clause-locks
+returns-in-Err-clause-locks g c = same_locks_looked c.args.seat.now.me.0 c.victim.new.seat.me.0 c.in-Err.ensures.left.links

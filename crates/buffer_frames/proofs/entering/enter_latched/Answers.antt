@@ -2,6 +2,8 @@ use Rattle.std.proofs.Common.{ℕ, sym, subst}
 use Rattle.buffer_frames.specs.Stages.{HasVictim}
 use Rattle.buffer_frames.proofs.Calm.{victim_worked}
 use Rattle.buffer_frames.proofs.Outside.{links_worked}
+use Rattle.held_pins.proofs.Keeping.{same_locks_on}
+use Rattle.buffer_frames.proofs.SameLocks.{same_locks_mapped}
 use Rattle.buffer_frames.proofs.entering.enter_latched.Goals as goal
 
 pub pin_other-requires-clause-victim : goal.pin_other-requires-clause-victim
@@ -9,3 +11,12 @@ pin_other-requires-clause-victim g c = victim_worked c.args.held.now c.args.vict
 
 pub store_latched-requires-clause-victim : goal.store_latched-requires-clause-victim
 store_latched-requires-clause-victim g c = subst (λ (f : ℕ). HasVictim f c.args.held.now c.find.new.seat.me.0) (sym c.frame.ensures) (victim_worked c.args.held.now c.args.victim.frame c.args.seat.now.me.0 c.find.new.seat.me.0 (links_worked c.args.seat.now.me.0 c.find.new.seat.me.0 c.find.ensures.work) c.requires.victim)
+
+pub returns-in-Some-clause-locks : goal.returns-in-Some-clause-locks
+returns-in-Some-clause-locks g c = same_locks_on c.args.seat.now.me.0 c.find.new.seat.me.0 c.pin_other.new.seat.me.0 (same_locks_mapped c.args.seat.now.me.0 c.find.new.seat.me.0 c.find.ensures.work) c.pin_other.ensures.locks
+
+pub returns-then-store_latched-clause-locks : goal.returns-then-store_latched-clause-locks
+returns-then-store_latched-clause-locks g c = same_locks_on c.args.seat.now.me.0 c.find.new.seat.me.0 c.store_latched.new.seat.me.0 (same_locks_mapped c.args.seat.now.me.0 c.find.new.seat.me.0 c.find.ensures.work) c.store_latched.ensures.locks
+
+pub returns-clause-locks : goal.returns-clause-locks
+returns-clause-locks g c = same_locks_on c.args.seat.now.me.0 c.store_latched.new.seat.me.0 c.give_up.new.seat.me.0 (same_locks_on c.args.seat.now.me.0 c.find.new.seat.me.0 c.store_latched.new.seat.me.0 (same_locks_mapped c.args.seat.now.me.0 c.find.new.seat.me.0 c.find.ensures.work) c.store_latched.ensures.locks) c.give_up.ensures.locks

@@ -1,5 +1,6 @@
 use Rattle.buffer_frames.proofs.Calm.{victim_unpinned}
 use Rattle.buffer_frames.proofs.Latching.{remembers_unpinned}
+use Rattle.held_pins.proofs.Keeping.{same_locks_at}
 use Rattle.buffer_frames.proofs.entering.give_up.Goals as goal
 
 pub returns-clause-rests : goal.returns-clause-rests
@@ -7,3 +8,6 @@ returns-clause-rests g c = let u = c.unpin.ensures in victim_unpinned c.args._he
 
 pub returns-clause-remembers : goal.returns-clause-remembers
 returns-clause-remembers g c tag f r = let u = c.unpin.ensures in remembers_unpinned tag f c.args.victim.frame c.args.seat.now.me.0 c.unpin.new.seat.me.0 u.touches.others u.unpinned r
+
+pub returns-clause-locks : goal.returns-clause-locks
+returns-clause-locks g c = same_locks_at c.args.victim.frame c.args.seat.now.me.0 c.unpin.new.seat.me.0 c.unpin.ensures.touches.others c.unpin.ensures.unpinned.content

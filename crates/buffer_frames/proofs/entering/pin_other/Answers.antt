@@ -1,6 +1,7 @@
 use Rattle.block_tag.specs.Names.{packed_tag}
 use Rattle.frame_table.proofs.Told.{grows_on}
 use Rattle.buffer_frames.proofs.Latching.{finds_same}
+use Rattle.held_pins.proofs.Keeping.{same_locks_on}
 use Rattle.buffer_frames.proofs.entering.pin_other.Goals as goal
 
 pub returns-clause-grows : goal.returns-clause-grows
@@ -11,3 +12,6 @@ pin_found-requires-clause-finds g c = finds_same (packed_tag c.args.tag) c.args.
 
 pub pin_found-requires-clause-remembers : goal.pin_found-requires-clause-remembers
 pin_found-requires-clause-remembers g c = c.give_up.ensures.remembers (packed_tag c.args.tag) c.args.frame c.requires.remembers
+
+pub returns-clause-locks : goal.returns-clause-locks
+returns-clause-locks g c = same_locks_on c.args.seat.now.me.0 c.give_up.new.seat.me.0 c.pin_found.new.seat.me.0 c.give_up.ensures.locks c.pin_found.ensures.locks

@@ -6,6 +6,7 @@ use Rattle.held_pins.proofs.Keeping.{same_on}
 use Rattle.buffer_frames.proofs.Heading.{knows_word, pins_assigned, victim_unlocked}
 use Rattle.buffer_frames.proofs.Latching.{holds_named, lacks_same, latch_changed, may_change}
 use Rattle.buffer_frames.proofs.Outside.{links_worked, outside_step, outside_worked, stands_outside}
+use Rattle.buffer_frames.proofs.SameLocks.{same_locks_assigned, same_locks_unlocked}
 use Rattle.buffer_frames.proofs.entering.store_latched.Goals as goal
 
 pub returns-then-pins-ne1-clause-grows : goal.returns-then-pins-ne1-clause-grows
@@ -54,3 +55,13 @@ returns-clause-stored g c =
     let a = c.assign.ensures in
     let named = holds_named _ _ c.args.seat.now.me.0 c.lock_header-word.new.seat.me.0 c.store_tag.new.seat.me.0 c.store_tag.new.seat.me.0 k.touches.partitions st.names refl c.requires.holds in
     pins_assigned c.args._held.now c.args.frame _ c.args.seat.now.me.0 c.lock_header-word.new.seat.me.0 c.store_tag.new.seat.me.0 c.assign.new.seat.me.0 c.enter.new.seat.me.0 c.requires.victim k.touches.others k.locked st.stores.others st.stored a.touches.others (links_worked c.assign.new.seat.me.0 c.enter.new.seat.me.0 c.enter.ensures.work) (packed_tag c.args.tag) a.assigned (a.tag _ _ named.named named.unchanged)
+
+pub returns-then-pins-ne1-clause-locks : goal.returns-then-pins-ne1-clause-locks
+returns-then-pins-ne1-clause-locks g c = let k = c.lock_header-word.ensures in let u = c.unlock_header.ensures in same_locks_unlocked c.args.frame _ c.args.seat.now.me.0 c.lock_header-word.new.seat.me.0 c.unlock_header.new.seat.me.0 k.touches.others k.locked u.touches.others u.unlocked
+
+pub returns-clause-locks : goal.returns-clause-locks
+returns-clause-locks g c =
+    let k = c.lock_header-word.ensures in
+    let st = c.store_tag.ensures in
+    let a = c.assign.ensures in
+    same_locks_assigned c.args.frame _ c.args.seat.now.me.0 c.lock_header-word.new.seat.me.0 c.store_tag.new.seat.me.0 c.assign.new.seat.me.0 c.enter.new.seat.me.0 k.touches.others k.locked st.stores.others st.stored a.touches.others c.enter.ensures.work _ a.assigned

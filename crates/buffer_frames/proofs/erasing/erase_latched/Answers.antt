@@ -11,6 +11,7 @@ use Rattle.held_pins.proofs.Keeping.{same_on}
 use Rattle.buffer_frames.proofs.Heading.{knows_word, number_stored, tag_known, victim_cleared, victim_unlocked}
 use Rattle.buffer_frames.proofs.Latching.{holds_named, latch_changed, may_change}
 use Rattle.buffer_frames.proofs.Outside.{links_worked, outside_step, outside_worked, stands_outside}
+use Rattle.buffer_frames.proofs.SameLocks.{same_locks_cleared, same_locks_unlocked}
 use Rattle.buffer_frames.proofs.erasing.erase_latched.Goals as goal
 
 pub returns-then-pins-ne1-clause-grows : goal.returns-then-pins-ne1-clause-grows
@@ -76,3 +77,13 @@ returns-clause-victim g c =
     let k = c.lock_header-word.ensures in
     let st = c.store_tag.ensures in
     victim_cleared c.args._held.now c.args.frame _ c.args.seat.now.me.0 c.lock_header-word.new.seat.me.0 c.store_tag.new.seat.me.0 c.clear.new.seat.me.0 c.leave_out.new.seat.me.0 c.requires.victim k.touches.others k.locked st.stores.others st.stored c.clear.ensures.touches.others (links_worked c.clear.new.seat.me.0 c.leave_out.new.seat.me.0 c.leave_out.ensures.work) c.clear.ensures.cleared
+
+pub returns-then-pins-ne1-clause-locks : goal.returns-then-pins-ne1-clause-locks
+returns-then-pins-ne1-clause-locks g c = let k = c.lock_header-word.ensures in let u = c.unlock_header.ensures in same_locks_unlocked c.args.frame _ c.args.seat.now.me.0 c.lock_header-word.new.seat.me.0 c.unlock_header.new.seat.me.0 k.touches.others k.locked u.touches.others u.unlocked
+
+pub returns-clause-locks : goal.returns-clause-locks
+returns-clause-locks g c =
+    let k = c.lock_header-word.ensures in
+    let st = c.store_tag.ensures in
+    let cl = c.clear.ensures in
+    same_locks_cleared c.args.frame _ c.args.seat.now.me.0 c.lock_header-word.new.seat.me.0 c.store_tag.new.seat.me.0 c.clear.new.seat.me.0 c.leave_out.new.seat.me.0 k.touches.others k.locked st.stores.others st.stored cl.touches.others c.leave_out.ensures.work cl.cleared

@@ -6,6 +6,10 @@ use Rattle.pin_core.specs.State.{link}
 use Rattle.held_pins.proofs.Keeping.{stands_self}
 use Rattle.buffer_frames.proofs.Links.{sharing_unlocked}
 use Rattle.buffer_frames.proofs.WorkSteps.{headless, made_none, works_marked, works_on}
+use Rattle.frame_table.proofs.Rising.{rises_none, rises_touched}
+use Rattle.buffer_frames.specs.Flushing.{ClearsJust}
+use Rattle.buffer_frames.proofs.Notes.{notes_unlocked}
+use Rattle.buffer_frames.proofs.WorkSteps.{within_all, within_on}
 use Rattle.buffer_frames.proofs.flushing.clear_just.Goals as goal
 
 pub lock_header-word-requires-clause-headless : goal.lock_header-word-requires-clause-headless
@@ -28,3 +32,11 @@ returns-clause-role g c = ap (λ (l : Link). l.role) c.clear_just_dirtied.ensure
 
 pub returns-clause-calls : goal.returns-clause-calls
 returns-clause-calls g c = made_none c.args.seat.now.me.0 c.clear_just_dirtied.new.seat.me.0 (ap (λ (x : View). x.device_calls) c.clear_just_dirtied.ensures.touches.self ∙ ap (λ (x : View). x.device_calls) c.lock_header-word.ensures.touches.self)
+
+pub returns-clause-notes : goal.returns-clause-notes
+returns-clause-notes g c = let f = c.args.frame in
+    notes_unlocked c.lock_header-word.result (link c.args.seat.now.me.0 f) (link c.lock_header-word.new.seat.me.0 f) (link c.clear_just_dirtied.new.seat.me.0 f) c.lock_header-word.ensures.locked c.clear_just_dirtied.ensures.unlocked
+
+pub returns-clause-clears : goal.returns-clause-clears
+returns-clause-clears g c = let f = c.args.frame in let k = c.lock_header-word.ensures in
+    within_on (ClearsJust f) c.args.seat.now.me.0 c.lock_header-word.new.seat.me.0 c.clear_just_dirtied.new.seat.me.0 c.clear_just_dirtied.new.seat.me.0 (rises_touched f c.args.seat.now.me.0 c.lock_header-word.new.seat.me.0 k.touches) (within_all (ClearsJust f) c.lock_header-word.new.seat.me.0 c.clear_just_dirtied.new.seat.me.0 (c.lock_header-word.result, c.clear_just_dirtied.ensures.did)) (rises_none c.clear_just_dirtied.new.seat.me.0)

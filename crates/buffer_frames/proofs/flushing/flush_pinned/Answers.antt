@@ -4,12 +4,13 @@ use Rattle.pin_core.specs.declared.view.Link.{Link}
 use Rattle.pin_core.specs.declared.view.View.{View}
 use Rattle.pin_core.specs.State.{link}
 use Rattle.frame_table.specs.Seats.{lanes_in}
-use Rattle.held_pins.proofs.Advancing.{advances_none, advances_touched}
+use Rattle.frame_table.proofs.Rising.{rises_none, rises_touched}
 use Rattle.held_pins.proofs.Keeping.{beside_kept, stands_self}
 use Rattle.buffer_frames.specs.Flushing.{met_flushing}
 use Rattle.buffer_frames.proofs.Answering.{flush_between}
 use Rattle.buffer_frames.proofs.Links.{sharing_taken}
 use Rattle.buffer_frames.proofs.WorkSteps.{works_marked, works_on}
+use Rattle.buffer_frames.proofs.Notes.{notes_by, notes_on}
 use Rattle.buffer_frames.proofs.flushing.flush_pinned.Goals as goal
 
 pub flush_shared-requires-clause-stands : goal.flush_shared-requires-clause-stands
@@ -31,7 +32,11 @@ returns-clause-role g c = c.flush_shared.ensures.role ∙ ap (λ (l : Link). l.r
 pub returns-clause-answer : goal.returns-clause-answer
 returns-clause-answer g c = let s = c.share.ensures in
     flush_between {L = g.row.L.Denot} {G = g.row.G.Denot} g.L.BlockLane.contents c.args.table.now (lane_number c.args.tag (lanes_in c.args.table.now)) c.args.tag c.args.frame c.args.seat.now.me.0 c.share.new.seat.me.0 c.flush_shared.new.seat.me.0 c.flush_shared.new.seat.me.0 c.flush_shared.result
-    (ap (λ (x : View). x.device_calls) s.touches.self) (advances_touched c.args.frame c.args.seat.now.me.0 c.share.new.seat.me.0 s.touches) c.flush_shared.ensures.answer refl (advances_none c.flush_shared.new.seat.me.0)
+    (ap (λ (x : View). x.device_calls) s.touches.self) (rises_touched c.args.frame c.args.seat.now.me.0 c.share.new.seat.me.0 s.touches) c.flush_shared.ensures.answer refl (rises_none c.flush_shared.new.seat.me.0)
 
 pub returns-clause-met : goal.returns-clause-met
 returns-clause-met g c = c.flush_shared.ensures.met ∙ ap (λ (x : View). met_flushing c.flush_shared.result x.met) c.share.ensures.touches.self
+
+pub returns-clause-notes : goal.returns-clause-notes
+returns-clause-notes g c = let f = c.args.frame in let e = c.share.ensures.shared in
+    notes_on (link c.args.seat.now.me.0 f) (link c.share.new.seat.me.0 f) (link c.flush_shared.new.seat.me.0 f) (notes_by (link c.args.seat.now.me.0 f) (link c.share.new.seat.me.0 f) (ap (λ (l : Link). l.passed) e) (ap (λ (l : Link). l.listed) e)) c.flush_shared.ensures.notes

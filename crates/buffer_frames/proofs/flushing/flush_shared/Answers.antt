@@ -8,14 +8,15 @@ use Rattle.pin_core.specs.State.{link}
 use Rattle.frame_table.specs.Seats.{ViewMarks, lanes_in}
 use Rattle.content_locks.specs.Io.{FindsNothing}
 use Rattle.held_pins.specs.Rests.{LinksRestBeside}
-use Rattle.held_pins.proofs.Advancing.{advances_none, advances_touched}
+use Rattle.frame_table.proofs.Rising.{rises_none, rises_touched}
 use Rattle.held_pins.proofs.Keeping.{beside_kept, stands_self}
 use Rattle.buffer_frames.specs.Flushing.{CopiesAnd, WriteAnswer, met_refused}
 use Rattle.buffer_frames.specs.Stages.{IsSharing}
-use Rattle.buffer_frames.specs.Working.{WorksAt}
-use Rattle.buffer_frames.proofs.Answering.{copies_between, error_marked}
+use Rattle.buffer_frames.specs.Working.{KeepsNotes, WorksAt}
+use Rattle.buffer_frames.proofs.Answering.{copies_between, error_marked, written_marked}
 use Rattle.buffer_frames.proofs.Links.{may_drop, pinned_unshared, sharing_begun, sharing_looked}
 use Rattle.buffer_frames.proofs.WorkSteps.{headless, no_io, within_all, within_on, works_begun, works_marked, works_on}
+use Rattle.buffer_frames.proofs.Notes.{notes_begun, notes_by, notes_looked, notes_on}
 use Rattle.buffer_frames.proofs.flushing.flush_shared.Goals as goal
 
 pub start_io-requires-clause-headless : goal.start_io-requires-clause-headless
@@ -46,7 +47,7 @@ returns-in_default-clause-seen g c = ap (λ (l : Link). l.seen_valid) c.unshare.
 
 pub returns-in_default-clause-answer : goal.returns-in_default-clause-answer
 returns-in_default-clause-answer g c = let s = c.start_io.ensures in let u = c.unshare.ensures in record {
-  finds = within_on (FindsNothing false c.args.frame) c.args.seat.now.me.0 c.args.seat.now.me.0 c.start_io.new.seat.me.0 c.unshare.new.seat.me.0 (advances_none c.args.seat.now.me.0) (within_all (FindsNothing false c.args.frame) c.args.seat.now.me.0 c.start_io.new.seat.me.0 c.in_default.ensures.cause) (advances_touched c.args.frame c.start_io.new.seat.me.0 c.unshare.new.seat.me.0 u.touches);
+  finds = within_on (FindsNothing false c.args.frame) c.args.seat.now.me.0 c.args.seat.now.me.0 c.start_io.new.seat.me.0 c.unshare.new.seat.me.0 (rises_none c.args.seat.now.me.0) (within_all (FindsNothing false c.args.frame) c.args.seat.now.me.0 c.start_io.new.seat.me.0 c.in_default.ensures.cause) (rises_touched c.args.frame c.start_io.new.seat.me.0 c.unshare.new.seat.me.0 u.touches);
   calls = ap (λ (x : View). x.device_calls) u.touches.self ∙ ap (λ (x : View). x.device_calls) s.touches.self;
 }
 
@@ -89,9 +90,9 @@ returns-in-Ok-clause-seen g c = ap (λ (l : Link). l.seen_valid) c.unshare-2.ens
 pub returns-in-Ok-clause-answer : goal.returns-in-Ok-clause-answer
 returns-in-Ok-clause-answer g c = let f = c.args.frame in let s = c.start_io.ensures in let u = c.unshare-2.ensures in let q = lane_number c.args.tag (lanes_in c.args.table.now) in
     copies_between {L = g.row.L.Denot} {G = g.row.G.Denot} g.L.BlockLane.contents c.args.table.now q c.args.tag f c.args.seat.now.me.0 c.start_io.new.seat.me.0 c.write_out-written.new.seat.me.0 c.unshare-2.new.seat.me.0 (Ok tt)
-    (ap (λ (x : View). x.device_calls) s.touches.self) (advances_touched f c.args.seat.now.me.0 c.start_io.new.seat.me.0 s.touches)
+    (ap (λ (x : View). x.device_calls) s.touches.self) (rises_touched f c.args.seat.now.me.0 c.start_io.new.seat.me.0 s.touches)
     (subst (λ (x : ℕ). CopiesAnd (λ p a b. WriteAnswer {L = g.row.L.Denot} {G = g.row.G.Denot} g.L.BlockLane.contents c.args.table.now q c.args.tag p a b (Ok tt)) x c.start_io.new.seat.me.0 c.write_out-written.new.seat.me.0) c.in-Some.ensures.right.0 c.in-Ok.ensures.answer)
-    u.touches.self (advances_touched f c.write_out-written.new.seat.me.0 c.unshare-2.new.seat.me.0 u.touches)
+    u.touches.self (rises_touched f c.write_out-written.new.seat.me.0 c.unshare-2.new.seat.me.0 u.touches)
 
 pub returns-in-Ok-clause-met : goal.returns-in-Ok-clause-met
 returns-in-Ok-clause-met g c = ap (λ (x : View). x.met) c.unshare-2.ensures.touches.self ∙ c.in-Ok.ensures.met ∙ ap (λ (x : View). x.met) c.start_io.ensures.touches.self
@@ -117,12 +118,32 @@ returns-in-Err-clause-seen g c = ap (λ (l : Link). l.seen_valid) c.unshare-2.en
 pub returns-in-Err-clause-answer : goal.returns-in-Err-clause-answer
 returns-in-Err-clause-answer g c = let f = c.args.frame in let s = c.start_io.ensures in let u = c.unshare-2.ensures in let q = lane_number c.args.tag (lanes_in c.args.table.now) in
     copies_between {L = g.row.L.Denot} {G = g.row.G.Denot} g.L.BlockLane.contents c.args.table.now q c.args.tag f c.args.seat.now.me.0 c.start_io.new.seat.me.0 c.write_out-written.new.seat.me.0 c.unshare-2.new.seat.me.0 (Err c.in-Err.why)
-    (ap (λ (x : View). x.device_calls) s.touches.self) (advances_touched f c.args.seat.now.me.0 c.start_io.new.seat.me.0 s.touches)
+    (ap (λ (x : View). x.device_calls) s.touches.self) (rises_touched f c.args.seat.now.me.0 c.start_io.new.seat.me.0 s.touches)
     (subst (λ (x : ℕ). CopiesAnd (λ p a b. WriteAnswer {L = g.row.L.Denot} {G = g.row.G.Denot} g.L.BlockLane.contents c.args.table.now q c.args.tag p a b (Err c.in-Err.why)) x c.start_io.new.seat.me.0 c.write_out-written.new.seat.me.0) c.in-Some.ensures.right.0 c.in-Err.ensures.answer)
-    u.touches.self (advances_touched f c.write_out-written.new.seat.me.0 c.unshare-2.new.seat.me.0 u.touches)
+    u.touches.self (rises_touched f c.write_out-written.new.seat.me.0 c.unshare-2.new.seat.me.0 u.touches)
 
 pub returns-in-Err-clause-met : goal.returns-in-Err-clause-met
 returns-in-Err-clause-met g c = ap (λ (x : View). x.met) c.unshare-2.ensures.touches.self ∙ c.in-Err.ensures.met ∙ ap (λ (x : View). met_refused c.in-Err.why x.met) c.start_io.ensures.touches.self
 
 pub returns-in-Err-clause-ended : goal.returns-in-Err-clause-ended
 returns-in-Err-clause-ended g c = error_marked c.write_out-written.new.seat.me.0 c.unshare-2.new.seat.me.0 c.unshare-2.ensures.marks c.in-Err.ensures.ended
+
+pub returns-in_default-clause-notes : goal.returns-in_default-clause-notes
+returns-in_default-clause-notes g c = let f = c.args.frame in let e = c.unshare.ensures.unshared in
+    notes_on (link c.args.seat.now.me.0 f) (link c.start_io.new.seat.me.0 f) (link c.unshare.new.seat.me.0 f) (notes_looked (link c.args.seat.now.me.0 f) (link c.start_io.new.seat.me.0 f) c.in_default.ensures.left) (notes_by (link c.start_io.new.seat.me.0 f) (link c.unshare.new.seat.me.0 f) (ap (λ (l : Link). l.passed) e) (ap (λ (l : Link). l.listed) e))
+
+pub returns-in_default-clause-written : goal.returns-in_default-clause-written
+returns-in_default-clause-written g c = λ same. (let no : false ≡ true = same in absurd (cc))
+
+pub returns-in-Ok-clause-notes : goal.returns-in-Ok-clause-notes
+returns-in-Ok-clause-notes g c = let f = c.args.frame in let v = c.args.seat.now.me.0 in let u = c.start_io.new.seat.me.0 in let w = c.write_out-written.new.seat.me.0 in let e = c.unshare-2.ensures.unshared in
+    let written = subst (λ (x : ℕ). KeepsNotes (link u x) (link w x)) c.in-Some.ensures.right.0 c.write_out-written.ensures.notes in
+    notes_on (link v f) (link w f) (link c.unshare-2.new.seat.me.0 f) (notes_on (link v f) (link u f) (link w f) (notes_begun (link v f) (link u f) c.in-Some.ensures.begun) written) (notes_by (link w f) (link c.unshare-2.new.seat.me.0 f) (ap (λ (l : Link). l.passed) e) (ap (λ (l : Link). l.listed) e))
+
+pub returns-in-Err-clause-notes : goal.returns-in-Err-clause-notes
+returns-in-Err-clause-notes g c = let f = c.args.frame in let v = c.args.seat.now.me.0 in let u = c.start_io.new.seat.me.0 in let w = c.write_out-written.new.seat.me.0 in let e = c.unshare-2.ensures.unshared in
+    let written = subst (λ (x : ℕ). KeepsNotes (link u x) (link w x)) c.in-Some.ensures.right.0 c.write_out-written.ensures.notes in
+    notes_on (link v f) (link w f) (link c.unshare-2.new.seat.me.0 f) (notes_on (link v f) (link u f) (link w f) (notes_begun (link v f) (link u f) c.in-Some.ensures.begun) written) (notes_by (link w f) (link c.unshare-2.new.seat.me.0 f) (ap (λ (l : Link). l.passed) e) (ap (λ (l : Link). l.listed) e))
+
+pub returns-in-Ok-clause-written : goal.returns-in-Ok-clause-written
+returns-in-Ok-clause-written g c = λ wrote. written_marked c.write_out-written.new.seat.me.0 c.unshare-2.new.seat.me.0 c.unshare-2.ensures.marks c.in-Ok.ensures.written

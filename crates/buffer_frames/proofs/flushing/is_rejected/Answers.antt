@@ -7,7 +7,7 @@ use Rattle.pin_core.specs.declared.view.View.{View}
 use Rattle.pin_core.specs.State.{link}
 use Rattle.frame_table.specs.WordSteps.{DidWord, load_flushed}
 use Rattle.content_locks.specs.Locks.{Copies}
-use Rattle.held_pins.proofs.Advancing.{advances_none, advances_touched}
+use Rattle.frame_table.proofs.Rising.{rises_none, rises_touched}
 use Rattle.held_pins.proofs.Keeping.{stands_self}
 use Rattle.buffer_frames.specs.Flushing.{RejectsVictim}
 use Rattle.buffer_frames.specs.Stages.{IsSharing}
@@ -70,9 +70,9 @@ returns-clause-rejected g c = let f = c.args.frame in let o = c.copy_out.ensures
       rejects = c.reject.ensures.answer.0 yes;
       empty = ap Some (OnTrue_at yes c.reject.ensures.rejected);
       page = c.copy_out.new.page;
-      copies = within_on (Copies f c.copy_out.new.page) c.args.seat.now.me.0 c.args.seat.now.me.0 c.copy_out.new.seat.me.0 c.load_flushed.new.seat.me.0 (advances_none c.args.seat.now.me.0) (within_all (Copies f c.copy_out.new.page) c.args.seat.now.me.0 c.copy_out.new.seat.me.0 o.did) (works_loaded f c.load_flushed.result c.copy_out.new.seat.me.0 c.load_flushed.new.seat.me.0 l.did).advances;
+      copies = within_on (Copies f c.copy_out.new.page) c.args.seat.now.me.0 c.args.seat.now.me.0 c.copy_out.new.seat.me.0 c.load_flushed.new.seat.me.0 (rises_none c.args.seat.now.me.0) (within_all (Copies f c.copy_out.new.page) c.args.seat.now.me.0 c.copy_out.new.seat.me.0 o.did) (works_loaded f c.load_flushed.result c.copy_out.new.seat.me.0 c.load_flushed.new.seat.me.0 l.did).advances;
       flushed = c.load_flushed.result;
-      loads = within_on (λ a b. DidWord load_flushed a b c.load_flushed.result) c.args.seat.now.me.0 c.copy_out.new.seat.me.0 c.load_flushed.new.seat.me.0 c.load_flushed.new.seat.me.0 (advances_touched f c.args.seat.now.me.0 c.copy_out.new.seat.me.0 o.touches) (within_all (λ a b. DidWord load_flushed a b c.load_flushed.result) c.copy_out.new.seat.me.0 c.load_flushed.new.seat.me.0 l.did) (advances_none c.load_flushed.new.seat.me.0);
+      loads = within_on (λ a b. DidWord load_flushed a b c.load_flushed.result) c.args.seat.now.me.0 c.copy_out.new.seat.me.0 c.load_flushed.new.seat.me.0 c.load_flushed.new.seat.me.0 (rises_touched f c.args.seat.now.me.0 c.copy_out.new.seat.me.0 o.touches) (within_all (λ a b. DidWord load_flushed a b c.load_flushed.result) c.copy_out.new.seat.me.0 c.load_flushed.new.seat.me.0 l.did) (rises_none c.load_flushed.new.seat.me.0);
       unflushed = subst (λ (n : ℕ). c.load_flushed.result < n) c.lsn.ensures c.if-lsn-load_flushed.false;
     })
 

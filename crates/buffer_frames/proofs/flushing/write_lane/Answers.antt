@@ -14,6 +14,7 @@ use Rattle.buffer_frames.specs.Flushing.{CallsLane, met_lane_write}
 use Rattle.buffer_frames.specs.Stages.{IsSharing}
 use Rattle.buffer_frames.proofs.LaneTrips.{lane_free, may_note_write, may_return, trip_calls, trip_marks, trip_met, trip_quiet, trip_works, write_call, write_made, write_met, write_noted, write_noted_link, write_others, write_plain}
 use Rattle.buffer_frames.proofs.Links.{done_noted, role_noted, sharing_noted}
+use Rattle.buffer_frames.proofs.Notes.{notes_noted}
 use Rattle.buffer_frames.proofs.flushing.write_lane.Goals as goal
 
 pub lane_out-out-requires-clause-held : goal.lane_out-out-requires-clause-held
@@ -83,6 +84,15 @@ returns-clause-role g c =
     let left : link c.leave_turn.new.seat.me.0 c.args.frame ≡ link c.lane_back.new.seat.me.0 c.args.frame = ap (λ v. link v c.args.frame) c.leave_turn.ensures.work in
     let is : link c.leave_turn.new.seat.me.0 c.args.frame ≡ write_noted_link (is_ok c.write-written.result) (link c.args.seat.now.me.0 c.args.frame) = left ∙ noted ∙ ap (write_noted_link (is_ok c.write-written.result)) went in
     role_noted (is_ok c.write-written.result) (link c.args.seat.now.me.0 c.args.frame) (link c.leave_turn.new.seat.me.0 c.args.frame) is
+
+pub returns-clause-notes : goal.returns-clause-notes
+returns-clause-notes g c =
+    let call = write_call c.args.frame c.args.tag c.args.page.now c.write-written.new.self.call c.write-written.result c.write-written.ensures.call in
+    let noted : link c.lane_back.new.seat.me.0 c.args.frame ≡ write_noted_link (is_ok c.write-written.result) (link c.lane_out-out.new.seat.me.0 c.args.frame) = write_noted c.args.frame c.args.tag c.args.page.now (is_ok c.write-written.result) c.write-written.new.self.call c.lane_out-out.new.seat.me.0 c.lane_back.new.seat.me.0 call c.lane_back.ensures.noted in
+    let went : link c.lane_out-out.new.seat.me.0 c.args.frame ≡ link c.args.seat.now.me.0 c.args.frame = ap (λ v. link v c.args.frame) c.lane_out-out.ensures.view ∙ ap (λ v. link v c.args.frame) c.take_turn.ensures.work in
+    let left : link c.leave_turn.new.seat.me.0 c.args.frame ≡ link c.lane_back.new.seat.me.0 c.args.frame = ap (λ v. link v c.args.frame) c.leave_turn.ensures.work in
+    let is : link c.leave_turn.new.seat.me.0 c.args.frame ≡ write_noted_link (is_ok c.write-written.result) (link c.args.seat.now.me.0 c.args.frame) = left ∙ noted ∙ ap (write_noted_link (is_ok c.write-written.result)) went in
+    notes_noted (is_ok c.write-written.result) (link c.args.seat.now.me.0 c.args.frame) (link c.leave_turn.new.seat.me.0 c.args.frame) is
 
 pub returns-clause-done : goal.returns-clause-done
 returns-clause-done g c =

@@ -8,14 +8,15 @@ use Rattle.pin_core.specs.State.{link}
 use Rattle.frame_table.specs.Seats.{lanes_in}
 use Rattle.content_locks.specs.Locks.{Copies}
 use Rattle.held_pins.specs.Rests.{LinksRestBeside}
-use Rattle.held_pins.proofs.Advancing.{advances_on, advances_touched}
+use Rattle.frame_table.proofs.Rising.{rises_none, rises_on, rises_touched}
 use Rattle.held_pins.proofs.Keeping.{beside_kept, stands_self}
-use Rattle.buffer_frames.specs.Flushing.{met_refused}
+use Rattle.buffer_frames.specs.Flushing.{ClearsJust, met_refused}
 use Rattle.buffer_frames.specs.Stages.{IsSharing}
-use Rattle.buffer_frames.specs.Working.{Within, WorksAt}
-use Rattle.buffer_frames.proofs.Answering.{ended_in_error, had_output_marked, write_between}
+use Rattle.buffer_frames.specs.Working.{KeepsNotes, Within, WorksAt}
+use Rattle.buffer_frames.proofs.Answering.{ended_in_error, ended_written, had_output_marked, write_between}
 use Rattle.buffer_frames.proofs.Links.{may_copy, sharing_copied, sharing_ended}
 use Rattle.buffer_frames.proofs.WorkSteps.{headless, made_same, no_write, within_all, within_on, works_ended, works_marked, works_on}
+use Rattle.buffer_frames.proofs.Notes.{notes_by, notes_ended, notes_on}
 use Rattle.buffer_frames.proofs.flushing.write_out.Goals as goal
 
 pub copy_out-requires-clause-view : goal.copy_out-requires-clause-view
@@ -55,14 +56,16 @@ returns-in-Ok-clause-role g c = c.end_io.ensures.ended.role ∙ subst (λ (x : �
 
 pub returns-in-Ok-clause-answer : goal.returns-in-Ok-clause-answer
 returns-in-Ok-clause-answer g c = let f = c.frame-frame.result in let o = c.copy_out.ensures in let e = c.end_io.ensures in let k = c.clear_just.ensures in let w = c.write_logged.ensures in
-    let after = advances_touched c.args.right.frame c.write_logged.new.seat.me.0 c.end_io.new.seat.me.0 e.touches in
-    let copied = advances_touched f c.clear_just.new.seat.me.0 c.copy_out.new.seat.me.0 o.touches in
+    let after = rises_touched c.args.right.frame c.write_logged.new.seat.me.0 c.end_io.new.seat.me.0 e.touches in
+    let copied = rises_touched f c.clear_just.new.seat.me.0 c.copy_out.new.seat.me.0 o.touches in
     record {
       page = c.copy_out.new.page;
       sound = o.sound;
-      copies = subst (λ (x : ℕ). Within (Copies x c.copy_out.new.page) c.args.seat.now.me.0 c.end_io.new.seat.me.0) c.frame-frame.ensures (within_on (Copies f c.copy_out.new.page) c.args.seat.now.me.0 c.clear_just.new.seat.me.0 c.copy_out.new.seat.me.0 c.end_io.new.seat.me.0 k.works.advances (within_all (Copies f c.copy_out.new.page) c.clear_just.new.seat.me.0 c.copy_out.new.seat.me.0 o.did) (advances_on c.copy_out.new.seat.me.0 c.write_logged.new.seat.me.0 c.end_io.new.seat.me.0 w.works.advances after));
+      cleared = c.clear_just.new.seat.me.0;
+      clears = subst (λ (x : ℕ). Within (ClearsJust x) c.args.seat.now.me.0 c.clear_just.new.seat.me.0) c.frame-frame.ensures k.clears;
+      copies = subst (λ (x : ℕ). Within (Copies x c.copy_out.new.page) c.clear_just.new.seat.me.0 c.end_io.new.seat.me.0) c.frame-frame.ensures (within_on (Copies f c.copy_out.new.page) c.clear_just.new.seat.me.0 c.clear_just.new.seat.me.0 c.copy_out.new.seat.me.0 c.end_io.new.seat.me.0 (rises_none c.clear_just.new.seat.me.0) (within_all (Copies f c.copy_out.new.page) c.clear_just.new.seat.me.0 c.copy_out.new.seat.me.0 o.did) (rises_on c.copy_out.new.seat.me.0 c.write_logged.new.seat.me.0 c.end_io.new.seat.me.0 w.works.advances after));
       work = write_between {L = g.row.L.Denot} {G = g.row.G.Denot} g.L.BlockLane.contents c.args.table.now (lane_number c.args.tag (lanes_in c.args.table.now)) c.args.tag c.copy_out.new.page c.args.seat.now.me.0 c.copy_out.new.seat.me.0 c.write_logged.new.seat.me.0 c.end_io.new.seat.me.0 (Ok tt)
-          (ap (λ (x : View). x.device_calls) o.touches.self ∙ made_same c.args.seat.now.me.0 c.clear_just.new.seat.me.0 k.calls) (advances_on c.args.seat.now.me.0 c.clear_just.new.seat.me.0 c.copy_out.new.seat.me.0 k.works.advances copied) c.in-Ok.ensures.answer e.touches.self after;
+          (ap (λ (x : View). x.device_calls) o.touches.self ∙ made_same c.args.seat.now.me.0 c.clear_just.new.seat.me.0 k.calls) (rises_on c.args.seat.now.me.0 c.clear_just.new.seat.me.0 c.copy_out.new.seat.me.0 k.works.advances copied) c.in-Ok.ensures.answer e.touches.self after;
     }
 
 pub returns-in-Ok-clause-met : goal.returns-in-Ok-clause-met
@@ -93,14 +96,16 @@ returns-in-Err-clause-role g c = c.end_io-in-Err.ensures.ended.role ∙ subst (�
 
 pub returns-in-Err-clause-answer : goal.returns-in-Err-clause-answer
 returns-in-Err-clause-answer g c = let f = c.frame-frame.result in let o = c.copy_out.ensures in let e = c.end_io-in-Err.ensures in let k = c.clear_just.ensures in let w = c.write_logged.ensures in
-    let after = advances_touched c.args.right.frame c.write_logged.new.seat.me.0 c.end_io-in-Err.new.seat.me.0 e.touches in
-    let copied = advances_touched f c.clear_just.new.seat.me.0 c.copy_out.new.seat.me.0 o.touches in
+    let after = rises_touched c.args.right.frame c.write_logged.new.seat.me.0 c.end_io-in-Err.new.seat.me.0 e.touches in
+    let copied = rises_touched f c.clear_just.new.seat.me.0 c.copy_out.new.seat.me.0 o.touches in
     record {
       page = c.copy_out.new.page;
       sound = o.sound;
-      copies = subst (λ (x : ℕ). Within (Copies x c.copy_out.new.page) c.args.seat.now.me.0 c.end_io-in-Err.new.seat.me.0) c.frame-frame.ensures (within_on (Copies f c.copy_out.new.page) c.args.seat.now.me.0 c.clear_just.new.seat.me.0 c.copy_out.new.seat.me.0 c.end_io-in-Err.new.seat.me.0 k.works.advances (within_all (Copies f c.copy_out.new.page) c.clear_just.new.seat.me.0 c.copy_out.new.seat.me.0 o.did) (advances_on c.copy_out.new.seat.me.0 c.write_logged.new.seat.me.0 c.end_io-in-Err.new.seat.me.0 w.works.advances after));
+      cleared = c.clear_just.new.seat.me.0;
+      clears = subst (λ (x : ℕ). Within (ClearsJust x) c.args.seat.now.me.0 c.clear_just.new.seat.me.0) c.frame-frame.ensures k.clears;
+      copies = subst (λ (x : ℕ). Within (Copies x c.copy_out.new.page) c.clear_just.new.seat.me.0 c.end_io-in-Err.new.seat.me.0) c.frame-frame.ensures (within_on (Copies f c.copy_out.new.page) c.clear_just.new.seat.me.0 c.clear_just.new.seat.me.0 c.copy_out.new.seat.me.0 c.end_io-in-Err.new.seat.me.0 (rises_none c.clear_just.new.seat.me.0) (within_all (Copies f c.copy_out.new.page) c.clear_just.new.seat.me.0 c.copy_out.new.seat.me.0 o.did) (rises_on c.copy_out.new.seat.me.0 c.write_logged.new.seat.me.0 c.end_io-in-Err.new.seat.me.0 w.works.advances after));
       work = write_between {L = g.row.L.Denot} {G = g.row.G.Denot} g.L.BlockLane.contents c.args.table.now (lane_number c.args.tag (lanes_in c.args.table.now)) c.args.tag c.copy_out.new.page c.args.seat.now.me.0 c.copy_out.new.seat.me.0 c.write_logged.new.seat.me.0 c.end_io-in-Err.new.seat.me.0 (Err c.in-Err.why)
-          (ap (λ (x : View). x.device_calls) o.touches.self ∙ made_same c.args.seat.now.me.0 c.clear_just.new.seat.me.0 k.calls) (advances_on c.args.seat.now.me.0 c.clear_just.new.seat.me.0 c.copy_out.new.seat.me.0 k.works.advances copied) c.in-Err.ensures.answer e.touches.self after;
+          (ap (λ (x : View). x.device_calls) o.touches.self ∙ made_same c.args.seat.now.me.0 c.clear_just.new.seat.me.0 k.calls) (rises_on c.args.seat.now.me.0 c.clear_just.new.seat.me.0 c.copy_out.new.seat.me.0 k.works.advances copied) c.in-Err.ensures.answer e.touches.self after;
     }
 
 pub returns-in-Err-clause-met : goal.returns-in-Err-clause-met
@@ -109,4 +114,23 @@ returns-in-Err-clause-met g c = ap (λ (x : View). x.met) c.end_io-in-Err.ensure
 pub returns-in-Err-clause-ended : goal.returns-in-Err-clause-ended
 returns-in-Err-clause-ended g c = let e = c.end_io-in-Err.ensures in
     ended_in_error c.args.right.frame c.write_logged.new.seat.me.0 c.end_io-in-Err.new.seat.me.0 e.did (subst (λ (x : ℕ). (link c.write_logged.new.seat.me.0 x).io ≡ Output) c.frame-frame.ensures c.write_logged.ensures.shares.right)
+    (had_output_marked c.copy_out.new.seat.me.0 c.write_logged.new.seat.me.0 c.write_logged.ensures.marks ∙ had_output_marked c.clear_just.new.seat.me.0 c.copy_out.new.seat.me.0 c.copy_out.ensures.marks ∙ had_output_marked c.args.seat.now.me.0 c.clear_just.new.seat.me.0 c.clear_just.ensures.marks ∙ c.requires.begun)
+
+pub returns-in-Ok-clause-notes : goal.returns-in-Ok-clause-notes
+returns-in-Ok-clause-notes g c = let f = c.frame-frame.result in let r = c.args.right.frame in let v = c.args.seat.now.me.0 in let w = c.write_logged.new.seat.me.0 in
+    let cleared = c.clear_just.ensures.notes in
+    let copied = notes_by (link c.clear_just.new.seat.me.0 f) (link c.copy_out.new.seat.me.0 f) (ap (λ (l : Link). l.passed) c.copy_out.ensures.copied) (ap (λ (l : Link). l.listed) c.copy_out.ensures.copied) in
+    let written = notes_on (link v f) (link c.copy_out.new.seat.me.0 f) (link w f) (notes_on (link v f) (link c.clear_just.new.seat.me.0 f) (link c.copy_out.new.seat.me.0 f) cleared copied) c.write_logged.ensures.notes in
+    notes_on (link v r) (link w r) (link c.end_io.new.seat.me.0 r) (subst (λ (x : ℕ). KeepsNotes (link v x) (link w x)) c.frame-frame.ensures written) (notes_ended io_end.WriteOk (link w r) (link c.end_io.new.seat.me.0 r) c.end_io.ensures.ended)
+
+pub returns-in-Err-clause-notes : goal.returns-in-Err-clause-notes
+returns-in-Err-clause-notes g c = let f = c.frame-frame.result in let r = c.args.right.frame in let v = c.args.seat.now.me.0 in let w = c.write_logged.new.seat.me.0 in
+    let cleared = c.clear_just.ensures.notes in
+    let copied = notes_by (link c.clear_just.new.seat.me.0 f) (link c.copy_out.new.seat.me.0 f) (ap (λ (l : Link). l.passed) c.copy_out.ensures.copied) (ap (λ (l : Link). l.listed) c.copy_out.ensures.copied) in
+    let written = notes_on (link v f) (link c.copy_out.new.seat.me.0 f) (link w f) (notes_on (link v f) (link c.clear_just.new.seat.me.0 f) (link c.copy_out.new.seat.me.0 f) cleared copied) c.write_logged.ensures.notes in
+    notes_on (link v r) (link w r) (link c.end_io-in-Err.new.seat.me.0 r) (subst (λ (x : ℕ). KeepsNotes (link v x) (link w x)) c.frame-frame.ensures written) (notes_ended io_end.Bad (link w r) (link c.end_io-in-Err.new.seat.me.0 r) c.end_io-in-Err.ensures.ended)
+
+pub returns-in-Ok-clause-written : goal.returns-in-Ok-clause-written
+returns-in-Ok-clause-written g c = let e = c.end_io.ensures in
+    ended_written c.args.right.frame c.write_logged.new.seat.me.0 c.end_io.new.seat.me.0 e.did (subst (λ (x : ℕ). (link c.write_logged.new.seat.me.0 x).io ≡ Output) c.frame-frame.ensures c.write_logged.ensures.shares.right)
     (had_output_marked c.copy_out.new.seat.me.0 c.write_logged.new.seat.me.0 c.write_logged.ensures.marks ∙ had_output_marked c.clear_just.new.seat.me.0 c.copy_out.new.seat.me.0 c.copy_out.ensures.marks ∙ had_output_marked c.args.seat.now.me.0 c.clear_just.new.seat.me.0 c.clear_just.ensures.marks ∙ c.requires.begun)

@@ -6,6 +6,7 @@ use Rattle.buffer_frames.specs.Lookups.{SeesAndPins, SeesNone}
 use Rattle.buffer_frames.proofs.Calm.{match_to, none_to, pins_worked, some_to}
 use Rattle.buffer_frames.proofs.Latching.{under_partition}
 use Rattle.buffer_frames.proofs.Outside.{links_worked}
+use Rattle.buffer_frames.proofs.SameLocks.{same_locks_latched}
 use Rattle.buffer_frames.proofs.lookup.look_up.Goals as goal
 
 pub returns-clause-grows : goal.returns-clause-grows
@@ -20,3 +21,6 @@ returns-clause-rests g c = none_to c.pin_mapped-pinned.result (links_same c.args
 pub returns-clause-did : goal.returns-clause-did
 returns-clause-did g c = let k = c.take_turn.ensures.did in let u = c.give_turn.ensures.did in let e = c.partition-partition.ensures.value in
     match_to c.pin_mapped-pinned.result (λ m. under_partition c.args.tag _ (SeesNone c.args.tag) _ _ _ _ e k m u) (λ (p : Pin) m. under_partition c.args.tag _ (SeesAndPins c.args.tag p.frame c.args.ring) _ _ _ _ e k m u) c.pin_mapped-pinned.ensures.did
+
+pub returns-clause-locks : goal.returns-clause-locks
+returns-clause-locks g c = same_locks_latched c.args.seat.now.me.0 c.take_turn.new.seat.me.0 c.pin_mapped-pinned.new.seat.me.0 c.give_turn.new.seat.me.0 c.take_turn.ensures.work c.pin_mapped-pinned.ensures.locks c.give_turn.ensures.work

@@ -1,6 +1,6 @@
 use Rattle.std.proofs.Common.{◌∙◌}
-use Rattle.held_pins.proofs.Advancing.{advances_on}
-use Rattle.held_pins.proofs.Keeping.{same_on}
+use Rattle.frame_table.proofs.Rising.{rises_on}
+use Rattle.held_pins.proofs.Keeping.{same_locks_on, same_on}
 use Rattle.buffer_frames.proofs.Noting.{calls_by, calls_on, refused_from}
 use Rattle.buffer_frames.proofs.Outside.{grows_outside, kept_outside, met_outside}
 use Rattle.buffer_frames.proofs.victims.claim.Goals as goal
@@ -17,7 +17,8 @@ loop-preserved-in_default g c = let i = c.loop.invariant in let m = c.make_victi
   room = m.room ∙ i.room;
   ring = m.ring ∙ i.ring;
   kept = kept_outside c.make_victim.new.seat.me.0 c.enter_or_pin.new.seat.me.0 e.same ∙ m.kept ∙ i.kept;
-  advances = advances_on _ c.make_victim.new.seat.me.0 _ (advances_on _ c.loop.seat.me.0 _ i.advances m.advances) (grows_outside c.make_victim.new.seat.me.0 c.enter_or_pin.new.seat.me.0 e.grows e.same);
+  advances = rises_on _ c.make_victim.new.seat.me.0 _ (rises_on _ c.loop.seat.me.0 _ i.advances m.advances) (grows_outside c.make_victim.new.seat.me.0 c.enter_or_pin.new.seat.me.0 e.grows e.same);
+  locks = same_locks_on c.args.seat.now.me.0 c.make_victim.new.seat.me.0 c.enter_or_pin.new.seat.me.0 (same_locks_on c.args.seat.now.me.0 c.loop.seat.me.0 c.make_victim.new.seat.me.0 i.locks m.locks) e.locks;
   met = met_outside c.make_victim.new.seat.me.0 c.enter_or_pin.new.seat.me.0 e.same ∙ c.in-Ready.ensures.met ∙ i.met;
   calls = calls_on _ _ c.make_victim.new.seat.me.0 _ (calls_on _ _ c.loop.seat.me.0 _ i.calls m.calls) (calls_by _ c.make_victim.new.seat.me.0 c.enter_or_pin.new.seat.me.0 e.same);
 }
@@ -25,3 +26,9 @@ loop-preserved-in_default g c = let i = c.loop.invariant in let m = c.make_victi
 pub returns-in-Refused-clause-answer : goal.returns-in-Refused-clause-answer
 returns-in-Refused-clause-answer g c = let a = c.in-Refused.ensures.answer in
     (a.0, refused_from _ _ c.args.held.now _ c.args.seat.now.me.0 c.loop.seat.me.0 c.make_victim.new.seat.me.0 c.in-Refused.why c.requires.rests c.loop.invariant.rests c.loop.invariant.advances a.1)
+
+pub returns-in-Some-enter_or_pin-clause-locks : goal.returns-in-Some-enter_or_pin-clause-locks
+returns-in-Some-enter_or_pin-clause-locks g c = same_locks_on c.args.seat.now.me.0 c.make_victim.new.seat.me.0 c.enter_or_pin.new.seat.me.0 (same_locks_on c.args.seat.now.me.0 c.loop.seat.me.0 c.make_victim.new.seat.me.0 c.loop.invariant.locks c.make_victim.ensures.locks) c.enter_or_pin.ensures.locks
+
+pub returns-in-Refused-clause-locks : goal.returns-in-Refused-clause-locks
+returns-in-Refused-clause-locks g c = same_locks_on c.args.seat.now.me.0 c.loop.seat.me.0 c.make_victim.new.seat.me.0 c.loop.invariant.locks c.make_victim.ensures.locks

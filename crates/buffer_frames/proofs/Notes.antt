@@ -1,0 +1,35 @@
+-- What the checkpoint has noted of a frame, over the steps of a write.
+use Rattle.std.proofs.Common.{◌≡◌, ℕ, Bool, true, false, ap, ◌∙◌}
+use Rattle.state_word.specs.declared.word.IoEnd.{IoEnd}
+use Rattle.pin_core.specs.declared.view.Link.{Link}
+use Rattle.frame_table.specs.Content.{begun_link, finished_link}
+use Rattle.frame_table.specs.Seats.{Looked, locked_link, unlocked_link}
+use Rattle.buffer_frames.proofs.LaneTrips.{write_noted_link}
+use Rattle.buffer_frames.specs.Working.{KeepsNotes}
+
+pub notes_by : (l m : Link) → m.passed ≡ l.passed → m.listed ≡ l.listed → KeepsNotes l m
+notes_by l m passed listed = record { passed = λ p. passed ∙ p; listed = λ n. listed ∙ n }
+
+pub notes_same : (l m : Link) → m ≡ l → KeepsNotes l m
+notes_same l m e = notes_by l m (ap (λ (x : Link). x.passed) e) (ap (λ (x : Link). x.listed) e)
+
+pub notes_on : (l m n : Link) → KeepsNotes l m → KeepsNotes m n → KeepsNotes l n
+notes_on l m n a b = record { passed = λ p. b.passed (a.passed p); listed = λ p. b.listed (a.listed p) }
+
+pub notes_looked : (l m : Link) → Looked l m → KeepsNotes l m
+notes_looked l m a = record { passed = a.passed; listed = a.listed }
+
+-- the header is locked and unlocked
+pub notes_unlocked : (word : ℕ) (l m n : Link) → Looked (locked_link word l) m → n ≡ unlocked_link m → KeepsNotes l n
+notes_unlocked word l m n a e = notes_on l m n record { passed = a.passed; listed = a.listed } (notes_by m n (ap (λ (x : Link). x.passed) e) (ap (λ (x : Link). x.listed) e))
+
+-- a write begins, is noted, and ends
+pub notes_begun : (l m : Link) → Looked (begun_link false l) m → KeepsNotes l m
+notes_begun l m a = record { passed = a.passed; listed = a.listed }
+
+pub notes_noted : (done : Bool) (l m : Link) → m ≡ write_noted_link done l → KeepsNotes l m
+notes_noted true l m e = notes_by l m (ap (λ (x : Link). x.passed) e) (ap (λ (x : Link). x.listed) e)
+notes_noted false l m e = notes_by l m (ap (λ (x : Link). x.passed) e) (ap (λ (x : Link). x.listed) e)
+
+pub notes_ended : (end : IoEnd) (l m : Link) → Looked (finished_link end l) m → KeepsNotes l m
+notes_ended end l m a = record { passed = a.passed; listed = a.listed }
