@@ -1,5 +1,5 @@
 -- A pass reads a block.
-use Rattle.std.proofs.Common.{◌≡◌, ◌≢◌, ◌<◌, ◌≤◌, ◌+◌, ℕ, List, Option, Some, None, Result, Ok, Err, refl, sym, ap, ◌∙◌, subst, true, arith}
+use Rattle.std.proofs.Common.{◌≡◌, ◌≢◌, ◌<◌, ◌≤◌, ◌+◌, ℕ, Bool, List, Option, Some, None, Result, Ok, Err, refl, sym, ap, ◌∙◌, subst, true, arith}
 use Rattle.std.specs.Prelude.{IfOk, option_map}
 use mathlib.Core.Logic.{dite}
 use native.Mathlib.Decide.{ℕ_discrete}
@@ -9,15 +9,16 @@ use Rattle.block_tag.specs.Names.{lane_number, names_block, packed_tag, unpacked
 use Rattle.segment_store.specs.Contents.{Pages}
 use Rattle.pin_core.specs.declared.view.Met.{Met}
 use Rattle.pin_core.specs.declared.view.View.{View}
+use Rattle.pin_core.specs.declared.view.Content.TheVariants.{Unlocked}
 use Rattle.pin_core.specs.State.{link}
 use Rattle.table_rule.specs.Blocks.{has_block, has_named, is_block}
 use Rattle.table_rule.proofs.Tags.{packed_is}
 use Rattle.frame_table.specs.declared.table.FrameTable.{FrameTable}
 use Rattle.frame_table.specs.Opened.{WasSoundAtOpening}
-use Rattle.frame_table.specs.Seats.{base_of, frames_of, lanes_in, relations_of}
+use Rattle.frame_table.specs.Seats.{OnlyRises, base_of, frames_of, lanes_in, relations_of}
 use Rattle.wal_flush.specs.declared.flushes.FlushLog.TheVariants as log
-use Rattle.held_pins.specs.Tokens.{HeldFrame, IsNew, IsPinnedFor, Tokens, held_at, tokens_more, tokens_with}
-use Rattle.held_pins.specs.Rests.{Advances, HasNoDevice, HasNoLatch, LinksRest, Rests, kept_of}
+use Rattle.held_pins.specs.Tokens.{HeldFrame, IsNew, IsPinnedFor, Tokens, held_at, tokens_more, tokens_of, tokens_with}
+use Rattle.held_pins.specs.Rests.{HasNoDevice, HasNoLatch, LinksRest, Rests, kept_by_calls}
 use Rattle.held_pins.proofs.HeldLists.{more_tags, with_here, with_past}
 use Rattle.held_pins.proofs.Keeping.{rests_more, rests_more_pinned}
 use Rattle.buffer_frames.specs.declared.flushing.FlushError.TheVariants as flush
@@ -42,7 +43,7 @@ some_none : {A : Type 0} (x : A) → Some x ≡ None → ⊥
 some_none x e = cc
 
 -- the number, and what is shown
-pub numbered_kept : (number id : ℕ) (v w : View) → kept_of w ≡ kept_of v → IsNumbered number id v → IsNumbered number id w
+pub numbered_kept : (number id : ℕ) (v w : View) → kept_by_calls w ≡ kept_by_calls v → IsNumbered number id v → IsNumbered number id w
 numbered_kept number id v w e n = record { number_is = ap (λ (x : View). x.number) e ∙ n.number_is; first = n.first }
 
 pub shown_met : (v w : View) (s : Shown) → w.front ≡ v.front → w.met ≡ v.met → IsShown v s → IsShown w s
@@ -54,7 +55,7 @@ shown_met v w s front met n = record {
 }
 
 -- one fault more
-count_on : (n k : ℕ) → k ≡ shown_count n → shown_count (k + 1) ≡ shown_count (n + 1)
+pub count_on : (n k : ℕ) → k ≡ shown_count n → shown_count (k + 1) ≡ shown_count (n + 1)
 count_on n k e = omega arith
 
 pub shown_refused : (v w : View) (s : Shown) (why : ReadError) → w.front ≡ v.front → w.met ≡ met_read_refused why v.met → IsShown v s → IsShown w (shown_after why s)
@@ -94,14 +95,14 @@ met_of_refusal (block.ReadFault tag) m = refl
 met_of_refusal (block.Unsound tag) m = refl
 
 -- and so are its calls
-pub calls_of_refusal : (q : ℕ) (tag : Tag) (v w : View) (why : BlockError) → ReadCalls q tag v w (Err why) → ReadingCalls q tag v w (Err (read_refusal why))
-calls_of_refusal q tag v w (block.NoFrame (victim.NoUnpinned frames)) c = c
-calls_of_refusal q tag v w (block.NoFrame (victim.Flush (flush.WriteFault failed))) c = c
-calls_of_refusal q tag v w (block.NoFrame (victim.Flush (flush.Log log.LogFault))) c = c
-calls_of_refusal q tag v w (block.NoFrame (victim.Flush (flush.Log (log.LogDown at)))) c = c
-calls_of_refusal q tag v w (block.NoFrame (victim.Flush (flush.Log (log.LogShort lsn end)))) c = c
-calls_of_refusal q tag v w (block.ReadFault failed) c = c
-calls_of_refusal q tag v w (block.Unsound failed) c = c
+pub calls_of_refusal : (q : ℕ) (tag : Tag) (ring : Bool) (v w : View) (why : BlockError) → ReadCalls q tag ring v w (Err why) → ReadingCalls q tag ring v w (Err (read_refusal why))
+calls_of_refusal q tag ring v w (block.NoFrame (victim.NoUnpinned frames)) c = c
+calls_of_refusal q tag ring v w (block.NoFrame (victim.Flush (flush.WriteFault failed))) c = c
+calls_of_refusal q tag ring v w (block.NoFrame (victim.Flush (flush.Log log.LogFault))) c = c
+calls_of_refusal q tag ring v w (block.NoFrame (victim.Flush (flush.Log (log.LogDown at)))) c = c
+calls_of_refusal q tag ring v w (block.NoFrame (victim.Flush (flush.Log (log.LogShort lsn end)))) c = c
+calls_of_refusal q tag ring v w (block.ReadFault failed) c = c
+calls_of_refusal q tag ring v w (block.Unsound failed) c = c
 
 -- what rests after a read
 pub rests_pinned : (tag f : ℕ) (t : Tokens) (w : View) → HasNoDevice w → HasNoLatch w → Pins tag f t w → (link w f).seen_valid ≡ true → Rests (tokens_with f tag t) w
@@ -121,7 +122,7 @@ pub rests_again : (f : ℕ) (t : Tokens) (v : View) → Rests t v → Rests (tok
 rests_again f t v r = record { quiet = r.quiet; links = rests_more f t v r.links; latches = r.latches }
 
 -- it is the same pass
-pub same_kept : (p q : PassState) → q.table ≡ p.table → q.id ≡ p.id → q.census.frames ≡ p.census.frames → kept_of q.view ≡ kept_of p.view → Advances p.view q.view → SamePass p q
+pub same_kept : (p q : PassState) → q.table ≡ p.table → q.id ≡ p.id → q.census.frames ≡ p.census.frames → kept_by_calls q.view ≡ kept_by_calls p.view → OnlyRises p.view q.view → SamePass p q
 same_kept p q table id census e advances = record {
   table = table;
   id = id;
@@ -134,7 +135,7 @@ same_kept p q table id census e advances = record {
   advances = advances;
 }
 
-pub calls_kept : (p q : PassState) → kept_of q.view ≡ kept_of p.view → KeepsCalls p q
+pub calls_kept : (p q : PassState) → kept_by_calls q.view ≡ kept_by_calls p.view → KeepsCalls p q
 calls_kept p q e = record { calls = ap (λ (x : View). x.calls) e; front = ap (λ (x : View). x.front) e; place_loads = ap (λ (x : View). x.place_loads) e }
 
 -- the tag of a number
@@ -160,11 +161,11 @@ module _ {L G : Type 0} (contents : L → Option Pages) (t : FrameTable L G) whe
   refused_as tag held words p q (block.ReadFault failed) e a = a
   refused_as tag held words p q (block.Unsound failed) e a = (a.0, (a.1, a.2))
 
-  pub refused_reads : (tag : Tag) (a p q : PassState) (why : BlockError) (answer : ReadError) → a ≡ p → answer ≡ read_refusal why → q.tokens ≡ a.tokens → ReadAnswer contents t tag a.tokens q.census.words a.view q.view (Err why)
-      → ReadCalls (lane_number tag (lanes_in t)) tag a.view q.view (Err why) → ReadsBlock contents t tag p q (Err answer)
-  refused_reads tag a p q why answer same is tokens r calls = subst (λ (x : PassState). ReadsBlock contents t tag x q (Err answer)) same (subst (λ (y : ReadError). ReadsBlock contents t tag a q (Err y)) (sym is) record {
+  pub refused_reads : (tag : Tag) (ring : Bool) (a p q : PassState) (why : BlockError) (answer : ReadError) → a ≡ p → answer ≡ read_refusal why → q.tokens ≡ a.tokens → ReadAnswer contents t tag a.tokens q.census.words a.view q.view (Err why)
+      → ReadCalls (lane_number tag (lanes_in t)) tag ring a.view q.view (Err why) → ReadsBlock contents t tag ring p q (Err answer)
+  refused_reads tag ring a p q why answer same is tokens r calls = subst (λ (x : PassState). ReadsBlock contents t tag ring x q (Err answer)) same (subst (λ (y : ReadError). ReadsBlock contents t tag ring a q (Err y)) (sym is) record {
     answer = (tokens, (refused_as tag a.tokens q.census.words a q why refl r).1);
-    calls = calls_of_refusal (lane_number tag (lanes_in t)) tag a.view q.view why calls;
+    calls = calls_of_refusal (lane_number tag (lanes_in t)) tag ring a.view q.view why calls;
   })
 
   pub links_refused : (tag : Tag) (held : Tokens) (words : List ℕ) (v w : View) (why : BlockError) → ReadAnswer contents t tag held words v w (Err why) → LinksRest held w
@@ -174,9 +175,9 @@ module _ {L G : Type 0} (contents : L → Option Pages) (t : FrameTable L G) whe
 
 module _ {L G : Type 0} (contents : L → Option Pages) (m : Manager L G) where
   -- one token more, of a block that was sound
-  pub belongs_with : (p q : PassState) (tag : Tag) (f : ℕ) → q.table ≡ p.table → q.census.frames ≡ p.census.frames → q.view.front ≡ p.view.front → q.tokens ≡ tokens_with f (packed_tag tag) p.tokens
+  pub belongs_with : (p q : PassState) (tag : Tag) (f : ℕ) → q.table ≡ p.table → q.census.frames ≡ p.census.frames → q.view.front ≡ p.view.front → p.view.end_seen ≤ q.view.end_seen → q.tokens ≡ tokens_with f (packed_tag tag) p.tokens
       → held_at p.tokens f ≡ None → f < frames_of m.table → names_block tag ≡ true → has_block (relations_of m.table) tag ≡ true → IsNew tag p.tokens → WasSoundAtOpening contents m.table tag → Belongs contents m p → Belongs contents m q
-  belongs_with p q tag f table census front tokens none below named listed is_new sound b = record {
+  belongs_with p q tag f table census front end tokens none below named listed is_new sound b = record {
     table = table ∙ b.table;
     frames = census ∙ b.frames;
     inside = λ g h e. dite (ℕ_discrete g f)
@@ -196,6 +197,7 @@ module _ {L G : Type 0} (contents : L → Option Pages) (m : Manager L G) where
         (λ d. subst (WasSoundAtOpening contents m.table) (packed_same tag other (here g h d e ∙ sym same) named is) sound)
         (λ n. b.sound g h (past g h n e) other same is);
     based = subst (λ (x : ℕ). base_of m.table ≤ x) (sym front) b.based;
+    seen = let base = b.seen in omega arith;
   }
     where
       new : HeldFrame
@@ -227,6 +229,10 @@ pinned_more tag f t pinned = more (held_at t f) (held_at (tokens_more f t) f) re
     more o (Some h) x y same = record { held = h; there = y; same = some_same h.tag (packed_tag tag) (same ∙ ap (option_map HeldFrame.tag) (sym x ∙ pinned.there) ∙ ap Some pinned.same) }
     more o None x y same = absurd (some_none pinned.held.tag (sym (ap (option_map HeldFrame.tag) (sym x ∙ pinned.there)) ∙ sym same))
 
-pub pinned_read : {L G : Type 0} (contents : L → Option Pages) (t : FrameTable L G) (tag : Tag) (p q : PassState) (r : Result Pinned ReadError) → ReadsBlock contents t tag p q r → IfOk r (λ pinned. IsPinnedFor tag pinned.frame q.tokens)
-pinned_read contents t tag p q (Ok pinned) b = subst (IsPinnedFor tag pinned.frame) (sym b.answer.tokens) (pinned_first tag pinned.frame p.tokens b.answer.new)
-pinned_read contents t tag p q (Err why) b = tt
+pub pinned_read : {L G : Type 0} (contents : L → Option Pages) (t : FrameTable L G) (tag : Tag) (ring : Bool) (p q : PassState) (r : Result Pinned ReadError) → ReadsBlock contents t tag ring p q r → IfOk r (λ pinned. IsPinnedFor tag pinned.frame q.tokens)
+pinned_read contents t tag ring p q (Ok pinned) b = subst (IsPinnedFor tag pinned.frame) (sym b.answer.tokens) (pinned_first tag pinned.frame p.tokens b.answer.new)
+pinned_read contents t tag ring p q (Err why) b = tt
+
+pub unlocked_read : {L G : Type 0} (contents : L → Option Pages) (t : FrameTable L G) (tag : Tag) (ring : Bool) (p q : PassState) (r : Result Pinned ReadError) → ReadsBlock contents t tag ring p q r → IfOk r (λ pinned. tokens_of (held_at q.tokens pinned.frame) ≡ 1 → (link q.view pinned.frame).content ≡ Unlocked)
+unlocked_read contents t tag ring p q (Ok pinned) b = λ one. b.answer.unlocked
+unlocked_read contents t tag ring p q (Err why) b = tt

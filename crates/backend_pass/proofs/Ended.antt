@@ -1,5 +1,5 @@
 -- A manager is closed: what holds of the devices, by the view that took in all passes.
-use Rattle.std.proofs.Common.{◌≡◌, ◌≢◌, ◌⊎◌, ◌<◌, ◌≤◌, ℕ, zero, suc, Bool, true, false, nat_eq, ne_eqb, List, [], ◌∷◌, ◌++◌, length, get_or, refl, sym, ap, ◌∙◌, subst, inl, inr, ⊎_elim, arith}
+use Rattle.std.proofs.Common.{◌≡◌, ◌≢◌, ◌⊎◌, ◌<◌, ◌≤◌, ℕ, zero, suc, Bool, true, false, nat_eq, ne_eqb, List, [], ◌∷◌, ◌++◌, length, get_or, refl, sym, ap, ◌∙◌, subst, inl, inr, ⊎_elim, arith, None}
 use Rattle.std.specs.Prelude.{◌||◌}
 use Rattle.std.proofs.Math.ListN.{get_or-map}
 use mathlib.Core.Logic.{dite}
@@ -9,23 +9,24 @@ use lib.ListN.{get_elem?}
 use Rattle.grid.specs.Shape.{total}
 use Rattle.grid.proofs.Sums.{total-alone, total-none}
 use Rattle.pin_core.specs.declared.view.LaneHold.{LaneHold}
-use Rattle.pin_core.specs.declared.view.Link.{Link}
 use Rattle.pin_core.specs.declared.view.LogHold.{LogHold}
 use Rattle.pin_core.specs.declared.view.Met.{Met}
 use Rattle.pin_core.specs.declared.view.View.{View}
-use Rattle.pin_core.specs.State.{emptied_view, idle, joined_view, kept_checkpoint, lane_hold, link, no_lane, sum_of_met}
+use Rattle.pin_core.specs.State.{emptied_view, joined_view, kept_checkpoint, lane_hold, no_lane, sum_of_met}
+use Rattle.pin_core.specs.Steps.{HoldsNothing}
 use Rattle.pin_core.specs.Tallies.{flag_weight}
+use Rattle.history_core.specs.Log.{log_bytes}
+use Rattle.history_core.specs.Rest.{NoneAppended}
 use Rattle.history_core.specs.State.{State, failed}
 use Rattle.history_core.specs.Causes.{mark_weight}
 use Rattle.history_core.specs.Counts.{all_met, count_weigh, failed_reads, failed_writes, holders}
-use Rattle.history_core.specs.Debts.{has_listed, has_passed}
 use Rattle.history_core.specs.Device.{HasRisen, is_failed}
 use Rattle.history_core.specs.History.{IsHistory}
 use Rattle.history_core.specs.Laws.{Laws}
-use Rattle.history_core.specs.Promises.{AreStored}
 use Rattle.history_core.specs.Swept.{has_swept}
 use Rattle.history_core.proofs.History.{ends_in_history}
-use Rattle.history_core.proofs.Promises.{checkpoints_store, sweeps}
+use Rattle.history_core.proofs.Promises.{sweeps}
+use Rattle.history_core.proofs.Rest.{whole}
 use Rattle.table_rule.specs.declared.opening.Opening.{Opening}
 use Rattle.table_rule.specs.Shows.{Devices}
 use Rattle.frame_table.specs.Closes.{Closes}
@@ -33,8 +34,8 @@ use Rattle.held_pins.specs.Tokens.{no_tokens}
 use Rattle.held_pins.specs.Rests.{Rests}
 use Rattle.backend_pass.specs.Passes.{PassState}
 use Rattle.backend_pass.specs.Managers.{IsFirstAt, first_in, others_in}
-use Rattle.backend_pass.specs.Closing.{ClosesAll, ClosesPass, joined_views, met_of, calls_of}
-use Rattle.backend_pass.proofs.Joining.{Joins, at_later, first_here, first_past, joins, others_here, others_past}
+use Rattle.backend_pass.specs.Closing.{ClosesAll, ClosesPass, joined_views, met_by_passes, calls_of_passes}
+use Rattle.backend_pass.proofs.Joining.{Joins, at_later, first_here, first_past, joined_hold_nothing, joins, others_here, others_past, rests_hold_nothing}
 
 -- the number of the first pass
 pub number_zero : (n : ℕ) → nat_eq n 0 ≡ true → n ≡ 0
@@ -67,12 +68,12 @@ other_there (x ∷ xs) (suc k) zero p s e = (0, sym (ap (λ (l : List PassState)
 other_there (x ∷ xs) (suc k) (suc j) p s e = let t = other_there xs k j p (at_later k x xs s) (sym (ap (λ (l : List PassState). get_elem? l (suc j)) (others_past x xs s.before.0)) ∙ e) in (suc t.0, t.1)
 
 -- the faults of all are those of the first and those of the others
-pub met_split : (ps : List PassState) (k : ℕ) → IsFirstAt k ps → met_of ps ≡ sum_of_met (first_in ps).met (met_of (others_in ps))
+pub met_split : (ps : List PassState) (k : ℕ) → IsFirstAt k ps → met_by_passes ps ≡ sum_of_met (first_in ps).met (met_by_passes (others_in ps))
 met_split [] k s = let inside = s.inside in absurd (omega arith)
-met_split (x ∷ xs) zero s = ap (λ (v : View). sum_of_met v.met (met_of xs)) (sym (first_here x xs (s.here x refl))) ∙ ap (λ (l : List PassState). sum_of_met (first_in (x ∷ xs)).met (met_of l)) (sym (others_here x xs (s.here x refl)))
-met_split (x ∷ xs) (suc k) s = ap (sum_of_met x.view.met) (met_split xs k (at_later k x xs s)) ∙ swap x.view.met (first_in xs).met (met_of (others_in xs))
-    ∙ ap (λ (v : View). sum_of_met v.met (sum_of_met x.view.met (met_of (others_in xs)))) (sym (first_past x xs s.before.0))
-    ∙ ap (λ (l : List PassState). sum_of_met (first_in (x ∷ xs)).met (met_of l)) (sym (others_past x xs s.before.0))
+met_split (x ∷ xs) zero s = ap (λ (v : View). sum_of_met v.met (met_by_passes xs)) (sym (first_here x xs (s.here x refl))) ∙ ap (λ (l : List PassState). sum_of_met (first_in (x ∷ xs)).met (met_by_passes l)) (sym (others_here x xs (s.here x refl)))
+met_split (x ∷ xs) (suc k) s = ap (sum_of_met x.view.met) (met_split xs k (at_later k x xs s)) ∙ swap x.view.met (first_in xs).met (met_by_passes (others_in xs))
+    ∙ ap (λ (v : View). sum_of_met v.met (sum_of_met x.view.met (met_by_passes (others_in xs)))) (sym (first_past x xs s.before.0))
+    ∙ ap (λ (l : List PassState). sum_of_met (first_in (x ∷ xs)).met (met_by_passes l)) (sym (others_past x xs s.before.0))
   where
     same : (a b : Met) → a.reads ≡ b.reads → a.writes ≡ b.writes → a.logs ≡ b.logs → a ≡ b
     same a b p q r k = record { reads = p k; writes = q k; logs = r k }
@@ -83,7 +84,9 @@ met_split (x ∷ xs) (suc k) s = ap (sum_of_met x.view.met) (met_split xs k (at_
 -- A view that took in the view u
 pub record TookIn (u w : View) : Type 0 where
   pub front : u.front ≤ w.front
+  pub seen : u.end_seen ≤ w.end_seen
   pub down : u.saw_down ≡ true → w.saw_down ≡ true
+  pub output : u.had_output ≡ true → w.had_output ≡ true
   pub kept : (k : ℕ) × (get_elem? w.kept k ≡ some (kept_checkpoint u))
 
 or_right : (a b : Bool) → b ≡ true → (a || b) ≡ true
@@ -94,6 +97,10 @@ or_none : (a b : Bool) → a ≡ false → b ≡ false → (a || b) ≡ false
 or_none true b e f = e
 or_none false b e f = f
 
+none_so : (a b : Bool) → (a ≡ true → b ≡ true) → b ≡ false → a ≡ false
+none_so true b so e = sym (so refl) ∙ e
+none_so false b so e = refl
+
 behind : {A : Type 0} (xs : List A) (y : A) (ys : List A) → get_elem? (xs ++ y ∷ ys) (length xs) ≡ some y
 behind [] y ys = refl
 behind (x ∷ xs) y ys = behind xs y ys
@@ -102,7 +109,9 @@ took_in : (v : View) (ps : List PassState) (j : ℕ) (p : PassState) → get_ele
 took_in v [] j p e = absurd (some-ne-none p (sym e))
 took_in v (x ∷ xs) zero p e = let r = joins (joined_view v x.view) xs in let same = ap (λ (y : PassState). y.view) (some-injective x p e) in subst (λ (u : View). TookIn u (joined_views v (x ∷ xs))) same record {
   front = let a = r.front in omega arith;
+  seen = let a = r.seen in omega arith;
   down = λ d. r.down (or_right v.saw_down x.view.saw_down d);
+  output = λ d. r.output (or_right v.had_output x.view.had_output d);
   kept = r.kept (length v.kept) (kept_checkpoint x.view) (behind v.kept (kept_checkpoint x.view) x.view.kept);
 }
 took_in v (x ∷ xs) (suc j) p e = took_in (joined_view v x.view) xs j p e
@@ -112,12 +121,6 @@ unmarked_joined v [] e all = e
 unmarked_joined v (x ∷ xs) e all = unmarked_joined (joined_view v x.view) xs (or_none v.dirtied_or_synced x.view.dirtied_or_synced e (all 0 x refl)) (λ j p at. all (suc j) p at)
 
 -- what a checkpoint keeps of a view
-kept_passed : (u : View) (f : ℕ) → has_passed (kept_checkpoint u) f ≡ (link u f).passed
-kept_passed u f = get_or-map (λ (l : Link). l.passed) u.links f idle
-
-kept_listed : (u : View) (f : ℕ) → has_listed (kept_checkpoint u) f ≡ (link u f).listed
-kept_listed u f = get_or-map (λ (l : Link). l.listed) u.links f idle
-
 kept_swept : (u : View) (n : ℕ) → has_swept (kept_checkpoint u) n ≡ (lane_hold u n).swept
 kept_swept u n = get_or-map (λ (h : LaneHold). h.swept) u.lanes n no_lane
 
@@ -137,9 +140,8 @@ module _ (s : State) (h : Laws s) (w : View) (there : get_elem? s.pool.core.view
   pub closes_other : (p : PassState) → TookIn p.view w → ClosesPass s p
   closes_other p t = record {
     front = let a = t.front in let b = within in omega arith;
+    seen = let a = t.seen in let b = h.ends 0 w there in omega arith;
     down = λ e. saw (t.down e);
-    checked = λ c. (checkpoints_store s h.invariant h.debts).kept 0 t.kept.0 w (kept_checkpoint p.view) there t.kept.1
-        (λ f inside. (kept_passed p.view f ∙ (c f inside).0, kept_listed p.view f ∙ (c f inside).1));
     swept = λ upto c. sweeps s h.invariant h.debts h.swept 0 upto w there
         (inr (t.kept.0, kept_checkpoint p.view, t.kept.1, λ n inside. subst (λ (x : ℕ). upto ≤ x) (sym (kept_swept p.view n)) (c n inside)));
   }
@@ -148,9 +150,8 @@ module _ (s : State) (h : Laws s) (w : View) (there : get_elem? s.pool.core.view
   pub closes_first : (p : PassState) (ps : List PassState) → Joins p.view w ps → ClosesPass s p
   closes_first p ps j = record {
     front = let a = j.front in let b = within in omega arith;
+    seen = let a = j.seen in let b = h.ends 0 w there in omega arith;
     down = λ e. saw (j.down e);
-    checked = λ c. subst (AreStored s) j.upto ((checkpoints_store s h.invariant h.debts).own 0 w there
-        (λ f inside. (ap (λ (l : List Link). (get_or l f idle).passed) j.links ∙ (c f inside).0, ap (λ (l : List Link). (get_or l f idle).listed) j.links ∙ (c f inside).1)));
     swept = λ upto c. sweeps s h.invariant h.debts h.swept 0 upto w there
         (inl (λ n inside. subst (λ (x : ℕ). upto ≤ x) (sym (ap (λ (l : List LaneHold). (get_or l n no_lane).swept) j.lanes)) (c n inside)));
   }
@@ -202,9 +203,19 @@ module _ (s : State) (h : Laws s) (w : View) (there : get_elem? s.pool.core.view
     pub logs_met : s.log_faults < s.device.faults → 0 < w.met.logs
     logs_met more = subst (λ (n : ℕ). 0 < n) logs_of (h.counts.log.is_met none_failed more)
 
-  -- where w has no mark no write failed
-  pub unmarked : w.dirtied_or_synced ≡ false → ((tag : ℕ) → failed s tag ≡ false) × (w.met.writes ≡ 0)
-  unmarked e = let q = h.marks (total-alone mark_weight s.pool.core.views 0 w there (λ j u n at. ap mark_weight (others j u n at)) ∙ ap flag_weight e) in (q.blocks, (q.views 0 w there).met)
+  -- where w has appended no record the log's device has the log's bytes
+  none_appended : w.log.appended ≡ None → NoneAppended s
+  none_appended none i u at = ⊎_elim
+      (λ (e : w ≡ u). subst (λ (x : View). x.log.appended ≡ None) e none)
+      (λ (e : u ≡ emptied_view). subst (λ (x : View). x.log.appended ≡ None) (sym e) refl)
+      (is_one i u at)
+
+  pub holds_bytes : w.log.appended ≡ None → s.device.down ≡ None → s.device.bytes ≡ log_bytes s.names s.log
+  holds_bytes none up = whole s h.invariant (none_appended none) up
+
+  -- where w has no mark no write failed, and there was no output
+  pub unmarked : w.dirtied_or_synced ≡ false → ((tag : ℕ) → failed s tag ≡ false) × (w.met.writes ≡ 0) × (w.had_output ≡ false)
+  unmarked e = let q = h.marks (total-alone mark_weight s.pool.core.views 0 w there (λ j u n at. ap mark_weight (others j u n at)) ∙ ap flag_weight e) in (q.blocks, (q.views 0 w there).met, (q.views 0 w there).output)
 
   -- the calls are a history
   pub history : IsHistory s.known s.origin s.log w.calls
@@ -217,11 +228,15 @@ module _ {L G : Type 0} where
     state = s;
     laws = h;
     opened = c.opened;
+    first = c.first ∙ ap (λ (x : View). some x) joined;
+    free = subst HoldsNothing joined (joined_hold_nothing v w (others_in ps) j (rests_hold_nothing v r));
+    others = c.others;
     counted = c.counted;
     lane = c.lane;
     mark = c.mark;
     device = c.device;
-    history = subst (IsHistory s.known s.origin s.log) (j.calls ∙ ap (λ (u : View). u.calls ++ calls_of (others_in ps)) (sym first)) (history s h w c.first c.others);
+    bytes = λ up. holds_bytes s h w c.first c.others (ap (λ (l : LogHold). l.appended) (j.log ∙ r.quiet.log)) (c.device.down ∙ up);
+    history = subst (IsHistory s.known s.origin s.log) (j.calls ∙ ap (λ (u : View). u.calls ++ calls_of_passes (others_in ps)) (sym first)) (history s h w c.first c.others);
     each = each;
     reads_rose = λ more. reads_rose s h w c.first c.others (subst (λ (m : Met). 0 < m.reads) met more);
     writes_rose = λ more. writes_rose s h w c.first c.others (subst (λ (m : Met). 0 < m.writes) met more);
@@ -229,7 +244,7 @@ module _ {L G : Type 0} where
     reads_met = λ q inside more. subst (λ (m : Met). 0 < m.reads) (sym met) (reads_met s h w c.first c.others free quiet q inside more);
     writes_met = λ q inside more. subst (λ (m : Met). 0 < m.writes) (sym met) (writes_met s h w c.first c.others free quiet q inside more);
     logs_met = λ more. subst (λ (m : Met). 0 < m.logs) (sym met) (logs_met s h w c.first c.others free quiet more);
-    unmarked = λ none. let u = unmarked s h w c.first c.others (no_mark none) in (u.0, ap (λ (m : Met). m.writes) met ∙ u.1);
+    unmarked = λ none. let u = unmarked s h w c.first c.others (no_mark none) in (u.0, ap (λ (m : Met). m.writes) met ∙ u.1, λ i p e. none_so p.view.had_output w.had_output (output i p e) u.2);
   }
     where
       s : State
@@ -241,8 +256,11 @@ module _ {L G : Type 0} where
       j : Joins v w (others_in ps)
       j = subst (λ (x : View). Joins v x (others_in ps)) (sym is) (joins v (others_in ps))
 
-      met : met_of ps ≡ w.met
-      met = met_split ps k at ∙ ap (λ (u : View). sum_of_met u.met (met_of (others_in ps))) first ∙ sym j.met
+      joined : w ≡ joined_views (first_in ps) (others_in ps)
+      joined = is ∙ ap (λ (x : View). joined_views x (others_in ps)) (sym first)
+
+      met : met_by_passes ps ≡ w.met
+      met = met_split ps k at ∙ ap (λ (u : View). sum_of_met u.met (met_by_passes (others_in ps))) first ∙ sym j.met
 
       free : (n : ℕ) → (lane_hold w n).held ≡ false
       free n = ap (λ (l : List LaneHold). (get_or l n no_lane).held) j.lanes ∙ r.quiet.free n
@@ -254,6 +272,12 @@ module _ {L G : Type 0} where
       each i p e = ⊎_elim
           (λ (t : p.view ≡ first_in ps). closes_first s h w c.first c.others p (others_in ps) (subst (λ (x : View). Joins x w (others_in ps)) (sym (t ∙ first)) j))
           (λ (t : (n : ℕ) × (get_elem? (others_in ps) n ≡ some p)). closes_other s h w c.first c.others p (subst (TookIn p.view) (sym is) (took_in v (others_in ps) t.0 p t.1)))
+          (first_or_other ps k i p at e)
+
+      output : (i : ℕ) (p : PassState) → get_elem? ps i ≡ some p → p.view.had_output ≡ true → w.had_output ≡ true
+      output i p e = ⊎_elim
+          (λ (t : p.view ≡ first_in ps). (subst (λ (x : View). Joins x w (others_in ps)) (sym (t ∙ first)) j).output)
+          (λ (t : (n : ℕ) × (get_elem? (others_in ps) n ≡ some p)). (subst (TookIn p.view) (sym is) (took_in v (others_in ps) t.0 p t.1)).output)
           (first_or_other ps k i p at e)
 
       no_mark : ((i : ℕ) (p : PassState) → get_elem? ps i ≡ some p → p.view.dirtied_or_synced ≡ false) → w.dirtied_or_synced ≡ false

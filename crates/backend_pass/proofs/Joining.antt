@@ -14,7 +14,7 @@ use Rattle.held_pins.specs.Tokens.{no_tokens}
 use Rattle.held_pins.specs.Rests.{Rests}
 use Rattle.backend_pass.specs.Passes.{PassState}
 use Rattle.backend_pass.specs.Managers.{AreOthers, AreSpent, IsFirstAt, first_in, is_first, others_in}
-use Rattle.backend_pass.specs.Closing.{calls_of, joined_views, met_of}
+use Rattle.backend_pass.specs.Closing.{calls_of_passes, joined_views, met_by_passes}
 use Rattle.pin_core.specs.declared.view.Checkpoint.{Checkpoint}
 use Rattle.grid.proofs.Lists.{at_longer}
 
@@ -86,12 +86,13 @@ pub record Joins (v w : View) (ps : List PassState) : Type 0 where
   pub lanes : w.lanes ≡ v.lanes
   pub log : w.log ≡ v.log
   pub next : w.next ≡ v.next
-  pub upto : w.upto ≡ v.upto
   pub joined : w.joined ≡ v.joined + length ps
-  pub calls : w.calls ≡ v.calls ++ calls_of ps
-  pub met : w.met ≡ sum_of_met v.met (met_of ps)
+  pub calls : w.calls ≡ v.calls ++ calls_of_passes ps
+  pub met : w.met ≡ sum_of_met v.met (met_by_passes ps)
   pub front : v.front ≤ w.front
+  pub seen : v.end_seen ≤ w.end_seen
   pub down : v.saw_down ≡ true → w.saw_down ≡ true
+  pub output : v.had_output ≡ true → w.had_output ≡ true
   pub kept : (k : ℕ) (c : Checkpoint) → get_elem? v.kept k ≡ some c → (j : ℕ) × (get_elem? w.kept j ≡ some c)
 
 or_true : (a b : Bool) → a ≡ true → (a || b) ≡ true
@@ -118,12 +119,13 @@ joins v [] = record {
   lanes = refl;
   log = refl;
   next = refl;
-  upto = refl;
   joined = omega arith;
   calls = sym (append-nil v.calls);
   met = met_none v.met;
   front = omega arith;
+  seen = omega arith;
   down = λ e. e;
+  output = λ e. e;
   kept = λ k c e. (k, e);
 }
 joins v (p ∷ ps) = let r = joins (joined_view v p.view) ps in record {
@@ -133,12 +135,13 @@ joins v (p ∷ ps) = let r = joins (joined_view v p.view) ps in record {
   lanes = r.lanes;
   log = r.log;
   next = r.next;
-  upto = r.upto;
   joined = let a = r.joined in omega arith;
-  calls = r.calls ∙ append_assoc v.calls p.view.calls (calls_of ps);
-  met = r.met ∙ met_sum v.met p.view.met (met_of ps);
+  calls = r.calls ∙ append_assoc v.calls p.view.calls (calls_of_passes ps);
+  met = r.met ∙ met_sum v.met p.view.met (met_by_passes ps);
   front = let a = r.front in omega arith;
+  seen = let a = r.seen in omega arith;
   down = λ e. r.down (or_true v.saw_down p.view.saw_down e);
+  output = λ e. r.output (or_true v.had_output p.view.had_output e);
   kept = λ k c e. r.kept k c (at_longer v.kept _ k c e);
 }
 

@@ -4,3 +4,8 @@ pub mod Starting
 pub mod Joining
 pub mod Ended
 pub mod BlockReads
+pub mod Complete
+pub mod Relocking
+pub mod PageReading
+pub mod Flushed
+pub mod PagePuts

@@ -1,5 +1,5 @@
 -- A token comes back.
-use Rattle.std.proofs.Common.{◌≡◌, ◌≢◌, ℕ, Option, Some, None, refl, sym, ap, ◌∙◌, subst, true}
+use Rattle.std.proofs.Common.{◌≡◌, ◌≢◌, ℕ, Option, Some, None, refl, sym, ap, ◌∙◌, subst, true, arith}
 use Rattle.std.specs.Prelude.{option_map, ◌≤◌}
 use mathlib.Core.Logic.{dite}
 use native.Mathlib.Decide.{ℕ_discrete}
@@ -9,12 +9,12 @@ use Rattle.pin_core.specs.declared.view.Role.TheVariants.{HandedOut, Absent}
 use Rattle.pin_core.specs.declared.view.View.{View}
 use Rattle.pin_core.specs.State.{link}
 use Rattle.segment_store.specs.Contents.{Pages}
-use Rattle.frame_table.specs.Seats.{Looked, MayUnpin, SameMarks, SameSelf, Touches, unpinned_link, base_of, relations_of}
+use Rattle.frame_table.specs.Seats.{Looked, MayUnpin, OnlyRises, SameMarks, SameSelf, Touches, unpinned_link, base_of, relations_of}
 use Rattle.held_pins.specs.Tokens.{HeldFrame, Tokens, held_at, tokens_less, tokens_more, tokens_of}
-use Rattle.held_pins.specs.Rests.{IsCalm, LinkRests, Rests, Advances, role_of}
+use Rattle.held_pins.specs.Rests.{IsCalm, LinkRests, Rests, role_of}
 use Rattle.held_pins.proofs.HeldLists.{less_others, less_tag, more_tags}
 use Rattle.held_pins.proofs.Keeping.{beside, beside_touched, devices_touched, latches_same, link_looked, rests_less, rests_without}
-use Rattle.held_pins.proofs.Advancing.{advances_none, advances_touched}
+use Rattle.frame_table.proofs.Rising.{rises_none, rises_touched}
 use Rattle.backend_pass.specs.declared.manager.Manager.{Manager}
 use Rattle.backend_pass.specs.declared.met.Shown.{Shown}
 use Rattle.backend_pass.specs.Managers.{Belongs}
@@ -85,7 +85,7 @@ same_none p q table id census e = record {
   joined = ap (λ (x : View). x.joined) e;
   kept = ap (λ (x : View). x.kept) e;
   upto = ap (λ (x : View). x.upto) e;
-  advances = subst (λ (w : View). Advances p.view w) (sym e) (advances_none p.view);
+  advances = subst (λ (w : View). OnlyRises p.view w) (sym e) (rises_none p.view);
 }
 
 pub same_touched : (p q : PassState) (f : ℕ) → q.table ≡ p.table → q.id ≡ p.id → q.census ≡ p.census → Touches f p.view q.view → SamePass p q
@@ -98,7 +98,7 @@ same_touched p q f table id census k = let e = k.self in record {
   joined = ap (λ (x : View). x.joined) e;
   kept = ap (λ (x : View). x.kept) e;
   upto = ap (λ (x : View). x.upto) e;
-  advances = advances_touched f p.view q.view k;
+  advances = rises_touched f p.view q.view k;
 }
 
 -- The tokens u are of frames that are held in t, for the same blocks
@@ -132,8 +132,8 @@ pub held_again : (f : ℕ) (t : Tokens) → AreHeld t (tokens_more f t)
 held_again f t g h e = tag_held (held_at t g) (held_at (tokens_more f t) g) h (more_tags t f g) e
 
 module _ {L G : Type 0} (contents : L → Option Pages) (m : Manager L G) where
-  pub belongs_held : (p q : PassState) → q.table ≡ p.table → q.census.frames ≡ p.census.frames → q.view.front ≡ p.view.front → AreHeld p.tokens q.tokens → Belongs contents m p → Belongs contents m q
-  belongs_held p q table census front held b = record {
+  pub belongs_held : (p q : PassState) → q.table ≡ p.table → q.census.frames ≡ p.census.frames → q.view.front ≡ p.view.front → p.view.end_seen ≤ q.view.end_seen → AreHeld p.tokens q.tokens → Belongs contents m p → Belongs contents m q
+  belongs_held p q table census front end held b = record {
     table = table ∙ b.table;
     frames = census ∙ b.frames;
     inside = λ f h e. let k = held f h e in b.inside f k.0 k.1;
@@ -141,4 +141,8 @@ module _ {L G : Type 0} (contents : L → Option Pages) (m : Manager L G) where
     alone = λ f g h k e d same. let x = held f h e in let y = held g k d in b.alone f g x.0 y.0 x.1 y.1 (x.2 ∙ same ∙ sym y.2);
     sound = λ f h e tag same. let k = held f h e in b.sound f k.0 k.1 tag (same ∙ sym k.2);
     based = subst (λ (x : ℕ). base_of m.table ≤ x) (sym front) b.based;
+    seen = let base = b.seen in omega arith;
   }
+
+  pub belongs_touched : (p q : PassState) (f : ℕ) → q.table ≡ p.table → q.census.frames ≡ p.census.frames → Touches f p.view q.view → AreHeld p.tokens q.tokens → Belongs contents m p → Belongs contents m q
+  belongs_touched p q f table census k = belongs_held p q table census (ap (λ (x : View). x.front) k.self) (rises_touched f p.view q.view k).end_seen

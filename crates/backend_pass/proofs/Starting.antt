@@ -1,7 +1,7 @@
 -- Passes at the start.
 use Rattle.std.proofs.Common.{◌≡◌, ◌+◌, ◌-◌, ℕ, zero, suc, List, [], ◌∷◌, ◌++◌, take, drop, ⊎_elim, Option, Some, None, replicate, length, get_or, refl, sym, ap, ◌∙◌, subst, add-one, arith}
 use mathlib.Core.Option.{some, some-injective, some-ne-none}
-use lib.ListN.{get_elem?}
+use lib.ListN.{get_elem?, length-replicate}
 use Rattle.grid.proofs.Lists.{at_end}
 use Rattle.segment_store.specs.Contents.{Pages}
 use Rattle.pin_core.specs.declared.view.LaneHold.{LaneHold}
@@ -9,12 +9,12 @@ use Rattle.pin_core.specs.declared.view.View.{View}
 use Rattle.pin_core.specs.State.{first_view, idle, new_view, no_lane, no_partition}
 use Rattle.clock_sweep.specs.CensusList.{new_census}
 use Rattle.frame_table.specs.FrameSteps.{split_view}
-use Rattle.frame_table.specs.Seats.{base_of, frames_of}
+use Rattle.frame_table.specs.Seats.{base_of, frames_of, lanes_in}
 use Rattle.held_pins.specs.Tokens.{HeldFrame, held_at, no_tokens}
 use Rattle.held_pins.specs.Rests.{LinkRests, Rests}
-use Rattle.backend_pass.specs.declared.kit.Kit.{Kit}
+use Rattle.backend_pass.specs.declared.pass_memory.PassMemory.{PassMemory}
 use Rattle.backend_pass.specs.declared.manager.Manager.{Manager}
-use Rattle.backend_pass.specs.Kits.{AreFresh}
+use Rattle.backend_pass.specs.PassMemories.{AreForFrames}
 use Rattle.backend_pass.specs.Managers.{AreNewPasses, Belongs, IsNewPass}
 use Rattle.backend_pass.specs.Passes.{IsFreshView, PassState}
 
@@ -54,22 +54,29 @@ first_fresh id base frames partitions lanes v zero_id e = subst (IsFreshView 0 i
   met = refl;
 }
 
--- kits
-pub fresh_with : (frames : ℕ) (ks : List Kit) (k : Kit) → k.census ≡ new_census frames → AreFresh frames ks → AreFresh frames (ks ++ k ∷ [])
+-- memories
+pub fresh_with : (frames : ℕ) (ks : List PassMemory) (k : PassMemory) → k.census ≡ new_census frames → AreForFrames frames ks → AreForFrames frames (ks ++ k ∷ [])
 fresh_with frames [] k e f = (e, tt)
 fresh_with frames (x ∷ xs) k e f = (f.0, fresh_with frames xs k e f.1)
 
-pub fresh_front : (frames : ℕ) (ks : List Kit) (k : Kit) → AreFresh frames (ks ++ k ∷ []) → AreFresh frames ks
+pub fresh_front : (frames : ℕ) (ks : List PassMemory) (k : PassMemory) → AreForFrames frames (ks ++ k ∷ []) → AreForFrames frames ks
 fresh_front frames [] k f = tt
 fresh_front frames (x ∷ xs) k f = (f.0, fresh_front frames xs k f.1)
 
-pub fresh_last : (frames : ℕ) (ks : List Kit) (k : Kit) → AreFresh frames (ks ++ k ∷ []) → k.census ≡ new_census frames
+pub fresh_last : (frames : ℕ) (ks : List PassMemory) (k : PassMemory) → AreForFrames frames (ks ++ k ∷ []) → k.census ≡ new_census frames
 fresh_last frames [] k f = f.0
 fresh_last frames (x ∷ xs) k f = fresh_last frames xs k f.1
 
 -- the first pass after all others were split from it
 abbrev pub first_at : (base frames partitions lanes next : ℕ) → View
 first_at base frames partitions lanes next = record (first_view base frames partitions lanes) { next = next }
+
+-- and the view that is split from it
+split_at : (base frames partitions lanes next : ℕ) → split_view base (first_at base frames partitions lanes next) ≡ new_view next base frames partitions lanes
+split_at base frames partitions lanes next =
+    ap (λ (n : ℕ). new_view next base n (length (replicate partitions no_partition)) (length (replicate lanes no_lane))) (length-replicate frames idle)
+    ∙ ap (λ (n : ℕ). new_view next base frames n (length (replicate lanes no_lane))) (length-replicate partitions no_partition)
+    ∙ ap (λ (n : ℕ). new_view next base frames partitions n) (length-replicate lanes no_lane)
 
 module _ {L G : Type 0} (contents : L → Option Pages) (m : Manager L G) (count : ℕ) where
   none_held : (t : List HeldFrame) (f : ℕ) (h : HeldFrame) → t ≡ no_tokens → held_at t f ≡ Some h → ⊥
@@ -78,8 +85,8 @@ module _ {L G : Type 0} (contents : L → Option Pages) (m : Manager L G) (count
       some_none : (x : HeldFrame) → Some x ≡ None → ⊥
       some_none x e = cc
 
-  new_belongs : (p : PassState) (base : ℕ) → p.table ≡ m.table.table.shared.table_id → p.census ≡ new_census (frames_of m.table) → p.tokens ≡ no_tokens → p.view.front ≡ base → base ≡ base_of m.table → Belongs contents m p
-  new_belongs p base table census tokens front same = record {
+  new_belongs : (p : PassState) (base : ℕ) → p.table ≡ m.table.table.shared.table_id → p.census ≡ new_census (frames_of m.table) → p.tokens ≡ no_tokens → p.view.front ≡ base → p.view.end_seen ≡ base → base ≡ base_of m.table → Belongs contents m p
+  new_belongs p base table census tokens front end same = record {
     table = table;
     frames = ap (λ c. c.frames) census;
     inside = λ f h e. absurd (none_held p.tokens f h tokens e);
@@ -87,50 +94,36 @@ module _ {L G : Type 0} (contents : L → Option Pages) (m : Manager L G) (count
     alone = λ f g h k e d same. absurd (none_held p.tokens f h tokens e);
     sound = λ f h e. absurd (none_held p.tokens f h tokens e);
     based = omega arith;
+    seen = omega arith;
   }
 
-  pub split_new : (p : PassState) (base n i a b c : ℕ) → p.view ≡ new_view n base a b c → n ≡ i + 1 → base ≡ base_of m.table → p.table ≡ m.table.table.shared.table_id → p.tokens ≡ no_tokens → p.census ≡ new_census (frames_of m.table) → IsNewPass contents m count (i + 1) p
-  split_new p base n i a b c e number same table tokens census = record {
-    belongs = new_belongs p base table census tokens (ap (λ (v : View). v.front) e) same;
-    number = ap (λ (v : View). v.number) e ∙ number;
+  -- its view
+  viewed : (p : PassState) (base i next : ℕ) → p.view ≡ record (new_view i base (frames_of m.table) 128 (lanes_in m.table)) { next = next } → base ≡ base_of m.table
+      → p.view ≡ record (new_view i (base_of m.table) (frames_of m.table) 128 (lanes_in m.table)) { next = p.view.next }
+  viewed p base i next e same =
+      e ∙ ap (λ (x : ℕ). record (new_view i x (frames_of m.table) 128 (lanes_in m.table)) { next = next }) same
+      ∙ ap (λ (x : ℕ). record (new_view i (base_of m.table) (frames_of m.table) 128 (lanes_in m.table)) { next = x }) (sym (ap (λ (v : View). v.next) e))
+
+  pub split_of_first : (p : PassState) (v : View) (base n i : ℕ) → p.view ≡ split_view base v → v ≡ first_at base (frames_of m.table) 128 (lanes_in m.table) n → n ≡ i + 1 → base ≡ base_of m.table → p.table ≡ m.table.table.shared.table_id → p.tokens ≡ no_tokens → p.census ≡ new_census (frames_of m.table) → IsNewPass contents m count (i + 1) p
+  split_of_first p v base n i e first number same table tokens census = record {
+    belongs = new_belongs p base table census tokens (ap (λ (x : View). x.front) is) (ap (λ (x : View). x.end_seen) is) same;
     tokens = tokens;
     census = census;
-    calls = ap (λ (v : View). v.calls) e;
-    front = ap (λ (v : View). v.front) e ∙ same;
-    device_calls = ap (λ (v : View). v.device_calls) e;
-    met = ap (λ (v : View). v.met) e;
-    unmarked = ap (λ (v : View). v.dirtied_or_synced) e;
-    up = ap (λ (v : View). v.saw_down) e;
-    upto = ap (λ (v : View). v.upto) e;
-    kept = ap (λ (v : View). v.kept) e;
-    joined = ap (λ (v : View). v.joined) e;
+    view = viewed p base (i + 1) 0 is same;
     next = λ none. absurd (omega arith);
   }
+    where
+      is : p.view ≡ new_view (i + 1) base (frames_of m.table) 128 (lanes_in m.table)
+      is = e ∙ ap (split_view base) first ∙ split_at base (frames_of m.table) 128 (lanes_in m.table) n ∙ ap (λ (x : ℕ). new_view x base (frames_of m.table) 128 (lanes_in m.table)) number
 
-  pub first_new : (p : PassState) (base a b c : ℕ) → p.view ≡ first_at base a b c count → base ≡ base_of m.table → p.table ≡ m.table.table.shared.table_id → p.tokens ≡ no_tokens → p.census ≡ new_census (frames_of m.table) → IsNewPass contents m count 0 p
-  first_new p base a b c e same table tokens census = record {
-    belongs = new_belongs p base table census tokens (ap (λ (v : View). v.front) e) same;
-    number = ap (λ (v : View). v.number) e;
+  pub first_counted : (p : PassState) (base n : ℕ) → p.view ≡ first_at base (frames_of m.table) 128 (lanes_in m.table) n → n ≡ count → base ≡ base_of m.table → p.table ≡ m.table.table.shared.table_id → p.tokens ≡ no_tokens → p.census ≡ new_census (frames_of m.table) → IsNewPass contents m count 0 p
+  first_counted p base n e number same table tokens census = record {
+    belongs = new_belongs p base table census tokens (ap (λ (v : View). v.front) e) (ap (λ (v : View). v.end_seen) e) same;
     tokens = tokens;
     census = census;
-    calls = ap (λ (v : View). v.calls) e;
-    front = ap (λ (v : View). v.front) e ∙ same;
-    device_calls = ap (λ (v : View). v.device_calls) e;
-    met = ap (λ (v : View). v.met) e;
-    unmarked = ap (λ (v : View). v.dirtied_or_synced) e;
-    up = ap (λ (v : View). v.saw_down) e;
-    upto = ap (λ (v : View). v.upto) e;
-    kept = ap (λ (v : View). v.kept) e;
-    joined = ap (λ (v : View). v.joined) e;
-    next = λ none. ap (λ (v : View). v.next) e;
+    view = viewed p base 0 n e same;
+    next = λ none. ap (λ (v : View). v.next) e ∙ number;
   }
-
-  pub split_of_first : (p : PassState) (v : View) (base n i a b c : ℕ) → p.view ≡ split_view base v → v ≡ first_at base a b c n → n ≡ i + 1 → base ≡ base_of m.table → p.table ≡ m.table.table.shared.table_id → p.tokens ≡ no_tokens → p.census ≡ new_census (frames_of m.table) → IsNewPass contents m count (i + 1) p
-  split_of_first p v base n i a b c e first number same table tokens census = let f = first_at base a b c n in
-      split_new p base n i (length f.links) (length f.partitions) (length f.lanes) (e ∙ ap (split_view base) first) number same table tokens census
-
-  pub first_counted : (p : PassState) (base a b c n : ℕ) → p.view ≡ first_at base a b c n → n ≡ count → base ≡ base_of m.table → p.table ≡ m.table.table.shared.table_id → p.tokens ≡ no_tokens → p.census ≡ new_census (frames_of m.table) → IsNewPass contents m count 0 p
-  first_counted p base a b c n e number same table tokens census = first_new p base a b c (e ∙ ap (first_at base a b c) number) same table tokens census
 
   -- the others, from number 1 on
   abbrev pub OthersAreNew : List PassState → Type 0

@@ -1,11 +1,13 @@
 -- What a manager gives as it is closed.
-use Rattle.std.specs.Prelude.{◌≡◌, ◌<◌, ◌≤◌, ℕ, true, false, List, [], ◌∷◌, ◌++◌, length, Option}
+use Rattle.std.specs.Prelude.{◌≡◌, ◌≢◌, ◌<◌, ◌≤◌, ℕ, true, false, List, [], ◌∷◌, ◌++◌, length, Option, None}
 use mathlib.Core.Option.{some}
 use lib.ListN.{get_elem?}
 use Rattle.pin_core.specs.declared.view.Call.{Call}
 use Rattle.pin_core.specs.declared.view.Met.{Met}
 use Rattle.pin_core.specs.declared.view.View.{View}
-use Rattle.pin_core.specs.State.{joined_view, lane_hold, link, sum_of_met}
+use Rattle.pin_core.specs.State.{emptied_view, joined_view, lane_hold, sum_of_met}
+use Rattle.pin_core.specs.Steps.{HoldsNothing}
+use Rattle.history_core.specs.Log.{log_bytes}
 use Rattle.history_core.specs.State.{State, failed}
 use Rattle.history_core.specs.Device.{HasRisen}
 use Rattle.history_core.specs.History.{IsHistory}
@@ -17,27 +19,24 @@ use Rattle.backend_pass.specs.Passes.{PassState}
 use Rattle.backend_pass.specs.Managers.{first_in, others_in}
 
 -- the calls of the first pass, then those of the others, one pass after the other in the order of the list
-abbrev pub calls_of : List PassState → List Call
-calls_of [] = []
-calls_of (p ∷ ps) = p.view.calls ++ calls_of ps
+abbrev pub calls_of_passes : List PassState → List Call
+calls_of_passes [] = []
+calls_of_passes (p ∷ ps) = p.view.calls ++ calls_of_passes ps
 
-abbrev pub calls_in : List PassState → List Call
-calls_in ps = (first_in ps).calls ++ calls_of (others_in ps)
+abbrev pub calls_in_order : List PassState → List Call
+calls_in_order ps = (first_in ps).calls ++ calls_of_passes (others_in ps)
 
 -- the faults that they met, in all
-abbrev pub met_of : List PassState → Met
-met_of [] = record { reads = 0; writes = 0; logs = 0 }
-met_of (p ∷ ps) = sum_of_met p.view.met (met_of ps)
+abbrev pub met_by_passes : List PassState → Met
+met_by_passes [] = record { reads = 0; writes = 0; logs = 0 }
+met_by_passes (p ∷ ps) = sum_of_met p.view.met (met_by_passes ps)
 
 -- a view that takes in those of passes, one after the other
 abbrev pub joined_views : View → List PassState → View
 joined_views v [] = v
 joined_views v (p ∷ ps) = joined_views (joined_view v p.view) ps
 
--- The checkpoint of a view has passed each of n frames, and has none still to write; and the view has swept each of n lanes up to a position
-abbrev pub HasChecked : ℕ → View → Type 0
-HasChecked n v = (f : ℕ) → f < n → ((link v f).passed ≡ true) × ((link v f).listed ≡ false)
-
+-- The view has swept each of n lanes up to a position
 abbrev pub HasSwept : ℕ → ℕ → View → Type 0
 HasSwept n upto v = (q : ℕ) → q < n → upto ≤ (lane_hold v q).swept
 
@@ -45,10 +44,11 @@ HasSwept n upto v = (q : ℕ) → q < n → upto ≤ (lane_hold v q).swept
 pub record ClosesPass (s : State) (p : PassState) : Type 0 where
   -- its reads and writes are in the log
   pub front : p.view.front ≤ s.end
+  -- and no log end that it saw is beyond the log's end
+  pub seen : p.view.end_seen ≤ s.end
   -- where it was told that the log is down, the log's count of faults rose since the start
   pub down : p.view.saw_down ≡ true → HasRisen s.log_faults s.device.faults
-  -- a checkpoint that it ended still holds, and so with its lanes' syncs
-  pub checked : HasChecked s.pool.core.frames p.view → AreStored s p.view.upto
+  -- what it swept is still stored, and synced
   pub swept : (upto : ℕ) → HasSwept s.lanes upto p.view → AreSynced s upto × AreStored s upto
 
 module _ {L G : Type 0} where
@@ -57,19 +57,25 @@ module _ {L G : Type 0} where
     pub state : State
     pub laws : Laws state
     pub opened : KeepsOpening d o state
+    -- the first view is those of the passes joined, and holds nothing; all others are emptied
+    pub first : get_elem? state.pool.core.views 0 ≡ some (joined_views (first_in ps) (others_in ps))
+    pub free : HoldsNothing (joined_views (first_in ps) (others_in ps))
+    pub others : (i : ℕ) (u : View) → i ≢ 0 → get_elem? state.pool.core.views i ≡ some u → u ≡ emptied_view
     pub counted : length lanes ≡ o.config.lanes
     pub lane : (q : ℕ) (l : L) → get_elem? lanes q ≡ some l → IsLane d o.catalog.value state.lanes q l (state.lane q)
     -- where the log is down, with its end at the failure
     pub mark : Option ℕ
     pub device : IsLog d log mark state.device
-    pub history : IsHistory state.known state.origin state.log (calls_in ps)
+    -- where it isn't, it holds the log's bytes and nothing else
+    pub bytes : mark ≡ None → state.device.bytes ≡ log_bytes state.names state.log
+    pub history : IsHistory state.known state.origin state.log (calls_in_order ps)
     pub each : (i : ℕ) (p : PassState) → get_elem? ps i ≡ some p → ClosesPass state p
     -- faults were met exactly where a device's count of them rose
-    pub reads_rose : 0 < (met_of ps).reads → (q : ℕ) × (q < state.lanes) × HasRisen (state.lane q).read_faults_at_start (state.lane q).read_faults
-    pub writes_rose : 0 < (met_of ps).writes → (q : ℕ) × (q < state.lanes) × HasRisen (state.lane q).write_faults_at_start (state.lane q).write_faults
-    pub logs_rose : 0 < (met_of ps).logs → HasRisen state.log_faults state.device.faults
-    pub reads_met : (q : ℕ) → q < state.lanes → (state.lane q).read_faults_at_start < (state.lane q).read_faults → 0 < (met_of ps).reads
-    pub writes_met : (q : ℕ) → q < state.lanes → (state.lane q).write_faults_at_start < (state.lane q).write_faults → 0 < (met_of ps).writes
-    pub logs_met : state.log_faults < state.device.faults → 0 < (met_of ps).logs
-    -- where no pass marked a frame dirty or synced a lane no block's last write failed, and no pass met a fault of writing
-    pub unmarked : ((i : ℕ) (p : PassState) → get_elem? ps i ≡ some p → p.view.dirtied_or_synced ≡ false) → ((tag : ℕ) → failed state tag ≡ false) × ((met_of ps).writes ≡ 0)
+    pub reads_rose : 0 < (met_by_passes ps).reads → (q : ℕ) × (q < state.lanes) × HasRisen (state.lane q).read_faults_at_start (state.lane q).read_faults
+    pub writes_rose : 0 < (met_by_passes ps).writes → (q : ℕ) × (q < state.lanes) × HasRisen (state.lane q).write_faults_at_start (state.lane q).write_faults
+    pub logs_rose : 0 < (met_by_passes ps).logs → HasRisen state.log_faults state.device.faults
+    pub reads_met : (q : ℕ) → q < state.lanes → (state.lane q).read_faults_at_start < (state.lane q).read_faults → 0 < (met_by_passes ps).reads
+    pub writes_met : (q : ℕ) → q < state.lanes → (state.lane q).write_faults_at_start < (state.lane q).write_faults → 0 < (met_by_passes ps).writes
+    pub logs_met : state.log_faults < state.device.faults → 0 < (met_by_passes ps).logs
+    -- where no pass marked a frame dirty or synced a lane no block's last write failed, no pass met a fault of writing, and none had an output right
+    pub unmarked : ((i : ℕ) (p : PassState) → get_elem? ps i ≡ some p → p.view.dirtied_or_synced ≡ false) → ((tag : ℕ) → failed state tag ≡ false) × ((met_by_passes ps).writes ≡ 0) × ((i : ℕ) (p : PassState) → get_elem? ps i ≡ some p → p.view.had_output ≡ false)

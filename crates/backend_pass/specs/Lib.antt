@@ -1,7 +1,11 @@
 pub mod Passes
 pub mod Managers
-pub mod Kits
-pub mod Rooms
+pub mod PassMemories
+pub mod PoolMemories
 pub mod Starting
 pub mod Reading
+pub mod FrameFlushes
+pub mod Puts
 pub mod Closing
+pub mod Locks
+pub mod PageReads

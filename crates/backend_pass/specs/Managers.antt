@@ -10,18 +10,18 @@ use Rattle.segment_store.specs.Contents.{Pages}
 use Rattle.table_rule.specs.declared.config.Config.{Config}
 use Rattle.atomic_table.specs.Seated.{TableId}
 use Rattle.pin_core.specs.declared.view.View.{View}
-use Rattle.pin_core.specs.State.{emptied_view}
+use Rattle.pin_core.specs.State.{emptied_view, new_view}
 use Rattle.table_rule.specs.Blocks.{is_block}
 use Rattle.clock_sweep.specs.CensusList.{new_census}
 use Rattle.frame_table.specs.Opened.{WasSoundAtOpening}
-use Rattle.frame_table.specs.Seats.{base_of, frames_of, relations_of}
+use Rattle.frame_table.specs.Seats.{base_of, frames_of, lanes_in, relations_of}
 use Rattle.held_pins.specs.Tokens.{HeldFrame, held_at, no_tokens}
 use Rattle.backend_pass.specs.declared.manager.Manager.{Manager}
 use Rattle.backend_pass.specs.Passes.{PassState}
 
 module _ {L G : Type 0} where
   -- The manager was opened with these numbers, relations and devices, over a log that begins at `base`
-  pub record Opens (config : Config) (catalog : List RelEntry) (lanes : Vec L) (log : G) (base : ℕ) (m : Manager L G) : Type 0 where
+  pub record OpenedWith (config : Config) (catalog : List RelEntry) (lanes : Vec L) (log : G) (base : ℕ) (m : Manager L G) : Type 0 where
     pub config_is : m.table.table.shared.key.config ≡ config
     pub catalog_is : m.table.table.shared.key.catalog.value ≡ catalog
     pub lanes_are : m.table.table.shared.key.lanes.value ≡ lanes
@@ -41,23 +41,17 @@ module _ {L G : Type 0} where
     pub sound : (f : ℕ) (h : HeldFrame) → held_at p.tokens f ≡ Some h → (tag : Tag) → packed_tag tag ≡ h.tag → names_block tag ≡ true → WasSoundAtOpening contents m.table tag
     -- what it has read and put stands in the log, whose beginning is the front of a pass that has done neither
     pub based : base_of m.table ≤ p.view.front
+    -- it has seen an end of the log, or the beginning
+    pub seen : base_of m.table ≤ p.view.end_seen
 
   -- The pass number i of so many, which has done nothing yet
   pub record IsNewPass (contents : L → Option Pages) (m : Manager L G) (passes i : ℕ) (p : PassState) : Type 0 where
     pub belongs : Belongs contents m p
-    pub number : p.view.number ≡ i
     pub tokens : p.tokens ≡ no_tokens
     pub census : p.census ≡ new_census (frames_of m.table)
-    pub calls : p.view.calls ≡ []
-    pub front : p.view.front ≡ base_of m.table
-    pub device_calls : p.view.device_calls ≡ []
-    pub met : p.view.met ≡ record { reads = 0; writes = 0; logs = 0 }
-    pub unmarked : p.view.dirtied_or_synced ≡ false
-    pub up : p.view.saw_down ≡ false
-    pub upto : p.view.upto ≡ 0
-    pub kept : p.view.kept ≡ []
-    -- the first one has given the numbers of all others, and taken in none
-    pub joined : p.view.joined ≡ 0
+    -- its view is that of a new backend, but for the next number that it gives
+    pub view : p.view ≡ record (new_view i (base_of m.table) (frames_of m.table) 128 (lanes_in m.table)) { next = p.view.next }
+    -- the first one has given the numbers of all others
     pub next : i ≡ 0 → p.view.next ≡ passes
 
   -- so many, in order

@@ -1,11 +1,12 @@
 -- What contracts see of a pass.
-use Rattle.std.specs.Prelude.{◌≡◌, ℕ, List, [], ◌∷◌, min}
+use Rattle.std.specs.Prelude.{◌≡◌, ℕ, ◌+◌, List, [], ◌∷◌, min}
 use Rattle.atomic_table.specs.Seated.{TableId}
 use Rattle.pin_core.specs.declared.view.View.{View}
 use Rattle.pin_core.specs.State.{emptied_view}
 use Rattle.clock_sweep.specs.CensusList.{CensusList}
 use Rattle.held_pins.specs.Tokens.{HeldFrame, no_tokens}
-use Rattle.held_pins.specs.Rests.{Advances, Rests}
+use Rattle.frame_table.specs.Seats.{OnlyRises}
+use Rattle.held_pins.specs.Rests.{Rests, SameLocks}
 use Rattle.backend_pass.specs.declared.met.Shown.{Shown}
 
 -- A backend of a manager between two calls
@@ -56,7 +57,7 @@ pub record SamePass (p q : PassState) : Type 0 where
   pub joined : q.view.joined ≡ p.view.joined
   pub kept : q.view.kept ≡ p.view.kept
   pub upto : q.view.upto ≡ p.view.upto
-  pub advances : Advances p.view q.view
+  pub advances : OnlyRises p.view q.view
 
 -- What it read and put, and its front, are as they were
 pub record KeepsCalls (p q : PassState) : Type 0 where
@@ -68,7 +69,18 @@ pub record KeepsCalls (p q : PassState) : Type 0 where
 abbrev pub KeepsMark : PassState → PassState → Type 0
 KeepsMark p q = q.view.dirtied_or_synced ≡ p.view.dirtied_or_synced
 
+-- The content locks that it has are as they were
+abbrev pub KeepsLocks : PassState → PassState → Type 0
+KeepsLocks p q = SameLocks p.view q.view
+
 -- No device was called
 pub record KeepsDevices (p q : PassState) : Type 0 where
   pub device_calls : q.view.device_calls ≡ p.view.device_calls
   pub met : q.view.met ≡ p.view.met
+
+-- what is shown with one fault more, of a write of a lane, and of the log
+abbrev pub shown_write : Shown → Shown
+shown_write s = record s { met = record s.met { writes = shown_count (s.met.writes + 1) } }
+
+abbrev pub shown_log : Shown → Shown
+shown_log s = record s { met = record s.met { logs = shown_count (s.met.logs + 1) } }

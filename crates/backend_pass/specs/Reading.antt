@@ -1,18 +1,19 @@
 -- How a pass reads a block, and what it is refused for.
-use Rattle.std.specs.Prelude.{◌≡◌, ℕ, ◌+◌, ◌<◌, nat_lt, nat_eq, true, false, List, [], ◌∷◌, Option, Some, None, Result, Ok, Err, if◌then◌else◌}
+use Rattle.std.specs.Prelude.{◌≡◌, ℕ, ◌+◌, ◌<◌, nat_lt, nat_eq, Bool, true, false, List, [], ◌∷◌, Option, Some, None, Result, Ok, Err, if◌then◌else◌}
 use Rattle.block_tag.specs.declared.catalogue.RelEntry.{RelEntry}
 use Rattle.block_tag.specs.declared.tag.Tag.{Tag}
 use Rattle.block_tag.specs.Catalogue.{blocks_at}
-use Rattle.block_tag.specs.Names.{lane_number, packed_tag}
+use Rattle.block_tag.specs.Names.{lane_number, names_block, packed_tag}
 use Rattle.segment_store.specs.Contents.{Pages}
 use Rattle.pin_core.specs.declared.view.Content.TheVariants.{Unlocked}
 use Rattle.pin_core.specs.declared.view.DeviceCall.TheVariants.{LaneRead}
 use Rattle.pin_core.specs.declared.view.Met.{Met}
 use Rattle.pin_core.specs.declared.view.View.{View}
 use Rattle.pin_core.specs.State.{link}
+use Rattle.table_rule.specs.Blocks.{has_block}
 use Rattle.frame_table.specs.declared.table.FrameTable.{FrameTable}
 use Rattle.frame_table.specs.Opened.{WasSoundAtOpening}
-use Rattle.frame_table.specs.Seats.{frames_of, lanes_in}
+use Rattle.frame_table.specs.Seats.{frames_of, lanes_in, relations_of}
 use Rattle.wal_flush.specs.declared.flushes.FlushLog.TheVariants as log
 use Rattle.held_pins.specs.Tokens.{Tokens, count_of, held_at, tokens_with}
 use Rattle.buffer_frames.specs.declared.flushing.FlushError.TheVariants as flush
@@ -28,6 +29,7 @@ use Rattle.backend_pass.specs.declared.errors.ReadError.TheVariants.{PastEnd, Pi
 use Rattle.backend_pass.specs.declared.met.Met as shown
 use Rattle.backend_pass.specs.declared.met.Shown.{Shown}
 use Rattle.backend_pass.specs.declared.pinned.Pinned.{Pinned}
+use Rattle.backend_pass.specs.FrameFlushes.{WasWithin}
 use Rattle.backend_pass.specs.Passes.{PassState, shown_count}
 
 -- what is refused before anything is looked at: a block past the end of its fork, and then one token too many
@@ -35,6 +37,12 @@ abbrev pub refused_at_once : List RelEntry → Tokens → Tag → Option ReadErr
 refused_at_once relations tokens tag =
     if nat_lt tag.block (blocks_at relations tag.rel.0 tag.fork) then (if nat_eq (count_of tokens) 8 then Some PinsFull else None)
     else Some (PastEnd tag.block (blocks_at relations tag.rel.0 tag.fork))
+
+-- what an answer refuses at once
+abbrev pub at_once_of : Result Pinned ReadError → Option ReadError
+at_once_of (Err (PastEnd block blocks)) = Some (PastEnd block blocks)
+at_once_of (Err PinsFull) = Some PinsFull
+at_once_of _ = None
 
 -- what a pass is refused for, by the refusal of its frames
 abbrev pub read_refusal : BlockError → ReadError
@@ -78,13 +86,28 @@ abbrev pub shown_after : ReadError → Shown → Shown
 shown_after why s = record s { met = met_shown why s.met }
 
 -- The lane q was read for the block where the answer says so, and no lane else. Where the map gave no frame for it at first, all else was done after that
-abbrev pub ReadingCalls : ℕ → Tag → View → View → Result Pinned ReadError → Type 0
-ReadingCalls q tag v w (Ok pinned) = Locates tag pinned.frame (loading_calls q (packed_tag tag) (Ok pinned.hit)) v w
-ReadingCalls q tag v w (Err (ReadFault failed)) = (f : ℕ) × Locates tag f (LaneRead q (packed_tag tag) false ∷ []) v w
-ReadingCalls q tag v w (Err (Unsound failed)) = (f : ℕ) × Locates tag f (LaneRead q (packed_tag tag) true ∷ []) v w
-ReadingCalls q tag v w (Err why) = Misses tag [] v w
+abbrev pub ReadingCalls : ℕ → Tag → Bool → View → View → Result Pinned ReadError → Type 0
+ReadingCalls q tag ring v w (Ok pinned) = Locates tag pinned.frame ring (loading_calls q (packed_tag tag) (Ok pinned.hit)) v w
+ReadingCalls q tag ring v w (Err (ReadFault failed)) = (f : ℕ) × Locates tag f ring (LaneRead q (packed_tag tag) false ∷ []) v w
+ReadingCalls q tag ring v w (Err (Unsound failed)) = (f : ℕ) × Locates tag f ring (LaneRead q (packed_tag tag) true ∷ []) v w
+ReadingCalls q tag ring v w (Err why) = Misses tag [] v w
+
+-- The block is pinned, or its page isn't sound, or all frames are pinned
+abbrev pub IsReadUnsoundOrAllPinned : Result Pinned ReadError → Type 0
+IsReadUnsoundOrAllPinned (Ok pinned) = Unit {0}
+IsReadUnsoundOrAllPinned (Err (Unsound failed)) = Unit {0}
+IsReadUnsoundOrAllPinned (Err (NoUnpinned frames)) = Unit {0}
+IsReadUnsoundOrAllPinned _ = ⊥
 
 module _ {L G : Type 0} (contents : L → Option Pages) (t : FrameTable L G) where
+  -- No device fails while a block is read, and no page is one that can't be written
+  pub record NothingFails (p q : PassState) : Type 0 where
+    -- no sound page that a lane can have held as the table was opened had a position past the end of the log that the pass had seen
+    pub within : (other : Tag) → names_block other ≡ true → has_block (relations_of t) other ≡ true → WasWithin contents t other p.view.end_seen
+    -- the log isn't seen to be down, and no fault was met
+    pub up : q.view.saw_down ≡ false
+    pub met : q.view.met ≡ p.view.met
+
   -- why a block was not read that was looked up: all frames were pinned; a victim's page was not written; or the block's own page was not read, or isn't sound, and wasn't as the table was opened, where that is known
   abbrev pub ReadingRefused : Tag → PassState → PassState → ReadError → Type 0
   ReadingRefused tag p q (PastEnd block blocks) = ⊥
@@ -113,6 +136,6 @@ module _ {L G : Type 0} (contents : L → Option Pages) (t : FrameTable L G) whe
   ReadingAnswer tag p q (Err why) = (q.tokens ≡ p.tokens) × ReadingRefused tag p q why
 
   -- A block was looked up, with this answer and these calls of devices
-  pub record ReadsBlock (tag : Tag) (p q : PassState) (r : Result Pinned ReadError) : Type 0 where
+  pub record ReadsBlock (tag : Tag) (ring : Bool) (p q : PassState) (r : Result Pinned ReadError) : Type 0 where
     pub answer : ReadingAnswer tag p q r
-    pub calls : ReadingCalls (lane_number tag (lanes_in t)) tag p.view q.view r
+    pub calls : ReadingCalls (lane_number tag (lanes_in t)) tag ring p.view q.view r

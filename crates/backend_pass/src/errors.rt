@@ -1,5 +1,6 @@
-//! Why a manager is not started, and why a block is not read.
+//! Why a manager is not started, why a block is not read, and why a page is not written.
 
+use crate::pinned::Pinned;
 use block_tag::Tag;
 use page_layout::Lsn;
 use thiserror::Error;
@@ -61,4 +62,27 @@ pub enum ReadError {
     /// The lane gave a page of this block that isn't sound.
     #[error("a page is not sound")]
     Unsound { tag: Tag },
+}
+
+/// Why the page of a frame was not written. The frame stays dirty.
+#[derive(Clone, Copy, PartialEq, Eq, Debug, Error)]
+pub enum FlushError {
+    /// The lane failed to write the page of this block.
+    #[error("a page was not written")]
+    WriteFault { tag: Tag },
+    /// The log failed, which is down from now on.
+    #[error("the log failed")]
+    LogFault,
+    /// A call of the log failed before, where the log ended here.
+    #[error("the log is down at {at}")]
+    LogDown { at: Lsn },
+    /// The page is of a position behind the log's end.
+    #[error("the log ends at {end}, before {lsn}")]
+    LogShort { lsn: Lsn, end: Lsn },
+}
+
+/// A refusal, with the token, which is as it was.
+pub struct Refused<E> {
+    pub pinned: Pinned,
+    pub why: E,
 }

@@ -3,18 +3,26 @@
 
 mod closing;
 mod errors;
-mod kit;
+mod flushing;
+mod locks;
 mod manager;
 mod met;
 mod pass;
+mod pass_memory;
 mod pinned;
+mod pool_memory;
+mod putting;
 mod reading;
-mod rooms;
+mod reads;
 mod seating;
+mod tokens;
 
-pub use errors::{ReadError, Setting, StartError, StartRefused};
+pub use content_locks::TryLock;
+pub use errors::{FlushError, ReadError, Refused, Setting, StartError, StartRefused};
 pub use frame_table::Config;
 pub use manager::Manager;
 pub use met::Met;
 pub use pass::Pass;
 pub use pinned::Pinned;
+pub use tokens::{Exclusive, Shared};
+pub use wal_flush::InsertError as PutError;

@@ -7,7 +7,7 @@ ghost use Rattle.backend_pass.specs.Starting.{start_refusal};
 use crate::closing::{join_all, place_of_first};
 use crate::errors::{Setting, StartError, StartRefused};
 use crate::pass::Pass;
-use crate::rooms::Room;
+use crate::pool_memory::PoolMemory;
 use crate::seating::seat_passes;
 use block_tag::Catalog;
 use clock_sweep::Sweep;
@@ -54,7 +54,7 @@ fn refusal(config: &Config, given: usize) -> Option<StartError>
 }
 
 impl<L: BlockLane, G: LogDevice> Manager<L, G> {
-    ghost use Rattle.backend_pass.specs.Managers.{AreAll, AreNewPasses, Opens};
+    ghost use Rattle.backend_pass.specs.Managers.{AreAll, AreNewPasses, OpenedWith};
     ghost use Rattle.backend_pass.specs.Closing.{ClosesAll};
 
     /// A manager of these relations and devices, over a log that begins at `base`, with all its passes, in the order of their numbers. A refusal gives the devices back uncalled.
@@ -72,13 +72,13 @@ impl<L: BlockLane, G: LogDevice> Manager<L, G> {
         ensures fits { IfOk result (λ _. start_refusal config (length lanes.items) ≡ None) }
         ensures refused { IfErr result (λ r. r.why ≡ unwrap_or (start_refusal config (length lanes.items)) why.Memory) }
         ensures back { IfErr result (λ r. (r.lanes.items ≡ lanes.items) × (r.log ≡ log)) }
-        ensures opened { IfOk result (λ m. Opens config catalog lanes log base m.0) }
+        ensures opened { IfOk result (λ m. OpenedWith config catalog lanes log base m.0) }
         ensures passes { IfOk result (λ m. AreNewPasses L.contents m.0 config.passes m.1.items) }
     {
         if let Some(why) = refusal(&config, lanes.len()) {
             return Err(StartRefused { why, lanes, log });
         }
-        let Ok(room) = Room::take(alloc, config.frames, config.passes) else {
+        let Ok(memory) = PoolMemory::take(alloc, config.frames, config.passes) else {
             return Err(StartRefused {
                 why: StartError::Memory,
                 lanes,
@@ -87,17 +87,17 @@ impl<L: BlockLane, G: LogDevice> Manager<L, G> {
         };
         match FrameTable::build(alloc, config, catalog, lanes, log, base) {
             Ok((table, seat)) => {
-                let Room {
+                let PoolMemory {
                     sweep,
-                    kits,
+                    memories,
                     passes,
-                } = room;
+                } = memory;
                 let manager = Manager { table, sweep };
-                let passes = seat_passes(&manager, seat, kits, passes, config.passes, base);
+                let passes = seat_passes(&manager, seat, memories, passes, config.passes, base);
                 Ok((manager, passes))
             }
             Err(BuildRefused { lanes, log }) => {
-                room.spend();
+                memory.spend();
                 Err(StartRefused {
                     why: StartError::Memory,
                     lanes,

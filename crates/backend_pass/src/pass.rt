@@ -44,9 +44,10 @@ impl Pass {
     ghost use Rattle.std.specs.Prelude.{◌≡◌, ◌≢◌, ℕ};
     ghost use Rattle.pin_core.specs.declared.view.Content.TheVariants.{Unlocked};
     ghost use Rattle.pin_core.specs.State.{link};
+    ghost use Rattle.frame_table.specs.FrameSteps.{Unpinned};
     ghost use Rattle.held_pins.specs.Tokens.{IsPinnedFor, held_at, tokens_less, tokens_of};
     ghost use Rattle.backend_pass.specs.Managers.{Belongs};
-    ghost use Rattle.backend_pass.specs.Passes.{KeepsCalls, KeepsDevices, KeepsMark, SamePass, shown_count};
+    ghost use Rattle.backend_pass.specs.Passes.{KeepsCalls, KeepsDevices, KeepsLocks, KeepsMark, SamePass, shown_count};
 
     /// The faults that the pass met.
     pub fn met(&self) -> Met
@@ -87,7 +88,11 @@ impl Pass {
         ensures census { self.new.census ≡ self.old.census }
         ensures calls { KeepsCalls self.old self.new }
         ensures mark { KeepsMark self.old self.new }
+        ensures locks { KeepsLocks self.old self.new }
         ensures devices { KeepsDevices self.old self.new }
+
+        // With the last token the pin is given up, by one step after loads of the state word.
+        ensures unpins { tokens_of (held_at self.old.tokens pinned.frame) ≡ 1 → (left : ℕ) × Unpinned pinned.frame left self.old.view self.new.view }
 
         // What the pass has at other frames is untouched, and all of it where another token of the frame is left.
         ensures others { (g : ℕ) → g ≢ pinned.frame → link self.new.view g ≡ link self.old.view g }

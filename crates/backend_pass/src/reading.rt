@@ -1,9 +1,9 @@
 //! A pass reads a block.
-ghost use Rattle.std.specs.Prelude.{◌≡◌, ◌∷◌, [], true};
+ghost use Rattle.std.specs.Prelude.{◌≡◌, ◌∷◌, [], true, is_some};
 ghost use Rattle.block_tag.specs.Names.{lane_number, names_block};
 ghost use Rattle.table_rule.specs.Blocks.{has_block};
-ghost use Rattle.frame_table.specs.Seats.{frames_of, lanes_in, relations_of};
-ghost use Rattle.held_pins.specs.Rests.{Advances, HasNoDevice, HasNoLatch, Rests, kept_of};
+ghost use Rattle.frame_table.specs.Seats.{OnlyRises, frames_of, lanes_in, relations_of};
+ghost use Rattle.held_pins.specs.Rests.{HasNoDevice, HasNoLatch, Rests, kept_by_calls, SameLocks};
 ghost use Rattle.held_pins.specs.Tokens.{IsNew};
 ghost use Rattle.buffer_frames.specs.Outside.{ring_shape};
 ghost use Rattle.buffer_frames.specs.Reads.{ReadAnswer, ReadCalls, met_read_block};
@@ -119,11 +119,12 @@ fn read_seated<L: BlockLane, G: LogDevice, R: Wait>(
     ensures latches { HasNoLatch (first_of badge.new.views) }
     ensures room { census.new.frames ≡ census.old.frames }
     ensures ring { ring_shape ring.new ≡ ring_shape ring.old }
-    ensures kept { kept_of (first_of badge.new.views) ≡ kept_of (first_of badge.old.views) }
-    ensures advances { Advances (first_of badge.old.views) (first_of badge.new.views) }
+    ensures kept { kept_by_calls (first_of badge.new.views) ≡ kept_by_calls (first_of badge.old.views) }
+    ensures advances { OnlyRises (first_of badge.old.views) (first_of badge.new.views) }
+    ensures locks { SameLocks (first_of badge.old.views) (first_of badge.new.views) }
     ensures answer { ReadAnswer L.contents manager.now.table tag held.now census.new.words (first_of badge.old.views) (first_of badge.new.views) result }
     ensures met { (first_of badge.new.views).met ≡ met_read_block result (first_of badge.old.views).met }
-    ensures calls { ReadCalls (lane_number tag (lanes_in manager.now.table)) tag (first_of badge.old.views) (first_of badge.new.views) result }
+    ensures calls { ReadCalls (lane_number tag (lanes_in manager.now.table)) tag (is_some ring.old) (first_of badge.old.views) (first_of badge.new.views) result }
 {
     let mut seat = replace(badge, Badge::blank()).into_seat::<Value<L, G>>();
     let answer = read_block(
@@ -142,18 +143,22 @@ fn read_seated<L: BlockLane, G: LogDevice, R: Wait>(
 }
 
 impl Pass {
-    ghost use Rattle.std.specs.Prelude.{◌≡◌, ◌<◌, ℕ, None, Some, Ok, Err, IfErr, IfOk, true};
+    ghost use Rattle.std.specs.Prelude.{◌≡◌, ◌<◌, ℕ, None, Some, Ok, Err, IfErr, IfOk, is_some, true};
     ghost use Rattle.block_tag.specs.Names.{names_block};
+    ghost use Rattle.pin_core.specs.declared.view.Content.TheVariants.{Unlocked};
     ghost use Rattle.pin_core.specs.State.{link};
     ghost use Rattle.table_rule.specs.Blocks.{has_block};
     ghost use Rattle.frame_table.specs.Opened.{WasSoundAtOpening};
     ghost use Rattle.frame_table.specs.Seats.{relations_of};
-    ghost use Rattle.held_pins.specs.Tokens.{IsNew, IsPinnedFor, count_of, tokens_more};
+    ghost use Rattle.held_pins.specs.Tokens.{IsNew, IsPinnedFor, count_of, held_at, tokens_less, tokens_more, tokens_of};
     ghost use Rattle.buffer_frames.specs.Outside.{ring_shape};
     ghost use Rattle.backend_pass.specs.Managers.{Belongs};
-    ghost use Rattle.backend_pass.specs.Passes.{KeepsCalls, KeepsMark, PassState, SamePass};
-    ghost use Rattle.backend_pass.specs.Reading.{ReadsBlock, met_reading, refused_at_once};
+    ghost use Rattle.backend_pass.specs.Passes.{KeepsCalls, KeepsLocks, KeepsMark, PassState, SamePass};
+    ghost use Rattle.backend_pass.specs.Reading.{IsReadUnsoundOrAllPinned, NothingFails, ReadsBlock, at_once_of, met_reading, refused_at_once};
+    ghost use Rattle.buffer_frames.specs.Loading.{WasUnsoundAtOpening};
     ghost use Rattle.backend_pass.specs.declared.errors.ReadError.{ReadError};
+    ghost use Rattle.backend_pass.specs.declared.errors.ReadError.TheVariants.{Unsound};
+    ghost use Rattle.block_tag.specs.declared.tag.Tag.{Tag};
 
     /// Reads a block that callers have no token of.
     fn read_new<L: BlockLane, G: LogDevice, R: Wait>(
@@ -172,9 +177,11 @@ impl Pass {
         ensures same { SamePass self.old self.new }
         ensures calls { KeepsCalls self.old self.new }
         ensures mark { KeepsMark self.old self.new }
+        ensures locks { KeepsLocks self.old self.new }
         ensures ring { ring_shape ring.new ≡ ring_shape ring.old }
-        ensures answer { ReadsBlock L.contents manager.now.table tag self.old self.new result }
+        ensures answer { ReadsBlock L.contents manager.now.table tag (is_some ring.old) self.old self.new result }
         ensures met { self.new.view.met ≡ met_reading result self.old.view.met }
+        ensures back { IfOk result (λ pinned. tokens_less pinned.frame self.new.tokens ≡ self.old.tokens) }
     {
         match read_seated(
             manager,
@@ -213,23 +220,35 @@ impl Pass {
         ensures same { SamePass self.old self.new }
         ensures calls { KeepsCalls self.old self.new }
         ensures mark { KeepsMark self.old self.new }
+        ensures locks { KeepsLocks self.old self.new }
         ensures ring { ring_shape ring.new ≡ ring_shape ring.old }
         ensures met { self.new.view.met ≡ met_reading result self.old.view.met }
 
-        // A block past the end and one token too many are refused, in this order, before anything is looked at, and nothing else is refused so.
-        ensures at_once { (why : ReadError) → refused_at_once (relations_of manager.now.table) self.old.tokens tag ≡ Some why → (result ≡ Err why) × (self.new ≡ self.old) }
+        // A block past the end and one token too many are refused, in this order, before anything is looked at, and nothing else is refused so. The pass and the ring are as they were.
+        ensures exact { at_once_of result ≡ refused_at_once (relations_of manager.now.table) self.old.tokens tag }
+        ensures at_once { (why : ReadError) → refused_at_once (relations_of manager.now.table) self.old.tokens tag ≡ Some why → (self.new ≡ self.old) × (ring.new ≡ ring.old) }
 
-        // A further token of a block that is pinned changes nothing but the count of its tokens.
-        ensures again { refused_at_once (relations_of manager.now.table) self.old.tokens tag ≡ None → (f : ℕ) → IsPinnedFor tag f self.old.tokens → (result ≡ Ok (record { frame = f; tag = tag; hit = true })) × (self.new ≡ record self.old { tokens = tokens_more f self.old.tokens }) }
+        // A further token of a block that is pinned changes nothing but the count of its tokens, and leaves the ring as it was.
+        ensures again { refused_at_once (relations_of manager.now.table) self.old.tokens tag ≡ None → (f : ℕ) → IsPinnedFor tag f self.old.tokens → (result ≡ Ok (record { frame = f; tag = tag; hit = true })) × (self.new ≡ record self.old { tokens = tokens_more f self.old.tokens }) × (ring.new ≡ ring.old) }
 
         // Any other block is looked up.
-        ensures new { refused_at_once (relations_of manager.now.table) self.old.tokens tag ≡ None → IsNew tag self.old.tokens → ReadsBlock L.contents manager.now.table tag self.old self.new result }
+        ensures new { refused_at_once (relations_of manager.now.table) self.old.tokens tag ≡ None → IsNew tag self.old.tokens → ReadsBlock L.contents manager.now.table tag (is_some ring.old) self.old self.new result }
+
+        // Where nothing fails the block is read, unless each frame is pinned or its page isn't sound.
+        ensures complete { refused_at_once (relations_of manager.now.table) self.old.tokens tag ≡ None → NothingFails L.contents manager.now.table self.old self.new → IsReadUnsoundOrAllPinned result }
+
+        // It is called unsound only where it was unsound as the table was opened, if that is known.
+        ensures unsound { (failed : Tag) → result ≡ Err (Unsound failed) → (failed ≡ tag) × WasUnsoundAtOpening L.contents manager.now.table tag }
 
         ensures tag { IfOk result (λ pinned. pinned.tag ≡ tag) }
         ensures pinned { IfOk result (λ pinned. IsPinnedFor tag pinned.frame self.new.tokens) }
         ensures seen { IfOk result (λ pinned. (link self.new.view pinned.frame).seen_valid ≡ true) }
         ensures sound { IfOk result (λ _. WasSoundAtOpening L.contents manager.now.table tag) }
         ensures refused { IfErr result (λ _. self.new.tokens ≡ self.old.tokens) }
+
+        // The token may be given back at once, which leaves the tokens of before.
+        ensures back { IfOk result (λ pinned. tokens_less pinned.frame self.new.tokens ≡ self.old.tokens) }
+        ensures last { IfOk result (λ pinned. tokens_of (held_at self.new.tokens pinned.frame) ≡ 1 → (link self.new.view pinned.frame).content ≡ Unlocked) }
     {
         let blocks = manager.table.blocks(&tag);
         if tag.block >= blocks {

@@ -3,14 +3,14 @@ ghost use Rattle.std.specs.Prelude.{◌≡◌, ◌≢◌, ◌<◌, ◌≤◌, []
 ghost use Rattle.table_rule.specs.Shows.{starting};
 ghost use Rattle.frame_table.specs.FrameSteps.{kept_view, split_view};
 ghost use Rattle.frame_table.specs.Seats.{Fits, base_of, frames_of};
-ghost use Rattle.backend_pass.specs.Kits.{AreFresh};
+ghost use Rattle.backend_pass.specs.PassMemories.{AreForFrames};
 ghost use Rattle.backend_pass.specs.Managers.{AreNewPasses};
 ghost use Rattle.backend_pass.specs.Passes.{IsFreshView};
 
-use crate::kit::Kit;
 use crate::manager::Manager;
 use crate::met::{Met, Shown};
 use crate::pass::Pass;
+use crate::pass_memory::PassMemory;
 use atomic_table::{Badge, Seat};
 use crossbeam_utils::CachePadded;
 use frame_table::Value;
@@ -24,14 +24,14 @@ impl Pass {
     fn seated<L: BlockLane, G: LogDevice>(
         number: u32,
         seat: Seat<Value<L, G>, View>,
-        kit: Kit,
+        memory: PassMemory,
         base: u64,
     ) -> Pass
         requires hand { seat.me.1 ≡ [] }
         requires fresh { IsFreshView number seat.id base seat.me.0 }
-        ensures { result ≡ record { table = seat.table_id; id = seat.id; view = seat.me.0; tokens = []; census = kit.census } }
+        ensures { result ≡ record { table = seat.table_id; id = seat.id; view = seat.me.0; tokens = []; census = memory.census } }
     {
-        let Kit { held, census, page } = kit;
+        let PassMemory { held, census, page } = memory;
         let met = Met {
             reads: 0,
             writes: 0,
@@ -52,7 +52,7 @@ impl Pass {
         &mut self,
         manager: &Manager<L, G>,
         number: u32,
-        kit: Kit,
+        memory: PassMemory,
         base: u64,
     ) -> Pass
         requires first { (self.old.table ≡ manager.now.table.table.shared.table_id) × (self.old.id ≡ 0) }
@@ -61,12 +61,12 @@ impl Pass {
         ensures first { self.new ≡ record self.old { view = kept_view self.old.view } }
         ensures table { result.table ≡ self.old.table }
         ensures view { result.view ≡ split_view base self.old.view }
-        ensures fresh { (result.tokens ≡ []) × (result.census ≡ kit.census) }
+        ensures fresh { (result.tokens ≡ []) × (result.census ≡ memory.census) }
     {
         let mut seat = replace(&mut self.seat, Badge::blank()).into_seat::<Value<L, G>>();
         let other = manager.table.split(&mut seat);
         self.seat = seat.into_badge();
-        Pass::seated(number, other, kit, base)
+        Pass::seated(number, other, memory, base)
     }
 }
 
@@ -74,7 +74,7 @@ impl Pass {
 pub(crate) fn seat_passes<L: BlockLane, G: LogDevice>(
     manager: &Manager<L, G>,
     seat: Seat<Value<L, G>, View>,
-    mut kits: Vec<Kit>,
+    mut memories: Vec<PassMemory>,
     mut passes: Vec<Pass>,
     count: u32,
     base: u64,
@@ -82,16 +82,16 @@ pub(crate) fn seat_passes<L: BlockLane, G: LogDevice>(
     requires seat { Fits manager.now.table seat × (seat.id ≡ 0) × (seat.me ≡ (starting manager.now.table.table.shared.key, [])) }
     requires base { base ≡ base_of manager.now.table }
     requires count { (1 ≤ count) × (count ≡ manager.now.table.table.shared.key.config.passes) }
-    requires kits { (vec_len kits ≡ count) × AreFresh (frames_of manager.now.table) kits.items }
+    requires memories { (vec_len memories ≡ count) × AreForFrames (frames_of manager.now.table) memories.items }
     requires room { (passes.items ≡ []) × (count ≤ vec_capacity passes) }
     ensures { AreNewPasses L.contents manager.now count result.items }
 {
-    let mut first = Pass::seated(0, seat, kits.take_last(), base);
+    let mut first = Pass::seated(0, seat, memories.take_last(), base);
     for number in 1..count {
-        let pass = first.split(manager, number, kits.take_last(), base);
+        let pass = first.split(manager, number, memories.take_last(), base);
         passes.push_reserved(pass);
     }
-    kits.destroy_empty();
+    memories.destroy_empty();
     passes.push_reserved(first);
     passes.rotate_right(1);
     passes

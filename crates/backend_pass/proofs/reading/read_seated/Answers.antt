@@ -1,9 +1,10 @@
 use Rattle.std.proofs.Common.{◌≡◌, ◌∙◌, ap, subst}
+use Rattle.std.specs.Prelude.{is_some}
 use Rattle.atomic_table.specs.declared.badge.Badge.{Badge}
 use Rattle.block_tag.specs.Names.{lane_number}
 use Rattle.pin_core.specs.declared.view.View.{View}
-use Rattle.frame_table.specs.Seats.{lanes_in}
-use Rattle.held_pins.specs.Rests.{Advances, HasNoDevice, HasNoLatch, LinksRest, kept_of}
+use Rattle.frame_table.specs.Seats.{OnlyRises, lanes_in}
+use Rattle.held_pins.specs.Rests.{HasNoDevice, HasNoLatch, LinksRest, kept_by_calls, SameLocks}
 use Rattle.buffer_frames.specs.Reads.{ReadAnswer, ReadCalls, met_read_block}
 use Rattle.backend_pass.specs.Passes.{first_of}
 use Rattle.backend_pass.proofs.Seated.{moved, moved_one, one_view, view_of_seat}
@@ -45,12 +46,12 @@ returns-clause-latches g c = moved_one HasNoLatch (first_of c.into_badge.result.
 pub returns-clause-kept : goal.returns-clause-kept
 returns-clause-kept g c =
     let before = view_of_seat c.args.badge.now c.replace.result c.into_seat-seat.result.me.0 c.replace.ensures.value c.into_seat-seat.ensures.2 in
-    moved (λ v w. kept_of w ≡ kept_of v) (first_of c.args.badge.now.views) (first_of c.into_badge.result.views) c.into_seat-seat.result.me.0 c.read_block-answer.new.seat.me.0 before (ap first_of c.into_badge.ensures.2) c.read_block-answer.ensures.kept
+    moved (λ v w. kept_by_calls w ≡ kept_by_calls v) (first_of c.args.badge.now.views) (first_of c.into_badge.result.views) c.into_seat-seat.result.me.0 c.read_block-answer.new.seat.me.0 before (ap first_of c.into_badge.ensures.2) c.read_block-answer.ensures.kept
 
 pub returns-clause-advances : goal.returns-clause-advances
 returns-clause-advances g c =
     let before = view_of_seat c.args.badge.now c.replace.result c.into_seat-seat.result.me.0 c.replace.ensures.value c.into_seat-seat.ensures.2 in
-    moved Advances (first_of c.args.badge.now.views) (first_of c.into_badge.result.views) c.into_seat-seat.result.me.0 c.read_block-answer.new.seat.me.0 before (ap first_of c.into_badge.ensures.2) c.read_block-answer.ensures.advances
+    moved OnlyRises (first_of c.args.badge.now.views) (first_of c.into_badge.result.views) c.into_seat-seat.result.me.0 c.read_block-answer.new.seat.me.0 before (ap first_of c.into_badge.ensures.2) c.read_block-answer.ensures.advances
 
 pub returns-clause-answer : goal.returns-clause-answer
 returns-clause-answer g c =
@@ -66,5 +67,10 @@ returns-clause-met g c =
 pub returns-clause-calls : goal.returns-clause-calls
 returns-clause-calls g c =
     let before = view_of_seat c.args.badge.now c.replace.result c.into_seat-seat.result.me.0 c.replace.ensures.value c.into_seat-seat.ensures.2 in
-    moved (λ v w. ReadCalls (lane_number c.args.tag (lanes_in c.args.manager.now.table)) c.args.tag v w c.read_block-answer.result)
+    moved (λ v w. ReadCalls (lane_number c.args.tag (lanes_in c.args.manager.now.table)) c.args.tag (is_some c.args.ring.now) v w c.read_block-answer.result)
     (first_of c.args.badge.now.views) (first_of c.into_badge.result.views) c.into_seat-seat.result.me.0 c.read_block-answer.new.seat.me.0 before (ap first_of c.into_badge.ensures.2) c.read_block-answer.ensures.calls
+
+pub returns-clause-locks : goal.returns-clause-locks
+returns-clause-locks g c =
+    let before = view_of_seat c.args.badge.now c.replace.result c.into_seat-seat.result.me.0 c.replace.ensures.value c.into_seat-seat.ensures.2 in
+    moved SameLocks (first_of c.args.badge.now.views) (first_of c.into_badge.result.views) c.into_seat-seat.result.me.0 c.read_block-answer.new.seat.me.0 before (ap first_of c.into_badge.ensures.2) c.read_block-answer.ensures.locks

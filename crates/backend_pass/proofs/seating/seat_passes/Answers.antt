@@ -5,7 +5,7 @@ use Rattle.pin_core.specs.State.{first_view}
 use Rattle.table_rule.specs.declared.value.Value.{Value}
 use Rattle.frame_table.specs.FrameSteps.{kept_view}
 use Rattle.frame_table.specs.Seats.{frames_of}
-use Rattle.backend_pass.specs.Kits.{AreFresh}
+use Rattle.backend_pass.specs.PassMemories.{AreForFrames}
 use Rattle.backend_pass.specs.Managers.{AreNewPasses, IsNewPass}
 use Rattle.backend_pass.specs.Passes.{PassState}
 use Rattle.backend_pass.proofs.Starting.{OthersAreNew, all_new, first_counted, first_fresh, fresh_front, fresh_last, others_none, others_with, rotated, split_of_first}
@@ -22,11 +22,11 @@ loop-number-init g c =
     let k = c.args.manager.now.table.table.shared.key in
     let e = c.seated-first.ensures in
     let len = c.take_last.ensures.len in
-    let count = c.requires.kits.0 in
-    let fresh : AreFresh (frames_of c.args.manager.now.table) (c.take_last.new.self.items ++ c.take_last.result ∷ []) = subst (AreFresh (frames_of c.args.manager.now.table)) c.take_last.ensures.items c.requires.kits.1 in
+    let count = c.requires.memories.0 in
+    let fresh : AreForFrames (frames_of c.args.manager.now.table) (c.take_last.new.self.items ++ c.take_last.result ∷ []) = subst (AreForFrames (frames_of c.args.manager.now.table)) c.take_last.ensures.items c.requires.memories.1 in
     let none = ap (λ (l : List PassState). length l) c.requires.room.0 in
     let ok = c.args.passes.ok in record {
-      kits = omega arith;
+      memories = omega arith;
       fresh = fresh_front (frames_of c.args.manager.now.table) c.take_last.new.self.items c.take_last.result fresh;
       table = ap (λ (p : PassState). p.table) e ∙ c.requires.seat.0;
       id = ap (λ (p : PassState). p.id) e ∙ c.requires.seat.1;
@@ -40,10 +40,9 @@ loop-number-init g c =
 
 pub loop-number-preserved : goal.loop-number-preserved
 loop-number-preserved g c =
-    let k = c.args.manager.now.table.table.shared.key in
     let i = c.loop-number.invariant in
     let s = c.split-pass.ensures in
-    let kits = i.kits in
+    let memories = i.memories in
     let counted = i.counted in
     let wide = i.wide in
     let len = c.take_last-in-loop-number.ensures.len in
@@ -51,10 +50,10 @@ loop-number-preserved g c =
     let room = c.push_reserved.ensures.capacity in
     let ok = c.loop-number.passes.ok in
     let number : c.loop-number.number ≡ length c.loop-number.passes.items + 1 = omega (arith, ok.0) in
-    let fresh : AreFresh (frames_of c.args.manager.now.table) (c.take_last-in-loop-number.new.self.items ++ c.take_last-in-loop-number.result ∷ []) = subst (AreFresh (frames_of c.args.manager.now.table)) c.take_last-in-loop-number.ensures.items i.fresh in
-    let new : IsNewPass {L = g.row.L.Denot} {G = g.row.G.Denot} g.L.BlockLane.contents c.args.manager.now c.args.count (length c.loop-number.passes.items + 1) c.split-pass.result = split_of_first {L = g.row.L.Denot} {G = g.row.G.Denot} g.L.BlockLane.contents c.args.manager.now c.args.count c.split-pass.result c.loop-number.first.view c.args.base c.loop-number.number (length c.loop-number.passes.items) k.config.frames 128 k.config.lanes s.view i.view number c.requires.base
+    let fresh : AreForFrames (frames_of c.args.manager.now.table) (c.take_last-in-loop-number.new.self.items ++ c.take_last-in-loop-number.result ∷ []) = subst (AreForFrames (frames_of c.args.manager.now.table)) c.take_last-in-loop-number.ensures.items i.fresh in
+    let new : IsNewPass {L = g.row.L.Denot} {G = g.row.G.Denot} g.L.BlockLane.contents c.args.manager.now c.args.count (length c.loop-number.passes.items + 1) c.split-pass.result = split_of_first {L = g.row.L.Denot} {G = g.row.G.Denot} g.L.BlockLane.contents c.args.manager.now c.args.count c.split-pass.result c.loop-number.first.view c.args.base c.loop-number.number (length c.loop-number.passes.items) s.view i.view number c.requires.base
     (s.table ∙ i.table) s.fresh.0 (s.fresh.1 ∙ fresh_last (frames_of c.args.manager.now.table) c.take_last-in-loop-number.new.self.items c.take_last-in-loop-number.result fresh) in record {
-      kits = omega arith;
+      memories = omega arith;
       fresh = fresh_front (frames_of c.args.manager.now.table) c.take_last-in-loop-number.new.self.items c.take_last-in-loop-number.result fresh;
       table = ap (λ (p : PassState). p.table) s.first ∙ i.table;
       id = ap (λ (p : PassState). p.id) s.first ∙ i.id;
@@ -75,8 +74,7 @@ returns g c =
     let within = c.loop-number.auto.number-end in
     let some = c.requires.count.0 in
     let number : c.loop-number.number ≡ c.args.count = omega arith in
-    let k = c.args.manager.now.table.table.shared.key in
-    let first = first_counted {L = g.row.L.Denot} {G = g.row.G.Denot} g.L.BlockLane.contents c.args.manager.now c.args.count c.loop-number.first c.args.base k.config.frames 128 k.config.lanes c.loop-number.number i.view number c.requires.base i.table i.tokens i.census in
+    let first = first_counted {L = g.row.L.Denot} {G = g.row.G.Denot} g.L.BlockLane.contents c.args.manager.now c.args.count c.loop-number.first c.args.base c.loop-number.number i.view number c.requires.base i.table i.tokens i.census in
     let long = c.push_reserved-2.ensures.len in
     let wide : vec_len c.push_reserved-2.new.self ≡ length c.loop-number.passes.items + 1 = omega (arith, ok.0) in
     let back = c.rotate_right.ensures.items ∙ ap (λ (l : List PassState). drop (vec_len c.push_reserved-2.new.self - 1) l ++ take (vec_len c.push_reserved-2.new.self - 1) l) c.push_reserved-2.ensures.items

@@ -3,14 +3,14 @@ use Rattle.std.specs.Prelude.{vec_capacity}
 use Rattle.clock_sweep.specs.CensusList.{new_census}
 use Rattle.frame_table.specs.Seats.{frames_of}
 use Rattle.held_pins.specs.Tokens.{no_tokens}
-use Rattle.backend_pass.specs.Kits.{AreFresh}
+use Rattle.backend_pass.specs.PassMemories.{AreForFrames}
 use Rattle.backend_pass.proofs.Starting.{OthersAreNew, first_at}
 use Rattle.backend_pass.proofs.seating.seat_passes.Given as goal
 
 abbrev pub invariant-loop-number : goal.invariant-loop-number
 invariant-loop-number g l = record {
-  kits : vec_len l.kits + l.number ≡ l.fn.count;
-  fresh : AreFresh (frames_of l.fn.manager.table) l.kits.items;
+  memories : vec_len l.memories + l.number ≡ l.fn.count;
+  fresh : AreForFrames (frames_of l.fn.manager.table) l.memories.items;
   table : l.first.table ≡ l.fn.manager.table.table.shared.table_id;
   id : l.first.id ≡ 0;
   view : l.first.view ≡ first_at l.fn.base l.fn.manager.table.table.shared.key.config.frames 128 l.fn.manager.table.table.shared.key.config.lanes l.number;

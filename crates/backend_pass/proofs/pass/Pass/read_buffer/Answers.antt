@@ -1,9 +1,14 @@
-use Rattle.std.proofs.Common.{◌≡◌, ◌∙◌, ℕ, Ok, true, ap, refl, sym, subst}
-use Rattle.held_pins.specs.Tokens.{IsNew, IsPinnedFor, Tokens, tokens_more}
-use Rattle.held_pins.specs.Rests.{Rests}
+use Rattle.std.proofs.Common.{◌≡◌, ◌∙◌, ℕ, Ok, true, ap, refl, sym, subst, ◌<◌, arith}
+use Rattle.held_pins.specs.Tokens.{IsNew, IsPinnedFor, Tokens, count_of, tokens_more}
+use Rattle.held_pins.specs.Rests.{Rests, SameLocks}
 use Rattle.backend_pass.specs.Managers.{Belongs}
 use Rattle.backend_pass.specs.Passes.{PassState, first_of}
-use Rattle.backend_pass.proofs.BlockReads.{frame_again, not_both, pinned_more, pinned_read, rests_again}
+use Rattle.backend_pass.proofs.BlockReads.{frame_again, not_both, pinned_more, pinned_read, rests_again, unlocked_read}
+use Rattle.held_pins.proofs.HeldLists.{above_one}
+use Rattle.frame_table.specs.Seats.{relations_of}
+use Rattle.frame_table.proofs.Rising.{rises_none}
+use Rattle.held_pins.proofs.Keeping.{same_locks_none}
+use Rattle.backend_pass.proofs.Complete.{at_once_none, not_at_once, read_complete, unsound_was}
 use Rattle.backend_pass.proofs.Releasing.{AreHeld, belongs_held, held_again}
 use Rattle.backend_pass.proofs.pass.Pass.read_buffer.Goals as goal
 
@@ -11,25 +16,26 @@ pub returns-in_default-clause-again : goal.returns-in_default-clause-again
 returns-in_default-clause-again g c none f pinned = absurd (not_both c.args.tag f c.self.inside.held (subst (λ (p : PassState). IsPinnedFor c.args.tag f p.tokens) (sym c.self.view_is) pinned) c.in_default.ensures.new)
 
 pub returns-in_default-clause-pinned : goal.returns-in_default-clause-pinned
-returns-in_default-clause-pinned g c = pinned_read {L = g.row.L.Denot} {G = g.row.G.Denot} g.L.BlockLane.contents c.args.manager.now.table c.args.tag _ c.read_new.new.self c.read_new.result c.read_new.ensures.answer
+returns-in_default-clause-pinned g c = pinned_read {L = g.row.L.Denot} {G = g.row.G.Denot} g.L.BlockLane.contents c.args.manager.now.table c.args.tag _ _ c.read_new.new.self c.read_new.result c.read_new.ensures.answer
 
 pub invariant_of-self : goal.invariant_of-self
 invariant_of-self g c =
     let i = c.self.invariant in
-    (i.0, subst (λ (t : Tokens). Rests t (first_of c.self.inside.seat.views)) (sym c.add_token.ensures) (rests_again c.in-Some.frame c.self.inside.held (first_of c.self.inside.seat.views) i.1), i.2, i.3)
+    (i.0, subst (λ (t : Tokens). Rests t (first_of c.self.inside.seat.views)) (sym c.add_token.ensures.tokens) (rests_again c.in-Some.frame c.self.inside.held (first_of c.self.inside.seat.views) i.1), i.2, i.3)
 
 pub returns-clause-belongs : goal.returns-clause-belongs
 returns-clause-belongs g c =
-    belongs_held {L = g.row.L.Denot} {G = g.row.G.Denot} g.L.BlockLane.contents c.args.manager.now _ _ refl refl refl (subst (λ (t : Tokens). AreHeld c.self.inside.held t) (sym c.add_token.ensures) (held_again c.in-Some.frame c.self.inside.held))
+    belongs_held {L = g.row.L.Denot} {G = g.row.G.Denot} g.L.BlockLane.contents c.args.manager.now _ _ refl refl refl (rises_none (first_of c.self.inside.seat.views)).end_seen (subst (λ (t : Tokens). AreHeld c.self.inside.held t) (sym c.add_token.ensures.tokens) (held_again c.in-Some.frame c.self.inside.held))
     (subst (Belongs {L = g.row.L.Denot} {G = g.row.G.Denot} g.L.BlockLane.contents c.args.manager.now) (sym c.self.view_is) c.requires.belongs)
 
 pub returns-clause-again : goal.returns-clause-again
 returns-clause-again g c none f pinned =
     let here = subst (λ (p : PassState). IsPinnedFor c.args.tag c.in-Some.frame p.tokens) c.self.view_is c.in-Some.ensures.pinned in
     let same : c.in-Some.frame ≡ f = frame_again {L = g.row.L.Denot} {G = g.row.G.Denot} g.L.BlockLane.contents c.args.manager.now c.args.self.now c.args.tag c.in-Some.frame f here pinned c.requires.belongs in
-    let tokens : c.add_token.new.self ≡ tokens_more f c.self.inside.held = c.add_token.ensures ∙ ap (λ (x : ℕ). tokens_more x c.self.inside.held) same in (
+    let tokens : c.add_token.new.self ≡ tokens_more f c.self.inside.held = c.add_token.ensures.tokens ∙ ap (λ (x : ℕ). tokens_more x c.self.inside.held) same in (
       ap (λ (x : ℕ). Ok (record { frame = x; tag = c.args.tag; hit = true })) same,
       again _ f c.self.view_is tokens,
+      refl,
     )
   where
     again : (p : PassState) (f : ℕ) {q : PassState} {t : Tokens} → p ≡ q → t ≡ tokens_more f p.tokens → record p { tokens = t } ≡ record q { tokens = tokens_more f q.tokens }
@@ -39,4 +45,26 @@ pub returns-clause-new : goal.returns-clause-new
 returns-clause-new g c none new = absurd (not_both c.args.tag c.in-Some.frame c.self.inside.held c.in-Some.ensures.pinned (subst (λ (p : PassState). IsNew c.args.tag p.tokens) (sym c.self.view_is) new))
 
 pub returns-clause-pinned : goal.returns-clause-pinned
-returns-clause-pinned g c = subst (IsPinnedFor c.args.tag c.in-Some.frame) (sym c.add_token.ensures) (pinned_more c.args.tag c.in-Some.frame c.self.inside.held c.in-Some.ensures.pinned)
+returns-clause-pinned g c = subst (IsPinnedFor c.args.tag c.in-Some.frame) (sym c.add_token.ensures.tokens) (pinned_more c.args.tag c.in-Some.frame c.self.inside.held c.in-Some.ensures.pinned)
+
+pub returns-clause-locks : goal.returns-clause-locks
+returns-clause-locks g c = subst (λ (p : PassState). SameLocks p.view (first_of c.self.inside.seat.views)) c.self.view_is (same_locks_none (first_of c.self.inside.seat.views))
+
+pub returns-in_default-clause-complete : goal.returns-in_default-clause-complete
+returns-in_default-clause-complete g c none nothing =
+    read_complete {L = g.row.L.Denot} {G = g.row.G.Denot} g.L.BlockLane.contents c.args.manager.now.table c.args.tag _ _ c.read_new.new.self c.read_new.result c.read_new.ensures.met c.read_new.ensures.answer nothing
+
+pub returns-in_default-clause-exact : goal.returns-in_default-clause-exact
+returns-in_default-clause-exact g c = at_once_none {L = g.row.L.Denot} {G = g.row.G.Denot} g.L.BlockLane.contents c.args.manager.now.table c.args.tag _ _ c.read_new.new.self c.read_new.result c.read_new.ensures.answer ∙ sym (not_at_once (relations_of c.args.manager.now.table) c.args.self.now.tokens c.args.tag c.blocks-blocks.result c.blocks-blocks.ensures.count (omega arith) (subst (λ (p : PassState). count_of p.tokens < 8) c.self.view_is (c.is_full.ensures.room c.if-is_full.false)))
+
+pub returns-clause-back : goal.returns-clause-back
+returns-clause-back g c = c.add_token.ensures.back ∙ ap (λ (p : PassState). p.tokens) c.self.view_is
+
+pub returns-in_default-clause-last : goal.returns-in_default-clause-last
+returns-in_default-clause-last g c = unlocked_read {L = g.row.L.Denot} {G = g.row.G.Denot} g.L.BlockLane.contents c.args.manager.now.table c.args.tag _ _ c.read_new.new.self c.read_new.result c.read_new.ensures.answer
+
+pub returns-clause-last : goal.returns-clause-last
+returns-clause-last g c one = absurd (above_one _ c.add_token.ensures.several one)
+
+pub returns-in_default-clause-unsound : goal.returns-in_default-clause-unsound
+returns-in_default-clause-unsound g c failed e = unsound_was {L = g.row.L.Denot} {G = g.row.G.Denot} g.L.BlockLane.contents c.args.manager.now.table c.args.tag failed _ _ c.read_new.new.self c.read_new.result c.read_new.ensures.answer e

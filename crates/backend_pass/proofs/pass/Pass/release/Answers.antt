@@ -4,12 +4,14 @@ use Rattle.pin_core.specs.declared.view.Content.TheVariants.{Unlocked}
 use Rattle.pin_core.specs.declared.view.View.{View}
 use Rattle.pin_core.specs.State.{link}
 use Rattle.frame_table.specs.Seats.{MayUnpin}
+use Rattle.frame_table.proofs.Rising.{rises_none}
 use Rattle.held_pins.specs.Tokens.{Tokens, held_at, tokens_of}
-use Rattle.held_pins.specs.Rests.{Rests}
+use Rattle.held_pins.specs.Rests.{Rests, SameLocks}
 use Rattle.held_pins.proofs.HeldLists.{above_one}
+use Rattle.held_pins.proofs.Keeping.{same_locks_at, same_locks_none}
 use Rattle.backend_pass.specs.Managers.{Belongs}
 use Rattle.backend_pass.specs.Passes.{IsNumbered, PassState, first_of}
-use Rattle.backend_pass.proofs.Releasing.{AreHeld, Unpins, belongs_held, held_last, held_several, may_unpin, numbered_self, rests_fewer, rests_unpinned, same_touched, shown_self, unpins_at}
+use Rattle.backend_pass.proofs.Releasing.{AreHeld, Unpins, belongs_held, belongs_touched, held_last, held_several, may_unpin, numbered_self, rests_fewer, rests_unpinned, same_touched, shown_self, unpins_at}
 use Rattle.backend_pass.proofs.Seated.{one_view, same_from, view_of_seat}
 use Rattle.backend_pass.proofs.pass.Pass.release.Goals as goal
 
@@ -19,7 +21,7 @@ invariant_of-self g c = let i = c.self.invariant in
 
 pub returns-in_default-clause-belongs : goal.returns-in_default-clause-belongs
 returns-in_default-clause-belongs g c =
-    belongs_held {L = g.row.L.Denot} {G = g.row.G.Denot} g.L.BlockLane.contents c.args.manager.now _ _ refl refl refl (subst (λ (t : Tokens). AreHeld c.self.inside.held t) (sym c.take_token.ensures.tokens) (held_several c.args.pinned.frame c.self.inside.held (above_one _ c.in_default.ensures.others.0)))
+    belongs_held {L = g.row.L.Denot} {G = g.row.G.Denot} g.L.BlockLane.contents c.args.manager.now _ _ refl refl refl (rises_none (first_of c.self.inside.seat.views)).end_seen (subst (λ (t : Tokens). AreHeld c.self.inside.held t) (sym c.take_token.ensures.tokens) (held_several c.args.pinned.frame c.self.inside.held (above_one _ c.in_default.ensures.others.0)))
     (subst (Belongs {L = g.row.L.Denot} {G = g.row.G.Denot} g.L.BlockLane.contents c.args.manager.now) (sym c.self.view_is) c.requires.belongs)
 
 pub unpin-requires-clause-pinned : goal.unpin-requires-clause-pinned
@@ -60,7 +62,7 @@ returns-clause-belongs g c =
     let u : Unpins f (first_of c.self.inside.seat.views) (first_of c.into_badge.result.views) = unpins_at f c.in-Some.pin.frame _ _ _ _ last.0 before after record { touches = c.unpin.ensures.touches; marks = c.unpin.ensures.marks; unpinned = c.unpin.ensures.unpinned } in
     let none = subst (λ (t : Tokens). held_at t f ≡ None) c.take_token.ensures.tokens last.2 in
     let table = c.into_badge.ensures.0 ∙ c.unpin.ensures.seat.table ∙ c.into_seat-seat.ensures.0 ∙ ap (λ (b : Badge View). b.table_id) c.replace.ensures.value in
-    belongs_held {L = g.row.L.Denot} {G = g.row.G.Denot} g.L.BlockLane.contents c.args.manager.now _ _ table refl (ap (λ (x : View). x.front) u.touches.self) (subst (λ (t : Tokens). AreHeld c.self.inside.held t) (sym c.take_token.ensures.tokens) (held_last f c.self.inside.held none))
+    belongs_touched {L = g.row.L.Denot} {G = g.row.G.Denot} g.L.BlockLane.contents c.args.manager.now _ _ f table refl u.touches (subst (λ (t : Tokens). AreHeld c.self.inside.held t) (sym c.take_token.ensures.tokens) (held_last f c.self.inside.held none))
     (subst (Belongs {L = g.row.L.Denot} {G = g.row.G.Denot} g.L.BlockLane.contents c.args.manager.now) (sym c.self.view_is) c.requires.belongs)
 
 pub returns-clause-same : goal.returns-clause-same
@@ -75,3 +77,14 @@ returns-clause-same g c =
 
 pub returns-clause-left : goal.returns-clause-left
 returns-clause-left g c more = absurd (more (subst (λ (p : PassState). tokens_of (held_at p.tokens c.args.pinned.frame) ≡ 1) c.self.view_is c.in-Some.ensures.last.1))
+
+pub returns-in_default-clause-locks : goal.returns-in_default-clause-locks
+returns-in_default-clause-locks g c = subst (λ (p : PassState). SameLocks p.view (first_of c.self.inside.seat.views)) c.self.view_is (same_locks_none (first_of c.self.inside.seat.views))
+
+pub returns-clause-locks : goal.returns-clause-locks
+returns-clause-locks g c =
+    let f = c.args.pinned.frame in
+    let before = view_of_seat c.self.inside.seat c.replace.result c.into_seat-seat.result.me.0 c.replace.ensures.value c.into_seat-seat.ensures.2 in
+    let after = ap first_of c.into_badge.ensures.2 in
+    let u : Unpins f (first_of c.self.inside.seat.views) (first_of c.into_badge.result.views) = unpins_at f c.in-Some.pin.frame _ _ _ _ c.in-Some.ensures.last.0 before after record { touches = c.unpin.ensures.touches; marks = c.unpin.ensures.marks; unpinned = c.unpin.ensures.unpinned } in
+    subst (λ (p : PassState). SameLocks p.view (first_of c.into_badge.result.views)) c.self.view_is (same_locks_at f (first_of c.self.inside.seat.views) (first_of c.into_badge.result.views) u.touches.others u.unpinned.content)

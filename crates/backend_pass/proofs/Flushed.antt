@@ -1,0 +1,90 @@
+-- A pass writes the page of a frame.
+use Rattle.std.proofs.Common.{◌≡◌, ◌≢◌, ◌<◌, ◌+◌, ◌^◌, ℕ, List, Bool, Option, Some, None, Result, Ok, Err, refl, sym, ap, ◌∙◌, subst, true, false, arith}
+use Rattle.std.specs.Prelude.{IsOk, if◌then◌else◌}
+use Rattle.std.proofs.lemmas.Grind.{common_steps}
+use Rattle.block_tag.specs.declared.catalogue.RelEntry.{RelEntry}
+use Rattle.block_tag.specs.declared.tag.Tag.{Tag}
+use Rattle.block_tag.specs.Names.{names_block, packed_tag, tag_if_named, unpacked_tag}
+use Rattle.segment_store.specs.Contents.{Pages}
+use Rattle.pin_core.specs.declared.view.Content.TheVariants.{Unlocked}
+use Rattle.pin_core.specs.declared.view.Met.{Met}
+use Rattle.pin_core.specs.declared.view.View.{View}
+use Rattle.pin_core.specs.State.{link}
+use Rattle.table_rule.specs.Blocks.{has_block, has_named, is_block}
+use Rattle.frame_table.specs.declared.table.FrameTable.{FrameTable}
+use Rattle.frame_table.specs.Seats.{frames_of, relations_of}
+use Rattle.held_pins.specs.Rests.{SameLocks}
+use Rattle.held_pins.specs.Tokens.{IsPinnedFor}
+use Rattle.buffer_frames.specs.Flushing.{FlushAnswer, met_flushing}
+use Rattle.buffer_frames.specs.Working.{WorksAt, met_log}
+use Rattle.backend_pass.specs.declared.errors.FlushError.{FlushError}
+use Rattle.backend_pass.specs.declared.errors.FlushError.TheVariants.{WriteFault, LogFault, LogDown, LogShort}
+use Rattle.backend_pass.specs.declared.manager.Manager.{Manager}
+use Rattle.backend_pass.specs.declared.met.Shown.{Shown}
+use Rattle.held_pins.proofs.Keeping.{same_locks_at}
+use Rattle.backend_pass.specs.FrameFlushes.{WasWithin, frame_answer, frame_refusal, shown_unflushed}
+use Rattle.backend_pass.specs.Managers.{Belongs}
+use Rattle.backend_pass.specs.Passes.{IsShown, PassState, shown_count, shown_log}
+use Rattle.backend_pass.proofs.BlockReads.{count_on, shown_met}
+
+-- a tag whose number is a block's
+packed_named : (tag : Tag) → tag.block < 2 ^ 32 → unpacked_tag (packed_tag tag) ≡ tag_if_named tag
+unfolding unpacked_tag
+packed_named tag low = grind (arith, common_steps)
+
+named_and_listed : (relations : List RelEntry) (tag : Tag) (b : Bool) → names_block tag ≡ b → has_named relations (if b then Some tag else None) ≡ true → (names_block tag ≡ true) × (has_block relations tag ≡ true)
+named_and_listed relations tag true e is = (e, is)
+named_and_listed relations tag false e is = absurd (cc)
+
+pub tag_of_block : (relations : List RelEntry) (tag : Tag) → tag.block < 2 ^ 32 → is_block relations (packed_tag tag) ≡ true → (names_block tag ≡ true) × (has_block relations tag ≡ true)
+unfolding is_block
+tag_of_block relations tag low is = named_and_listed relations tag (names_block tag) refl (ap (has_named relations) (sym (packed_named tag low)) ∙ is)
+
+-- the content locks of a view that has none at the frame where it worked
+pub locks_worked : (f : ℕ) (v w : View) → WorksAt f v w → (link v f).content ≡ Unlocked → (link w f).content ≡ Unlocked → SameLocks v w
+locks_worked f v w work before after = same_locks_at f v w work.others (after ∙ sym before)
+
+-- what is shown after a refusal
+pub shown_logged : (v w : View) (s : Shown) → w.front ≡ v.front → w.met ≡ met_log v.met → IsShown v s → IsShown w (shown_log s)
+shown_logged v w s front met n = record {
+  front = n.front ∙ sym front;
+  reads = n.reads ∙ ap (λ (m : Met). shown_count m.reads) (sym met);
+  writes = n.writes ∙ ap (λ (m : Met). shown_count m.writes) (sym met);
+  logs = count_on v.met.logs s.met.logs n.logs ∙ ap (λ (m : Met). shown_count m.logs) (sym met);
+}
+
+pub shown_not_flushed : (v w : View) (s : Shown) (why : FlushError) → w.front ≡ v.front → w.met ≡ met_flushing {A = Bool} (Err (frame_refusal why)) v.met → IsShown v s → IsShown w (shown_unflushed why s)
+shown_not_flushed v w s (WriteFault tag) front met n = record {
+  front = n.front ∙ sym front;
+  reads = n.reads ∙ ap (λ (m : Met). shown_count m.reads) (sym met);
+  writes = count_on v.met.writes s.met.writes n.writes ∙ ap (λ (m : Met). shown_count m.writes) (sym met);
+  logs = n.logs ∙ ap (λ (m : Met). shown_count m.logs) (sym met);
+}
+shown_not_flushed v w s LogFault front met n = shown_logged v w s front met n
+shown_not_flushed v w s (LogDown at) front met n = shown_met v w s front met n
+shown_not_flushed v w s (LogShort lsn end) front met n = shown_met v w s front met n
+
+one_more : (m : Met) → m.writes + 1 ≢ m.writes
+one_more m e = omega arith
+
+module _ {L G : Type 0} (contents : L → Option Pages) (t : FrameTable L G) where
+  pub flush_complete : (lane : ℕ) (tag : Tag) (f : ℕ) (v w : View) (r : Result Bool FlushError) → FlushAnswer contents t lane tag f v w (frame_answer r) → w.met ≡ met_flushing (frame_answer r) v.met
+      → WasWithin contents t tag v.end_seen → w.saw_down ≡ false → w.met ≡ v.met → IsOk r
+  flush_complete lane tag f v w (Ok wrote) a met within up none = refl
+  flush_complete lane tag f v w (Err (WriteFault failed)) a met within up none = absurd (one_more v.met (ap (λ (m : Met). m.writes) (sym met ∙ none)))
+  flush_complete lane tag f v w (Err LogFault) a met within up none = absurd (let e = a.work.shows in cc)
+  flush_complete lane tag f v w (Err (LogDown at)) a met within up none = absurd (let e = a.work.shows.2 in cc)
+  flush_complete lane tag f v w (Err (LogShort lsn end)) a met within up none = absurd (
+      let shows = a.work.shows in
+      let low = within a.page a.sound shows.4 in
+      let is = shows.0 in
+      let short = shows.1 in
+      let from = shows.2 in
+      omega arith)
+
+-- a token's frame and its block
+pub frame_of_token : {L G : Type 0} (contents : L → Option Pages) (m : Manager L G) (p : PassState) (tag : Tag) (f : ℕ) → IsPinnedFor tag f p.tokens → Belongs contents m p → f < frames_of m.table
+frame_of_token contents m p tag f i b = b.inside f i.held i.there
+
+pub block_of_token : {L G : Type 0} (contents : L → Option Pages) (m : Manager L G) (p : PassState) (tag : Tag) (f : ℕ) → IsPinnedFor tag f p.tokens → Belongs contents m p → is_block (relations_of m.table) (packed_tag tag) ≡ true
+block_of_token contents m p tag f i b = subst (λ (x : ℕ). is_block (relations_of m.table) x ≡ true) i.same (b.blocks f i.held i.there)

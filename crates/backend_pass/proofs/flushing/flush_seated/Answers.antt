@@ -1,0 +1,80 @@
+use Rattle.std.proofs.Common.{◌≡◌, ◌∙◌, ap, subst}
+use Rattle.std.specs.Prelude.{IfErr, IfOk, true}
+use Rattle.atomic_table.specs.declared.badge.Badge.{Badge}
+use Rattle.block_tag.specs.Names.{lane_number}
+use Rattle.pin_core.specs.declared.view.Content.TheVariants.{Unlocked}
+use Rattle.pin_core.specs.declared.view.View.{View}
+use Rattle.pin_core.specs.State.{link}
+use Rattle.frame_table.specs.Seats.{lanes_in}
+use Rattle.held_pins.specs.Rests.{HasNoDevice, HasNoLatch, LinksRest}
+use Rattle.buffer_frames.specs.Flushing.{EndedInError, EndedWritten, FlushAnswer, met_flushing}
+use Rattle.buffer_frames.specs.Working.{WorksAt}
+use Rattle.backend_pass.specs.Passes.{first_of}
+use Rattle.backend_pass.proofs.Seated.{moved, moved_one, one_view, view_of_seat}
+use Rattle.backend_pass.proofs.flushing.flush_seated.Goals as goal
+
+pub flush_frame-answer-requires-clause-stands : goal.flush_frame-answer-requires-clause-stands
+flush_frame-answer-requires-clause-stands g c =
+    let before = view_of_seat c.args.badge.now c.replace.result c.into_seat-seat.result.me.0 c.replace.ensures.value c.into_seat-seat.ensures.2 in record {
+      fits = c.into_seat-seat.ensures.0 ∙ ap (λ (b : Badge View). b.table_id) c.replace.ensures.value ∙ c.requires.table;
+      hand = c.into_seat-seat.ensures.3;
+      quiet = subst HasNoDevice before c.requires.rests.quiet;
+    }
+
+pub flush_frame-answer-requires-clause-latches : goal.flush_frame-answer-requires-clause-latches
+flush_frame-answer-requires-clause-latches g c =
+    let before = view_of_seat c.args.badge.now c.replace.result c.into_seat-seat.result.me.0 c.replace.ensures.value c.into_seat-seat.ensures.2 in
+    subst HasNoLatch before c.requires.rests.latches
+
+pub flush_frame-answer-requires-clause-rests : goal.flush_frame-answer-requires-clause-rests
+flush_frame-answer-requires-clause-rests g c =
+    let before = view_of_seat c.args.badge.now c.replace.result c.into_seat-seat.result.me.0 c.replace.ensures.value c.into_seat-seat.ensures.2 in
+    subst (LinksRest c.args.held.now) before c.requires.rests.links
+
+pub flush_frame-answer-requires-clause-unlocked : goal.flush_frame-answer-requires-clause-unlocked
+flush_frame-answer-requires-clause-unlocked g c =
+    let before = view_of_seat c.args.badge.now c.replace.result c.into_seat-seat.result.me.0 c.replace.ensures.value c.into_seat-seat.ensures.2 in
+    subst (λ (v : View). (link v c.args.frame).content ≡ Unlocked) before c.requires.unlocked
+
+pub returns-clause-table : goal.returns-clause-table
+returns-clause-table g c = c.into_badge.ensures.0 ∙ c.flush_frame-answer.ensures.seat.table ∙ c.into_seat-seat.ensures.0 ∙ ap (λ (b : Badge View). b.table_id) c.replace.ensures.value
+
+pub returns-clause-id : goal.returns-clause-id
+returns-clause-id g c = c.into_badge.ensures.1 ∙ c.flush_frame-answer.ensures.seat.id ∙ c.into_seat-seat.ensures.1 ∙ ap (λ (b : Badge View). b.id) c.replace.ensures.value
+
+pub returns-clause-view : goal.returns-clause-view
+returns-clause-view g c = one_view c.into_badge.result c.flush_frame-answer.new.seat.me.0 c.into_badge.ensures.2
+
+pub returns-clause-rests : goal.returns-clause-rests
+returns-clause-rests g c =
+    let after = ap first_of c.into_badge.ensures.2 in
+    let e = c.flush_frame-answer.ensures in record {
+      quiet = moved_one HasNoDevice (first_of c.into_badge.result.views) c.flush_frame-answer.new.seat.me.0 after e.stands.quiet;
+      links = moved_one (LinksRest c.args.held.now) (first_of c.into_badge.result.views) c.flush_frame-answer.new.seat.me.0 after e.rests;
+      latches = moved_one HasNoLatch (first_of c.into_badge.result.views) c.flush_frame-answer.new.seat.me.0 after e.latches;
+    }
+
+pub returns-clause-works : goal.returns-clause-works
+returns-clause-works g c =
+    let before = view_of_seat c.args.badge.now c.replace.result c.into_seat-seat.result.me.0 c.replace.ensures.value c.into_seat-seat.ensures.2 in
+    moved (WorksAt c.args.frame) (first_of c.args.badge.now.views) (first_of c.into_badge.result.views) c.into_seat-seat.result.me.0 c.flush_frame-answer.new.seat.me.0 before (ap first_of c.into_badge.ensures.2) c.flush_frame-answer.ensures.works
+
+pub returns-clause-unlocked : goal.returns-clause-unlocked
+returns-clause-unlocked g c = moved_one (λ (w : View). (link w c.args.frame).content ≡ Unlocked) (first_of c.into_badge.result.views) c.flush_frame-answer.new.seat.me.0 (ap first_of c.into_badge.ensures.2) c.flush_frame-answer.ensures.unlocked
+
+pub returns-clause-answer : goal.returns-clause-answer
+returns-clause-answer g c =
+    let before = view_of_seat c.args.badge.now c.replace.result c.into_seat-seat.result.me.0 c.replace.ensures.value c.into_seat-seat.ensures.2 in
+    moved (λ v w. FlushAnswer {L = g.row.L.Denot} {G = g.row.G.Denot} g.L.BlockLane.contents c.args.table.now (lane_number c.args.tag (lanes_in c.args.table.now)) c.args.tag c.args.frame v w c.flush_frame-answer.result)
+    (first_of c.args.badge.now.views) (first_of c.into_badge.result.views) c.into_seat-seat.result.me.0 c.flush_frame-answer.new.seat.me.0 before (ap first_of c.into_badge.ensures.2) c.flush_frame-answer.ensures.answer
+
+pub returns-clause-met : goal.returns-clause-met
+returns-clause-met g c =
+    let before = view_of_seat c.args.badge.now c.replace.result c.into_seat-seat.result.me.0 c.replace.ensures.value c.into_seat-seat.ensures.2 in
+    moved (λ v w. w.met ≡ met_flushing c.flush_frame-answer.result v.met) (first_of c.args.badge.now.views) (first_of c.into_badge.result.views) c.into_seat-seat.result.me.0 c.flush_frame-answer.new.seat.me.0 before (ap first_of c.into_badge.ensures.2) c.flush_frame-answer.ensures.met
+
+pub returns-clause-ended : goal.returns-clause-ended
+returns-clause-ended g c = moved_one (λ (w : View). IfErr c.flush_frame-answer.result (λ _. EndedInError w)) (first_of c.into_badge.result.views) c.flush_frame-answer.new.seat.me.0 (ap first_of c.into_badge.ensures.2) c.flush_frame-answer.ensures.ended
+
+pub returns-clause-written : goal.returns-clause-written
+returns-clause-written g c = moved_one (λ (w : View). IfOk c.flush_frame-answer.result (λ wrote. wrote ≡ true → EndedWritten w)) (first_of c.into_badge.result.views) c.flush_frame-answer.new.seat.me.0 (ap first_of c.into_badge.ensures.2) c.flush_frame-answer.ensures.written

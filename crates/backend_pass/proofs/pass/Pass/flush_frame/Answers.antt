@@ -1,0 +1,76 @@
+use Rattle.std.proofs.Common.{◌≡◌, ◌∙◌, ℕ, Bool, Err, ap, refl, sym, subst}
+use Rattle.crossbeam_utils.specs.Padded.{padded_value}
+use Rattle.block_tag.specs.Names.{lane_number}
+use Rattle.pin_core.specs.declared.view.Content.TheVariants.{Unlocked}
+use Rattle.pin_core.specs.declared.view.View.{View}
+use Rattle.pin_core.specs.State.{link}
+use Rattle.frame_table.specs.Seats.{lanes_in}
+use Rattle.held_pins.specs.Rests.{SameLocks}
+use Rattle.buffer_frames.specs.declared.flushing.FlushError as frames
+use Rattle.buffer_frames.specs.Flushing.{FlushAnswer, met_flushing}
+use Rattle.backend_pass.specs.Managers.{Belongs}
+use Rattle.backend_pass.specs.Passes.{IsNumbered, IsShown, PassState, SamePass, first_of}
+use Rattle.backend_pass.specs.FrameFlushes.{frame_refusal, shown_unflushed}
+use Rattle.backend_pass.proofs.BlockReads.{numbered_kept, same_kept}
+use Rattle.backend_pass.proofs.Flushed.{flush_complete, locks_worked, shown_not_flushed}
+use Rattle.backend_pass.proofs.Releasing.{belongs_held}
+use Rattle.backend_pass.proofs.pass.Pass.flush_frame.Goals as goal
+
+pub returns-in-Ok-clause-belongs : goal.returns-in-Ok-clause-belongs
+returns-in-Ok-clause-belongs g c =
+    let e = c.in-Ok.ensures in
+    belongs_held {L = g.row.L.Denot} {G = g.row.G.Denot} g.L.BlockLane.contents c.args.manager.now _ _ e.table refl (ap (λ (x : View). x.front) e.works.kept) e.works.advances.end_seen (λ f h at. (h, at, refl))
+    (subst (Belongs {L = g.row.L.Denot} {G = g.row.G.Denot} g.L.BlockLane.contents c.args.manager.now) (sym c.self.view_is) c.requires.belongs)
+
+pub returns-in-Ok-clause-locks : goal.returns-in-Ok-clause-locks
+returns-in-Ok-clause-locks g c =
+    let e = c.in-Ok.ensures in
+    subst (λ (p : PassState). SameLocks p.view (first_of c.flush_seated.new.badge.views)) c.self.view_is (locks_worked c.args.pinned.now.frame _ _ e.works (subst (λ (p : PassState). (link p.view c.args.pinned.now.frame).content ≡ Unlocked) (sym c.self.view_is) c.requires.unlocked) e.unlocked)
+
+pub returns-in-Err-clause-belongs : goal.returns-in-Err-clause-belongs
+returns-in-Err-clause-belongs g c =
+    let e = c.in-Err.ensures in
+    belongs_held {L = g.row.L.Denot} {G = g.row.G.Denot} g.L.BlockLane.contents c.args.manager.now _ _ e.table refl (ap (λ (x : View). x.front) e.works.kept) e.works.advances.end_seen (λ f h at. (h, at, refl))
+    (subst (Belongs {L = g.row.L.Denot} {G = g.row.G.Denot} g.L.BlockLane.contents c.args.manager.now) (sym c.self.view_is) c.requires.belongs)
+
+pub returns-in-Err-clause-locks : goal.returns-in-Err-clause-locks
+returns-in-Err-clause-locks g c =
+    let e = c.in-Err.ensures in
+    subst (λ (p : PassState). SameLocks p.view (first_of c.flush_seated.new.badge.views)) c.self.view_is (locks_worked c.args.pinned.now.frame _ _ e.works (subst (λ (p : PassState). (link p.view c.args.pinned.now.frame).content ≡ Unlocked) (sym c.self.view_is) c.requires.unlocked) e.unlocked)
+
+pub returns-in-Err-clause-answer : goal.returns-in-Err-clause-answer
+returns-in-Err-clause-answer g c =
+    let e = c.in-Err.ensures in
+    subst (λ (y : frames.FlushError). FlushAnswer {L = g.row.L.Denot} {G = g.row.G.Denot} g.L.BlockLane.contents c.args.manager.now.table (lane_number c.args.pinned.now.tag (lanes_in c.args.manager.now.table)) c.args.pinned.now.tag c.args.pinned.now.frame c.args.self.now.view (first_of c.flush_seated.new.badge.views) (Err y)) (sym c.refused-why.ensures) (subst (λ (p : PassState). FlushAnswer {L = g.row.L.Denot} {G = g.row.G.Denot} g.L.BlockLane.contents c.args.manager.now.table (lane_number c.args.pinned.now.tag (lanes_in c.args.manager.now.table)) c.args.pinned.now.tag c.args.pinned.now.frame p.view (first_of c.flush_seated.new.badge.views) (Err c.in-Err.cause)) c.self.view_is e.answer)
+
+pub returns-in-Err-clause-met : goal.returns-in-Err-clause-met
+returns-in-Err-clause-met g c =
+    let e = c.in-Err.ensures in
+    e.met ∙ ap (λ (y : frames.FlushError). met_flushing {A = Bool} (Err y) (first_of c.self.inside.seat.views).met) (sym c.refused-why.ensures) ∙ ap (λ (p : PassState). met_flushing {A = Bool} (Err (frame_refusal c.refused-why.result)) p.view.met) c.self.view_is
+
+pub returns-in-Err-clause-complete : goal.returns-in-Err-clause-complete
+returns-in-Err-clause-complete g c =
+    let e = c.in-Err.ensures in
+    flush_complete {L = g.row.L.Denot} {G = g.row.G.Denot} g.L.BlockLane.contents c.args.manager.now.table (lane_number c.args.pinned.now.tag (lanes_in c.args.manager.now.table)) c.args.pinned.now.tag c.args.pinned.now.frame _ _ (Err c.refused-why.result) (returns-in-Err-clause-answer g c) (returns-in-Err-clause-met g c)
+
+pub invariant_of-self-in-Err : goal.invariant_of-self-in-Err
+invariant_of-self-in-Err g c =
+    let i = c.self.invariant in
+    let e = c.in-Err.ensures in
+    let v = first_of c.self.inside.seat.views in
+    let w = first_of c.flush_seated.new.badge.views in
+    let met : w.met ≡ met_flushing {A = Bool} (Err (frame_refusal c.refused-why.result)) v.met = e.met ∙ ap (λ (y : frames.FlushError). met_flushing {A = Bool} (Err y) v.met) (sym c.refused-why.ensures) in
+    let shown : padded_value c.new-self-inside.result ≡ shown_unflushed c.refused-why.result (padded_value c.self.inside.shown) = c.new-self-inside.ensures ∙ c.after_flush-shown.ensures ∙ ap (shown_unflushed c.refused-why.result) c.deref.ensures in (
+      e.view,
+      e.rests,
+      subst (λ (id : ℕ). IsNumbered c.self.inside.number id w) (sym e.id) (numbered_kept c.self.inside.number c.self.inside.seat.id v w e.works.kept i.2),
+      subst (IsShown w) (sym shown) (shown_not_flushed v w (padded_value c.self.inside.shown) c.refused-why.result (ap (λ (x : View). x.front) e.works.kept) met i.3),
+    )
+
+pub returns-in-Err-clause-same : goal.returns-in-Err-clause-same
+returns-in-Err-clause-same g c =
+    let e = c.in-Err.ensures in
+    from _ _ _ c.self.view_is (same_kept _ _ e.table e.id refl e.works.kept e.works.advances)
+  where
+    from : (a p q : PassState) → a ≡ p → SamePass a q → SamePass p q
+    from a p q same s = subst (λ (x : PassState). SamePass x q) same s

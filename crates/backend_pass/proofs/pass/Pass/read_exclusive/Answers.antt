@@ -1,0 +1,14 @@
+use Rattle.std.proofs.Common.{◌≡◌, ◌∙◌, sym, subst}
+use Rattle.pin_core.specs.declared.view.Content.{Content}
+use Rattle.pin_core.specs.declared.view.Content.TheVariants.{Unlocked, Exclusive}
+use Rattle.backend_pass.specs.PageReads.{ReadsUnder}
+use Rattle.backend_pass.proofs.pass.Pass.read_exclusive.Goals as goal
+
+pub read_locked-requires-clause-locked : goal.read_locked-requires-clause-locked
+read_locked-requires-clause-locked g c unlocked = differ (sym c.requires.locked ∙ unlocked)
+  where
+    differ : Exclusive ≡ Unlocked → ⊥
+    differ e = cc
+
+pub returns-clause-did : goal.returns-clause-did
+returns-clause-did g c = subst (λ (lock : Content). ReadsUnder lock c.args.exclusive.now.pinned.frame c.read_locked.new.page c.read_locked.result c.args.self.now.view c.read_locked.new.self.view) c.requires.locked c.read_locked.ensures.did

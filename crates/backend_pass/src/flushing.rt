@@ -1,0 +1,182 @@
+//! A pass writes the page of a frame.
+ghost use Rattle.std.specs.Prelude.{◌≡◌, ◌∷◌, ◌<◌, [], true, IfErr, IfOk};
+ghost use Rattle.block_tag.specs.Names.{lane_number, names_block, packed_tag};
+ghost use Rattle.pin_core.specs.declared.view.Content.TheVariants.{Unlocked};
+ghost use Rattle.pin_core.specs.State.{link};
+ghost use Rattle.table_rule.specs.Blocks.{has_block, is_block};
+ghost use Rattle.frame_table.specs.Seats.{frames_of, lanes_in, relations_of};
+ghost use Rattle.held_pins.specs.Rests.{Rests};
+ghost use Rattle.held_pins.specs.Tokens.{IsPinnedFor};
+ghost use Rattle.buffer_frames.specs.Flushing.{EndedInError, EndedWritten, FlushAnswer, met_flushing};
+ghost use Rattle.buffer_frames.specs.Working.{WorksAt};
+ghost use Rattle.backend_pass.specs.Passes.{first_of, shown_log};
+ghost use Rattle.backend_pass.specs.FrameFlushes.{frame_refusal, shown_unflushed};
+
+use crate::errors::FlushError;
+use crate::manager::Manager;
+use crate::met::{Met, Shown};
+use crate::pass::Pass;
+use crate::pinned::Pinned;
+use atomic_table::Badge;
+use block_tag::Tag;
+use crossbeam_utils::CachePadded;
+use frame_table::{FrameTable, Value};
+use held_pins::HeldPins;
+use log_device::LogDevice;
+use page_layout::Page;
+use pin_core::View;
+use segment_store::BlockLane;
+use std::mem::replace;
+use std::sync::Wait;
+use wal_flush::FlushLog;
+
+/// The refusal of a pass whose frames refuse a flush.
+fn refused(why: buffer_frames::FlushError) -> FlushError
+    ensures { frame_refusal result ≡ why }
+{
+    match why {
+        buffer_frames::FlushError::WriteFault { tag } => FlushError::WriteFault { tag },
+        buffer_frames::FlushError::Log(FlushLog::LogFault) => FlushError::LogFault,
+        buffer_frames::FlushError::Log(FlushLog::LogDown { at }) => FlushError::LogDown { at },
+        buffer_frames::FlushError::Log(FlushLog::LogShort { lsn, end }) => {
+            FlushError::LogShort { lsn, end }
+        }
+    }
+}
+
+impl Shown {
+    /// After the log failed: a fault is counted.
+    pub(crate) fn after_log_fault(self) -> Shown
+        ensures { result ≡ shown_log self }
+    {
+        let Shown { front, met } = self;
+        let logs = met.logs.saturating_add(1);
+        Shown {
+            front,
+            met: Met { logs, ..met },
+        }
+    }
+
+    /// After a flush was refused.
+    fn after_flush(self, why: &FlushError) -> Shown
+        ensures { result ≡ shown_unflushed why.now self }
+    {
+        match why {
+            FlushError::WriteFault { tag: _ } => {
+                let Shown { front, met } = self;
+                let writes = met.writes.saturating_add(1);
+                Shown {
+                    front,
+                    met: Met { writes, ..met },
+                }
+            }
+            FlushError::LogFault => self.after_log_fault(),
+            _ => self,
+        }
+    }
+}
+
+/// Says that a tag names a block of the relations, where its number is one of them, and does nothing.
+pub(crate) fn show_block<L: BlockLane, G: LogDevice>(_table: &FrameTable<L, G>, _tag: Tag)
+    requires { is_block (relations_of _table.now) (packed_tag _tag) ≡ true }
+    ensures named { names_block _tag ≡ true }
+    ensures listed { has_block (relations_of _table.now) _tag ≡ true }
+{}
+
+/// Writes the page of a frame of which callers have tokens, from the seat of a pass.
+fn flush_seated<L: BlockLane, G: LogDevice, R: Wait>(
+    table: &FrameTable<L, G>,
+    rt: &R,
+    badge: &mut Badge<View>,
+    held: &HeldPins,
+    page: &mut Page,
+    frame: u32,
+    tag: Tag,
+) -> Result<bool, buffer_frames::FlushError>
+    requires table { badge.old.table_id ≡ table.now.table.shared.table_id }
+    requires view { badge.old.views ≡ first_of badge.old.views ∷ [] }
+    requires rests { Rests held.now (first_of badge.old.views) }
+    requires pinned { IsPinnedFor tag frame held.now }
+    requires unlocked { (link (first_of badge.old.views) frame).content ≡ Unlocked }
+    requires inside { frame < frames_of table.now }
+    requires tag { names_block tag ≡ true }
+    requires block { has_block (relations_of table.now) tag ≡ true }
+    ensures table { badge.new.table_id ≡ badge.old.table_id }
+    ensures id { badge.new.id ≡ badge.old.id }
+    ensures view { badge.new.views ≡ first_of badge.new.views ∷ [] }
+    ensures rests { Rests held.now (first_of badge.new.views) }
+    ensures works { WorksAt frame (first_of badge.old.views) (first_of badge.new.views) }
+    ensures unlocked { (link (first_of badge.new.views) frame).content ≡ Unlocked }
+    ensures answer { FlushAnswer L.contents table.now (lane_number tag (lanes_in table.now)) tag frame (first_of badge.old.views) (first_of badge.new.views) result }
+    ensures met { (first_of badge.new.views).met ≡ met_flushing result (first_of badge.old.views).met }
+    ensures ended { IfErr result (λ _. EndedInError (first_of badge.new.views)) }
+    ensures written { IfOk result (λ wrote. wrote ≡ true → EndedWritten (first_of badge.new.views)) }
+{
+    let mut seat = replace(badge, Badge::blank()).into_seat::<Value<L, G>>();
+    let answer = buffer_frames::flush_frame(table, rt, &mut seat, held, frame, tag, page);
+    *badge = seat.into_badge();
+    answer
+}
+
+impl Pass {
+    ghost use Rattle.std.specs.Prelude.{◌≡◌, ◌≢◌, ℕ, false, true, IfErr, IfOk, IsOk};
+    ghost use Rattle.block_tag.specs.Names.{lane_number};
+    ghost use Rattle.pin_core.specs.declared.view.Content.TheVariants.{Unlocked};
+    ghost use Rattle.pin_core.specs.State.{link};
+    ghost use Rattle.frame_table.specs.Seats.{lanes_in};
+    ghost use Rattle.held_pins.specs.Tokens.{IsPinnedFor};
+    ghost use Rattle.buffer_frames.specs.Flushing.{EndedInError, EndedWritten, FlushAnswer, met_flushing};
+    ghost use Rattle.backend_pass.specs.Managers.{Belongs};
+    ghost use Rattle.backend_pass.specs.Passes.{KeepsCalls, KeepsLocks, KeepsMark, SamePass};
+    ghost use Rattle.backend_pass.specs.FrameFlushes.{WasWithin, frame_answer};
+
+    /// Writes the page of a frame of which the caller has a token and no content lock, where it is dirty, once the log is flushed up to the page's position (`FlushOneBuffer`). False where it is clean.
+    pub fn flush_frame<L: BlockLane, G: LogDevice, R: Wait>(
+        &mut self,
+        rt: &R,
+        manager: &Manager<L, G>,
+        pinned: &Pinned,
+    ) -> Result<bool, FlushError>
+        requires belongs { Belongs L.contents manager.now self.old }
+        requires pinned { IsPinnedFor pinned.now.tag pinned.now.frame self.old.tokens }
+        requires unlocked { (link self.old.view pinned.now.frame).content ≡ Unlocked }
+        ensures belongs { Belongs L.contents manager.now self.new }
+        ensures same { SamePass self.old self.new }
+        ensures tokens { self.new.tokens ≡ self.old.tokens }
+        ensures census { self.new.census ≡ self.old.census }
+        ensures calls { KeepsCalls self.old self.new }
+        ensures mark { KeepsMark self.old self.new }
+        ensures locks { KeepsLocks self.old self.new }
+        ensures others { (g : ℕ) → g ≢ pinned.now.frame → link self.new.view g ≡ link self.old.view g }
+
+        // The page went to its lane behind the log, or the frame was clean; or this is why not, and what devices were called.
+        ensures answer { FlushAnswer L.contents manager.now.table (lane_number pinned.now.tag (lanes_in manager.now.table)) pinned.now.tag pinned.now.frame self.old.view self.new.view (frame_answer result) }
+        ensures met { self.new.view.met ≡ met_flushing (frame_answer result) self.old.view.met }
+        ensures ended { IfErr result (λ _. EndedInError self.new.view) }
+        ensures written { IfOk result (λ wrote. wrote ≡ true → EndedWritten self.new.view) }
+
+        // It is done where the log isn't down, no call fails, and no page is of a position behind the log.
+        ensures complete { WasWithin L.contents manager.now.table pinned.now.tag self.old.view.end_seen → self.new.view.saw_down ≡ false → self.new.view.met ≡ self.old.view.met → IsOk result }
+    {
+        let frame = pinned.frame;
+        let tag = pinned.tag;
+        show_block(&manager.table, tag);
+        match flush_seated(
+            &manager.table,
+            rt,
+            &mut self.seat,
+            &self.held,
+            &mut self.page,
+            frame,
+            tag,
+        ) {
+            Ok(wrote) => Ok(wrote),
+            Err(cause) => {
+                let why = refused(cause);
+                let shown = self.shown.after_flush(&why);
+                self.shown = CachePadded::new(shown);
+                Err(why)
+            }
+        }
+    }
+}

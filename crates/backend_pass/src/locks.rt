@@ -1,0 +1,202 @@
+//! Content locks that a pass takes and gives up (`LockBuffer`).
+
+use crate::errors::Refused;
+use crate::manager::Manager;
+use crate::pass::Pass;
+use crate::pinned::Pinned;
+use crate::tokens::{Exclusive, Shared};
+use atomic_table::Badge;
+use content_locks::{TryLock, exclusive, share, try_exclusive, try_share, unexclusive, unshare};
+use frame_table::Value;
+use log_device::LogDevice;
+use segment_store::BlockLane;
+use std::mem::replace;
+use std::sync::Wait;
+
+impl Pass {
+    ghost use Rattle.std.specs.Prelude.{◌≡◌, ◌≢◌, ℕ, IfErr, IfOk};
+    ghost use Rattle.pin_core.specs.declared.view.Content.TheVariants as lock;
+    ghost use Rattle.pin_core.specs.State.{link};
+    ghost use Rattle.page_core.specs.Kinds as kinds;
+    ghost use Rattle.frame_table.specs.FrameSteps.{Did};
+    ghost use Rattle.frame_table.specs.Kinds.{pages};
+    ghost use Rattle.content_locks.specs.Locks.{LocksContent, RefusesLock, ShowsExclusive, ShowsLock};
+    ghost use Rattle.held_pins.specs.Tokens.{IsPinnedFor};
+    ghost use Rattle.backend_pass.specs.Locks.{ChangesLock, HasLock};
+    ghost use Rattle.backend_pass.specs.Managers.{Belongs};
+    ghost use Rattle.backend_pass.specs.Passes.{KeepsCalls, KeepsDevices, KeepsLocks, KeepsMark, SamePass};
+
+    /// Takes the content lock of the frame of a token, shared, once no backend has it exclusively (`BUFFER_LOCK_SHARE`).
+    pub fn share<L: BlockLane, G: LogDevice, R: Wait>(
+        &mut self,
+        rt: &R,
+        manager: &Manager<L, G>,
+        pinned: Pinned,
+    ) -> Shared
+        requires belongs { Belongs L.contents manager.now self.old }
+        requires pinned { IsPinnedFor pinned.tag pinned.frame self.old.tokens }
+        requires unlocked { HasLock lock.Unlocked pinned.frame self.old }
+        ensures belongs { Belongs L.contents manager.now self.new }
+        ensures same { SamePass self.old self.new }
+        ensures tokens { self.new.tokens ≡ self.old.tokens }
+        ensures census { self.new.census ≡ self.old.census }
+        ensures calls { KeepsCalls self.old self.new }
+        ensures mark { KeepsMark self.old self.new }
+        ensures devices { KeepsDevices self.old self.new }
+        ensures token { result.pinned ≡ pinned }
+        ensures lock { ChangesLock lock.Shared pinned.frame self.old self.new }
+        ensures did { LocksContent kinds.share pinned.frame self.old.view self.new.view }
+    {
+        let mut seat = replace(&mut self.seat, Badge::blank()).into_seat::<Value<L, G>>();
+        share(&manager.table, rt, &mut seat, pinned.frame);
+        self.seat = seat.into_badge();
+        Shared { pinned }
+    }
+
+    /// Takes it exclusively, once no backend has it (`BUFFER_LOCK_EXCLUSIVE`).
+    pub fn exclusive<L: BlockLane, G: LogDevice, R: Wait>(
+        &mut self,
+        rt: &R,
+        manager: &Manager<L, G>,
+        pinned: Pinned,
+    ) -> Exclusive
+        requires belongs { Belongs L.contents manager.now self.old }
+        requires pinned { IsPinnedFor pinned.tag pinned.frame self.old.tokens }
+        requires unlocked { HasLock lock.Unlocked pinned.frame self.old }
+        ensures belongs { Belongs L.contents manager.now self.new }
+        ensures same { SamePass self.old self.new }
+        ensures tokens { self.new.tokens ≡ self.old.tokens }
+        ensures census { self.new.census ≡ self.old.census }
+        ensures calls { KeepsCalls self.old self.new }
+        ensures mark { KeepsMark self.old self.new }
+        ensures devices { KeepsDevices self.old self.new }
+        ensures token { result.pinned ≡ pinned }
+        ensures lock { ChangesLock lock.Exclusive pinned.frame self.old self.new }
+        ensures did { LocksContent kinds.exclude pinned.frame self.old.view self.new.view }
+    {
+        let mut seat = replace(&mut self.seat, Badge::blank()).into_seat::<Value<L, G>>();
+        exclusive(&manager.table, rt, &mut seat, pinned.frame);
+        self.seat = seat.into_badge();
+        Exclusive { pinned }
+    }
+
+    /// Takes it shared without waiting (`ConditionalLockBuffer`). A refusal gives the token back.
+    pub fn try_share<L: BlockLane, G: LogDevice>(
+        &mut self,
+        manager: &Manager<L, G>,
+        pinned: Pinned,
+    ) -> Result<Shared, Refused<TryLock>>
+        requires belongs { Belongs L.contents manager.now self.old }
+        requires pinned { IsPinnedFor pinned.tag pinned.frame self.old.tokens }
+        requires unlocked { HasLock lock.Unlocked pinned.frame self.old }
+        ensures belongs { Belongs L.contents manager.now self.new }
+        ensures same { SamePass self.old self.new }
+        ensures tokens { self.new.tokens ≡ self.old.tokens }
+        ensures census { self.new.census ≡ self.old.census }
+        ensures calls { KeepsCalls self.old self.new }
+        ensures mark { KeepsMark self.old self.new }
+        ensures devices { KeepsDevices self.old self.new }
+        ensures token { IfOk result (λ taken. taken.pinned ≡ pinned) }
+        ensures lock { IfOk result (λ _. ChangesLock lock.Shared pinned.frame self.old self.new) }
+        ensures did { IfOk result (λ _. LocksContent kinds.share pinned.frame self.old.view self.new.view) }
+        ensures back { IfErr result (λ refused. refused.pinned ≡ pinned) }
+        ensures kept { IfErr result (λ _. KeepsLocks self.old self.new) }
+        ensures others { (g : ℕ) → g ≢ pinned.frame → link self.new.view g ≡ link self.old.view g }
+        ensures cause { IfErr result (λ refused. RefusesLock ShowsExclusive pinned.frame self.old.view self.new.view refused.why) }
+    {
+        let mut seat = replace(&mut self.seat, Badge::blank()).into_seat::<Value<L, G>>();
+        let answer = try_share(&manager.table, &mut seat, pinned.frame);
+        self.seat = seat.into_badge();
+        match answer {
+            Ok(()) => Ok(Shared { pinned }),
+            Err(why) => Err(Refused { pinned, why }),
+        }
+    }
+
+    /// Takes it exclusively without waiting. A refusal gives the token back.
+    pub fn try_exclusive<L: BlockLane, G: LogDevice>(
+        &mut self,
+        manager: &Manager<L, G>,
+        pinned: Pinned,
+    ) -> Result<Exclusive, Refused<TryLock>>
+        requires belongs { Belongs L.contents manager.now self.old }
+        requires pinned { IsPinnedFor pinned.tag pinned.frame self.old.tokens }
+        requires unlocked { HasLock lock.Unlocked pinned.frame self.old }
+        ensures belongs { Belongs L.contents manager.now self.new }
+        ensures same { SamePass self.old self.new }
+        ensures tokens { self.new.tokens ≡ self.old.tokens }
+        ensures census { self.new.census ≡ self.old.census }
+        ensures calls { KeepsCalls self.old self.new }
+        ensures mark { KeepsMark self.old self.new }
+        ensures devices { KeepsDevices self.old self.new }
+        ensures token { IfOk result (λ taken. taken.pinned ≡ pinned) }
+        ensures lock { IfOk result (λ _. ChangesLock lock.Exclusive pinned.frame self.old self.new) }
+        ensures did { IfOk result (λ _. LocksContent kinds.exclude pinned.frame self.old.view self.new.view) }
+        ensures back { IfErr result (λ refused. refused.pinned ≡ pinned) }
+        ensures kept { IfErr result (λ _. KeepsLocks self.old self.new) }
+        ensures others { (g : ℕ) → g ≢ pinned.frame → link self.new.view g ≡ link self.old.view g }
+        ensures cause { IfErr result (λ refused. RefusesLock ShowsLock pinned.frame self.old.view self.new.view refused.why) }
+    {
+        let mut seat = replace(&mut self.seat, Badge::blank()).into_seat::<Value<L, G>>();
+        let answer = try_exclusive(&manager.table, &mut seat, pinned.frame);
+        self.seat = seat.into_badge();
+        match answer {
+            Ok(()) => Ok(Exclusive { pinned }),
+            Err(why) => Err(Refused { pinned, why }),
+        }
+    }
+
+    /// Gives the shared lock up (`BUFFER_LOCK_UNLOCK`), and the token back.
+    pub fn unshare<L: BlockLane, G: LogDevice>(
+        &mut self,
+        manager: &Manager<L, G>,
+        shared: Shared,
+    ) -> Pinned
+        requires belongs { Belongs L.contents manager.now self.old }
+        requires pinned { IsPinnedFor shared.pinned.tag shared.pinned.frame self.old.tokens }
+        requires locked { HasLock lock.Shared shared.pinned.frame self.old }
+        ensures belongs { Belongs L.contents manager.now self.new }
+        ensures same { SamePass self.old self.new }
+        ensures tokens { self.new.tokens ≡ self.old.tokens }
+        ensures census { self.new.census ≡ self.old.census }
+        ensures calls { KeepsCalls self.old self.new }
+        ensures mark { KeepsMark self.old self.new }
+        ensures devices { KeepsDevices self.old self.new }
+        ensures token { result ≡ shared.pinned }
+        ensures lock { ChangesLock lock.Unlocked shared.pinned.frame self.old self.new }
+        ensures did { (was : ℕ) × Did (pages kinds.unshare) shared.pinned.frame self.old.view self.new.view was }
+    {
+        let Shared { pinned } = shared;
+        let mut seat = replace(&mut self.seat, Badge::blank()).into_seat::<Value<L, G>>();
+        unshare(&manager.table, &mut seat, pinned.frame);
+        self.seat = seat.into_badge();
+        pinned
+    }
+
+    /// Gives the exclusive lock up, and the token back.
+    pub fn unexclusive<L: BlockLane, G: LogDevice>(
+        &mut self,
+        manager: &Manager<L, G>,
+        exclusive: Exclusive,
+    ) -> Pinned
+        requires belongs { Belongs L.contents manager.now self.old }
+        requires pinned { IsPinnedFor exclusive.pinned.tag exclusive.pinned.frame self.old.tokens }
+        requires locked { HasLock lock.Exclusive exclusive.pinned.frame self.old }
+        ensures belongs { Belongs L.contents manager.now self.new }
+        ensures same { SamePass self.old self.new }
+        ensures tokens { self.new.tokens ≡ self.old.tokens }
+        ensures census { self.new.census ≡ self.old.census }
+        ensures calls { KeepsCalls self.old self.new }
+        ensures mark { KeepsMark self.old self.new }
+        ensures devices { KeepsDevices self.old self.new }
+        ensures token { result ≡ exclusive.pinned }
+        ensures lock { ChangesLock lock.Unlocked exclusive.pinned.frame self.old self.new }
+        ensures did { (was : ℕ) × Did (pages kinds.unexclude) exclusive.pinned.frame self.old.view self.new.view was }
+    {
+        let Exclusive { pinned } = exclusive;
+        let mut seat = replace(&mut self.seat, Badge::blank()).into_seat::<Value<L, G>>();
+        unexclusive(&manager.table, &mut seat, pinned.frame);
+        self.seat = seat.into_badge();
+        pinned
+    }
+}

@@ -1,0 +1,37 @@
+//! The memory of a pass, which is taken before a table is opened.
+ghost use Rattle.std.specs.Prelude.{◌≡◌, [], IfOk};
+ghost use Rattle.clock_sweep.specs.CensusList.{new_census};
+
+use clock_sweep::Census;
+use held_pins::HeldPins;
+use page_layout::Page;
+use std::alloc::{AllocError, Global};
+
+/// What a pass needs beside its seat.
+pub(crate) struct PassMemory {
+    pub(crate) held: HeldPins,
+    pub(crate) census: Census,
+    pub(crate) page: Page,
+    ghost empty: { held ≡ [] },
+}
+
+impl PassMemory {
+    /// For a pool of so many frames.
+    pub(crate) fn take(alloc: Global, frames: u32) -> Result<PassMemory, AllocError>
+        ensures { IfOk result (λ memory. memory.census ≡ new_census frames) }
+    {
+        let census = Census::build(alloc, frames)?;
+        let page = Page::zeroed(alloc)?;
+        let held = HeldPins::build(alloc)?;
+        Ok(PassMemory { held, census, page })
+    }
+
+    pub(crate) fn spend(self) {
+        let PassMemory {
+            held,
+            census: _,
+            page: _,
+        } = self;
+        held.spend();
+    }
+}
