@@ -1,10 +1,6 @@
 pub mod Crossing
 pub mod Finding
-pub mod Logged
-pub mod Reading
-pub mod Returned
 pub mod Seats
 pub mod Sending
 pub mod Victims
 pub mod Working
-pub mod Written

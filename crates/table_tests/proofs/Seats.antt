@@ -34,10 +34,6 @@ module _ {L G : Type 0} (t : FrameTable L G) where
   pub rests_still : (s s' : Seat (Value L G) View) (f : ℕ) → Rests t s → SameSeat s s' → Touches f s.me.0 s'.me.0 → IsFree (link s'.me.0 f) → Rests t s'
   rests_still s s' f r same touches free = record { fits = same.table ∙ r.fits; live = ap (λ (x : View). x.emptied) touches.self ∙ r.live; hand = same.hand ∙ r.hand; free = rests_on f s.me.0 s'.me.0 touches free r.free }
 
--- what a step at a frame keeps
-pub keeps_step : {L G : Type 0} (s s' : Seat (Value L G) View) (f : ℕ) → SameSeat s s' → Touches f s.me.0 s'.me.0 → Keeps s s'
-keeps_step s s' f same touches = record { table = same.table; id = same.id; joined = ap (λ (x : View). x.joined) touches.self; next = ap (λ (x : View). x.next) touches.self }
-
 pub keeps_on : {L G : Type 0} (s s' s'' : Seat (Value L G) View) → Keeps s s' → Keeps s' s'' → Keeps s s''
 keeps_on s s' s'' a b = record { table = b.table ∙ a.table; id = b.id ∙ a.id; joined = b.joined ∙ a.joined; next = b.next ∙ a.next }
 

@@ -12,10 +12,8 @@ use Rattle.log_device.specs.declared.device.LogDevice as log_device
 use Rattle.table_rule.specs.contracts.value.Value as value
 use Rattle.pin_core.specs.contracts.view.View as view
 use Rattle.frame_table.specs.contracts.table.FrameTable as table
-use Rattle.table_tests.specs.contracts.devices.TestLane as lane
-use Rattle.table_tests.specs.contracts.devices.TestLog as log
-use Rattle.table_tests.specs.contracts.copying.Course as course
-use Rattle.std.specs.contracts.alloc.Global as global
+use Rattle.test_devices.specs.contracts.lane.TestLane as lane
+use Rattle.test_devices.specs.contracts.log.TestLog as log
 use Rattle.atomic_table.specs.contracts.shared.Seat as seat
 use Rattle.table_tests.proofs.Crossing.{shared_sync, lease_sync, seat_send}
 
@@ -33,12 +31,6 @@ seats_sent = seat_send _ _ values_cross
 
 pub numbers_shared : IsSync (u32-field).row
 numbers_shared = search sendable
-
-pub courses_shared : IsSync course.the_row
-courses_shared = search (sendable, crosses, over.crosses) depth 20
-
-pub globals_shared : IsSync global.the_row
-globals_shared = search (sendable, crosses, over.crosses) depth 20
 
 -- what captures five values may cross threads where they may
 pub captures_send : (ν : Sym) (A B C D E : RattleType) → IsSend A → IsSend B → IsSend C → IsSend D → IsSend E → IsSend (TupleAt ν (A ∷ B ∷ C ∷ D ∷ E ∷ []))

@@ -8,7 +8,6 @@ use native.Mathlib.Decide.{ℕ_discrete, dec_lt}
 use Rattle.state_word.specs.declared.word.StateWord.{StateWord}
 use Rattle.state_word.specs.Fields.{fields}
 use Rattle.atomic_table.specs.declared.shared.Seat.{Seat}
-use Rattle.block_tag.specs.declared.tag.Tag.{Tag}
 use Rattle.pin_core.specs.declared.view.View.{View}
 use Rattle.pin_core.specs.declared.view.Link.{Link}
 use Rattle.pin_core.specs.declared.view.LaneHold.{LaneHold}
@@ -18,22 +17,20 @@ use Rattle.pin_core.specs.declared.view.MapChange.{MapChange}
 use Rattle.pin_core.specs.declared.view.MapChange.TheVariants.{Settled}
 use Rattle.pin_core.specs.declared.view.MapEntry.{MapEntry}
 use Rattle.pin_core.specs.declared.view.Role.TheVariants.{Absent, HandedOut, Victim}
-use Rattle.pin_core.specs.declared.view.Io.TheVariants.{Output, Quiet}
 use Rattle.pin_core.specs.Steps.{HasNoVictim}
-use Rattle.pin_core.specs.State.{hold, lane_hold, idle, link, no_lane, no_partition}
+use Rattle.pin_core.specs.State.{hold, idle, link, no_lane, no_partition}
 use Rattle.history_core.specs.State.{State}
 use Rattle.history_core.specs.Laws.{Laws}
 use Rattle.table_rule.specs.declared.value.Value.{Value}
 use Rattle.frame_table.specs.declared.table.FrameTable.{FrameTable}
 use Rattle.frame_table.specs.Seats.{MayUnpin, HoldsWord, Looked, SameSeat, SameSelf, NamesIn, Touches, assigned_link, locked_link, pinned_link, stored_link, unlocked_link, unpinned_link, victim_link}
 use Rattle.table_rule.specs.declared.turn.Turn.TheVariants.{Partition}
-use Rattle.frame_table.specs.Content.{CanDropExclusive, CanDropShare, exclusive_link, shared_link, unexclusive_link, unshared_link}
-use Rattle.frame_table.specs.FrameSteps.{kept_view}
+use Rattle.frame_table.specs.Content.{exclusive_link, shared_link, unexclusive_link, unshared_link}
 use Rattle.frame_table.specs.Latches.{DidTurn, IsTurned, MapStep, SameWork, back_hold}
 use Rattle.map_partitions.specs.Partition.{HoldsLatch}
 use Rattle.frame_table.proofs.Told.{touches_on}
 use Rattle.clock_sweep.proofs.Keeping.{same_on}
-use Rattle.table_tests.specs.Work.{IsCalm, IsInside, IsQuiet, IsQuietBeside, KeepsBeside, KeepsOthers, OnlyPins, PinsBlock, PinsNone, Rests, SameLatches}
+use Rattle.table_tests.specs.Work.{IsCalm, IsInside, IsQuiet, IsQuietBeside, KeepsBeside, KeepsOthers, OnlyPins, PinsNone, Rests}
 
 -- The link of a frame, before its header was locked and under the lock
 module _ (l m : Link) (word : ℕ) (locked : Looked (locked_link word l) m) where
@@ -70,13 +67,6 @@ calm_unpinned l m a c = record { no_header = a.header ∙ c.no_header; no_conten
 -- a load leaves it so
 pub calm_looked : (l m : Link) → Looked l m → IsCalm l → IsCalm m
 calm_looked l m a c = record { no_header = a.header ∙ c.no_header; no_content = a.content ∙ c.no_content; no_copy = a.copying ∙ c.no_copy; applied = a.unapplied ∙ c.applied; assigned = a.pending ∙ c.assigned; no_io = a.io ∙ c.no_io; page_home = a.out ∙ c.page_home; no_wait = a.waits c.no_wait }
-
--- what such a link, with a content lock, may give up
-pub drop_shared : (l m : Link) → IsCalm l → m ≡ shared_link l → CanDropShare m
-drop_shared l m c e = subst CanDropShare (sym e) record { right = refl; no_copy = c.no_copy; no_output = λ out. (let no : Quiet ≡ Output = sym c.no_io ∙ out in absurd (cc)); page_home = c.page_home }
-
-pub drop_exclusive : (l m : Link) → IsCalm l → m ≡ exclusive_link l → CanDropExclusive m
-drop_exclusive l m c e = subst CanDropExclusive (sym e) record { right = refl; settled = c.applied; page_home = c.page_home }
 
 pub may_unpin : (l : Link) → IsCalm l → l.role ≡ HandedOut → MayUnpin l
 may_unpin l c out = record { pinned = λ none. (let no : HandedOut ≡ Absent = sym out ∙ none in absurd (cc)); no_content = c.no_content; no_io = c.no_io; no_wait = c.no_wait }
@@ -254,17 +244,6 @@ rests_pins t s p none = record {
   };
 }
 
--- the first backend's seat once it has given another one its number
-pub pins_kept : {L G : Type 0} (t : FrameTable L G) (s s' : Seat (Value L G) View) → OnlyPins t s × PinsNone s → SameSeat s s' → s'.me.0 ≡ kept_view s.me.0 → OnlyPins t s' × PinsNone s'
-pins_kept t s s' (p, none) same kept = (
-  record {
-    quiet = record { fits = same.table ∙ p.quiet.fits; live = ap (λ (v : View). v.emptied) kept ∙ p.quiet.live; hand = same.hand ∙ p.quiet.hand; frames = λ f. subst (λ (v : View). IsCalm (link v f)) (sym kept) (p.quiet.frames f); lanes = λ n. ap (λ (v : View). (lane_hold v n).held) kept ∙ p.quiet.lanes n; log = ap (λ (v : View). v.log.held) kept ∙ p.quiet.log };
-    no_victim = λ f victim. p.no_victim f (sym (ap (λ (v : View). (link v f).role) kept) ∙ victim);
-    partitions = λ q. ap (λ (v : View). (hold v q).held) kept ∙ p.partitions q;
-  },
-  λ f. ap (λ (v : View). (link v f).role) kept ∙ none f,
-)
-
 -- where the frame isn't pinned, and no other one was, none is
 pub none_still : {L G : Type 0} (f : ℕ) (s s' : Seat (Value L G) View) → PinsNone s → KeepsBeside f s s' → (link s'.me.0 f).role ≡ Absent → PinsNone s'
 none_still f s s' none keeps here g = dite (ℕ_discrete g f) (λ e. subst (λ (x : ℕ). (link s'.me.0 x).role ≡ Absent) (sym e) here) (λ n. ap (λ (l : Link). l.role) (keeps.others g n) ∙ none g)
@@ -273,16 +252,3 @@ pub all_idle : (n f : ℕ) → get_or (replicate n idle) f idle ≡ idle
 all_idle zero f = refl
 all_idle (suc n) zero = refl
 all_idle (suc n) (suc f) = all_idle n f
-
--- what a backend pins once it has read a block into a frame h, which is the frame f
-pub pins_read : {L G : Type 0} (t : FrameTable L G) (f h : ℕ) (tag : Tag) (s s' s'' : Seat (Value L G) View) → OnlyPins t s → SameSeat s s' → Touches f s.me.0 s'.me.0 → h ≡ f → IsQuiet t s'' → KeepsBeside h s' s'' → SameLatches s'.me.0 s''.me.0 → PinsBlock tag (link s''.me.0 h) → OnlyPins t s'' × KeepsBeside f s s''
-pins_read t f h tag s s' s'' p same touches e quiet kept latches pinned = (
-  only_pins t f s s'' p.no_victim keeps (not_victim (link s''.me.0 f) _ refl here.0) quiet (λ q. ap (λ (x : PartitionHold). x.held) (latches q ∙ same_hold s.me.0 s'.me.0 touches.partitions q) ∙ p.partitions q),
-  keeps,
-)
-  where
-    keeps : KeepsBeside f s s''
-    keeps = beside_on _ _ _ _ (keeps_touched s s' same f touches.self touches.others) (subst (λ (x : ℕ). KeepsBeside x s' s'') e kept)
-
-    here : PinsBlock tag (link s''.me.0 f)
-    here = subst (λ (x : ℕ). PinsBlock tag (link s''.me.0 x)) e pinned

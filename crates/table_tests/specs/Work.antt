@@ -1,11 +1,11 @@
 -- What seats have between the steps of a test.
-use Rattle.std.specs.Prelude.{◌≡◌, ◌≢◌, ℕ, ◌<◌, true, false, List, [], ◌∷◌, None, Some}
+use Rattle.std.specs.Prelude.{◌≡◌, ◌≢◌, ℕ, true, false, List, [], ◌∷◌, None, Some}
 use Rattle.atomic_table.specs.declared.shared.Seat.{Seat}
 use Rattle.block_tag.specs.declared.catalogue.RelEntry.{RelEntry}
 use Rattle.block_tag.specs.declared.tag.Tag.{Tag}
 use Rattle.block_tag.specs.Names.{names_block, packed_tag}
-use Rattle.pin_core.specs.declared.view.Content.TheVariants.{Exclusive, Unlocked}
-use Rattle.pin_core.specs.declared.view.Io.TheVariants.{Input, Quiet}
+use Rattle.pin_core.specs.declared.view.Content.TheVariants.{Unlocked}
+use Rattle.pin_core.specs.declared.view.Io.TheVariants.{Quiet}
 use Rattle.pin_core.specs.declared.view.Link.{Link}
 use Rattle.pin_core.specs.declared.view.MapChange.TheVariants.{Settled}
 use Rattle.pin_core.specs.declared.view.Role.TheVariants.{Absent, HandedOut}
@@ -16,7 +16,6 @@ use Rattle.table_rule.specs.Blocks.{has_block}
 use Rattle.table_rule.specs.declared.value.Value.{Value}
 use Rattle.frame_table.specs.declared.table.FrameTable.{FrameTable}
 use Rattle.frame_table.specs.Seats.{Fits, frames_of, lanes_in, relations_of}
-use Rattle.table_tests.specs.declared.copying.Course.{Course}
 
 -- the one relation of the tests' tables: its number is 16384, and its main fork has 64 blocks
 abbrev pub relations : List RelEntry
@@ -39,10 +38,6 @@ pub record IsInside (p : ℕ) (v : View) : Type 0 where
   pub home : (hold v p).out ≡ None
   pub settled : (q : ℕ) → (hold v q).change ≡ Settled
 
--- no lane is out with the view
-abbrev pub LanesHome : View → Type 0
-LanesHome v = (n : ℕ) → (lane_hold v n).out ≡ None
-
 -- over a call the view keeps what it has of the partitions' latches
 abbrev pub SameLatches : View → View → Type 0
 SameLatches v w = (q : ℕ) → hold w q ≡ hold v q
@@ -51,43 +46,9 @@ SameLatches v w = (q : ℕ) → hold w q ≡ hold v q
 abbrev pub KeepsOthers : ℕ → View → View → Type 0
 KeepsOthers p v w = (q : ℕ) → q ≢ p → hold w q ≡ hold v q
 
--- It reads the tag's page into the frame: the page is home, and was not overwritten yet
-pub record Reads (tag : Tag) (l : Link) : Type 0 where
-  pub pinned : l.role ≡ HandedOut
-  pub remembered : l.tag ≡ Some (packed_tag tag)
-  pub no_header : l.header ≡ None
-  pub no_content : l.content ≡ Unlocked
-  pub right : l.io ≡ Input
-  pub home : l.out ≡ None
-  pub fresh : l.overwritten ≡ None
-  pub settled : l.unapplied ≡ false
-  pub no_copy : l.copying ≡ false
-  pub assigned : l.pending ≡ false
-  pub no_wait : l.waits ≡ None
-
--- It changes the page of the tag's block: it has the content lock exclusively, marked the frame dirty under it, and the page is home
-pub record Changes (tag : Tag) (l : Link) : Type 0 where
-  pub pinned : l.role ≡ HandedOut
-  pub remembered : l.tag ≡ Some (packed_tag tag)
-  pub assigned : l.pending ≡ false
-  pub seen : l.seen_valid ≡ true
-  pub no_header : l.header ≡ None
-  pub right : l.content ≡ Exclusive
-  pub dirtied : l.dirtied ≡ true
-  pub no_copy : l.copying ≡ false
-  pub no_io : l.io ≡ Quiet
-  pub home : l.out ≡ None
-  pub no_wait : l.waits ≡ None
-
 -- its pin of the frame is one for its callers, of the tag's block
 abbrev pub PinsBlock : Tag → Link → Type 0
 PinsBlock tag l = (l.role ≡ HandedOut) × (l.tag ≡ Some (packed_tag tag)) × (l.pending ≡ false)
-
--- it has seen that the page is there
-pub record SeesPage (l : Link) : Type 0 where
-  pub pinned : l.role ≡ HandedOut
-  pub assigned : l.pending ≡ false
-  pub seen : l.seen_valid ≡ true
 
 module _ {L G : Type 0} where
   abbrev pub backends_of : FrameTable L G → ℕ
@@ -151,17 +112,3 @@ module _ {L G : Type 0} where
   pub record KeepsBeside (f : ℕ) (s s' : Seat (Value L G) View) : Type 0 where
     pub self : Keeps s s'
     pub others : (g : ℕ) → g ≢ f → link s'.me.0 g ≡ link s.me.0 g
-
-  -- The seat may change the page of the course's block, and change it again: it pins its frame for the block, and has seen the page there
-  pub record ChangesOn (t : FrameTable L G) (c : Course) (s : Seat (Value L G) View) : Type 0 where
-    pub pins : OnlyPins t s
-    pub frame : c.frame < frames_of t
-    pub block : HasBlock t c.tag
-    pub pinned : PinsBlock c.tag (link s.me.0 c.frame)
-    pub seen : (link s.me.0 c.frame).seen_valid ≡ true
-
-  -- and it may copy that page
-  pub record CopiesOn (t : FrameTable L G) (c : Course) (s : Seat (Value L G) View) : Type 0 where
-    pub pins : OnlyPins t s
-    pub frame : c.frame < frames_of t
-    pub sees : SeesPage (link s.me.0 c.frame)
