@@ -1,0 +1,46 @@
+-- What threads share, and hand over: a manager, passes, and plain values.
+use mathlib.Core.List.{[], ◌∷◌}
+use mir.Syntax.{Sym}
+use denote.RattleType.{RattleType}
+use denote.Struct.Tuple.{TupleAt}
+use denote.Param.Send.{IsSend, IsSync, sendable}
+use Rattle.std.proofs.Crossing.{crosses, frees}
+use Rattle.std.proofs.CrossingOver as over
+use Rattle.atomic_table.specs.contracts.badge.Badge as badge
+use Rattle.atomic_table.proofs.Sent.{badge_keyless}
+use Rattle.segment_store.specs.declared.device.BlockLane as block_lane
+use Rattle.log_device.specs.declared.device.LogDevice as log_device
+use Rattle.clock_sweep.specs.contracts.sweep.Sweep as sweep
+use Rattle.backend_pass.specs.contracts.manager.Manager as manager
+use Rattle.backend_pass.specs.contracts.pass.Pass as pass
+use Rattle.test_devices.specs.contracts.lane.TestLane as lane
+use Rattle.test_devices.specs.contracts.log.TestLog as log
+use Rattle.std.specs.contracts.alloc.Global as global
+use Rattle.table_tests.proofs.Crossing.{shared_sync, lease_sync}
+use Rattle.table_rule.specs.contracts.value.Value as value
+
+sweeps_shared : IsSync sweep.the_row
+sweeps_shared = search (sendable, crosses, over.crosses, frees) depth 40 fits 20000
+
+lanes_cross : IsSend lane.the_row
+lanes_cross = search (sendable, crosses, over.crosses) depth 30
+
+values_cross : IsSend (value.the_row lane.the_row log.the_row)
+values_cross = search (sendable, crosses, over.crosses, lanes_cross) depth 30 fits 20000
+
+pub managers_shared : (a : block_lane.Ghosts lane.the_row.Denot) (b : log_device.Ghosts log.the_row.Denot) → IsSync (manager.the_row lane.the_row log.the_row a b)
+managers_shared a b = search (sendable, crosses, over.crosses, values_cross, shared_sync, lease_sync, sweeps_shared, frees) depth 50 fits 40000
+
+-- a badge may go to another thread
+badge_send : (V : RattleType) → IsSend (badge.the_row V)
+badge_send V = record { owned = λ d vs. ((λ vss. (tt, ((λ uss. (tt, tt)), tt))), badge_keyless V.coded.code d.table_id d.id d.views); leaving = λ k f vs. tt }
+
+pub passes_sent : IsSend pass.the_row
+passes_sent = search (sendable, crosses, over.crosses, badge_send, frees) depth 40 fits 20000
+
+pub globals_shared : IsSync global.the_row
+globals_shared = search (sendable, crosses, over.crosses) depth 20
+
+-- what captures six values may cross threads where they may
+pub six_sent : (ν : Sym) (A B C D E F : RattleType) → IsSend A → IsSend B → IsSend C → IsSend D → IsSend E → IsSend F → IsSend (TupleAt ν (A ∷ B ∷ C ∷ D ∷ E ∷ F ∷ []))
+six_sent ν A B C D E F a b c d e f = search (sendable, crosses) depth 20

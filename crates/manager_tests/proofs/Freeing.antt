@@ -1,0 +1,50 @@
+-- Passes of a small manager.
+use Rattle.std.proofs.Common.{◌≡◌, ◌+◌, ◌∙◌, ℕ, List, [], ◌∷◌, ◌++◌, length, Option, refl, sym, ap, subst, arith}
+use Rattle.segment_store.specs.Contents.{Pages}
+use Rattle.pin_core.specs.declared.view.Content.{Content}
+use Rattle.pin_core.specs.declared.view.View.{View}
+use Rattle.held_pins.specs.Tokens.{IsPinnedFor, tokens_less}
+use Rattle.backend_pass.specs.declared.manager.Manager.{Manager}
+use Rattle.backend_pass.specs.declared.pinned.Pinned.{Pinned}
+use Rattle.backend_pass.specs.Locks.{ChangesLock}
+use Rattle.backend_pass.specs.Managers.{AreNewPasses, Belongs, IsNewPass}
+use Rattle.backend_pass.specs.Passes.{KeepsLocks, PassState, SamePass}
+use Rattle.manager_tests.specs.Bench.{HasOnly, IsFree}
+
+-- a list of three, from its end
+length_three : (xs : List PassState) (a b c : PassState) → length (((xs ++ a ∷ []) ++ b ∷ []) ++ c ∷ []) ≡ length xs + 3
+length_three [] a b c = refl
+length_three (x ∷ xs) a b c = let e = length_three xs a b c in omega arith
+
+three : (xs : List PassState) (a b c : PassState) (ps : List PassState) → ps ≡ ((xs ++ a ∷ []) ++ b ∷ []) ++ c ∷ [] → length ps ≡ 3 → ps ≡ a ∷ b ∷ c ∷ []
+three [] a b c ps e n = e
+three (x ∷ xs) a b c ps e n = absurd (let l = ap length e in let more = length_three xs a b c in omega arith)
+
+module _ {L G : Type 0} (contents : L → Option Pages) (m : Manager L G) where
+  new_free : (i : ℕ) (p : PassState) → IsNewPass contents m 3 i p → IsFree contents m i p
+  new_free i p n = record { is = record { belongs = n.belongs; number = ap (λ (v : View). v.number) n.view; joined = ap (λ (v : View). v.joined) n.view; next = n.next }; spent = n.tokens }
+
+  pub three_free : (ps qs rs ss : List PassState) (a b c : PassState) → AreNewPasses contents m 3 ps → ps ≡ qs ++ c ∷ [] → qs ≡ rs ++ b ∷ [] → rs ≡ ss ++ a ∷ []
+      → IsFree contents m 0 a × IsFree contents m 1 b × IsFree contents m 2 c
+  three_free ps qs rs ss a b c new last middle front =
+      let all = three ss a b c ps (last ∙ ap (λ (l : List PassState). l ++ c ∷ []) (middle ∙ ap (λ (l : List PassState). l ++ b ∷ []) front)) new.counted in
+      let each = subst (AreNewPasses contents m 3) all new in
+      (new_free 0 a (each.each 0 a refl), new_free 1 b (each.each 1 b refl), new_free 2 c (each.each 2 c refl))
+
+  -- a call that keeps tokens and locks
+  pub only_on : (lock : Content) (pinned : Pinned) (i : ℕ) (p q : PassState) → HasOnly contents lock pinned m i p → Belongs contents m q → SamePass p q → q.tokens ≡ p.tokens → KeepsLocks p q → HasOnly contents lock pinned m i q
+  only_on lock pinned i p q o b s tokens locks = record {
+    is = record { belongs = b; number = s.number ∙ o.is.number; joined = s.joined ∙ o.is.joined; next = λ first. s.next ∙ o.is.next first };
+    token = subst (IsPinnedFor pinned.tag pinned.frame) (sym tokens) o.token;
+    last = ap (tokens_less pinned.frame) tokens ∙ o.last;
+    locked = locks pinned.frame ∙ o.locked;
+  }
+
+  -- a call that changes the lock of the frame alone
+  pub only_relocked : (lock : Content) (pinned given : Pinned) (i : ℕ) (p q : PassState) {before : Content} → HasOnly contents before pinned m i p → given ≡ pinned → Belongs contents m q → SamePass p q → q.tokens ≡ p.tokens → ChangesLock lock pinned.frame p q → HasOnly contents lock given m i q
+  only_relocked lock pinned given i p q o e b s tokens changes = subst (λ (x : Pinned). HasOnly contents lock x m i q) (sym e) record {
+    is = record { belongs = b; number = s.number ∙ o.is.number; joined = s.joined ∙ o.is.joined; next = λ first. s.next ∙ o.is.next first };
+    token = subst (IsPinnedFor pinned.tag pinned.frame) (sym tokens) o.token;
+    last = ap (tokens_less pinned.frame) tokens ∙ o.last;
+    locked = changes.here;
+  }

@@ -1,0 +1,42 @@
+-- A pass between the steps of a test.
+use Rattle.std.specs.Prelude.{◌≡◌, ℕ, Option, None}
+use Rattle.segment_store.specs.Contents.{Pages}
+use Rattle.pin_core.specs.declared.view.Content.{Content}
+use Rattle.held_pins.specs.Tokens.{IsPinnedFor, no_tokens, tokens_less}
+use Rattle.backend_pass.specs.declared.manager.Manager.{Manager}
+use Rattle.backend_pass.specs.declared.pinned.Pinned.{Pinned}
+use Rattle.backend_pass.specs.Locks.{HasLock}
+use Rattle.backend_pass.specs.Managers.{Belongs}
+use Rattle.backend_pass.specs.Passes.{KeepsLocks, PassState, SamePass}
+
+module _ {L G : Type 0} (contents : L → Option Pages) where
+  -- It is the pass number i of the manager's three
+  pub record IsNumber (m : Manager L G) (i : ℕ) (p : PassState) : Type 0 where
+    pub belongs : Belongs contents m p
+    pub number : p.view.number ≡ i
+    pub joined : p.view.joined ≡ 0
+    pub next : i ≡ 0 → p.view.next ≡ 3
+
+  -- and it has no tokens
+  pub record IsFree (m : Manager L G) (i : ℕ) (p : PassState) : Type 0 where
+    pub is : IsNumber m i p
+    pub spent : p.tokens ≡ no_tokens
+
+  -- or this one alone, and this content lock of its frame
+  pub record HasOnly (lock : Content) (pinned : Pinned) (m : Manager L G) (i : ℕ) (p : PassState) : Type 0 where
+    pub is : IsNumber m i p
+    pub token : IsPinnedFor pinned.tag pinned.frame p.tokens
+    pub last : tokens_less pinned.frame p.tokens ≡ no_tokens
+    pub locked : HasLock lock pinned.frame p
+
+  -- Calls left it with the tokens and the content locks that it had
+  pub record Returns (m : Manager L G) (p q : PassState) : Type 0 where
+    pub belongs : Belongs contents m q
+    pub same : SamePass p q
+    pub tokens : q.tokens ≡ p.tokens
+    pub locks : KeepsLocks p q
+
+module _ {L G : Type 0} where
+  -- It is so in a manager over lanes that don't tell what they hold
+  abbrev pub IsFreeIn : Manager L G → ℕ → PassState → Type 0
+  IsFreeIn m i p = IsFree (λ _. None) m i p

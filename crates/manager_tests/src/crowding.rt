@@ -1,0 +1,124 @@
+//! Blocks that are pinned until no frame is left.
+ghost use Rattle.backend_pass.specs.Managers.{Belongs};
+ghost use Rattle.manager_tests.specs.Bench.{IsFree, Returns};
+
+use crate::bench::block;
+use crate::reading::{Access, read_once};
+use backend_pass::{Manager, Pass, ReadError};
+use block_tag::Tag;
+use log_device::LogDevice;
+use segment_store::BlockLane;
+use std::sync::Wait;
+
+/// What came of reads of a block for which no frame was left.
+#[derive(Clone, Copy, PartialEq, Debug)]
+pub struct Crowded {
+    /// The words that each frame was seen with.
+    pub census: Option<[u64; 16]>,
+    pub refused: Result<Access, ReadError>,
+    /// By a pass that has eight tokens.
+    pub full: Option<ReadError>,
+    /// Once a frame was released.
+    pub freed: Result<Access, ReadError>,
+}
+
+/// What a read is refused for, by a pass that may have tokens.
+fn refusal<L: BlockLane, G: LogDevice, R: Wait>(
+    manager: &Manager<L, G>,
+    rt: &R,
+    pass: &mut Pass,
+    tag: Tag,
+) -> Option<ReadError>
+    requires { Belongs L.contents manager.now pass.old }
+    ensures { Returns L.contents manager.now pass.old pass.new }
+{
+    match pass.read_buffer(rt, manager, tag, &mut None) {
+        Ok(pinned) => {
+            pass.release(rt, manager, pinned);
+            None
+        }
+        Err(why) => Some(why),
+    }
+}
+
+/// The first pass, which has seven tokens, pins an eighth block; the frames are all pinned then.
+fn crowd<L: BlockLane, G: LogDevice, R: Wait>(
+    manager: &Manager<L, G>,
+    rt: &R,
+    first: &mut Pass,
+    third: &mut Pass,
+) -> Option<Crowded>
+    requires first { Belongs L.contents manager.now first.old }
+    requires third { IsFree L.contents manager.now 2 third.old }
+    ensures first { Returns L.contents manager.now first.old first.new }
+    ensures third { IsFree L.contents manager.now 2 third.new }
+{
+    let Ok(pinned) = first.read_buffer(rt, manager, block(7), &mut None) else {
+        return None;
+    };
+    let refused = read_once(manager, rt, third, 2, block(16), &mut None);
+    let census = third.census().first_chunk::<16>().copied();
+    let full = refusal(manager, rt, first, block(16));
+    first.release(rt, manager, pinned);
+    let freed = read_once(manager, rt, third, 2, block(16), &mut None);
+    Some(Crowded {
+        census,
+        refused,
+        full,
+        freed,
+    })
+}
+
+/// The second pass pins the blocks from this one up to 15 before that.
+fn hold_second<L: BlockLane, G: LogDevice, R: Wait>(
+    manager: &Manager<L, G>,
+    rt: &R,
+    first: &mut Pass,
+    second: &mut Pass,
+    third: &mut Pass,
+    number: u32,
+) -> Option<Crowded>
+    requires first { Belongs L.contents manager.now first.old }
+    requires second { Belongs L.contents manager.now second.old }
+    requires third { IsFree L.contents manager.now 2 third.old }
+    ensures first { Returns L.contents manager.now first.old first.new }
+    ensures second { Returns L.contents manager.now second.old second.new }
+    ensures third { IsFree L.contents manager.now 2 third.new }
+{
+    if number > 15 {
+        return crowd(manager, rt, first, third);
+    }
+    let Ok(pinned) = second.read_buffer(rt, manager, block(number), &mut None) else {
+        return None;
+    };
+    let crowded = hold_second(manager, rt, first, second, third, number + 1);
+    second.release(rt, manager, pinned);
+    crowded
+}
+
+/// The first pass pins the blocks from this one up to 6 before that.
+pub fn hold_first<L: BlockLane, G: LogDevice, R: Wait>(
+    manager: &Manager<L, G>,
+    rt: &R,
+    first: &mut Pass,
+    second: &mut Pass,
+    third: &mut Pass,
+    number: u32,
+) -> Option<Crowded>
+    requires first { Belongs L.contents manager.now first.old }
+    requires second { Belongs L.contents manager.now second.old }
+    requires third { IsFree L.contents manager.now 2 third.old }
+    ensures first { Returns L.contents manager.now first.old first.new }
+    ensures second { Returns L.contents manager.now second.old second.new }
+    ensures third { IsFree L.contents manager.now 2 third.new }
+{
+    if number > 6 {
+        return hold_second(manager, rt, first, second, third, 8);
+    }
+    let Ok(pinned) = first.read_buffer(rt, manager, block(number), &mut None) else {
+        return None;
+    };
+    let crowded = hold_first(manager, rt, first, second, third, number + 1);
+    first.release(rt, manager, pinned);
+    crowded
+}

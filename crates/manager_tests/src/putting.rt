@@ -1,0 +1,56 @@
+//! Pages that are put, and flushed.
+ghost use Rattle.manager_tests.specs.Bench.{IsFree};
+
+use crate::reading::{pin, unpin};
+use access_rings::Ring;
+use backend_pass::{FlushError, Manager, Pass, PutError};
+use block_tag::Tag;
+use log_device::LogDevice;
+use page_layout::{Lsn, Page};
+use segment_store::BlockLane;
+use std::sync::Wait;
+
+/// Puts a page to a block. None where the block isn't read, or the page is new or isn't sound.
+pub fn put_once<L: BlockLane, G: LogDevice, R: Wait>(
+    manager: &Manager<L, G>,
+    rt: &R,
+    pass: &mut Pass,
+    _number: u32,
+    tag: Tag,
+    page: &Page,
+    ring: &mut Option<Ring>,
+) -> Option<Result<Lsn, PutError>>
+    requires { IsFree L.contents manager.now _number pass.old }
+    ensures { IsFree L.contents manager.now _number pass.new }
+{
+    if page.is_new() || !page.is_sound() {
+        return None;
+    }
+    let Ok(pinned) = pin(manager, rt, pass, _number, tag, ring) else {
+        return None;
+    };
+    let mut token = pass.exclusive(rt, manager, pinned);
+    let put = pass.put(rt, manager, &mut token, page);
+    let pinned = pass.unexclusive(manager, token);
+    unpin(manager, rt, pass, _number, pinned);
+    Some(put)
+}
+
+/// Flushes a block. None where it isn't read.
+pub fn flush_once<L: BlockLane, G: LogDevice, R: Wait>(
+    manager: &Manager<L, G>,
+    rt: &R,
+    pass: &mut Pass,
+    _number: u32,
+    tag: Tag,
+) -> Option<Result<bool, FlushError>>
+    requires { IsFree L.contents manager.now _number pass.old }
+    ensures { IsFree L.contents manager.now _number pass.new }
+{
+    let Ok(pinned) = pin(manager, rt, pass, _number, tag, &mut None) else {
+        return None;
+    };
+    let flushed = pass.flush_frame(rt, manager, &pinned);
+    unpin(manager, rt, pass, _number, pinned);
+    Some(flushed)
+}

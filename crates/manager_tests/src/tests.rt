@@ -1,0 +1,626 @@
+//! Managers that are run.
+use crate::bench::{block, start};
+use crate::crowding::{Crowded, hold_first};
+use crate::locking::{Refusals, try_beside_exclusive, try_beside_shared};
+use crate::putting::{flush_once, put_once};
+use crate::reading::{Access, copy_once, read_once};
+use crate::sharing::{Copied, copy_all_twice, copy_beside};
+use access_rings::{Ring, RingKind};
+use backend_pass::{
+    Config, FlushError, Manager, PutError, ReadError, Setting, StartError, StartRefused, TryLock,
+};
+use block_tag::Catalog;
+use page_layout::Page;
+use std::alloc::{AllocError, Global};
+use std::sync::Wait;
+use std::test::Fail;
+use test_devices::{TestLane, TestLog, one_item};
+use wal_flush::begin_log;
+
+/// What a start is refused for, and how many devices came back.
+fn refusal(alloc: Global, config: Config) -> Result<Option<(StartError, usize)>, Fail> {
+    let catalog = Catalog::build(alloc, &[])?;
+    let mut lanes = Vec::new(alloc);
+    lanes.push(TestLane::new(0))?;
+    match Manager::start(alloc, config, catalog, lanes, TestLog::new(alloc, 0), 0) {
+        Ok((manager, passes)) => {
+            let (_lanes, _log) = manager.close(passes);
+            Ok(None)
+        }
+        Err(StartRefused { why, lanes, log: _ }) => Ok(Some((why, lanes.len()))),
+    }
+}
+
+#[test]
+fn a_manager_is_refused_and_started(rt: HostRuntime) -> Result<(), Fail> {
+    let config = |frames, passes, lanes| Config {
+        frames,
+        passes,
+        lanes,
+    };
+    let frames = StartError::BadConfig {
+        which: Setting::Frames,
+        number: 15,
+    };
+    let lanes = StartError::LanesDiffer {
+        wanted: 2,
+        given: 1,
+    };
+    assert_eq!(rt; refusal(rt.alloc(), config(15, 3, 1))?, Some((frames, 1)));
+    assert_eq!(rt; refusal(rt.alloc(), config(16, 3, 2))?, Some((lanes, 1)));
+    assert_eq!(rt; refusal(rt.alloc(), config(4096, 64, 1))?, None);
+    Ok(())
+}
+
+#[test]
+fn an_unsound_page_is_refused(rt: HostRuntime) -> Result<(), Fail> {
+    let mut bench = start(
+        rt.alloc(),
+        64,
+        TestLane::numbered(Some(5)),
+        TestLog::new(rt.alloc(), 0),
+        0,
+    )?;
+    let sound = read_once(
+        &bench.manager,
+        &rt,
+        &mut bench.first,
+        0,
+        block(4),
+        &mut None,
+    );
+    let unsound = read_once(
+        &bench.manager,
+        &rt,
+        &mut bench.first,
+        0,
+        block(5),
+        &mut None,
+    );
+    let past = read_once(
+        &bench.manager,
+        &rt,
+        &mut bench.first,
+        0,
+        block(0xFFFF_FFFE),
+        &mut None,
+    );
+    let (lanes, _log) = bench.close();
+    assert_eq!(rt;
+        sound,
+        Ok(Access {
+            frame: 0,
+            hit: false
+        })
+    );
+    assert_eq!(rt; unsound, Err(ReadError::Unsound { tag: block(5) }));
+    assert_eq!(rt;
+        past,
+        Err(ReadError::PastEnd {
+            block: 0xFFFF_FFFE,
+            blocks: 64
+        })
+    );
+    assert_eq!(rt; lanes.first().map(|lane| lane.reads), Some(2));
+    Ok(())
+}
+
+#[test]
+fn no_frame_is_left(rt: HostRuntime) -> Result<(), Fail> {
+    let mut bench = start(
+        rt.alloc(),
+        64,
+        TestLane::numbered(None),
+        TestLog::new(rt.alloc(), 0),
+        0,
+    )?;
+    let crowded = hold_first(
+        &bench.manager,
+        &rt,
+        &mut bench.first,
+        &mut bench.second,
+        &mut bench.third,
+        0,
+    );
+    let (_lanes, _log) = bench.close();
+    assert_eq!(rt;
+        crowded,
+        Some(Crowded {
+            census: Some([0x8304_0001; 16]),
+            refused: Err(ReadError::NoUnpinned { frames: 16 }),
+            full: Some(ReadError::PinsFull),
+            freed: Ok(Access {
+                frame: 15,
+                hit: false
+            }),
+        })
+    );
+    Ok(())
+}
+
+#[test]
+fn pages_are_their_blocks_in_two_threads(rt: HostRuntime) -> Result<(), Fail> {
+    let mut bench = start(
+        rt.alloc(),
+        64,
+        TestLane::numbered(None),
+        TestLog::new(rt.alloc(), 0),
+        0,
+    )?;
+    let wrong = copy_all_twice(
+        &bench.manager,
+        &rt,
+        &mut bench.first,
+        &mut bench.second,
+        64,
+        rt.alloc(),
+    );
+    let (lanes, _log) = bench.close();
+    assert_eq!(rt; wrong, (Some(0), Some(0)));
+    assert!(rt;
+        lanes
+            .first()
+            .is_some_and(|lane| lane.reads >= 64 && lane.writes == 0)
+    );
+    Ok(())
+}
+
+#[test]
+fn copies_beside_changes_are_whole(rt: HostRuntime) -> Result<(), Fail> {
+    let mut bench = start(
+        rt.alloc(),
+        1,
+        TestLane::numbered(None),
+        TestLog::new(rt.alloc(), 0),
+        0,
+    )?;
+    let copied = copy_beside(
+        &bench.manager,
+        &rt,
+        &mut bench.first,
+        &mut bench.second,
+        &mut bench.third,
+        10000,
+        rt.alloc(),
+    );
+    let (_lanes, log) = bench.close();
+    assert_eq!(rt;
+        copied,
+        Copied {
+            changes: Some(10000),
+            torn: (Some(0), Some(0))
+        }
+    );
+    assert_eq!(rt; log.bytes.len(), 82_240_000);
+    Ok(())
+}
+
+#[test]
+fn a_content_lock_that_another_has_is_busy(rt: HostRuntime) -> Result<(), Fail> {
+    let mut bench = start(
+        rt.alloc(),
+        64,
+        TestLane::numbered(None),
+        TestLog::new(rt.alloc(), 0),
+        0,
+    )?;
+    let exclusive = try_beside_exclusive(
+        &bench.manager,
+        &rt,
+        &mut bench.first,
+        &mut bench.second,
+        block(0),
+    );
+    let shared = try_beside_shared(
+        &bench.manager,
+        &rt,
+        &mut bench.first,
+        &mut bench.second,
+        block(0),
+    );
+    let (_lanes, _log) = bench.close();
+    let busy = Some(TryLock::Busy { word: 262144 });
+    assert_eq!(rt;
+        exclusive,
+        Some(Refusals {
+            shared: busy,
+            exclusive: busy
+        })
+    );
+    assert_eq!(rt;
+        shared,
+        Some(Refusals {
+            shared: None,
+            exclusive: Some(TryLock::Busy { word: 1 })
+        })
+    );
+    Ok(())
+}
+
+/// The record of the block 5 that starts here, with a page of one item whose position ends it.
+fn push_record(bytes: &mut Vec<u8>, start: u16, end: u16, item: u8) -> Result<(), Fail> {
+    let mut page = one_item(item);
+    page[4..6].copy_from_slice(&end.to_le_bytes());
+    bytes.extend_from_slice(&[1, 0, 0, 0, 0, 0, 0, 0, 0, 0, 0, 0, 0, 0x40, 0, 0])?;
+    bytes.extend_from_slice(&[0, 0, 0, 0, 5, 0, 0, 0])?;
+    bytes.extend_from_slice(&start.to_le_bytes())?;
+    bytes.extend_from_slice(&[0, 0, 0, 0, 0, 0])?;
+    bytes.extend_from_slice(&page)?;
+    Ok(())
+}
+
+/// A page with one item.
+fn page_of(alloc: Global, item: u8) -> Result<Page, AllocError> {
+    let mut page = Page::zeroed(alloc)?;
+    page.fill(&one_item(item));
+    Ok(page)
+}
+
+#[test]
+fn two_puts_are_two_records(rt: HostRuntime) -> Result<(), Fail> {
+    let page = page_of(rt.alloc(), 7)?;
+    let mut log = TestLog::new(rt.alloc(), 0);
+    let begun = begin_log(&mut log, 0);
+    let mut bench = start(rt.alloc(), 64, TestLane::numbered(None), log, 0)?;
+    let first = put_once(
+        &bench.manager,
+        &rt,
+        &mut bench.first,
+        0,
+        block(5),
+        &page,
+        &mut None,
+    );
+    let second = put_once(
+        &bench.manager,
+        &rt,
+        &mut bench.second,
+        1,
+        block(5),
+        &page,
+        &mut None,
+    );
+    let (_lanes, log) = bench.close();
+    let mut expected = Vec::new(rt.alloc());
+    expected.extend_from_slice(b"PGBUFLOG\0\0\0\0\0\0\0\0")?;
+    push_record(&mut expected, 0, 0x2020, 7)?;
+    push_record(&mut expected, 0x2020, 0x4040, 7)?;
+    assert_eq!(rt;
+        (begun, first, second),
+        (Ok(()), Some(Ok(8224)), Some(Ok(16448)))
+    );
+    assert_eq!(rt; log.bytes.len(), 16464);
+    assert!(rt; log.bytes == expected);
+    Ok(())
+}
+
+#[test]
+fn a_read_sees_what_another_put(rt: HostRuntime) -> Result<(), Fail> {
+    let mut before = Page::zeroed(rt.alloc())?;
+    let mut after = Page::zeroed(rt.alloc())?;
+    let page = page_of(rt.alloc(), 5)?;
+    let mut bench = start(
+        rt.alloc(),
+        64,
+        TestLane::numbered(None),
+        TestLog::new(rt.alloc(), 0),
+        0,
+    )?;
+    let first = copy_once(
+        &bench.manager,
+        &rt,
+        &mut bench.first,
+        0,
+        block(0),
+        &mut before,
+    );
+    let put = put_once(
+        &bench.manager,
+        &rt,
+        &mut bench.second,
+        1,
+        block(0),
+        &page,
+        &mut None,
+    );
+    let second = copy_once(
+        &bench.manager,
+        &rt,
+        &mut bench.first,
+        0,
+        block(0),
+        &mut after,
+    );
+    let (lanes, _log) = bench.close();
+    assert_eq!(rt; (first, put, second), (Ok(0), Some(Ok(8224)), Ok(8224)));
+    assert_eq!(rt;
+        (before.bytes()[8184], after.bytes()[8184], after.lsn()),
+        (0, 5, 8224)
+    );
+    assert_eq!(rt; lanes.first().map(|lane| lane.reads), Some(1));
+    Ok(())
+}
+
+#[test]
+fn the_last_position_fills_the_log(rt: HostRuntime) -> Result<(), Fail> {
+    let page = page_of(rt.alloc(), 7)?;
+    let end = 0x4000_0000_0000_0000;
+    let mut bench = start(
+        rt.alloc(),
+        64,
+        TestLane::numbered(None),
+        TestLog::new(rt.alloc(), 0),
+        end - 8224,
+    )?;
+    let first = put_once(
+        &bench.manager,
+        &rt,
+        &mut bench.first,
+        0,
+        block(5),
+        &page,
+        &mut None,
+    );
+    let second = put_once(
+        &bench.manager,
+        &rt,
+        &mut bench.first,
+        0,
+        block(5),
+        &page,
+        &mut None,
+    );
+    let (_lanes, _log) = bench.close();
+    assert_eq!(rt; first, Some(Ok(end)));
+    assert_eq!(rt; second, Some(Err(PutError::LogFull { end })));
+    Ok(())
+}
+
+#[test]
+fn a_position_behind_the_log_is_refused(rt: HostRuntime) -> Result<(), Fail> {
+    let page = page_of(rt.alloc(), 7)?;
+    let end = 0x4000_0000_0000_0000;
+    let mut bench = start(
+        rt.alloc(),
+        64,
+        TestLane::positioned(end + 8),
+        TestLog::new(rt.alloc(), 0),
+        end,
+    )?;
+    let put = put_once(
+        &bench.manager,
+        &rt,
+        &mut bench.first,
+        0,
+        block(5),
+        &page,
+        &mut None,
+    );
+    let flushed = flush_once(&bench.manager, &rt, &mut bench.first, 0, block(5));
+    let (_lanes, _log) = bench.close();
+    assert_eq!(rt; put, Some(Err(PutError::LogFull { end })));
+    assert_eq!(rt;
+        flushed,
+        Some(Err(FlushError::LogShort { lsn: end + 8, end }))
+    );
+    Ok(())
+}
+
+/// What came of a put, of two flushes behind it, and of a put behind them; and how many pages the lane was given, and how often the log was synced.
+#[derive(Clone, Copy, PartialEq, Debug)]
+struct Tries {
+    first: Option<Result<u64, PutError>>,
+    flushed: Option<Result<bool, FlushError>>,
+    again: Option<Result<bool, FlushError>>,
+    second: Option<Result<u64, PutError>>,
+    writes: u32,
+    syncs: u32,
+}
+
+/// Over a log and a lane of which one call may fail.
+fn tries<R: Wait>(rt: &R, alloc: Global, lane: TestLane, log: TestLog) -> Result<Tries, Fail> {
+    let page = page_of(alloc, 7)?;
+    let tag = block(5);
+    let mut bench = start(alloc, 64, lane, log, 0)?;
+    let first = put_once(
+        &bench.manager,
+        rt,
+        &mut bench.first,
+        0,
+        tag,
+        &page,
+        &mut None,
+    );
+    let flushed = flush_once(&bench.manager, rt, &mut bench.first, 0, tag);
+    let again = flush_once(&bench.manager, rt, &mut bench.first, 0, tag);
+    let second = put_once(
+        &bench.manager,
+        rt,
+        &mut bench.first,
+        0,
+        tag,
+        &page,
+        &mut None,
+    );
+    let (lanes, log) = bench.close();
+    Ok(Tries {
+        first,
+        flushed,
+        again,
+        second,
+        writes: lanes.first().map_or(0, |lane| lane.writes),
+        syncs: log.syncs,
+    })
+}
+
+#[test]
+fn a_dirty_frame_is_written_once(rt: HostRuntime) -> Result<(), Fail> {
+    let tries = tries(
+        &rt,
+        rt.alloc(),
+        TestLane::numbered(None),
+        TestLog::new(rt.alloc(), 0),
+    )?;
+    assert_eq!(rt;
+        tries,
+        Tries {
+            first: Some(Ok(8224)),
+            flushed: Some(Ok(true)),
+            again: Some(Ok(false)),
+            second: Some(Ok(16448)),
+            writes: 1,
+            syncs: 1,
+        }
+    );
+    Ok(())
+}
+
+#[test]
+fn a_log_is_down_after_an_append_that_failed(rt: HostRuntime) -> Result<(), Fail> {
+    let tries = tries(
+        &rt,
+        rt.alloc(),
+        TestLane::numbered(None),
+        TestLog::new(rt.alloc(), 1),
+    )?;
+    assert_eq!(rt;
+        tries,
+        Tries {
+            first: Some(Err(PutError::LogFault)),
+            flushed: Some(Ok(true)),
+            again: Some(Ok(false)),
+            second: Some(Err(PutError::LogDown { at: 0 })),
+            writes: 1,
+            syncs: 0,
+        }
+    );
+    Ok(())
+}
+
+#[test]
+fn no_page_is_written_before_its_log(rt: HostRuntime) -> Result<(), Fail> {
+    let tries = tries(
+        &rt,
+        rt.alloc(),
+        TestLane::numbered(None),
+        TestLog::new(rt.alloc(), 2),
+    )?;
+    assert_eq!(rt;
+        tries,
+        Tries {
+            first: Some(Ok(8224)),
+            flushed: Some(Err(FlushError::LogFault)),
+            again: Some(Err(FlushError::LogDown { at: 8224 })),
+            second: Some(Err(PutError::LogDown { at: 8224 })),
+            writes: 0,
+            syncs: 0,
+        }
+    );
+    Ok(())
+}
+
+#[test]
+fn a_frame_stays_dirty_after_a_write_that_failed(rt: HostRuntime) -> Result<(), Fail> {
+    let tries = tries(
+        &rt,
+        rt.alloc(),
+        TestLane::new(1),
+        TestLog::new(rt.alloc(), 0),
+    )?;
+    assert_eq!(rt;
+        tries,
+        Tries {
+            first: Some(Ok(8224)),
+            flushed: Some(Err(FlushError::WriteFault { tag: block(5) })),
+            again: Some(Ok(true)),
+            second: Some(Ok(16448)),
+            writes: 2,
+            syncs: 1,
+        }
+    );
+    Ok(())
+}
+
+#[test]
+fn an_append_that_failed_leaves_the_first_put_unflushed(rt: HostRuntime) -> Result<(), Fail> {
+    let page = page_of(rt.alloc(), 7)?;
+    let mut log = TestLog::new(rt.alloc(), 3);
+    let begun = begin_log(&mut log, 0);
+    let mut bench = start(rt.alloc(), 64, TestLane::numbered(None), log, 0)?;
+    let first = put_once(
+        &bench.manager,
+        &rt,
+        &mut bench.first,
+        0,
+        block(5),
+        &page,
+        &mut None,
+    );
+    let second = put_once(
+        &bench.manager,
+        &rt,
+        &mut bench.first,
+        0,
+        block(5),
+        &page,
+        &mut None,
+    );
+    let flushed = flush_once(&bench.manager, &rt, &mut bench.first, 0, block(5));
+    let (_lanes, log) = bench.close();
+    assert_eq!(rt;
+        (begun, first, second),
+        (Ok(()), Some(Ok(8224)), Some(Err(PutError::LogFault)))
+    );
+    assert_eq!(rt; flushed, Some(Err(FlushError::LogDown { at: 8224 })));
+    assert_eq!(rt; log.bytes.len(), 8240);
+    Ok(())
+}
+
+/// The frames of the blocks 1 and 2, which are read through a ring behind a put to block 0; how many pages the lane was given, and how often the log was synced.
+fn ringed<R: Wait>(
+    rt: &R,
+    alloc: Global,
+    kind: RingKind,
+) -> Result<(Access, Access, u32, u32), Fail> {
+    let page = page_of(alloc, 7)?;
+    let mut ring = Some(Ring::build(alloc, kind, 16)?);
+    let mut bench = start(
+        alloc,
+        64,
+        TestLane::numbered(None),
+        TestLog::new(alloc, 0),
+        0,
+    )?;
+    let _put = put_once(
+        &bench.manager,
+        rt,
+        &mut bench.first,
+        0,
+        block(0),
+        &page,
+        &mut ring,
+    );
+    let second = read_once(&bench.manager, rt, &mut bench.first, 0, block(1), &mut ring);
+    let third = read_once(&bench.manager, rt, &mut bench.first, 0, block(2), &mut ring);
+    let (lanes, log) = bench.close();
+    Ok((
+        second?,
+        third?,
+        lanes.first().map_or(0, |lane| lane.writes),
+        log.syncs,
+    ))
+}
+
+#[test]
+fn a_ring_for_bulk_reads_gives_a_dirty_frame_up(rt: HostRuntime) -> Result<(), Fail> {
+    let read = |frame| Access { frame, hit: false };
+    assert_eq!(rt;
+        ringed(&rt, rt.alloc(), RingKind::BulkRead)?,
+        (read(1), read(1), 0, 0)
+    );
+    assert_eq!(rt;
+        ringed(&rt, rt.alloc(), RingKind::Vacuum)?,
+        (read(1), read(0), 1, 1)
+    );
+    Ok(())
+}
