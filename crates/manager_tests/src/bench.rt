@@ -16,7 +16,7 @@ pub struct Bench<L: BlockLane, G: LogDevice> {
     pub second: Pass,
     pub third: Pass,
     /// Empty, with room for them.
-    passes: Vec<Pass>,
+    pub passes: Vec<Pass>,
     ghost room: { (passes.items ≡ []) × (3 ≤ vec_capacity passes) },
 }
 

@@ -1,5 +1,5 @@
 //! Managers that are run.
-use crate::bench::{block, start};
+use crate::bench::{Bench, block, start};
 use crate::crowding::{Crowded, hold_first};
 use crate::locking::{Refusals, try_beside_exclusive, try_beside_shared};
 use crate::putting::{flush_once, put_once};
@@ -54,38 +54,30 @@ fn a_manager_is_refused_and_started(rt: HostRuntime) -> Result<(), Fail> {
 
 #[test]
 fn an_unsound_page_is_refused(rt: HostRuntime) -> Result<(), Fail> {
-    let mut bench = start(
+    let Bench {
+        manager,
+        mut first,
+        second,
+        third,
+        passes,
+    } = start(
         rt.alloc(),
         64,
         TestLane::numbered(Some(5)),
         TestLog::new(rt.alloc(), 0),
         0,
     )?;
-    let sound = read_once(
-        &bench.manager,
-        &rt,
-        &mut bench.first,
-        0,
-        block(4),
-        &mut None,
-    );
-    let unsound = read_once(
-        &bench.manager,
-        &rt,
-        &mut bench.first,
-        0,
-        block(5),
-        &mut None,
-    );
-    let past = read_once(
-        &bench.manager,
-        &rt,
-        &mut bench.first,
-        0,
-        block(0xFFFF_FFFE),
-        &mut None,
-    );
-    let (lanes, _log) = bench.close();
+    let sound = read_once(&manager, &rt, &mut first, 0, block(4), &mut None);
+    let unsound = read_once(&manager, &rt, &mut first, 0, block(5), &mut None);
+    let past = read_once(&manager, &rt, &mut first, 0, block(0xFFFF_FFFE), &mut None);
+    let (lanes, _log) = Bench {
+        manager,
+        first,
+        second,
+        third,
+        passes,
+    }
+    .close();
     assert_eq!(rt;
         sound,
         Ok(Access {
@@ -107,22 +99,28 @@ fn an_unsound_page_is_refused(rt: HostRuntime) -> Result<(), Fail> {
 
 #[test]
 fn no_frame_is_left(rt: HostRuntime) -> Result<(), Fail> {
-    let mut bench = start(
+    let Bench {
+        manager,
+        mut first,
+        mut second,
+        mut third,
+        passes,
+    } = start(
         rt.alloc(),
         64,
         TestLane::numbered(None),
         TestLog::new(rt.alloc(), 0),
         0,
     )?;
-    let crowded = hold_first(
-        &bench.manager,
-        &rt,
-        &mut bench.first,
-        &mut bench.second,
-        &mut bench.third,
-        0,
-    );
-    let (_lanes, _log) = bench.close();
+    let crowded = hold_first(&manager, &rt, &mut first, &mut second, &mut third, 0);
+    let (_lanes, _log) = Bench {
+        manager,
+        first,
+        second,
+        third,
+        passes,
+    }
+    .close();
     assert_eq!(rt;
         crowded,
         Some(Crowded {
@@ -140,22 +138,28 @@ fn no_frame_is_left(rt: HostRuntime) -> Result<(), Fail> {
 
 #[test]
 fn pages_are_their_blocks_in_two_threads(rt: HostRuntime) -> Result<(), Fail> {
-    let mut bench = start(
+    let Bench {
+        manager,
+        mut first,
+        mut second,
+        third,
+        passes,
+    } = start(
         rt.alloc(),
         64,
         TestLane::numbered(None),
         TestLog::new(rt.alloc(), 0),
         0,
     )?;
-    let wrong = copy_all_twice(
-        &bench.manager,
-        &rt,
-        &mut bench.first,
-        &mut bench.second,
-        64,
-        rt.alloc(),
-    );
-    let (lanes, _log) = bench.close();
+    let wrong = copy_all_twice(&manager, &rt, &mut first, &mut second, 64, rt.alloc());
+    let (lanes, _log) = Bench {
+        manager,
+        first,
+        second,
+        third,
+        passes,
+    }
+    .close();
     assert_eq!(rt; wrong, (Some(0), Some(0)));
     assert!(rt;
         lanes
@@ -167,7 +171,13 @@ fn pages_are_their_blocks_in_two_threads(rt: HostRuntime) -> Result<(), Fail> {
 
 #[test]
 fn copies_beside_changes_are_whole(rt: HostRuntime) -> Result<(), Fail> {
-    let mut bench = start(
+    let Bench {
+        manager,
+        mut first,
+        mut second,
+        mut third,
+        passes,
+    } = start(
         rt.alloc(),
         1,
         TestLane::numbered(None),
@@ -175,15 +185,22 @@ fn copies_beside_changes_are_whole(rt: HostRuntime) -> Result<(), Fail> {
         0,
     )?;
     let copied = copy_beside(
-        &bench.manager,
+        &manager,
         &rt,
-        &mut bench.first,
-        &mut bench.second,
-        &mut bench.third,
+        &mut first,
+        &mut second,
+        &mut third,
         10000,
         rt.alloc(),
     );
-    let (_lanes, log) = bench.close();
+    let (_lanes, log) = Bench {
+        manager,
+        first,
+        second,
+        third,
+        passes,
+    }
+    .close();
     assert_eq!(rt;
         copied,
         Copied {
@@ -197,28 +214,29 @@ fn copies_beside_changes_are_whole(rt: HostRuntime) -> Result<(), Fail> {
 
 #[test]
 fn a_content_lock_that_another_has_is_busy(rt: HostRuntime) -> Result<(), Fail> {
-    let mut bench = start(
+    let Bench {
+        manager,
+        mut first,
+        mut second,
+        third,
+        passes,
+    } = start(
         rt.alloc(),
         64,
         TestLane::numbered(None),
         TestLog::new(rt.alloc(), 0),
         0,
     )?;
-    let exclusive = try_beside_exclusive(
-        &bench.manager,
-        &rt,
-        &mut bench.first,
-        &mut bench.second,
-        block(0),
-    );
-    let shared = try_beside_shared(
-        &bench.manager,
-        &rt,
-        &mut bench.first,
-        &mut bench.second,
-        block(0),
-    );
-    let (_lanes, _log) = bench.close();
+    let exclusive = try_beside_exclusive(&manager, &rt, &mut first, &mut second, block(0));
+    let shared = try_beside_shared(&manager, &rt, &mut first, &mut second, block(0));
+    let (_lanes, _log) = Bench {
+        manager,
+        first,
+        second,
+        third,
+        passes,
+    }
+    .close();
     let busy = Some(TryLock::Busy { word: 262144 });
     assert_eq!(rt;
         exclusive,
@@ -261,32 +279,29 @@ fn two_puts_are_two_records(rt: HostRuntime) -> Result<(), Fail> {
     let page = page_of(rt.alloc(), 7)?;
     let mut log = TestLog::new(rt.alloc(), 0);
     let begun = begin_log(&mut log, 0);
-    let mut bench = start(rt.alloc(), 64, TestLane::numbered(None), log, 0)?;
-    let first = put_once(
-        &bench.manager,
-        &rt,
-        &mut bench.first,
-        0,
-        block(5),
-        &page,
-        &mut None,
-    );
-    let second = put_once(
-        &bench.manager,
-        &rt,
-        &mut bench.second,
-        1,
-        block(5),
-        &page,
-        &mut None,
-    );
-    let (_lanes, log) = bench.close();
+    let Bench {
+        manager,
+        mut first,
+        mut second,
+        third,
+        passes,
+    } = start(rt.alloc(), 64, TestLane::numbered(None), log, 0)?;
+    let earlier = put_once(&manager, &rt, &mut first, 0, block(5), &page, &mut None);
+    let later = put_once(&manager, &rt, &mut second, 1, block(5), &page, &mut None);
+    let (_lanes, log) = Bench {
+        manager,
+        first,
+        second,
+        third,
+        passes,
+    }
+    .close();
     let mut expected = Vec::new(rt.alloc());
     expected.extend_from_slice(b"PGBUFLOG\0\0\0\0\0\0\0\0")?;
     push_record(&mut expected, 0, 0x2020, 7)?;
     push_record(&mut expected, 0x2020, 0x4040, 7)?;
     assert_eq!(rt;
-        (begun, first, second),
+        (begun, earlier, later),
         (Ok(()), Some(Ok(8224)), Some(Ok(16448)))
     );
     assert_eq!(rt; log.bytes.len(), 16464);
@@ -299,40 +314,31 @@ fn a_read_sees_what_another_put(rt: HostRuntime) -> Result<(), Fail> {
     let mut before = Page::zeroed(rt.alloc())?;
     let mut after = Page::zeroed(rt.alloc())?;
     let page = page_of(rt.alloc(), 5)?;
-    let mut bench = start(
+    let Bench {
+        manager,
+        mut first,
+        mut second,
+        third,
+        passes,
+    } = start(
         rt.alloc(),
         64,
         TestLane::numbered(None),
         TestLog::new(rt.alloc(), 0),
         0,
     )?;
-    let first = copy_once(
-        &bench.manager,
-        &rt,
-        &mut bench.first,
-        0,
-        block(0),
-        &mut before,
-    );
-    let put = put_once(
-        &bench.manager,
-        &rt,
-        &mut bench.second,
-        1,
-        block(0),
-        &page,
-        &mut None,
-    );
-    let second = copy_once(
-        &bench.manager,
-        &rt,
-        &mut bench.first,
-        0,
-        block(0),
-        &mut after,
-    );
-    let (lanes, _log) = bench.close();
-    assert_eq!(rt; (first, put, second), (Ok(0), Some(Ok(8224)), Ok(8224)));
+    let earlier = copy_once(&manager, &rt, &mut first, 0, block(0), &mut before);
+    let put = put_once(&manager, &rt, &mut second, 1, block(0), &page, &mut None);
+    let later = copy_once(&manager, &rt, &mut first, 0, block(0), &mut after);
+    let (lanes, _log) = Bench {
+        manager,
+        first,
+        second,
+        third,
+        passes,
+    }
+    .close();
+    assert_eq!(rt; (earlier, put, later), (Ok(0), Some(Ok(8224)), Ok(8224)));
     assert_eq!(rt;
         (before.bytes()[8184], after.bytes()[8184], after.lsn()),
         (0, 5, 8224)
@@ -345,34 +351,31 @@ fn a_read_sees_what_another_put(rt: HostRuntime) -> Result<(), Fail> {
 fn the_last_position_fills_the_log(rt: HostRuntime) -> Result<(), Fail> {
     let page = page_of(rt.alloc(), 7)?;
     let end = 0x4000_0000_0000_0000;
-    let mut bench = start(
+    let Bench {
+        manager,
+        mut first,
+        second,
+        third,
+        passes,
+    } = start(
         rt.alloc(),
         64,
         TestLane::numbered(None),
         TestLog::new(rt.alloc(), 0),
         end - 8224,
     )?;
-    let first = put_once(
-        &bench.manager,
-        &rt,
-        &mut bench.first,
-        0,
-        block(5),
-        &page,
-        &mut None,
-    );
-    let second = put_once(
-        &bench.manager,
-        &rt,
-        &mut bench.first,
-        0,
-        block(5),
-        &page,
-        &mut None,
-    );
-    let (_lanes, _log) = bench.close();
-    assert_eq!(rt; first, Some(Ok(end)));
-    assert_eq!(rt; second, Some(Err(PutError::LogFull { end })));
+    let earlier = put_once(&manager, &rt, &mut first, 0, block(5), &page, &mut None);
+    let later = put_once(&manager, &rt, &mut first, 0, block(5), &page, &mut None);
+    let (_lanes, _log) = Bench {
+        manager,
+        first,
+        second,
+        third,
+        passes,
+    }
+    .close();
+    assert_eq!(rt; earlier, Some(Ok(end)));
+    assert_eq!(rt; later, Some(Err(PutError::LogFull { end })));
     Ok(())
 }
 
@@ -380,24 +383,29 @@ fn the_last_position_fills_the_log(rt: HostRuntime) -> Result<(), Fail> {
 fn a_position_behind_the_log_is_refused(rt: HostRuntime) -> Result<(), Fail> {
     let page = page_of(rt.alloc(), 7)?;
     let end = 0x4000_0000_0000_0000;
-    let mut bench = start(
+    let Bench {
+        manager,
+        mut first,
+        second,
+        third,
+        passes,
+    } = start(
         rt.alloc(),
         64,
         TestLane::positioned(end + 8),
         TestLog::new(rt.alloc(), 0),
         end,
     )?;
-    let put = put_once(
-        &bench.manager,
-        &rt,
-        &mut bench.first,
-        0,
-        block(5),
-        &page,
-        &mut None,
-    );
-    let flushed = flush_once(&bench.manager, &rt, &mut bench.first, 0, block(5));
-    let (_lanes, _log) = bench.close();
+    let put = put_once(&manager, &rt, &mut first, 0, block(5), &page, &mut None);
+    let flushed = flush_once(&manager, &rt, &mut first, 0, block(5));
+    let (_lanes, _log) = Bench {
+        manager,
+        first,
+        second,
+        third,
+        passes,
+    }
+    .close();
     assert_eq!(rt; put, Some(Err(PutError::LogFull { end })));
     assert_eq!(rt;
         flushed,
@@ -406,7 +414,7 @@ fn a_position_behind_the_log_is_refused(rt: HostRuntime) -> Result<(), Fail> {
     Ok(())
 }
 
-/// What came of a put, of two flushes behind it, and of a put behind them; and how many pages the lane was given, and how often the log was synced.
+/// What came of a put, of two flushes after it, and of a put after them; and how many pages the lane was given, and how often the log was synced.
 #[derive(Clone, Copy, PartialEq, Debug)]
 struct Tries {
     first: Option<Result<u64, PutError>>,
@@ -417,37 +425,39 @@ struct Tries {
     syncs: u32,
 }
 
-/// Over a log and a lane of which one call may fail.
-fn tries<R: Wait>(rt: &R, alloc: Global, lane: TestLane, log: TestLog) -> Result<Tries, Fail> {
+/// Puts and flushes a page, over a log and a lane of which one call may fail.
+fn put_and_flush<R: Wait>(
+    rt: &R,
+    alloc: Global,
+    lane: TestLane,
+    log: TestLog,
+) -> Result<Tries, Fail> {
     let page = page_of(alloc, 7)?;
     let tag = block(5);
-    let mut bench = start(alloc, 64, lane, log, 0)?;
-    let first = put_once(
-        &bench.manager,
-        rt,
-        &mut bench.first,
-        0,
-        tag,
-        &page,
-        &mut None,
-    );
-    let flushed = flush_once(&bench.manager, rt, &mut bench.first, 0, tag);
-    let again = flush_once(&bench.manager, rt, &mut bench.first, 0, tag);
-    let second = put_once(
-        &bench.manager,
-        rt,
-        &mut bench.first,
-        0,
-        tag,
-        &page,
-        &mut None,
-    );
-    let (lanes, log) = bench.close();
-    Ok(Tries {
+    let Bench {
+        manager,
+        mut first,
+        second,
+        third,
+        passes,
+    } = start(alloc, 64, lane, log, 0)?;
+    let earlier = put_once(&manager, rt, &mut first, 0, tag, &page, &mut None);
+    let flushed = flush_once(&manager, rt, &mut first, 0, tag);
+    let again = flush_once(&manager, rt, &mut first, 0, tag);
+    let later = put_once(&manager, rt, &mut first, 0, tag, &page, &mut None);
+    let (lanes, log) = Bench {
+        manager,
         first,
+        second,
+        third,
+        passes,
+    }
+    .close();
+    Ok(Tries {
+        first: earlier,
         flushed,
         again,
-        second,
+        second: later,
         writes: lanes.first().map_or(0, |lane| lane.writes),
         syncs: log.syncs,
     })
@@ -455,7 +465,7 @@ fn tries<R: Wait>(rt: &R, alloc: Global, lane: TestLane, log: TestLog) -> Result
 
 #[test]
 fn a_dirty_frame_is_written_once(rt: HostRuntime) -> Result<(), Fail> {
-    let tries = tries(
+    let tries = put_and_flush(
         &rt,
         rt.alloc(),
         TestLane::numbered(None),
@@ -477,7 +487,7 @@ fn a_dirty_frame_is_written_once(rt: HostRuntime) -> Result<(), Fail> {
 
 #[test]
 fn a_log_is_down_after_an_append_that_failed(rt: HostRuntime) -> Result<(), Fail> {
-    let tries = tries(
+    let tries = put_and_flush(
         &rt,
         rt.alloc(),
         TestLane::numbered(None),
@@ -499,7 +509,7 @@ fn a_log_is_down_after_an_append_that_failed(rt: HostRuntime) -> Result<(), Fail
 
 #[test]
 fn no_page_is_written_before_its_log(rt: HostRuntime) -> Result<(), Fail> {
-    let tries = tries(
+    let tries = put_and_flush(
         &rt,
         rt.alloc(),
         TestLane::numbered(None),
@@ -521,7 +531,7 @@ fn no_page_is_written_before_its_log(rt: HostRuntime) -> Result<(), Fail> {
 
 #[test]
 fn a_frame_stays_dirty_after_a_write_that_failed(rt: HostRuntime) -> Result<(), Fail> {
-    let tries = tries(
+    let tries = put_and_flush(
         &rt,
         rt.alloc(),
         TestLane::new(1),
@@ -546,29 +556,26 @@ fn an_append_that_failed_leaves_the_first_put_unflushed(rt: HostRuntime) -> Resu
     let page = page_of(rt.alloc(), 7)?;
     let mut log = TestLog::new(rt.alloc(), 3);
     let begun = begin_log(&mut log, 0);
-    let mut bench = start(rt.alloc(), 64, TestLane::numbered(None), log, 0)?;
-    let first = put_once(
-        &bench.manager,
-        &rt,
-        &mut bench.first,
-        0,
-        block(5),
-        &page,
-        &mut None,
-    );
-    let second = put_once(
-        &bench.manager,
-        &rt,
-        &mut bench.first,
-        0,
-        block(5),
-        &page,
-        &mut None,
-    );
-    let flushed = flush_once(&bench.manager, &rt, &mut bench.first, 0, block(5));
-    let (_lanes, log) = bench.close();
+    let Bench {
+        manager,
+        mut first,
+        second,
+        third,
+        passes,
+    } = start(rt.alloc(), 64, TestLane::numbered(None), log, 0)?;
+    let earlier = put_once(&manager, &rt, &mut first, 0, block(5), &page, &mut None);
+    let later = put_once(&manager, &rt, &mut first, 0, block(5), &page, &mut None);
+    let flushed = flush_once(&manager, &rt, &mut first, 0, block(5));
+    let (_lanes, log) = Bench {
+        manager,
+        first,
+        second,
+        third,
+        passes,
+    }
+    .close();
     assert_eq!(rt;
-        (begun, first, second),
+        (begun, earlier, later),
         (Ok(()), Some(Ok(8224)), Some(Err(PutError::LogFault)))
     );
     assert_eq!(rt; flushed, Some(Err(FlushError::LogDown { at: 8224 })));
@@ -584,28 +591,33 @@ fn ringed<R: Wait>(
 ) -> Result<(Access, Access, u32, u32), Fail> {
     let page = page_of(alloc, 7)?;
     let mut ring = Some(Ring::build(alloc, kind, 16)?);
-    let mut bench = start(
+    let Bench {
+        manager,
+        mut first,
+        second,
+        third,
+        passes,
+    } = start(
         alloc,
         64,
         TestLane::numbered(None),
         TestLog::new(alloc, 0),
         0,
     )?;
-    let _put = put_once(
-        &bench.manager,
-        rt,
-        &mut bench.first,
-        0,
-        block(0),
-        &page,
-        &mut ring,
-    );
-    let second = read_once(&bench.manager, rt, &mut bench.first, 0, block(1), &mut ring);
-    let third = read_once(&bench.manager, rt, &mut bench.first, 0, block(2), &mut ring);
-    let (lanes, log) = bench.close();
+    let _put = put_once(&manager, rt, &mut first, 0, block(0), &page, &mut ring);
+    let earlier = read_once(&manager, rt, &mut first, 0, block(1), &mut ring);
+    let later = read_once(&manager, rt, &mut first, 0, block(2), &mut ring);
+    let (lanes, log) = Bench {
+        manager,
+        first,
+        second,
+        third,
+        passes,
+    }
+    .close();
     Ok((
-        second?,
-        third?,
+        earlier?,
+        later?,
         lanes.first().map_or(0, |lane| lane.writes),
         log.syncs,
     ))
