@@ -406,7 +406,7 @@ fn a_position_behind_the_log_is_refused(rt: HostRuntime) -> Result<(), Fail> {
     Ok(())
 }
 
-/// What came of a put, of two flushes behind it, and of a put behind them; and how many pages the lane was given, and how often the log was synced.
+/// What came of a put, of two flushes after it, and of a put after them; and how many pages the lane was given, and how often the log was synced.
 #[derive(Clone, Copy, PartialEq, Debug)]
 struct Tries {
     first: Option<Result<u64, PutError>>,
@@ -576,7 +576,7 @@ fn an_append_that_failed_leaves_the_first_put_unflushed(rt: HostRuntime) -> Resu
     Ok(())
 }
 
-/// The frames of the blocks 1 and 2, which are read through a ring behind a put to block 0; how many pages the lane was given, and how often the log was synced.
+/// The frames of the blocks 1 and 2, which are read through a ring after a put to block 0; how many pages the lane was given, and how often the log was synced.
 fn ringed<R: Wait>(
     rt: &R,
     alloc: Global,
