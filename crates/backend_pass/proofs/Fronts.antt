@@ -5,7 +5,7 @@ use lib.ListN.{get_elem?}
 use Rattle.grid.proofs.Lists.{at_end}
 use Rattle.pin_core.specs.declared.view.Call.{Call}
 use Rattle.pin_core.specs.declared.view.View.{View}
-use Rattle.history_core.specs.Log.{HasPlace, IsFront, place_of}
+use Rattle.history_core.specs.Log.{IsFront, place_of}
 
 pub at_last : {A : Type 0} (xs : List A) (y : A) (ys : List A) → get_elem? (xs ++ y ∷ ys) (length xs) ≡ some y
 at_last [] y ys = refl

@@ -1,34 +1,16 @@
 -- A pass reads a page.
-use Rattle.std.proofs.Common.{◌≡◌, ◌≢◌, ◌≤◌, ◌+◌, ◌++◌, ℕ, true, max, [], ◌∷◌, Option, Some, None, append-nil, refl, sym, ap, ◌∙◌, subst, arith}
+use Rattle.std.proofs.Common.{◌≡◌, ◌≢◌, ◌≤◌, ℕ, Option, Some, sym, ap, ◌∙◌, subst, arith}
 use Rattle.std.specs.Prelude.{option_map}
 use Rattle.block_tag.specs.declared.tag.Tag.{Tag}
 use Rattle.block_tag.specs.Names.{packed_tag}
-use Rattle.page_layout.specs.Soundness.{is_sound_page}
 use Rattle.segment_store.specs.Contents.{Pages}
 use Rattle.pin_core.specs.declared.view.Call.TheVariants as call
-use Rattle.pin_core.specs.declared.view.Content.{Content}
-use Rattle.pin_core.specs.declared.view.Content.TheVariants.{Unlocked, Shared}
-use Rattle.pin_core.specs.declared.view.Io.TheVariants.{Quiet, Output}
-use Rattle.pin_core.specs.declared.view.Link.{Link}
-use Rattle.pin_core.specs.declared.view.Seen.TheVariants as seen
 use Rattle.pin_core.specs.declared.view.View.{View}
 use Rattle.pin_core.specs.State.{Page, link}
-use Rattle.pin_core.specs.Kinds.{load_of}
-use Rattle.history_core.specs.Steps.{has_read, looked}
-use Rattle.page_core.specs.Kinds as kinds
-use Rattle.frame_table.specs.declared.log_words.EndLoad.TheVariants.{Read}
-use Rattle.frame_table.specs.declared.table.FrameTable.{FrameTable}
-use Rattle.frame_table.specs.Content.{CanDropShare, shared_link, unshared_link}
-use Rattle.frame_table.specs.EndLoads.{ReadsOpening, end_kind}
-use Rattle.frame_table.specs.FrameSteps.{Did}
-use Rattle.frame_table.specs.Kinds.{pages}
-use Rattle.frame_table.specs.Seats.{OnlyRises, SameMarks, Touches, base_of, view_marks}
-use Rattle.frame_table.specs.WordSteps.{DidWord, IsCopied, read_end, read_of, view_of}
-use Rattle.content_locks.specs.Locks.{CanCopy, Copies, LocksContent, copied_link}
+use Rattle.frame_table.specs.Seats.{base_of}
 use Rattle.held_pins.specs.Tokens.{HeldFrame, IsPinnedFor, Tokens, held_at}
-use Rattle.held_pins.specs.Rests.{IsCalm, LinkRests, Rests}
-use Rattle.frame_table.proofs.Rising.{rises_by, rises_on, rises_touched}
-use Rattle.held_pins.proofs.Keeping.{beside, beside_kept, devices_same, latches_same, link_same, rests_with}
+use Rattle.held_pins.specs.Rests.{LinkRests, Rests}
+use Rattle.held_pins.proofs.Keeping.{beside, beside_kept, devices_same, latches_same, rests_with}
 use Rattle.backend_pass.specs.declared.manager.Manager.{Manager}
 use Rattle.backend_pass.specs.declared.met.Shown.{Shown}
 use Rattle.backend_pass.specs.Managers.{Belongs}

@@ -57,8 +57,8 @@ abbrev pub EachPass : (PassState → Type 0) → List PassState → Type 0
 EachPass P ps = (i : ℕ) (p : PassState) → get_elem? ps i ≡ some p → P p
 
 -- it never marked a frame dirty or synced a lane; it put no page
-abbrev pub IsUnmarked : PassState → Type 0
-IsUnmarked p = p.view.dirtied_or_synced ≡ false
+abbrev pub HasNoMark : PassState → Type 0
+HasNoMark p = p.view.dirtied_or_synced ≡ false
 
 abbrev pub PutNothing : PassState → Type 0
 PutNothing p = writes_in p.view.calls ≡ 0
@@ -104,5 +104,5 @@ module _ {L G : Type 0} where
     pub logs_met : state.log_faults < state.device.faults → 0 < (met_by_passes ps).logs
     -- where a block's last write failed a fault of writing was met
     pub failed_met : (tag : ℕ) → failed state tag ≡ true → 0 < (met_by_passes ps).writes
-    pub unmarked : EachPass IsUnmarked ps → NothingWritten state ps
+    pub unmarked : EachPass HasNoMark ps → NothingWritten state ps
     pub without_puts : EachPass PutNothing ps → NothingPut state ps

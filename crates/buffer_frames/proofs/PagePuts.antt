@@ -1,38 +1,34 @@
 -- A page is put.
-use Rattle.std.proofs.Common.{◌≡◌, ◌≢◌, ◌<◌, ◌≤◌, ℕ, List, [], ◌∷◌, ◌++◌, append-nil, get_or, Bool, Option, Some, None, Result, Ok, Err, refl, sym, ap, ◌∙◌, subst, true, false, arith}
+use Rattle.std.proofs.Common.{◌≡◌, ◌≢◌, ℕ, List, [], ◌∷◌, ◌++◌, append-nil, get_or, Bool, Option, Some, None, Err, refl, sym, ap, ◌∙◌, subst, true, false, arith}
 use Rattle.std.specs.Prelude.{option_map, if◌then◌else◌}
 use Rattle.block_tag.specs.declared.catalogue.RelEntry.{RelEntry}
 use Rattle.block_tag.specs.declared.tag.Tag.{Tag}
 use Rattle.block_tag.specs.Names.{names_block, packed_tag}
 use Rattle.page_layout.specs.Fields.{with_lsn}
 use Rattle.page_layout.specs.Soundness.{is_new_page, is_sound_page}
-use Rattle.segment_store.specs.Contents.{Pages}
 use Rattle.pin_core.specs.declared.view.Call.TheVariants.{Write}
 use Rattle.pin_core.specs.declared.view.Content.TheVariants.{Exclusive}
 use Rattle.pin_core.specs.declared.view.DeviceCall.TheVariants.{LogAppend}
 use Rattle.pin_core.specs.declared.view.Link.{Link}
-use Rattle.pin_core.specs.declared.view.Met.{Met}
 use Rattle.pin_core.specs.declared.view.View.{View}
 use Rattle.pin_core.specs.State.{Page, idle, link}
 use Rattle.page_core.specs.Kinds as kinds
 use Rattle.page_core.specs.Kinds.{copied_after}
-use Rattle.history_core.specs.Log.{IsFront}
-use Rattle.table_rule.specs.Blocks.{has_block, is_block}
+use Rattle.table_rule.specs.Blocks.{has_block}
 use Rattle.frame_table.specs.Content.{dirtied_link}
 use Rattle.frame_table.specs.Entering.{entered_link}
 use Rattle.frame_table.specs.FrameSteps.{Tried}
 use Rattle.frame_table.specs.Kinds.{pages}
 use Rattle.frame_table.specs.PageWork.{applied_link, by_input, overwriting, page_out_link, read_home, returned_link}
-use Rattle.frame_table.specs.Opened.{WasSoundAtOpening}
-use Rattle.frame_table.specs.Seats.{Looked, MarksDirty, OnlyRises, SameMarks, Touches, ViewMarks, base_of, frames_of, relations_of}
+use Rattle.frame_table.specs.Seats.{Looked, MarksDirty, OnlyRises, SameMarks, Touches, ViewMarks}
 use Rattle.wal_flush.specs.declared.inserts.InsertError.{InsertError}
 use Rattle.wal_flush.specs.declared.inserts.InsertError.TheVariants.{LogFull, LogDown, LogFault}
 use Rattle.wal_flush.specs.Inserts.{CanInsert, InsertRefused, Inserts, InsertSeesEnd, inserted_view, refused_view}
 use Rattle.wal_flush.specs.Latched.{as_counted}
-use Rattle.held_pins.specs.Rests.{HasNoDevice, LinkRests, LinksRest, SameLocks}
+use Rattle.held_pins.specs.Rests.{HasNoDevice, LinkRests, LinksRest}
 use Rattle.held_pins.specs.Tokens.{HeldFrame, IsPinnedFor, Tokens, held_at}
 use Rattle.frame_table.proofs.Rising.{rises_on, rises_touched}
-use Rattle.held_pins.proofs.Keeping.{beside, beside_kept, devices_same, devices_touched, link_looked, links_same, rests_with, same_locks_at}
+use Rattle.held_pins.proofs.Keeping.{beside, beside_kept, devices_same, devices_touched, link_looked, links_same, rests_with}
 use Rattle.buffer_frames.specs.Working.{Made}
 use Rattle.buffer_frames.specs.Puts.{AppliesImage, DidPut, PutRefused, PutsAt, PutsPage, RefusalShows, kept_by_puts, met_put, put_calls}
 

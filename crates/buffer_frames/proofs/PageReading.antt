@@ -1,6 +1,5 @@
 -- A page is read.
 use Rattle.std.proofs.Common.{◌≡◌, ◌≢◌, ◌≤◌, ◌+◌, ◌++◌, ℕ, true, max, [], ◌∷◌, Option, Some, None, append-nil, refl, sym, ap, ◌∙◌, subst, arith}
-use Rattle.std.specs.Prelude.{option_map}
 use Rattle.block_tag.specs.declared.tag.Tag.{Tag}
 use Rattle.block_tag.specs.Names.{packed_tag}
 use Rattle.page_layout.specs.Soundness.{is_sound_page}
@@ -22,13 +21,13 @@ use Rattle.frame_table.specs.Content.{CanDropShare, shared_link, unshared_link}
 use Rattle.frame_table.specs.EndLoads.{ReadsOpening, end_kind}
 use Rattle.frame_table.specs.FrameSteps.{Did}
 use Rattle.frame_table.specs.Kinds.{pages}
-use Rattle.frame_table.specs.Seats.{OnlyRises, SameMarks, Touches, base_of, view_marks}
+use Rattle.frame_table.specs.Seats.{OnlyRises, SameMarks, Touches, view_marks}
 use Rattle.frame_table.specs.WordSteps.{DidWord, IsCopied, read_end, read_of, view_of}
 use Rattle.content_locks.specs.Locks.{CanCopy, Copies, LocksContent, copied_link}
-use Rattle.held_pins.specs.Tokens.{HeldFrame, IsPinnedFor, Tokens, held_at}
-use Rattle.held_pins.specs.Rests.{IsCalm, LinkRests, Rests}
+use Rattle.held_pins.specs.Tokens.{HeldFrame}
+use Rattle.held_pins.specs.Rests.{IsCalm, LinkRests}
 use Rattle.frame_table.proofs.Rising.{rises_by, rises_on, rises_touched}
-use Rattle.held_pins.proofs.Keeping.{beside, beside_kept, devices_same, latches_same, link_same, rests_with}
+use Rattle.held_pins.proofs.Keeping.{link_same}
 use Rattle.buffer_frames.specs.PageReads.{OnlyReads, ReadsPage, ReadsUnder, SharesToRead, kept_by_reads}
 
 -- a page that was copied may be read

@@ -1,4 +1,4 @@
-use Rattle.std.proofs.Common.{◌≡◌, ◌≢◌, ◌∙◌, ◌≤◌, ℕ, Some, refl, sym, ap, subst}
+use Rattle.std.proofs.Common.{◌≡◌, ◌≢◌, ◌∙◌, ℕ, Some, refl, sym, ap, subst}
 use Rattle.atomic_table.specs.declared.badge.Badge.{Badge}
 use Rattle.block_tag.specs.Names.{packed_tag}
 use Rattle.crossbeam_utils.specs.Padded.{padded_value}
