@@ -13,6 +13,7 @@ use Rattle.pin_core.specs.declared.view.Content.TheVariants.{Unlocked}
 use Rattle.pin_core.specs.State.{link}
 use Rattle.table_rule.specs.Blocks.{has_block, has_named, is_block}
 use Rattle.table_rule.proofs.Tags.{packed_is}
+use Rattle.clock_sweep.specs.CensusList.{CensusList}
 use Rattle.frame_table.specs.declared.table.FrameTable.{FrameTable}
 use Rattle.frame_table.specs.Opened.{WasSoundAtOpening}
 use Rattle.frame_table.specs.Seats.{OnlyRises, base_of, frames_of, lanes_in, relations_of}
@@ -25,7 +26,7 @@ use Rattle.buffer_frames.specs.declared.flushing.FlushError.TheVariants as flush
 use Rattle.buffer_frames.specs.declared.victims.VictimError.TheVariants as victim
 use Rattle.buffer_frames.specs.declared.reading.BlockError.{BlockError}
 use Rattle.buffer_frames.specs.declared.reading.BlockError.TheVariants as block
-use Rattle.buffer_frames.specs.Reads.{ReadAnswer, ReadCalls, met_read_block}
+use Rattle.buffer_frames.specs.Reads.{CensusRead, ReadAnswer, ReadCalls, met_read_block}
 use Rattle.buffer_frames.specs.Stages.{Pins}
 use Rattle.backend_pass.specs.declared.errors.ReadError.{ReadError}
 use Rattle.backend_pass.specs.declared.errors.ReadError.TheVariants.{PastEnd, PinsFull, NoUnpinned, ReadFault, WriteFault, LogFault, LogDown, LogShort, Unsound}
@@ -33,8 +34,9 @@ use Rattle.backend_pass.specs.declared.manager.Manager.{Manager}
 use Rattle.backend_pass.specs.declared.met.Shown.{Shown}
 use Rattle.backend_pass.specs.declared.pinned.Pinned.{Pinned}
 use Rattle.backend_pass.specs.Managers.{Belongs}
+use Rattle.backend_pass.proofs.Fronts.{front_kept}
 use Rattle.backend_pass.specs.Passes.{IsNumbered, IsShown, KeepsCalls, PassState, SamePass, shown_count}
-use Rattle.backend_pass.specs.Reading.{ReadingCalls, ReadingRefused, ReadsBlock, met_read_refused, read_refusal, shown_after}
+use Rattle.backend_pass.specs.Reading.{ReadingCalls, ReadingCensus, ReadingRefused, ReadsBlock, met_read_refused, read_refusal, shown_after}
 
 some_same : {A : Type 0} (x y : A) → Some x ≡ Some y → x ≡ y
 some_same x y e = cc
@@ -94,6 +96,16 @@ met_of_refusal (block.NoFrame (victim.Flush (flush.Log (log.LogShort lsn end))))
 met_of_refusal (block.ReadFault tag) m = refl
 met_of_refusal (block.Unsound tag) m = refl
 
+-- so is what it leaves of the census
+pub census_of_refusal : (n : ℕ) (c d : CensusList) (why : BlockError) → CensusRead n c d (Err why) → ReadingCensus n c d (Err (read_refusal why))
+census_of_refusal n c d (block.NoFrame (victim.NoUnpinned frames)) e = e
+census_of_refusal n c d (block.NoFrame (victim.Flush (flush.WriteFault tag))) e = e
+census_of_refusal n c d (block.NoFrame (victim.Flush (flush.Log log.LogFault))) e = e
+census_of_refusal n c d (block.NoFrame (victim.Flush (flush.Log (log.LogDown at)))) e = e
+census_of_refusal n c d (block.NoFrame (victim.Flush (flush.Log (log.LogShort lsn end)))) e = e
+census_of_refusal n c d (block.ReadFault tag) e = e
+census_of_refusal n c d (block.Unsound tag) e = e
+
 -- and so are its calls
 pub calls_of_refusal : (q : ℕ) (tag : Tag) (ring : Bool) (v w : View) (why : BlockError) → ReadCalls q tag ring v w (Err why) → ReadingCalls q tag ring v w (Err (read_refusal why))
 calls_of_refusal q tag ring v w (block.NoFrame (victim.NoUnpinned frames)) c = c
@@ -124,15 +136,17 @@ rests_again f t v r = record { quiet = r.quiet; links = rests_more f t v r.links
 -- it is the same pass
 pub same_kept : (p q : PassState) → q.table ≡ p.table → q.id ≡ p.id → q.census.frames ≡ p.census.frames → kept_by_calls q.view ≡ kept_by_calls p.view → OnlyRises p.view q.view → SamePass p q
 same_kept p q table id census e advances = record {
-  table = table;
-  id = id;
-  frames = census;
-  number = ap (λ (x : View). x.number) e;
-  next = ap (λ (x : View). x.next) e;
-  joined = ap (λ (x : View). x.joined) e;
-  kept = ap (λ (x : View). x.kept) e;
+  keeps = record {
+    table = table;
+    id = id;
+    frames = census;
+    number = ap (λ (x : View). x.number) e;
+    next = ap (λ (x : View). x.next) e;
+    joined = ap (λ (x : View). x.joined) e;
+    kept = ap (λ (x : View). x.kept) e;
+    advances = advances;
+  };
   upto = ap (λ (x : View). x.upto) e;
-  advances = advances;
 }
 
 pub calls_kept : (p q : PassState) → kept_by_calls q.view ≡ kept_by_calls p.view → KeepsCalls p q
@@ -175,9 +189,9 @@ module _ {L G : Type 0} (contents : L → Option Pages) (t : FrameTable L G) whe
 
 module _ {L G : Type 0} (contents : L → Option Pages) (m : Manager L G) where
   -- one token more, of a block that was sound
-  pub belongs_with : (p q : PassState) (tag : Tag) (f : ℕ) → q.table ≡ p.table → q.census.frames ≡ p.census.frames → q.view.front ≡ p.view.front → p.view.end_seen ≤ q.view.end_seen → q.tokens ≡ tokens_with f (packed_tag tag) p.tokens
+  pub belongs_with : (p q : PassState) (tag : Tag) (f : ℕ) → q.table ≡ p.table → q.census.frames ≡ p.census.frames → q.view.calls ≡ p.view.calls → q.view.front ≡ p.view.front → p.view.end_seen ≤ q.view.end_seen → q.tokens ≡ tokens_with f (packed_tag tag) p.tokens
       → held_at p.tokens f ≡ None → f < frames_of m.table → names_block tag ≡ true → has_block (relations_of m.table) tag ≡ true → IsNew tag p.tokens → WasSoundAtOpening contents m.table tag → Belongs contents m p → Belongs contents m q
-  belongs_with p q tag f table census front end tokens none below named listed is_new sound b = record {
+  belongs_with p q tag f table census calls front end tokens none below named listed is_new sound b = record {
     table = table ∙ b.table;
     frames = census ∙ b.frames;
     inside = λ g h e. dite (ℕ_discrete g f)
@@ -196,7 +210,7 @@ module _ {L G : Type 0} (contents : L → Option Pages) (m : Manager L G) where
     sound = λ g h e other same is. dite (ℕ_discrete g f)
         (λ d. subst (WasSoundAtOpening contents m.table) (packed_same tag other (here g h d e ∙ sym same) named is) sound)
         (λ n. b.sound g h (past g h n e) other same is);
-    based = subst (λ (x : ℕ). base_of m.table ≤ x) (sym front) b.based;
+    front = front_kept (base_of m.table) p.view q.view calls front b.front;
     seen = let base = b.seen in omega arith;
   }
     where

@@ -1,5 +1,5 @@
 -- A manager is closed: what holds of the devices, by the view that took in all passes.
-use Rattle.std.proofs.Common.{◌≡◌, ◌≢◌, ◌⊎◌, ◌<◌, ◌≤◌, ℕ, zero, suc, Bool, true, false, nat_eq, ne_eqb, List, [], ◌∷◌, ◌++◌, length, get_or, refl, sym, ap, ◌∙◌, subst, inl, inr, ⊎_elim, arith, None}
+use Rattle.std.proofs.Common.{◌≡◌, ◌≢◌, ◌⊎◌, ◌<◌, ◌≤◌, ◌+◌, ℕ, zero, suc, Bool, true, false, nat_eq, ne_eqb, List, [], ◌∷◌, ◌++◌, length, get_or, refl, sym, ap, ◌∙◌, subst, inl, inr, ⊎_elim, arith, None}
 use Rattle.std.specs.Prelude.{◌||◌}
 use Rattle.std.proofs.Math.ListN.{get_or-map}
 use mathlib.Core.Logic.{dite}
@@ -8,6 +8,7 @@ use native.Mathlib.Decide.{ℕ_discrete}
 use lib.ListN.{get_elem?}
 use Rattle.grid.specs.Shape.{total}
 use Rattle.grid.proofs.Sums.{total-alone, total-none}
+use Rattle.pin_core.specs.declared.view.Call.{Call}
 use Rattle.pin_core.specs.declared.view.LaneHold.{LaneHold}
 use Rattle.pin_core.specs.declared.view.LogHold.{LogHold}
 use Rattle.pin_core.specs.declared.view.Met.{Met}
@@ -15,10 +16,10 @@ use Rattle.pin_core.specs.declared.view.View.{View}
 use Rattle.pin_core.specs.State.{emptied_view, joined_view, kept_checkpoint, lane_hold, no_lane, sum_of_met}
 use Rattle.pin_core.specs.Steps.{HoldsNothing}
 use Rattle.pin_core.specs.Tallies.{flag_weight}
-use Rattle.history_core.specs.Log.{log_bytes}
+use Rattle.history_core.specs.Log.{Entry, IsFront, log_bytes, writes_in}
 use Rattle.history_core.specs.Rest.{NoneAppended}
 use Rattle.history_core.specs.State.{State, failed}
-use Rattle.history_core.specs.Causes.{mark_weight}
+use Rattle.history_core.specs.Causes.{AllQuiet, mark_weight}
 use Rattle.history_core.specs.Counts.{all_met, count_weigh, failed_reads, failed_writes, holders}
 use Rattle.history_core.specs.Device.{HasRisen, is_failed}
 use Rattle.history_core.specs.History.{IsHistory}
@@ -33,8 +34,9 @@ use Rattle.frame_table.specs.Closes.{Closes}
 use Rattle.held_pins.specs.Tokens.{no_tokens}
 use Rattle.held_pins.specs.Rests.{Rests}
 use Rattle.backend_pass.specs.Passes.{PassState}
-use Rattle.backend_pass.specs.Managers.{IsFirstAt, first_in, others_in}
-use Rattle.backend_pass.specs.Closing.{ClosesAll, ClosesPass, joined_views, met_by_passes, calls_of_passes}
+use Rattle.backend_pass.specs.Managers.{AreFronted, IsFirstAt, first_in, others_in}
+use Rattle.backend_pass.specs.Closing.{ClosesAll, ClosesPass, EachPass, NothingPut, NothingWritten, PutNothing, calls_of_passes, joined_views, met_by_passes}
+use Rattle.backend_pass.proofs.Fronts.{at_last}
 use Rattle.backend_pass.proofs.Joining.{Joins, at_later, first_here, first_past, joined_hold_nothing, joins, others_here, others_past, rests_hold_nothing}
 
 -- the number of the first pass
@@ -101,10 +103,6 @@ none_so : (a b : Bool) → (a ≡ true → b ≡ true) → b ≡ false → a ≡
 none_so true b so e = sym (so refl) ∙ e
 none_so false b so e = refl
 
-behind : {A : Type 0} (xs : List A) (y : A) (ys : List A) → get_elem? (xs ++ y ∷ ys) (length xs) ≡ some y
-behind [] y ys = refl
-behind (x ∷ xs) y ys = behind xs y ys
-
 took_in : (v : View) (ps : List PassState) (j : ℕ) (p : PassState) → get_elem? ps j ≡ some p → TookIn p.view (joined_views v ps)
 took_in v [] j p e = absurd (some-ne-none p (sym e))
 took_in v (x ∷ xs) zero p e = let r = joins (joined_view v x.view) xs in let same = ap (λ (y : PassState). y.view) (some-injective x p e) in subst (λ (u : View). TookIn u (joined_views v (x ∷ xs))) same record {
@@ -112,13 +110,34 @@ took_in v (x ∷ xs) zero p e = let r = joins (joined_view v x.view) xs in let s
   seen = let a = r.seen in omega arith;
   down = λ d. r.down (or_right v.saw_down x.view.saw_down d);
   output = λ d. r.output (or_right v.had_output x.view.had_output d);
-  kept = r.kept (length v.kept) (kept_checkpoint x.view) (behind v.kept (kept_checkpoint x.view) x.view.kept);
+  kept = r.kept (length v.kept) (kept_checkpoint x.view) (at_last v.kept (kept_checkpoint x.view) x.view.kept);
 }
 took_in v (x ∷ xs) (suc j) p e = took_in (joined_view v x.view) xs j p e
+
+-- the front of each
+fronted_at : (base : ℕ) (ps : List PassState) (i : ℕ) (p : PassState) → AreFronted base ps → get_elem? ps i ≡ some p → IsFront base p.view.calls p.view.front
+fronted_at base [] i p a e = absurd (some-ne-none p (sym e))
+fronted_at base (x ∷ xs) zero p a e = subst (λ (y : PassState). IsFront base y.view.calls y.view.front) (some-injective x p e) a.0
+fronted_at base (x ∷ xs) (suc i) p a e = fronted_at base xs i p a.1 e
+
+-- the writes of all
+writes-both : (xs ys : List Call) → writes_in (xs ++ ys) ≡ writes_in xs + writes_in ys
+unfolding total
+writes-both [] ys = omega arith
+writes-both (x ∷ xs) ys = omega (arith, writes-both xs ys)
+
+none_put : (ps : List PassState) → EachPass PutNothing ps → writes_in (calls_of_passes ps) ≡ 0
+unfolding total
+none_put [] none = refl
+none_put (p ∷ ps) none = omega (arith, writes-both p.view.calls (calls_of_passes ps), none 0 p refl, none_put ps (λ j q at. none (suc j) q at))
 
 unmarked_joined : (v : View) (ps : List PassState) → v.dirtied_or_synced ≡ false → ((j : ℕ) (p : PassState) → get_elem? ps j ≡ some p → p.view.dirtied_or_synced ≡ false) → (joined_views v ps).dirtied_or_synced ≡ false
 unmarked_joined v [] e all = e
 unmarked_joined v (x ∷ xs) e all = unmarked_joined (joined_view v x.view) xs (or_none v.dirtied_or_synced x.view.dirtied_or_synced e (all 0 x refl)) (λ j p at. all (suc j) p at)
+
+no_items : {A : Type 0} (xs : List A) → length xs ≡ 0 → xs ≡ []
+no_items [] e = refl
+no_items (x ∷ xs) e = absurd (omega arith)
 
 -- what a checkpoint keeps of a view
 kept_swept : (u : View) (n : ℕ) → has_swept (kept_checkpoint u) n ≡ (lane_hold u n).swept
@@ -137,9 +156,10 @@ module _ (s : State) (h : Laws s) (w : View) (there : get_elem? s.pool.core.view
   saw e = (h.invariant.device.columns 0 (omega arith)).rose ((h.invariant.device.cells 0 w 0 there (omega arith)).saw e)
 
   -- a pass that was taken in
-  pub closes_other : (p : PassState) → TookIn p.view w → ClosesPass s p
-  closes_other p t = record {
-    front = let a = t.front in let b = within in omega arith;
+  pub closes_other : (p : PassState) → IsFront s.log.base p.view.calls p.view.front → TookIn p.view w → ClosesPass s p
+  closes_other p front t = record {
+    front = front;
+    within = let a = t.front in let b = within in omega arith;
     seen = let a = t.seen in let b = h.ends 0 w there in omega arith;
     down = λ e. saw (t.down e);
     swept = λ upto c. sweeps s h.invariant h.debts h.swept 0 upto w there
@@ -147,9 +167,10 @@ module _ (s : State) (h : Laws s) (w : View) (there : get_elem? s.pool.core.view
   }
 
   -- and the first one, with the view v
-  pub closes_first : (p : PassState) (ps : List PassState) → Joins p.view w ps → ClosesPass s p
-  closes_first p ps j = record {
-    front = let a = j.front in let b = within in omega arith;
+  pub closes_first : (p : PassState) (ps : List PassState) → IsFront s.log.base p.view.calls p.view.front → Joins p.view w ps → ClosesPass s p
+  closes_first p ps front j = record {
+    front = front;
+    within = let a = j.front in let b = within in omega arith;
     seen = let a = j.seen in let b = h.ends 0 w there in omega arith;
     down = λ e. saw (j.down e);
     swept = λ upto c. sweeps s h.invariant h.debts h.swept 0 upto w there
@@ -194,6 +215,9 @@ module _ (s : State) (h : Laws s) (w : View) (there : get_elem? s.pool.core.view
     pub writes_met : (q : ℕ) → q < s.lanes → (s.lane q).write_faults_at_start < (s.lane q).write_faults → 0 < w.met.writes
     writes_met q inside more = subst (λ (n : ℕ). 0 < n) writes_of ((h.counts.lanes.lanes.columns q inside).writes.is_met (none_written q inside) more)
 
+    pub failed_met : (tag : ℕ) → failed s tag ≡ true → 0 < w.met.writes
+    failed_met tag e = let inside = h.invariant.placed tag in subst (λ (n : ℕ). 0 < n) writes_of ((h.counts.lanes.lanes.columns (s.lane_of tag) inside).failed_met tag e (none_written (s.lane_of tag) inside))
+
     none_failed : (i : ℕ) (u : View) → get_elem? s.pool.core.views i ≡ some u → is_failed u.log.change ≡ false
     none_failed i u at = ⊎_elim
         (λ (e : w ≡ u). subst (λ (x : View). is_failed x.log.change ≡ false) e quiet)
@@ -214,17 +238,39 @@ module _ (s : State) (h : Laws s) (w : View) (there : get_elem? s.pool.core.view
   holds_bytes none up = whole s h.invariant (none_appended none) up
 
   -- where w has no mark no write failed, and there was no output
-  pub unmarked : w.dirtied_or_synced ≡ false → ((tag : ℕ) → failed s tag ≡ false) × (w.met.writes ≡ 0) × (w.had_output ≡ false)
-  unmarked e = let q = h.marks (total-alone mark_weight s.pool.core.views 0 w there (λ j u n at. ap mark_weight (others j u n at)) ∙ ap flag_weight e) in (q.blocks, (q.views 0 w there).met, (q.views 0 w there).output)
+  quiet_where_unmarked : w.dirtied_or_synced ≡ false → AllQuiet s
+  quiet_where_unmarked e = h.marks (total-alone mark_weight s.pool.core.views 0 w there (λ j u n at. ap mark_weight (others j u n at)) ∙ ap flag_weight e)
+
+  pub unmarked : (ps : List PassState) → met_by_passes ps ≡ w.met → EachPass (λ p. p.view.had_output ≡ true → w.had_output ≡ true) ps → w.dirtied_or_synced ≡ false → NothingWritten s ps
+  unmarked ps met output e = let q = quiet_where_unmarked e in record {
+    clean = q.frames;
+    unfailed = q.blocks;
+    met = ap (λ (m : Met). m.writes) met ∙ (q.views 0 w there).met;
+    output = λ i p at. none_so p.view.had_output w.had_output (output i p at) (q.views 0 w there).output;
+  }
 
   -- the calls are a history
   pub history : IsHistory s.known s.origin s.log w.calls
   history = ends_in_history s h.invariant h.spent w there (λ i u n at. ap (λ (x : View). x.emptied) (others i u n at))
 
+  -- where none of them is a write the log is empty
+  pub without_puts : (ps : List PassState) → writes_in w.calls ≡ 0 → EachPass (ClosesPass s) ps → NothingPut s ps
+  without_puts ps none each = record {
+    entries = empty;
+    end = end;
+    fronts = λ i p at. (let c = each i p at in let low = c.front.from_base in let high = c.within in let is = end in omega arith);
+  }
+    where
+      empty : s.log.entries ≡ []
+      empty = no_items s.log.entries (sym history.counted ∙ none)
+
+      end : s.end ≡ s.log.base
+      end = let is = h.invariant.ends in let few = ap (λ (l : List Entry). length l) empty in omega arith
+
 module _ {L G : Type 0} where
   -- all of that
-  pub closes_all : (d : Devices L G) (o : Opening L G) (ps : List PassState) (lanes : List L) (log : G) (v w : View) (k : ℕ) → IsFirstAt k ps → first_in ps ≡ v → w ≡ joined_views v (others_in ps) → Rests no_tokens v → Closes d o w lanes log → ClosesAll d o ps lanes log
-  closes_all d o ps lanes log v w k at first is r c = record {
+  pub closes_all : (d : Devices L G) (o : Opening L G) (ps : List PassState) (lanes : List L) (log : G) (v w : View) (k : ℕ) → IsFirstAt k ps → first_in ps ≡ v → w ≡ joined_views v (others_in ps) → Rests no_tokens v → AreFronted o.base ps → Closes d o w lanes log → ClosesAll d o ps lanes log
+  closes_all d o ps lanes log v w k at first is r fronts c = record {
     state = s;
     laws = h;
     opened = c.opened;
@@ -244,7 +290,9 @@ module _ {L G : Type 0} where
     reads_met = λ q inside more. subst (λ (m : Met). 0 < m.reads) (sym met) (reads_met s h w c.first c.others free quiet q inside more);
     writes_met = λ q inside more. subst (λ (m : Met). 0 < m.writes) (sym met) (writes_met s h w c.first c.others free quiet q inside more);
     logs_met = λ more. subst (λ (m : Met). 0 < m.logs) (sym met) (logs_met s h w c.first c.others free quiet more);
-    unmarked = λ none. let u = unmarked s h w c.first c.others (no_mark none) in (u.0, ap (λ (m : Met). m.writes) met ∙ u.1, λ i p e. none_so p.view.had_output w.had_output (output i p e) u.2);
+    failed_met = λ tag e. subst (λ (m : Met). 0 < m.writes) (sym met) (failed_met s h w c.first c.others free quiet tag e);
+    unmarked = λ none. unmarked s h w c.first c.others ps met output (no_mark none);
+    without_puts = λ none. without_puts s h w c.first c.others ps (no_write none) each;
   }
     where
       s : State
@@ -268,10 +316,13 @@ module _ {L G : Type 0} where
       quiet : is_failed w.log.change ≡ false
       quiet = ap (λ (l : LogHold). is_failed l.change) (j.log ∙ r.quiet.log)
 
+      front : (i : ℕ) (p : PassState) → get_elem? ps i ≡ some p → IsFront s.log.base p.view.calls p.view.front
+      front i p e = subst (λ (base : ℕ). IsFront base p.view.calls p.view.front) (sym c.opened.base) (fronted_at o.base ps i p fronts e)
+
       each : (i : ℕ) (p : PassState) → get_elem? ps i ≡ some p → ClosesPass s p
       each i p e = ⊎_elim
-          (λ (t : p.view ≡ first_in ps). closes_first s h w c.first c.others p (others_in ps) (subst (λ (x : View). Joins x w (others_in ps)) (sym (t ∙ first)) j))
-          (λ (t : (n : ℕ) × (get_elem? (others_in ps) n ≡ some p)). closes_other s h w c.first c.others p (subst (TookIn p.view) (sym is) (took_in v (others_in ps) t.0 p t.1)))
+          (λ (t : p.view ≡ first_in ps). closes_first s h w c.first c.others p (others_in ps) (front i p e) (subst (λ (x : View). Joins x w (others_in ps)) (sym (t ∙ first)) j))
+          (λ (t : (n : ℕ) × (get_elem? (others_in ps) n ≡ some p)). closes_other s h w c.first c.others p (front i p e) (subst (TookIn p.view) (sym is) (took_in v (others_in ps) t.0 p t.1)))
           (first_or_other ps k i p at e)
 
       output : (i : ℕ) (p : PassState) → get_elem? ps i ≡ some p → p.view.had_output ≡ true → w.had_output ≡ true
@@ -284,3 +335,9 @@ module _ {L G : Type 0} where
       no_mark none = let f = first_there ps k at in ap (λ (x : View). x.dirtied_or_synced) is ∙ unmarked_joined v (others_in ps)
           (ap (λ (x : View). x.dirtied_or_synced) (sym (f.2 ∙ first)) ∙ none k f.0 f.1)
           (λ n p e. let t = other_there ps k n p at e in none t.0 p t.1)
+
+      no_write : EachPass PutNothing ps → writes_in w.calls ≡ 0
+      no_write none = let f = first_there ps k at in
+          let own = ap (λ (x : View). writes_in x.calls) (sym (f.2 ∙ first)) ∙ none k f.0 f.1 in
+          let their = none_put (others_in ps) (λ n p e. let t = other_there ps k n p at e in none t.0 p t.1) in
+          ap writes_in j.calls ∙ writes-both v.calls (calls_of_passes (others_in ps)) ∙ omega arith

@@ -1,3 +1,4 @@
+pub mod Fronts
 pub mod Releasing
 pub mod Seated
 pub mod Starting
@@ -6,6 +7,6 @@ pub mod Ended
 pub mod BlockReads
 pub mod Complete
 pub mod Relocking
-pub mod PageReading
+pub mod PassReading
 pub mod Flushed
-pub mod PagePuts
+pub mod PassPuts

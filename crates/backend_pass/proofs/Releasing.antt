@@ -18,6 +18,7 @@ use Rattle.frame_table.proofs.Rising.{rises_none, rises_touched}
 use Rattle.backend_pass.specs.declared.manager.Manager.{Manager}
 use Rattle.backend_pass.specs.declared.met.Shown.{Shown}
 use Rattle.backend_pass.specs.Managers.{Belongs}
+use Rattle.backend_pass.proofs.Fronts.{front_kept}
 use Rattle.backend_pass.specs.Passes.{IsNumbered, IsShown, PassState, SamePass, shown_count}
 use Rattle.table_rule.specs.Blocks.{is_block}
 
@@ -77,28 +78,32 @@ shown_self v w s e n = record {
 -- it is the same pass
 pub same_none : (p q : PassState) → q.table ≡ p.table → q.id ≡ p.id → q.census ≡ p.census → q.view ≡ p.view → SamePass p q
 same_none p q table id census e = record {
-  table = table;
-  id = id;
-  frames = ap (λ c. c.frames) census;
-  number = ap (λ (x : View). x.number) e;
-  next = ap (λ (x : View). x.next) e;
-  joined = ap (λ (x : View). x.joined) e;
-  kept = ap (λ (x : View). x.kept) e;
+  keeps = record {
+    table = table;
+    id = id;
+    frames = ap (λ c. c.frames) census;
+    number = ap (λ (x : View). x.number) e;
+    next = ap (λ (x : View). x.next) e;
+    joined = ap (λ (x : View). x.joined) e;
+    kept = ap (λ (x : View). x.kept) e;
+    advances = subst (λ (w : View). OnlyRises p.view w) (sym e) (rises_none p.view);
+  };
   upto = ap (λ (x : View). x.upto) e;
-  advances = subst (λ (w : View). OnlyRises p.view w) (sym e) (rises_none p.view);
 }
 
 pub same_touched : (p q : PassState) (f : ℕ) → q.table ≡ p.table → q.id ≡ p.id → q.census ≡ p.census → Touches f p.view q.view → SamePass p q
 same_touched p q f table id census k = let e = k.self in record {
-  table = table;
-  id = id;
-  frames = ap (λ c. c.frames) census;
-  number = ap (λ (x : View). x.number) e;
-  next = ap (λ (x : View). x.next) e;
-  joined = ap (λ (x : View). x.joined) e;
-  kept = ap (λ (x : View). x.kept) e;
+  keeps = record {
+    table = table;
+    id = id;
+    frames = ap (λ c. c.frames) census;
+    number = ap (λ (x : View). x.number) e;
+    next = ap (λ (x : View). x.next) e;
+    joined = ap (λ (x : View). x.joined) e;
+    kept = ap (λ (x : View). x.kept) e;
+    advances = rises_touched f p.view q.view k;
+  };
   upto = ap (λ (x : View). x.upto) e;
-  advances = rises_touched f p.view q.view k;
 }
 
 -- The tokens u are of frames that are held in t, for the same blocks
@@ -132,17 +137,17 @@ pub held_again : (f : ℕ) (t : Tokens) → AreHeld t (tokens_more f t)
 held_again f t g h e = tag_held (held_at t g) (held_at (tokens_more f t) g) h (more_tags t f g) e
 
 module _ {L G : Type 0} (contents : L → Option Pages) (m : Manager L G) where
-  pub belongs_held : (p q : PassState) → q.table ≡ p.table → q.census.frames ≡ p.census.frames → q.view.front ≡ p.view.front → p.view.end_seen ≤ q.view.end_seen → AreHeld p.tokens q.tokens → Belongs contents m p → Belongs contents m q
-  belongs_held p q table census front end held b = record {
+  pub belongs_held : (p q : PassState) → q.table ≡ p.table → q.census.frames ≡ p.census.frames → q.view.calls ≡ p.view.calls → q.view.front ≡ p.view.front → p.view.end_seen ≤ q.view.end_seen → AreHeld p.tokens q.tokens → Belongs contents m p → Belongs contents m q
+  belongs_held p q table census calls front end held b = record {
     table = table ∙ b.table;
     frames = census ∙ b.frames;
     inside = λ f h e. let k = held f h e in b.inside f k.0 k.1;
     blocks = λ f h e. let k = held f h e in subst (λ (x : ℕ). is_block (relations_of m.table) x ≡ true) k.2 (b.blocks f k.0 k.1);
     alone = λ f g h k e d same. let x = held f h e in let y = held g k d in b.alone f g x.0 y.0 x.1 y.1 (x.2 ∙ same ∙ sym y.2);
     sound = λ f h e tag same. let k = held f h e in b.sound f k.0 k.1 tag (same ∙ sym k.2);
-    based = subst (λ (x : ℕ). base_of m.table ≤ x) (sym front) b.based;
+    front = front_kept (base_of m.table) p.view q.view calls front b.front;
     seen = let base = b.seen in omega arith;
   }
 
   pub belongs_touched : (p q : PassState) (f : ℕ) → q.table ≡ p.table → q.census.frames ≡ p.census.frames → Touches f p.view q.view → AreHeld p.tokens q.tokens → Belongs contents m p → Belongs contents m q
-  belongs_touched p q f table census k = belongs_held p q table census (ap (λ (x : View). x.front) k.self) (rises_touched f p.view q.view k).end_seen
+  belongs_touched p q f table census k = belongs_held p q table census (ap (λ (x : View). x.calls) k.self) (ap (λ (x : View). x.front) k.self) (rises_touched f p.view q.view k).end_seen

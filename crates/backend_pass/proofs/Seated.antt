@@ -2,15 +2,15 @@
 use Rattle.std.proofs.Common.{◌≡◌, [], ◌∷◌, sym, ap, subst, ◌∙◌}
 use Rattle.atomic_table.specs.declared.badge.Badge.{Badge}
 use Rattle.pin_core.specs.declared.view.View.{View}
-use Rattle.backend_pass.specs.Passes.{PassState, SamePass, first_of}
+use Rattle.backend_pass.specs.Passes.{PassState, SamePass, view_in}
 
 -- the view that a badge gives its seat
-pub view_of_seat : (b r : Badge View) (v : View) → r ≡ b → r.views ≡ v ∷ [] → first_of b.views ≡ v
-view_of_seat b r v same one = ap (λ (x : Badge View). first_of x.views) (sym same) ∙ ap first_of one
+pub view_of_seat : (b r : Badge View) (v : View) → r ≡ b → r.views ≡ v ∷ [] → view_in b.views ≡ v
+view_of_seat b r v same one = ap (λ (x : Badge View). view_in x.views) (sym same) ∙ ap view_in one
 
 -- and that it takes back
-pub one_view : (b : Badge View) (w : View) → b.views ≡ w ∷ [] → b.views ≡ first_of b.views ∷ []
-one_view b w one = one ∙ ap (λ (x : View). x ∷ []) (sym (ap first_of one))
+pub one_view : (b : Badge View) (w : View) → b.views ≡ w ∷ [] → b.views ≡ view_in b.views ∷ []
+one_view b w one = one ∙ ap (λ (x : View). x ∷ []) (sym (ap view_in one))
 
 pub same_from : (a p q : PassState) → p ≡ a → SamePass p q → SamePass a q
 same_from a p q e same = subst (λ (x : PassState). SamePass x q) e same

@@ -17,6 +17,7 @@ use Rattle.backend_pass.specs.declared.manager.Manager.{Manager}
 use Rattle.backend_pass.specs.PassMemories.{AreForFrames}
 use Rattle.backend_pass.specs.Managers.{AreNewPasses, Belongs, IsNewPass}
 use Rattle.backend_pass.specs.Passes.{IsFreshView, PassState}
+use Rattle.backend_pass.proofs.Fronts.{front_new}
 
 -- an item of a list of the same
 same_all : {A : Type 0} (n i : ℕ) (x : A) → get_or (replicate n x) i x ≡ x
@@ -85,15 +86,15 @@ module _ {L G : Type 0} (contents : L → Option Pages) (m : Manager L G) (count
       some_none : (x : HeldFrame) → Some x ≡ None → ⊥
       some_none x e = cc
 
-  new_belongs : (p : PassState) (base : ℕ) → p.table ≡ m.table.table.shared.table_id → p.census ≡ new_census (frames_of m.table) → p.tokens ≡ no_tokens → p.view.front ≡ base → p.view.end_seen ≡ base → base ≡ base_of m.table → Belongs contents m p
-  new_belongs p base table census tokens front end same = record {
+  new_belongs : (p : PassState) (base : ℕ) → p.table ≡ m.table.table.shared.table_id → p.census ≡ new_census (frames_of m.table) → p.tokens ≡ no_tokens → p.view.calls ≡ [] → p.view.front ≡ base → p.view.end_seen ≡ base → base ≡ base_of m.table → Belongs contents m p
+  new_belongs p base table census tokens calls front end same = record {
     table = table;
     frames = ap (λ c. c.frames) census;
     inside = λ f h e. absurd (none_held p.tokens f h tokens e);
     blocks = λ f h e. absurd (none_held p.tokens f h tokens e);
     alone = λ f g h k e d same. absurd (none_held p.tokens f h tokens e);
     sound = λ f h e. absurd (none_held p.tokens f h tokens e);
-    based = omega arith;
+    front = front_new (base_of m.table) p.view.front p.view.calls calls (front ∙ same);
     seen = omega arith;
   }
 
@@ -106,7 +107,7 @@ module _ {L G : Type 0} (contents : L → Option Pages) (m : Manager L G) (count
 
   pub split_of_first : (p : PassState) (v : View) (base n i : ℕ) → p.view ≡ split_view base v → v ≡ first_at base (frames_of m.table) 128 (lanes_in m.table) n → n ≡ i + 1 → base ≡ base_of m.table → p.table ≡ m.table.table.shared.table_id → p.tokens ≡ no_tokens → p.census ≡ new_census (frames_of m.table) → IsNewPass contents m count (i + 1) p
   split_of_first p v base n i e first number same table tokens census = record {
-    belongs = new_belongs p base table census tokens (ap (λ (x : View). x.front) is) (ap (λ (x : View). x.end_seen) is) same;
+    belongs = new_belongs p base table census tokens (ap (λ (x : View). x.calls) is) (ap (λ (x : View). x.front) is) (ap (λ (x : View). x.end_seen) is) same;
     tokens = tokens;
     census = census;
     view = viewed p base (i + 1) 0 is same;
@@ -118,7 +119,7 @@ module _ {L G : Type 0} (contents : L → Option Pages) (m : Manager L G) (count
 
   pub first_counted : (p : PassState) (base n : ℕ) → p.view ≡ first_at base (frames_of m.table) 128 (lanes_in m.table) n → n ≡ count → base ≡ base_of m.table → p.table ≡ m.table.table.shared.table_id → p.tokens ≡ no_tokens → p.census ≡ new_census (frames_of m.table) → IsNewPass contents m count 0 p
   first_counted p base n e number same table tokens census = record {
-    belongs = new_belongs p base table census tokens (ap (λ (v : View). v.front) e) (ap (λ (v : View). v.end_seen) e) same;
+    belongs = new_belongs p base table census tokens (ap (λ (v : View). v.calls) e) (ap (λ (v : View). v.front) e) (ap (λ (v : View). v.end_seen) e) same;
     tokens = tokens;
     census = census;
     view = viewed p base 0 n e same;

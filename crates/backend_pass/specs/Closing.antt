@@ -7,7 +7,7 @@ use Rattle.pin_core.specs.declared.view.Met.{Met}
 use Rattle.pin_core.specs.declared.view.View.{View}
 use Rattle.pin_core.specs.State.{emptied_view, joined_view, lane_hold, sum_of_met}
 use Rattle.pin_core.specs.Steps.{HoldsNothing}
-use Rattle.history_core.specs.Log.{log_bytes}
+use Rattle.history_core.specs.Log.{IsFront, log_bytes, writes_in}
 use Rattle.history_core.specs.State.{State, failed}
 use Rattle.history_core.specs.Device.{HasRisen}
 use Rattle.history_core.specs.History.{IsHistory}
@@ -42,14 +42,39 @@ HasSwept n upto v = (q : ℕ) → q < n → upto ≤ (lane_hold v q).swept
 
 -- What holds of the devices for a pass, in the state s that they were given back in
 pub record ClosesPass (s : State) (p : PassState) : Type 0 where
-  -- its reads and writes are in the log
-  pub front : p.view.front ≤ s.end
+  -- its front is the largest place of its reads and writes, or where the log begins, and they are in the log
+  pub front : IsFront s.log.base p.view.calls p.view.front
+  pub within : p.view.front ≤ s.end
   -- and no log end that it saw is beyond the log's end
   pub seen : p.view.end_seen ≤ s.end
   -- where it was told that the log is down, the log's count of faults rose since the start
   pub down : p.view.saw_down ≡ true → HasRisen s.log_faults s.device.faults
   -- what it swept is still stored, and synced
   pub swept : (upto : ℕ) → HasSwept s.lanes upto p.view → AreSynced s upto × AreStored s upto
+
+-- each pass has this
+abbrev pub EachPass : (PassState → Type 0) → List PassState → Type 0
+EachPass P ps = (i : ℕ) (p : PassState) → get_elem? ps i ≡ some p → P p
+
+-- it never marked a frame dirty or synced a lane; it put no page
+abbrev pub HasNoMark : PassState → Type 0
+HasNoMark p = p.view.dirtied_or_synced ≡ false
+
+abbrev pub PutNothing : PassState → Type 0
+PutNothing p = writes_in p.view.calls ≡ 0
+
+-- Nothing was written: no frame is dirty, no block's last write failed, no pass met a fault of writing, and none ever had an output right
+pub record NothingWritten (s : State) (ps : List PassState) : Type 0 where
+  pub clean : (f : ℕ) → f < s.pool.core.frames → (s.pool.core.frame f).word.dirty ≡ false
+  pub unfailed : (tag : ℕ) → failed s tag ≡ false
+  pub met : (met_by_passes ps).writes ≡ 0
+  pub output : EachPass (λ p. p.view.had_output ≡ false) ps
+
+-- Nothing was put: the log has no entry, and ends where it begins, which is the front of each pass
+pub record NothingPut (s : State) (ps : List PassState) : Type 0 where
+  pub entries : s.log.entries ≡ []
+  pub end : s.end ≡ s.log.base
+  pub fronts : EachPass (λ p. p.view.front ≡ s.log.base) ps
 
 module _ {L G : Type 0} where
   -- The lanes and the log are given back in a state that has the law, and the passes' calls are one history of the log
@@ -69,7 +94,7 @@ module _ {L G : Type 0} where
     -- where it isn't, it holds the log's bytes and nothing else
     pub bytes : mark ≡ None → state.device.bytes ≡ log_bytes state.names state.log
     pub history : IsHistory state.known state.origin state.log (calls_in_order ps)
-    pub each : (i : ℕ) (p : PassState) → get_elem? ps i ≡ some p → ClosesPass state p
+    pub each : EachPass (ClosesPass state) ps
     -- faults were met exactly where a device's count of them rose
     pub reads_rose : 0 < (met_by_passes ps).reads → (q : ℕ) × (q < state.lanes) × HasRisen (state.lane q).read_faults_at_start (state.lane q).read_faults
     pub writes_rose : 0 < (met_by_passes ps).writes → (q : ℕ) × (q < state.lanes) × HasRisen (state.lane q).write_faults_at_start (state.lane q).write_faults
@@ -77,5 +102,7 @@ module _ {L G : Type 0} where
     pub reads_met : (q : ℕ) → q < state.lanes → (state.lane q).read_faults_at_start < (state.lane q).read_faults → 0 < (met_by_passes ps).reads
     pub writes_met : (q : ℕ) → q < state.lanes → (state.lane q).write_faults_at_start < (state.lane q).write_faults → 0 < (met_by_passes ps).writes
     pub logs_met : state.log_faults < state.device.faults → 0 < (met_by_passes ps).logs
-    -- where no pass marked a frame dirty or synced a lane no block's last write failed, no pass met a fault of writing, and none had an output right
-    pub unmarked : ((i : ℕ) (p : PassState) → get_elem? ps i ≡ some p → p.view.dirtied_or_synced ≡ false) → ((tag : ℕ) → failed state tag ≡ false) × ((met_by_passes ps).writes ≡ 0) × ((i : ℕ) (p : PassState) → get_elem? ps i ≡ some p → p.view.had_output ≡ false)
+    -- where a block's last write failed a fault of writing was met
+    pub failed_met : (tag : ℕ) → failed state tag ≡ true → 0 < (met_by_passes ps).writes
+    pub unmarked : EachPass HasNoMark ps → NothingWritten state ps
+    pub without_puts : EachPass PutNothing ps → NothingPut state ps

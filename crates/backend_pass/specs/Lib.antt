@@ -5,7 +5,5 @@ pub mod PoolMemories
 pub mod Starting
 pub mod Reading
 pub mod FrameFlushes
-pub mod Puts
 pub mod Closing
 pub mod Locks
-pub mod PageReads

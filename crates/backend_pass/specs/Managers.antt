@@ -11,6 +11,7 @@ use Rattle.table_rule.specs.declared.config.Config.{Config}
 use Rattle.atomic_table.specs.Seated.{TableId}
 use Rattle.pin_core.specs.declared.view.View.{View}
 use Rattle.pin_core.specs.State.{emptied_view, new_view}
+use Rattle.history_core.specs.Log.{IsFront}
 use Rattle.table_rule.specs.Blocks.{is_block}
 use Rattle.clock_sweep.specs.CensusList.{new_census}
 use Rattle.frame_table.specs.Opened.{WasSoundAtOpening}
@@ -39,8 +40,8 @@ module _ {L G : Type 0} where
     pub alone : (f g : ℕ) (h k : HeldFrame) → held_at p.tokens f ≡ Some h → held_at p.tokens g ≡ Some k → h.tag ≡ k.tag → f ≡ g
     -- which were sound as the table was opened, where the lanes' contents at that time are known
     pub sound : (f : ℕ) (h : HeldFrame) → held_at p.tokens f ≡ Some h → (tag : Tag) → packed_tag tag ≡ h.tag → names_block tag ≡ true → WasSoundAtOpening contents m.table tag
-    -- what it has read and put stands in the log, whose beginning is the front of a pass that has done neither
-    pub based : base_of m.table ≤ p.view.front
+    -- its front is the largest place of what it has read and put, and where the log begins before that
+    pub front : IsFront (base_of m.table) p.view.calls p.view.front
     -- it has seen an end of the log, or the beginning
     pub seen : base_of m.table ≤ p.view.end_seen
 
@@ -87,6 +88,11 @@ abbrev pub AreSpent : TableId → List PassState → Type 0
 AreSpent table [] = Unit {0}
 AreSpent table (p ∷ ps) = (p.table ≡ table) × (p.tokens ≡ no_tokens) × AreSpent table ps
 
+-- the front of each is the largest place of what it has read and put, over a log that begins at `base`
+abbrev pub AreFronted : ℕ → List PassState → Type 0
+AreFronted base [] = Unit {0}
+AreFronted base (p ∷ ps) = IsFront base p.view.calls p.view.front × AreFronted base ps
+
 module _ {L G : Type 0} where
   -- The passes are all that the manager gave, in any order, and none has a token
   pub record AreAll (m : Manager L G) (ps : List PassState) : Type 0 where
@@ -95,3 +101,4 @@ module _ {L G : Type 0} where
     pub counted : length ps ≡ (first_in ps).next
     pub joined : (first_in ps).joined ≡ 0
     pub spent : AreSpent m.table.table.shared.table_id ps
+    pub fronts : AreFronted (base_of m.table) ps

@@ -7,6 +7,8 @@ use Rattle.clock_sweep.specs.CensusList.{CensusList}
 use Rattle.held_pins.specs.Tokens.{HeldFrame, no_tokens}
 use Rattle.frame_table.specs.Seats.{OnlyRises}
 use Rattle.held_pins.specs.Rests.{Rests, SameLocks}
+use Rattle.wal_flush.specs.declared.inserts.InsertError.{InsertError}
+use Rattle.wal_flush.specs.declared.inserts.InsertError.TheVariants.{LogFull, LogDown, LogFault}
 use Rattle.backend_pass.specs.declared.met.Shown.{Shown}
 
 -- A backend of a manager between two calls
@@ -20,9 +22,9 @@ pub record PassState : Type 0 where
   -- the words that its last choice of a victim loaded, where that found each frame pinned
   pub census : CensusList
 
-abbrev pub first_of : List View → View
-first_of [] = emptied_view
-first_of (v ∷ vs) = v
+abbrev pub view_in : List View → View
+view_in [] = emptied_view
+view_in (v ∷ vs) = v
 
 -- a count as it is shown: it stands still at its type's last value
 abbrev pub shown_count : ℕ → ℕ
@@ -47,8 +49,8 @@ pub record IsFreshView (number id base : ℕ) (v : View) : Type 0 where
   pub front : v.front ≡ base
   pub met : v.met ≡ record { reads = 0; writes = 0; logs = 0 }
 
--- It is the same pass: what each call leaves of it, and what only rises
-pub record SamePass (p q : PassState) : Type 0 where
+-- It is the same pass: what every call leaves of it, and what only rises
+pub record KeepsPass (p q : PassState) : Type 0 where
   pub table : q.table ≡ p.table
   pub id : q.id ≡ p.id
   pub frames : q.census.frames ≡ p.census.frames
@@ -56,8 +58,12 @@ pub record SamePass (p q : PassState) : Type 0 where
   pub next : q.view.next ≡ p.view.next
   pub joined : q.view.joined ≡ p.view.joined
   pub kept : q.view.kept ≡ p.view.kept
-  pub upto : q.view.upto ≡ p.view.upto
   pub advances : OnlyRises p.view q.view
+
+-- and its checkpoint began where it had begun
+pub record SamePass (p q : PassState) : Type 0 where
+  pub keeps : KeepsPass p q
+  pub upto : q.view.upto ≡ p.view.upto
 
 -- What it read and put, and its front, are as they were
 pub record KeepsCalls (p q : PassState) : Type 0 where
@@ -84,3 +90,9 @@ shown_write s = record s { met = record s.met { writes = shown_count (s.met.writ
 
 abbrev pub shown_log : Shown → Shown
 shown_log s = record s { met = record s.met { logs = shown_count (s.met.logs + 1) } }
+
+-- and after a put was refused
+abbrev pub shown_unput : InsertError → Shown → Shown
+shown_unput (LogFull end) s = s
+shown_unput (LogDown at) s = s
+shown_unput LogFault s = shown_log s

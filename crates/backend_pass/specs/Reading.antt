@@ -11,6 +11,7 @@ use Rattle.pin_core.specs.declared.view.Met.{Met}
 use Rattle.pin_core.specs.declared.view.View.{View}
 use Rattle.pin_core.specs.State.{link}
 use Rattle.table_rule.specs.Blocks.{has_block}
+use Rattle.clock_sweep.specs.CensusList.{CensusList, new_census}
 use Rattle.frame_table.specs.declared.table.FrameTable.{FrameTable}
 use Rattle.frame_table.specs.Opened.{WasSoundAtOpening}
 use Rattle.frame_table.specs.Seats.{frames_of, lanes_in, relations_of}
@@ -21,7 +22,7 @@ use Rattle.buffer_frames.specs.declared.victims.VictimError.TheVariants as victi
 use Rattle.buffer_frames.specs.declared.reading.BlockError.{BlockError}
 use Rattle.buffer_frames.specs.declared.reading.BlockError.TheVariants as block
 use Rattle.buffer_frames.specs.Loading.{WasUnsoundAtOpening, loading_calls}
-use Rattle.buffer_frames.specs.Reads.{Locates, Misses}
+use Rattle.buffer_frames.specs.Reads.{KeptOrEmptied, Locates, Misses}
 use Rattle.buffer_frames.specs.Victims.{FindsAllPinned, LeavesDirty}
 use Rattle.buffer_frames.specs.Working.{met_log, met_read, met_write}
 use Rattle.backend_pass.specs.declared.errors.ReadError.{ReadError}
@@ -84,6 +85,19 @@ met_shown (Unsound tag) m = m
 
 abbrev pub shown_after : ReadError → Shown → Shown
 shown_after why s = record s { met = met_shown why s.met }
+
+-- What it leaves of the census, which has room for the words of n frames: what it was where the block had a frame at first, an empty one where a victim was chosen, and where all frames were pinned their words, as the refusal tells
+abbrev pub ReadingCensus : ℕ → CensusList → CensusList → Result Pinned ReadError → Type 0
+ReadingCensus n c d (Ok pinned) = KeptOrEmptied n c d
+ReadingCensus n c d (Err (PastEnd block blocks)) = d ≡ c
+ReadingCensus n c d (Err PinsFull) = d ≡ c
+ReadingCensus n c d (Err (NoUnpinned frames)) = Unit {0}
+ReadingCensus n c d (Err (ReadFault failed)) = KeptOrEmptied n c d
+ReadingCensus n c d (Err (WriteFault failed)) = d ≡ new_census n
+ReadingCensus n c d (Err LogFault) = d ≡ new_census n
+ReadingCensus n c d (Err (LogDown at)) = d ≡ new_census n
+ReadingCensus n c d (Err (LogShort lsn end)) = d ≡ new_census n
+ReadingCensus n c d (Err (Unsound failed)) = KeptOrEmptied n c d
 
 -- The lane q was read for the block where the answer says so, and no lane else. Where the map gave no frame for it at first, all else was done after that
 abbrev pub ReadingCalls : ℕ → Tag → Bool → View → View → Result Pinned ReadError → Type 0

@@ -56,7 +56,7 @@ pub enum ReadError {
     /// A call of the log failed before, where the log ended here.
     #[error("the log is down at {at}")]
     LogDown { at: Lsn },
-    /// A page that was to be written is of a position behind the log's end.
+    /// A page that was to be written has a position past the log's end.
     #[error("the log ends at {end}, before {lsn}")]
     LogShort { lsn: Lsn, end: Lsn },
     /// The lane gave a page of this block that isn't sound.
@@ -76,7 +76,7 @@ pub enum FlushError {
     /// A call of the log failed before, where the log ended here.
     #[error("the log is down at {at}")]
     LogDown { at: Lsn },
-    /// The page is of a position behind the log's end.
+    /// The page has a position past the log's end.
     #[error("the log ends at {end}, before {lsn}")]
     LogShort { lsn: Lsn, end: Lsn },
 }

@@ -9,7 +9,7 @@ ghost use Rattle.held_pins.specs.Rests.{Rests};
 ghost use Rattle.held_pins.specs.Tokens.{IsPinnedFor};
 ghost use Rattle.buffer_frames.specs.Flushing.{EndedInError, EndedWritten, FlushAnswer, met_flushing};
 ghost use Rattle.buffer_frames.specs.Working.{WorksAt};
-ghost use Rattle.backend_pass.specs.Passes.{first_of, shown_log};
+ghost use Rattle.backend_pass.specs.Passes.{view_in, shown_log};
 ghost use Rattle.backend_pass.specs.FrameFlushes.{frame_refusal, shown_unflushed};
 
 use crate::errors::FlushError;
@@ -94,23 +94,23 @@ fn flush_seated<L: BlockLane, G: LogDevice, R: Wait>(
     tag: Tag,
 ) -> Result<bool, buffer_frames::FlushError>
     requires table { badge.old.table_id ≡ table.now.table.shared.table_id }
-    requires view { badge.old.views ≡ first_of badge.old.views ∷ [] }
-    requires rests { Rests held.now (first_of badge.old.views) }
+    requires view { badge.old.views ≡ view_in badge.old.views ∷ [] }
+    requires rests { Rests held.now (view_in badge.old.views) }
     requires pinned { IsPinnedFor tag frame held.now }
-    requires unlocked { (link (first_of badge.old.views) frame).content ≡ Unlocked }
+    requires unlocked { (link (view_in badge.old.views) frame).content ≡ Unlocked }
     requires inside { frame < frames_of table.now }
     requires tag { names_block tag ≡ true }
     requires block { has_block (relations_of table.now) tag ≡ true }
     ensures table { badge.new.table_id ≡ badge.old.table_id }
     ensures id { badge.new.id ≡ badge.old.id }
-    ensures view { badge.new.views ≡ first_of badge.new.views ∷ [] }
-    ensures rests { Rests held.now (first_of badge.new.views) }
-    ensures works { WorksAt frame (first_of badge.old.views) (first_of badge.new.views) }
-    ensures unlocked { (link (first_of badge.new.views) frame).content ≡ Unlocked }
-    ensures answer { FlushAnswer L.contents table.now (lane_number tag (lanes_in table.now)) tag frame (first_of badge.old.views) (first_of badge.new.views) result }
-    ensures met { (first_of badge.new.views).met ≡ met_flushing result (first_of badge.old.views).met }
-    ensures ended { IfErr result (λ _. EndedInError (first_of badge.new.views)) }
-    ensures written { IfOk result (λ wrote. wrote ≡ true → EndedWritten (first_of badge.new.views)) }
+    ensures view { badge.new.views ≡ view_in badge.new.views ∷ [] }
+    ensures rests { Rests held.now (view_in badge.new.views) }
+    ensures works { WorksAt frame (view_in badge.old.views) (view_in badge.new.views) }
+    ensures unlocked { (link (view_in badge.new.views) frame).content ≡ Unlocked }
+    ensures answer { FlushAnswer L.contents table.now (lane_number tag (lanes_in table.now)) tag frame (view_in badge.old.views) (view_in badge.new.views) result }
+    ensures met { (view_in badge.new.views).met ≡ met_flushing result (view_in badge.old.views).met }
+    ensures ended { IfErr result (λ _. EndedInError frame (view_in badge.old.views) (view_in badge.new.views)) }
+    ensures written { IfOk result (λ wrote. wrote ≡ true → EndedWritten frame (view_in badge.old.views) (view_in badge.new.views)) }
 {
     let mut seat = replace(badge, Badge::blank()).into_seat::<Value<L, G>>();
     let answer = buffer_frames::flush_frame(table, rt, &mut seat, held, frame, tag, page);
@@ -130,11 +130,11 @@ impl Pass {
     ghost use Rattle.backend_pass.specs.Passes.{KeepsCalls, KeepsLocks, KeepsMark, SamePass};
     ghost use Rattle.backend_pass.specs.FrameFlushes.{WasWithin, frame_answer};
 
-    /// Writes the page of a frame of which the caller has a token and no content lock, where it is dirty, once the log is flushed up to the page's position (`FlushOneBuffer`). False where it is clean.
+    /// Writes the page of a token's frame if the frame is dirty, after flushing the log up to the page's position (`FlushOneBuffer`). The caller doesn't have the content lock. Returns false if the frame is clean.
     pub fn flush_frame<L: BlockLane, G: LogDevice, R: Wait>(
         &mut self,
-        rt: &R,
         manager: &Manager<L, G>,
+        rt: &R,
         pinned: &Pinned,
     ) -> Result<bool, FlushError>
         requires belongs { Belongs L.contents manager.now self.old }
@@ -149,13 +149,13 @@ impl Pass {
         ensures locks { KeepsLocks self.old self.new }
         ensures others { (g : ℕ) → g ≢ pinned.now.frame → link self.new.view g ≡ link self.old.view g }
 
-        // The page went to its lane behind the log, or the frame was clean; or this is why not, and what devices were called.
+        // The page went to its lane after the log was flushed up to it, or the frame was clean; or this is why not, and which devices were called.
         ensures answer { FlushAnswer L.contents manager.now.table (lane_number pinned.now.tag (lanes_in manager.now.table)) pinned.now.tag pinned.now.frame self.old.view self.new.view (frame_answer result) }
         ensures met { self.new.view.met ≡ met_flushing (frame_answer result) self.old.view.met }
-        ensures ended { IfErr result (λ _. EndedInError self.new.view) }
-        ensures written { IfOk result (λ wrote. wrote ≡ true → EndedWritten self.new.view) }
+        ensures ended { IfErr result (λ _. EndedInError pinned.now.frame self.old.view self.new.view) }
+        ensures written { IfOk result (λ wrote. wrote ≡ true → EndedWritten pinned.now.frame self.old.view self.new.view) }
 
-        // It is done where the log isn't down, no call fails, and no page is of a position behind the log.
+        // It is done where the log isn't down, no call fails, and no page has a position past the log's end.
         ensures complete { WasWithin L.contents manager.now.table pinned.now.tag self.old.view.end_seen → self.new.view.saw_down ≡ false → self.new.view.met ≡ self.old.view.met → IsOk result }
     {
         let frame = pinned.frame;

@@ -26,11 +26,11 @@ impl Pass {
     ghost use Rattle.backend_pass.specs.Managers.{Belongs};
     ghost use Rattle.backend_pass.specs.Passes.{KeepsCalls, KeepsDevices, KeepsLocks, KeepsMark, SamePass};
 
-    /// Takes the content lock of the frame of a token, shared, once no backend has it exclusively (`BUFFER_LOCK_SHARE`).
+    /// Takes the content lock of a token's frame in shared mode, once no backend has it exclusively (`BUFFER_LOCK_SHARE`).
     pub fn share<L: BlockLane, G: LogDevice, R: Wait>(
         &mut self,
-        rt: &R,
         manager: &Manager<L, G>,
+        rt: &R,
         pinned: Pinned,
     ) -> Shared
         requires belongs { Belongs L.contents manager.now self.old }
@@ -53,11 +53,11 @@ impl Pass {
         Shared { pinned }
     }
 
-    /// Takes it exclusively, once no backend has it (`BUFFER_LOCK_EXCLUSIVE`).
+    /// Takes it in exclusive mode, once no backend has it (`BUFFER_LOCK_EXCLUSIVE`).
     pub fn exclusive<L: BlockLane, G: LogDevice, R: Wait>(
         &mut self,
-        rt: &R,
         manager: &Manager<L, G>,
+        rt: &R,
         pinned: Pinned,
     ) -> Exclusive
         requires belongs { Belongs L.contents manager.now self.old }
@@ -80,7 +80,7 @@ impl Pass {
         Exclusive { pinned }
     }
 
-    /// Takes it shared without waiting (`ConditionalLockBuffer`). A refusal gives the token back.
+    /// Takes it in shared mode without waiting. A refusal returns the token.
     pub fn try_share<L: BlockLane, G: LogDevice>(
         &mut self,
         manager: &Manager<L, G>,
@@ -113,7 +113,7 @@ impl Pass {
         }
     }
 
-    /// Takes it exclusively without waiting. A refusal gives the token back.
+    /// Takes it in exclusive mode without waiting (`ConditionalLockBuffer`). A refusal returns the token.
     pub fn try_exclusive<L: BlockLane, G: LogDevice>(
         &mut self,
         manager: &Manager<L, G>,
@@ -146,7 +146,7 @@ impl Pass {
         }
     }
 
-    /// Gives the shared lock up (`BUFFER_LOCK_UNLOCK`), and the token back.
+    /// Releases the shared lock (`BUFFER_LOCK_UNLOCK`) and returns the token.
     pub fn unshare<L: BlockLane, G: LogDevice>(
         &mut self,
         manager: &Manager<L, G>,
@@ -173,7 +173,7 @@ impl Pass {
         pinned
     }
 
-    /// Gives the exclusive lock up, and the token back.
+    /// Releases the exclusive lock and returns the token.
     pub fn unexclusive<L: BlockLane, G: LogDevice>(
         &mut self,
         manager: &Manager<L, G>,

@@ -30,14 +30,14 @@ impl Model for Pass {
     ghost use Rattle.std.specs.Prelude.{◌≡◌, ◌∷◌, []};
     ghost use Rattle.crossbeam_utils.specs.Padded.{padded_value};
     ghost use Rattle.held_pins.specs.Rests.{Rests};
-    ghost use Rattle.backend_pass.specs.Passes.{IsNumbered, IsShown, PassState, first_of};
+    ghost use Rattle.backend_pass.specs.Passes.{IsNumbered, IsShown, PassState, view_in};
 
     ghost Value = { PassState };
 
-    ghost view = { λ p. record { table = p.seat.table_id; id = p.seat.id; view = first_of p.seat.views; tokens = p.held; census = p.census } };
+    ghost view = { λ p. record { table = p.seat.table_id; id = p.seat.id; view = view_in p.seat.views; tokens = p.held; census = p.census } };
 
     // Its seat has one view, which holds what its tokens say and nothing else.
-    ghost invariant = { λ p. (p.seat.views ≡ first_of p.seat.views ∷ []) × Rests p.held (first_of p.seat.views) × IsNumbered p.number p.seat.id (first_of p.seat.views) × IsShown (first_of p.seat.views) (padded_value p.shown) };
+    ghost invariant = { λ p. (p.seat.views ≡ view_in p.seat.views ∷ []) × Rests p.held (view_in p.seat.views) × IsNumbered p.number p.seat.id (view_in p.seat.views) × IsShown (view_in p.seat.views) (padded_value p.shown) };
 }
 
 impl Pass {
@@ -58,25 +58,25 @@ impl Pass {
         self.shown.met
     }
 
-    /// The largest place in the log of what the pass read and put; where the log begins, before that.
+    /// The largest place in the log of what the pass has read and put; where the log begins, before that.
     pub fn front(&self) -> Lsn
         ensures { result ≡ self.now.view.front }
     {
         self.shown.front
     }
 
-    /// The words of the frames, from frame 0 on, that the last choice of a victim loaded, where it found each frame pinned. They are of different moments.
+    /// The state words of the frames, from frame 0 on, if the last choice of a victim found every frame pinned; else empty. They were loaded at different moments.
     pub fn census(&self) -> &[u64]
         ensures { result.now ≡ self.now.census.words }
     {
         self.census.census()
     }
 
-    /// Takes a token back (`ReleaseBuffer`). With the last one of its frame the pin is given up.
+    /// Releases a token (`ReleaseBuffer`). The last token of a frame gives up its pin.
     pub fn release<L: BlockLane, G: LogDevice, R: Wait>(
         &mut self,
-        rt: &R,
         manager: &Manager<L, G>,
+        rt: &R,
         pinned: Pinned,
     )
         requires belongs { Belongs L.contents manager.now self.old }

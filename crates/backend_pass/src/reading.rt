@@ -6,8 +6,8 @@ ghost use Rattle.frame_table.specs.Seats.{OnlyRises, frames_of, lanes_in, relati
 ghost use Rattle.held_pins.specs.Rests.{HasNoDevice, HasNoLatch, Rests, kept_by_calls, SameLocks};
 ghost use Rattle.held_pins.specs.Tokens.{IsNew};
 ghost use Rattle.buffer_frames.specs.Outside.{ring_shape};
-ghost use Rattle.buffer_frames.specs.Reads.{ReadAnswer, ReadCalls, met_read_block};
-ghost use Rattle.backend_pass.specs.Passes.{first_of};
+ghost use Rattle.buffer_frames.specs.Reads.{CensusRead, ReadAnswer, ReadCalls, met_read_block};
+ghost use Rattle.backend_pass.specs.Passes.{view_in};
 ghost use Rattle.backend_pass.specs.Reading.{read_refusal, shown_after};
 
 use crate::errors::ReadError;
@@ -106,25 +106,26 @@ fn read_seated<L: BlockLane, G: LogDevice, R: Wait>(
     ring: &mut Option<Ring>,
 ) -> Result<PinnedBlock, BlockError>
     requires table { badge.old.table_id ≡ manager.now.table.table.shared.table_id }
-    requires view { badge.old.views ≡ first_of badge.old.views ∷ [] }
-    requires rests { Rests held.now (first_of badge.old.views) }
+    requires view { badge.old.views ≡ view_in badge.old.views ∷ [] }
+    requires rests { Rests held.now (view_in badge.old.views) }
     requires census { census.old.frames ≡ frames_of manager.now.table }
     requires tag { names_block tag ≡ true }
     requires block { has_block (relations_of manager.now.table) tag ≡ true }
     requires new { IsNew tag held.now }
     ensures table { badge.new.table_id ≡ badge.old.table_id }
     ensures id { badge.new.id ≡ badge.old.id }
-    ensures view { badge.new.views ≡ first_of badge.new.views ∷ [] }
-    ensures quiet { HasNoDevice (first_of badge.new.views) }
-    ensures latches { HasNoLatch (first_of badge.new.views) }
+    ensures view { badge.new.views ≡ view_in badge.new.views ∷ [] }
+    ensures quiet { HasNoDevice (view_in badge.new.views) }
+    ensures latches { HasNoLatch (view_in badge.new.views) }
     ensures room { census.new.frames ≡ census.old.frames }
     ensures ring { ring_shape ring.new ≡ ring_shape ring.old }
-    ensures kept { kept_by_calls (first_of badge.new.views) ≡ kept_by_calls (first_of badge.old.views) }
-    ensures advances { OnlyRises (first_of badge.old.views) (first_of badge.new.views) }
-    ensures locks { SameLocks (first_of badge.old.views) (first_of badge.new.views) }
-    ensures answer { ReadAnswer L.contents manager.now.table tag held.now census.new.words (first_of badge.old.views) (first_of badge.new.views) result }
-    ensures met { (first_of badge.new.views).met ≡ met_read_block result (first_of badge.old.views).met }
-    ensures calls { ReadCalls (lane_number tag (lanes_in manager.now.table)) tag (is_some ring.old) (first_of badge.old.views) (first_of badge.new.views) result }
+    ensures kept { kept_by_calls (view_in badge.new.views) ≡ kept_by_calls (view_in badge.old.views) }
+    ensures advances { OnlyRises (view_in badge.old.views) (view_in badge.new.views) }
+    ensures locks { SameLocks (view_in badge.old.views) (view_in badge.new.views) }
+    ensures answer { ReadAnswer L.contents manager.now.table tag held.now census.new.words (view_in badge.old.views) (view_in badge.new.views) result }
+    ensures census { CensusRead (frames_of manager.now.table) census.old census.new result }
+    ensures met { (view_in badge.new.views).met ≡ met_read_block result (view_in badge.old.views).met }
+    ensures calls { ReadCalls (lane_number tag (lanes_in manager.now.table)) tag (is_some ring.old) (view_in badge.old.views) (view_in badge.new.views) result }
 {
     let mut seat = replace(badge, Badge::blank()).into_seat::<Value<L, G>>();
     let answer = read_block(
@@ -149,12 +150,12 @@ impl Pass {
     ghost use Rattle.pin_core.specs.State.{link};
     ghost use Rattle.table_rule.specs.Blocks.{has_block};
     ghost use Rattle.frame_table.specs.Opened.{WasSoundAtOpening};
-    ghost use Rattle.frame_table.specs.Seats.{relations_of};
+    ghost use Rattle.frame_table.specs.Seats.{frames_of, relations_of};
     ghost use Rattle.held_pins.specs.Tokens.{IsNew, IsPinnedFor, count_of, held_at, tokens_less, tokens_more, tokens_of};
     ghost use Rattle.buffer_frames.specs.Outside.{ring_shape};
     ghost use Rattle.backend_pass.specs.Managers.{Belongs};
     ghost use Rattle.backend_pass.specs.Passes.{KeepsCalls, KeepsLocks, KeepsMark, PassState, SamePass};
-    ghost use Rattle.backend_pass.specs.Reading.{IsReadUnsoundOrAllPinned, NothingFails, ReadsBlock, at_once_of, met_reading, refused_at_once};
+    ghost use Rattle.backend_pass.specs.Reading.{IsReadUnsoundOrAllPinned, NothingFails, ReadingCensus, ReadsBlock, at_once_of, met_reading, refused_at_once};
     ghost use Rattle.buffer_frames.specs.Loading.{WasUnsoundAtOpening};
     ghost use Rattle.backend_pass.specs.declared.errors.ReadError.{ReadError};
     ghost use Rattle.backend_pass.specs.declared.errors.ReadError.TheVariants.{Unsound};
@@ -163,8 +164,8 @@ impl Pass {
     /// Reads a block that callers have no token of.
     fn read_new<L: BlockLane, G: LogDevice, R: Wait>(
         &mut self,
-        rt: &R,
         manager: &Manager<L, G>,
+        rt: &R,
         tag: Tag,
         ring: &mut Option<Ring>,
     ) -> Result<Pinned, ReadError>
@@ -180,6 +181,7 @@ impl Pass {
         ensures locks { KeepsLocks self.old self.new }
         ensures ring { ring_shape ring.new ≡ ring_shape ring.old }
         ensures answer { ReadsBlock L.contents manager.now.table tag (is_some ring.old) self.old self.new result }
+        ensures census { ReadingCensus (frames_of manager.now.table) self.old.census self.new.census result }
         ensures met { self.new.view.met ≡ met_reading result self.old.view.met }
         ensures back { IfOk result (λ pinned. tokens_less pinned.frame self.new.tokens ≡ self.old.tokens) }
     {
@@ -207,11 +209,11 @@ impl Pass {
         }
     }
 
-    /// Pins a block and gives a token of it (`ReadBuffer_common`). Where callers have one already no lane is read and no shared word changes. Else the block is looked up, and brought into a frame where it has none; of a ring where one is given. A refusal leaves the pass's pins as they were.
+    /// Pins a block and returns a token of it (`ReadBuffer_common`). If callers have one already, no lane is read and no shared word changes. Otherwise the block is looked up and, if no frame has it, read into one, chosen by the ring if one is given. A refusal leaves the pass's pins as they were.
     pub fn read_buffer<L: BlockLane, G: LogDevice, R: Wait>(
         &mut self,
-        rt: &R,
         manager: &Manager<L, G>,
+        rt: &R,
         tag: Tag,
         ring: &mut Option<Ring>,
     ) -> Result<Pinned, ReadError>
@@ -222,6 +224,7 @@ impl Pass {
         ensures mark { KeepsMark self.old self.new }
         ensures locks { KeepsLocks self.old self.new }
         ensures ring { ring_shape ring.new ≡ ring_shape ring.old }
+        ensures census { ReadingCensus (frames_of manager.now.table) self.old.census self.new.census result }
         ensures met { self.new.view.met ≡ met_reading result self.old.view.met }
 
         // A block past the end and one token too many are refused, in this order, before anything is looked at, and nothing else is refused so. The pass and the ring are as they were.
@@ -261,7 +264,7 @@ impl Pass {
             return Err(ReadError::PinsFull);
         }
         let Some(frame) = self.held.frame_of(&tag) else {
-            return self.read_new(rt, manager, tag, ring);
+            return self.read_new(manager, rt, tag, ring);
         };
         self.held.add_token(frame);
         Ok(Pinned {

@@ -1,5 +1,6 @@
 -- What came of a write of a frame's page, with other steps before it and after it.
 use Rattle.std.proofs.Common.{◌≡◌, ℕ, ◌≤◌, Bool, true, false, Option, Some, None, [], ◌∷◌, ◌++◌, ◌||◌, ◌&&◌, Result, Ok, Err, sym, refl, ap, ◌∙◌, subst, arith}
+use Rattle.std.specs.Prelude.{IfErr, IfOk}
 use Rattle.std.proofs.lemmas.List.Elements.{All-cons, All-nil}
 use Rattle.std.specs.List.{All}
 use Rattle.access_rings.specs.RingState.{RingState}
@@ -33,45 +34,73 @@ use Rattle.frame_table.proofs.Rising.{rises_none, rises_on}
 use Rattle.held_pins.proofs.Keeping.{beside_kept}
 use Rattle.buffer_frames.specs.declared.flushing.FlushError.{FlushError}
 use Rattle.buffer_frames.specs.declared.flushing.FlushError.TheVariants.{Log, WriteFault}
-use Rattle.buffer_frames.specs.Flushing.{ClearsJust, CopiesAnd, EndedInError, EndedWritten, FlushAnswer, LogRefuses, LogShows, RejectsVictim, WriteAnswer, WentToLane, log_syncs, syncs_refused}
+use Rattle.buffer_frames.specs.Flushing.{ClearsJust, CopiesAnd, EndedInError, EndedWritten, EndsWrite, FlushAnswer, LogRefuses, LogShows, RejectsVictim, WriteAnswer, WentToLane, log_syncs, syncs_refused}
 use Rattle.buffer_frames.specs.Stages.{HasVictim, IsPinned}
 use Rattle.buffer_frames.specs.Working.{Calls, IsFlushCall, Made, WorksAt}
-use Rattle.buffer_frames.proofs.WorkSteps.{made_after, made_before, made_none, made_on, within_on}
+use Rattle.buffer_frames.proofs.WorkSteps.{made_after, made_before, made_none, made_on, within_all, within_on}
 
 pub had_output_marked : (v w : View) → SameMarks v w → w.had_output ≡ v.had_output
 had_output_marked v w m = ap (λ (x : ViewMarks). x.had_output) m
 
--- an output that failed
-pub ended_in_error : (f : ℕ) (v w : View) → EndsIo Bad f v w → (link v f).io ≡ Output → v.had_output ≡ true → EndedInError w
-ended_in_error f v w e right had = let dirty = e.shows.output right in record {
-  output = ap (λ (x : ViewMarks). x.had_output) e.marks ∙ had;
-  word = unlocked_fields (io_ended_fields Bad (fields e.word));
-  is = ap (λ (x : ViewMarks). x.last_ended) e.marks;
+-- a write that failed
+pub ended_in_error : (f : ℕ) (v u w : View) → OnlyRises v u → EndsIo Bad f u w → (link u f).io ≡ Output → u.had_output ≡ true → EndedInError f v w
+ended_in_error f v u w rises e right had = let dirty = e.shows.output right in let stored = unlocked_fields (io_ended_fields Bad (fields e.word)) in let notes = ap (λ (x : ViewMarks). x.last_ended) e.marks in record {
+  stored = stored;
+  ends = within_on (EndsWrite Bad f stored) v u w w rises (within_all (EndsWrite Bad f stored) u w record { right = right; ends = e; notes = notes }) (rises_none w);
+  last = notes;
   valid = e.shows.dirty dirty;
   dirty = dirty;
   failed = refl;
+  output = ap (λ (x : ViewMarks). x.had_output) e.marks ∙ had;
 }
 
 both_left : (a b : Bool) → a && b ≡ true → a ≡ true
 both_left true b e = refl
 both_left false b e = e
 
--- an output that was done
-pub ended_written : (f : ℕ) (v w : View) → EndsIo WriteOk f v w → (link v f).io ≡ Output → v.had_output ≡ true → EndedWritten w
-ended_written f v w e right had = record {
-  output = ap (λ (x : ViewMarks). x.had_output) e.marks ∙ had;
-  word = unlocked_fields (io_ended_fields WriteOk (fields e.word));
-  is = ap (λ (x : ViewMarks). x.last_ended) e.marks;
+-- a write that was done
+pub ended_written : (f : ℕ) (v u w : View) → OnlyRises v u → EndsIo WriteOk f u w → (link u f).io ≡ Output → u.had_output ≡ true → EndedWritten f v w
+ended_written f v u w rises e right had = let stored = unlocked_fields (io_ended_fields WriteOk (fields e.word)) in let notes = ap (λ (x : ViewMarks). x.last_ended) e.marks in record {
+  stored = stored;
+  ends = within_on (EndsWrite WriteOk f stored) v u w w rises (within_all (EndsWrite WriteOk f stored) u w record { right = right; ends = e; notes = notes }) (rises_none w);
+  last = notes;
   valid = e.shows.dirty (e.shows.output right);
   done = refl;
   again = λ dirty. both_left (fields e.word).just_dirtied (fields e.word).dirty dirty;
+  output = ap (λ (x : ViewMarks). x.had_output) e.marks ∙ had;
 }
 
-pub written_marked : (v w : View) → SameMarks v w → EndedWritten v → EndedWritten w
-written_marked v w m e = record { output = had_output_marked v w m ∙ e.output; word = e.word; is = ap (λ (x : ViewMarks). x.last_ended) m ∙ e.is; valid = e.valid; done = e.done; again = e.again }
+-- with other steps before it and after it
+pub error_between : (f : ℕ) (v u x w : View) → OnlyRises v u → EndedInError f u x → SameMarks x w → OnlyRises x w → EndedInError f v w
+error_between f v u x w before e m after = record {
+  stored = e.stored;
+  ends = within_on (EndsWrite Bad f e.stored) v u x w before e.ends after;
+  last = ap (λ (y : ViewMarks). y.last_ended) m ∙ e.last;
+  valid = e.valid;
+  dirty = e.dirty;
+  failed = e.failed;
+  output = had_output_marked x w m ∙ e.output;
+}
 
-pub error_marked : (v w : View) → SameMarks v w → EndedInError v → EndedInError w
-error_marked v w m e = record { output = had_output_marked v w m ∙ e.output; word = e.word; is = ap (λ (x : ViewMarks). x.last_ended) m ∙ e.is; valid = e.valid; dirty = e.dirty; failed = e.failed }
+pub written_between : (f : ℕ) (v u x w : View) → OnlyRises v u → EndedWritten f u x → SameMarks x w → OnlyRises x w → EndedWritten f v w
+written_between f v u x w before e m after = record {
+  stored = e.stored;
+  ends = within_on (EndsWrite WriteOk f e.stored) v u x w before e.ends after;
+  last = ap (λ (y : ViewMarks). y.last_ended) m ∙ e.last;
+  valid = e.valid;
+  done = e.done;
+  again = e.again;
+  output = had_output_marked x w m ∙ e.output;
+}
+
+-- so it is with an answer
+pub error_after : (f : ℕ) (v u w : View) (r : Result Bool FlushError) → OnlyRises v u → IfErr r (λ _. EndedInError f u w) → IfErr r (λ _. EndedInError f v w)
+error_after f v u w (Ok wrote) before e = tt
+error_after f v u w (Err why) before e = error_between f v u w w before e refl (rises_none w)
+
+pub written_after : (f : ℕ) (v u w : View) (r : Result Bool FlushError) → OnlyRises v u → IfOk r (λ wrote. wrote ≡ true → EndedWritten f u w) → IfOk r (λ wrote. wrote ≡ true → EndedWritten f v w)
+written_after f v u w (Ok wrote) before e = λ same. written_between f v u w w before (e same) refl (rises_none w)
+written_after f v u w (Err why) before e = tt
 
 -- a write, where no device is called before or after it
 wrote_between : (done : Bool) (q tag : ℕ) (page : Page) (v u x w : View) → u.device_calls ≡ v.device_calls → OnlyRises v u → WentToLane done q tag page u x → w.device_calls ≡ x.device_calls → OnlyRises x w → WentToLane done q tag page v w

@@ -12,3 +12,5 @@ pub mod Written
 pub mod Answering
 pub mod Noting
 pub mod Locating
+pub mod PageReading
+pub mod PagePuts

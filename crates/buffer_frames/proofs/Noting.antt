@@ -1,5 +1,5 @@
 -- Calls of devices, and the causes of refusals, over steps before and after.
-use Rattle.std.proofs.Common.{◌≡◌, ℕ, List, [], ◌++◌, refl, sym, ap, ◌∙◌, append_assoc}
+use Rattle.std.proofs.Common.{◌≡◌, ℕ, List, [], ◌++◌, inr, refl, sym, ap, ◌∙◌, append_assoc}
 use Rattle.std.proofs.lemmas.List.{append-nil}
 use Rattle.std.proofs.lemmas.List.Elements.{All-append, All-nil}
 use Rattle.std.specs.Prelude.{Ok, Err, Option, Bool, true, false, Result}
@@ -8,6 +8,7 @@ use Rattle.block_tag.specs.declared.tag.Tag.{Tag}
 use Rattle.pin_core.specs.declared.view.DeviceCall.{DeviceCall}
 use Rattle.pin_core.specs.declared.view.View.{View}
 use Rattle.access_rings.specs.RingState.{RingState}
+use Rattle.clock_sweep.specs.CensusList.{CensusList}
 use Rattle.frame_table.specs.declared.pin.Pin.{Pin}
 use Rattle.frame_table.specs.declared.table.FrameTable.{FrameTable}
 use Rattle.frame_table.specs.Seats.{OnlyRises}
@@ -17,9 +18,10 @@ use Rattle.frame_table.proofs.Rising.{rises_none, rises_on}
 use Rattle.buffer_frames.specs.declared.flushing.FlushError.{FlushError}
 use Rattle.buffer_frames.specs.declared.victims.VictimError.{VictimError}
 use Rattle.buffer_frames.specs.declared.victims.VictimError.TheVariants.{Flush, NoUnpinned}
-use Rattle.buffer_frames.specs.Flushing.{EndedInError, VictimAnswer, locked, rejected}
+use Rattle.buffer_frames.specs.Flushing.{VictimAnswer, locked, rejected}
 use Rattle.buffer_frames.specs.Outside.{outside_of, ring_shape}
-use Rattle.buffer_frames.specs.Victims.{AllPinned, ClaimAnswer, FindsAllPinned, LeavesDirty, VictimRefused}
+use Rattle.buffer_frames.specs.Reads.{CensusPinned}
+use Rattle.buffer_frames.specs.Victims.{AllPinned, CensusClaimed, ClaimAnswer, FindsAllPinned, LeavesDirty, VictimRefused}
 use Rattle.buffer_frames.specs.Working.{Calls}
 use Rattle.buffer_frames.proofs.Outside.{calls_outside, shape_rejected}
 
@@ -43,9 +45,10 @@ shape_answered contents t q tag f from_ring before after v w (Ok false) (locked 
 shape_answered contents t q tag f from_ring before after v w (Ok false) (rejected r calls) = shape_rejected before after r.ring r.was r.empty
 shape_answered contents t q tag f from_ring before after v w (Err why) a = ap ring_shape a.0
 
--- the word that an ended write stored is noted still
-pub ended_outside : (v w : View) → outside_of w ≡ outside_of v → EndedInError v → EndedInError w
-ended_outside v w e x = record { output = ap (λ (y : View). y.had_output) e ∙ x.output; word = x.word; is = ap (λ (y : View). y.last_ended) e ∙ x.is; valid = x.valid; dirty = x.dirty; failed = x.failed }
+-- what tries to free a frame leave of the census
+pub census_claimed : (n : ℕ) (c d : CensusList) (r : Result Pin VictimError) → CensusClaimed n d r → CensusPinned n c d r
+census_claimed n c d (Ok pin) e = inr e
+census_claimed n c d (Err why) e = e
 
 -- A census of a call that it makes at once
 pub all_pinned_now : (n : ℕ) (place : Option ℕ) (v w : View) (words : List ℕ) → AllPinned n place v w words → FindsAllPinned n v w words

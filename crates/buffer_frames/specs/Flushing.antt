@@ -6,20 +6,23 @@ use Rattle.block_tag.specs.Names.{packed_tag}
 use Rattle.page_layout.specs.Fields.{lsn_of}
 use Rattle.page_layout.specs.Soundness.{is_sound_page}
 use Rattle.segment_store.specs.Contents.{Pages}
+use Rattle.state_word.specs.declared.word.IoEnd.{IoEnd}
+use Rattle.state_word.specs.declared.word.IoEnd.TheVariants.{Bad, WriteOk}
 use Rattle.state_word.specs.declared.word.StateWord.{StateWord}
 use Rattle.state_word.specs.Fields.{fields}
 use Rattle.pin_core.specs.declared.view.DeviceCall.{DeviceCall}
 use Rattle.pin_core.specs.declared.view.DeviceCall.TheVariants.{LaneWrite, LogSync}
+use Rattle.pin_core.specs.declared.view.Io.TheVariants.{Output}
 use Rattle.pin_core.specs.declared.view.Met.{Met}
 use Rattle.pin_core.specs.declared.view.View.{View}
-use Rattle.pin_core.specs.State.{Page}
+use Rattle.pin_core.specs.State.{Page, link}
 use Rattle.frame_table.specs.declared.table.FrameTable.{FrameTable}
 use Rattle.page_core.specs.Kinds.{clear_just_dirtied}
 use Rattle.frame_table.specs.FrameSteps.{Did, looking}
 use Rattle.frame_table.specs.Kinds.{pages}
 use Rattle.frame_table.specs.Opened.{WasAtOpening}
 use Rattle.frame_table.specs.WordSteps.{DidWord, load_flushed}
-use Rattle.content_locks.specs.Io.{FindsNothing}
+use Rattle.content_locks.specs.Io.{EndsIo, FindsNothing}
 use Rattle.content_locks.specs.declared.locks.TryLock.{TryLock}
 use Rattle.content_locks.specs.Locks.{Copies, RefusesLock, ShowsExclusive}
 use Rattle.wal_flush.specs.declared.flushes.FlushLog.{FlushLog}
@@ -52,7 +55,7 @@ pub record CallsLane (done : Bool) (q tag : ℕ) (page : Page) (v w : View) : Ty
   pub whole : done ≡ true → left ≡ page
   pub calls : Made (LaneWrite q tag left done ∷ []) v w
 
--- The page went to the lane q, or failed to. Before that the log was synced at most, and the flushed position was seen at the page's position or behind it
+-- The page went to the lane q, or failed to. Before that the log was synced at most, and the flushed position was seen at the page's position or past it
 pub record WentToLane (done : Bool) (q tag : ℕ) (page : Page) (v w : View) : Type 0 where
   -- the view by then
   pub ready : View
@@ -71,23 +74,31 @@ pub record FindsClean (f : ℕ) (v w : View) : Type 0 where
   pub finds : Within (FindsNothing false f) v w
   pub calls : w.device_calls ≡ v.device_calls
 
--- There was an output right, and the word that the end of the last input or output stored is valid and dirty, and has BM_IO_ERROR
-pub record EndedInError (w : View) : Type 0 where
-  pub output : w.had_output ≡ true
-  pub word : StateWord
-  pub is : w.last_ended ≡ Some word
-  pub valid : word.valid ≡ true
-  pub dirty : word.dirty ≡ true
-  pub failed : word.failed ≡ true
+-- A write of the frame f ended so, and the view notes the state word that this stored (`TerminateBufferIO`)
+pub record EndsWrite (end : IoEnd) (f : ℕ) (stored : StateWord) (v w : View) : Type 0 where
+  pub right : (link v f).io ≡ Output
+  pub ends : EndsIo end f v w
+  pub notes : w.last_ended ≡ Some stored
 
--- There was an output right, and the word that the end of the last input or output stored is valid and has no BM_IO_ERROR. It is dirty only where it has BM_JUST_DIRTIED: the frame was dirtied again
-pub record EndedWritten (w : View) : Type 0 where
+-- In this call a write of the frame f ended with an error, and no read or write ended after it. The state word that it stored is valid and dirty, and has BM_IO_ERROR
+pub record EndedInError (f : ℕ) (v w : View) : Type 0 where
+  pub stored : StateWord
+  pub ends : Within (EndsWrite Bad f stored) v w
+  pub last : w.last_ended ≡ Some stored
+  pub valid : stored.valid ≡ true
+  pub dirty : stored.dirty ≡ true
+  pub failed : stored.failed ≡ true
   pub output : w.had_output ≡ true
-  pub word : StateWord
-  pub is : w.last_ended ≡ Some word
-  pub valid : word.valid ≡ true
-  pub done : word.failed ≡ false
-  pub again : word.dirty ≡ true → word.just_dirtied ≡ true
+
+-- In this call a write of the frame f ended without one, and no read or write ended after it. The state word that it stored is valid and has no BM_IO_ERROR. It is dirty only where it has BM_JUST_DIRTIED: the frame was dirtied again
+pub record EndedWritten (f : ℕ) (v w : View) : Type 0 where
+  pub stored : StateWord
+  pub ends : Within (EndsWrite WriteOk f stored) v w
+  pub last : w.last_ended ≡ Some stored
+  pub valid : stored.valid ≡ true
+  pub done : stored.failed ≡ false
+  pub again : stored.dirty ≡ true → stored.just_dirtied ≡ true
+  pub output : w.had_output ≡ true
 
 -- BM_JUST_DIRTIED was cleared as the header of f was unlocked
 abbrev pub ClearsJust : ℕ → View → View → Type 0

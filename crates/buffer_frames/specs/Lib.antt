@@ -6,3 +6,5 @@ pub mod Outside
 pub mod Lookups
 pub mod Victims
 pub mod Reads
+pub mod PageReads
+pub mod Puts

@@ -1,5 +1,5 @@
 -- How a block is read.
-use Rattle.std.specs.Prelude.{◌≡◌, ℕ, ◌<◌, Bool, true, List, [], ◌++◌, Option, Result, Ok, Err}
+use Rattle.std.specs.Prelude.{◌≡◌, ◌⊎◌, ℕ, ◌<◌, Bool, true, List, [], ◌++◌, Option, Result, Ok, Err}
 use Rattle.std.specs.List.{All}
 use Rattle.block_tag.specs.declared.tag.Tag.{Tag}
 use Rattle.block_tag.specs.Names.{packed_tag}
@@ -8,6 +8,7 @@ use Rattle.pin_core.specs.declared.view.DeviceCall.{DeviceCall}
 use Rattle.pin_core.specs.declared.view.Met.{Met}
 use Rattle.pin_core.specs.declared.view.View.{View}
 use Rattle.pin_core.specs.State.{link}
+use Rattle.clock_sweep.specs.CensusList.{CensusList, new_census}
 use Rattle.frame_table.specs.declared.pin.Pin.{Pin}
 use Rattle.frame_table.specs.declared.table.FrameTable.{FrameTable}
 use Rattle.frame_table.specs.Opened.{WasSoundAtOpening}
@@ -22,7 +23,7 @@ use Rattle.buffer_frames.specs.declared.victims.VictimError.{VictimError}
 use Rattle.buffer_frames.specs.Loading.{WasUnsoundAtOpening, loading_calls}
 use Rattle.buffer_frames.specs.Lookups.{SeesAndPins, SeesNone, UnderPartition}
 use Rattle.buffer_frames.specs.Stages.{Pins}
-use Rattle.buffer_frames.specs.Victims.{VictimRefused, met_victim}
+use Rattle.buffer_frames.specs.Victims.{CensusRefused, VictimRefused, met_victim}
 use Rattle.buffer_frames.specs.Working.{IsFlushCall, Made, WorksAt, met_read}
 
 -- Calls of devices were made that a flush makes, and then these
@@ -61,6 +62,20 @@ met_read_block (Ok block) m = m
 met_read_block (Err (NoFrame why)) m = met_victim why m
 met_read_block (Err (ReadFault tag)) m = met_read m
 met_read_block (Err (Unsound tag)) m = m
+
+-- what a read leaves of the census: what it was where the block had a frame at first, and an empty one where a victim was chosen
+abbrev pub KeptOrEmptied : ℕ → CensusList → CensusList → Type 0
+KeptOrEmptied n c d = (d ≡ c) ⊎ (d ≡ new_census n)
+
+abbrev pub CensusPinned : ℕ → CensusList → CensusList → Result Pin VictimError → Type 0
+CensusPinned n c d (Ok pin) = KeptOrEmptied n c d
+CensusPinned n c d (Err why) = CensusRefused n d why
+
+abbrev pub CensusRead : ℕ → CensusList → CensusList → Result PinnedBlock BlockError → Type 0
+CensusRead n c d (Ok block) = KeptOrEmptied n c d
+CensusRead n c d (Err (NoFrame why)) = CensusRefused n d why
+CensusRead n c d (Err (ReadFault failed)) = KeptOrEmptied n c d
+CensusRead n c d (Err (Unsound failed)) = KeptOrEmptied n c d
 
 module _ {L G : Type 0} (contents : L → Option Pages) (t : FrameTable L G) where
   -- What a read answers: the block's frame is pinned, and BM_VALID was seen; or all pins are as before, and this is why. Where the lanes' contents at the opening are known, a block that was unsound then is never read, and only such a one is called so

@@ -11,6 +11,7 @@ use Rattle.table_rule.specs.Blocks.{has_block}
 use Rattle.frame_table.specs.declared.pin.Pin.{Pin}
 use Rattle.frame_table.specs.declared.table.FrameTable.{FrameTable}
 use Rattle.frame_table.specs.Seats.{OnlyRises, frames_of, lanes_in, relations_of}
+use Rattle.clock_sweep.specs.CensusList.{CensusList, new_census}
 use Rattle.clock_sweep.specs.Choosing.{FindsNone}
 use Rattle.clock_sweep.specs.Keeping.{SamePins}
 use Rattle.held_pins.specs.Rests.{LinksRest}
@@ -50,7 +51,7 @@ module _ {L G : Type 0} (contents : L → Option Pages) (t : FrameTable L G) whe
     pub since : OnlyRises v before
     pub answer : FlushAnswer contents t (lane_number tag (lanes_in t)) tag frame before after (Err why)
     pub until : outside_of w ≡ outside_of after
-    pub ended : EndedInError w
+    pub ended : EndedInError frame before after
 
   -- why no frame was freed
   abbrev pub VictimRefused : List ℕ → View → View → VictimError → Type 0
@@ -81,3 +82,17 @@ met_freed (Refused why) m = met_victim why m
 abbrev pub met_claimed : Result Pin VictimError → Met → Met
 met_claimed (Ok pin) m = m
 met_claimed (Err why) m = met_victim why m
+
+-- What tries to free a frame leave of the census, which has room for the words of n frames. Where all were pinned it has their words, as the refusal tells; else it is empty, as a victim was chosen
+abbrev pub CensusRefused : ℕ → CensusList → VictimError → Type 0
+CensusRefused n c (NoUnpinned frames) = Unit {0}
+CensusRefused n c (Flush why) = c ≡ new_census n
+
+abbrev pub CensusFreed : ℕ → CensusList → Freed → Type 0
+CensusFreed n c (Ready pin) = c ≡ new_census n
+CensusFreed n c Again = c ≡ new_census n
+CensusFreed n c (Refused why) = CensusRefused n c why
+
+abbrev pub CensusClaimed : ℕ → CensusList → Result Pin VictimError → Type 0
+CensusClaimed n c (Ok pin) = c ≡ new_census n
+CensusClaimed n c (Err why) = CensusRefused n c why

@@ -1,6 +1,7 @@
 //! A victim is chosen and pinned.
 ghost use Rattle.std.specs.Prelude.{◌≡◌, ◌<◌, true, IfOk, IfErr, Some};
 ghost use Rattle.frame_table.specs.Seats.{Grows, SameSeat, frames_of};
+ghost use Rattle.clock_sweep.specs.CensusList.{new_census};
 ghost use Rattle.clock_sweep.specs.Choosing.{frame_at_place, ring_gone_on};
 ghost use Rattle.held_pins.specs.Rests.{HasNoLatch, LinksRest, SameLocks, Stands};
 ghost use Rattle.buffer_frames.specs.Outside.{outside_of, ring_shape};
@@ -49,6 +50,7 @@ pub(crate) fn choose<L: BlockLane, G: LogDevice, R: Wait>(
     ensures inside { IfOk result (λ chosen. chosen.pin.frame < frames_of table.now) }
     ensures pinned { IfOk result (λ chosen. HasVictim chosen.pin.frame _held.now seat.new.me.0) }
     ensures place { IfOk result (λ chosen. chosen.from_ring ≡ true → frame_at_place ring.new ≡ Some chosen.pin.frame) }
+    ensures no_census { IfOk result (λ _. census.new ≡ new_census (frames_of table.now)) }
     ensures rests { IfErr result (λ _. LinksRest _held.now seat.new.me.0) }
     ensures frames { IfErr result (λ why. why.frames ≡ frames_of table.now) }
     ensures cause { IfErr result (λ _. AllPinned (frames_of table.now) (frame_at_place (ring_gone_on ring.old)) seat.old.me.0 seat.new.me.0 census.new.words) }

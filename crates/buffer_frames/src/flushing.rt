@@ -166,8 +166,8 @@ fn write_out<L: BlockLane, G: LogDevice, R: Wait>(
     ensures notes { KeepsNotes (link seat.old.me.0 right.frame) (link seat.new.me.0 right.frame) }
     ensures answer { CopiesAnd (λ p v w. WriteAnswer L.contents table.now (lane_number tag (lanes_in table.now)) tag p v w result) right.frame seat.old.me.0 seat.new.me.0 }
     ensures met { seat.new.me.0.met ≡ met_flushing result seat.old.me.0.met }
-    ensures ended { IfErr result (λ _. EndedInError seat.new.me.0) }
-    ensures written { IfOk result (λ _. EndedWritten seat.new.me.0) }
+    ensures ended { IfErr result (λ _. EndedInError right.frame seat.old.me.0 seat.new.me.0) }
+    ensures written { IfOk result (λ _. EndedWritten right.frame seat.old.me.0 seat.new.me.0) }
 {
     let frame = right.frame();
     clear_just(table, rt, seat, held, frame, tag);
@@ -209,8 +209,8 @@ fn flush_shared<L: BlockLane, G: LogDevice, R: Wait>(
     ensures seen { (link seat.new.me.0 frame).seen_valid ≡ true }
     ensures answer { FlushAnswer L.contents table.now (lane_number tag (lanes_in table.now)) tag frame seat.old.me.0 seat.new.me.0 result }
     ensures met { seat.new.me.0.met ≡ met_flushing result seat.old.me.0.met }
-    ensures ended { IfErr result (λ _. EndedInError seat.new.me.0) }
-    ensures written { IfOk result (λ wrote. wrote ≡ true → EndedWritten seat.new.me.0) }
+    ensures ended { IfErr result (λ _. EndedInError frame seat.old.me.0 seat.new.me.0) }
+    ensures written { IfOk result (λ wrote. wrote ≡ true → EndedWritten frame seat.old.me.0 seat.new.me.0) }
 {
     let Some(right) = start_io(table, rt, seat, frame, false) else {
         unshare(table, seat, frame);
@@ -224,7 +224,7 @@ fn flush_shared<L: BlockLane, G: LogDevice, R: Wait>(
     }
 }
 
-/// Writes the page of a frame that the backend pins, where it is dirty, once the log is flushed up to its position (`FlushBuffer`). False where it is clean.
+/// Writes the page of a frame that the backend pins if it is dirty, after flushing the log up to the page's position (`FlushBuffer`). Returns false if it is clean.
 pub fn flush_pinned<L: BlockLane, G: LogDevice, R: Wait>(
     table: &FrameTable<L, G>,
     rt: &R,
@@ -250,14 +250,14 @@ pub fn flush_pinned<L: BlockLane, G: LogDevice, R: Wait>(
     ensures seen { (link seat.new.me.0 frame).seen_valid ≡ true }
     ensures answer { FlushAnswer L.contents table.now (lane_number tag (lanes_in table.now)) tag frame seat.old.me.0 seat.new.me.0 result }
     ensures met { seat.new.me.0.met ≡ met_flushing result seat.old.me.0.met }
-    ensures ended { IfErr result (λ _. EndedInError seat.new.me.0) }
-    ensures written { IfOk result (λ wrote. wrote ≡ true → EndedWritten seat.new.me.0) }
+    ensures ended { IfErr result (λ _. EndedInError frame seat.old.me.0 seat.new.me.0) }
+    ensures written { IfOk result (λ wrote. wrote ≡ true → EndedWritten frame seat.old.me.0 seat.new.me.0) }
 {
     share(table, rt, seat, frame);
     flush_shared(table, rt, seat, held, frame, tag, page)
 }
 
-/// Writes the page of a frame of which callers have tokens (`FlushOneBuffer`). False where it is clean.
+/// Writes the page of a frame of which callers have tokens if it is dirty (`FlushOneBuffer`). Returns false if it is clean.
 pub fn flush_frame<L: BlockLane, G: LogDevice, R: Wait>(
     table: &FrameTable<L, G>,
     rt: &R,
@@ -284,8 +284,8 @@ pub fn flush_frame<L: BlockLane, G: LogDevice, R: Wait>(
     ensures unlocked { (link seat.new.me.0 frame).content ≡ Unlocked }
     ensures answer { FlushAnswer L.contents table.now (lane_number tag (lanes_in table.now)) tag frame seat.old.me.0 seat.new.me.0 result }
     ensures met { seat.new.me.0.met ≡ met_flushing result seat.old.me.0.met }
-    ensures ended { IfErr result (λ _. EndedInError seat.new.me.0) }
-    ensures written { IfOk result (λ wrote. wrote ≡ true → EndedWritten seat.new.me.0) }
+    ensures ended { IfErr result (λ _. EndedInError frame seat.old.me.0 seat.new.me.0) }
+    ensures written { IfOk result (λ wrote. wrote ≡ true → EndedWritten frame seat.old.me.0 seat.new.me.0) }
 {
     flush_pinned(table, rt, seat, held, frame, tag, page)
 }
@@ -355,7 +355,7 @@ pub fn flush_victim<L: BlockLane, G: LogDevice, R: Wait>(
     ensures answer { VictimAnswer L.contents table.now (lane_number tag (lanes_in table.now)) tag frame from_ring ring.old ring.new seat.old.me.0 seat.new.me.0 result }
     ensures calls { Calls IsFlushCall seat.old.me.0 seat.new.me.0 }
     ensures met { seat.new.me.0.met ≡ met_flushing result seat.old.me.0.met }
-    ensures ended { IfErr result (λ _. EndedInError seat.new.me.0) }
+    ensures ended { IfErr result (λ _. EndedInError frame seat.old.me.0 seat.new.me.0) }
 {
     if !has(table.look(seat, frame), Flag::Dirty) {
         return Ok(true);

@@ -6,7 +6,7 @@ ghost use Rattle.frame_table.specs.Seats.{Grows, OnlyRises, SameSeat, Touches, f
 ghost use Rattle.held_pins.specs.Rests.{HasNoLatch, LinksRest, Stands, kept_by_calls, SameLocks};
 ghost use Rattle.held_pins.specs.Tokens.{IsNew};
 ghost use Rattle.buffer_frames.specs.Outside.{outside_of, ring_shape};
-ghost use Rattle.buffer_frames.specs.Reads.{PinAnswer, ReadAnswer, ReadCalls, met_read_block};
+ghost use Rattle.buffer_frames.specs.Reads.{CensusPinned, CensusRead, PinAnswer, ReadAnswer, ReadCalls, met_read_block};
 ghost use Rattle.buffer_frames.specs.Stages.{Pins};
 ghost use Rattle.buffer_frames.specs.Victims.{ClaimAnswer, met_claimed};
 
@@ -74,6 +74,7 @@ fn pin_block<L: BlockLane, G: LogDevice, R: Wait>(
     ensures advances { OnlyRises seat.old.me.0 seat.new.me.0 }
     ensures locks { SameLocks seat.old.me.0 seat.new.me.0 }
     ensures answer { ClaimAnswer L.contents table.now (packed_tag tag) held.now census.new.words seat.old.me.0 seat.new.me.0 result }
+    ensures census { CensusPinned (frames_of table.now) census.old census.new result }
     ensures met { seat.new.me.0.met ≡ met_claimed result seat.old.me.0.met }
     ensures calls { PinAnswer tag (is_some ring.old) seat.old.me.0 seat.new.me.0 result }
 {
@@ -137,6 +138,7 @@ pub fn read_block<L: BlockLane, G: LogDevice, R: Wait>(
     ensures advances { OnlyRises seat.old.me.0 seat.new.me.0 }
     ensures locks { SameLocks seat.old.me.0 seat.new.me.0 }
     ensures answer { ReadAnswer L.contents table.now tag held.now census.new.words seat.old.me.0 seat.new.me.0 result }
+    ensures census { CensusRead (frames_of table.now) census.old census.new result }
     ensures met { seat.new.me.0.met ≡ met_read_block result seat.old.me.0.met }
     ensures calls { ReadCalls (lane_number tag (lanes_in table.now)) tag (is_some ring.old) seat.old.me.0 seat.new.me.0 result }
 {

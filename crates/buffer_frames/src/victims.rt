@@ -8,7 +8,7 @@ ghost use Rattle.held_pins.specs.Rests.{HasNoLatch, LinksRest, Stands, kept_by_c
 ghost use Rattle.held_pins.specs.Tokens.{IsNew};
 ghost use Rattle.buffer_frames.specs.Outside.{outside_of, ring_shape};
 ghost use Rattle.buffer_frames.specs.Stages.{HasVictim};
-ghost use Rattle.buffer_frames.specs.Victims.{ClaimAnswer, FreedAnswer, met_claimed, met_freed};
+ghost use Rattle.buffer_frames.specs.Victims.{CensusClaimed, CensusFreed, ClaimAnswer, FreedAnswer, met_claimed, met_freed};
 ghost use Rattle.buffer_frames.specs.Working.{Calls, IsFlushCall};
 
 use crate::choosing::{Chosen, choose};
@@ -97,6 +97,7 @@ fn make_victim<L: BlockLane, G: LogDevice, R: Wait>(
     ensures advances { OnlyRises seat.old.me.0 seat.new.me.0 }
     ensures locks { SameLocks seat.old.me.0 seat.new.me.0 }
     ensures answer { FreedAnswer L.contents table.now held.now census.new.words seat.old.me.0 seat.new.me.0 result }
+    ensures census { CensusFreed (frames_of table.now) census.new result }
     ensures met { seat.new.me.0.met ≡ met_freed result seat.old.me.0.met }
     ensures calls { Calls IsFlushCall seat.old.me.0 seat.new.me.0 }
 {
@@ -156,6 +157,7 @@ pub(crate) fn claim<L: BlockLane, G: LogDevice, R: Wait>(
     ensures advances { OnlyRises seat.old.me.0 seat.new.me.0 }
     ensures locks { SameLocks seat.old.me.0 seat.new.me.0 }
     ensures answer { ClaimAnswer L.contents table.now (packed_tag tag) held.now census.new.words seat.old.me.0 seat.new.me.0 result }
+    ensures census { CensusClaimed (frames_of table.now) census.new result }
     ensures met { seat.new.me.0.met ≡ met_claimed result seat.old.me.0.met }
     ensures calls { Calls IsFlushCall seat.old.me.0 seat.new.me.0 }
 {

@@ -34,7 +34,7 @@ module _ {L G : Type 0} (contents : L → Option Pages) (m : Manager L G) where
   -- a call that keeps tokens and locks
   pub only_on : (lock : Content) (pinned : Pinned) (i : ℕ) (p q : PassState) → HasOnly contents lock pinned m i p → Belongs contents m q → SamePass p q → q.tokens ≡ p.tokens → KeepsLocks p q → HasOnly contents lock pinned m i q
   only_on lock pinned i p q o b s tokens locks = record {
-    is = record { belongs = b; number = s.number ∙ o.is.number; joined = s.joined ∙ o.is.joined; next = λ first. s.next ∙ o.is.next first };
+    is = record { belongs = b; number = s.keeps.number ∙ o.is.number; joined = s.keeps.joined ∙ o.is.joined; next = λ first. s.keeps.next ∙ o.is.next first };
     token = subst (IsPinnedFor pinned.tag pinned.frame) (sym tokens) o.token;
     last = ap (tokens_less pinned.frame) tokens ∙ o.last;
     locked = locks pinned.frame ∙ o.locked;
@@ -43,7 +43,7 @@ module _ {L G : Type 0} (contents : L → Option Pages) (m : Manager L G) where
   -- a call that changes the lock of the frame alone
   pub only_relocked : (lock : Content) (pinned given : Pinned) (i : ℕ) (p q : PassState) {before : Content} → HasOnly contents before pinned m i p → given ≡ pinned → Belongs contents m q → SamePass p q → q.tokens ≡ p.tokens → ChangesLock lock pinned.frame p q → HasOnly contents lock given m i q
   only_relocked lock pinned given i p q o e b s tokens changes = subst (λ (x : Pinned). HasOnly contents lock x m i q) (sym e) record {
-    is = record { belongs = b; number = s.number ∙ o.is.number; joined = s.joined ∙ o.is.joined; next = λ first. s.next ∙ o.is.next first };
+    is = record { belongs = b; number = s.keeps.number ∙ o.is.number; joined = s.keeps.joined ∙ o.is.joined; next = λ first. s.keeps.next ∙ o.is.next first };
     token = subst (IsPinnedFor pinned.tag pinned.frame) (sym tokens) o.token;
     last = ap (tokens_less pinned.frame) tokens ∙ o.last;
     locked = changes.here;

@@ -32,9 +32,9 @@ fn refusal<L: BlockLane, G: LogDevice, R: Wait>(
     requires { Belongs L.contents manager.now pass.old }
     ensures { Returns L.contents manager.now pass.old pass.new }
 {
-    match pass.read_buffer(rt, manager, tag, &mut None) {
+    match pass.read_buffer(manager, rt, tag, &mut None) {
         Ok(pinned) => {
-            pass.release(rt, manager, pinned);
+            pass.release(manager, rt, pinned);
             None
         }
         Err(why) => Some(why),
@@ -53,13 +53,13 @@ fn crowd<L: BlockLane, G: LogDevice, R: Wait>(
     ensures first { Returns L.contents manager.now first.old first.new }
     ensures third { IsFree L.contents manager.now 2 third.new }
 {
-    let Ok(pinned) = first.read_buffer(rt, manager, block(7), &mut None) else {
+    let Ok(pinned) = first.read_buffer(manager, rt, block(7), &mut None) else {
         return None;
     };
     let refused = read_once(manager, rt, third, 2, block(16), &mut None);
     let census = third.census().first_chunk::<16>().copied();
     let full = refusal(manager, rt, first, block(16));
-    first.release(rt, manager, pinned);
+    first.release(manager, rt, pinned);
     let freed = read_once(manager, rt, third, 2, block(16), &mut None);
     Some(Crowded {
         census,
@@ -88,11 +88,11 @@ fn hold_second<L: BlockLane, G: LogDevice, R: Wait>(
     if number > 15 {
         return crowd(manager, rt, first, third);
     }
-    let Ok(pinned) = second.read_buffer(rt, manager, block(number), &mut None) else {
+    let Ok(pinned) = second.read_buffer(manager, rt, block(number), &mut None) else {
         return None;
     };
     let crowded = hold_second(manager, rt, first, second, third, number + 1);
-    second.release(rt, manager, pinned);
+    second.release(manager, rt, pinned);
     crowded
 }
 
@@ -115,10 +115,10 @@ pub fn hold_first<L: BlockLane, G: LogDevice, R: Wait>(
     if number > 6 {
         return hold_second(manager, rt, first, second, third, 8);
     }
-    let Ok(pinned) = first.read_buffer(rt, manager, block(number), &mut None) else {
+    let Ok(pinned) = first.read_buffer(manager, rt, block(number), &mut None) else {
         return None;
     };
     let crowded = hold_first(manager, rt, first, second, third, number + 1);
-    first.release(rt, manager, pinned);
+    first.release(manager, rt, pinned);
     crowded
 }

@@ -84,7 +84,7 @@ pub fn try_beside_exclusive<L: BlockLane, G: LogDevice, R: Wait>(
     let Ok(pinned) = pin(manager, rt, first, 0, tag, &mut None) else {
         return None;
     };
-    let token = first.exclusive(rt, manager, pinned);
+    let token = first.exclusive(manager, rt, pinned);
     let refusals = try_both(manager, rt, second, 1, tag);
     let pinned = first.unexclusive(manager, token);
     unpin(manager, rt, first, 0, pinned);
@@ -107,7 +107,7 @@ pub fn try_beside_shared<L: BlockLane, G: LogDevice, R: Wait>(
     let Ok(pinned) = pin(manager, rt, first, 0, tag, &mut None) else {
         return None;
     };
-    let token = first.share(rt, manager, pinned);
+    let token = first.share(manager, rt, pinned);
     let refusals = try_both(manager, rt, second, 1, tag);
     let pinned = first.unshare(manager, token);
     unpin(manager, rt, first, 0, pinned);

@@ -29,8 +29,8 @@ pub fn put_once<L: BlockLane, G: LogDevice, R: Wait>(
     let Ok(pinned) = pin(manager, rt, pass, _number, tag, ring) else {
         return None;
     };
-    let mut token = pass.exclusive(rt, manager, pinned);
-    let put = pass.put(rt, manager, &mut token, page);
+    let mut token = pass.exclusive(manager, rt, pinned);
+    let put = pass.put(manager, rt, &mut token, page);
     let pinned = pass.unexclusive(manager, token);
     unpin(manager, rt, pass, _number, pinned);
     Some(put)
@@ -50,7 +50,7 @@ pub fn flush_once<L: BlockLane, G: LogDevice, R: Wait>(
     let Ok(pinned) = pin(manager, rt, pass, _number, tag, &mut None) else {
         return None;
     };
-    let flushed = pass.flush_frame(rt, manager, &pinned);
+    let flushed = pass.flush_frame(manager, rt, &pinned);
     unpin(manager, rt, pass, _number, pinned);
     Some(flushed)
 }

@@ -34,7 +34,7 @@ pub fn pin<L: BlockLane, G: LogDevice, R: Wait>(
     ensures pinned { IfOk result (λ pinned. HasOnly L.contents Unlocked pinned manager.now _number pass.new) }
     ensures refused { IfErr result (λ _. IsFree L.contents manager.now _number pass.new) }
 {
-    pass.read_buffer(rt, manager, tag, ring)
+    pass.read_buffer(manager, rt, tag, ring)
 }
 
 /// Releases it.
@@ -48,7 +48,7 @@ pub fn unpin<L: BlockLane, G: LogDevice, R: Wait>(
     requires { HasOnly L.contents Unlocked pinned manager.now _number pass.old }
     ensures { IsFree L.contents manager.now _number pass.new }
 {
-    pass.release(rt, manager, pinned);
+    pass.release(manager, rt, pinned);
 }
 
 /// Reads a block and releases it.
@@ -85,7 +85,7 @@ pub fn copy_once<L: BlockLane, G: LogDevice, R: Wait>(
     ensures { IsFree L.contents manager.now _number pass.new }
 {
     let pinned = pin(manager, rt, pass, _number, tag, &mut None)?;
-    let place = pass.read_page(rt, manager, &pinned, page);
+    let place = pass.read_page(manager, rt, &pinned, page);
     unpin(manager, rt, pass, _number, pinned);
     Ok(place)
 }

@@ -44,7 +44,7 @@ pub fn copy_all_twice<R: Threads + Wait + Sync>(
 /// How many bytes a record of the log has.
 const RECORD_SIZE: u64 = 8224;
 
-/// A page each of whose bytes behind its line pointer is this number.
+/// A page each of whose bytes after its line pointer is this number.
 fn numbered(number: u8) -> [u8; 8192] {
     let mut bytes = [number; 8192];
     bytes[..28].copy_from_slice(&FRONT);

@@ -583,7 +583,7 @@ fn an_append_that_failed_leaves_the_first_put_unflushed(rt: HostRuntime) -> Resu
     Ok(())
 }
 
-/// The frames of the blocks 1 and 2, which are read through a ring behind a put to block 0; how many pages the lane was given, and how often the log was synced.
+/// The frames of the blocks 1 and 2, which are read through a ring after a put to block 0; how many pages the lane was given, and how often the log was synced.
 fn ringed<R: Wait>(
     rt: &R,
     alloc: Global,

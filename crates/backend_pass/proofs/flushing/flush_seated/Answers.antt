@@ -9,7 +9,7 @@ use Rattle.frame_table.specs.Seats.{lanes_in}
 use Rattle.held_pins.specs.Rests.{HasNoDevice, HasNoLatch, LinksRest}
 use Rattle.buffer_frames.specs.Flushing.{EndedInError, EndedWritten, FlushAnswer, met_flushing}
 use Rattle.buffer_frames.specs.Working.{WorksAt}
-use Rattle.backend_pass.specs.Passes.{first_of}
+use Rattle.backend_pass.specs.Passes.{view_in}
 use Rattle.backend_pass.proofs.Seated.{moved, moved_one, one_view, view_of_seat}
 use Rattle.backend_pass.proofs.flushing.flush_seated.Goals as goal
 
@@ -47,34 +47,38 @@ returns-clause-view g c = one_view c.into_badge.result c.flush_frame-answer.new.
 
 pub returns-clause-rests : goal.returns-clause-rests
 returns-clause-rests g c =
-    let after = ap first_of c.into_badge.ensures.2 in
+    let after = ap view_in c.into_badge.ensures.2 in
     let e = c.flush_frame-answer.ensures in record {
-      quiet = moved_one HasNoDevice (first_of c.into_badge.result.views) c.flush_frame-answer.new.seat.me.0 after e.stands.quiet;
-      links = moved_one (LinksRest c.args.held.now) (first_of c.into_badge.result.views) c.flush_frame-answer.new.seat.me.0 after e.rests;
-      latches = moved_one HasNoLatch (first_of c.into_badge.result.views) c.flush_frame-answer.new.seat.me.0 after e.latches;
+      quiet = moved_one HasNoDevice (view_in c.into_badge.result.views) c.flush_frame-answer.new.seat.me.0 after e.stands.quiet;
+      links = moved_one (LinksRest c.args.held.now) (view_in c.into_badge.result.views) c.flush_frame-answer.new.seat.me.0 after e.rests;
+      latches = moved_one HasNoLatch (view_in c.into_badge.result.views) c.flush_frame-answer.new.seat.me.0 after e.latches;
     }
 
 pub returns-clause-works : goal.returns-clause-works
 returns-clause-works g c =
     let before = view_of_seat c.args.badge.now c.replace.result c.into_seat-seat.result.me.0 c.replace.ensures.value c.into_seat-seat.ensures.2 in
-    moved (WorksAt c.args.frame) (first_of c.args.badge.now.views) (first_of c.into_badge.result.views) c.into_seat-seat.result.me.0 c.flush_frame-answer.new.seat.me.0 before (ap first_of c.into_badge.ensures.2) c.flush_frame-answer.ensures.works
+    moved (WorksAt c.args.frame) (view_in c.args.badge.now.views) (view_in c.into_badge.result.views) c.into_seat-seat.result.me.0 c.flush_frame-answer.new.seat.me.0 before (ap view_in c.into_badge.ensures.2) c.flush_frame-answer.ensures.works
 
 pub returns-clause-unlocked : goal.returns-clause-unlocked
-returns-clause-unlocked g c = moved_one (λ (w : View). (link w c.args.frame).content ≡ Unlocked) (first_of c.into_badge.result.views) c.flush_frame-answer.new.seat.me.0 (ap first_of c.into_badge.ensures.2) c.flush_frame-answer.ensures.unlocked
+returns-clause-unlocked g c = moved_one (λ (w : View). (link w c.args.frame).content ≡ Unlocked) (view_in c.into_badge.result.views) c.flush_frame-answer.new.seat.me.0 (ap view_in c.into_badge.ensures.2) c.flush_frame-answer.ensures.unlocked
 
 pub returns-clause-answer : goal.returns-clause-answer
 returns-clause-answer g c =
     let before = view_of_seat c.args.badge.now c.replace.result c.into_seat-seat.result.me.0 c.replace.ensures.value c.into_seat-seat.ensures.2 in
     moved (λ v w. FlushAnswer {L = g.row.L.Denot} {G = g.row.G.Denot} g.L.BlockLane.contents c.args.table.now (lane_number c.args.tag (lanes_in c.args.table.now)) c.args.tag c.args.frame v w c.flush_frame-answer.result)
-    (first_of c.args.badge.now.views) (first_of c.into_badge.result.views) c.into_seat-seat.result.me.0 c.flush_frame-answer.new.seat.me.0 before (ap first_of c.into_badge.ensures.2) c.flush_frame-answer.ensures.answer
+    (view_in c.args.badge.now.views) (view_in c.into_badge.result.views) c.into_seat-seat.result.me.0 c.flush_frame-answer.new.seat.me.0 before (ap view_in c.into_badge.ensures.2) c.flush_frame-answer.ensures.answer
 
 pub returns-clause-met : goal.returns-clause-met
 returns-clause-met g c =
     let before = view_of_seat c.args.badge.now c.replace.result c.into_seat-seat.result.me.0 c.replace.ensures.value c.into_seat-seat.ensures.2 in
-    moved (λ v w. w.met ≡ met_flushing c.flush_frame-answer.result v.met) (first_of c.args.badge.now.views) (first_of c.into_badge.result.views) c.into_seat-seat.result.me.0 c.flush_frame-answer.new.seat.me.0 before (ap first_of c.into_badge.ensures.2) c.flush_frame-answer.ensures.met
+    moved (λ v w. w.met ≡ met_flushing c.flush_frame-answer.result v.met) (view_in c.args.badge.now.views) (view_in c.into_badge.result.views) c.into_seat-seat.result.me.0 c.flush_frame-answer.new.seat.me.0 before (ap view_in c.into_badge.ensures.2) c.flush_frame-answer.ensures.met
 
 pub returns-clause-ended : goal.returns-clause-ended
-returns-clause-ended g c = moved_one (λ (w : View). IfErr c.flush_frame-answer.result (λ _. EndedInError w)) (first_of c.into_badge.result.views) c.flush_frame-answer.new.seat.me.0 (ap first_of c.into_badge.ensures.2) c.flush_frame-answer.ensures.ended
+returns-clause-ended g c =
+    let before = view_of_seat c.args.badge.now c.replace.result c.into_seat-seat.result.me.0 c.replace.ensures.value c.into_seat-seat.ensures.2 in
+    moved (λ v w. IfErr c.flush_frame-answer.result (λ _. EndedInError c.args.frame v w)) (view_in c.args.badge.now.views) (view_in c.into_badge.result.views) c.into_seat-seat.result.me.0 c.flush_frame-answer.new.seat.me.0 before (ap view_in c.into_badge.ensures.2) c.flush_frame-answer.ensures.ended
 
 pub returns-clause-written : goal.returns-clause-written
-returns-clause-written g c = moved_one (λ (w : View). IfOk c.flush_frame-answer.result (λ wrote. wrote ≡ true → EndedWritten w)) (first_of c.into_badge.result.views) c.flush_frame-answer.new.seat.me.0 (ap first_of c.into_badge.ensures.2) c.flush_frame-answer.ensures.written
+returns-clause-written g c =
+    let before = view_of_seat c.args.badge.now c.replace.result c.into_seat-seat.result.me.0 c.replace.ensures.value c.into_seat-seat.ensures.2 in
+    moved (λ v w. IfOk c.flush_frame-answer.result (λ wrote. wrote ≡ true → EndedWritten c.args.frame v w)) (view_in c.args.badge.now.views) (view_in c.into_badge.result.views) c.into_seat-seat.result.me.0 c.flush_frame-answer.new.seat.me.0 before (ap view_in c.into_badge.ensures.2) c.flush_frame-answer.ensures.written

@@ -7,8 +7,8 @@ use Rattle.frame_table.specs.Seats.{relations_of}
 use Rattle.held_pins.specs.Rests.{HasNoDevice, HasNoLatch, LinksRest}
 use Rattle.held_pins.proofs.Keeping.{latches_same}
 use Rattle.buffer_frames.specs.Working.{Made}
-use Rattle.backend_pass.specs.Passes.{first_of}
-use Rattle.backend_pass.specs.Puts.{PutAnswer, PutsAt, met_put, put_calls}
+use Rattle.backend_pass.specs.Passes.{view_in}
+use Rattle.buffer_frames.specs.Puts.{PutAnswer, PutsAt, met_put, put_calls}
 use Rattle.backend_pass.proofs.Seated.{moved, moved_one, one_view, view_of_seat}
 use Rattle.backend_pass.proofs.putting.put_seated.Goals as goal
 
@@ -42,37 +42,37 @@ returns-clause-view g c = one_view c.into_badge.result c.put_locked-answer.new.s
 pub returns-clause-rests : goal.returns-clause-rests
 returns-clause-rests g c =
     let before = view_of_seat c.args.badge.now c.replace.result c.into_seat-seat.result.me.0 c.replace.ensures.value c.into_seat-seat.ensures.2 in
-    let after = ap first_of c.into_badge.ensures.2 in
+    let after = ap view_in c.into_badge.ensures.2 in
     let e = c.put_locked-answer.ensures in record {
-      quiet = moved_one HasNoDevice (first_of c.into_badge.result.views) c.put_locked-answer.new.seat.me.0 after e.stands.quiet;
-      links = moved_one (LinksRest c.args.held.now) (first_of c.into_badge.result.views) c.put_locked-answer.new.seat.me.0 after e.rests;
-      latches = moved_one HasNoLatch (first_of c.into_badge.result.views) c.put_locked-answer.new.seat.me.0 after (latches_same c.into_seat-seat.result.me.0 c.put_locked-answer.new.seat.me.0 e.puts.partitions (subst HasNoLatch before c.requires.rests.latches));
+      quiet = moved_one HasNoDevice (view_in c.into_badge.result.views) c.put_locked-answer.new.seat.me.0 after e.stands.quiet;
+      links = moved_one (LinksRest c.args.held.now) (view_in c.into_badge.result.views) c.put_locked-answer.new.seat.me.0 after e.rests;
+      latches = moved_one HasNoLatch (view_in c.into_badge.result.views) c.put_locked-answer.new.seat.me.0 after (latches_same c.into_seat-seat.result.me.0 c.put_locked-answer.new.seat.me.0 e.puts.partitions (subst HasNoLatch before c.requires.rests.latches));
     }
 
 pub returns-clause-puts : goal.returns-clause-puts
 returns-clause-puts g c =
     let before = view_of_seat c.args.badge.now c.replace.result c.into_seat-seat.result.me.0 c.replace.ensures.value c.into_seat-seat.ensures.2 in
-    moved (PutsAt c.args.frame) (first_of c.args.badge.now.views) (first_of c.into_badge.result.views) c.into_seat-seat.result.me.0 c.put_locked-answer.new.seat.me.0 before (ap first_of c.into_badge.ensures.2) c.put_locked-answer.ensures.puts
+    moved (PutsAt c.args.frame) (view_in c.args.badge.now.views) (view_in c.into_badge.result.views) c.into_seat-seat.result.me.0 c.put_locked-answer.new.seat.me.0 before (ap view_in c.into_badge.ensures.2) c.put_locked-answer.ensures.puts
 
 pub returns-clause-right : goal.returns-clause-right
 returns-clause-right g c =
-    moved_one (λ (w : View). (link w c.args.frame).content ≡ Exclusive) (first_of c.into_badge.result.views) c.put_locked-answer.new.seat.me.0 (ap first_of c.into_badge.ensures.2) c.put_locked-answer.ensures.right
+    moved_one (λ (w : View). (link w c.args.frame).content ≡ Exclusive) (view_in c.into_badge.result.views) c.put_locked-answer.new.seat.me.0 (ap view_in c.into_badge.ensures.2) c.put_locked-answer.ensures.right
 
 pub returns-clause-marked : goal.returns-clause-marked
 returns-clause-marked g c =
-    moved_one (λ (w : View). w.dirtied_or_synced ≡ true) (first_of c.into_badge.result.views) c.put_locked-answer.new.seat.me.0 (ap first_of c.into_badge.ensures.2) c.put_locked-answer.ensures.marked
+    moved_one (λ (w : View). w.dirtied_or_synced ≡ true) (view_in c.into_badge.result.views) c.put_locked-answer.new.seat.me.0 (ap view_in c.into_badge.ensures.2) c.put_locked-answer.ensures.marked
 
 pub returns-clause-answer : goal.returns-clause-answer
 returns-clause-answer g c =
     let before = view_of_seat c.args.badge.now c.replace.result c.into_seat-seat.result.me.0 c.replace.ensures.value c.into_seat-seat.ensures.2 in
-    moved (λ v w. PutAnswer (relations_of c.args.table.now) c.args.frame c.args.tag c.args.page.now v w c.put_locked-answer.result) (first_of c.args.badge.now.views) (first_of c.into_badge.result.views) c.into_seat-seat.result.me.0 c.put_locked-answer.new.seat.me.0 before (ap first_of c.into_badge.ensures.2) c.put_locked-answer.ensures.answer
+    moved (λ v w. PutAnswer (relations_of c.args.table.now) c.args.frame c.args.tag c.args.page.now v w c.put_locked-answer.result) (view_in c.args.badge.now.views) (view_in c.into_badge.result.views) c.into_seat-seat.result.me.0 c.put_locked-answer.new.seat.me.0 before (ap view_in c.into_badge.ensures.2) c.put_locked-answer.ensures.answer
 
 pub returns-clause-calls : goal.returns-clause-calls
 returns-clause-calls g c =
     let before = view_of_seat c.args.badge.now c.replace.result c.into_seat-seat.result.me.0 c.replace.ensures.value c.into_seat-seat.ensures.2 in
-    moved (Made (put_calls c.put_locked-answer.result)) (first_of c.args.badge.now.views) (first_of c.into_badge.result.views) c.into_seat-seat.result.me.0 c.put_locked-answer.new.seat.me.0 before (ap first_of c.into_badge.ensures.2) c.put_locked-answer.ensures.calls
+    moved (Made (put_calls c.put_locked-answer.result)) (view_in c.args.badge.now.views) (view_in c.into_badge.result.views) c.into_seat-seat.result.me.0 c.put_locked-answer.new.seat.me.0 before (ap view_in c.into_badge.ensures.2) c.put_locked-answer.ensures.calls
 
 pub returns-clause-met : goal.returns-clause-met
 returns-clause-met g c =
     let before = view_of_seat c.args.badge.now c.replace.result c.into_seat-seat.result.me.0 c.replace.ensures.value c.into_seat-seat.ensures.2 in
-    moved (λ v w. w.met ≡ met_put c.put_locked-answer.result v.met) (first_of c.args.badge.now.views) (first_of c.into_badge.result.views) c.into_seat-seat.result.me.0 c.put_locked-answer.new.seat.me.0 before (ap first_of c.into_badge.ensures.2) c.put_locked-answer.ensures.met
+    moved (λ v w. w.met ≡ met_put c.put_locked-answer.result v.met) (view_in c.args.badge.now.views) (view_in c.into_badge.result.views) c.into_seat-seat.result.me.0 c.put_locked-answer.new.seat.me.0 before (ap view_in c.into_badge.ensures.2) c.put_locked-answer.ensures.met

@@ -6,7 +6,7 @@ use Rattle.pin_core.specs.declared.view.View.{View}
 use Rattle.frame_table.specs.Seats.{OnlyRises, lanes_in}
 use Rattle.held_pins.specs.Rests.{HasNoDevice, HasNoLatch, LinksRest, kept_by_calls, SameLocks}
 use Rattle.buffer_frames.specs.Reads.{ReadAnswer, ReadCalls, met_read_block}
-use Rattle.backend_pass.specs.Passes.{first_of}
+use Rattle.backend_pass.specs.Passes.{view_in}
 use Rattle.backend_pass.proofs.Seated.{moved, moved_one, one_view, view_of_seat}
 use Rattle.backend_pass.proofs.reading.read_seated.Goals as goal
 
@@ -38,39 +38,39 @@ pub returns-clause-view : goal.returns-clause-view
 returns-clause-view g c = one_view c.into_badge.result c.read_block-answer.new.seat.me.0 c.into_badge.ensures.2
 
 pub returns-clause-quiet : goal.returns-clause-quiet
-returns-clause-quiet g c = moved_one HasNoDevice (first_of c.into_badge.result.views) c.read_block-answer.new.seat.me.0 (ap first_of c.into_badge.ensures.2) c.read_block-answer.ensures.stands.quiet
+returns-clause-quiet g c = moved_one HasNoDevice (view_in c.into_badge.result.views) c.read_block-answer.new.seat.me.0 (ap view_in c.into_badge.ensures.2) c.read_block-answer.ensures.stands.quiet
 
 pub returns-clause-latches : goal.returns-clause-latches
-returns-clause-latches g c = moved_one HasNoLatch (first_of c.into_badge.result.views) c.read_block-answer.new.seat.me.0 (ap first_of c.into_badge.ensures.2) c.read_block-answer.ensures.latches
+returns-clause-latches g c = moved_one HasNoLatch (view_in c.into_badge.result.views) c.read_block-answer.new.seat.me.0 (ap view_in c.into_badge.ensures.2) c.read_block-answer.ensures.latches
 
 pub returns-clause-kept : goal.returns-clause-kept
 returns-clause-kept g c =
     let before = view_of_seat c.args.badge.now c.replace.result c.into_seat-seat.result.me.0 c.replace.ensures.value c.into_seat-seat.ensures.2 in
-    moved (λ v w. kept_by_calls w ≡ kept_by_calls v) (first_of c.args.badge.now.views) (first_of c.into_badge.result.views) c.into_seat-seat.result.me.0 c.read_block-answer.new.seat.me.0 before (ap first_of c.into_badge.ensures.2) c.read_block-answer.ensures.kept
+    moved (λ v w. kept_by_calls w ≡ kept_by_calls v) (view_in c.args.badge.now.views) (view_in c.into_badge.result.views) c.into_seat-seat.result.me.0 c.read_block-answer.new.seat.me.0 before (ap view_in c.into_badge.ensures.2) c.read_block-answer.ensures.kept
 
 pub returns-clause-advances : goal.returns-clause-advances
 returns-clause-advances g c =
     let before = view_of_seat c.args.badge.now c.replace.result c.into_seat-seat.result.me.0 c.replace.ensures.value c.into_seat-seat.ensures.2 in
-    moved OnlyRises (first_of c.args.badge.now.views) (first_of c.into_badge.result.views) c.into_seat-seat.result.me.0 c.read_block-answer.new.seat.me.0 before (ap first_of c.into_badge.ensures.2) c.read_block-answer.ensures.advances
+    moved OnlyRises (view_in c.args.badge.now.views) (view_in c.into_badge.result.views) c.into_seat-seat.result.me.0 c.read_block-answer.new.seat.me.0 before (ap view_in c.into_badge.ensures.2) c.read_block-answer.ensures.advances
 
 pub returns-clause-answer : goal.returns-clause-answer
 returns-clause-answer g c =
     let before = view_of_seat c.args.badge.now c.replace.result c.into_seat-seat.result.me.0 c.replace.ensures.value c.into_seat-seat.ensures.2 in
     moved (λ v w. ReadAnswer {L = g.row.L.Denot} {G = g.row.G.Denot} g.L.BlockLane.contents c.args.manager.now.table c.args.tag c.args.held.now c.read_block-answer.new.census.words v w c.read_block-answer.result)
-    (first_of c.args.badge.now.views) (first_of c.into_badge.result.views) c.into_seat-seat.result.me.0 c.read_block-answer.new.seat.me.0 before (ap first_of c.into_badge.ensures.2) c.read_block-answer.ensures.answer
+    (view_in c.args.badge.now.views) (view_in c.into_badge.result.views) c.into_seat-seat.result.me.0 c.read_block-answer.new.seat.me.0 before (ap view_in c.into_badge.ensures.2) c.read_block-answer.ensures.answer
 
 pub returns-clause-met : goal.returns-clause-met
 returns-clause-met g c =
     let before = view_of_seat c.args.badge.now c.replace.result c.into_seat-seat.result.me.0 c.replace.ensures.value c.into_seat-seat.ensures.2 in
-    moved (λ v w. w.met ≡ met_read_block c.read_block-answer.result v.met) (first_of c.args.badge.now.views) (first_of c.into_badge.result.views) c.into_seat-seat.result.me.0 c.read_block-answer.new.seat.me.0 before (ap first_of c.into_badge.ensures.2) c.read_block-answer.ensures.met
+    moved (λ v w. w.met ≡ met_read_block c.read_block-answer.result v.met) (view_in c.args.badge.now.views) (view_in c.into_badge.result.views) c.into_seat-seat.result.me.0 c.read_block-answer.new.seat.me.0 before (ap view_in c.into_badge.ensures.2) c.read_block-answer.ensures.met
 
 pub returns-clause-calls : goal.returns-clause-calls
 returns-clause-calls g c =
     let before = view_of_seat c.args.badge.now c.replace.result c.into_seat-seat.result.me.0 c.replace.ensures.value c.into_seat-seat.ensures.2 in
     moved (λ v w. ReadCalls (lane_number c.args.tag (lanes_in c.args.manager.now.table)) c.args.tag (is_some c.args.ring.now) v w c.read_block-answer.result)
-    (first_of c.args.badge.now.views) (first_of c.into_badge.result.views) c.into_seat-seat.result.me.0 c.read_block-answer.new.seat.me.0 before (ap first_of c.into_badge.ensures.2) c.read_block-answer.ensures.calls
+    (view_in c.args.badge.now.views) (view_in c.into_badge.result.views) c.into_seat-seat.result.me.0 c.read_block-answer.new.seat.me.0 before (ap view_in c.into_badge.ensures.2) c.read_block-answer.ensures.calls
 
 pub returns-clause-locks : goal.returns-clause-locks
 returns-clause-locks g c =
     let before = view_of_seat c.args.badge.now c.replace.result c.into_seat-seat.result.me.0 c.replace.ensures.value c.into_seat-seat.ensures.2 in
-    moved SameLocks (first_of c.args.badge.now.views) (first_of c.into_badge.result.views) c.into_seat-seat.result.me.0 c.read_block-answer.new.seat.me.0 before (ap first_of c.into_badge.ensures.2) c.read_block-answer.ensures.locks
+    moved SameLocks (view_in c.args.badge.now.views) (view_in c.into_badge.result.views) c.into_seat-seat.result.me.0 c.read_block-answer.new.seat.me.0 before (ap view_in c.into_badge.ensures.2) c.read_block-answer.ensures.locks

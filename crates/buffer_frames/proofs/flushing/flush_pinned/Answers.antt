@@ -7,7 +7,7 @@ use Rattle.frame_table.specs.Seats.{lanes_in}
 use Rattle.frame_table.proofs.Rising.{rises_none, rises_touched}
 use Rattle.held_pins.proofs.Keeping.{beside_kept, stands_self}
 use Rattle.buffer_frames.specs.Flushing.{met_flushing}
-use Rattle.buffer_frames.proofs.Answering.{flush_between}
+use Rattle.buffer_frames.proofs.Answering.{error_after, flush_between, written_after}
 use Rattle.buffer_frames.proofs.Links.{sharing_taken}
 use Rattle.buffer_frames.proofs.WorkSteps.{works_marked, works_on}
 use Rattle.buffer_frames.proofs.Notes.{notes_by, notes_on}
@@ -40,3 +40,9 @@ returns-clause-met g c = c.flush_shared.ensures.met ∙ ap (λ (x : View). met_f
 pub returns-clause-notes : goal.returns-clause-notes
 returns-clause-notes g c = let f = c.args.frame in let e = c.share.ensures.shared in
     notes_on (link c.args.seat.now.me.0 f) (link c.share.new.seat.me.0 f) (link c.flush_shared.new.seat.me.0 f) (notes_by (link c.args.seat.now.me.0 f) (link c.share.new.seat.me.0 f) (ap (λ (l : Link). l.passed) e) (ap (λ (l : Link). l.listed) e)) c.flush_shared.ensures.notes
+
+pub returns-clause-ended : goal.returns-clause-ended
+returns-clause-ended g c = error_after c.args.frame c.args.seat.now.me.0 c.share.new.seat.me.0 c.flush_shared.new.seat.me.0 c.flush_shared.result (rises_touched c.args.frame c.args.seat.now.me.0 c.share.new.seat.me.0 c.share.ensures.touches) c.flush_shared.ensures.ended
+
+pub returns-clause-written : goal.returns-clause-written
+returns-clause-written g c = written_after c.args.frame c.args.seat.now.me.0 c.share.new.seat.me.0 c.flush_shared.new.seat.me.0 c.flush_shared.result (rises_touched c.args.frame c.args.seat.now.me.0 c.share.new.seat.me.0 c.share.ensures.touches) c.flush_shared.ensures.written

@@ -10,10 +10,10 @@ use Rattle.content_locks.specs.Io.{FindsNothing}
 use Rattle.held_pins.specs.Rests.{LinksRestBeside}
 use Rattle.frame_table.proofs.Rising.{rises_none, rises_touched}
 use Rattle.held_pins.proofs.Keeping.{beside_kept, stands_self}
-use Rattle.buffer_frames.specs.Flushing.{CopiesAnd, WriteAnswer, met_refused}
+use Rattle.buffer_frames.specs.Flushing.{CopiesAnd, EndedInError, EndedWritten, WriteAnswer, met_refused}
 use Rattle.buffer_frames.specs.Stages.{IsSharing}
 use Rattle.buffer_frames.specs.Working.{KeepsNotes, WorksAt}
-use Rattle.buffer_frames.proofs.Answering.{copies_between, error_marked, written_marked}
+use Rattle.buffer_frames.proofs.Answering.{copies_between, error_between, written_between}
 use Rattle.buffer_frames.proofs.Links.{may_drop, pinned_unshared, sharing_begun, sharing_looked}
 use Rattle.buffer_frames.proofs.WorkSteps.{headless, no_io, within_all, within_on, works_begun, works_marked, works_on}
 use Rattle.buffer_frames.proofs.Notes.{notes_begun, notes_by, notes_looked, notes_on}
@@ -126,7 +126,8 @@ pub returns-in-Err-clause-met : goal.returns-in-Err-clause-met
 returns-in-Err-clause-met g c = ap (λ (x : View). x.met) c.unshare-2.ensures.touches.self ∙ c.in-Err.ensures.met ∙ ap (λ (x : View). met_refused c.in-Err.why x.met) c.start_io.ensures.touches.self
 
 pub returns-in-Err-clause-ended : goal.returns-in-Err-clause-ended
-returns-in-Err-clause-ended g c = error_marked c.write_out-written.new.seat.me.0 c.unshare-2.new.seat.me.0 c.unshare-2.ensures.marks c.in-Err.ensures.ended
+returns-in-Err-clause-ended g c = let f = c.args.frame in let u = c.unshare-2.ensures in
+    error_between f c.args.seat.now.me.0 c.start_io.new.seat.me.0 c.write_out-written.new.seat.me.0 c.unshare-2.new.seat.me.0 (rises_touched f c.args.seat.now.me.0 c.start_io.new.seat.me.0 c.start_io.ensures.touches) (subst (λ (x : ℕ). EndedInError x c.start_io.new.seat.me.0 c.write_out-written.new.seat.me.0) c.in-Some.ensures.right.0 c.in-Err.ensures.ended) u.marks (rises_touched f c.write_out-written.new.seat.me.0 c.unshare-2.new.seat.me.0 u.touches)
 
 pub returns-in_default-clause-notes : goal.returns-in_default-clause-notes
 returns-in_default-clause-notes g c = let f = c.args.frame in let e = c.unshare.ensures.unshared in
@@ -146,4 +147,5 @@ returns-in-Err-clause-notes g c = let f = c.args.frame in let v = c.args.seat.no
     notes_on (link v f) (link w f) (link c.unshare-2.new.seat.me.0 f) (notes_on (link v f) (link u f) (link w f) (notes_begun (link v f) (link u f) c.in-Some.ensures.begun) written) (notes_by (link w f) (link c.unshare-2.new.seat.me.0 f) (ap (λ (l : Link). l.passed) e) (ap (λ (l : Link). l.listed) e))
 
 pub returns-in-Ok-clause-written : goal.returns-in-Ok-clause-written
-returns-in-Ok-clause-written g c = λ wrote. written_marked c.write_out-written.new.seat.me.0 c.unshare-2.new.seat.me.0 c.unshare-2.ensures.marks c.in-Ok.ensures.written
+returns-in-Ok-clause-written g c = λ wrote. (let f = c.args.frame in let u = c.unshare-2.ensures in
+    written_between f c.args.seat.now.me.0 c.start_io.new.seat.me.0 c.write_out-written.new.seat.me.0 c.unshare-2.new.seat.me.0 (rises_touched f c.args.seat.now.me.0 c.start_io.new.seat.me.0 c.start_io.ensures.touches) (subst (λ (x : ℕ). EndedWritten x c.start_io.new.seat.me.0 c.write_out-written.new.seat.me.0) c.in-Some.ensures.right.0 c.in-Ok.ensures.written) u.marks (rises_touched f c.write_out-written.new.seat.me.0 c.unshare-2.new.seat.me.0 u.touches))

@@ -12,7 +12,7 @@ use Rattle.frame_table.proofs.Rising.{rises_none, rises_touched}
 use Rattle.held_pins.proofs.Keeping.{beside_kept, stands_self}
 use Rattle.buffer_frames.specs.Flushing.{clean, flushed, locked, rejected}
 use Rattle.buffer_frames.specs.Flushing.{met_refused}
-use Rattle.buffer_frames.proofs.Answering.{flush_between, flush_makes_flush_calls, none_made, flush_calls_after, rejects_between, victim_pinned, victim_sees, victim_worked}
+use Rattle.buffer_frames.proofs.Answering.{error_between, flush_between, flush_makes_flush_calls, none_made, flush_calls_after, rejects_between, victim_pinned, victim_sees, victim_worked}
 use Rattle.buffer_frames.proofs.Links.{may_drop, pinned_looked, pinned_unshared, sharing_taken}
 use Rattle.buffer_frames.proofs.WorkSteps.{latches_worked, made_none, made_same, within_all, within_on, works_marked, works_on}
 use Rattle.buffer_frames.proofs.flushing.flush_victim.Goals as goal
@@ -139,3 +139,6 @@ returns-in-Err-flush_shared-clause-calls g c = flush_calls_after c.args.seat.now
 
 pub returns-in-Err-flush_shared-clause-met : goal.returns-in-Err-flush_shared-clause-met
 returns-in-Err-flush_shared-clause-met g c = c.in-Err-flush_shared.ensures.met ∙ ap (met_refused c.in-Err-flush_shared.why) (c.is_rejected.ensures.met ∙ ap (λ (x : View). x.met) c.try_share.ensures.touches.self ∙ ap (λ (x : View). x.met) c.look.ensures.touches.self)
+
+pub returns-in-Err-flush_shared-clause-ended : goal.returns-in-Err-flush_shared-clause-ended
+returns-in-Err-flush_shared-clause-ended g c = error_between c.args.frame c.args.seat.now.me.0 c.is_rejected.new.seat.me.0 c.flush_shared.new.seat.me.0 c.flush_shared.new.seat.me.0 (works_on c.args.frame c.args.seat.now.me.0 c.try_share.new.seat.me.0 c.is_rejected.new.seat.me.0 (works_on c.args.frame c.args.seat.now.me.0 c.look.new.seat.me.0 c.try_share.new.seat.me.0 (works_marked c.args.frame c.args.seat.now.me.0 c.look.new.seat.me.0 c.look.ensures.touches c.look.ensures.marks) (works_marked c.args.frame c.look.new.seat.me.0 c.try_share.new.seat.me.0 c.try_share.ensures.touches c.try_share.ensures.marks)) c.is_rejected.ensures.works).advances c.in-Err-flush_shared.ensures.ended refl (rises_none c.flush_shared.new.seat.me.0)

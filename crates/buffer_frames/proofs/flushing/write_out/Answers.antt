@@ -113,7 +113,7 @@ returns-in-Err-clause-met g c = ap (λ (x : View). x.met) c.end_io-in-Err.ensure
 
 pub returns-in-Err-clause-ended : goal.returns-in-Err-clause-ended
 returns-in-Err-clause-ended g c = let e = c.end_io-in-Err.ensures in
-    ended_in_error c.args.right.frame c.write_logged.new.seat.me.0 c.end_io-in-Err.new.seat.me.0 e.did (subst (λ (x : ℕ). (link c.write_logged.new.seat.me.0 x).io ≡ Output) c.frame-frame.ensures c.write_logged.ensures.shares.right)
+    ended_in_error c.args.right.frame c.args.seat.now.me.0 c.write_logged.new.seat.me.0 c.end_io-in-Err.new.seat.me.0 (rises_on c.args.seat.now.me.0 c.copy_out.new.seat.me.0 c.write_logged.new.seat.me.0 (rises_on c.args.seat.now.me.0 c.clear_just.new.seat.me.0 c.copy_out.new.seat.me.0 c.clear_just.ensures.works.advances (rises_touched c.frame-frame.result c.clear_just.new.seat.me.0 c.copy_out.new.seat.me.0 c.copy_out.ensures.touches)) c.write_logged.ensures.works.advances) e.did (subst (λ (x : ℕ). (link c.write_logged.new.seat.me.0 x).io ≡ Output) c.frame-frame.ensures c.write_logged.ensures.shares.right)
     (had_output_marked c.copy_out.new.seat.me.0 c.write_logged.new.seat.me.0 c.write_logged.ensures.marks ∙ had_output_marked c.clear_just.new.seat.me.0 c.copy_out.new.seat.me.0 c.copy_out.ensures.marks ∙ had_output_marked c.args.seat.now.me.0 c.clear_just.new.seat.me.0 c.clear_just.ensures.marks ∙ c.requires.begun)
 
 pub returns-in-Ok-clause-notes : goal.returns-in-Ok-clause-notes
@@ -132,5 +132,5 @@ returns-in-Err-clause-notes g c = let f = c.frame-frame.result in let r = c.args
 
 pub returns-in-Ok-clause-written : goal.returns-in-Ok-clause-written
 returns-in-Ok-clause-written g c = let e = c.end_io.ensures in
-    ended_written c.args.right.frame c.write_logged.new.seat.me.0 c.end_io.new.seat.me.0 e.did (subst (λ (x : ℕ). (link c.write_logged.new.seat.me.0 x).io ≡ Output) c.frame-frame.ensures c.write_logged.ensures.shares.right)
+    ended_written c.args.right.frame c.args.seat.now.me.0 c.write_logged.new.seat.me.0 c.end_io.new.seat.me.0 (rises_on c.args.seat.now.me.0 c.copy_out.new.seat.me.0 c.write_logged.new.seat.me.0 (rises_on c.args.seat.now.me.0 c.clear_just.new.seat.me.0 c.copy_out.new.seat.me.0 c.clear_just.ensures.works.advances (rises_touched c.frame-frame.result c.clear_just.new.seat.me.0 c.copy_out.new.seat.me.0 c.copy_out.ensures.touches)) c.write_logged.ensures.works.advances) e.did (subst (λ (x : ℕ). (link c.write_logged.new.seat.me.0 x).io ≡ Output) c.frame-frame.ensures c.write_logged.ensures.shares.right)
     (had_output_marked c.copy_out.new.seat.me.0 c.write_logged.new.seat.me.0 c.write_logged.ensures.marks ∙ had_output_marked c.clear_just.new.seat.me.0 c.copy_out.new.seat.me.0 c.copy_out.ensures.marks ∙ had_output_marked c.args.seat.now.me.0 c.clear_just.new.seat.me.0 c.clear_just.ensures.marks ∙ c.requires.begun)

@@ -1,11 +1,12 @@
-use Rattle.std.proofs.Common.{Bool, [], subst, ap, ◌∙◌}
+use Rattle.std.proofs.Common.{Bool, [], refl, inl, subst, ap, ◌∙◌}
 use Rattle.block_tag.specs.Names.{packed_tag}
 use Rattle.pin_core.specs.declared.view.Met.{Met}
+use Rattle.frame_table.specs.Seats.{frames_of}
 use Rattle.frame_table.proofs.Rising.{rises_on}
 use Rattle.buffer_frames.specs.Reads.{Locates}
 use Rattle.buffer_frames.specs.Victims.{met_claimed}
 use Rattle.buffer_frames.proofs.Locating.{answers_missed, locates_now, misses_then}
-use Rattle.buffer_frames.proofs.Noting.{claim_from}
+use Rattle.buffer_frames.proofs.Noting.{census_claimed, claim_from}
 use Rattle.buffer_frames.proofs.Outside.{grows_outside, met_outside}
 use Rattle.held_pins.proofs.Keeping.{same_locks_on}
 use Rattle.buffer_frames.proofs.reading.pin_block.Goals as goal
@@ -30,3 +31,9 @@ returns-clause-calls g c = answers_missed c.args.tag _ c.args.seat.now.me.0 c.cl
 
 pub returns-clause-locks : goal.returns-clause-locks
 returns-clause-locks g c = same_locks_on c.args.seat.now.me.0 c.look_up.new.seat.me.0 c.claim.new.seat.me.0 c.look_up.ensures.locks c.claim.ensures.locks
+
+pub returns-in-Some-clause-census : goal.returns-in-Some-clause-census
+returns-in-Some-clause-census g c = inl refl
+
+pub returns-clause-census : goal.returns-clause-census
+returns-clause-census g c = census_claimed (frames_of c.args.table.now) c.args.census.now c.claim.new.census c.claim.result c.claim.ensures.census

@@ -1,9 +1,10 @@
 use Rattle.std.proofs.Common.{◌∙◌}
 use Rattle.frame_table.proofs.Told.{grows_on}
 use Rattle.frame_table.proofs.Rising.{rises_on}
-use Rattle.buffer_frames.proofs.Noting.{all_pinned_now, ended_outside}
+use Rattle.buffer_frames.specs.Working.{IsFlushCall}
+use Rattle.buffer_frames.proofs.Noting.{all_pinned_now, calls_through}
 use Rattle.buffer_frames.proofs.Outside.{grows_outside}
-use Rattle.held_pins.proofs.Keeping.{same_locks_on}
+use Rattle.held_pins.proofs.Keeping.{latches_same, same_locks_on}
 use Rattle.buffer_frames.proofs.SameLocks.{same_locks_victim}
 use Rattle.buffer_frames.proofs.victims.make_victim.Goals as goal
 
@@ -36,7 +37,7 @@ returns-in-Err-flush_victim-clause-answer g c = let s = c.in-Some.ensures in let
     since = grows_outside c.args.seat.now.me.0 c.tag_of_victim.new.seat.me.0 (grows_on _ c.choose.new.seat.me.0 _ c.choose.ensures.grows c.tag_of_victim.ensures.grows) (c.tag_of_victim.ensures.same ∙ c.choose.ensures.same);
     answer = f.answer.1;
     until = u.ensures.same;
-    ended = ended_outside c.flush_victim.new.seat.me.0 u.new.seat.me.0 u.ensures.same f.ended;
+    ended = f.ended;
   },
 )
 
@@ -67,3 +68,9 @@ returns-then-erase-clause-locks g c = same_locks_on c.args.seat.now.me.0 c.flush
 
 pub returns-clause-locks : goal.returns-clause-locks
 returns-clause-locks g c = same_locks_on c.args.seat.now.me.0 c.erase.new.seat.me.0 c.give_up-2.new.seat.me.0 (same_locks_on c.args.seat.now.me.0 c.flush_victim.new.seat.me.0 c.erase.new.seat.me.0 (same_locks_on c.args.seat.now.me.0 c.tag_of_victim.new.seat.me.0 c.flush_victim.new.seat.me.0 (same_locks_on c.args.seat.now.me.0 c.choose.new.seat.me.0 c.tag_of_victim.new.seat.me.0 c.choose.ensures.locks c.tag_of_victim.ensures.locks) (same_locks_victim c.args.held.now c.frame-frame.result c.tag_of_victim.new.seat.me.0 c.flush_victim.new.seat.me.0 c.flush_victim.ensures.works c.tag_of_victim.ensures.victim c.flush_victim.ensures.victim)) c.erase.ensures.locks) c.give_up-2.ensures.locks
+
+pub returns-in-Err-flush_victim-clause-latches : goal.returns-in-Err-flush_victim-clause-latches
+returns-in-Err-flush_victim-clause-latches g c = let u = c.give_up-in-Err-flush_victim in latches_same c.flush_victim.new.seat.me.0 u.new.seat.me.0 u.ensures.partitions c.flush_victim.ensures.latches
+
+pub returns-in-Err-flush_victim-clause-calls : goal.returns-in-Err-flush_victim-clause-calls
+returns-in-Err-flush_victim-clause-calls g c = let u = c.give_up-in-Err-flush_victim in calls_through IsFlushCall c.args.seat.now.me.0 c.tag_of_victim.new.seat.me.0 c.flush_victim.new.seat.me.0 u.new.seat.me.0 (c.tag_of_victim.ensures.same ∙ c.choose.ensures.same) c.flush_victim.ensures.calls u.ensures.same

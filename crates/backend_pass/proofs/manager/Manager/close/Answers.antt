@@ -54,4 +54,4 @@ returns g c =
     let left = c.remove.ensures.by_index.2 ∙ ap (λ (n : ℕ). take c.place_of_first-place.result c.args.passes.items ++ drop n c.args.passes.items) (add-one c.place_of_first-place.result) ∙ others_standing c.args.passes.items c.place_of_first-place.result at in
     let first = first_standing c.args.passes.items c.place_of_first-place.result c.remove.result at c.remove.ensures.value in
     let is = c.join_all.ensures.joined ∙ ap (λ (v : View). joined_views v c.remove.new.self.items) c.leave-seat.ensures.me.0 ∙ ap (joined_views c.remove.result.view) left in
-    closes_all _ _ c.args.passes.items _ _ c.remove.result.view c.join_all.new.seat.me.0 c.place_of_first-place.result at first is c.leave-seat.ensures.rests c.close.ensures
+    closes_all _ _ c.args.passes.items _ _ c.remove.result.view c.join_all.new.seat.me.0 c.place_of_first-place.result at first is c.leave-seat.ensures.rests c.requires.fronts c.close.ensures

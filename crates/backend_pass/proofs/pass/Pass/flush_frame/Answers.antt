@@ -1,4 +1,4 @@
-use Rattle.std.proofs.Common.{◌≡◌, ◌∙◌, ℕ, Bool, Err, ap, refl, sym, subst}
+use Rattle.std.proofs.Common.{◌≡◌, ◌≢◌, ◌∙◌, ℕ, Bool, Err, ap, refl, sym, subst}
 use Rattle.crossbeam_utils.specs.Padded.{padded_value}
 use Rattle.block_tag.specs.Names.{lane_number}
 use Rattle.pin_core.specs.declared.view.Content.TheVariants.{Unlocked}
@@ -7,9 +7,9 @@ use Rattle.pin_core.specs.State.{link}
 use Rattle.frame_table.specs.Seats.{lanes_in}
 use Rattle.held_pins.specs.Rests.{SameLocks}
 use Rattle.buffer_frames.specs.declared.flushing.FlushError as frames
-use Rattle.buffer_frames.specs.Flushing.{FlushAnswer, met_flushing}
+use Rattle.buffer_frames.specs.Flushing.{EndedInError, EndedWritten, FlushAnswer, met_flushing}
 use Rattle.backend_pass.specs.Managers.{Belongs}
-use Rattle.backend_pass.specs.Passes.{IsNumbered, IsShown, PassState, SamePass, first_of}
+use Rattle.backend_pass.specs.Passes.{IsNumbered, IsShown, PassState, SamePass, view_in}
 use Rattle.backend_pass.specs.FrameFlushes.{frame_refusal, shown_unflushed}
 use Rattle.backend_pass.proofs.BlockReads.{numbered_kept, same_kept}
 use Rattle.backend_pass.proofs.Flushed.{flush_complete, locks_worked, shown_not_flushed}
@@ -19,34 +19,34 @@ use Rattle.backend_pass.proofs.pass.Pass.flush_frame.Goals as goal
 pub returns-in-Ok-clause-belongs : goal.returns-in-Ok-clause-belongs
 returns-in-Ok-clause-belongs g c =
     let e = c.in-Ok.ensures in
-    belongs_held {L = g.row.L.Denot} {G = g.row.G.Denot} g.L.BlockLane.contents c.args.manager.now _ _ e.table refl (ap (λ (x : View). x.front) e.works.kept) e.works.advances.end_seen (λ f h at. (h, at, refl))
+    belongs_held {L = g.row.L.Denot} {G = g.row.G.Denot} g.L.BlockLane.contents c.args.manager.now _ _ e.table refl (ap (λ (x : View). x.calls) e.works.kept) (ap (λ (x : View). x.front) e.works.kept) e.works.advances.end_seen (λ f h at. (h, at, refl))
     (subst (Belongs {L = g.row.L.Denot} {G = g.row.G.Denot} g.L.BlockLane.contents c.args.manager.now) (sym c.self.view_is) c.requires.belongs)
 
 pub returns-in-Ok-clause-locks : goal.returns-in-Ok-clause-locks
 returns-in-Ok-clause-locks g c =
     let e = c.in-Ok.ensures in
-    subst (λ (p : PassState). SameLocks p.view (first_of c.flush_seated.new.badge.views)) c.self.view_is (locks_worked c.args.pinned.now.frame _ _ e.works (subst (λ (p : PassState). (link p.view c.args.pinned.now.frame).content ≡ Unlocked) (sym c.self.view_is) c.requires.unlocked) e.unlocked)
+    subst (λ (p : PassState). SameLocks p.view (view_in c.flush_seated.new.badge.views)) c.self.view_is (locks_worked c.args.pinned.now.frame _ _ e.works (subst (λ (p : PassState). (link p.view c.args.pinned.now.frame).content ≡ Unlocked) (sym c.self.view_is) c.requires.unlocked) e.unlocked)
 
 pub returns-in-Err-clause-belongs : goal.returns-in-Err-clause-belongs
 returns-in-Err-clause-belongs g c =
     let e = c.in-Err.ensures in
-    belongs_held {L = g.row.L.Denot} {G = g.row.G.Denot} g.L.BlockLane.contents c.args.manager.now _ _ e.table refl (ap (λ (x : View). x.front) e.works.kept) e.works.advances.end_seen (λ f h at. (h, at, refl))
+    belongs_held {L = g.row.L.Denot} {G = g.row.G.Denot} g.L.BlockLane.contents c.args.manager.now _ _ e.table refl (ap (λ (x : View). x.calls) e.works.kept) (ap (λ (x : View). x.front) e.works.kept) e.works.advances.end_seen (λ f h at. (h, at, refl))
     (subst (Belongs {L = g.row.L.Denot} {G = g.row.G.Denot} g.L.BlockLane.contents c.args.manager.now) (sym c.self.view_is) c.requires.belongs)
 
 pub returns-in-Err-clause-locks : goal.returns-in-Err-clause-locks
 returns-in-Err-clause-locks g c =
     let e = c.in-Err.ensures in
-    subst (λ (p : PassState). SameLocks p.view (first_of c.flush_seated.new.badge.views)) c.self.view_is (locks_worked c.args.pinned.now.frame _ _ e.works (subst (λ (p : PassState). (link p.view c.args.pinned.now.frame).content ≡ Unlocked) (sym c.self.view_is) c.requires.unlocked) e.unlocked)
+    subst (λ (p : PassState). SameLocks p.view (view_in c.flush_seated.new.badge.views)) c.self.view_is (locks_worked c.args.pinned.now.frame _ _ e.works (subst (λ (p : PassState). (link p.view c.args.pinned.now.frame).content ≡ Unlocked) (sym c.self.view_is) c.requires.unlocked) e.unlocked)
 
 pub returns-in-Err-clause-answer : goal.returns-in-Err-clause-answer
 returns-in-Err-clause-answer g c =
     let e = c.in-Err.ensures in
-    subst (λ (y : frames.FlushError). FlushAnswer {L = g.row.L.Denot} {G = g.row.G.Denot} g.L.BlockLane.contents c.args.manager.now.table (lane_number c.args.pinned.now.tag (lanes_in c.args.manager.now.table)) c.args.pinned.now.tag c.args.pinned.now.frame c.args.self.now.view (first_of c.flush_seated.new.badge.views) (Err y)) (sym c.refused-why.ensures) (subst (λ (p : PassState). FlushAnswer {L = g.row.L.Denot} {G = g.row.G.Denot} g.L.BlockLane.contents c.args.manager.now.table (lane_number c.args.pinned.now.tag (lanes_in c.args.manager.now.table)) c.args.pinned.now.tag c.args.pinned.now.frame p.view (first_of c.flush_seated.new.badge.views) (Err c.in-Err.cause)) c.self.view_is e.answer)
+    subst (λ (y : frames.FlushError). FlushAnswer {L = g.row.L.Denot} {G = g.row.G.Denot} g.L.BlockLane.contents c.args.manager.now.table (lane_number c.args.pinned.now.tag (lanes_in c.args.manager.now.table)) c.args.pinned.now.tag c.args.pinned.now.frame c.args.self.now.view (view_in c.flush_seated.new.badge.views) (Err y)) (sym c.refused-why.ensures) (subst (λ (p : PassState). FlushAnswer {L = g.row.L.Denot} {G = g.row.G.Denot} g.L.BlockLane.contents c.args.manager.now.table (lane_number c.args.pinned.now.tag (lanes_in c.args.manager.now.table)) c.args.pinned.now.tag c.args.pinned.now.frame p.view (view_in c.flush_seated.new.badge.views) (Err c.in-Err.cause)) c.self.view_is e.answer)
 
 pub returns-in-Err-clause-met : goal.returns-in-Err-clause-met
 returns-in-Err-clause-met g c =
     let e = c.in-Err.ensures in
-    e.met ∙ ap (λ (y : frames.FlushError). met_flushing {A = Bool} (Err y) (first_of c.self.inside.seat.views).met) (sym c.refused-why.ensures) ∙ ap (λ (p : PassState). met_flushing {A = Bool} (Err (frame_refusal c.refused-why.result)) p.view.met) c.self.view_is
+    e.met ∙ ap (λ (y : frames.FlushError). met_flushing {A = Bool} (Err y) (view_in c.self.inside.seat.views).met) (sym c.refused-why.ensures) ∙ ap (λ (p : PassState). met_flushing {A = Bool} (Err (frame_refusal c.refused-why.result)) p.view.met) c.self.view_is
 
 pub returns-in-Err-clause-complete : goal.returns-in-Err-clause-complete
 returns-in-Err-clause-complete g c =
@@ -57,8 +57,8 @@ pub invariant_of-self-in-Err : goal.invariant_of-self-in-Err
 invariant_of-self-in-Err g c =
     let i = c.self.invariant in
     let e = c.in-Err.ensures in
-    let v = first_of c.self.inside.seat.views in
-    let w = first_of c.flush_seated.new.badge.views in
+    let v = view_in c.self.inside.seat.views in
+    let w = view_in c.flush_seated.new.badge.views in
     let met : w.met ≡ met_flushing {A = Bool} (Err (frame_refusal c.refused-why.result)) v.met = e.met ∙ ap (λ (y : frames.FlushError). met_flushing {A = Bool} (Err y) v.met) (sym c.refused-why.ensures) in
     let shown : padded_value c.new-self-inside.result ≡ shown_unflushed c.refused-why.result (padded_value c.self.inside.shown) = c.new-self-inside.ensures ∙ c.after_flush-shown.ensures ∙ ap (shown_unflushed c.refused-why.result) c.deref.ensures in (
       e.view,
@@ -74,3 +74,12 @@ returns-in-Err-clause-same g c =
   where
     from : (a p q : PassState) → a ≡ p → SamePass a q → SamePass p q
     from a p q same s = subst (λ (x : PassState). SamePass x q) same s
+
+pub returns-in-Err-clause-ended : goal.returns-in-Err-clause-ended
+returns-in-Err-clause-ended g c = subst (λ (p : PassState). EndedInError c.args.pinned.now.frame p.view (view_in c.flush_seated.new.badge.views)) c.self.view_is c.in-Err.ensures.ended
+
+pub returns-in-Ok-clause-written : goal.returns-in-Ok-clause-written
+returns-in-Ok-clause-written g c = λ wrote. subst (λ (p : PassState). EndedWritten c.args.pinned.now.frame p.view (view_in c.flush_seated.new.badge.views)) c.self.view_is (c.in-Ok.ensures.written wrote)
+
+pub returns-in-Err-clause-others : goal.returns-in-Err-clause-others
+returns-in-Err-clause-others g c = subst (λ (p : PassState). (h : ℕ) → h ≢ c.args.pinned.now.frame → link (view_in c.flush_seated.new.badge.views) h ≡ link p.view h) c.self.view_is c.in-Err.ensures.works.others

@@ -3,15 +3,16 @@ use Rattle.crossbeam_utils.specs.Padded.{padded_value}
 use Rattle.page_layout.specs.Soundness.{is_new_page, is_sound_page}
 use Rattle.pin_core.specs.declared.view.Content.TheVariants.{Exclusive}
 use Rattle.pin_core.specs.State.{Page, link}
-use Rattle.frame_table.specs.Seats.{relations_of}
+use Rattle.frame_table.specs.Seats.{base_of, relations_of}
 use Rattle.held_pins.specs.Rests.{SameLocks}
 use Rattle.held_pins.specs.Tokens.{IsPinnedFor}
 use Rattle.backend_pass.specs.declared.met.Shown.{Shown}
 use Rattle.backend_pass.specs.Managers.{Belongs}
-use Rattle.backend_pass.specs.Passes.{IsNumbered, IsShown, PassState, first_of}
-use Rattle.backend_pass.specs.Puts.{PutAnswer, shown_unput}
+use Rattle.backend_pass.specs.Passes.{IsNumbered, IsShown, PassState, view_in}
+use Rattle.buffer_frames.specs.Puts.{PutAnswer}
+use Rattle.backend_pass.specs.Passes.{shown_unput}
 use Rattle.backend_pass.proofs.Flushed.{block_of_token, frame_of_token}
-use Rattle.backend_pass.proofs.PagePuts.{belongs_put, front_put, locks_put, numbered_put, put_complete, same_put, shown_not_put, shown_put}
+use Rattle.backend_pass.proofs.PassPuts.{belongs_put, front_put, locks_put, numbered_put, put_complete, same_put, shown_not_put, shown_put}
 use Rattle.backend_pass.proofs.Seated.{same_from}
 use Rattle.backend_pass.proofs.pass.Pass.put.Goals as goal
 
@@ -37,8 +38,8 @@ pub invariant_of-self : goal.invariant_of-self
 invariant_of-self g c =
     let i = c.self.invariant in
     let e = c.in-Ok.ensures in
-    let v = (first_of c.self.inside.seat.views) in
-    let w = (first_of c.put_seated.new.badge.views) in (
+    let v = (view_in c.self.inside.seat.views) in
+    let w = (view_in c.put_seated.new.badge.views) in (
       e.view,
       e.rests,
       subst (λ (id : ℕ). IsNumbered c.self.inside.number id w) (sym e.id) (numbered_put c.args.exclusive.now.pinned.frame c.self.inside.number c.self.inside.seat.id v w e.puts i.2),
@@ -49,8 +50,8 @@ pub invariant_of-self-in-Err : goal.invariant_of-self-in-Err
 invariant_of-self-in-Err g c =
     let i = c.self.invariant in
     let e = c.in-Err.ensures in
-    let v = (first_of c.self.inside.seat.views) in
-    let w = (first_of c.put_seated.new.badge.views) in
+    let v = (view_in c.self.inside.seat.views) in
+    let w = (view_in c.put_seated.new.badge.views) in
     let shown : padded_value c.new-self-inside-in-Err.result ≡ shown_unput c.in-Err.why (padded_value c.self.inside.shown) = c.new-self-inside-in-Err.ensures ∙ c.after_put-shown.ensures ∙ ap (shown_unput c.in-Err.why) c.deref-in-Err.ensures in (
       e.view,
       e.rests,
@@ -61,7 +62,7 @@ invariant_of-self-in-Err g c =
 pub returns-in-Ok-clause-belongs : goal.returns-in-Ok-clause-belongs
 returns-in-Ok-clause-belongs g c =
     let e = c.in-Ok.ensures in
-    belongs_put {L = g.row.L.Denot} {G = g.row.G.Denot} g.L.BlockLane.contents c.args.manager.now _ _ e.table refl refl (front_put (relations_of c.args.manager.now.table) c.args.exclusive.now.pinned.frame c.args.exclusive.now.pinned.tag _ (first_of c.self.inside.seat.views) (first_of c.put_seated.new.badge.views) (Ok c.in-Ok.lsn) e.answer) e.puts.advances.end_seen
+    belongs_put {L = g.row.L.Denot} {G = g.row.G.Denot} g.L.BlockLane.contents c.args.manager.now _ _ e.table refl refl (front_put (base_of c.args.manager.now.table) (relations_of c.args.manager.now.table) c.args.exclusive.now.pinned.frame c.args.exclusive.now.pinned.tag _ (view_in c.self.inside.seat.views) (view_in c.put_seated.new.badge.views) (Ok c.in-Ok.lsn) e.answer) e.puts.advances.end_seen
     (subst (Belongs {L = g.row.L.Denot} {G = g.row.G.Denot} g.L.BlockLane.contents c.args.manager.now) (sym c.self.view_is) c.requires.belongs)
 
 pub returns-in-Ok-clause-same : goal.returns-in-Ok-clause-same
@@ -72,23 +73,23 @@ returns-in-Ok-clause-same g c =
 pub returns-in-Ok-clause-locks : goal.returns-in-Ok-clause-locks
 returns-in-Ok-clause-locks g c =
     let e = c.in-Ok.ensures in
-    subst (λ (p : PassState). SameLocks p.view (first_of c.put_seated.new.badge.views)) c.self.view_is (locks_put c.args.exclusive.now.pinned.frame (first_of c.self.inside.seat.views) (first_of c.put_seated.new.badge.views) e.puts (subst (λ (p : PassState). (link p.view c.args.exclusive.now.pinned.frame).content ≡ Exclusive) (sym c.self.view_is) c.requires.right) e.right)
+    subst (λ (p : PassState). SameLocks p.view (view_in c.put_seated.new.badge.views)) c.self.view_is (locks_put c.args.exclusive.now.pinned.frame (view_in c.self.inside.seat.views) (view_in c.put_seated.new.badge.views) e.puts (subst (λ (p : PassState). (link p.view c.args.exclusive.now.pinned.frame).content ≡ Exclusive) (sym c.self.view_is) c.requires.right) e.right)
 
 pub returns-in-Ok-clause-answer : goal.returns-in-Ok-clause-answer
 returns-in-Ok-clause-answer g c =
     let e = c.in-Ok.ensures in
-    subst (λ (q : Page). PutAnswer (relations_of c.args.manager.now.table) c.args.exclusive.now.pinned.frame c.args.exclusive.now.pinned.tag q c.args.self.now.view (first_of c.put_seated.new.badge.views) (Ok c.in-Ok.lsn)) c.copy_from.ensures
-    (subst (λ (p : PassState). PutAnswer (relations_of c.args.manager.now.table) c.args.exclusive.now.pinned.frame c.args.exclusive.now.pinned.tag c.copy_from.new.self p.view (first_of c.put_seated.new.badge.views) (Ok c.in-Ok.lsn)) c.self.view_is e.answer)
+    subst (λ (q : Page). PutAnswer (relations_of c.args.manager.now.table) c.args.exclusive.now.pinned.frame c.args.exclusive.now.pinned.tag q c.args.self.now.view (view_in c.put_seated.new.badge.views) (Ok c.in-Ok.lsn)) c.copy_from.ensures
+    (subst (λ (p : PassState). PutAnswer (relations_of c.args.manager.now.table) c.args.exclusive.now.pinned.frame c.args.exclusive.now.pinned.tag c.copy_from.new.self p.view (view_in c.put_seated.new.badge.views) (Ok c.in-Ok.lsn)) c.self.view_is e.answer)
 
 pub returns-in-Ok-clause-complete : goal.returns-in-Ok-clause-complete
 returns-in-Ok-clause-complete g c =
     let e = c.in-Ok.ensures in
-    put_complete (relations_of c.args.manager.now.table) c.args.exclusive.now.pinned.frame c.args.exclusive.now.pinned.tag _ (first_of c.self.inside.seat.views) (first_of c.put_seated.new.badge.views) (Ok c.in-Ok.lsn) e.answer
+    put_complete (relations_of c.args.manager.now.table) c.args.exclusive.now.pinned.frame c.args.exclusive.now.pinned.tag _ (view_in c.self.inside.seat.views) (view_in c.put_seated.new.badge.views) (Ok c.in-Ok.lsn) e.answer
 
 pub returns-in-Err-clause-belongs : goal.returns-in-Err-clause-belongs
 returns-in-Err-clause-belongs g c =
     let e = c.in-Err.ensures in
-    belongs_put {L = g.row.L.Denot} {G = g.row.G.Denot} g.L.BlockLane.contents c.args.manager.now _ _ e.table refl refl (front_put (relations_of c.args.manager.now.table) c.args.exclusive.now.pinned.frame c.args.exclusive.now.pinned.tag _ (first_of c.self.inside.seat.views) (first_of c.put_seated.new.badge.views) (Err c.in-Err.why) e.answer) e.puts.advances.end_seen
+    belongs_put {L = g.row.L.Denot} {G = g.row.G.Denot} g.L.BlockLane.contents c.args.manager.now _ _ e.table refl refl (front_put (base_of c.args.manager.now.table) (relations_of c.args.manager.now.table) c.args.exclusive.now.pinned.frame c.args.exclusive.now.pinned.tag _ (view_in c.self.inside.seat.views) (view_in c.put_seated.new.badge.views) (Err c.in-Err.why) e.answer) e.puts.advances.end_seen
     (subst (Belongs {L = g.row.L.Denot} {G = g.row.G.Denot} g.L.BlockLane.contents c.args.manager.now) (sym c.self.view_is) c.requires.belongs)
 
 pub returns-in-Err-clause-same : goal.returns-in-Err-clause-same
@@ -99,21 +100,21 @@ returns-in-Err-clause-same g c =
 pub returns-in-Err-clause-locks : goal.returns-in-Err-clause-locks
 returns-in-Err-clause-locks g c =
     let e = c.in-Err.ensures in
-    subst (λ (p : PassState). SameLocks p.view (first_of c.put_seated.new.badge.views)) c.self.view_is (locks_put c.args.exclusive.now.pinned.frame (first_of c.self.inside.seat.views) (first_of c.put_seated.new.badge.views) e.puts (subst (λ (p : PassState). (link p.view c.args.exclusive.now.pinned.frame).content ≡ Exclusive) (sym c.self.view_is) c.requires.right) e.right)
+    subst (λ (p : PassState). SameLocks p.view (view_in c.put_seated.new.badge.views)) c.self.view_is (locks_put c.args.exclusive.now.pinned.frame (view_in c.self.inside.seat.views) (view_in c.put_seated.new.badge.views) e.puts (subst (λ (p : PassState). (link p.view c.args.exclusive.now.pinned.frame).content ≡ Exclusive) (sym c.self.view_is) c.requires.right) e.right)
 
 pub returns-in-Err-clause-answer : goal.returns-in-Err-clause-answer
 returns-in-Err-clause-answer g c =
     let e = c.in-Err.ensures in
-    subst (λ (q : Page). PutAnswer (relations_of c.args.manager.now.table) c.args.exclusive.now.pinned.frame c.args.exclusive.now.pinned.tag q c.args.self.now.view (first_of c.put_seated.new.badge.views) (Err c.in-Err.why)) c.copy_from.ensures
-    (subst (λ (p : PassState). PutAnswer (relations_of c.args.manager.now.table) c.args.exclusive.now.pinned.frame c.args.exclusive.now.pinned.tag c.copy_from.new.self p.view (first_of c.put_seated.new.badge.views) (Err c.in-Err.why)) c.self.view_is e.answer)
+    subst (λ (q : Page). PutAnswer (relations_of c.args.manager.now.table) c.args.exclusive.now.pinned.frame c.args.exclusive.now.pinned.tag q c.args.self.now.view (view_in c.put_seated.new.badge.views) (Err c.in-Err.why)) c.copy_from.ensures
+    (subst (λ (p : PassState). PutAnswer (relations_of c.args.manager.now.table) c.args.exclusive.now.pinned.frame c.args.exclusive.now.pinned.tag c.copy_from.new.self p.view (view_in c.put_seated.new.badge.views) (Err c.in-Err.why)) c.self.view_is e.answer)
 
 pub returns-in-Err-clause-complete : goal.returns-in-Err-clause-complete
 returns-in-Err-clause-complete g c =
     let e = c.in-Err.ensures in
-    put_complete (relations_of c.args.manager.now.table) c.args.exclusive.now.pinned.frame c.args.exclusive.now.pinned.tag _ (first_of c.self.inside.seat.views) (first_of c.put_seated.new.badge.views) (Err c.in-Err.why) e.answer
+    put_complete (relations_of c.args.manager.now.table) c.args.exclusive.now.pinned.frame c.args.exclusive.now.pinned.tag _ (view_in c.self.inside.seat.views) (view_in c.put_seated.new.badge.views) (Err c.in-Err.why) e.answer
 
 pub returns-in-Ok-clause-others : goal.returns-in-Ok-clause-others
-returns-in-Ok-clause-others g c = subst (λ (p : PassState). (f : ℕ) → f ≢ c.args.exclusive.now.pinned.frame → link (first_of c.put_seated.new.badge.views) f ≡ link p.view f) c.self.view_is c.in-Ok.ensures.puts.others
+returns-in-Ok-clause-others g c = subst (λ (p : PassState). (f : ℕ) → f ≢ c.args.exclusive.now.pinned.frame → link (view_in c.put_seated.new.badge.views) f ≡ link p.view f) c.self.view_is c.in-Ok.ensures.puts.others
 
 pub returns-in-Err-clause-others : goal.returns-in-Err-clause-others
-returns-in-Err-clause-others g c = subst (λ (p : PassState). (f : ℕ) → f ≢ c.args.exclusive.now.pinned.frame → link (first_of c.put_seated.new.badge.views) f ≡ link p.view f) c.self.view_is c.in-Err.ensures.puts.others
+returns-in-Err-clause-others g c = subst (λ (p : PassState). (f : ℕ) → f ≢ c.args.exclusive.now.pinned.frame → link (view_in c.put_seated.new.badge.views) f ≡ link p.view f) c.self.view_is c.in-Err.ensures.puts.others

@@ -1,8 +1,8 @@
-use Rattle.std.proofs.Common.{◌≡◌, ◌∙◌, ℕ, Ok, true, ap, refl, sym, subst, ◌<◌, arith}
+use Rattle.std.proofs.Common.{◌≡◌, ◌∙◌, ℕ, inl, Ok, true, ap, refl, sym, subst, ◌<◌, arith}
 use Rattle.held_pins.specs.Tokens.{IsNew, IsPinnedFor, Tokens, count_of, tokens_more}
 use Rattle.held_pins.specs.Rests.{Rests, SameLocks}
 use Rattle.backend_pass.specs.Managers.{Belongs}
-use Rattle.backend_pass.specs.Passes.{PassState, first_of}
+use Rattle.backend_pass.specs.Passes.{PassState, view_in}
 use Rattle.backend_pass.proofs.BlockReads.{frame_again, not_both, pinned_more, pinned_read, rests_again, unlocked_read}
 use Rattle.held_pins.proofs.HeldLists.{above_one}
 use Rattle.frame_table.specs.Seats.{relations_of}
@@ -21,11 +21,11 @@ returns-in_default-clause-pinned g c = pinned_read {L = g.row.L.Denot} {G = g.ro
 pub invariant_of-self : goal.invariant_of-self
 invariant_of-self g c =
     let i = c.self.invariant in
-    (i.0, subst (λ (t : Tokens). Rests t (first_of c.self.inside.seat.views)) (sym c.add_token.ensures.tokens) (rests_again c.in-Some.frame c.self.inside.held (first_of c.self.inside.seat.views) i.1), i.2, i.3)
+    (i.0, subst (λ (t : Tokens). Rests t (view_in c.self.inside.seat.views)) (sym c.add_token.ensures.tokens) (rests_again c.in-Some.frame c.self.inside.held (view_in c.self.inside.seat.views) i.1), i.2, i.3)
 
 pub returns-clause-belongs : goal.returns-clause-belongs
 returns-clause-belongs g c =
-    belongs_held {L = g.row.L.Denot} {G = g.row.G.Denot} g.L.BlockLane.contents c.args.manager.now _ _ refl refl refl (rises_none (first_of c.self.inside.seat.views)).end_seen (subst (λ (t : Tokens). AreHeld c.self.inside.held t) (sym c.add_token.ensures.tokens) (held_again c.in-Some.frame c.self.inside.held))
+    belongs_held {L = g.row.L.Denot} {G = g.row.G.Denot} g.L.BlockLane.contents c.args.manager.now _ _ refl refl refl refl (rises_none (view_in c.self.inside.seat.views)).end_seen (subst (λ (t : Tokens). AreHeld c.self.inside.held t) (sym c.add_token.ensures.tokens) (held_again c.in-Some.frame c.self.inside.held))
     (subst (Belongs {L = g.row.L.Denot} {G = g.row.G.Denot} g.L.BlockLane.contents c.args.manager.now) (sym c.self.view_is) c.requires.belongs)
 
 pub returns-clause-again : goal.returns-clause-again
@@ -48,7 +48,7 @@ pub returns-clause-pinned : goal.returns-clause-pinned
 returns-clause-pinned g c = subst (IsPinnedFor c.args.tag c.in-Some.frame) (sym c.add_token.ensures.tokens) (pinned_more c.args.tag c.in-Some.frame c.self.inside.held c.in-Some.ensures.pinned)
 
 pub returns-clause-locks : goal.returns-clause-locks
-returns-clause-locks g c = subst (λ (p : PassState). SameLocks p.view (first_of c.self.inside.seat.views)) c.self.view_is (same_locks_none (first_of c.self.inside.seat.views))
+returns-clause-locks g c = subst (λ (p : PassState). SameLocks p.view (view_in c.self.inside.seat.views)) c.self.view_is (same_locks_none (view_in c.self.inside.seat.views))
 
 pub returns-in_default-clause-complete : goal.returns-in_default-clause-complete
 returns-in_default-clause-complete g c none nothing =
@@ -68,3 +68,6 @@ returns-clause-last g c one = absurd (above_one _ c.add_token.ensures.several on
 
 pub returns-in_default-clause-unsound : goal.returns-in_default-clause-unsound
 returns-in_default-clause-unsound g c failed e = unsound_was {L = g.row.L.Denot} {G = g.row.G.Denot} g.L.BlockLane.contents c.args.manager.now.table c.args.tag failed _ _ c.read_new.new.self c.read_new.result c.read_new.ensures.answer e
+
+pub returns-clause-census : goal.returns-clause-census
+returns-clause-census g c = inl (ap (λ (p : PassState). p.census) c.self.view_is)

@@ -1,14 +1,16 @@
-use Rattle.std.proofs.Common.{◌≡◌, ◌∙◌, ℕ, ap, refl, sym, subst}
+use Rattle.std.proofs.Common.{◌≡◌, ◌∙◌, ℕ, Err, ap, refl, sym, subst}
 use Rattle.crossbeam_utils.specs.Padded.{padded_value}
 use Rattle.block_tag.specs.Names.{packed_tag}
 use Rattle.pin_core.specs.declared.view.View.{View}
+use Rattle.frame_table.specs.Seats.{frames_of}
+use Rattle.buffer_frames.specs.Reads.{KeptOrEmptied}
 use Rattle.held_pins.specs.Tokens.{IsNew, Tokens, tokens_less}
 use Rattle.held_pins.specs.Rests.{Rests, SameLocks}
 use Rattle.backend_pass.specs.declared.errors.ReadError.{ReadError}
 use Rattle.backend_pass.specs.Managers.{Belongs}
-use Rattle.backend_pass.specs.Passes.{IsNumbered, IsShown, PassState, first_of}
-use Rattle.backend_pass.specs.Reading.{met_read_refused, shown_after}
-use Rattle.backend_pass.proofs.BlockReads.{belongs_with, links_refused, met_of_refusal, numbered_kept, refused_reads, rests_pinned, shown_met, shown_refused}
+use Rattle.backend_pass.specs.Passes.{IsNumbered, IsShown, PassState, view_in}
+use Rattle.backend_pass.specs.Reading.{ReadingCensus, met_read_refused, shown_after}
+use Rattle.backend_pass.proofs.BlockReads.{belongs_with, census_of_refusal, links_refused, met_of_refusal, numbered_kept, refused_reads, rests_pinned, shown_met, shown_refused}
 use Rattle.backend_pass.proofs.Releasing.{belongs_held}
 use Rattle.backend_pass.proofs.pass.Pass.read_new.Goals as goal
 
@@ -16,8 +18,8 @@ pub invariant_of-self : goal.invariant_of-self
 invariant_of-self g c =
     let i = c.self.invariant in
     let e = c.in-Ok.ensures in
-    let v = first_of c.self.inside.seat.views in
-    let w = first_of c.read_seated.new.badge.views in (
+    let v = view_in c.self.inside.seat.views in
+    let w = view_in c.read_seated.new.badge.views in (
       e.view,
       subst (λ (t : Tokens). Rests t w) (sym c.add_pin.ensures.tokens) (rests_pinned (packed_tag c.args.tag) c.in-Ok.field-0.pin.frame c.self.inside.held w e.quiet e.latches e.answer.1 e.answer.2),
       subst (λ (id : ℕ). IsNumbered c.self.inside.number id w) (sym e.id) (numbered_kept c.self.inside.number c.self.inside.seat.id v w e.kept i.2),
@@ -28,8 +30,8 @@ pub invariant_of-self-in-Err : goal.invariant_of-self-in-Err
 invariant_of-self-in-Err g c =
     let i = c.self.invariant in
     let e = c.in-Err.ensures in
-    let v = first_of c.self.inside.seat.views in
-    let w = first_of c.read_seated.new.badge.views in
+    let v = view_in c.self.inside.seat.views in
+    let w = view_in c.read_seated.new.badge.views in
     let met : w.met ≡ met_read_refused c.refused-why.result v.met = e.met ∙ met_of_refusal c.in-Err.cause v.met ∙ ap (λ (y : ReadError). met_read_refused y v.met) (sym c.refused-why.ensures) in
     let shown : padded_value c.new-self-inside.result ≡ shown_after c.refused-why.result (padded_value c.self.inside.shown) = c.new-self-inside.ensures ∙ c.after-shown.ensures ∙ ap (shown_after c.refused-why.result) c.deref.ensures in (
       e.view,
@@ -41,14 +43,14 @@ invariant_of-self-in-Err g c =
 pub returns-in-Ok-clause-belongs : goal.returns-in-Ok-clause-belongs
 returns-in-Ok-clause-belongs g c =
     let e = c.in-Ok.ensures in
-    belongs_with {L = g.row.L.Denot} {G = g.row.G.Denot} g.L.BlockLane.contents c.args.manager.now _ _ c.args.tag c.in-Ok.field-0.pin.frame e.table e.room (ap (λ (x : View). x.front) e.kept) e.advances.end_seen c.add_pin.ensures.tokens e.answer.1.new e.answer.0 c.requires.tag c.requires.block
+    belongs_with {L = g.row.L.Denot} {G = g.row.G.Denot} g.L.BlockLane.contents c.args.manager.now _ _ c.args.tag c.in-Ok.field-0.pin.frame e.table e.room (ap (λ (x : View). x.calls) e.kept) (ap (λ (x : View). x.front) e.kept) e.advances.end_seen c.add_pin.ensures.tokens e.answer.1.new e.answer.0 c.requires.tag c.requires.block
     (subst (λ (p : PassState). IsNew c.args.tag p.tokens) (sym c.self.view_is) c.requires.new) e.answer.3
     (subst (Belongs {L = g.row.L.Denot} {G = g.row.G.Denot} g.L.BlockLane.contents c.args.manager.now) (sym c.self.view_is) c.requires.belongs)
 
 pub returns-in-Err-clause-belongs : goal.returns-in-Err-clause-belongs
 returns-in-Err-clause-belongs g c =
     let e = c.in-Err.ensures in
-    belongs_held {L = g.row.L.Denot} {G = g.row.G.Denot} g.L.BlockLane.contents c.args.manager.now _ _ e.table e.room (ap (λ (x : View). x.front) e.kept) e.advances.end_seen (λ f h at. (h, at, refl))
+    belongs_held {L = g.row.L.Denot} {G = g.row.G.Denot} g.L.BlockLane.contents c.args.manager.now _ _ e.table e.room (ap (λ (x : View). x.calls) e.kept) (ap (λ (x : View). x.front) e.kept) e.advances.end_seen (λ f h at. (h, at, refl))
     (subst (Belongs {L = g.row.L.Denot} {G = g.row.G.Denot} g.L.BlockLane.contents c.args.manager.now) (sym c.self.view_is) c.requires.belongs)
 
 pub returns-in-Err-clause-answer : goal.returns-in-Err-clause-answer
@@ -58,14 +60,23 @@ returns-in-Err-clause-answer g c =
 
 pub returns-in-Err-clause-met : goal.returns-in-Err-clause-met
 returns-in-Err-clause-met g c =
-    let v = first_of c.self.inside.seat.views in
+    let v = view_in c.self.inside.seat.views in
     c.in-Err.ensures.met ∙ met_of_refusal c.in-Err.cause v.met ∙ ap (λ (y : ReadError). met_read_refused y v.met) (sym c.refused-why.ensures) ∙ ap (λ (p : PassState). met_read_refused c.refused-why.result p.view.met) c.self.view_is
 
 pub returns-in-Ok-clause-locks : goal.returns-in-Ok-clause-locks
-returns-in-Ok-clause-locks g c = subst (λ (p : PassState). SameLocks p.view (first_of c.read_seated.new.badge.views)) c.self.view_is c.in-Ok.ensures.locks
+returns-in-Ok-clause-locks g c = subst (λ (p : PassState). SameLocks p.view (view_in c.read_seated.new.badge.views)) c.self.view_is c.in-Ok.ensures.locks
 
 pub returns-in-Err-clause-locks : goal.returns-in-Err-clause-locks
-returns-in-Err-clause-locks g c = subst (λ (p : PassState). SameLocks p.view (first_of c.read_seated.new.badge.views)) c.self.view_is c.in-Err.ensures.locks
+returns-in-Err-clause-locks g c = subst (λ (p : PassState). SameLocks p.view (view_in c.read_seated.new.badge.views)) c.self.view_is c.in-Err.ensures.locks
 
 pub returns-in-Ok-clause-back : goal.returns-in-Ok-clause-back
 returns-in-Ok-clause-back g c = ap (λ (f : ℕ). tokens_less f c.add_pin.new.self) c.frame-frame.ensures ∙ c.add_pin.ensures.back ∙ ap (λ (p : PassState). p.tokens) c.self.view_is
+
+pub returns-in-Ok-clause-census : goal.returns-in-Ok-clause-census
+returns-in-Ok-clause-census g c = subst (λ (p : PassState). KeptOrEmptied (frames_of c.args.manager.now.table) p.census c.read_seated.new.census) c.self.view_is c.in-Ok.ensures.census
+
+pub returns-in-Err-clause-census : goal.returns-in-Err-clause-census
+returns-in-Err-clause-census g c =
+    let n = frames_of c.args.manager.now.table in
+    subst (λ (p : PassState). ReadingCensus n p.census c.read_seated.new.census (Err c.refused-why.result)) c.self.view_is
+    (subst (λ (y : ReadError). ReadingCensus n c.self.inside.census c.read_seated.new.census (Err y)) (sym c.refused-why.ensures) (census_of_refusal n c.self.inside.census c.read_seated.new.census c.in-Err.cause c.in-Err.ensures.census))

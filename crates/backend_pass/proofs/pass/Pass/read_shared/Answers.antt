@@ -1,7 +1,7 @@
 use Rattle.std.proofs.Common.{◌≡◌, ◌∙◌, sym, subst}
 use Rattle.pin_core.specs.declared.view.Content.{Content}
 use Rattle.pin_core.specs.declared.view.Content.TheVariants.{Unlocked, Shared}
-use Rattle.backend_pass.specs.PageReads.{ReadsUnder}
+use Rattle.buffer_frames.specs.PageReads.{ReadsUnder}
 use Rattle.backend_pass.proofs.pass.Pass.read_shared.Goals as goal
 
 pub read_locked-requires-clause-locked : goal.read_locked-requires-clause-locked

@@ -10,18 +10,18 @@ use Rattle.held_pins.specs.Rests.{Rests, SameLocks}
 use Rattle.held_pins.proofs.HeldLists.{above_one}
 use Rattle.held_pins.proofs.Keeping.{same_locks_at, same_locks_none}
 use Rattle.backend_pass.specs.Managers.{Belongs}
-use Rattle.backend_pass.specs.Passes.{IsNumbered, PassState, first_of}
+use Rattle.backend_pass.specs.Passes.{IsNumbered, PassState, view_in}
 use Rattle.backend_pass.proofs.Releasing.{AreHeld, Unpins, belongs_held, belongs_touched, held_last, held_several, may_unpin, numbered_self, rests_fewer, rests_unpinned, same_touched, shown_self, unpins_at}
 use Rattle.backend_pass.proofs.Seated.{one_view, same_from, view_of_seat}
 use Rattle.backend_pass.proofs.pass.Pass.release.Goals as goal
 
 pub invariant_of-self : goal.invariant_of-self
 invariant_of-self g c = let i = c.self.invariant in
-    (i.0, subst (λ (t : Tokens). Rests t (first_of c.self.inside.seat.views)) (sym c.take_token.ensures.tokens) (rests_fewer c.args.pinned.frame c.self.inside.held _ (above_one _ c.in_default.ensures.others.0) i.1), i.2, i.3)
+    (i.0, subst (λ (t : Tokens). Rests t (view_in c.self.inside.seat.views)) (sym c.take_token.ensures.tokens) (rests_fewer c.args.pinned.frame c.self.inside.held _ (above_one _ c.in_default.ensures.others.0) i.1), i.2, i.3)
 
 pub returns-in_default-clause-belongs : goal.returns-in_default-clause-belongs
 returns-in_default-clause-belongs g c =
-    belongs_held {L = g.row.L.Denot} {G = g.row.G.Denot} g.L.BlockLane.contents c.args.manager.now _ _ refl refl refl (rises_none (first_of c.self.inside.seat.views)).end_seen (subst (λ (t : Tokens). AreHeld c.self.inside.held t) (sym c.take_token.ensures.tokens) (held_several c.args.pinned.frame c.self.inside.held (above_one _ c.in_default.ensures.others.0)))
+    belongs_held {L = g.row.L.Denot} {G = g.row.G.Denot} g.L.BlockLane.contents c.args.manager.now _ _ refl refl refl refl (rises_none (view_in c.self.inside.seat.views)).end_seen (subst (λ (t : Tokens). AreHeld c.self.inside.held t) (sym c.take_token.ensures.tokens) (held_several c.args.pinned.frame c.self.inside.held (above_one _ c.in_default.ensures.others.0)))
     (subst (Belongs {L = g.row.L.Denot} {G = g.row.G.Denot} g.L.BlockLane.contents c.args.manager.now) (sym c.self.view_is) c.requires.belongs)
 
 pub unpin-requires-clause-pinned : goal.unpin-requires-clause-pinned
@@ -33,23 +33,23 @@ unpin-requires-clause-pinned g c =
     let one = subst (λ (p : PassState). tokens_of (held_at p.tokens f) ≡ 1) c.self.view_is last.1 in
     let unlocked = subst (λ (p : PassState). (link p.view f).content ≡ Unlocked) (sym c.self.view_is) (c.requires.unlocked one) in
     subst (λ (h : ℕ). MayUnpin (link c.into_seat-seat.result.me.0 h)) (sym last.0) (subst (λ (v : View). MayUnpin (link v f)) before
-    (may_unpin (held_at c.self.inside.held f) c.requires.pinned.held (link (first_of c.self.inside.seat.views) f) there unlocked (c.self.invariant.1.links f)))
+    (may_unpin (held_at c.self.inside.held f) c.requires.pinned.held (link (view_in c.self.inside.seat.views) f) there unlocked (c.self.invariant.1.links f)))
 
 pub invariant_of-self-2 : goal.invariant_of-self-2
 invariant_of-self-2 g c =
     let f = c.args.pinned.frame in
     let i = c.self.invariant in
     let before = view_of_seat c.self.inside.seat c.replace.result c.into_seat-seat.result.me.0 c.replace.ensures.value c.into_seat-seat.ensures.2 in
-    let after = ap first_of c.into_badge.ensures.2 in
+    let after = ap view_in c.into_badge.ensures.2 in
     let last = c.in-Some.ensures.last in
-    let u : Unpins f (first_of c.self.inside.seat.views) (first_of c.into_badge.result.views) = unpins_at f c.in-Some.pin.frame _ _ _ _ last.0 before after record { touches = c.unpin.ensures.touches; marks = c.unpin.ensures.marks; unpinned = c.unpin.ensures.unpinned } in
+    let u : Unpins f (view_in c.self.inside.seat.views) (view_in c.into_badge.result.views) = unpins_at f c.in-Some.pin.frame _ _ _ _ last.0 before after record { touches = c.unpin.ensures.touches; marks = c.unpin.ensures.marks; unpinned = c.unpin.ensures.unpinned } in
     let one = subst (λ (p : PassState). tokens_of (held_at p.tokens f) ≡ 1) c.self.view_is last.1 in
     let unlocked = subst (λ (p : PassState). (link p.view f).content ≡ Unlocked) (sym c.self.view_is) (c.requires.unlocked one) in
     let none = subst (λ (t : Tokens). held_at t f ≡ None) c.take_token.ensures.tokens last.2 in
     let same = c.into_badge.ensures.1 ∙ c.unpin.ensures.seat.id ∙ c.into_seat-seat.ensures.1 ∙ ap (λ (b : Badge View). b.id) c.replace.ensures.value in (
       one_view c.into_badge.result c.unpin.new.seat.me.0 c.into_badge.ensures.2,
-      subst (λ (t : Tokens). Rests t (first_of c.into_badge.result.views)) (sym c.take_token.ensures.tokens) (rests_unpinned f c.self.inside.held _ _ u unlocked none i.1),
-      subst (λ (id : ℕ). IsNumbered c.self.inside.number id (first_of c.into_badge.result.views)) (sym same) (numbered_self c.self.inside.number c.self.inside.seat.id _ _ u.touches.self i.2),
+      subst (λ (t : Tokens). Rests t (view_in c.into_badge.result.views)) (sym c.take_token.ensures.tokens) (rests_unpinned f c.self.inside.held _ _ u unlocked none i.1),
+      subst (λ (id : ℕ). IsNumbered c.self.inside.number id (view_in c.into_badge.result.views)) (sym same) (numbered_self c.self.inside.number c.self.inside.seat.id _ _ u.touches.self i.2),
       shown_self _ _ _ u.touches.self i.3,
     )
 
@@ -57,9 +57,9 @@ pub returns-clause-belongs : goal.returns-clause-belongs
 returns-clause-belongs g c =
     let f = c.args.pinned.frame in
     let before = view_of_seat c.self.inside.seat c.replace.result c.into_seat-seat.result.me.0 c.replace.ensures.value c.into_seat-seat.ensures.2 in
-    let after = ap first_of c.into_badge.ensures.2 in
+    let after = ap view_in c.into_badge.ensures.2 in
     let last = c.in-Some.ensures.last in
-    let u : Unpins f (first_of c.self.inside.seat.views) (first_of c.into_badge.result.views) = unpins_at f c.in-Some.pin.frame _ _ _ _ last.0 before after record { touches = c.unpin.ensures.touches; marks = c.unpin.ensures.marks; unpinned = c.unpin.ensures.unpinned } in
+    let u : Unpins f (view_in c.self.inside.seat.views) (view_in c.into_badge.result.views) = unpins_at f c.in-Some.pin.frame _ _ _ _ last.0 before after record { touches = c.unpin.ensures.touches; marks = c.unpin.ensures.marks; unpinned = c.unpin.ensures.unpinned } in
     let none = subst (λ (t : Tokens). held_at t f ≡ None) c.take_token.ensures.tokens last.2 in
     let table = c.into_badge.ensures.0 ∙ c.unpin.ensures.seat.table ∙ c.into_seat-seat.ensures.0 ∙ ap (λ (b : Badge View). b.table_id) c.replace.ensures.value in
     belongs_touched {L = g.row.L.Denot} {G = g.row.G.Denot} g.L.BlockLane.contents c.args.manager.now _ _ f table refl u.touches (subst (λ (t : Tokens). AreHeld c.self.inside.held t) (sym c.take_token.ensures.tokens) (held_last f c.self.inside.held none))
@@ -69,8 +69,8 @@ pub returns-clause-same : goal.returns-clause-same
 returns-clause-same g c =
     let f = c.args.pinned.frame in
     let before = view_of_seat c.self.inside.seat c.replace.result c.into_seat-seat.result.me.0 c.replace.ensures.value c.into_seat-seat.ensures.2 in
-    let after = ap first_of c.into_badge.ensures.2 in
-    let u : Unpins f (first_of c.self.inside.seat.views) (first_of c.into_badge.result.views) = unpins_at f c.in-Some.pin.frame _ _ _ _ c.in-Some.ensures.last.0 before after record { touches = c.unpin.ensures.touches; marks = c.unpin.ensures.marks; unpinned = c.unpin.ensures.unpinned } in
+    let after = ap view_in c.into_badge.ensures.2 in
+    let u : Unpins f (view_in c.self.inside.seat.views) (view_in c.into_badge.result.views) = unpins_at f c.in-Some.pin.frame _ _ _ _ c.in-Some.ensures.last.0 before after record { touches = c.unpin.ensures.touches; marks = c.unpin.ensures.marks; unpinned = c.unpin.ensures.unpinned } in
     let table = c.into_badge.ensures.0 ∙ c.unpin.ensures.seat.table ∙ c.into_seat-seat.ensures.0 ∙ ap (λ (b : Badge View). b.table_id) c.replace.ensures.value in
     let id = c.into_badge.ensures.1 ∙ c.unpin.ensures.seat.id ∙ c.into_seat-seat.ensures.1 ∙ ap (λ (b : Badge View). b.id) c.replace.ensures.value in
     same_from _ _ _ c.self.view_is (same_touched _ _ f table id refl u.touches)
@@ -79,12 +79,12 @@ pub returns-clause-left : goal.returns-clause-left
 returns-clause-left g c more = absurd (more (subst (λ (p : PassState). tokens_of (held_at p.tokens c.args.pinned.frame) ≡ 1) c.self.view_is c.in-Some.ensures.last.1))
 
 pub returns-in_default-clause-locks : goal.returns-in_default-clause-locks
-returns-in_default-clause-locks g c = subst (λ (p : PassState). SameLocks p.view (first_of c.self.inside.seat.views)) c.self.view_is (same_locks_none (first_of c.self.inside.seat.views))
+returns-in_default-clause-locks g c = subst (λ (p : PassState). SameLocks p.view (view_in c.self.inside.seat.views)) c.self.view_is (same_locks_none (view_in c.self.inside.seat.views))
 
 pub returns-clause-locks : goal.returns-clause-locks
 returns-clause-locks g c =
     let f = c.args.pinned.frame in
     let before = view_of_seat c.self.inside.seat c.replace.result c.into_seat-seat.result.me.0 c.replace.ensures.value c.into_seat-seat.ensures.2 in
-    let after = ap first_of c.into_badge.ensures.2 in
-    let u : Unpins f (first_of c.self.inside.seat.views) (first_of c.into_badge.result.views) = unpins_at f c.in-Some.pin.frame _ _ _ _ c.in-Some.ensures.last.0 before after record { touches = c.unpin.ensures.touches; marks = c.unpin.ensures.marks; unpinned = c.unpin.ensures.unpinned } in
-    subst (λ (p : PassState). SameLocks p.view (first_of c.into_badge.result.views)) c.self.view_is (same_locks_at f (first_of c.self.inside.seat.views) (first_of c.into_badge.result.views) u.touches.others u.unpinned.content)
+    let after = ap view_in c.into_badge.ensures.2 in
+    let u : Unpins f (view_in c.self.inside.seat.views) (view_in c.into_badge.result.views) = unpins_at f c.in-Some.pin.frame _ _ _ _ c.in-Some.ensures.last.0 before after record { touches = c.unpin.ensures.touches; marks = c.unpin.ensures.marks; unpinned = c.unpin.ensures.unpinned } in
+    subst (λ (p : PassState). SameLocks p.view (view_in c.into_badge.result.views)) c.self.view_is (same_locks_at f (view_in c.self.inside.seat.views) (view_in c.into_badge.result.views) u.touches.others u.unpinned.content)

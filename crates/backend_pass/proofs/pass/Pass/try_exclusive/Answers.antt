@@ -7,7 +7,7 @@ use Rattle.frame_table.specs.Content.{exclusive_link}
 use Rattle.held_pins.specs.Rests.{SameLocks}
 use Rattle.held_pins.specs.Tokens.{held_at}
 use Rattle.backend_pass.specs.Managers.{Belongs}
-use Rattle.backend_pass.specs.Passes.{IsNumbered, PassState, first_of}
+use Rattle.backend_pass.specs.Passes.{IsNumbered, PassState, view_in}
 use Rattle.backend_pass.proofs.Releasing.{belongs_touched, numbered_self, same_touched, shown_self}
 use Rattle.backend_pass.proofs.Relocking.{Relocks, held_same, kept_refused, kept_taken, locks_kept, relocks_tried, rests_relocked}
 use Rattle.backend_pass.proofs.Seated.{moved, one_view, same_from, view_of_seat}
@@ -19,12 +19,12 @@ invariant_of-self g c =
     let f = c.args.pinned.frame in
     let there = subst (λ (p : PassState). held_at p.tokens f ≡ Some c.requires.pinned.held) (sym c.self.view_is) c.requires.pinned.there in
     let before = view_of_seat c.self.inside.seat c.replace.result c.into_seat-seat.result.me.0 c.replace.ensures.value c.into_seat-seat.ensures.2 in
-    let k : Relocks f (first_of c.self.inside.seat.views) (first_of c.into_badge.result.views) = moved (Relocks f) _ _ _ _ before (ap first_of c.into_badge.ensures.2) (relocks_tried exclusive_link f _ _ c.try_exclusive-answer.result (λ l. refl) c.try_exclusive-answer.ensures.touches c.try_exclusive-answer.ensures.marks c.try_exclusive-answer.ensures.exclusive c.try_exclusive-answer.ensures.left) in
+    let k : Relocks f (view_in c.self.inside.seat.views) (view_in c.into_badge.result.views) = moved (Relocks f) _ _ _ _ before (ap view_in c.into_badge.ensures.2) (relocks_tried exclusive_link f _ _ c.try_exclusive-answer.result (λ l. refl) c.try_exclusive-answer.ensures.touches c.try_exclusive-answer.ensures.marks c.try_exclusive-answer.ensures.exclusive c.try_exclusive-answer.ensures.left) in
     let i = c.self.invariant in
     let same = c.into_badge.ensures.1 ∙ c.try_exclusive-answer.ensures.seat.id ∙ c.into_seat-seat.ensures.1 ∙ ap (λ (b : Badge View). b.id) c.replace.ensures.value in (
       one_view c.into_badge.result c.try_exclusive-answer.new.seat.me.0 c.into_badge.ensures.2,
       rests_relocked f c.requires.pinned.held c.self.inside.held _ _ there k i.1,
-      subst (λ (id : ℕ). IsNumbered c.self.inside.number id (first_of c.into_badge.result.views)) (sym same) (numbered_self c.self.inside.number c.self.inside.seat.id _ _ k.touches.self i.2),
+      subst (λ (id : ℕ). IsNumbered c.self.inside.number id (view_in c.into_badge.result.views)) (sym same) (numbered_self c.self.inside.number c.self.inside.seat.id _ _ k.touches.self i.2),
       shown_self _ _ _ k.touches.self i.3,
     )
 
@@ -32,7 +32,7 @@ pub returns-clause-belongs : goal.returns-clause-belongs
 returns-clause-belongs g c =
     let f = c.args.pinned.frame in
     let before = view_of_seat c.self.inside.seat c.replace.result c.into_seat-seat.result.me.0 c.replace.ensures.value c.into_seat-seat.ensures.2 in
-    let k : Relocks f (first_of c.self.inside.seat.views) (first_of c.into_badge.result.views) = moved (Relocks f) _ _ _ _ before (ap first_of c.into_badge.ensures.2) (relocks_tried exclusive_link f _ _ c.try_exclusive-answer.result (λ l. refl) c.try_exclusive-answer.ensures.touches c.try_exclusive-answer.ensures.marks c.try_exclusive-answer.ensures.exclusive c.try_exclusive-answer.ensures.left) in
+    let k : Relocks f (view_in c.self.inside.seat.views) (view_in c.into_badge.result.views) = moved (Relocks f) _ _ _ _ before (ap view_in c.into_badge.ensures.2) (relocks_tried exclusive_link f _ _ c.try_exclusive-answer.result (λ l. refl) c.try_exclusive-answer.ensures.touches c.try_exclusive-answer.ensures.marks c.try_exclusive-answer.ensures.exclusive c.try_exclusive-answer.ensures.left) in
     let table = c.into_badge.ensures.0 ∙ c.try_exclusive-answer.ensures.seat.table ∙ c.into_seat-seat.ensures.0 ∙ ap (λ (b : Badge View). b.table_id) c.replace.ensures.value in
     belongs_touched {L = g.row.L.Denot} {G = g.row.G.Denot} g.L.BlockLane.contents c.args.manager.now _ _ f table refl k.touches (held_same c.self.inside.held)
     (subst (Belongs {L = g.row.L.Denot} {G = g.row.G.Denot} g.L.BlockLane.contents c.args.manager.now) (sym c.self.view_is) c.requires.belongs)
@@ -41,7 +41,7 @@ pub returns-clause-same : goal.returns-clause-same
 returns-clause-same g c =
     let f = c.args.pinned.frame in
     let before = view_of_seat c.self.inside.seat c.replace.result c.into_seat-seat.result.me.0 c.replace.ensures.value c.into_seat-seat.ensures.2 in
-    let k : Relocks f (first_of c.self.inside.seat.views) (first_of c.into_badge.result.views) = moved (Relocks f) _ _ _ _ before (ap first_of c.into_badge.ensures.2) (relocks_tried exclusive_link f _ _ c.try_exclusive-answer.result (λ l. refl) c.try_exclusive-answer.ensures.touches c.try_exclusive-answer.ensures.marks c.try_exclusive-answer.ensures.exclusive c.try_exclusive-answer.ensures.left) in
+    let k : Relocks f (view_in c.self.inside.seat.views) (view_in c.into_badge.result.views) = moved (Relocks f) _ _ _ _ before (ap view_in c.into_badge.ensures.2) (relocks_tried exclusive_link f _ _ c.try_exclusive-answer.result (λ l. refl) c.try_exclusive-answer.ensures.touches c.try_exclusive-answer.ensures.marks c.try_exclusive-answer.ensures.exclusive c.try_exclusive-answer.ensures.left) in
     let table = c.into_badge.ensures.0 ∙ c.try_exclusive-answer.ensures.seat.table ∙ c.into_seat-seat.ensures.0 ∙ ap (λ (b : Badge View). b.table_id) c.replace.ensures.value in
     let id = c.into_badge.ensures.1 ∙ c.try_exclusive-answer.ensures.seat.id ∙ c.into_seat-seat.ensures.1 ∙ ap (λ (b : Badge View). b.id) c.replace.ensures.value in
     same_from _ _ _ c.self.view_is (same_touched _ _ f table id refl k.touches)
@@ -50,10 +50,10 @@ pub returns-clause-kept : goal.returns-clause-kept
 returns-clause-kept g c =
     let f = c.args.pinned.frame in
     let before = view_of_seat c.self.inside.seat c.replace.result c.into_seat-seat.result.me.0 c.replace.ensures.value c.into_seat-seat.ensures.2 in
-    let others = moved (λ v w. (g : ℕ) → g ≢ f → link w g ≡ link v g) (first_of c.self.inside.seat.views) (first_of c.into_badge.result.views) _ _ before (ap first_of c.into_badge.ensures.2) c.try_exclusive-answer.ensures.touches.others in
+    let others = moved (λ v w. (g : ℕ) → g ≢ f → link w g ≡ link v g) (view_in c.self.inside.seat.views) (view_in c.into_badge.result.views) _ _ before (ap view_in c.into_badge.ensures.2) c.try_exclusive-answer.ensures.touches.others in
     elim c.match-answer.branch [
-      | in-Ok w ↦ kept_taken (SameLocks c.args.self.now.view (first_of c.into_badge.result.views)) c.match-answer.result _ w.result-is
+      | in-Ok w ↦ kept_taken (SameLocks c.args.self.now.view (view_in c.into_badge.result.views)) c.match-answer.result _ w.result-is
       | in-Err w ↦
-          let here = moved (λ v w. (link w f).content ≡ (link v f).content) (first_of c.self.inside.seat.views) (first_of c.into_badge.result.views) _ _ before (ap first_of c.into_badge.ensures.2) (ap (λ (l : Link). l.content) w.in-Err.ensures.left) in
-          kept_refused (SameLocks c.args.self.now.view (first_of c.into_badge.result.views)) c.match-answer.result _ w.result-is (subst (λ (p : PassState). SameLocks p.view (first_of c.into_badge.result.views)) c.self.view_is (locks_kept f (first_of c.self.inside.seat.views) (first_of c.into_badge.result.views) others here))
+          let here = moved (λ v w. (link w f).content ≡ (link v f).content) (view_in c.self.inside.seat.views) (view_in c.into_badge.result.views) _ _ before (ap view_in c.into_badge.ensures.2) (ap (λ (l : Link). l.content) w.in-Err.ensures.left) in
+          kept_refused (SameLocks c.args.self.now.view (view_in c.into_badge.result.views)) c.match-answer.result _ w.result-is (subst (λ (p : PassState). SameLocks p.view (view_in c.into_badge.result.views)) c.self.view_is (locks_kept f (view_in c.self.inside.seat.views) (view_in c.into_badge.result.views) others here))
     ]

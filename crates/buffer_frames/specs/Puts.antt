@@ -22,8 +22,6 @@ use Rattle.wal_flush.specs.Inserts.{InsertRefused, Inserts}
 use Rattle.frame_table.specs.Seats.{OnlyRises}
 use Rattle.held_pins.specs.Rests.{kept_by_calls}
 use Rattle.buffer_frames.specs.Working.{met_log}
-use Rattle.backend_pass.specs.declared.met.Shown.{Shown}
-use Rattle.backend_pass.specs.Passes.{shown_log}
 
 -- What a put keeps of a view: what calls keep, but its mark, what it read and put, and its front
 abbrev pub kept_by_puts : View → View
@@ -101,9 +99,3 @@ IsDoneOrFull w (Ok lsn) = Unit {0}
 IsDoneOrFull w (Err (LogFull end)) = (last_position < end + record_size) × (end ≤ w.end_seen)
 IsDoneOrFull w (Err (LogDown at)) = ⊥
 IsDoneOrFull w (Err LogFault) = ⊥
-
--- what is shown after a refusal
-abbrev pub shown_unput : InsertError → Shown → Shown
-shown_unput (LogFull end) s = s
-shown_unput (LogDown at) s = s
-shown_unput LogFault s = shown_log s

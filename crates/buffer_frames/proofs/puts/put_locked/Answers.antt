@@ -2,8 +2,8 @@ use Rattle.std.proofs.Common.{◌∙◌, ap}
 use Rattle.pin_core.specs.declared.view.Link.{Link}
 use Rattle.pin_core.specs.declared.view.View.{View}
 use Rattle.held_pins.proofs.Keeping.{same_on, stands_on}
-use Rattle.backend_pass.proofs.PagePuts.{Marks, calls_put, calls_not_put, can_insert, device_inserted, device_put, device_refused, marked_put, marked_refused, met_all, met_not_put, put_refused, puts_all, puts_done, puts_none, rests_put, rests_refused, right_put, right_refused}
-use Rattle.backend_pass.proofs.putting.put_locked.Goals as goal
+use Rattle.buffer_frames.proofs.PagePuts.{Marks, calls_put, calls_not_put, can_insert, device_inserted, device_put, device_refused, marked_put, marked_refused, met_all, met_not_put, put_refused, puts_all, puts_done, puts_none, rests_put, rests_refused, right_put, right_refused}
+use Rattle.buffer_frames.proofs.puts.put_locked.Goals as goal
 
 pub insert-requires-clause-seat : goal.insert-requires-clause-seat
 insert-requires-clause-seat g c = let d = c.mark_dirty.ensures in record {

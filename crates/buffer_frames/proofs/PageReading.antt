@@ -1,6 +1,5 @@
--- A pass reads a page.
+-- A page is read.
 use Rattle.std.proofs.Common.{◌≡◌, ◌≢◌, ◌≤◌, ◌+◌, ◌++◌, ℕ, true, max, [], ◌∷◌, Option, Some, None, append-nil, refl, sym, ap, ◌∙◌, subst, arith}
-use Rattle.std.specs.Prelude.{option_map}
 use Rattle.block_tag.specs.declared.tag.Tag.{Tag}
 use Rattle.block_tag.specs.Names.{packed_tag}
 use Rattle.page_layout.specs.Soundness.{is_sound_page}
@@ -25,16 +24,11 @@ use Rattle.frame_table.specs.Kinds.{pages}
 use Rattle.frame_table.specs.Seats.{OnlyRises, SameMarks, Touches, view_marks}
 use Rattle.frame_table.specs.WordSteps.{DidWord, IsCopied, read_end, read_of, view_of}
 use Rattle.content_locks.specs.Locks.{CanCopy, Copies, LocksContent, copied_link}
-use Rattle.held_pins.specs.Tokens.{HeldFrame, IsPinnedFor, Tokens, held_at}
-use Rattle.held_pins.specs.Rests.{IsCalm, LinkRests, Rests}
+use Rattle.held_pins.specs.Tokens.{HeldFrame}
+use Rattle.held_pins.specs.Rests.{IsCalm, LinkRests}
 use Rattle.frame_table.proofs.Rising.{rises_by, rises_on, rises_touched}
-use Rattle.held_pins.proofs.Keeping.{beside, beside_kept, devices_same, latches_same, link_same, rests_with}
-use Rattle.backend_pass.specs.declared.manager.Manager.{Manager}
-use Rattle.backend_pass.specs.declared.met.Shown.{Shown}
-use Rattle.backend_pass.specs.Managers.{Belongs}
-use Rattle.backend_pass.specs.PageReads.{OnlyReads, ReadsPage, ReadsUnder, SharesToRead, kept_by_reads}
-use Rattle.backend_pass.specs.Passes.{IsNumbered, IsShown, PassState, SamePass, shown_count}
-use Rattle.backend_pass.proofs.Relocking.{beside_lock, link_relocked}
+use Rattle.held_pins.proofs.Keeping.{link_same}
+use Rattle.buffer_frames.specs.PageReads.{OnlyReads, ReadsPage, ReadsUnder, SharesToRead, kept_by_reads}
 
 -- a page that was copied may be read
 pub is_copied : (tag : ℕ) (page : Page) (l m : Link) → m ≡ copied_link page l → l.tag ≡ Some tag → CanCopy l → IsCopied m
@@ -197,56 +191,3 @@ can_unshare_read page l m n shared copied c = let e : n ≡ copied_link page (sh
   where
     quiet : Quiet ≡ Output → ⊥
     quiet e = cc
-
--- the tag that a pinned frame has, where it rests
-pub tag_pinned : (t : Tokens) (v : View) (tag : Tag) (f : ℕ) → IsPinnedFor tag f t → LinkRests (held_at t f) (link v f) → (link v f).tag ≡ Some (packed_tag tag)
-tag_pinned t v tag f pinned r = r.tag ∙ ap (option_map HeldFrame.tag) pinned.there ∙ ap Some pinned.same
-
--- what rests after a read
-pub rests_read : (f : ℕ) (h : HeldFrame) (t : Tokens) (v w : View) → held_at t f ≡ Some h → OnlyReads v w → ((g : ℕ) → g ≢ f → link w g ≡ link v g) → beside_lock (link w f) ≡ beside_lock (link v f) → Rests t v → Rests t w
-rests_read f h t v w there k others here r = record {
-  quiet = devices_same v w (ap (λ (x : View). x.emptied) k.kept) (ap (λ (x : View). x.lanes) k.kept) (ap (λ (x : View). x.log) k.kept) r.quiet;
-  links = rests_with f t w (beside_kept f t v w others (beside f t v r.links))
-      (subst (λ (o : Option HeldFrame). LinkRests o (link w f)) (sym there) (link_relocked h (link v f) (link w f) here (subst (λ (o : Option HeldFrame). LinkRests o (link v f)) there (r.links f))));
-  latches = latches_same v w k.partitions r.latches;
-}
-
-pub numbered_read : (number id : ℕ) (v w : View) → OnlyReads v w → IsNumbered number id v → IsNumbered number id w
-numbered_read number id v w k n = record { number_is = ap (λ (x : View). x.number) k.kept ∙ n.number_is; first = n.first }
-
-pub shown_read : (v w : View) (s d z : Shown) (place : ℕ) → OnlyReads v w → w.front ≡ place → d ≡ s → z ≡ record { front = place; met = d.met } → IsShown v s → IsShown w z
-shown_read v w s d z place k front same e n = subst (IsShown w) (sym e) record {
-  front = sym front;
-  reads = ap (λ (x : Shown). x.met.reads) same ∙ n.reads ∙ ap (λ (x : View). shown_count x.met.reads) (sym k.kept);
-  writes = ap (λ (x : Shown). x.met.writes) same ∙ n.writes ∙ ap (λ (x : View). shown_count x.met.writes) (sym k.kept);
-  logs = ap (λ (x : Shown). x.met.logs) same ∙ n.logs ∙ ap (λ (x : View). shown_count x.met.logs) (sym k.kept);
-}
-
-pub same_read : (p q : PassState) → q.table ≡ p.table → q.id ≡ p.id → q.census ≡ p.census → OnlyReads p.view q.view → SamePass p q
-same_read p q table id census k = let e = k.kept in record {
-  table = table;
-  id = id;
-  frames = ap (λ c. c.frames) census;
-  number = ap (λ (x : View). x.number) e;
-  next = ap (λ (x : View). x.next) e;
-  joined = ap (λ (x : View). x.joined) e;
-  kept = ap (λ (x : View). x.kept) e;
-  upto = ap (λ (x : View). x.upto) e;
-  advances = k.rises;
-}
-
-module _ {L G : Type 0} (contents : L → Option Pages) (m : Manager L G) where
-  pub belongs_read : (p q : PassState) → q.table ≡ p.table → q.census ≡ p.census → q.tokens ≡ p.tokens → p.view.front ≤ q.view.front → p.view.end_seen ≤ q.view.end_seen → Belongs contents m p → Belongs contents m q
-  belongs_read p q table census tokens later end b = record {
-    table = table ∙ b.table;
-    frames = ap (λ c. c.frames) census ∙ b.frames;
-    inside = λ f h e. b.inside f h (back f h e);
-    blocks = λ f h e. b.blocks f h (back f h e);
-    alone = λ f g h k e d same. b.alone f g h k (back f h e) (back g k d) same;
-    sound = λ f h e. b.sound f h (back f h e);
-    based = let first = b.based in omega arith;
-    seen = let base = b.seen in omega arith;
-  }
-    where
-      back : (f : ℕ) (h : HeldFrame) → held_at q.tokens f ≡ Some h → held_at p.tokens f ≡ Some h
-      back f h e = ap (λ (t : Tokens). held_at t f) (sym tokens) ∙ e

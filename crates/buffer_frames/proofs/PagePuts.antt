@@ -1,45 +1,36 @@
--- A pass puts a page.
-use Rattle.std.proofs.Common.{◌≡◌, ◌≢◌, ◌<◌, ◌≤◌, ℕ, List, [], ◌∷◌, ◌++◌, append-nil, get_or, Bool, Option, Some, None, Result, Ok, Err, refl, sym, ap, ◌∙◌, subst, true, false, arith}
+-- A page is put.
+use Rattle.std.proofs.Common.{◌≡◌, ◌≢◌, ℕ, List, [], ◌∷◌, ◌++◌, append-nil, get_or, Bool, Option, Some, None, Err, refl, sym, ap, ◌∙◌, subst, true, false, arith}
 use Rattle.std.specs.Prelude.{option_map, if◌then◌else◌}
 use Rattle.block_tag.specs.declared.catalogue.RelEntry.{RelEntry}
 use Rattle.block_tag.specs.declared.tag.Tag.{Tag}
 use Rattle.block_tag.specs.Names.{names_block, packed_tag}
 use Rattle.page_layout.specs.Fields.{with_lsn}
 use Rattle.page_layout.specs.Soundness.{is_new_page, is_sound_page}
-use Rattle.segment_store.specs.Contents.{Pages}
 use Rattle.pin_core.specs.declared.view.Call.TheVariants.{Write}
 use Rattle.pin_core.specs.declared.view.Content.TheVariants.{Exclusive}
 use Rattle.pin_core.specs.declared.view.DeviceCall.TheVariants.{LogAppend}
 use Rattle.pin_core.specs.declared.view.Link.{Link}
-use Rattle.pin_core.specs.declared.view.Met.{Met}
 use Rattle.pin_core.specs.declared.view.View.{View}
 use Rattle.pin_core.specs.State.{Page, idle, link}
 use Rattle.page_core.specs.Kinds as kinds
 use Rattle.page_core.specs.Kinds.{copied_after}
-use Rattle.table_rule.specs.Blocks.{has_block, is_block}
+use Rattle.table_rule.specs.Blocks.{has_block}
 use Rattle.frame_table.specs.Content.{dirtied_link}
 use Rattle.frame_table.specs.Entering.{entered_link}
 use Rattle.frame_table.specs.FrameSteps.{Tried}
 use Rattle.frame_table.specs.Kinds.{pages}
 use Rattle.frame_table.specs.PageWork.{applied_link, by_input, overwriting, page_out_link, read_home, returned_link}
-use Rattle.frame_table.specs.Opened.{WasSoundAtOpening}
-use Rattle.frame_table.specs.Seats.{Looked, MarksDirty, OnlyRises, SameMarks, Touches, ViewMarks, frames_of, relations_of}
+use Rattle.frame_table.specs.Seats.{Looked, MarksDirty, OnlyRises, SameMarks, Touches, ViewMarks}
 use Rattle.wal_flush.specs.declared.inserts.InsertError.{InsertError}
 use Rattle.wal_flush.specs.declared.inserts.InsertError.TheVariants.{LogFull, LogDown, LogFault}
 use Rattle.wal_flush.specs.Inserts.{CanInsert, InsertRefused, Inserts, InsertSeesEnd, inserted_view, refused_view}
 use Rattle.wal_flush.specs.Latched.{as_counted}
-use Rattle.held_pins.specs.Rests.{HasNoDevice, LinkRests, LinksRest, SameLocks}
+use Rattle.held_pins.specs.Rests.{HasNoDevice, LinkRests, LinksRest}
 use Rattle.held_pins.specs.Tokens.{HeldFrame, IsPinnedFor, Tokens, held_at}
 use Rattle.frame_table.proofs.Rising.{rises_on, rises_touched}
-use Rattle.held_pins.proofs.Keeping.{beside, beside_kept, devices_same, devices_touched, link_looked, links_same, rests_with, same_locks_at}
+use Rattle.held_pins.proofs.Keeping.{beside, beside_kept, devices_same, devices_touched, link_looked, links_same, rests_with}
 use Rattle.buffer_frames.specs.Working.{Made}
-use Rattle.backend_pass.specs.declared.manager.Manager.{Manager}
-use Rattle.backend_pass.specs.declared.met.Shown.{Shown}
-use Rattle.backend_pass.specs.Managers.{Belongs}
-use Rattle.backend_pass.specs.Passes.{IsNumbered, IsShown, PassState, SamePass, shown_count}
-use Rattle.backend_pass.specs.Puts.{AppliesImage, DidPut, IsDoneOrFull, PutAnswer, PutRefused, PutsAt, PutsPage, RefusalShows, kept_by_puts, met_put, put_calls, shown_unput}
-use Rattle.backend_pass.proofs.BlockReads.{shown_met}
-use Rattle.backend_pass.proofs.Flushed.{shown_logged}
+use Rattle.buffer_frames.specs.Puts.{AppliesImage, DidPut, PutRefused, PutsAt, PutsPage, RefusalShows, kept_by_puts, met_put, put_calls}
 
 -- what steps keep of a view
 pub puts_on : (f : ℕ) (v u w : View) → PutsAt f v u → PutsAt f u w → PutsAt f v w
@@ -243,60 +234,3 @@ calls_not_put f v u w why t e = refusal_calls why u w e ∙ ap (λ (y : View). y
 
 pub met_not_put : (f : ℕ) (v u w : View) (why : InsertError) → Touches f v u → w ≡ as_counted (refused_view why u) w → w.met ≡ met_put (Err why) v.met
 met_not_put f v u w why t e = refusal_met why u w e ∙ ap (λ (y : View). met_put (Err why) y.met) t.self
-
--- the content locks
-pub locks_put : (f : ℕ) (v w : View) → PutsAt f v w → (link v f).content ≡ Exclusive → (link w f).content ≡ Exclusive → SameLocks v w
-locks_put f v w p before after = same_locks_at f v w p.others (after ∙ sym before)
-
--- where the log wasn't seen down
-pub put_complete : (relations : List RelEntry) (f : ℕ) (tag : Tag) (page : Page) (v w : View) (r : Result ℕ InsertError) → PutAnswer relations f tag page v w r → w.saw_down ≡ false → IsDoneOrFull w r
-put_complete relations f tag page v w (Ok lsn) a up = tt
-put_complete relations f tag page v w (Err (LogFull end)) a up = a.shows
-put_complete relations f tag page v w (Err (LogDown at)) a up = let e = a.shows.0 in absurd (cc)
-put_complete relations f tag page v w (Err LogFault) a up = let e = a.shows in absurd (cc)
-
--- the pass
-pub numbered_put : (f number id : ℕ) (v w : View) → PutsAt f v w → IsNumbered number id v → IsNumbered number id w
-numbered_put f number id v w p n = record { number_is = ap (λ (x : View). x.number) p.kept ∙ n.number_is; first = n.first }
-
-pub shown_put : (v w : View) (s : Shown) (lsn : ℕ) → w.front ≡ lsn → w.met ≡ v.met → IsShown v s → IsShown w (record s { front = lsn })
-shown_put v w s lsn front met n = record {
-  front = sym front;
-  reads = n.reads ∙ ap (λ (m : Met). shown_count m.reads) (sym met);
-  writes = n.writes ∙ ap (λ (m : Met). shown_count m.writes) (sym met);
-  logs = n.logs ∙ ap (λ (m : Met). shown_count m.logs) (sym met);
-}
-
-pub shown_not_put : (v w : View) (s : Shown) (why : InsertError) → w.front ≡ v.front → w.met ≡ met_put (Err why) v.met → IsShown v s → IsShown w (shown_unput why s)
-shown_not_put v w s (LogFull end) front met n = shown_met v w s front met n
-shown_not_put v w s (LogDown at) front met n = shown_met v w s front met n
-shown_not_put v w s LogFault front met n = shown_logged v w s front met n
-
-pub same_put : (f : ℕ) (p q : PassState) → q.table ≡ p.table → q.id ≡ p.id → q.census.frames ≡ p.census.frames → PutsAt f p.view q.view → SamePass p q
-same_put f p q table id census k = let e = k.kept in record {
-  table = table;
-  id = id;
-  frames = census;
-  number = ap (λ (x : View). x.number) e;
-  next = ap (λ (x : View). x.next) e;
-  joined = ap (λ (x : View). x.joined) e;
-  kept = ap (λ (x : View). x.kept) e;
-  upto = ap (λ (x : View). x.upto) e;
-  advances = k.advances;
-}
-
-pub front_put : (relations : List RelEntry) (f : ℕ) (tag : Tag) (page : Page) (v w : View) (r : Result ℕ InsertError) → PutAnswer relations f tag page v w r → v.front ≤ w.front
-front_put relations f tag page v w (Ok lsn) a = let e = a.front in let later = a.later in omega arith
-front_put relations f tag page v w (Err why) a = let e = a.front in omega arith
-
-pub belongs_put : {L G : Type 0} (contents : L → Option Pages) (m : Manager L G) (p q : PassState) → q.table ≡ p.table → q.census.frames ≡ p.census.frames → q.tokens ≡ p.tokens → p.view.front ≤ q.view.front → p.view.end_seen ≤ q.view.end_seen → Belongs contents m p → Belongs contents m q
-belongs_put contents m p q table census tokens front end b = record {
-  table = table ∙ b.table;
-  frames = census ∙ b.frames;
-  inside = subst (λ (t : Tokens). (f : ℕ) (h : HeldFrame) → held_at t f ≡ Some h → f < frames_of m.table) (sym tokens) b.inside;
-  blocks = subst (λ (t : Tokens). (f : ℕ) (h : HeldFrame) → held_at t f ≡ Some h → is_block (relations_of m.table) h.tag ≡ true) (sym tokens) b.blocks;
-  alone = subst (λ (t : Tokens). (f g : ℕ) (h k : HeldFrame) → held_at t f ≡ Some h → held_at t g ≡ Some k → h.tag ≡ k.tag → f ≡ g) (sym tokens) b.alone;
-  sound = subst (λ (t : Tokens). (f : ℕ) (h : HeldFrame) → held_at t f ≡ Some h → (tag : Tag) → packed_tag tag ≡ h.tag → names_block tag ≡ true → WasSoundAtOpening contents m.table tag) (sym tokens) b.sound;
-  based = let low = b.based in omega arith;
-  seen = let base = b.seen in omega arith;
-}

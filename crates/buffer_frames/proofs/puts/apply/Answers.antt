@@ -4,8 +4,8 @@ use Rattle.pin_core.specs.declared.view.Link.{Link}
 use Rattle.pin_core.specs.State.{Page, link}
 use Rattle.frame_table.specs.PageWork.{ReturnsBy, applied_link}
 use Rattle.frame_table.proofs.Told.{touches_on}
-use Rattle.backend_pass.proofs.PagePuts.{overwrites_logged, returned_applied}
-use Rattle.backend_pass.proofs.putting.apply.Goals as goal
+use Rattle.buffer_frames.proofs.PagePuts.{overwrites_logged, returned_applied}
+use Rattle.buffer_frames.proofs.puts.apply.Goals as goal
 
 pub returns-clause-seat : goal.returns-clause-seat
 returns-clause-seat g c = let o = c.page_out-out.ensures in let b = c.page_back.ensures in record {

@@ -1,0 +1,88 @@
+//! A page is put into a frame.
+ghost use Rattle.std.specs.Prelude.{◌≡◌, ◌<◌, None, Some, false, true};
+ghost use Rattle.block_tag.specs.Names.{names_block};
+ghost use Rattle.page_layout.specs.Soundness.{is_new_page, is_sound_page};
+ghost use Rattle.pin_core.specs.declared.view.Content.TheVariants as content;
+ghost use Rattle.pin_core.specs.State.{link};
+ghost use Rattle.table_rule.specs.Blocks.{has_block};
+ghost use Rattle.frame_table.specs.PageWork.{applied_link};
+ghost use Rattle.frame_table.specs.Seats.{SameMarks, SameSeat, Touches, frames_of, relations_of};
+ghost use Rattle.held_pins.specs.Rests.{LinksRest, Stands};
+ghost use Rattle.held_pins.specs.Tokens.{IsPinnedFor};
+ghost use Rattle.buffer_frames.specs.Puts.{AppliesImage, PutAnswer, PutsAt, met_put, put_calls};
+ghost use Rattle.buffer_frames.specs.Working.{Made};
+
+use atomic_table::Seat;
+use block_tag::Tag;
+use content_locks::{page_back, page_out};
+use frame_table::{FrameTable, Value};
+use held_pins::HeldPins;
+use log_device::LogDevice;
+use page_layout::{Lsn, Page};
+use pin_core::View;
+use segment_store::BlockLane;
+use std::sync::Wait;
+use wal_flush::{InsertError, insert};
+
+/// The image of the backend's entry becomes the frame's page.
+fn apply<L: BlockLane, G: LogDevice>(
+    table: &FrameTable<L, G>,
+    seat: &mut Seat<Value<L, G>, View>,
+    frame: u32,
+    page: &Page,
+)
+    requires stands { Stands table.now seat.old }
+    requires inside { frame < frames_of table.now }
+    requires right { (link seat.old.me.0 frame).content ≡ content.Exclusive }
+    requires home { (link seat.old.me.0 frame).out ≡ None }
+    requires entered { (link seat.old.me.0 frame).unapplied ≡ true }
+    requires image { (link seat.old.me.0 frame).image ≡ Some page.now }
+    ensures seat { SameSeat seat.old seat.new }
+    ensures touches { Touches frame seat.old.me.0 seat.new.me.0 }
+    ensures marks { SameMarks seat.old.me.0 seat.new.me.0 }
+    ensures applied { link seat.new.me.0 frame ≡ applied_link page.now (record (link seat.old.me.0 frame) { out = None }) }
+    ensures did { AppliesImage frame page.now seat.old.me.0 seat.new.me.0 }
+{
+    let mut out = page_out(table, seat, frame);
+    out.copy_from(page);
+    page_back(table, seat, frame, out);
+}
+
+/// Marks a frame dirty of which callers have a token and the content lock exclusively, inserts the page into the log, and copies it into the frame.
+pub fn put_locked<L: BlockLane, G: LogDevice, R: Wait>(
+    table: &FrameTable<L, G>,
+    rt: &R,
+    seat: &mut Seat<Value<L, G>, View>,
+    _held: &HeldPins,
+    frame: u32,
+    tag: Tag,
+    page: &mut Page,
+) -> Result<Lsn, InsertError>
+    requires stands { Stands table.now seat.old }
+    requires rests { LinksRest _held.now seat.old.me.0 }
+    requires pinned { IsPinnedFor tag frame _held.now }
+    requires right { (link seat.old.me.0 frame).content ≡ content.Exclusive }
+    requires inside { frame < frames_of table.now }
+    requires tag { names_block tag ≡ true }
+    requires block { has_block (relations_of table.now) tag ≡ true }
+    requires sound { is_sound_page page.old ≡ true }
+    requires used { is_new_page page.old ≡ false }
+    ensures seat { SameSeat seat.old seat.new }
+    ensures stands { Stands table.now seat.new }
+    ensures puts { PutsAt frame seat.old.me.0 seat.new.me.0 }
+    ensures rests { LinksRest _held.now seat.new.me.0 }
+    ensures right { (link seat.new.me.0 frame).content ≡ content.Exclusive }
+    ensures marked { seat.new.me.0.dirtied_or_synced ≡ true }
+    ensures answer { PutAnswer (relations_of table.now) frame tag page.old seat.old.me.0 seat.new.me.0 result }
+    ensures calls { Made (put_calls result) seat.old.me.0 seat.new.me.0 }
+    ensures met { seat.new.me.0.met ≡ met_put result seat.old.me.0.met }
+{
+    table.mark_dirty(rt, seat, frame);
+    match insert(table, rt, seat, frame, tag, page) {
+        Ok(lsn) => {
+            apply(table, seat, frame, page);
+            Ok(lsn)
+        }
+        Err(why) => Err(why),
+    }
+}
