@@ -1,7 +1,8 @@
 use Rattle.std.proofs.Common.{◌∙◌}
 use Rattle.frame_table.proofs.Told.{grows_on}
 use Rattle.frame_table.proofs.Rising.{rises_on}
-use Rattle.buffer_frames.proofs.Noting.{all_pinned_now, ended_outside}
+use Rattle.buffer_frames.specs.Working.{IsFlushCall}
+use Rattle.buffer_frames.proofs.Noting.{all_pinned_now, calls_through, ended_outside}
 use Rattle.buffer_frames.proofs.Outside.{grows_outside}
 use Rattle.held_pins.proofs.Keeping.{same_locks_on}
 use Rattle.buffer_frames.proofs.SameLocks.{same_locks_victim}
@@ -67,3 +68,6 @@ returns-then-erase-clause-locks g c = same_locks_on c.args.seat.now.me.0 c.flush
 
 pub returns-clause-locks : goal.returns-clause-locks
 returns-clause-locks g c = same_locks_on c.args.seat.now.me.0 c.erase.new.seat.me.0 c.give_up-2.new.seat.me.0 (same_locks_on c.args.seat.now.me.0 c.flush_victim.new.seat.me.0 c.erase.new.seat.me.0 (same_locks_on c.args.seat.now.me.0 c.tag_of_victim.new.seat.me.0 c.flush_victim.new.seat.me.0 (same_locks_on c.args.seat.now.me.0 c.choose.new.seat.me.0 c.tag_of_victim.new.seat.me.0 c.choose.ensures.locks c.tag_of_victim.ensures.locks) (same_locks_victim c.args.held.now c.frame-frame.result c.tag_of_victim.new.seat.me.0 c.flush_victim.new.seat.me.0 c.flush_victim.ensures.works c.tag_of_victim.ensures.victim c.flush_victim.ensures.victim)) c.erase.ensures.locks) c.give_up-2.ensures.locks
+
+pub returns-in-Err-flush_victim-clause-calls : goal.returns-in-Err-flush_victim-clause-calls
+returns-in-Err-flush_victim-clause-calls g c = calls_through IsFlushCall c.args.seat.now.me.0 c.tag_of_victim.new.seat.me.0 c.flush_victim.new.seat.me.0 c.give_up-in-Err-flush_victim.new.seat.me.0 (c.tag_of_victim.ensures.same ∙ c.choose.ensures.same) c.flush_victim.ensures.calls c.give_up-in-Err-flush_victim.ensures.same
