@@ -9,3 +9,4 @@ pub mod Relocking
 pub mod PageReading
 pub mod Flushed
 pub mod PagePuts
+pub mod CleanupLocks

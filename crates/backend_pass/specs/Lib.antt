@@ -9,3 +9,4 @@ pub mod Puts
 pub mod Closing
 pub mod Locks
 pub mod PageReads
+pub mod Cleanups
