@@ -10,3 +10,4 @@ pub mod Relocking
 pub mod PassReading
 pub mod Flushed
 pub mod PassPuts
+pub mod CleanupLocks

@@ -7,3 +7,4 @@ pub mod Reading
 pub mod FrameFlushes
 pub mod Closing
 pub mod Locks
+pub mod Cleanups

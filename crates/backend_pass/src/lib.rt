@@ -1,6 +1,7 @@
 //! A manager of buffers and its backends, over `frame_table`. Each thread works with a pass of its own, and all share the manager.
 #![tactic(auto)]
 
+mod cleanup;
 mod closing;
 mod errors;
 mod flushing;
@@ -17,6 +18,7 @@ mod reads;
 mod seating;
 mod tokens;
 
+pub use cleanup_lock::{CleanupError, TryCleanup};
 pub use content_locks::TryLock;
 pub use errors::{FlushError, ReadError, Refused, Setting, StartError, StartRefused};
 pub use frame_table::Config;

@@ -4,6 +4,7 @@ use crate::manager::Manager;
 use crate::met::{Met, Shown};
 use crate::pinned::Pinned;
 use atomic_table::Badge;
+use cleanup_lock::unpin_and_wake;
 use clock_sweep::Census;
 use crossbeam_utils::CachePadded;
 use frame_table::Value;
@@ -44,7 +45,7 @@ impl Pass {
     ghost use Rattle.std.specs.Prelude.{◌≡◌, ◌≢◌, ℕ};
     ghost use Rattle.pin_core.specs.declared.view.Content.TheVariants.{Unlocked};
     ghost use Rattle.pin_core.specs.State.{link};
-    ghost use Rattle.frame_table.specs.FrameSteps.{Unpinned};
+    ghost use Rattle.cleanup_lock.specs.Waking.{Woken};
     ghost use Rattle.held_pins.specs.Tokens.{IsPinnedFor, held_at, tokens_less, tokens_of};
     ghost use Rattle.backend_pass.specs.Managers.{Belongs};
     ghost use Rattle.backend_pass.specs.Passes.{KeepsCalls, KeepsDevices, KeepsLocks, KeepsMark, SamePass, shown_count};
@@ -91,8 +92,8 @@ impl Pass {
         ensures locks { KeepsLocks self.old self.new }
         ensures devices { KeepsDevices self.old self.new }
 
-        // With the last token the pin is given up, by one step after loads of the state word.
-        ensures unpins { tokens_of (held_at self.old.tokens pinned.frame) ≡ 1 → (left : ℕ) × Unpinned pinned.frame left self.old.view self.new.view }
+        // With the last token the pin is given up, by one step after loads of the state word, and the backend is woken that waits for its own pin to be the only one.
+        ensures unpins { tokens_of (held_at self.old.tokens pinned.frame) ≡ 1 → Woken pinned.frame self.old.view self.new.view }
 
         // What the pass has at other frames is untouched, and all of it where another token of the frame is left.
         ensures others { (g : ℕ) → g ≢ pinned.frame → link self.new.view g ≡ link self.old.view g }
@@ -107,8 +108,7 @@ impl Pass {
             return;
         };
         let mut seat = replace(&mut self.seat, Badge::blank()).into_seat::<Value<L, G>>();
-        // The word that is left tells whether a backend waits to be alone with the frame. It is not woken here yet.
-        manager.table.unpin(rt, &mut seat, pin);
+        unpin_and_wake(&manager.table, rt, &mut seat, pin);
         self.seat = seat.into_badge();
     }
 }

@@ -7,6 +7,7 @@ ghost use Rattle.table_rule.specs.Blocks.{has_block};
 ghost use Rattle.pin_core.specs.State.{link};
 ghost use Rattle.frame_table.specs.Seats.{Finds, Grows, Lacks, RemembersNoOther, SameSeat, frames_of, relations_of};
 ghost use Rattle.map_partitions.specs.Partition.{HoldsLatch};
+ghost use Rattle.cleanup_lock.specs.Waking.{Woken};
 ghost use Rattle.held_pins.specs.Rests.{HasNoLatch, HasOneLatch, LinksRest, SameLocks, Stands};
 ghost use Rattle.held_pins.specs.Tokens.{IsNew};
 ghost use Rattle.buffer_frames.specs.Outside.{outside_of};
@@ -15,6 +16,7 @@ ghost use Rattle.buffer_frames.specs.Stages.{HasVictim, Pins};
 use crate::lookup::pin_found;
 use atomic_table::Seat;
 use block_tag::Tag;
+use cleanup_lock::unpin_and_wake;
 use clock_sweep::Sweep;
 use frame_table::{FrameTable, Pin, Value};
 use held_pins::HeldPins;
@@ -81,9 +83,9 @@ pub(crate) fn give_up<L: BlockLane, G: LogDevice, R: Wait>(
     ensures partitions { seat.new.me.0.partitions ≡ seat.old.me.0.partitions }
     ensures remembers { (tag f : ℕ) → RemembersNoOther tag (link seat.old.me.0 f) → RemembersNoOther tag (link seat.new.me.0 f) }
     ensures rests { LinksRest _held.now seat.new.me.0 }
+    ensures did { Woken victim.frame seat.old.me.0 seat.new.me.0 }
 {
-    // The word that is left tells whether a backend waits to be alone with the frame. It is not woken here yet.
-    table.unpin(rt, seat, victim);
+    unpin_and_wake(table, rt, seat, victim);
 }
 
 /// Gives a victim up that another backend's frame stands for, and pins that frame, which a search of the map just gave. The victim goes to the free list.

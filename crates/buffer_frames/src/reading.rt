@@ -3,6 +3,7 @@ ghost use Rattle.std.specs.Prelude.{◌≡◌, ◌<◌, true, is_some};
 ghost use Rattle.block_tag.specs.Names.{lane_number, names_block, packed_tag};
 ghost use Rattle.table_rule.specs.Blocks.{has_block};
 ghost use Rattle.frame_table.specs.Seats.{Grows, OnlyRises, SameSeat, Touches, frames_of, lanes_in, relations_of};
+ghost use Rattle.cleanup_lock.specs.Waking.{Woken};
 ghost use Rattle.held_pins.specs.Rests.{HasNoLatch, LinksRest, Stands, kept_by_calls, SameLocks};
 ghost use Rattle.held_pins.specs.Tokens.{IsNew};
 ghost use Rattle.buffer_frames.specs.Outside.{outside_of, ring_shape};
@@ -16,6 +17,7 @@ use crate::victims::{VictimError, claim};
 use access_rings::Ring;
 use atomic_table::Seat;
 use block_tag::Tag;
+use cleanup_lock::unpin_and_wake;
 use clock_sweep::{Census, Sweep};
 use frame_table::{FrameTable, Pin, Value};
 use held_pins::HeldPins;
@@ -105,9 +107,9 @@ fn give_back<L: BlockLane, G: LogDevice, R: Wait>(
     ensures touches { Touches pin.frame seat.old.me.0 seat.new.me.0 }
     ensures locks { SameLocks seat.old.me.0 seat.new.me.0 }
     ensures rests { LinksRest _held.now seat.new.me.0 }
+    ensures did { Woken pin.frame seat.old.me.0 seat.new.me.0 }
 {
-    // The word that is left tells whether a backend waits to be alone with the frame. It is not woken here yet.
-    table.unpin(rt, seat, pin);
+    unpin_and_wake(table, rt, seat, pin);
 }
 
 /// Reads a block that callers have no pin of (`ReadBuffer_common`): its frame is pinned, or it comes into one, and its page is there. A refusal leaves all pins as they were.

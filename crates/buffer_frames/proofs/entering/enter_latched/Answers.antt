@@ -1,8 +1,10 @@
 use Rattle.std.proofs.Common.{ℕ, sym, subst}
+use Rattle.block_tag.specs.Names.{partition_number}
+use Rattle.frame_table.proofs.Told.{grows_on}
 use Rattle.buffer_frames.specs.Stages.{HasVictim}
 use Rattle.buffer_frames.proofs.Calm.{victim_worked}
 use Rattle.buffer_frames.proofs.Outside.{links_worked}
-use Rattle.held_pins.proofs.Keeping.{same_locks_on}
+use Rattle.held_pins.proofs.Keeping.{latch_same, same_locks_on}
 use Rattle.buffer_frames.proofs.SameLocks.{same_locks_mapped}
 use Rattle.buffer_frames.proofs.entering.enter_latched.Goals as goal
 
@@ -20,3 +22,9 @@ returns-then-store_latched-clause-locks g c = same_locks_on c.args.seat.now.me.0
 
 pub returns-clause-locks : goal.returns-clause-locks
 returns-clause-locks g c = same_locks_on c.args.seat.now.me.0 c.store_latched.new.seat.me.0 c.give_up.new.seat.me.0 (same_locks_on c.args.seat.now.me.0 c.find.new.seat.me.0 c.store_latched.new.seat.me.0 (same_locks_mapped c.args.seat.now.me.0 c.find.new.seat.me.0 c.find.ensures.work) c.store_latched.ensures.locks) c.give_up.ensures.locks
+
+pub returns-clause-grows : goal.returns-clause-grows
+returns-clause-grows g c = grows_on _ c.store_latched.new.seat.me.0 _ (grows_on _ c.find.new.seat.me.0 _ c.find.ensures.grows c.store_latched.ensures.grows) c.give_up.ensures.grows
+
+pub returns-clause-latch : goal.returns-clause-latch
+returns-clause-latch g c = latch_same (partition_number c.args.tag) c.store_latched.new.seat.me.0 c.give_up.new.seat.me.0 c.give_up.ensures.partitions c.store_latched.ensures.latch

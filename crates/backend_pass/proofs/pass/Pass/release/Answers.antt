@@ -1,8 +1,9 @@
-use Rattle.std.proofs.Common.{◌≡◌, ◌∙◌, ℕ, Some, None, refl, sym, ap, subst}
+use Rattle.std.proofs.Common.{◌≡◌, ◌∙◌, ℕ, false, Some, None, refl, sym, ap, subst}
 use Rattle.atomic_table.specs.declared.badge.Badge.{Badge}
 use Rattle.pin_core.specs.declared.view.Content.TheVariants.{Unlocked}
 use Rattle.pin_core.specs.declared.view.View.{View}
 use Rattle.pin_core.specs.State.{link}
+use Rattle.pin_core.specs.Steps.{HoldsNoHeader}
 use Rattle.frame_table.specs.Seats.{MayUnpin}
 use Rattle.frame_table.proofs.Rising.{rises_none}
 use Rattle.held_pins.specs.Tokens.{Tokens, held_at, tokens_of}
@@ -24,8 +25,8 @@ returns-in_default-clause-belongs g c =
     belongs_held {L = g.row.L.Denot} {G = g.row.G.Denot} g.L.BlockLane.contents c.args.manager.now _ _ refl refl refl refl (rises_none (view_in c.self.inside.seat.views)).end_seen (subst (λ (t : Tokens). AreHeld c.self.inside.held t) (sym c.take_token.ensures.tokens) (held_several c.args.pinned.frame c.self.inside.held (above_one _ c.in_default.ensures.others.0)))
     (subst (Belongs {L = g.row.L.Denot} {G = g.row.G.Denot} g.L.BlockLane.contents c.args.manager.now) (sym c.self.view_is) c.requires.belongs)
 
-pub unpin-requires-clause-pinned : goal.unpin-requires-clause-pinned
-unpin-requires-clause-pinned g c =
+pub unpin_and_wake-requires-clause-pinned : goal.unpin_and_wake-requires-clause-pinned
+unpin_and_wake-requires-clause-pinned g c =
     let f = c.args.pinned.frame in
     let before = view_of_seat c.self.inside.seat c.replace.result c.into_seat-seat.result.me.0 c.replace.ensures.value c.into_seat-seat.ensures.2 in
     let last = c.in-Some.ensures.last in
@@ -42,12 +43,12 @@ invariant_of-self-2 g c =
     let before = view_of_seat c.self.inside.seat c.replace.result c.into_seat-seat.result.me.0 c.replace.ensures.value c.into_seat-seat.ensures.2 in
     let after = ap view_in c.into_badge.ensures.2 in
     let last = c.in-Some.ensures.last in
-    let u : Unpins f (view_in c.self.inside.seat.views) (view_in c.into_badge.result.views) = unpins_at f c.in-Some.pin.frame _ _ _ _ last.0 before after record { touches = c.unpin.ensures.touches; marks = c.unpin.ensures.marks; unpinned = c.unpin.ensures.unpinned } in
+    let u : Unpins f (view_in c.self.inside.seat.views) (view_in c.into_badge.result.views) = unpins_at f c.in-Some.pin.frame _ _ _ _ last.0 before after record { touches = c.unpin_and_wake.ensures.touches; marks = c.unpin_and_wake.ensures.marks; unpinned = c.unpin_and_wake.ensures.unpinned } in
     let one = subst (λ (p : PassState). tokens_of (held_at p.tokens f) ≡ 1) c.self.view_is last.1 in
     let unlocked = subst (λ (p : PassState). (link p.view f).content ≡ Unlocked) (sym c.self.view_is) (c.requires.unlocked one) in
     let none = subst (λ (t : Tokens). held_at t f ≡ None) c.take_token.ensures.tokens last.2 in
-    let same = c.into_badge.ensures.1 ∙ c.unpin.ensures.seat.id ∙ c.into_seat-seat.ensures.1 ∙ ap (λ (b : Badge View). b.id) c.replace.ensures.value in (
-      one_view c.into_badge.result c.unpin.new.seat.me.0 c.into_badge.ensures.2,
+    let same = c.into_badge.ensures.1 ∙ c.unpin_and_wake.ensures.seat.id ∙ c.into_seat-seat.ensures.1 ∙ ap (λ (b : Badge View). b.id) c.replace.ensures.value in (
+      one_view c.into_badge.result c.unpin_and_wake.new.seat.me.0 c.into_badge.ensures.2,
       subst (λ (t : Tokens). Rests t (view_in c.into_badge.result.views)) (sym c.take_token.ensures.tokens) (rests_unpinned f c.self.inside.held _ _ u unlocked none i.1),
       subst (λ (id : ℕ). IsNumbered c.self.inside.number id (view_in c.into_badge.result.views)) (sym same) (numbered_self c.self.inside.number c.self.inside.seat.id _ _ u.touches.self i.2),
       shown_self _ _ _ u.touches.self i.3,
@@ -59,9 +60,9 @@ returns-clause-belongs g c =
     let before = view_of_seat c.self.inside.seat c.replace.result c.into_seat-seat.result.me.0 c.replace.ensures.value c.into_seat-seat.ensures.2 in
     let after = ap view_in c.into_badge.ensures.2 in
     let last = c.in-Some.ensures.last in
-    let u : Unpins f (view_in c.self.inside.seat.views) (view_in c.into_badge.result.views) = unpins_at f c.in-Some.pin.frame _ _ _ _ last.0 before after record { touches = c.unpin.ensures.touches; marks = c.unpin.ensures.marks; unpinned = c.unpin.ensures.unpinned } in
+    let u : Unpins f (view_in c.self.inside.seat.views) (view_in c.into_badge.result.views) = unpins_at f c.in-Some.pin.frame _ _ _ _ last.0 before after record { touches = c.unpin_and_wake.ensures.touches; marks = c.unpin_and_wake.ensures.marks; unpinned = c.unpin_and_wake.ensures.unpinned } in
     let none = subst (λ (t : Tokens). held_at t f ≡ None) c.take_token.ensures.tokens last.2 in
-    let table = c.into_badge.ensures.0 ∙ c.unpin.ensures.seat.table ∙ c.into_seat-seat.ensures.0 ∙ ap (λ (b : Badge View). b.table_id) c.replace.ensures.value in
+    let table = c.into_badge.ensures.0 ∙ c.unpin_and_wake.ensures.seat.table ∙ c.into_seat-seat.ensures.0 ∙ ap (λ (b : Badge View). b.table_id) c.replace.ensures.value in
     belongs_touched {L = g.row.L.Denot} {G = g.row.G.Denot} g.L.BlockLane.contents c.args.manager.now _ _ f table refl u.touches (subst (λ (t : Tokens). AreHeld c.self.inside.held t) (sym c.take_token.ensures.tokens) (held_last f c.self.inside.held none))
     (subst (Belongs {L = g.row.L.Denot} {G = g.row.G.Denot} g.L.BlockLane.contents c.args.manager.now) (sym c.self.view_is) c.requires.belongs)
 
@@ -70,9 +71,9 @@ returns-clause-same g c =
     let f = c.args.pinned.frame in
     let before = view_of_seat c.self.inside.seat c.replace.result c.into_seat-seat.result.me.0 c.replace.ensures.value c.into_seat-seat.ensures.2 in
     let after = ap view_in c.into_badge.ensures.2 in
-    let u : Unpins f (view_in c.self.inside.seat.views) (view_in c.into_badge.result.views) = unpins_at f c.in-Some.pin.frame _ _ _ _ c.in-Some.ensures.last.0 before after record { touches = c.unpin.ensures.touches; marks = c.unpin.ensures.marks; unpinned = c.unpin.ensures.unpinned } in
-    let table = c.into_badge.ensures.0 ∙ c.unpin.ensures.seat.table ∙ c.into_seat-seat.ensures.0 ∙ ap (λ (b : Badge View). b.table_id) c.replace.ensures.value in
-    let id = c.into_badge.ensures.1 ∙ c.unpin.ensures.seat.id ∙ c.into_seat-seat.ensures.1 ∙ ap (λ (b : Badge View). b.id) c.replace.ensures.value in
+    let u : Unpins f (view_in c.self.inside.seat.views) (view_in c.into_badge.result.views) = unpins_at f c.in-Some.pin.frame _ _ _ _ c.in-Some.ensures.last.0 before after record { touches = c.unpin_and_wake.ensures.touches; marks = c.unpin_and_wake.ensures.marks; unpinned = c.unpin_and_wake.ensures.unpinned } in
+    let table = c.into_badge.ensures.0 ∙ c.unpin_and_wake.ensures.seat.table ∙ c.into_seat-seat.ensures.0 ∙ ap (λ (b : Badge View). b.table_id) c.replace.ensures.value in
+    let id = c.into_badge.ensures.1 ∙ c.unpin_and_wake.ensures.seat.id ∙ c.into_seat-seat.ensures.1 ∙ ap (λ (b : Badge View). b.id) c.replace.ensures.value in
     same_from _ _ _ c.self.view_is (same_touched _ _ f table id refl u.touches)
 
 pub returns-clause-left : goal.returns-clause-left
@@ -86,5 +87,15 @@ returns-clause-locks g c =
     let f = c.args.pinned.frame in
     let before = view_of_seat c.self.inside.seat c.replace.result c.into_seat-seat.result.me.0 c.replace.ensures.value c.into_seat-seat.ensures.2 in
     let after = ap view_in c.into_badge.ensures.2 in
-    let u : Unpins f (view_in c.self.inside.seat.views) (view_in c.into_badge.result.views) = unpins_at f c.in-Some.pin.frame _ _ _ _ c.in-Some.ensures.last.0 before after record { touches = c.unpin.ensures.touches; marks = c.unpin.ensures.marks; unpinned = c.unpin.ensures.unpinned } in
+    let u : Unpins f (view_in c.self.inside.seat.views) (view_in c.into_badge.result.views) = unpins_at f c.in-Some.pin.frame _ _ _ _ c.in-Some.ensures.last.0 before after record { touches = c.unpin_and_wake.ensures.touches; marks = c.unpin_and_wake.ensures.marks; unpinned = c.unpin_and_wake.ensures.unpinned } in
     subst (λ (p : PassState). SameLocks p.view (view_in c.into_badge.result.views)) c.self.view_is (same_locks_at f (view_in c.self.inside.seat.views) (view_in c.into_badge.result.views) u.touches.others u.unpinned.content)
+
+pub unpin_and_wake-requires-clause-headless : goal.unpin_and_wake-requires-clause-headless
+unpin_and_wake-requires-clause-headless g c =
+    let before = view_of_seat c.self.inside.seat c.replace.result c.into_seat-seat.result.me.0 c.replace.ensures.value c.into_seat-seat.ensures.2 in
+    subst HoldsNoHeader before (λ f. (c.self.invariant.1.links f).calm.no_header)
+
+pub unpin_and_wake-requires-clause-settled : goal.unpin_and_wake-requires-clause-settled
+unpin_and_wake-requires-clause-settled g c =
+    let before = view_of_seat c.self.inside.seat c.replace.result c.into_seat-seat.result.me.0 c.replace.ensures.value c.into_seat-seat.ensures.2 in
+    subst (λ (v : View). (link v c.in-Some.pin.frame).pending ≡ false) before (c.self.invariant.1.links c.in-Some.pin.frame).calm.assigned

@@ -1,0 +1,2 @@
+pub mod Cleanup
+pub mod Waking

@@ -1,0 +1,20 @@
+//! The cleanup lock of a frame (`LockBufferForCleanup`), over `content_locks`: the exclusive content lock, got while no other backend pins the frame. Who gives a pin up wakes the backend that waits for it.
+#![tactic(auto)]
+
+ghost use Rattle.std.specs.Prelude.{◌<◌, ℕ};
+ghost use Rattle.history_core.specs.State.{State};
+ghost use Rattle.history_core.specs.Laws.{Laws};
+ghost use Rattle.cleanup_lock.specs.Cleanup.{OthersAreKeptOut};
+
+mod locking;
+mod trying;
+mod waking;
+
+pub use locking::{CleanupError, lock};
+pub use trying::{TryCleanup, try_lock};
+pub use waking::unpin_and_wake;
+
+/// While a backend has the content lock of a frame exclusively no other backend has one there, shared or exclusive. Others may pin the frame.
+pub fn others_are_kept_out()
+    ensures { (s : State) (f : ℕ) → Laws s → f < s.pool.core.frames → OthersAreKeptOut s f }
+{}
