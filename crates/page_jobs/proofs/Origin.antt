@@ -231,7 +231,7 @@ module _ {L G : Type 0} (contents : L → Option Pages) (m : Manager L G) (rel :
       → ((b : ℕ) → b < n → names_block (tag_of_parts rel fork b) ≡ true) → DoParts contents m rel fork lines n (length ps) 0 ps xs → OnOk r (AllDone xs) → IsOrigin contents m rel fork pages → AllAtBase (base_of m.table) (map (λ (x : Worker). x.pass) xs)
       → Puts (job_text (totals_line (job_totals xs)) xs) old new (as_done r) → Puts (text_of_pages lines pages) old new (as_done r)
   text_of_origin lines n ps xs pages old new r size many named d ok origin at puts =
-      let t0 = told lines n (length ps) 0 ps xs many refl d at in
+      let t0 = told lines n (length ps) 0 ps xs many (omega arith) d at in
       let t : Told lines 0 n xs = subst (λ (b : ℕ). Told lines b n xs) (start_first n (length ps)) t0 in
       let count : n ≡ length pages = size ∙ sym origin.counted in
       let block : (b : ℕ) → b < 0 + length pages → IsBlockOf (relations_of m.table) (lanes_in m.table) (lane_number (tag_of_parts rel fork b) (lanes_in m.table)) (tag_of_parts rel fork b) =

@@ -36,14 +36,15 @@ use Rattle.page_jobs.specs.declared.printing.Lines.TheVariants.{Dump, Scan}
 use Rattle.page_jobs.specs.declared.working.Worker.{Worker}
 use Rattle.page_jobs.specs.Ending.{as_done, totals_of_scan}
 use Rattle.page_jobs.specs.Printed.{BlockRead, copied, unsound, lines_from, page_lines, read_lines, read_summary, reads_lines, reads_totals, text_of_pages, totals_line}
-use Rattle.page_jobs.specs.Reads.{IsKnown, IsWithinFront, calls_of_reads}
+use Rattle.page_jobs.specs.Reads.{IsFree, IsKnown, IsWithinFront, calls_of_reads}
 use Rattle.page_jobs.specs.Parts.{AllReads, AreKnown, DoesPart, EndsFor, MeetsFault, blocks_in, part_start}
-use Rattle.page_jobs.specs.Dealt.{AllDone, AnyEnds, DoParts, job_text, job_totals, text_if_done}
-use Rattle.page_jobs.specs.Jobs.{AllAtBase, AnyMeets, EndsJob, IsOrigin, ReadParts, ReadsAll, ReadsPart, WasKnownAtOpening, reads_between}
-use Rattle.page_jobs.proofs.Deals.{start_first, start_last}
+use Rattle.page_jobs.specs.Dealt.{AllDone, AnyEnds, AreCounted, DoParts, job_text, job_totals, text_if_done}
+use Rattle.page_jobs.specs.Jobs.{AllAtBase, AnyMeets, AreFree, EndsJob, IsOrigin, ReadParts, ReadsAll, ReadsPart, WasKnownAtOpening, reads_between}
+use Rattle.page_jobs.proofs.Deals.{start_first, start_last, start_le}
+use Rattle.page_jobs.proofs.Staying.{stays_none}
 use Rattle.page_jobs.proofs.Texts.{stopped_in, text_either, text_last}
 use Rattle.page_jobs.proofs.Sums.{reads_totals-append, sum_none}
-use Rattle.page_jobs.proofs.BlockWork.{all_append, lines-append}
+use Rattle.page_jobs.proofs.BlockWork.{all_append, lines-append, totals_long}
 
 start_mono : (n k w v : ℕ) → 0 < k → w ≤ v → part_start n k w ≤ part_start n k v
 start_mono n k w v many le = le-div (part_start n k w) (v * n) k many (let a = div-mul-le_self (w * n) k in let b : w * n ≤ v * n = grind (arith, le) in omega (arith, a, b))
@@ -197,7 +198,7 @@ module _ {L G : Type 0} (contents : L → Option Pages) (m : Manager L G) (rel :
       λ j. ap (λ (i : ℕ). take (part_start n k (j + 1) - part_start n k j) (drop i r.reads)) (let z : part_start n k j - part_start n k 0 ≡ part_start n k j = omega (arith, zero_start) in z) in
       record {
         reads = r.reads;
-        counted = let l = r.long in let e : part_start n k (0 + length ps) ≡ part_start n k k = refl in omega (arith, l, last, zero_start, size, e);
+        counted = let l = r.long in let e = ap (part_start n k) (let z : 0 + length ps ≡ k = omega arith in z) in omega (arith, l, last, zero_start, size, e);
         known = subst (λ (b : ℕ). AreKnown contents m rel fork b r.reads) zero_start r.known;
         calls = λ w p q at there.
             subst (λ (b : ℕ). q.view.calls ≡ p.view.calls ++ calls_of_reads p.view.number rel fork (part_start b k w) (reads_between (part_start b k w) (part_start b k (w + 1)) r.reads)) size
@@ -240,3 +241,68 @@ module _ {L G : Type 0} (contents : L → Option Pages) (m : Manager L G) (rel :
       → IfErr r (λ e. (e ≡ Memory) ⊎ (AnyEnds e xs ⊎ ((e ≡ OutFault) × Rose outs outs_now))) → IfErr r (EndsJob contents m rel fork ps (map (λ (x : Worker). x.pass) xs) outs outs_now)
   job_cause lines n ps xs outs outs_now (Ok a) d c = tt
   job_cause lines n ps xs outs outs_now (Err e) d c = cause_of lines n ps xs outs outs_now e d c
+
+  -- the workers' totals
+  pub parts_counted : (lines : Lines) (n k number : ℕ) (ps : List PassState) (xs : List Worker) → DoParts contents m rel fork lines n k number ps xs → AreCounted xs
+  parts_counted lines n k number [] [] d = tt
+  parts_counted lines n k number [] (x ∷ xs) d = absurd d
+  parts_counted lines n k number (p ∷ ps) [] d = absurd d
+  parts_counted lines n k number (p ∷ ps) (x ∷ xs) d = (d.0.counts, parts_counted lines n k (number + 1) ps xs d.1)
+
+  one_few : (lines : Lines) (from to : ℕ) (p q : PassState) (text text' : List ℕ) (t : ScanTotals) (end : Result Unit JobError) → DoesPart contents m rel fork lines from to p q text text' no_totals t end → from + t.blocks ≤ to
+  one_few lines from to p q text text' t end d =
+      let w = d.within in
+      let l = length-append d.printed d.unprinted in
+      let b = ap (λ (u : ScanTotals). u.blocks) (d.totals_is ∙ sum_none (reads_totals d.printed)) ∙ totals_long d.printed in
+      omega arith
+
+  pub parts_few : (lines : Lines) (n k number : ℕ) (ps : List PassState) (xs : List Worker) → DoParts contents m rel fork lines n k number ps xs → part_start n k number + (job_totals xs).blocks ≤ part_start n k (number + length ps)
+  parts_few lines n k number [] [] d = let e = ap (part_start n k) (let z : number + 0 ≡ number = omega arith in z) in omega (arith, e)
+  parts_few lines n k number [] (x ∷ xs) d = absurd d
+  parts_few lines n k number (p ∷ ps) [] d = absurd d
+  parts_few lines n k number (p ∷ ps) (x ∷ xs) d =
+      let one = one_few lines (part_start n k number) (part_start n k (number + 1)) p x.pass [] x.printed.text.items x.printed.totals x.end d.0 in
+      let rest = parts_few lines n k (number + 1) ps xs d.1 in
+      let e = ap (part_start n k) (let z : number + 1 + length ps ≡ number + suc (length ps) = omega arith in z) in
+      omega (arith, one, rest, e)
+
+  pub all_few : (lines : Lines) (n : ℕ) (ps : List PassState) (xs : List Worker) → n < 4294967296 → 0 < length ps → DoParts contents m rel fork lines n (length ps) 0 ps xs → (job_totals xs).blocks ≤ 4294967296
+  all_few lines n ps xs fits many d =
+      let few = parts_few lines n (length ps) 0 ps xs d in
+      let last = start_last n (length ps) many in
+      let e = ap (part_start n (length ps)) (let z : 0 + length ps ≡ length ps = omega arith in z) in
+      omega (arith, few, last, e, fits)
+
+  free_at : (ps : List PassState) (w : ℕ) (p : PassState) → AreFree contents m ps → get_elem? ps w ≡ some p → IsFree contents m p
+  free_at [] w p free at = absurd (some-ne-none p (sym at))
+  free_at (x ∷ ps) zero p free at = subst (IsFree contents m) (some-injective x p at) free.0
+  free_at (x ∷ ps) (suc w) p free at = free_at ps w p free.1 at
+
+  -- where no worker began
+  pub unread_parts : (ps : List PassState) → 0 < length ps → AreFree contents m ps → ReadParts contents m rel fork ps ps
+  unread_parts ps many free = record {
+    counted = refl;
+    each = λ w p q at there.
+        let same : p ≡ q = some-injective p q (sym at ∙ there) in
+        let f = free_at ps w p free at in
+        let le = start_le (blocks_in m rel fork) (length ps) w many in
+        subst (λ (y : PassState). ReadsPart contents m rel fork (part_start (blocks_in m rel fork) (length ps) w) (part_start (blocks_in m rel fork) (length ps) (w + 1)) p y) same record {
+          stays = stays_none contents m p f.belongs;
+          spent = f.spent;
+          reads = [];
+          calls = sym (append-nil p.view.calls);
+          known = tt;
+          places = tt;
+          within = omega (arith, le);
+        };
+  }
+
+  -- the whole, where the job is done
+  pub job_done : (lines : Lines) (n : ℕ) (ps : List PassState) (xs : List Worker) (old new : Option (List ℕ)) (r : Result Totals JobError) (F : Type 0) → n ≡ blocks_in m rel fork → 0 < length ps → DoParts contents m rel fork lines n (length ps) 0 ps xs
+      → OnOk r (F × AllDone xs) → IfOk r (λ totals. totals ≡ totals_of_scan (job_totals xs)) → Puts (job_text (totals_line (job_totals xs)) xs) old new (as_done r) → IfOk r (ReadsAll contents m rel fork lines ps (map (λ (x : Worker). x.pass) xs) old new)
+  job_done lines n ps xs old new (Ok totals) F size many d ok total puts = reads_all lines n ps xs old new totals size many d ok.1 puts.ok total
+  job_done lines n ps xs old new (Err e) F size many d ok total puts = tt
+
+pub all_done : {A : Type 0} (xs : List Worker) (r : Result A JobError) (F : Type 0) → OnOk r (F × AllDone xs) → OnOk r (AllDone xs)
+all_done xs (Ok a) F ok = ok.1
+all_done xs (Err e) F ok = tt
