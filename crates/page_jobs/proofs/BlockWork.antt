@@ -1,7 +1,7 @@
 -- A worker's part, block by block.
 use Rattle.std.proofs.Common.{◌≡◌, ◌+◌, ◌<◌, ◌≤◌, ℕ, suc, List, [], ◌∷◌, ◌++◌, length, Option, Some, None, Result, Ok, Err, refl, sym, ap, ◌∙◌, subst, arith, append_assoc, add-zero, inl, inr}
 use Rattle.std.specs.Prelude.{OnOk, IfErr}
-use Rattle.std.proofs.lemmas.List.{append-nil, length-append, length-map}
+use Rattle.std.proofs.lemmas.List.{append-nil, length-append}
 use Rattle.block_tag.specs.declared.tag.Fork.{Fork}
 use Rattle.block_tag.specs.Names.{tag_of_parts}
 use Rattle.page_layout.specs.declared.scan.ScanTotals.{ScanTotals}
@@ -29,7 +29,8 @@ use Rattle.page_jobs.proofs.Staying.{stays_none, stays_on}
 use Rattle.page_jobs.proofs.Sums.{counted-is, none_sum, reads_totals-append, sum_assoc}
 
 pub totals_long : (rs : List BlockRead) → (reads_totals rs).blocks ≡ length rs
-totals_long rs = length-map read_summary rs
+totals_long [] = refl
+totals_long (r ∷ rs) = ap suc (totals_long rs)
 
 shift : (block n : ℕ) → block + 1 + n ≡ block + suc n
 shift block n = omega arith
