@@ -1,5 +1,5 @@
 -- Passes become workers, and are given back.
-use Rattle.std.proofs.Common.{◌≡◌, ℕ, zero, suc, ◌+◌, ◌*◌, ◌/◌, ◌<◌, ◌≤◌, List, [], ◌∷◌, ◌++◌, length, map, refl, sym, ap, ◌∙◌, subst, arith, append_assoc}
+use Rattle.std.proofs.Common.{◌≡◌, ℕ, zero, suc, ◌+◌, ◌*◌, ◌/◌, ◌-◌, ◌<◌, ◌≤◌, List, [], ◌∷◌, ◌++◌, length, map, take, drop, refl, sym, ap, ◌∙◌, subst, arith, append_assoc}
 use Rattle.std.specs.Prelude.{Option, slice_index_or}
 use Rattle.std.proofs.lemmas.List.{append-nil, length-append, map-append, reverse-append}
 use Rattle.std.proofs.lemmas.Nat.{le-div}
@@ -14,7 +14,7 @@ use Rattle.backend_pass.specs.Passes.{PassState}
 use Rattle.page_jobs.specs.declared.printing.Lines.{Lines}
 use Rattle.page_jobs.specs.declared.working.Worker.{Worker}
 use Rattle.page_jobs.specs.Dealt.{AreDealt, DoParts, HasWorked, HaveWorked, IsDealt, IsReady}
-use Rattle.page_jobs.specs.Jobs.{AreFree}
+use Rattle.page_jobs.specs.Jobs.{AreFree, last_in, workers_in}
 use Rattle.page_jobs.specs.Parts.{DoesPart, blocks_in, part_start}
 use Rattle.page_jobs.specs.Reads.{IsFree}
 
@@ -109,3 +109,29 @@ module _ {L G : Type 0} (contents : L → Option Pages) (m : Manager L G) (rel :
             (subst (λ (f : ℕ). does w.pass f (part_start blocks workers (number + 1))) a.0.from (subst (λ (t : ℕ). does w.pass w.from t) a.0.to d)),
         did_parts lines blocks workers (number + 1) ps ws xs a.1 (omega arith) (λ i e below. did (suc i) e (omega arith)),
       )
+
+  -- the passes before the last one
+  pub free_front : (ps qs : List PassState) → AreFree contents m (ps ++ qs) → AreFree contents m ps
+  free_front [] qs free = tt
+  free_front (p ∷ ps) qs free = (free.0, free_front ps qs free.1)
+
+take_front : (ps qs : List PassState) (n : ℕ) → n ≡ length ps → take n (ps ++ qs) ≡ ps
+take_front [] qs zero e = refl
+take_front [] qs (suc n) e = absurd (omega arith)
+take_front (p ∷ ps) qs zero e = absurd (omega arith)
+take_front (p ∷ ps) qs (suc n) e = ap (λ (l : List PassState). p ∷ l) (take_front ps qs n (omega arith))
+
+drop_front : (ps qs : List PassState) (n : ℕ) → n ≡ length ps → drop n (ps ++ qs) ≡ qs
+drop_front [] qs zero e = refl
+drop_front [] qs (suc n) e = absurd (omega arith)
+drop_front (p ∷ ps) qs zero e = absurd (omega arith)
+drop_front (p ∷ ps) qs (suc n) e = drop_front ps qs n (omega arith)
+
+less_one : (ps : List PassState) (p : PassState) → length (ps ++ p ∷ []) - 1 ≡ length ps
+less_one ps p = let l = length-append ps (p ∷ []) in omega arith
+
+pub workers_before : (all ps : List PassState) (p : PassState) → all ≡ ps ++ p ∷ [] → workers_in all ≡ ps
+workers_before all ps p e = ap workers_in e ∙ take_front ps (p ∷ []) (length (ps ++ p ∷ []) - 1) (less_one ps p)
+
+pub last_after : (all ps : List PassState) (p : PassState) → all ≡ ps ++ p ∷ [] → last_in all ≡ p ∷ []
+last_after all ps p e = ap last_in e ∙ drop_front ps (p ∷ []) (length (ps ++ p ∷ []) - 1) (less_one ps p)

@@ -1,11 +1,11 @@
 -- Totals of blocks that were read, and the numbers that they can have.
-use Rattle.std.proofs.Common.{◌≡◌, ◌+◌, ◌*◌, ◌≤◌, ℕ, suc, List, [], ◌∷◌, ◌++◌, length, map, cond, refl, sym, ap, ap₂, ◌∙◌, arith, add-zero, zero-add, add_assoc}
+use Rattle.std.proofs.Common.{◌≡◌, ◌+◌, ◌*◌, ◌≤◌, ℕ, suc, List, [], ◌∷◌, ◌++◌, length, map, cond, refl, sym, ap, ap₂, subst, ◌∙◌, arith, add-zero, zero-add, add_assoc}
 use Rattle.std.proofs.lemmas.List.{length-append, map-append}
 use Rattle.std.proofs.lemmas.List.Sums.{sum_by-append}
 use Rattle.page_layout.specs.declared.scan.ScanTotals.{ScanTotals}
 use Rattle.page_layout.specs.declared.summary.PageSummary.{PageSummary}
 use Rattle.page_layout.specs.declared.summary.PageSummary.TheVariants.{Invalid, New, Used}
-use Rattle.page_layout.specs.Scan.{counted, is_invalid, is_new, is_used, no_totals, pointers_of, sum_of_totals, totals_of_summaries}
+use Rattle.page_layout.specs.Scan.{IsWithin, counted, is_invalid, is_new, is_used, no_totals, pointers_of, sum_of_totals, totals_of_summaries}
 use Rattle.page_jobs.specs.Printed.{BlockRead, read_summary, reads_totals}
 
 totals_of_summaries-append : (ss ts : List PageSummary) → totals_of_summaries (ss ++ ts) ≡ sum_of_totals (totals_of_summaries ss) (totals_of_summaries ts)
@@ -39,3 +39,7 @@ none_sum t = simp add-zero
 
 pub sum_assoc : (t u v : ScanTotals) → sum_of_totals (sum_of_totals t u) v ≡ sum_of_totals t (sum_of_totals u v)
 sum_assoc t u v = simp add_assoc
+
+-- the totals of nothing
+pub within_none : (t : ScanTotals) → t ≡ no_totals → IsWithin t t.blocks
+within_none t none = subst (λ (u : ScanTotals). IsWithin u u.blocks) (sym none) record { blocks_are = refl; used = omega arith; new = omega arith; invalid = omega arith; normal = omega arith; redirect = omega arith; dead = omega arith; unused = omega arith }
