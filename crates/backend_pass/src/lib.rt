@@ -11,6 +11,7 @@ mod met;
 mod pass;
 mod pass_memory;
 mod pinned;
+mod pool;
 mod pool_memory;
 mod putting;
 mod reading;

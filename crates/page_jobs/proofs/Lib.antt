@@ -1,0 +1,9 @@
+mod Staying
+mod Blocks
+mod Sums
+mod BlockWork
+mod Deals
+mod Texts
+mod Whole
+mod Origin
+mod Crossing

@@ -1,0 +1,41 @@
+-- What reads keep of a pass.
+use Rattle.std.proofs.Common.{◌≡◌, refl, ◌∙◌, arith}
+use Rattle.segment_store.specs.Contents.{Pages}
+use Rattle.std.specs.Prelude.{Option}
+use Rattle.frame_table.proofs.Rising.{rises_none, rises_on}
+use Rattle.backend_pass.specs.declared.manager.Manager.{Manager}
+use Rattle.backend_pass.specs.Managers.{Belongs}
+use Rattle.backend_pass.specs.Passes.{KeepsCalls, PassState, SamePass}
+use Rattle.page_jobs.specs.Reads.{Stays}
+
+same_none : (p : PassState) → SamePass p p
+same_none p = record { table = refl; id = refl; frames = refl; number = refl; next = refl; joined = refl; kept = refl; upto = refl; advances = rises_none p.view }
+
+pub same_on : (p q r : PassState) → SamePass p q → SamePass q r → SamePass p r
+same_on p q r a b = record {
+  table = b.table ∙ a.table;
+  id = b.id ∙ a.id;
+  frames = b.frames ∙ a.frames;
+  number = b.number ∙ a.number;
+  next = b.next ∙ a.next;
+  joined = b.joined ∙ a.joined;
+  kept = b.kept ∙ a.kept;
+  upto = b.upto ∙ a.upto;
+  advances = rises_on p.view q.view r.view a.advances b.advances;
+}
+
+pub calls_on : (p q r : PassState) → KeepsCalls p q → KeepsCalls q r → KeepsCalls p r
+calls_on p q r a b = record { calls = b.calls ∙ a.calls; front = b.front ∙ a.front; place_loads = b.place_loads ∙ a.place_loads }
+
+module _ {L G : Type 0} (contents : L → Option Pages) (m : Manager L G) where
+  pub stays_none : (p : PassState) → Belongs contents m p → Stays contents m p p
+  stays_none p b = record { belongs = b; same = same_none p; mark = refl; locks = λ f. refl; front = omega arith }
+
+  pub stays_on : (p q r : PassState) → Stays contents m p q → Stays contents m q r → Stays contents m p r
+  stays_on p q r a b = record {
+    belongs = b.belongs;
+    same = same_on p q r a.same b.same;
+    mark = b.mark ∙ a.mark;
+    locks = λ f. b.locks f ∙ a.locks f;
+    front = let x = a.front in let y = b.front in omega arith;
+  }

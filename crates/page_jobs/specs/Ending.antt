@@ -1,0 +1,25 @@
+-- The totals of a job, and its end.
+use Rattle.std.specs.Prelude.{Result, Ok, Err}
+use Rattle.page_layout.specs.declared.scan.ScanTotals.{ScanTotals}
+use Rattle.page_jobs.specs.declared.ending.Totals.{Totals}
+
+-- those of a scan: a scan changes no page
+abbrev pub totals_of_scan : ScanTotals → Totals
+totals_of_scan t = record {
+  blocks = t.blocks;
+  used = t.used;
+  new = t.new;
+  invalid = t.invalid;
+  normal = t.normal;
+  redirect = t.redirect;
+  dead = t.dead;
+  unused = t.unused;
+  changed = 0;
+  same = 0;
+  skipped = 0;
+}
+
+-- whether it ended well
+abbrev pub as_done : {A E : Type 0} → Result A E → Result Unit E
+as_done (Ok a) = Ok tt
+as_done (Err e) = Err e

@@ -1,0 +1,6 @@
+pub mod Ending
+pub mod Printed
+pub mod Reads
+pub mod Parts
+pub mod Dealt
+pub mod Jobs

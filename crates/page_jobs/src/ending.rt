@@ -1,0 +1,97 @@
+//! How a job ends.
+ghost use Rattle.std.specs.Prelude.{◌≡◌};
+ghost use Rattle.page_jobs.specs.Ending.{totals_of_scan};
+
+use backend_pass::Pass;
+use block_tag::Tag;
+use page_layout::{Lsn, ScanTotals};
+use std::alloc::AllocError;
+use thiserror::Error;
+
+/// Why a job ended before its end.
+#[derive(Clone, Copy, PartialEq, Eq, Debug, Error)]
+pub enum JobError {
+    /// The lane failed to read the page of this block.
+    #[error("a page was not read")]
+    ReadFault { tag: Tag },
+    /// The lane failed to write the page of this block, whose frame was to be freed.
+    #[error("a page was not written")]
+    WriteFault { tag: Tag },
+    /// The log failed, which is down from now on.
+    #[error("the log failed")]
+    LogFault,
+    /// A call of the log failed before, where the log ended here.
+    #[error("the log is down at {at}")]
+    LogDown { at: Lsn },
+    /// A page that was to be written is of a position past the log's end.
+    #[error("the log ends at {end}, before {lsn}")]
+    LogShort { lsn: Lsn, end: Lsn },
+    #[error("the output failed")]
+    OutFault,
+    #[error("out of memory")]
+    Memory,
+}
+
+impl From<AllocError> for JobError {
+    ghost use Rattle.std.specs.Prelude.{◌≡◌};
+    ghost use Rattle.page_jobs.specs.declared.ending.JobError.TheVariants.{Memory};
+
+    ghost from_gives = { λ _ e. e ≡ Memory };
+
+    fn from(_error: AllocError) -> JobError {
+        JobError::Memory
+    }
+}
+
+/// What a job counts of the blocks: of a scan and a dump how many there are of each kind, and how many line pointers of each state the used ones have. What a job doesn't count is 0.
+#[derive(Clone, Copy, PartialEq, Eq, Debug)]
+pub struct Totals {
+    pub blocks: u64,
+    pub used: u64,
+    pub new: u64,
+    pub invalid: u64,
+    pub normal: u64,
+    pub redirect: u64,
+    pub dead: u64,
+    pub unused: u64,
+    pub changed: u64,
+    pub same: u64,
+    pub skipped: u64,
+}
+
+impl Totals {
+    /// The totals of a scan.
+    pub(crate) fn of_scan(scan: ScanTotals) -> Totals
+        ensures { result ≡ totals_of_scan scan }
+    {
+        let ScanTotals {
+            blocks,
+            used,
+            new,
+            invalid,
+            normal,
+            redirect,
+            dead,
+            unused,
+        } = scan;
+        Totals {
+            blocks,
+            used,
+            new,
+            invalid,
+            normal,
+            redirect,
+            dead,
+            unused,
+            changed: 0,
+            same: 0,
+            skipped: 0,
+        }
+    }
+}
+
+/// A job's end, with all passes that it was given, in their order.
+pub struct JobEnd {
+    pub passes: Vec<Pass>,
+    pub end: Result<Totals, JobError>,
+}

@@ -1,0 +1,15 @@
+//! Jobs over all blocks of a relation, by several backends of a manager: scans and dumps. Each backend works in a thread of its own, on a part of the blocks.
+#![tactic(auto)]
+
+mod dealing;
+mod ending;
+mod gate;
+mod printing;
+mod puts;
+mod reading;
+mod scans;
+mod working;
+
+pub use ending::{JobEnd, JobError, Totals};
+pub use gate::Gate;
+pub use scans::{dump, scan};

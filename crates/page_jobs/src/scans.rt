@@ -1,0 +1,199 @@
+//! Scans and dumps.
+ghost use Rattle.std.specs.Prelude.{◌≡◌, ◌<◌, ◌≤◌, List, IfErr, IfOk, OnOk, length, vec_capacity, vec_len, All};
+ghost use Rattle.page_layout.specs.Dump.{dump_text};
+ghost use Rattle.page_layout.specs.Scan.{scan_text};
+ghost use Rattle.pin_core.specs.State.{Page};
+ghost use Rattle.log_device.specs.Bytes.{Puts};
+ghost use Rattle.frame_table.specs.Seats.{base_of, frames_of};
+ghost use Rattle.page_jobs.specs.declared.printing.Lines.TheVariants.{Dump, Scan};
+ghost use Rattle.page_jobs.specs.Dealt.{HaveWorked, IsReady};
+ghost use Rattle.page_jobs.specs.Ending.{as_done};
+ghost use Rattle.page_jobs.specs.Jobs.{AllAtBase, AreFree, EndsJob, IsOrigin, ReadParts, ReadsAll, last_in, workers_in};
+ghost use Rattle.page_jobs.specs.Printed.{text_of_pages};
+
+use crate::dealing::{deal, gather};
+use crate::ending::{JobEnd, JobError, Totals};
+use crate::gate::Gate;
+use crate::printing::Lines;
+use crate::puts::put_all;
+use crate::working::{Job, Worker};
+use backend_pass::{Manager, Pass};
+use block_tag::{Fork, RelNo};
+use log_device::{LogDevice, Sink};
+use segment_store::BlockLane;
+use std::alloc::Global;
+use std::sync::Wait;
+use std::thread;
+use std::thread::Threads;
+
+/// All workers at once, each in a thread of its own where one can be made.
+fn work_all<L: BlockLane + Send, G: LogDevice + Send, R: Threads + Wait + Sync, T: Gate + Sync>(
+    manager: &Manager<L, G>,
+    rt: &R,
+    alloc: Global,
+    gate: &T,
+    job: Job,
+    workers: &mut Vec<Worker>,
+)
+    requires some { 0 < vec_len workers.old }
+    requires ready { All (IsReady L.contents manager.now job.rel.0 job.fork) workers.old.items }
+    requires frames { (16 ≤ frames_of manager.now.table) × (frames_of manager.now.table ≤ 4096) }
+    ensures count { vec_len workers.new ≡ vec_len workers.old }
+    ensures worked { HaveWorked L.contents manager.now job.rel.0 job.fork job.lines workers.old.items workers.new.items }
+{
+    let threads = workers.len();
+    thread::for_each_mut(
+        rt,
+        workers.as_mut_slice(),
+        threads,
+        &|_place, worker| { worker.run(manager, rt, alloc, gate, job) },
+    );
+}
+
+/// The passes work, each on its part of the blocks, and what they print is put.
+fn work_passes<
+    L: BlockLane + Send,
+    G: LogDevice + Send,
+    R: Threads + Wait + Sync,
+    O: Sink,
+    T: Gate + Sync,
+>(
+    manager: &Manager<L, G>,
+    rt: &R,
+    alloc: Global,
+    passes: &mut Vec<Pass>,
+    job: Job,
+    out: &mut O,
+    gate: &T,
+) -> Result<Totals, JobError>
+    requires some { 0 < vec_len passes.old }
+    requires few { vec_len passes.old < 64 }
+    requires free { AreFree L.contents manager.now passes.old.items }
+    requires frames { (16 ≤ frames_of manager.now.table) × (frames_of manager.now.table ≤ 4096) }
+    ensures passes { ReadParts L.contents manager.now job.rel.0 job.fork passes.old.items passes.new.items }
+    ensures capacity { vec_capacity passes.new ≡ vec_capacity passes.old }
+    ensures done { IfOk result (ReadsAll L.contents manager.now job.rel.0 job.fork job.lines passes.old.items passes.new.items (O.bytes out.old) (O.bytes out.new)) }
+    ensures text { (pages : List Page) → IsOrigin L.contents manager.now job.rel.0 job.fork pages → AllAtBase (base_of manager.now.table) passes.new.items
+        → Puts (text_of_pages job.lines pages) (O.bytes out.old) (O.bytes out.new) (as_done result) }
+    ensures quiet { OnOk result (O.faults out.new ≡ O.faults out.old) }
+    ensures later { O.faults out.old ≤ O.faults out.new }
+    ensures cause { IfErr result (EndsJob L.contents manager.now job.rel.0 job.fork passes.old.items passes.new.items (O.faults out.old) (O.faults out.new)) }
+{
+    let blocks = manager.blocks(job.rel, job.fork);
+    let mut workers = deal(alloc, blocks, passes)?;
+    work_all(manager, rt, alloc, gate, job, &mut workers);
+    let end = put_all(alloc, &workers, out);
+    gather(workers, passes);
+    end
+}
+
+/// All passes but the last work. The last one is kept for work beside them.
+fn run_job<
+    L: BlockLane + Send,
+    G: LogDevice + Send,
+    R: Threads + Wait + Sync,
+    O: Sink,
+    T: Gate + Sync,
+>(
+    manager: &Manager<L, G>,
+    rt: &R,
+    alloc: Global,
+    mut passes: Vec<Pass>,
+    job: Job,
+    out: &mut O,
+    gate: &T,
+) -> JobEnd
+    requires several { 2 ≤ vec_len passes }
+    requires few { vec_len passes ≤ 64 }
+    requires free { AreFree L.contents manager.now passes.items }
+    requires frames { (16 ≤ frames_of manager.now.table) × (frames_of manager.now.table ≤ 4096) }
+    ensures passes { ReadParts L.contents manager.now job.rel.0 job.fork (workers_in passes.items) (workers_in result.passes.items) }
+    ensures last { last_in result.passes.items ≡ last_in passes.items }
+    ensures done { IfOk result.end (ReadsAll L.contents manager.now job.rel.0 job.fork job.lines (workers_in passes.items) (workers_in result.passes.items) (O.bytes out.old) (O.bytes out.new)) }
+    ensures text { (pages : List Page) → IsOrigin L.contents manager.now job.rel.0 job.fork pages → AllAtBase (base_of manager.now.table) (workers_in result.passes.items)
+        → Puts (text_of_pages job.lines pages) (O.bytes out.old) (O.bytes out.new) (as_done result.end) }
+    ensures quiet { OnOk result.end (O.faults out.new ≡ O.faults out.old) }
+    ensures later { O.faults out.old ≤ O.faults out.new }
+    ensures cause { IfErr result.end (EndsJob L.contents manager.now job.rel.0 job.fork (workers_in passes.items) (workers_in result.passes.items) (O.faults out.old) (O.faults out.new)) }
+{
+    let beside = passes.take_last();
+    let end = work_passes(manager, rt, alloc, &mut passes, job, out, gate);
+    passes.push_reserved(beside);
+    JobEnd { passes, end }
+}
+
+/// Scans the blocks of a fork: a line for each in the order of blocks, then one of their totals. All passes are given, of which all but the last work, each on its part of the blocks; all are given back.
+pub fn scan<
+    L: BlockLane + Send,
+    G: LogDevice + Send,
+    R: Threads + Wait + Sync,
+    O: Sink,
+    T: Gate + Sync,
+>(
+    manager: &Manager<L, G>,
+    rt: &R,
+    alloc: Global,
+    passes: Vec<Pass>,
+    rel: RelNo,
+    fork: Fork,
+    out: &mut O,
+    gate: &T,
+) -> JobEnd
+    requires several { 2 ≤ vec_len passes }
+    requires few { vec_len passes ≤ 64 }
+    requires free { AreFree L.contents manager.now passes.items }
+    requires frames { (16 ≤ frames_of manager.now.table) × (frames_of manager.now.table ≤ 4096) }
+    ensures passes { ReadParts L.contents manager.now rel.0 fork (workers_in passes.items) (workers_in result.passes.items) }
+    ensures last { last_in result.passes.items ≡ last_in passes.items }
+    ensures done { IfOk result.end (ReadsAll L.contents manager.now rel.0 fork Scan (workers_in passes.items) (workers_in result.passes.items) (O.bytes out.old) (O.bytes out.new)) }
+    ensures text { (pages : List Page) → IsOrigin L.contents manager.now rel.0 fork pages → AllAtBase (base_of manager.now.table) (workers_in result.passes.items)
+        → Puts (scan_text pages) (O.bytes out.old) (O.bytes out.new) (as_done result.end) }
+    ensures quiet { OnOk result.end (O.faults out.new ≡ O.faults out.old) }
+    ensures later { O.faults out.old ≤ O.faults out.new }
+    ensures cause { IfErr result.end (EndsJob L.contents manager.now rel.0 fork (workers_in passes.items) (workers_in result.passes.items) (O.faults out.old) (O.faults out.new)) }
+{
+    let job = Job {
+        rel,
+        fork,
+        lines: Lines::Scan,
+    };
+    run_job(manager, rt, alloc, passes, job, out, gate)
+}
+
+/// Dumps the blocks of a fork: a scan, with a line for each line pointer of a page after that of its block.
+pub fn dump<
+    L: BlockLane + Send,
+    G: LogDevice + Send,
+    R: Threads + Wait + Sync,
+    O: Sink,
+    T: Gate + Sync,
+>(
+    manager: &Manager<L, G>,
+    rt: &R,
+    alloc: Global,
+    passes: Vec<Pass>,
+    rel: RelNo,
+    fork: Fork,
+    out: &mut O,
+    gate: &T,
+) -> JobEnd
+    requires several { 2 ≤ vec_len passes }
+    requires few { vec_len passes ≤ 64 }
+    requires free { AreFree L.contents manager.now passes.items }
+    requires frames { (16 ≤ frames_of manager.now.table) × (frames_of manager.now.table ≤ 4096) }
+    ensures passes { ReadParts L.contents manager.now rel.0 fork (workers_in passes.items) (workers_in result.passes.items) }
+    ensures last { last_in result.passes.items ≡ last_in passes.items }
+    ensures done { IfOk result.end (ReadsAll L.contents manager.now rel.0 fork Dump (workers_in passes.items) (workers_in result.passes.items) (O.bytes out.old) (O.bytes out.new)) }
+    ensures text { (pages : List Page) → IsOrigin L.contents manager.now rel.0 fork pages → AllAtBase (base_of manager.now.table) (workers_in result.passes.items)
+        → Puts (dump_text pages) (O.bytes out.old) (O.bytes out.new) (as_done result.end) }
+    ensures quiet { OnOk result.end (O.faults out.new ≡ O.faults out.old) }
+    ensures later { O.faults out.old ≤ O.faults out.new }
+    ensures cause { IfErr result.end (EndsJob L.contents manager.now rel.0 fork (workers_in passes.items) (workers_in result.passes.items) (O.faults out.old) (O.faults out.new)) }
+{
+    let job = Job {
+        rel,
+        fork,
+        lines: Lines::Dump,
+    };
+    run_job(manager, rt, alloc, passes, job, out, gate)
+}
