@@ -141,7 +141,7 @@ module _ {L G : Type 0} (contents : L → Option Pages) (m : Manager L G) (rel :
     why = x.why;
     fault = x.fault;
     before = x.before;
-    since = rises_on p.view q.view x.before.view s.same.advances x.since;
+    since = rises_on p.view q.view x.before.view s.same.keeps.advances x.since;
     refused = x.refused;
     met = x.met ∙ ap (λ (n : Met). met_read_refused x.why n) met;
   }
@@ -161,7 +161,7 @@ module _ {L G : Type 0} (contents : L → Option Pages) (m : Manager L G) (rel :
         spent = b.spent;
         printed = a.printed ++ b.printed;
         unprinted = b.unprinted;
-        calls = calls_joined p.view.calls q.view.calls r.view.calls p.view.number q.view.number rel fork from mid a.printed (b.printed ++ b.unprinted) a.stays.same.number at
+        calls = calls_joined p.view.calls q.view.calls r.view.calls p.view.number q.view.number rel fork from mid a.printed (b.printed ++ b.unprinted) a.stays.same.keeps.number at
             (a.calls ∙ ap (λ (l : List BlockRead). p.view.calls ++ calls_of_reads p.view.number rel fork from l) whole) b.calls
             ∙ ap (λ (l : List BlockRead). p.view.calls ++ calls_of_reads p.view.number rel fork from l) all;
         known = subst (AreKnown contents m rel fork from) all
@@ -212,7 +212,7 @@ module _ {L G : Type 0} (contents : L → Option Pages) (m : Manager L G) (rel :
     stays = c.stays;
     spent = c.spent;
     calls = c.reads.calls;
-    known = (c.reads.sound, (let x = free.belongs.based in let y = c.reads.later in omega arith), c.reads.opening);
+    known = (c.reads.sound, (let x = free.belongs.front.from_base in let y = c.reads.later in omega arith), c.reads.opening);
     place = omega arith;
     met = c.met;
   }

@@ -76,7 +76,7 @@ module _ {L G : Type 0} (contents : L → Option Pages) (m : Manager L G) where
         met = devices'.met ∙ devices.met ∙ one.met;
         reads = record {
           calls = calls.calls ∙ reads.calls
-              ∙ ap (λ (n : ℕ). q.view.calls ++ Read n (packed_tag pinned.tag) page place ∷ []) one.stays.same.number
+              ∙ ap (λ (n : ℕ). q.view.calls ++ Read n (packed_tag pinned.tag) page place ∷ []) one.stays.same.keeps.number
               ∙ ap (λ (t : Tag). q.view.calls ++ Read p.view.number (packed_tag t) page place ∷ []) one.tag_is
               ∙ ap (λ (f : ℕ). q.view.calls ++ Read p.view.number (packed_tag tag) page f ∷ []) front
               ∙ ap (λ (l : List Call). l ++ Read p.view.number (packed_tag tag) page s.view.front ∷ []) one.calls.calls;

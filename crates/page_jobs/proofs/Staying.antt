@@ -9,19 +9,21 @@ use Rattle.backend_pass.specs.Passes.{KeepsCalls, PassState, SamePass}
 use Rattle.page_jobs.specs.Reads.{Stays}
 
 same_none : (p : PassState) → SamePass p p
-same_none p = record { table = refl; id = refl; frames = refl; number = refl; next = refl; joined = refl; kept = refl; upto = refl; advances = rises_none p.view }
+same_none p = record { keeps = record { table = refl; id = refl; frames = refl; number = refl; next = refl; joined = refl; kept = refl; advances = rises_none p.view }; upto = refl }
 
 pub same_on : (p q r : PassState) → SamePass p q → SamePass q r → SamePass p r
-same_on p q r a b = record {
-  table = b.table ∙ a.table;
-  id = b.id ∙ a.id;
-  frames = b.frames ∙ a.frames;
-  number = b.number ∙ a.number;
-  next = b.next ∙ a.next;
-  joined = b.joined ∙ a.joined;
-  kept = b.kept ∙ a.kept;
+same_on p q r a b = let c = a.keeps in let d = b.keeps in record {
+  keeps = record {
+    table = d.table ∙ c.table;
+    id = d.id ∙ c.id;
+    frames = d.frames ∙ c.frames;
+    number = d.number ∙ c.number;
+    next = d.next ∙ c.next;
+    joined = d.joined ∙ c.joined;
+    kept = d.kept ∙ c.kept;
+    advances = rises_on p.view q.view r.view c.advances d.advances;
+  };
   upto = b.upto ∙ a.upto;
-  advances = rises_on p.view q.view r.view a.advances b.advances;
 }
 
 pub calls_on : (p q r : PassState) → KeepsCalls p q → KeepsCalls q r → KeepsCalls p r
