@@ -1,5 +1,5 @@
 -- A worker's part, block by block.
-use Rattle.std.proofs.Common.{◌≡◌, ◌+◌, ◌<◌, ◌≤◌, ℕ, suc, List, [], ◌∷◌, ◌++◌, length, Option, Some, None, Result, Ok, Err, refl, sym, ap, ◌∙◌, subst, arith, append_assoc, add-zero, inl, inr}
+use Rattle.std.proofs.Common.{◌≡◌, ◌+◌, ◌<◌, ◌≤◌, ℕ, suc, List, [], ◌∷◌, ◌++◌, length, Option, Result, Ok, Err, refl, sym, ap, ◌∙◌, subst, arith, append_assoc, add-zero, inl, inr}
 use Rattle.std.specs.Prelude.{OnOk, IfErr}
 use Rattle.std.proofs.lemmas.List.{append-nil, length-append}
 use Rattle.block_tag.specs.declared.tag.Fork.{Fork}
@@ -11,7 +11,6 @@ use Rattle.segment_store.specs.Contents.{Pages}
 use Rattle.pin_core.specs.declared.view.Call.{Call}
 use Rattle.pin_core.specs.declared.view.Met.{Met}
 use Rattle.pin_core.specs.State.{Page}
-use Rattle.frame_table.specs.Seats.{base_of}
 use Rattle.frame_table.proofs.Rising.{rises_on}
 use Rattle.held_pins.specs.Tokens.{no_tokens}
 use Rattle.backend_pass.specs.declared.manager.Manager.{Manager}
@@ -23,8 +22,8 @@ use Rattle.page_jobs.specs.declared.printing.Lines.{Lines}
 use Rattle.page_jobs.specs.declared.reading.BlockPage.{BlockPage}
 use Rattle.page_jobs.specs.declared.reading.BlockPage.TheVariants.{Sound, Unsound}
 use Rattle.page_jobs.specs.Printed.{BlockRead, copied, unsound, found_lines, found_summary, read_lines, read_summary, reads_lines, reads_totals}
-use Rattle.page_jobs.specs.Reads.{CopiesBlock, FindsUnsound, IsFree, IsKnown, IsWithinFront, ReadsBlock, Stays, StopsAt, calls_of_reads}
-use Rattle.page_jobs.specs.Parts.{AllReads, AreKnown, DoesPart, EndsFor, MeetsFault, blocks_in}
+use Rattle.page_jobs.specs.Reads.{IsFree, IsKnown, IsWithinFront, ReadsBlock, Stays, StopsAt, calls_of_reads}
+use Rattle.page_jobs.specs.Parts.{AllReads, AreKnown, DoesPart, EndsFor, blocks_in}
 use Rattle.page_jobs.proofs.Staying.{stays_none, stays_on}
 use Rattle.page_jobs.proofs.Sums.{counted-is, none_sum, reads_totals-append, sum_assoc}
 

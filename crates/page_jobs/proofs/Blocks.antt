@@ -1,6 +1,5 @@
 -- A worker reads a block.
-use Rattle.std.proofs.Common.{◌≡◌, ◌+◌, ◌<◌, ◌≤◌, ℕ, Bool, true, false, List, [], ◌∷◌, ◌++◌, Option, Some, None, Result, Ok, Err, refl, sym, ap, ◌∙◌, subst, arith}
-use Rattle.std.specs.Prelude.{nat_lt}
+use Rattle.std.proofs.Common.{◌≡◌, ◌+◌, ◌<◌, ◌≤◌, ℕ, true, false, List, [], ◌∷◌, ◌++◌, Option, None, Err, refl, sym, ap, ◌∙◌, subst, arith}
 use Rattle.block_tag.specs.declared.catalogue.RelEntry.{RelEntry}
 use Rattle.block_tag.specs.declared.tag.Tag.{Tag}
 use Rattle.block_tag.specs.Catalogue.{blocks_at}
@@ -11,8 +10,7 @@ use Rattle.pin_core.specs.declared.view.Call.{Call}
 use Rattle.pin_core.specs.declared.view.Call.TheVariants.{Read}
 use Rattle.pin_core.specs.State.{Page}
 use Rattle.frame_table.specs.Opened.{WasAtOpening}
-use Rattle.frame_table.specs.Seats.{relations_of}
-use Rattle.held_pins.specs.Tokens.{HeldFrame, IsNew, Tokens, no_tokens, tokens_less}
+use Rattle.held_pins.specs.Tokens.{IsNew, Tokens, no_tokens, tokens_less}
 use Rattle.backend_pass.specs.declared.errors.ReadError.{ReadError}
 use Rattle.backend_pass.specs.declared.errors.ReadError.TheVariants as read
 use Rattle.backend_pass.specs.declared.manager.Manager.{Manager}
@@ -20,9 +18,8 @@ use Rattle.backend_pass.specs.declared.pinned.Pinned.{Pinned}
 use Rattle.backend_pass.specs.Managers.{Belongs}
 use Rattle.backend_pass.specs.PageReads.{ReadsPage}
 use Rattle.backend_pass.specs.Passes.{KeepsCalls, KeepsDevices, KeepsLocks, KeepsMark, PassState, SamePass}
-use Rattle.backend_pass.specs.Reading.{ReadingRefused, at_once_of, met_read_refused, met_reading, refused_at_once}
-use Rattle.page_jobs.specs.declared.ending.JobError.{JobError}
-use Rattle.page_jobs.specs.Reads.{CopiesBlock, FindsUnsound, PinsOne, RefusesBlock, Stays, StopsAt, fault_of_refusal, is_crowding, is_tried_once}
+use Rattle.backend_pass.specs.Reading.{at_once_of, met_read_refused, refused_at_once}
+use Rattle.page_jobs.specs.Reads.{CopiesBlock, FindsUnsound, PinsOne, RefusesBlock, fault_of_refusal, is_crowding, is_tried_once}
 use Rattle.page_jobs.proofs.Staying.{same_on}
 
 -- a pass without tokens has none of the block

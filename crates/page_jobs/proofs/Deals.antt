@@ -1,12 +1,11 @@
 -- Passes become workers, and are given back.
-use Rattle.std.proofs.Common.{◌≡◌, ℕ, zero, suc, ◌+◌, ◌*◌, ◌/◌, ◌-◌, ◌<◌, ◌≤◌, List, [], ◌∷◌, ◌++◌, length, map, take, drop, refl, sym, ap, ◌∙◌, subst, arith, append_assoc}
+use Rattle.std.proofs.Common.{◌≡◌, ℕ, zero, suc, ◌+◌, ◌*◌, ◌-◌, ◌<◌, ◌≤◌, List, [], ◌∷◌, ◌++◌, length, map, take, drop, refl, sym, ap, ◌∙◌, subst, arith, append_assoc}
 use Rattle.std.specs.Prelude.{Option, slice_index_or}
 use Rattle.std.proofs.lemmas.List.{append-nil, length-append, map-append, reverse-append}
 use Rattle.std.proofs.lemmas.Nat.{le-div}
 use Rattle.std.proofs.Math.Nat.{div-mul-le_self, div-le_of_le-mul}
 use mathlib.Core.List.{reverse}
 use Rattle.block_tag.specs.declared.tag.Fork.{Fork}
-use Rattle.page_layout.specs.declared.scan.ScanTotals.{ScanTotals}
 use Rattle.page_layout.specs.Scan.{no_totals}
 use Rattle.segment_store.specs.Contents.{Pages}
 use Rattle.backend_pass.specs.declared.manager.Manager.{Manager}

@@ -1,8 +1,8 @@
 -- Where no worker has seen more of the log than its beginning, what was read are the pages of the blocks as the table was opened.
-use Rattle.std.proofs.Common.{◌≡◌, ℕ, zero, suc, ◌+◌, ◌<◌, ◌≤◌, ◌⊎◌, true, false, List, [], ◌∷◌, ◌++◌, length, map, drop, codes, Option, Some, None, Result, Ok, Err, refl, sym, ap, ap₂, ◌∙◌, subst, arith, append_assoc, add-zero, inl, inr}
+use Rattle.std.proofs.Common.{◌≡◌, ℕ, zero, suc, ◌+◌, ◌<◌, ◌≤◌, ◌⊎◌, true, false, List, [], ◌∷◌, ◌++◌, length, map, drop, Option, Some, Result, Ok, Err, refl, sym, ap, ap₂, ◌∙◌, subst, arith, append_assoc, add-zero, inl, inr}
 use Rattle.std.specs.Prelude.{OnOk, nat_lt}
 use Rattle.std.proofs.lemmas.List.{append-nil, length-append}
-use mathlib.Core.Option.{some, some-injective, some-ne-none}
+use mathlib.Core.Option.{some}
 use lib.ListN.{get_elem?}
 use Rattle.block_tag.specs.declared.tag.Fork.{Fork}
 use Rattle.block_tag.specs.declared.tag.Tag.{Tag}
@@ -12,7 +12,7 @@ use Rattle.page_layout.specs.declared.scan.ScanTotals.{ScanTotals}
 use Rattle.page_layout.specs.declared.summary.PageSummary.{PageSummary}
 use Rattle.page_layout.specs.declared.summary.PageSummary.TheVariants.{Invalid}
 use Rattle.page_layout.specs.Dump.{dump_lines_from, dump_lines_of, dump_text, used_lines}
-use Rattle.page_layout.specs.Scan.{no_totals, scan_lines_from, scan_text, sum_of_totals, totals_of, totals_of_summaries, totals_text}
+use Rattle.page_layout.specs.Scan.{no_totals, scan_lines_from, scan_text, sum_of_totals, totals_of, totals_of_summaries}
 use Rattle.page_layout.specs.Soundness.{is_sound_page}
 use Rattle.page_layout.specs.Summary.{summary_of}
 use Rattle.page_layout.specs.Text.{line_of, scan_line_of}
@@ -21,7 +21,6 @@ use Rattle.pin_core.specs.State.{Page}
 use Rattle.table_rule.specs.TakenLanes.{IsBlockOf}
 use Rattle.frame_table.specs.Seats.{base_of, lanes_in, relations_of}
 use Rattle.frame_table.specs.Opened.{WasAtOpening}
-use Rattle.buffer_frames.specs.Loading.{WasUnsoundAtOpening}
 use Rattle.backend_pass.specs.declared.manager.Manager.{Manager}
 use Rattle.backend_pass.specs.Passes.{PassState}
 use Rattle.page_jobs.specs.declared.ending.JobError.{JobError}

@@ -1,5 +1,5 @@
 -- What reads keep of a pass.
-use Rattle.std.proofs.Common.{◌≡◌, refl, ◌∙◌, arith}
+use Rattle.std.proofs.Common.{refl, ◌∙◌, arith}
 use Rattle.segment_store.specs.Contents.{Pages}
 use Rattle.std.specs.Prelude.{Option}
 use Rattle.frame_table.proofs.Rising.{rises_none, rises_on}

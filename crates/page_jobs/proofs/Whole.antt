@@ -1,48 +1,34 @@
 -- What all workers of a job did, together.
-use Rattle.std.proofs.Common.{◌≡◌, ℕ, zero, suc, ◌+◌, ◌-◌, ◌*◌, ◌/◌, ◌<◌, ◌≤◌, ◌⊎◌, true, false, List, [], ◌∷◌, ◌++◌, length, map, take, drop, codes, Option, Some, None, Result, Ok, Err, refl, sym, ap, ◌∙◌, subst, arith, append_assoc, inl, inr}
+use Rattle.std.proofs.Common.{◌≡◌, ℕ, zero, suc, ◌+◌, ◌-◌, ◌*◌, ◌<◌, ◌≤◌, ◌⊎◌, List, [], ◌∷◌, ◌++◌, length, map, take, drop, Option, Result, Ok, Err, refl, sym, ap, ◌∙◌, subst, arith, inl, inr}
 use Rattle.std.specs.Prelude.{option_map, OnOk, IfErr, IfOk}
 use Rattle.std.proofs.lemmas.List.{append-nil, length-append}
 use Rattle.std.proofs.lemmas.Nat.{le-div}
-use Rattle.std.proofs.Math.Nat.{div-mul-le_self, div-le_of_le-mul}
+use Rattle.std.proofs.Math.Nat.{div-mul-le_self}
 use mathlib.Core.Option.{some, some-injective, some-ne-none}
 use lib.ListN.{get_elem?}
 use Rattle.block_tag.specs.declared.tag.Fork.{Fork}
-use Rattle.block_tag.specs.declared.tag.Tag.{Tag}
-use Rattle.block_tag.specs.Names.{lane_number, names_block, tag_of_parts}
+use Rattle.block_tag.specs.Names.{tag_of_parts}
 use Rattle.log_device.specs.Bytes.{Puts}
 use Rattle.log_device.specs.Faults.{Rose}
 use Rattle.page_layout.specs.declared.scan.ScanTotals.{ScanTotals}
-use Rattle.page_layout.specs.declared.summary.PageSummary.{PageSummary}
-use Rattle.page_layout.specs.declared.summary.PageSummary.TheVariants.{Invalid}
-use Rattle.page_layout.specs.Dump.{dump_lines_from, dump_lines_of, dump_text, used_lines}
-use Rattle.page_layout.specs.Scan.{no_totals, scan_lines_from, scan_text, sum_of_totals, totals_of, totals_of_summaries, totals_text}
-use Rattle.page_layout.specs.Soundness.{is_sound_page}
-use Rattle.page_layout.specs.Summary.{summary_of}
-use Rattle.page_layout.specs.Text.{line_of, scan_line_of}
+use Rattle.page_layout.specs.Scan.{no_totals, sum_of_totals}
 use Rattle.segment_store.specs.Contents.{Pages}
-use Rattle.pin_core.specs.declared.view.Met.{Met}
-use Rattle.pin_core.specs.State.{Page}
-use Rattle.table_rule.specs.TakenLanes.{IsBlockOf}
-use Rattle.frame_table.specs.Seats.{base_of, lanes_in, opened_of, relations_of}
-use Rattle.frame_table.specs.Opened.{WasAtOpening}
-use Rattle.buffer_frames.specs.Loading.{WasUnsoundAtOpening}
 use Rattle.backend_pass.specs.declared.manager.Manager.{Manager}
 use Rattle.backend_pass.specs.Passes.{PassState}
 use Rattle.page_jobs.specs.declared.ending.JobError.{JobError}
 use Rattle.page_jobs.specs.declared.ending.JobError.TheVariants.{Memory, OutFault}
 use Rattle.page_jobs.specs.declared.ending.Totals.{Totals}
 use Rattle.page_jobs.specs.declared.printing.Lines.{Lines}
-use Rattle.page_jobs.specs.declared.printing.Lines.TheVariants.{Dump, Scan}
 use Rattle.page_jobs.specs.declared.working.Worker.{Worker}
 use Rattle.page_jobs.specs.Ending.{as_done, totals_of_scan}
-use Rattle.page_jobs.specs.Printed.{BlockRead, copied, unsound, lines_from, page_lines, read_lines, read_summary, reads_lines, reads_totals, text_of_pages, totals_line}
+use Rattle.page_jobs.specs.Printed.{BlockRead, reads_lines, reads_totals, totals_line}
 use Rattle.page_jobs.specs.Reads.{IsFree, IsKnown, IsWithinFront, calls_of_reads}
 use Rattle.page_jobs.specs.Parts.{AllReads, AreKnown, DoesPart, EndsFor, MeetsFault, blocks_in, part_start}
 use Rattle.page_jobs.specs.Dealt.{AllDone, AnyEnds, AreCounted, DoParts, job_text, job_totals, text_if_done}
-use Rattle.page_jobs.specs.Jobs.{AllAtBase, AnyMeets, AreFree, EndsJob, IsOrigin, ReadParts, ReadsAll, ReadsPart, WasKnownAtOpening, reads_between}
+use Rattle.page_jobs.specs.Jobs.{AnyMeets, AreFree, EndsJob, ReadParts, ReadsAll, ReadsPart, reads_between}
 use Rattle.page_jobs.proofs.Deals.{start_first, start_last, start_le}
 use Rattle.page_jobs.proofs.Staying.{stays_none}
-use Rattle.page_jobs.proofs.Texts.{stopped_in, text_either, text_last}
+use Rattle.page_jobs.proofs.Texts.{text_last}
 use Rattle.page_jobs.proofs.Sums.{reads_totals-append, sum_none}
 use Rattle.page_jobs.proofs.BlockWork.{all_append, lines-append, totals_long}
 

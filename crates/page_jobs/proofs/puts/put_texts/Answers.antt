@@ -1,4 +1,4 @@
-use Rattle.std.proofs.Common.{rules, List, ℕ, Err, subst, inl, ap, ◌++◌, ◌∙◌}
+use Rattle.std.proofs.Common.{rules, List, ℕ, subst, inl, ap, ◌++◌, ◌∙◌}
 use Rattle.std.specs.Prelude.{option_map}
 use Rattle.atomic_table.proofs.Lists.{at_index}
 use Rattle.log_device.specs.Bytes.{Puts}

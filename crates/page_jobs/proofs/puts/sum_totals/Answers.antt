@@ -1,6 +1,6 @@
 use Rattle.std.proofs.Common.{rules}
 use Rattle.atomic_table.proofs.Lists.{at_index}
-use Rattle.page_jobs.proofs.Texts.{counted_at, totals_all, totals_fit, totals_next}
+use Rattle.page_jobs.proofs.Texts.{counted_at}
 use Rattle.page_jobs.proofs.puts.sum_totals.Goals as goal
 
 pub add-requires-clause-other_within : goal.add-requires-clause-other_within

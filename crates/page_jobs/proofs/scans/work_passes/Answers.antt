@@ -1,4 +1,4 @@
-use Rattle.std.proofs.Common.{◌≡◌, ◌+◌, ◌<◌, ◌≤◌, ℕ, List, length, map, refl, sym, ap, ◌∙◌, subst, arith, rules}
+use Rattle.std.proofs.Common.{◌≡◌, ◌<◌, ◌≤◌, ℕ, List, length, map, sym, ap, ◌∙◌, subst, rules}
 use Rattle.std.specs.Prelude.{IfErr, IfOk, vec_len}
 use Rattle.backend_pass.specs.Passes.{PassState}
 use Rattle.frame_table.specs.Seats.{base_of}
