@@ -16,7 +16,7 @@ use Rattle.backend_pass.specs.declared.errors.ReadError.TheVariants as read
 use Rattle.backend_pass.specs.declared.manager.Manager.{Manager}
 use Rattle.backend_pass.specs.declared.pinned.Pinned.{Pinned}
 use Rattle.backend_pass.specs.Managers.{Belongs}
-use Rattle.backend_pass.specs.PageReads.{ReadsPage}
+use Rattle.buffer_frames.specs.PageReads.{ReadsPage}
 use Rattle.backend_pass.specs.Passes.{KeepsCalls, KeepsDevices, KeepsLocks, KeepsMark, PassState, SamePass}
 use Rattle.backend_pass.specs.Reading.{at_once_of, met_read_refused, refused_at_once}
 use Rattle.page_jobs.specs.Reads.{CopiesBlock, FindsUnsound, PinsOne, RefusesBlock, fault_of_refusal, is_crowding, is_tried_once}

@@ -20,7 +20,7 @@ use Rattle.backend_pass.specs.declared.manager.Manager.{Manager}
 use Rattle.backend_pass.specs.declared.pinned.Pinned.{Pinned}
 use Rattle.backend_pass.specs.Locks.{HasLock}
 use Rattle.backend_pass.specs.Managers.{Belongs}
-use Rattle.backend_pass.specs.PageReads.{ReadsPage}
+use Rattle.buffer_frames.specs.PageReads.{ReadsPage}
 use Rattle.backend_pass.specs.Passes.{KeepsCalls, KeepsLocks, KeepsMark, PassState, SamePass}
 use Rattle.backend_pass.specs.Reading.{ReadingRefused, met_read_refused}
 use Rattle.page_jobs.specs.declared.ending.JobError.{JobError}
