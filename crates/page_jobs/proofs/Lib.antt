@@ -7,3 +7,4 @@ mod Texts
 mod Whole
 mod Origin
 mod Crossing
+mod Returned
