@@ -13,7 +13,8 @@ use Rattle.pin_core.specs.Steps.{HoldsNothing, IsFree}
 use Rattle.held_pins.specs.Tokens.{no_tokens}
 use Rattle.held_pins.specs.Rests.{Rests}
 use Rattle.backend_pass.specs.Passes.{PassState}
-use Rattle.backend_pass.specs.Managers.{AreOthers, AreSpent, IsFirstAt, first_in, is_first, others_in}
+use Rattle.history_core.specs.Log.{IsFront}
+use Rattle.backend_pass.specs.Managers.{AreFronted, AreOthers, AreSpent, IsFirstAt, first_in, is_first, others_in}
 use Rattle.backend_pass.specs.Closing.{calls_of_passes, joined_views, met_by_passes}
 use Rattle.pin_core.specs.declared.view.Checkpoint.{Checkpoint}
 use Rattle.grid.proofs.Lists.{at_longer}
@@ -159,3 +160,12 @@ take_whole [] zero e = refl
 take_whole [] (suc n) e = refl
 take_whole (x ∷ xs) zero e = absurd (omega arith)
 take_whole (x ∷ xs) (suc n) e = ap (λ l. x ∷ l) (take_whole xs n (omega arith))
+
+-- what holds of each pass of a list
+pub spent_each : (table : TableId) (ps : List PassState) → ((i : ℕ) (p : PassState) → get_elem? ps i ≡ some p → (p.table ≡ table) × (p.tokens ≡ no_tokens)) → AreSpent table ps
+spent_each table [] each = tt
+spent_each table (p ∷ ps) each = let e = each 0 p refl in (e.0, e.1, spent_each table ps (λ i. each (suc i)))
+
+pub fronted_each : (base : ℕ) (ps : List PassState) → ((i : ℕ) (p : PassState) → get_elem? ps i ≡ some p → IsFront base p.view.calls p.view.front) → AreFronted base ps
+fronted_each base [] each = tt
+fronted_each base (p ∷ ps) each = (each 0 p refl, fronted_each base ps (λ i. each (suc i)))

@@ -2,26 +2,15 @@
 use Rattle.std.proofs.Common.{◌≡◌, ◌<◌, ◌∙◌, ℕ, suc, List, [], ◌∷◌, nat_eq, Option, None, refl, sym, ap, arith}
 use mathlib.Core.Option.{some}
 use lib.ListN.{get_elem?}
-use Rattle.atomic_table.specs.Seated.{TableId}
 use Rattle.segment_store.specs.Contents.{Pages}
 use Rattle.table_rule.specs.declared.config.Config.{Config}
 use Rattle.pin_core.specs.declared.view.View.{View}
-use Rattle.history_core.specs.Log.{IsFront}
 use Rattle.frame_table.specs.Seats.{base_of}
-use Rattle.held_pins.specs.Tokens.{no_tokens}
 use Rattle.backend_pass.specs.declared.manager.Manager.{Manager}
-use Rattle.backend_pass.specs.Managers.{AreAll, AreFronted, AreNewPasses, AreSpent, first_in}
+use Rattle.backend_pass.specs.Managers.{AreAll, AreNewPasses, first_in}
 use Rattle.backend_pass.specs.Passes.{PassState}
 use Rattle.backend_pass.specs.Starting.{start_refusal}
-use Rattle.backend_pass.proofs.Joining.{first_here}
-
-spent : (t : TableId) (ps : List PassState) → ((i : ℕ) (p : PassState) → get_elem? ps i ≡ some p → (p.table ≡ t) × (p.tokens ≡ no_tokens)) → AreSpent t ps
-spent t [] each = tt
-spent t (p ∷ ps) each = ((each 0 p refl).0, (each 0 p refl).1, spent t ps (λ i. each (suc i)))
-
-fronted : (base : ℕ) (ps : List PassState) → ((i : ℕ) (p : PassState) → get_elem? ps i ≡ some p → IsFront base p.view.calls p.view.front) → AreFronted base ps
-fronted base [] each = tt
-fronted base (p ∷ ps) each = (each 0 p refl, fronted base ps (λ i. each (suc i)))
+use Rattle.backend_pass.proofs.Joining.{first_here, fronted_each, spent_each}
 
 passes_some : (c : Config) (given : ℕ) → start_refusal c given ≡ None → 0 < c.passes
 passes_some c given e = grind arith
@@ -36,8 +25,8 @@ module _ {L G : Type 0} (contents : L → Option Pages) (m : Manager L G) where
         nonempty = let e = new.counted in omega arith;
         counted = new.counted ∙ sym (ap (λ (v : View). v.next) first ∙ h.next refl);
         joined = ap (λ (v : View). v.joined) first ∙ ap (λ (v : View). v.joined) h.view;
-        spent = spent m.table.table.shared.table_id (p ∷ ps) (λ i q e. let k = new.each i q e in (k.belongs.table, k.tokens));
-        fronts = fronted (base_of m.table) (p ∷ ps) (λ i q e. (new.each i q e).belongs.front);
+        spent = spent_each m.table.table.shared.table_id (p ∷ ps) (λ i q e. let k = new.each i q e in (k.belongs.table, k.tokens));
+        fronts = fronted_each (base_of m.table) (p ∷ ps) (λ i q e. (new.each i q e).belongs.front);
       }
 
   pub all_fresh : (c : Config) (given : ℕ) (ps : List PassState) → start_refusal c given ≡ None → AreNewPasses contents m c.passes ps → AreAll m ps

@@ -10,8 +10,10 @@ use Rattle.pin_core.specs.declared.view.View.{View}
 use Rattle.atomic_table.specs.Seated.{TableId}
 use Rattle.held_pins.specs.Tokens.{no_tokens}
 use Rattle.backend_pass.specs.declared.manager.Manager.{Manager}
-use Rattle.backend_pass.specs.Managers.{AreAll, AreNewPasses, AreSpent, IsNewPass, first_in, is_first}
+use Rattle.frame_table.specs.Seats.{base_of}
+use Rattle.backend_pass.specs.Managers.{AreAll, AreFronted, AreNewPasses, AreSpent, IsNewPass, first_in, is_first}
 use Rattle.backend_pass.specs.Passes.{PassState}
+use Rattle.backend_pass.proofs.Joining.{fronted_each, spent_each}
 use Rattle.page_jobs.specs.Jobs.{AreFree, ReadParts, last_in, workers_in}
 use Rattle.page_jobs.specs.Parts.{blocks_in}
 use Rattle.page_jobs.specs.Reads.{IsFree}
@@ -31,13 +33,13 @@ at_back [] r i j p e at = subst (λ (k : ℕ). get_elem? r k ≡ some p) (let f 
 at_back (x ∷ l) r i zero p e at = absurd (omega arith)
 at_back (x ∷ l) r i (suc j) p e at = at_back l r i j p (omega arith) at
 
-spent_each : (table : TableId) (l : List PassState) → ((i : ℕ) (p : PassState) → get_elem? l i ≡ some p → (p.table ≡ table) × (p.tokens ≡ no_tokens)) → AreSpent table l
-spent_each table [] each = tt
-spent_each table (x ∷ l) each = let e = each 0 x refl in (e.0, e.1, spent_each table l (λ i p at. each (suc i) p at))
-
 spent_both : (table : TableId) (l r : List PassState) → AreSpent table l → AreSpent table r → AreSpent table (l ++ r)
 spent_both table [] r a b = b
 spent_both table (x ∷ l) r a b = (a.0, a.1, spent_both table l r a.2 b)
+
+fronted_both : (base : ℕ) (l r : List PassState) → AreFronted base l → AreFronted base r → AreFronted base (l ++ r)
+fronted_both base [] r a b = b
+fronted_both base (x ∷ l) r a b = (a.0, fronted_both base l r a.1 b)
 
 first_is : (l : List PassState) (p : PassState) → get_elem? l 0 ≡ some p → p.view.number ≡ 0 → first_in l ≡ p.view
 first_is [] p at e = absurd (some-ne-none p (sym at))
@@ -79,16 +81,20 @@ module _ {L G : Type 0} (contents : L → Option Pages) (m : Manager L G) (rel :
       let at : get_elem? ps 0 ≡ some p0.0 = subst (λ (l : List PassState). get_elem? l 0 ≡ some p0.0) whole (at_front (workers_in ps) (last_in ps) 0 p0.0 p0.1) in
       let at' : get_elem? qs 0 ≡ some q0.0 = subst (λ (l : List PassState). get_elem? l 0 ≡ some q0.0) back (at_front (workers_in qs) (last_in qs) 0 q0.0 q0.1) in
       let fresh = new.each 0 p0.0 at in
-      let number : q0.0.view.number ≡ 0 = one.stays.same.number ∙ ap (λ (v : View). v.number) fresh.view in
+      let number : q0.0.view.number ≡ 0 = one.stays.same.keeps.number ∙ ap (λ (v : View). v.number) fresh.view in
       let first = first_is qs q0.0 at' number in
+      let freed = λ (i : ℕ) (q : PassState) (there' : get_elem? (workers_in qs) i ≡ some q). let p = there (workers_in ps) i (within_front qs ps i q read.counted there') in read.each i p.0 q p.1 there' in
+      let kept = λ (i : ℕ) (q : PassState) (there' : get_elem? (last_in qs) i ≡ some q). new.each (length (workers_in ps) + i) q (subst (λ (l : List PassState). get_elem? l (length (workers_in ps) + i) ≡ some q) whole (at_back (workers_in ps) (last_in ps) i (length (workers_in ps) + i) q refl (subst (λ (l : List PassState). get_elem? l i ≡ some q) last there'))) in
       record {
         nonempty = omega arith;
-        counted = count ∙ new.counted ∙ sym (fresh.next refl) ∙ sym one.stays.same.next ∙ ap (λ (v : View). v.next) (sym first);
-        joined = ap (λ (v : View). v.joined) first ∙ one.stays.same.joined ∙ ap (λ (v : View). v.joined) fresh.view;
+        counted = count ∙ new.counted ∙ sym (fresh.next refl) ∙ sym one.stays.same.keeps.next ∙ ap (λ (v : View). v.next) (sym first);
+        joined = ap (λ (v : View). v.joined) first ∙ one.stays.same.keeps.joined ∙ ap (λ (v : View). v.joined) fresh.view;
         spent = subst (AreSpent m.table.table.shared.table_id) back
             (spent_both m.table.table.shared.table_id (workers_in qs) (last_in qs)
-            (spent_each m.table.table.shared.table_id (workers_in qs) (λ i q there'. let p = there (workers_in ps) i (within_front qs ps i q read.counted there') in let r = read.each i p.0 q p.1 there' in (r.stays.belongs.table, r.spent)))
-            (spent_each m.table.table.shared.table_id (last_in qs) (λ i q there'.
-            let x = new.each (length (workers_in ps) + i) q (subst (λ (l : List PassState). get_elem? l (length (workers_in ps) + i) ≡ some q) whole (at_back (workers_in ps) (last_in ps) i (length (workers_in ps) + i) q refl (subst (λ (l : List PassState). get_elem? l i ≡ some q) last there'))) in
-            (x.belongs.table, x.tokens))));
+            (spent_each m.table.table.shared.table_id (workers_in qs) (λ i q at. let r = freed i q at in (r.stays.belongs.table, r.spent)))
+            (spent_each m.table.table.shared.table_id (last_in qs) (λ i q at. let x = kept i q at in (x.belongs.table, x.tokens))));
+        fronts = subst (AreFronted (base_of m.table)) back
+            (fronted_both (base_of m.table) (workers_in qs) (last_in qs)
+            (fronted_each (base_of m.table) (workers_in qs) (λ i q at. (freed i q at).stays.belongs.front))
+            (fronted_each (base_of m.table) (last_in qs) (λ i q at. (kept i q at).belongs.front)));
       }
