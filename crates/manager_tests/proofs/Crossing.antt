@@ -44,3 +44,6 @@ globals_shared = search (sendable, crosses, over.crosses) depth 20
 -- what captures six values may cross threads where they may
 pub six_sent : (ν : Sym) (A B C D E F : RattleType) → IsSend A → IsSend B → IsSend C → IsSend D → IsSend E → IsSend F → IsSend (TupleAt ν (A ∷ B ∷ C ∷ D ∷ E ∷ F ∷ []))
 six_sent ν A B C D E F a b c d e f = search (sendable, crosses) depth 20
+
+pub three_sent : (ν : Sym) (A B C : RattleType) → IsSend A → IsSend B → IsSend C → IsSend (TupleAt ν (A ∷ B ∷ C ∷ []))
+three_sent ν A B C a b c = search (sendable, crosses) depth 20

@@ -2,6 +2,7 @@
 #![tactic(auto)]
 
 pub mod bench;
+pub mod cleaning;
 pub mod crowding;
 pub mod locking;
 pub mod putting;

@@ -1,5 +1,6 @@
 //! Managers that are run.
 use crate::bench::{Bench, block, start};
+use crate::cleaning::{Asked, NotAlone, try_not_alone, wait_and_ask};
 use crate::crowding::{Crowded, hold_first};
 use crate::locking::{Refusals, try_beside_exclusive, try_beside_shared};
 use crate::putting::{flush_once, put_once};
@@ -7,7 +8,8 @@ use crate::reading::{Access, copy_once, read_once};
 use crate::sharing::{Copied, copy_all_twice, copy_beside};
 use access_rings::{Ring, RingKind};
 use backend_pass::{
-    Config, FlushError, Manager, PutError, ReadError, Setting, StartError, StartRefused, TryLock,
+    CleanupError, Config, FlushError, Manager, PutError, ReadError, Setting, StartError,
+    StartRefused, TryCleanup, TryLock,
 };
 use block_tag::Catalog;
 use page_layout::Page;
@@ -633,6 +635,82 @@ fn a_ring_for_bulk_reads_gives_a_dirty_frame_up(rt: HostRuntime) -> Result<(), F
     assert_eq!(rt;
         ringed(&rt, rt.alloc(), RingKind::Vacuum)?,
         (read(1), read(0), 1, 1)
+    );
+    Ok(())
+}
+
+#[test]
+fn a_waiter_is_named_and_woken(rt: HostRuntime) -> Result<(), Fail> {
+    let Bench {
+        manager,
+        mut first,
+        mut second,
+        mut third,
+        passes,
+    } = start(
+        rt.alloc(),
+        64,
+        TestLane::numbered(None),
+        TestLog::new(rt.alloc(), 0),
+        0,
+    )?;
+    let (waited, asked) = wait_and_ask(
+        &manager,
+        &rt,
+        &mut first,
+        &mut second,
+        &mut third,
+        rt.alloc(),
+    );
+    let (_lanes, _log) = Bench {
+        manager,
+        first,
+        second,
+        third,
+        passes,
+    }
+    .close();
+    assert_eq!(rt; waited, Some(None));
+    assert_eq!(rt;
+        asked,
+        Some(Asked {
+            refused: Some(CleanupError::OtherWaiter { backend: 0 }),
+            wrong: Some(0)
+        })
+    );
+    Ok(())
+}
+
+#[test]
+fn a_try_that_is_not_alone_is_refused(rt: HostRuntime) -> Result<(), Fail> {
+    let Bench {
+        manager,
+        mut first,
+        mut second,
+        third,
+        passes,
+    } = start(
+        rt.alloc(),
+        64,
+        TestLane::numbered(None),
+        TestLog::new(rt.alloc(), 0),
+        0,
+    )?;
+    let refusals = try_not_alone(&manager, &rt, &mut first, &mut second);
+    let (_lanes, _log) = Bench {
+        manager,
+        first,
+        second,
+        third,
+        passes,
+    }
+    .close();
+    assert_eq!(rt;
+        refusals,
+        Some(NotAlone {
+            pinned: Some(TryCleanup::OtherPins { word: 0x8308_0002 }),
+            shared: Some(TryCleanup::Busy { word: 1 })
+        })
     );
     Ok(())
 }
