@@ -8,13 +8,13 @@ use Rattle.pin_core.specs.declared.view.Content.TheVariants.{Unlocked}
 use Rattle.pin_core.specs.declared.view.Link.{Link}
 use Rattle.pin_core.specs.declared.view.View.{View}
 use Rattle.pin_core.specs.State.{link}
-use Rattle.frame_table.proofs.Rising.{rises_on}
 use Rattle.held_pins.specs.Tokens.{IsPinnedFor, tokens_less}
 use Rattle.backend_pass.specs.declared.manager.Manager.{Manager}
 use Rattle.backend_pass.specs.declared.pinned.Pinned.{Pinned}
 use Rattle.backend_pass.specs.Locks.{ChangesLock, HasLock}
 use Rattle.backend_pass.specs.Managers.{AreNewPasses, Belongs, IsNewPass}
 use Rattle.backend_pass.specs.Passes.{KeepsLocks, PassState, SamePass}
+use Rattle.backend_pass.proofs.Seated.{same_on}
 use Rattle.manager_tests.specs.Bench.{HasOnly, IsFree, Returns}
 
 -- a list of three, from its end
@@ -60,17 +60,7 @@ module _ {L G : Type 0} (contents : L → Option Pages) (m : Manager L G) where
       → ChangesLock lock pinned.frame p u → ChangesLock Unlocked given.frame u q → Returns contents m p q
   relocked_returns lock pinned given p u q e none b before after first last takes gives = let back : ChangesLock Unlocked pinned.frame u q = subst (λ (x : Pinned). ChangesLock Unlocked x.frame u q) e gives in record {
     belongs = b;
-    same = record {
-      table = after.table ∙ before.table;
-      id = after.id ∙ before.id;
-      frames = after.frames ∙ before.frames;
-      number = after.number ∙ before.number;
-      next = after.next ∙ before.next;
-      joined = after.joined ∙ before.joined;
-      kept = after.kept ∙ before.kept;
-      upto = after.upto ∙ before.upto;
-      advances = rises_on p.view u.view q.view before.advances after.advances;
-    };
+    same = same_on p u q before after;
     tokens = last ∙ first;
     locks = λ f. dite (ℕ_discrete f pinned.frame)
         (λ same. subst (λ (x : ℕ). (link q.view x).content ≡ (link p.view x).content) (sym same) (back.here ∙ sym none))

@@ -20,7 +20,7 @@ use Rattle.buffer_frames.specs.PageReads.{ReadsPage}
 use Rattle.backend_pass.specs.Passes.{KeepsCalls, KeepsDevices, KeepsLocks, KeepsMark, PassState, SamePass}
 use Rattle.backend_pass.specs.Reading.{at_once_of, met_read_refused, refused_at_once}
 use Rattle.page_jobs.specs.Reads.{CopiesBlock, FindsUnsound, PinsOne, RefusesBlock, fault_of_refusal, is_crowding, is_tried_once}
-use Rattle.page_jobs.proofs.Staying.{same_on}
+use Rattle.backend_pass.proofs.Seated.{same_on}
 
 -- a pass without tokens has none of the block
 pub new_none : (tag : Tag) (t : Tokens) → t ≡ no_tokens → IsNew tag t

@@ -2,29 +2,15 @@
 use Rattle.std.proofs.Common.{refl, ◌∙◌, arith}
 use Rattle.segment_store.specs.Contents.{Pages}
 use Rattle.std.specs.Prelude.{Option}
-use Rattle.frame_table.proofs.Rising.{rises_none, rises_on}
+use Rattle.frame_table.proofs.Rising.{rises_none}
 use Rattle.backend_pass.specs.declared.manager.Manager.{Manager}
 use Rattle.backend_pass.specs.Managers.{Belongs}
 use Rattle.backend_pass.specs.Passes.{KeepsCalls, PassState, SamePass}
+use Rattle.backend_pass.proofs.Seated.{same_on}
 use Rattle.page_jobs.specs.Reads.{Stays}
 
 same_none : (p : PassState) → SamePass p p
 same_none p = record { keeps = record { table = refl; id = refl; frames = refl; number = refl; next = refl; joined = refl; kept = refl; advances = rises_none p.view }; upto = refl }
-
-pub same_on : (p q r : PassState) → SamePass p q → SamePass q r → SamePass p r
-same_on p q r a b = let c = a.keeps in let d = b.keeps in record {
-  keeps = record {
-    table = d.table ∙ c.table;
-    id = d.id ∙ c.id;
-    frames = d.frames ∙ c.frames;
-    number = d.number ∙ c.number;
-    next = d.next ∙ c.next;
-    joined = d.joined ∙ c.joined;
-    kept = d.kept ∙ c.kept;
-    advances = rises_on p.view q.view r.view c.advances d.advances;
-  };
-  upto = b.upto ∙ a.upto;
-}
 
 pub calls_on : (p q r : PassState) → KeepsCalls p q → KeepsCalls q r → KeepsCalls p r
 calls_on p q r a b = record { calls = b.calls ∙ a.calls; front = b.front ∙ a.front; place_loads = b.place_loads ∙ a.place_loads }
