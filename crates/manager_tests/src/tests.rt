@@ -420,7 +420,12 @@ struct Tries {
 }
 
 /// Over a log and a lane of which one call may fail.
-fn tries<R: Wait>(rt: &R, alloc: Global, lane: TestLane, log: TestLog) -> Result<Tries, Fail> {
+fn put_and_flush<R: Wait>(
+    rt: &R,
+    alloc: Global,
+    lane: TestLane,
+    log: TestLog,
+) -> Result<Tries, Fail> {
     let page = page_of(alloc, 7)?;
     let tag = block(5);
     let mut bench = start(alloc, 64, lane, log, 0)?;
@@ -457,7 +462,7 @@ fn tries<R: Wait>(rt: &R, alloc: Global, lane: TestLane, log: TestLog) -> Result
 
 #[test]
 fn a_dirty_frame_is_written_once(rt: HostRuntime) -> Result<(), Fail> {
-    let tries = tries(
+    let tries = put_and_flush(
         &rt,
         rt.alloc(),
         TestLane::numbered(None),
@@ -479,7 +484,7 @@ fn a_dirty_frame_is_written_once(rt: HostRuntime) -> Result<(), Fail> {
 
 #[test]
 fn a_log_is_down_after_an_append_that_failed(rt: HostRuntime) -> Result<(), Fail> {
-    let tries = tries(
+    let tries = put_and_flush(
         &rt,
         rt.alloc(),
         TestLane::numbered(None),
@@ -501,7 +506,7 @@ fn a_log_is_down_after_an_append_that_failed(rt: HostRuntime) -> Result<(), Fail
 
 #[test]
 fn no_page_is_written_before_its_log(rt: HostRuntime) -> Result<(), Fail> {
-    let tries = tries(
+    let tries = put_and_flush(
         &rt,
         rt.alloc(),
         TestLane::numbered(None),
@@ -523,7 +528,7 @@ fn no_page_is_written_before_its_log(rt: HostRuntime) -> Result<(), Fail> {
 
 #[test]
 fn a_frame_stays_dirty_after_a_write_that_failed(rt: HostRuntime) -> Result<(), Fail> {
-    let tries = tries(
+    let tries = put_and_flush(
         &rt,
         rt.alloc(),
         TestLane::new(1),
