@@ -1,6 +1,5 @@
 -- All passes of a manager, before a job and after it.
-use Rattle.std.proofs.Common.{◌≡◌, ℕ, zero, suc, ◌+◌, ◌-◌, ◌<◌, ◌≤◌, true, List, [], ◌∷◌, ◌++◌, length, take, drop, Option, refl, sym, ap, ◌∙◌, subst, arith}
-use Rattle.std.specs.Prelude.{nat_eq}
+use Rattle.std.proofs.Common.{◌≡◌, ℕ, zero, suc, ◌+◌, ◌-◌, ◌<◌, ◌≤◌, List, [], ◌∷◌, ◌++◌, length, Option, refl, sym, ap, ◌∙◌, subst, arith}
 use Rattle.std.proofs.lemmas.List.{length-append, length-take, take-append-drop}
 use mathlib.Core.Option.{some, some-injective, some-ne-none}
 use lib.ListN.{get_elem?}
@@ -8,14 +7,12 @@ use Rattle.block_tag.specs.declared.tag.Fork.{Fork}
 use Rattle.segment_store.specs.Contents.{Pages}
 use Rattle.pin_core.specs.declared.view.View.{View}
 use Rattle.atomic_table.specs.Seated.{TableId}
-use Rattle.held_pins.specs.Tokens.{no_tokens}
 use Rattle.backend_pass.specs.declared.manager.Manager.{Manager}
 use Rattle.frame_table.specs.Seats.{base_of}
-use Rattle.backend_pass.specs.Managers.{AreAll, AreFronted, AreNewPasses, AreSpent, IsNewPass, first_in, is_first}
+use Rattle.backend_pass.specs.Managers.{AreAll, AreFronted, AreNewPasses, AreSpent, first_in}
 use Rattle.backend_pass.specs.Passes.{PassState}
 use Rattle.backend_pass.proofs.Joining.{fronted_each, spent_each}
 use Rattle.page_jobs.specs.Jobs.{AreFree, ReadParts, last_in, workers_in}
-use Rattle.page_jobs.specs.Parts.{blocks_in}
 use Rattle.page_jobs.specs.Reads.{IsFree}
 
 there : (l : List PassState) (i : ℕ) → i < length l → (p : PassState) × (get_elem? l i ≡ some p)
