@@ -1,7 +1,5 @@
 -- Passes as a manager gives them.
-use Rattle.std.proofs.Common.{◌≡◌, ◌<◌, ◌∙◌, ℕ, suc, List, [], ◌∷◌, nat_eq, Option, None, refl, sym, ap, arith}
-use mathlib.Core.Option.{some}
-use lib.ListN.{get_elem?}
+use Rattle.std.proofs.Common.{◌≡◌, ◌<◌, ◌∙◌, ℕ, List, [], ◌∷◌, nat_eq, Option, None, refl, sym, ap, arith}
 use Rattle.segment_store.specs.Contents.{Pages}
 use Rattle.table_rule.specs.declared.config.Config.{Config}
 use Rattle.pin_core.specs.declared.view.View.{View}
