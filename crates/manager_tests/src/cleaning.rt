@@ -214,7 +214,7 @@ pub fn try_not_alone<L: BlockLane, G: LogDevice, R: Wait>(
         return None;
     };
     let pinned = try_once(manager, rt, first, 0, tag);
-    let token = second.share(rt, manager, token);
+    let token = second.share(manager, rt, token);
     let shared = try_once(manager, rt, first, 0, tag);
     let token = second.unshare(manager, token);
     unpin(manager, rt, second, 1, token);
