@@ -13,3 +13,6 @@ mod working;
 pub use ending::{JobEnd, JobError, Totals};
 pub use gate::Gate;
 pub use scans::{dump, scan};
+
+#[cfg(test)]
+mod tests;
