@@ -7,4 +7,9 @@ mod Texts
 mod Whole
 mod Origin
 mod Crossing
-mod Returned
+pub mod Returned
+mod Standing
+pub mod ReadersLeave
+pub mod Backends
+pub mod Counted
+pub mod Starting

@@ -4,3 +4,4 @@ pub mod Reads
 pub mod Parts
 pub mod Dealt
 pub mod Jobs
+pub mod Relations

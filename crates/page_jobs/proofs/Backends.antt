@@ -1,0 +1,226 @@
+-- Backends that only read, once their job is over.
+use Rattle.std.proofs.Common.{◌≡◌, ℕ, zero, suc, ◌+◌, ◌-◌, ◌<◌, ◌≤◌, ◌⊎◌, nat_eq, false, List, [], ◌∷◌, ◌++◌, length, Option, Some, refl, sym, ap, ◌∙◌, subst, inl, inr, ⊎_elim, arith}
+use mathlib.Core.Logic.{dite}
+use mathlib.Core.Option.{some, some-injective, some-ne-none}
+use native.Mathlib.Decide.{dec_le}
+use lib.ListN.{get_elem?}
+use Rattle.grid.specs.Shape.{total}
+use Rattle.block_tag.specs.declared.tag.Fork.{Fork}
+use Rattle.block_tag.specs.declared.tag.Tag.{Tag}
+use Rattle.segment_store.specs.Contents.{Pages}
+use Rattle.pin_core.specs.declared.view.Call.{Call}
+use Rattle.pin_core.specs.declared.view.Met.{Met}
+use Rattle.pin_core.specs.declared.view.View.{View}
+use Rattle.history_core.specs.Log.{IsFront, writes_in}
+use Rattle.frame_table.specs.Seats.{base_of}
+use Rattle.held_pins.specs.Tokens.{no_tokens}
+use Rattle.backend_pass.specs.declared.errors.ReadError.{ReadError}
+use Rattle.backend_pass.specs.declared.errors.ReadError.TheVariants as read
+use Rattle.backend_pass.specs.declared.manager.Manager.{Manager}
+use Rattle.backend_pass.specs.Managers.{AreAll, AreNewPasses, first_in}
+use Rattle.backend_pass.specs.Passes.{PassState}
+use Rattle.backend_pass.specs.Closing.{EachPass, HasNoMark, PutNothing, met_by_passes}
+use Rattle.backend_pass.specs.Reading.{met_read_refused}
+use Rattle.backend_pass.proofs.Joining.{first_here, fronted_each, spent_each}
+use Rattle.page_jobs.specs.declared.ending.JobError.TheVariants.{OutFault, ReadFault}
+use Rattle.page_jobs.specs.Printed.{BlockRead, copied, unsound}
+use Rattle.page_jobs.specs.Parts.{MeetsFault}
+use Rattle.page_jobs.specs.Reads.{calls_of_reads, fault_of_refusal}
+use Rattle.page_jobs.specs.Jobs.{AllAtBase, AnyMeets, AreFree, ReadParts, ReadsPart, last_in, workers_in}
+use Rattle.page_jobs.specs.Relations.{MeetNothing}
+use Rattle.page_jobs.proofs.Standing.{dropped, inside, length_front, taken, taken_from, there}
+
+pub at_base_each : (base : ℕ) (ps : List PassState) → ((i : ℕ) (p : PassState) → get_elem? ps i ≡ some p → p.view.front ≡ base) → AllAtBase base ps
+at_base_each base [] each = tt
+at_base_each base (p ∷ ps) each = (each 0 p refl, at_base_each base ps (λ i. each (suc i)))
+
+writes_both : (xs ys : List Call) → writes_in (xs ++ ys) ≡ writes_in xs + writes_in ys
+unfolding total
+writes_both [] ys = omega arith
+writes_both (x ∷ xs) ys = omega (arith, writes_both xs ys)
+
+-- reads put nothing
+reads_put_nothing : (backend : ℕ) (fork : Fork) (block : ℕ) (rs : List BlockRead) → writes_in (calls_of_reads backend 0 fork block rs) ≡ 0
+unfolding total
+reads_put_nothing backend fork block [] = refl
+reads_put_nothing backend fork block (copied page place ∷ rs) = omega (arith, reads_put_nothing backend fork (block + 1) rs)
+reads_put_nothing backend fork block (unsound ∷ rs) = reads_put_nothing backend fork (block + 1) rs
+
+none_put : writes_in [] ≡ 0
+unfolding total
+none_put = refl
+
+-- a fault of reading that one pass met is met by all in all
+met_by_one : (ps : List PassState) (i : ℕ) (p : PassState) → get_elem? ps i ≡ some p → 0 < p.view.met.reads → 0 < (met_by_passes ps).reads
+met_by_one [] i p at more = absurd (some-ne-none p (sym at))
+met_by_one (q ∷ ps) zero p at more = let same = ap (λ (x : PassState). x.view.met.reads) (some-injective q p at) in omega arith
+met_by_one (q ∷ ps) (suc i) p at more = let later = met_by_one ps i p at more in omega arith
+
+met_by_none : (ps : List PassState) → ((i : ℕ) (p : PassState) → get_elem? ps i ≡ some p → p.view.met.reads ≡ 0) → (met_by_passes ps).reads ≡ 0
+met_by_none [] each = refl
+met_by_none (p ∷ ps) each = let here = each 0 p refl in let later = met_by_none ps (λ i. each (suc i)) in omega arith
+
+met_reads : (why : ReadError) (tag : Tag) (met : Met) → fault_of_refusal why ≡ Some (ReadFault tag) → 0 < (met_read_refused why met).reads
+met_reads (read.PastEnd block blocks) tag met e = absurd (cc)
+met_reads read.PinsFull tag met e = absurd (cc)
+met_reads (read.NoUnpinned frames) tag met e = absurd (cc)
+met_reads (read.ReadFault failed) tag met e = omega arith
+met_reads (read.WriteFault failed) tag met e = absurd (cc)
+met_reads read.LogFault tag met e = absurd (cc)
+met_reads (read.LogDown at) tag met e = absurd (cc)
+met_reads (read.LogShort lsn end) tag met e = absurd (cc)
+met_reads (read.Unsound failed) tag met e = absurd (cc)
+
+no_output_fault : (why : ReadError) → fault_of_refusal why ≡ Some OutFault → ⊥
+no_output_fault (read.PastEnd block blocks) e = cc
+no_output_fault read.PinsFull e = cc
+no_output_fault (read.NoUnpinned frames) e = cc
+no_output_fault (read.ReadFault failed) e = cc
+no_output_fault (read.WriteFault failed) e = cc
+no_output_fault read.LogFault e = cc
+no_output_fault (read.LogDown at) e = cc
+no_output_fault (read.LogShort lsn end) e = cc
+no_output_fault (read.Unsound failed) e = cc
+
+module _ {L G : Type 0} (contents : L → Option Pages) (m : Manager L G) (fork : Fork) where
+  free_each : (ps : List PassState) → ((i : ℕ) (p : PassState) → get_elem? ps i ≡ some p → AreFree contents m (p ∷ [])) → AreFree contents m ps
+  free_each [] each = tt
+  free_each (p ∷ ps) each = ((each 0 p refl).0, free_each ps (λ i. each (suc i)))
+
+  -- new passes have no token
+  pub new_are_free : (n : ℕ) (ps : List PassState) → AreNewPasses contents m n ps → AreFree contents m ps
+  new_are_free n ps new = free_each ps (λ i p at. let h = new.each i p at in (record { belongs = h.belongs; spent = h.tokens }, tt))
+
+  -- no pass meets a fault of the output
+  pub none_meets_output : (ps qs : List PassState) → AnyMeets contents m 0 fork ps qs OutFault → ⊥
+  none_meets_output [] qs any = any
+  none_meets_output (p ∷ ps) [] any = any
+  none_meets_output (p ∷ ps) (q ∷ qs) any = ⊎_elim (λ (h : MeetsFault contents m 0 fork p q OutFault). no_output_fault h.why h.fault) (λ later. none_meets_output ps qs later) any
+
+  read_fault_met : (ps qs : List PassState) (tag : Tag) → AnyMeets contents m 0 fork ps qs (ReadFault tag) → (i : ℕ) × (q : PassState) × (get_elem? qs i ≡ some q) × (0 < q.view.met.reads)
+  read_fault_met [] qs tag any = absurd any
+  read_fault_met (p ∷ ps) [] tag any = absurd any
+  read_fault_met (p ∷ ps) (q ∷ qs) tag any = ⊎_elim
+      (λ (h : MeetsFault contents m 0 fork p q (ReadFault tag)). (0, q, refl, subst (λ (x : Met). 0 < x.reads) (sym h.met) (met_reads h.why tag p.view.met h.fault)))
+      (λ later. let f = read_fault_met ps qs tag later in (suc f.0, f.1, f.2, f.3))
+      any
+
+  -- The pass number i of n, which has done nothing but reads
+  record HasRead (n i : ℕ) (q : PassState) : Type 0 where
+    table : q.table ≡ m.table.table.shared.table_id
+    spent : q.tokens ≡ no_tokens
+    front : IsFront (base_of m.table) q.view.calls q.view.front
+    number : q.view.number ≡ i
+    next : i ≡ 0 → q.view.next ≡ n
+    joined : q.view.joined ≡ 0
+    mark : q.view.dirtied_or_synced ≡ false
+    puts : writes_in q.view.calls ≡ 0
+
+  all_of : (n : ℕ) (qs : List PassState) → 0 < n → length qs ≡ n → ((i : ℕ) (q : PassState) → get_elem? qs i ≡ some q → HasRead n i q) → AreAll m qs
+  all_of n [] more counted each = absurd (omega arith)
+  all_of n (q ∷ qs) more counted each =
+      let h = each 0 q refl in
+      let first : first_in (q ∷ qs) ≡ q.view = first_here q qs (ap (λ (k : ℕ). nat_eq k 0) h.number) in
+      record {
+        nonempty = omega arith;
+        counted = counted ∙ sym (ap (λ (v : View). v.next) first ∙ h.next refl);
+        joined = ap (λ (v : View). v.joined) first ∙ h.joined;
+        spent = spent_each m.table.table.shared.table_id (q ∷ qs) (λ i x at. let k = each i x at in (k.table, k.spent));
+        fronts = fronted_each (base_of m.table) (q ∷ qs) (λ i x at. (each i x at).front);
+      }
+
+  module _ (n : ℕ) (ps qs : List PassState) (new : AreNewPasses contents m n ps) (several : 1 < n) (parts : ReadParts contents m 0 fork (workers_in ps) (workers_in qs)) (last : last_in qs ≡ last_in ps) where
+    as_many : length qs ≡ n
+    as_many = let a = length_front qs in let b = length_front ps in let e = parts.counted in let k = new.counted in omega arith
+
+    -- What a pass was: the same, or a worker
+    record CameFrom (i : ℕ) (q : PassState) : Type 0 where
+      before : PassState
+      at : get_elem? ps i ≡ some before
+      either : (q ≡ before) ⊎ ((get_elem? (workers_in ps) i ≡ some before) × (get_elem? (workers_in qs) i ≡ some q))
+
+    came_from : (i : ℕ) (q : PassState) → get_elem? qs i ≡ some q → CameFrom i q
+    came_from i q at = dite (dec_le (suc i) (n - 1)) worker beside
+      where
+        counted : length ps ≡ n
+        counted = new.counted
+
+        within : i < n
+        within = let k = inside qs i q at in let e = as_many in omega arith
+
+        worker : suc i ≤ n - 1 → CameFrom i q
+        worker below =
+            let e = as_many in let k = counted in let f = length_front ps in
+            let p = there (workers_in ps) i (omega arith) in
+            record {
+              before = p.0;
+              at = sym (taken (length ps - 1) i ps (omega arith)) ∙ p.1;
+              either = inr (p.1, taken (length qs - 1) i qs (omega arith) ∙ at);
+            }
+
+        beside : ¬ (suc i ≤ n - 1) → CameFrom i q
+        beside above =
+            let e = as_many in let k = counted in let w = within in
+            let of_ps : i ≡ length ps - 1 + 0 = omega arith in
+            let of_qs : length qs - 1 + 0 ≡ i = omega arith in
+            record {
+              before = q;
+              at = ap (λ (j : ℕ). get_elem? ps j) of_ps ∙ sym (dropped (length ps - 1) 0 ps) ∙ ap (λ (l : List PassState). get_elem? l 0) (sym last) ∙ dropped (length qs - 1) 0 qs ∙ ap (λ (j : ℕ). get_elem? qs j) of_qs ∙ at;
+              either = inl refl;
+            }
+
+    fresh : (i : ℕ) (p : PassState) → get_elem? ps i ≡ some p → HasRead n i p
+    fresh i p at = let h = new.each i p at in record {
+      table = h.belongs.table;
+      spent = h.tokens;
+      front = h.belongs.front;
+      number = ap (λ (v : View). v.number) h.view;
+      next = h.next;
+      joined = ap (λ (v : View). v.joined) h.view;
+      mark = ap (λ (v : View). v.dirtied_or_synced) h.view;
+      puts = ap (λ (v : View). writes_in v.calls) h.view ∙ none_put;
+    }
+
+    worked : (i from to : ℕ) (p q : PassState) → HasRead n i p → ReadsPart contents m 0 fork from to p q → HasRead n i q
+    worked i from to p q h r = record {
+      table = r.stays.same.keeps.table ∙ h.table;
+      spent = r.spent;
+      front = r.stays.belongs.front;
+      number = r.stays.same.keeps.number ∙ h.number;
+      next = λ first. r.stays.same.keeps.next ∙ h.next first;
+      joined = r.stays.same.keeps.joined ∙ h.joined;
+      mark = r.stays.mark ∙ h.mark;
+      puts = let both = writes_both p.view.calls (calls_of_reads p.view.number 0 fork from r.reads) in
+          let none = reads_put_nothing p.view.number fork from r.reads in
+          let before = h.puts in
+          ap writes_in r.calls ∙ omega arith;
+    }
+
+    each : (i : ℕ) (q : PassState) → get_elem? qs i ≡ some q → HasRead n i q
+    each i q at = let c = came_from i q at in ⊎_elim
+        (λ (same : q ≡ c.before). subst (λ (x : PassState). HasRead n i x) (sym same) (fresh i c.before c.at))
+        (λ (t : (get_elem? (workers_in ps) i ≡ some c.before) × (get_elem? (workers_in qs) i ≡ some q)). worked i _ _ c.before q (fresh i c.before c.at) (parts.each i c.before q t.0 t.1))
+        c.either
+
+    pub all_given : AreAll m qs
+    all_given = all_of n qs (omega arith) as_many each
+
+    pub none_marked : EachPass HasNoMark qs
+    none_marked i q at = (each i q at).mark
+
+    pub nothing_put : EachPass PutNothing qs
+    nothing_put i q at = (each i q at).puts
+
+    -- where the workers met no more faults of reading than before, none was met
+    pub none_met : MeetNothing (workers_in ps) (workers_in qs) → (met_by_passes qs).reads ≡ 0
+    none_met met = met_by_none qs (λ i q at. let c = came_from i q at in
+        let before = ap (λ (v : View). v.met.reads) (new.each i c.before c.at).view in ⊎_elim
+        (λ (same : q ≡ c.before). ap (λ (x : PassState). x.view.met.reads) same ∙ before)
+        (λ (t : (get_elem? (workers_in ps) i ≡ some c.before) × (get_elem? (workers_in qs) i ≡ some q)). ap (λ (x : Met). x.reads) (met i c.before q t.0 t.1) ∙ before)
+        c.either)
+
+    pub fault_met : (tag : Tag) → AnyMeets contents m 0 fork (workers_in ps) (workers_in qs) (ReadFault tag) → 0 < (met_by_passes qs).reads
+    fault_met tag any = let f = read_fault_met (workers_in ps) (workers_in qs) tag any in met_by_one qs f.0 f.1 (taken_from (length qs - 1) f.0 qs f.1 f.2) f.3
+
+    pub at_base : (base : ℕ) → EachPass (λ p. p.view.front ≡ base) qs → AllAtBase base (workers_in qs)
+    at_base base fronts = at_base_each base (workers_in qs) (λ i p at. fronts i p (taken_from (length qs - 1) i qs p at))
