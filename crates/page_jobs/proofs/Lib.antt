@@ -7,7 +7,6 @@ mod Texts
 mod Whole
 mod Origin
 mod Crossing
-pub mod Returned
 mod Standing
 pub mod ReadersLeave
 pub mod Backends

@@ -7,10 +7,10 @@ use Rattle.segment_store.specs.Paths.{Paths}
 use Rattle.page_tool.specs.declared.error.ToolError.{ToolError}
 use Rattle.page_tool.specs.declared.error.ToolError.TheVariants.{Usage, Crowded, Missing, ReadFault, OutFault, Memory}
 use Rattle.page_tool.specs.Answers.{Ends, Said, SaysAs, status_line}
-use Rattle.page_tool.specs.Request.{ScanRequest}
+use Rattle.page_tool.specs.Request.{ListingRequest}
 use Rattle.page_tool.specs.Status.{crowded_text, error_line, missing_text, status_of_error, tool_line}
 
-pub line_is : (request : Option ScanRequest) (known : Option Paths) (reads reads_now outs outs_now : ℕ) (error : ToolError)
+pub line_is : (request : Option ListingRequest) (known : Option Paths) (reads reads_now outs outs_now : ℕ) (error : ToolError)
     → Ends request known reads reads_now outs outs_now (Err error) → error_line error ≡ status_line request (status_of_error error)
 line_is None known reads reads_now outs outs_now Usage ends = refl
 line_is None known reads reads_now outs outs_now (Crowded crowding) ends = absurd ends
@@ -26,12 +26,12 @@ line_is (Some r) known reads reads_now outs outs_now OutFault ends = refl
 line_is (Some r) known reads reads_now outs outs_now Memory ends = refl
 
 -- the line of want of memory is that of status 8, whatever was asked for
-pub memory_line_is : (request : Option ScanRequest) → error_line Memory ≡ status_line request 8
+pub memory_line_is : (request : Option ListingRequest) → error_line Memory ≡ status_line request 8
 memory_line_is None = refl
 memory_line_is (Some r) = refl
 
 -- what was said of a refusal is the line of the status
-pub said_as : (request : Option ScanRequest) (error : ToolError) (old new : Option (List ℕ)) (faults faults_now status : ℕ)
+pub said_as : (request : Option ListingRequest) (error : ToolError) (old new : Option (List ℕ)) (faults faults_now status : ℕ)
     → error_line error ≡ status_line request (status_of_error error) → SaysAs error old new faults faults_now status
     → Said (status_line request status) old new faults faults_now
 said_as request error old new faults faults_now status line says =

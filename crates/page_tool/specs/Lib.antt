@@ -1,4 +1,4 @@
-pub mod Progress
+pub mod Listings
 pub mod Causes
 pub mod Status
 pub mod Request

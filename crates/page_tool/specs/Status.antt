@@ -5,8 +5,8 @@ use Rattle.std.specs.Fmt.{decimal}
 use Rattle.page_layout.specs.Text.{joined}
 use Rattle.segment_store.specs.declared.host.HostError.{HostError}
 use Rattle.segment_store.specs.declared.host.HostError.TheVariants as host
-use Rattle.page_tool.specs.declared.scan.ScanError.{ScanError}
-use Rattle.page_tool.specs.declared.scan.ScanError.TheVariants as scan
+use Rattle.page_tool.specs.declared.listing.ListingError.{ListingError}
+use Rattle.page_tool.specs.declared.listing.ListingError.TheVariants as listing
 use Rattle.page_tool.specs.declared.error.Crowding.{Crowding}
 use Rattle.page_tool.specs.declared.error.ToolError.{ToolError}
 use Rattle.page_tool.specs.declared.error.ToolError.TheVariants.{Usage, Crowded, Missing, ReadFault, OutFault, Memory}
@@ -56,8 +56,8 @@ host_error host.Missing path = Missing path
 host_error host.Failed path = ReadFault
 host_error host.Memory path = Memory
 
--- what the end of a scan means to the tool
-abbrev pub scan_error : ScanError → ToolError
-scan_error scan.ReadFault = ReadFault
-scan_error scan.OutFault = OutFault
-scan_error scan.Memory = Memory
+-- what the end of a listing means to the tool
+abbrev pub tool_error : ListingError → ToolError
+tool_error listing.ReadFault = ReadFault
+tool_error listing.OutFault = OutFault
+tool_error listing.Memory = Memory

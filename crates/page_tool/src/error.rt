@@ -1,8 +1,8 @@
 //! Why a command isn't done: the status and the line of each refusal.
 ghost use Rattle.std.specs.Prelude.{◌≡◌, ◌++◌, [], IfOk, Some, string_bytes};
-ghost use Rattle.page_tool.specs.Status.{crowding_text, error_line, error_text, host_error, scan_error, status_of_error};
+ghost use Rattle.page_tool.specs.Status.{crowding_text, error_line, error_text, host_error, status_of_error, tool_error};
 
-use crate::scan::ScanError;
+use crate::listing::ListingError;
 use segment_store::HostError;
 use std::alloc::{AllocError, Global};
 use std::fmt;
@@ -86,14 +86,14 @@ impl<'a> ToolError<'a> {
         }
     }
 
-    /// What the end of a scan means to the tool.
-    pub fn from_scan(error: ScanError) -> ToolError<'a>
-        ensures { result ≡ scan_error error }
+    /// What the end of a listing means to the tool.
+    pub fn from_listing(error: ListingError) -> ToolError<'a>
+        ensures { result ≡ tool_error error }
     {
         match error {
-            ScanError::ReadFault => ToolError::ReadFault,
-            ScanError::OutFault => ToolError::OutFault,
-            ScanError::Memory => ToolError::Memory,
+            ListingError::ReadFault => ToolError::ReadFault,
+            ListingError::OutFault => ToolError::OutFault,
+            ListingError::Memory => ToolError::Memory,
         }
     }
 }

@@ -2,15 +2,16 @@
 #![tactic(auto)]
 
 mod error;
+mod listing;
 mod request;
 mod run;
-mod scan;
 #[cfg(test)]
 mod tests;
 
 use crate::run::{MEMORY_LINE, run};
-use crate::scan::Gate;
+use backend_pass::Pinned;
 use log_device::{Sink, StdSink};
+use page_jobs::Gate;
 use segment_store::FileHost;
 use std::alloc::AllocError;
 use std::env;
@@ -25,6 +26,8 @@ struct OpenGate;
 
 impl Gate for OpenGate {
     fn before(&self, _worker: u32, _block: u32) {}
+
+    fn seen(&self, _worker: u32, _pinned: &Pinned) {}
 }
 
 /// The words behind the program's name; none where they are no UTF-8 text.
@@ -44,6 +47,6 @@ fn main(rt: HostRuntime) -> ExitCode {
         let _ = err.put(MEMORY_LINE);
         return ExitCode::from(MEMORY_STATUS);
     };
-    let status = run(rt.alloc(), &words, &mut host, &mut out, &mut err, &OpenGate);
+    let status = run(&rt, rt.alloc(), &words, &mut host, &mut out, &mut err, &OpenGate);
     ExitCode::from(status)
 }

@@ -5,18 +5,22 @@ ghost use Rattle.log_device.specs.Bytes.{Puts};
 ghost use Rattle.log_device.specs.Faults.{Rose};
 ghost use Rattle.segment_store.specs.Opening.{IsOpened};
 ghost use Rattle.segment_store.specs.Paths.{fork_of};
-ghost use Rattle.page_tool.specs.Answers.{CrowdedIf, Ends, EndsScan, IsComplete, IsStatus, MissingIf, Said, SaysAs, UsageIf, Wrote, crowding_of, status_line, text_at};
-ghost use Rattle.page_tool.specs.Causes.{HasScanCause};
+ghost use Rattle.page_tool.specs.Answers.{CrowdedIf, Ends, EndsListing, FailsNone, IsComplete, IsStatus, MissingIf, Said, SaysAs, UsageIf, Wrote, crowding_of, status_line, text_asked};
+ghost use Rattle.page_tool.specs.Causes.{HasListingCause};
+ghost use Rattle.page_tool.specs.Listings.{NoneFails};
 ghost use Rattle.page_tool.specs.Status.{status_of_error};
-ghost use Rattle.page_tool.specs.Request.{IsCrowded, request_of};
+ghost use Rattle.page_tool.specs.Request.{IsCrowded, asked, request_of};
 
 use crate::error::{Crowding, ToolError};
-use crate::request::read_request;
-use crate::scan::{Gate, ScanError, scan_fork};
-use command_line::Options;
+use crate::listing::{Listed, ListingEnd, ListingError, list};
+use crate::request::{Request, read_request};
+use command_line::{Options, relation_number};
 use log_device::Sink;
+use page_jobs::Gate;
 use segment_store::{Host, Opened, fork_of_path};
 use std::alloc::Global;
+use std::sync::Wait;
+use std::thread::Threads;
 
 /// What is said where there is no memory for a line.
 pub const MEMORY_LINE: &[u8] = b"page_tool: out of memory\n";
@@ -30,69 +34,74 @@ fn is_crowded(options: &Options) -> bool
     frames <= backends.saturating_add(2)
 }
 
-/// Scans a relation that is open, and gives its lanes back.
-fn scan_opened<H: Host, O: Sink, G: Gate>(
+/// Lists the blocks of a relation that is open, and gives its lanes back.
+fn list_opened<H: Host, R: Threads + Wait + Sync, O: Sink, G: Gate + Sync>(
+    rt: &R,
     alloc: Global,
-    path: &str,
-    options: &Options,
-    mut opened: Opened<H::Lane>,
+    request: &Request,
+    opened: Opened<H::Lane>,
     host: &mut H,
     out: &mut O,
     gate: &G,
-) -> Result<(), ScanError>
-    requires open_at { IfSome (H.contents host.old) (λ _. H.open_at host.old ≡ record { path = path.now; seg_blocks = options.now.seg_blocks }) }
-    requires range { HasOptionsInRange options.now }
-    requires opened { IsOpened H.Lane.contents H.Lane.failed_writes H.Lane.unsynced H.Lane.read_faults H.Lane.write_faults (H.contents host.old) path.now (fork_of path.now) options.now.seg_blocks options.now.lanes opened }
+) -> Result<(), ListingError>
+    requires open_at { IfSome (H.contents host.old) (λ _. H.open_at host.old ≡ record { path = request.now.path.now; seg_blocks = request.now.options.seg_blocks }) }
+    requires range { HasOptionsInRange request.now.options }
+    requires opened { IsOpened H.Lane.contents H.Lane.failed_writes H.Lane.unsynced H.Lane.read_faults H.Lane.write_faults (H.contents host.old) request.now.path.now (fork_of request.now.path.now) request.now.options.seg_blocks request.now.options.lanes opened }
     ensures contents { H.contents host.new ≡ H.contents host.old }
+    ensures failed { IfSome (H.contents host.old) (λ paths. NoneFails request.now.options.seg_blocks paths request.now.path.now (H.failed_writes host.old) (H.failed_writes host.new)) }
     ensures writes { H.write_faults host.new ≡ H.write_faults host.old }
     ensures logs { H.logs host.new ≡ H.logs host.old }
     ensures log_faults { H.log_faults host.new ≡ H.log_faults host.old }
-    ensures cause { HasScanCause (H.read_faults host.old) (H.read_faults host.new) (O.faults out.old) (O.faults out.new) result }
-    ensures text { IfSome (H.contents host.old) (λ paths. Puts (text_at options.now.seg_blocks paths path.now) (O.bytes out.old) (O.bytes out.new) result) }
+    ensures cause { HasListingCause (H.read_faults host.old) (H.read_faults host.new) (O.faults out.old) (O.faults out.new) result }
+    ensures text { IfSome (H.contents host.old) (λ paths. Puts (text_asked (asked request.now) paths) (O.bytes out.old) (O.bytes out.new) result) }
 {
-    let scanned = scan_fork(
-        alloc,
-        fork_of_path(path),
-        opened.blocks,
-        &mut opened.lanes,
-        out,
-        gate,
-    );
-    host.give_back(opened.lanes, None);
-    scanned
+    let path = request.path;
+    let listed = Listed {
+        // The words were refused where the path has no number.
+        relation: relation_number(path).unwrap_or(0),
+        fork: fork_of_path(path),
+        blocks: opened.blocks,
+        listing: request.listing,
+    };
+    let options = &request.options;
+    let ListingEnd { lanes, end } = list(rt, alloc, options, listed, opened.lanes, out, gate);
+    host.give_back(lanes, None);
+    end
 }
 
-/// Scans the relation at a path.
-fn scan<'a, H: Host, O: Sink, G: Gate>(
+/// Lists the blocks of the relation at a path.
+fn list_relation<'a, H: Host, R: Threads + Wait + Sync, O: Sink, G: Gate + Sync>(
+    rt: &R,
     alloc: Global,
-    path: &'a str,
-    options: &Options,
+    request: &Request<'a>,
     host: &mut H,
     out: &mut O,
     gate: &G,
 ) -> Result<(), ToolError<'a>>
-    requires { HasOptionsInRange options.now }
+    requires { HasOptionsInRange request.now.options }
     ensures contents { H.contents host.new ≡ H.contents host.old }
+    ensures failed { IfSome (H.contents host.old) (λ paths. NoneFails request.now.options.seg_blocks paths request.now.path.now (H.failed_writes host.old) (H.failed_writes host.new)) }
     ensures writes { H.write_faults host.new ≡ H.write_faults host.old }
     ensures logs { H.logs host.new ≡ H.logs host.old }
     ensures log_faults { H.log_faults host.new ≡ H.log_faults host.old }
     ensures later { (H.read_faults host.old ≤ H.read_faults host.new) × (O.faults out.old ≤ O.faults out.new) }
-    ensures ends { EndsScan (record { path = path.entry.now; options = options.now }) (H.contents host.old) (H.read_faults host.old) (H.read_faults host.new) (O.faults out.old) (O.faults out.new) result }
-    ensures text { IfSome (H.contents host.old) (λ paths. Puts (text_at options.now.seg_blocks paths path.entry.now) (O.bytes out.old) (O.bytes out.new) result) }
+    ensures ends { EndsListing (asked request.now) (H.contents host.old) (H.read_faults host.old) (H.read_faults host.new) (O.faults out.old) (O.faults out.new) result }
+    ensures text { IfSome (H.contents host.old) (λ paths. Puts (text_asked (asked request.now) paths) (O.bytes out.old) (O.bytes out.new) result) }
     ensures silent { IfErr result (λ e. status_of_error e ≤ 3 → O.bytes out.new ≡ O.bytes out.old) }
 {
-    if is_crowded(options) {
+    let Request { path, options, .. } = *request;
+    if is_crowded(&options) {
         let Options {
             backends,
             frames,
             ..
-        } = *options;
+        } = options;
         return Err(ToolError::Crowded(Crowding { backends, frames }));
     }
     match host.relation(alloc, path, options.seg_blocks, options.lanes) {
         Err(error) => Err(ToolError::from_host(error, path)),
-        Ok(opened) => scan_opened(alloc, path, options, opened, host, out, gate).map_err(
-            |error| ToolError::from_scan(error),
+        Ok(opened) => list_opened(rt, alloc, request, opened, host, out, gate).map_err(
+            |error| ToolError::from_listing(error),
         ),
     }
 }
@@ -112,7 +121,8 @@ fn say<E: Sink>(alloc: Global, error: &ToolError<'_>, err: &mut E) -> u8
 }
 
 /// Does what the words ask for.
-fn perform<'a, H: Host, O: Sink, G: Gate>(
+fn perform<'a, H: Host, R: Threads + Wait + Sync, O: Sink, G: Gate + Sync>(
+    rt: &R,
     alloc: Global,
     words: &'a [String],
     host: &mut H,
@@ -120,18 +130,19 @@ fn perform<'a, H: Host, O: Sink, G: Gate>(
     gate: &G,
 ) -> Result<(), ToolError<'a>>
     ensures contents { H.contents host.new ≡ H.contents host.old }
+    ensures failed { IfSome (H.contents host.old) (λ paths. FailsNone (request_of (map string_bytes words.now)) paths (H.failed_writes host.old) (H.failed_writes host.new)) }
     ensures writes { H.write_faults host.new ≡ H.write_faults host.old }
     ensures logs { H.logs host.new ≡ H.logs host.old }
     ensures log_faults { H.log_faults host.new ≡ H.log_faults host.old }
     ensures later { (H.read_faults host.old ≤ H.read_faults host.new) × (O.faults out.old ≤ O.faults out.new) }
     ensures ends { Ends (request_of (map string_bytes words.now)) (H.contents host.old) (H.read_faults host.old) (H.read_faults host.new) (O.faults out.old) (O.faults out.new) result }
     ensures text { IfSome (request_of (map string_bytes words.now)) (λ r. IfSome (H.contents host.old) (λ paths.
-        Puts (text_at r.options.seg_blocks paths r.path) (O.bytes out.old) (O.bytes out.new) result)) }
+        Puts (text_asked r paths) (O.bytes out.old) (O.bytes out.new) result)) }
     ensures silent { IfErr result (λ e. status_of_error e ≤ 3 → O.bytes out.new ≡ O.bytes out.old) }
     ensures no_command { request_of (map string_bytes words.now) ≡ None → O.bytes out.new ≡ O.bytes out.old }
 {
     match read_request(alloc, words) {
-        Ok(Some(request)) => scan(alloc, request.path, &request.options, host, out, gate),
+        Ok(Some(request)) => list_relation(rt, alloc, &request, host, out, gate),
         Ok(None) => Err(ToolError::Usage),
         Err(_) => Err(ToolError::Memory),
     }
@@ -139,9 +150,12 @@ fn perform<'a, H: Host, O: Sink, G: Gate>(
 
 /// Runs a command line: the words behind the program's name.
 ///
-/// `scan PATH` prints a line for each block of the relation at the path, and their totals. The
-/// answer is the status that the program ends with; a refusal has its line on the error stream.
-pub fn run<H: Host, O: Sink, E: Sink, G: Gate>(
+/// `scan PATH` prints a line for each block of the relation at the path, and their totals; `dump PATH`
+/// prints besides a line for each line pointer of a page. The blocks are read by as many backends as
+/// `--backends` says, through a buffer manager of `--frames` frames. The answer is the status that
+/// the program ends with; a refusal has its line on the error stream.
+pub fn run<H: Host, R: Threads + Wait + Sync, O: Sink, E: Sink, G: Gate + Sync>(
+    rt: &R,
     alloc: Global,
     words: &[String],
     host: &mut H,
@@ -161,14 +175,15 @@ pub fn run<H: Host, O: Sink, E: Sink, G: Gate>(
 
     // What is out: the text of the relation, or a prefix of it.
     ensures text { IfSome (request_of (map string_bytes words.now)) (λ r. IfSome (H.contents host.old) (λ paths.
-        Wrote (text_at r.options.seg_blocks paths r.path) (O.bytes out.old) (O.bytes out.new) result)) }
+        Wrote (text_asked r paths) (O.bytes out.old) (O.bytes out.new) result)) }
     ensures silent { 1 ≤ result → result ≤ 3 → O.bytes out.new ≡ O.bytes out.old }
     ensures no_command { request_of (map string_bytes words.now) ≡ None → O.bytes out.new ≡ O.bytes out.old }
     ensures quiet { result ≡ 0 → (E.bytes err.new ≡ E.bytes err.old) × (E.faults err.new ≡ E.faults err.old) }
     ensures says { Said (status_line (request_of (map string_bytes words.now)) result) (E.bytes err.old) (E.bytes err.new) (E.faults err.old) (E.faults err.new) }
 
-    // No path and no log changes, and no count rises where all went well; no fault of writing or of a log is counted.
+    // No path and no log changes, no block's last write failed, and no count rises where all went well; no fault of writing or of a log is counted.
     ensures contents { H.contents host.new ≡ H.contents host.old }
+    ensures failed { IfSome (H.contents host.old) (λ paths. FailsNone (request_of (map string_bytes words.now)) paths (H.failed_writes host.old) (H.failed_writes host.new)) }
     ensures writes { H.write_faults host.new ≡ H.write_faults host.old }
     ensures logs { H.logs host.new ≡ H.logs host.old }
     ensures log_faults { H.log_faults host.new ≡ H.log_faults host.old }
@@ -177,7 +192,7 @@ pub fn run<H: Host, O: Sink, E: Sink, G: Gate>(
     ensures complete { IfSome (request_of (map string_bytes words.now)) (λ r.
         IsComplete r (H.contents host.old) (H.read_faults host.old) (H.read_faults host.new) (O.faults out.old) (O.faults out.new) result) }
 {
-    match perform(alloc, words, host, out, gate) {
+    match perform(rt, alloc, words, host, out, gate) {
         Ok(()) => 0,
         Err(error) => say(alloc, &error, err),
     }

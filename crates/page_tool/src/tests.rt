@@ -1,6 +1,6 @@
 //! The tool on hosts in memory.
 use crate::run::run;
-use crate::scan::Gate;
+use backend_pass::Pinned;
 use log_device::{FaultPlan, LogPlan, MemSink};
 use segment_store::{LanePlan, MemFile, MemHost, MemLogs};
 use std::alloc::Global;
