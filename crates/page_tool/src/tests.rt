@@ -2,34 +2,84 @@
 use crate::run::run;
 use backend_pass::Pinned;
 use log_device::{FaultPlan, LogPlan, MemSink};
+use page_jobs::Gate;
 use segment_store::{LanePlan, MemFile, MemHost, MemLogs};
 use std::alloc::Global;
-use std::cell::Cell;
+use std::sync::Wait;
+use std::sync::atomic::{AtomicBool, AtomicU64, Ordering};
 use std::test::Fail;
+use std::thread::{Threads, yield_now};
 
-/// Lets every block through, and counts them; notes where one came out of order.
+/// Lets every block through, and counts what it hears of.
 #[derive(Drop)]
 struct CountingGate {
-    next: Cell<u32>,
-    in_order: Cell<bool>,
+    before: AtomicU64,
+    seen: AtomicU64,
 }
 
 impl CountingGate {
     fn new() -> CountingGate {
         CountingGate {
-            next: Cell::new(0),
-            in_order: Cell::new(true),
+            before: AtomicU64::new(0),
+            seen: AtomicU64::new(0),
         }
     }
 }
 
 impl Gate for CountingGate {
-    fn before(&self, worker: u32, block: u32) {
-        let next = self.next.get();
-        if worker != 0 || block != next {
-            self.in_order.set(false);
+    fn before(&self, _worker: u32, _block: u32) {
+        self.before.fetch_add(1, Ordering::SeqCst);
+    }
+
+    fn seen(&self, _worker: u32, _pinned: &Pinned) {
+        self.seen.fetch_add(1, Ordering::SeqCst);
+    }
+}
+
+/// How often the first worker looks for the second before it gives up.
+const TURNS: u32 = 10_000_000;
+
+/// Holds the first worker before its first block until the second worker has come, and counts the pins of each of 64 blocks.
+#[derive(Drop)]
+struct HoldingGate {
+    second_came: AtomicBool,
+    gave_up: AtomicBool,
+    seen: [AtomicU64; 64],
+}
+
+impl HoldingGate {
+    fn new() -> HoldingGate {
+        HoldingGate {
+            second_came: AtomicBool::new(false),
+            gave_up: AtomicBool::new(false),
+            seen: [const { AtomicU64::new(0) }; 64],
         }
-        self.next.set(next.wrapping_add(1));
+    }
+
+    fn await_second(&self) {
+        for _ in 0..TURNS {
+            if self.second_came.load(Ordering::SeqCst) {
+                return;
+            }
+            yield_now();
+        }
+        self.gave_up.store(true, Ordering::SeqCst);
+    }
+}
+
+impl Gate for HoldingGate {
+    fn before(&self, worker: u32, block: u32) {
+        match worker {
+            0 if block == 0 => self.await_second(),
+            1 => self.second_came.store(true, Ordering::SeqCst),
+            _ => {}
+        }
+    }
+
+    fn seen(&self, _worker: u32, pinned: &Pinned) {
+        if let Some(count) = self.seen.get(pinned.tag().block as usize) {
+            count.fetch_add(1, Ordering::SeqCst);
+        }
     }
 }
 
@@ -71,7 +121,6 @@ const NONE_FAIL: Failing<'static> = Failing {
 #[derive(Drop)]
 struct Answer {
     status: u8,
-    blocks: u32,
     out: MemSink,
     err: MemSink,
 }
@@ -106,11 +155,13 @@ fn host_of(alloc: Global, segments: &[&[u8]], failing: Failing) -> Result<MemHos
 }
 
 /// Runs a command line, whose words stand apart by blanks, on that host.
-fn answer_of(
+fn answer_at<R: Threads + Wait + Sync, G: Gate + Sync>(
+    rt: &R,
     alloc: Global,
     line: &str,
     segments: &[&[u8]],
     failing: Failing,
+    gate: &G,
 ) -> Result<Answer, Fail> {
     let mut host = host_of(alloc, segments, failing)?;
     let mut out = sink(alloc, failing.puts)?;
@@ -119,19 +170,21 @@ fn answer_of(
     for word in line.split_whitespace() {
         words.push(String::from_str(alloc, word)?)?;
     }
+    let status = run(rt, alloc, &words, &mut host, &mut out, &mut err, gate);
+    Ok(Answer { status, out, err })
+}
+
+/// The same, and how many blocks the gate heard of, each before it was read.
+fn answer_of<R: Threads + Wait + Sync>(
+    rt: &R,
+    alloc: Global,
+    line: &str,
+    segments: &[&[u8]],
+    failing: Failing,
+) -> Result<(Answer, u64), Fail> {
     let gate = CountingGate::new();
-    let status = run(alloc, &words, &mut host, &mut out, &mut err, &gate);
-    let blocks = if gate.in_order.get() {
-        gate.next.get()
-    } else {
-        u32::MAX
-    };
-    Ok(Answer {
-        status,
-        blocks,
-        out,
-        err,
-    })
+    let answer = answer_at(rt, alloc, line, segments, failing, &gate)?;
+    Ok((answer, gate.before.load(Ordering::SeqCst)))
 }
 
 #[test]
@@ -148,7 +201,7 @@ fn scans_relations(rt: HostRuntime) -> Result<(), Fail> {
     spotted[100] = 1;
     let mut longer = page.to_vec(alloc)?;
     longer.extend_from_slice(&[7; 100])?;
-    let rows: [(&[u8], u32, &str); 7] = [
+    let rows: [(&[u8], u64, &str); 7] = [
         (&page, 1, ONE_ITEM),
         (
             &[],
@@ -166,9 +219,9 @@ fn scans_relations(rt: HostRuntime) -> Result<(), Fail> {
         (&uneven, 1, INVALID),
     ];
     for (bytes, blocks, want) in rows {
-        let answer = answer_of(alloc, "scan base/5/16384", &[bytes], NONE_FAIL)?;
+        let (answer, heard) = answer_of(&rt, alloc, "scan base/5/16384", &[bytes], NONE_FAIL)?;
         assert_eq!(rt; answer.status, 0, "{want}");
-        assert_eq!(rt; answer.blocks, blocks, "{want}");
+        assert_eq!(rt; heard, blocks, "{want}");
         assert_eq!(rt; answer.out.bytes(), want.as_bytes(), "{want}");
         assert_eq!(rt; answer.err.bytes().len(), 0);
     }
@@ -179,14 +232,15 @@ fn scans_relations(rt: HostRuntime) -> Result<(), Fail> {
 fn segments_end_the_relation(rt: HostRuntime) -> Result<(), Fail> {
     let two = [0u8; 16384];
     let one = [0u8; 8192];
-    let answer = answer_of(
+    let (answer, heard) = answer_of(
+        &rt,
         rt.alloc(),
         "scan base/5/16384 --segment-blocks 2",
         &[&two, &one, &two],
         NONE_FAIL,
     )?;
     assert_eq!(rt; answer.status, 0);
-    assert_eq!(rt; answer.blocks, 3);
+    assert_eq!(rt; heard, 3);
     assert_eq!(rt;
         answer.out.bytes(),
         b"0 new\n1 new\n2 new\nblocks 3 used 0 new 3 invalid 0 normal 0 redirect 0 dead 0 unused 0\n".as_slice()
@@ -196,7 +250,7 @@ fn segments_end_the_relation(rt: HostRuntime) -> Result<(), Fail> {
 
 #[test]
 fn scans_another_fork(rt: HostRuntime) -> Result<(), Fail> {
-    let answer = answer_of(rt.alloc(), "scan base/5/16384_vm", &[&[]], NONE_FAIL)?;
+    let (answer, _) = answer_of(&rt, rt.alloc(), "scan base/5/16384_vm", &[&[]], NONE_FAIL)?;
     assert_eq!(rt; answer.status, 0);
     assert_eq!(rt;
         answer.out.bytes(),
@@ -209,7 +263,7 @@ fn scans_another_fork(rt: HostRuntime) -> Result<(), Fail> {
 fn refuses_words(rt: HostRuntime) -> Result<(), Fail> {
     let usage =
         "page_tool: usage: scan PATH, dump PATH, rewrite PATH --log FILE, sample SEED BLOCKS\n";
-    let rows: [(&str, u8, &str); 12] = [
+    let rows: [(&str, u8, &str); 11] = [
         ("scan base/5/16385", 3, "page_tool: missing: base/5/16385\n"),
         ("scan 16384_vm", 3, "page_tool: missing: 16384_vm\n"),
         ("scan base/5/abc", 1, usage),
@@ -218,7 +272,6 @@ fn refuses_words(rt: HostRuntime) -> Result<(), Fail> {
         ("scan", 1, usage),
         ("", 1, usage),
         ("scan --help", 1, usage),
-        ("dump base/5/16384", 1, usage),
         ("sample 7 4", 1, usage),
         (
             "scan base/5/16384 --backends 32 --frames 16",
@@ -232,9 +285,9 @@ fn refuses_words(rt: HostRuntime) -> Result<(), Fail> {
         ),
     ];
     for (line, status, want) in rows {
-        let answer = answer_of(rt.alloc(), line, &[&[]], NONE_FAIL)?;
+        let (answer, heard) = answer_of(&rt, rt.alloc(), line, &[&[]], NONE_FAIL)?;
         assert_eq!(rt; answer.status, status, "{line}");
-        assert_eq!(rt; answer.blocks, 0, "{line}");
+        assert_eq!(rt; heard, 0, "{line}");
         assert_eq!(rt; answer.out.bytes().len(), 0, "{line}");
         assert_eq!(rt; answer.err.bytes(), want.as_bytes(), "{line}");
     }
@@ -278,15 +331,15 @@ fn options_leave_the_text(rt: HostRuntime) -> Result<(), Fail> {
         "scan --backends 32 --frames 128 --bgwriter 1000 base/5/16384",
     ];
     for line in lines {
-        let answer = answer_of(alloc, line, &[&bytes], NONE_FAIL)?;
+        let (answer, heard) = answer_of(&rt, alloc, line, &[&bytes], NONE_FAIL)?;
         assert_eq!(rt; answer.status, 0, "{line}");
-        assert_eq!(rt; answer.blocks, 64, "{line}");
+        assert_eq!(rt; heard, 64, "{line}");
         assert_eq!(rt; answer.out.bytes(), text.as_bytes(), "{line}");
     }
     Ok(())
 }
 
-/// Text goes out in pieces: what was put before a piece that fails stays.
+/// A worker's text goes out in one piece, and the totals in another: what was put before a piece that fails stays.
 #[test]
 fn later_pieces_may_fail(rt: HostRuntime) -> Result<(), Fail> {
     let alloc = rt.alloc();
@@ -298,8 +351,8 @@ fn later_pieces_may_fail(rt: HostRuntime) -> Result<(), Fail> {
         puts: &[2],
         ..NONE_FAIL
     };
-    let whole = answer_of(alloc, "scan base/5/16384", &[&bytes], NONE_FAIL)?;
-    let cut = answer_of(alloc, "scan base/5/16384", &[&bytes], second)?;
+    let (whole, _) = answer_of(&rt, alloc, "scan base/5/16384", &[&bytes], NONE_FAIL)?;
+    let (cut, _) = answer_of(&rt, alloc, "scan base/5/16384", &[&bytes], second)?;
     assert_eq!(rt; whole.status, 0);
     assert_eq!(rt; cut.status, 7);
     let long = cut.out.bytes().len() > 65536 && cut.out.bytes().len() < whole.out.bytes().len();
@@ -313,7 +366,7 @@ fn later_pieces_may_fail(rt: HostRuntime) -> Result<(), Fail> {
 fn stops_at_a_fault(rt: HostRuntime) -> Result<(), Fail> {
     let bytes = [0u8; 3 * 8192];
     let read_fault = "page_tool: read fault\n";
-    let rows: [(&str, Failing, u8, u32, &str, &str); 4] = [
+    let rows: [(&str, Failing, u8, u64, &str, &str); 4] = [
         (
             "scan base/5/16384 --lanes 1",
             Failing {
@@ -356,16 +409,63 @@ fn stops_at_a_fault(rt: HostRuntime) -> Result<(), Fail> {
             },
             7,
             3,
-            "0 new\n1 new\n2 new\nblocks 3 used 0 new 3 inv",
+            "0 new\n1 n",
             "page_tool: output fault\n",
         ),
     ];
     for (line, failing, status, blocks, out, err) in rows {
-        let answer = answer_of(rt.alloc(), line, &[&bytes], failing)?;
+        let (answer, heard) = answer_of(&rt, rt.alloc(), line, &[&bytes], failing)?;
         assert_eq!(rt; answer.status, status, "{err}");
-        assert_eq!(rt; answer.blocks, blocks, "{err}");
+        assert_eq!(rt; heard, blocks, "{err}");
         assert_eq!(rt; answer.out.bytes(), out.as_bytes(), "{err}");
         assert_eq!(rt; answer.err.bytes(), err.as_bytes(), "{err}");
     }
+    Ok(())
+}
+
+#[test]
+fn dumps_line_pointers(rt: HostRuntime) -> Result<(), Fail> {
+    let page = one_item();
+    let (answer, _) = answer_of(&rt, rt.alloc(), "dump base/5/16384", &[&page], NONE_FAIL)?;
+    assert_eq!(rt; answer.status, 0);
+    let lines = ONE_ITEM.split_once('\n').ok_or("no line ends")?;
+    let want = format!(in rt.alloc(); "{}\n  1 normal 8184 4 01020304\n{}", lines.0, lines.1)?;
+    assert_eq!(rt; answer.out.bytes(), want.as_bytes());
+    Ok(())
+}
+
+/// The second worker goes on while the first is held: neither waits for the other's part.
+#[test]
+fn workers_work_side_by_side(rt: HostRuntime) -> Result<(), Fail> {
+    let alloc = rt.alloc();
+    let (bytes, text) = numbered_pages(alloc)?;
+    let gate = HoldingGate::new();
+    let line = "scan base/5/16384 --backends 2";
+    let answer = answer_at(&rt, alloc, line, &[&bytes], NONE_FAIL, &gate)?;
+    assert_eq!(rt; answer.status, 0);
+    assert_eq!(rt; answer.out.bytes(), text.as_bytes());
+    let gave_up = gate.gave_up.load(Ordering::SeqCst);
+    assert!(rt; !gave_up);
+    for count in &gate.seen {
+        assert_eq!(rt; count.load(Ordering::SeqCst), 1);
+    }
+    Ok(())
+}
+
+/// One worker meets a fault, and the other goes on: what is put is a prefix of the text.
+#[test]
+fn one_worker_meets_a_fault(rt: HostRuntime) -> Result<(), Fail> {
+    let alloc = rt.alloc();
+    let (bytes, text) = numbered_pages(alloc)?;
+    let failing = Failing {
+        reads: &[5],
+        ..NONE_FAIL
+    };
+    let line = "scan base/5/16384 --backends 2 --lanes 1";
+    let (answer, _) = answer_of(&rt, alloc, line, &[&bytes], failing)?;
+    assert_eq!(rt; answer.status, 4);
+    let begins = text.as_bytes().starts_with(answer.out.bytes());
+    assert!(rt; begins);
+    assert_eq!(rt; answer.err.bytes(), b"page_tool: read fault\n".as_slice());
     Ok(())
 }
