@@ -173,6 +173,14 @@ fork_back Init = refl
 same_fork : (f g : Fork) → fork_number f ≡ fork_number g → f ≡ g
 same_fork f g e = let a = fork_back f in let b = fork_back g in let c = ap fork_of_number e in cc
 
+-- the forks stand at their numbers
+pub fork_at : (i : ℕ) (d : Fork) → i < 4 → fork_number (get_or (Main ∷ (Fsm ∷ (Vm ∷ (Init ∷ [])))) i d) ≡ i
+fork_at zero d below = refl
+fork_at (suc zero) d below = refl
+fork_at (suc (suc zero)) d below = refl
+fork_at (suc (suc (suc zero))) d below = refl
+fork_at (suc (suc (suc (suc i)))) d below = absurd (omega arith)
+
 fork_small : (f : Fork) → fork_number f < 4
 fork_small Main = omega arith
 fork_small Fsm = omega arith

@@ -23,11 +23,7 @@ pub struct ReadFault {
 }
 
 /// Reads a block from the lane of its tag.
-fn read_block<L: BlockLane>(
-    lanes: &mut [L],
-    tag: Tag,
-    page: &mut Page,
-) -> Result<(), ReadFault>
+fn read_block<L: BlockLane>(lanes: &mut [L], tag: Tag, page: &mut Page) -> Result<(), ReadFault>
     requires some { 0 < length lanes.old }
     requires has { ForSome (lane_at (map L.contents lanes.old) tag) (λ pages. IsSome (pages tag)) }
     ensures same { AreOnlyRead L.contents L.failed_writes L.unsynced L.write_faults lanes.old lanes.new }
@@ -54,11 +50,7 @@ fn sound_lsn(page: &Page) -> Lsn
 }
 
 /// Surveys one block.
-fn survey_block<L: BlockLane>(
-    lanes: &mut [L],
-    tag: Tag,
-    page: &mut Page,
-) -> Result<Lsn, ReadFault>
+fn survey_block<L: BlockLane>(lanes: &mut [L], tag: Tag, page: &mut Page) -> Result<Lsn, ReadFault>
     requires some { 0 < length lanes.old }
     requires has { ForSome (lane_at (map L.contents lanes.old) tag) (λ pages. IsSome (pages tag)) }
     ensures done { IfOk result (Surveys L.contents L.failed_writes L.unsynced L.read_faults L.write_faults L.calls (AreOfBlock tag) 1 lanes.old lanes.new) }
