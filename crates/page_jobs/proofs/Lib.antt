@@ -12,3 +12,4 @@ pub mod ReadersLeave
 pub mod Backends
 pub mod Counted
 pub mod Starting
+pub mod Surveys

@@ -5,3 +5,4 @@ pub mod Parts
 pub mod Dealt
 pub mod Jobs
 pub mod Relations
+pub mod Survey

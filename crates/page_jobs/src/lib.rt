@@ -8,11 +8,13 @@ mod printing;
 mod puts;
 mod reading;
 mod scans;
+mod surveying;
 mod working;
 
 pub use ending::{JobEnd, JobError, Totals};
 pub use gate::Gate;
 pub use scans::{dump, scan};
+pub use surveying::{ReadFault, survey};
 
 #[cfg(test)]
 mod tests;

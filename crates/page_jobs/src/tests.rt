@@ -1,10 +1,11 @@
 //! Scans and dumps that are run.
 ghost use Rattle.std.specs.Prelude.{◌≤◌};
 
-use crate::{Gate, JobEnd, JobError, Totals, dump, scan};
+use crate::{Gate, JobEnd, JobError, ReadFault, Totals, dump, scan, survey};
 use backend_pass::{Config, Manager, Pinned, StartRefused};
 use block_tag::{Catalog, Fork, RelEntry, RelNo};
 use log_device::{FaultPlan, MemSink};
+use page_layout::{Lsn, Page};
 use std::alloc::{AllocError, Global};
 use std::sync::Wait;
 use std::sync::atomic::{AtomicU64, Ordering};
@@ -125,5 +126,38 @@ fn workers_give_one_dump(rt: HostRuntime) -> Result<(), Fail> {
         assert_eq!(rt; end.ok().ok_or("the dump ended early")?, totals);
         assert_eq!(rt; out.bytes(), one.bytes());
     }
+    Ok(())
+}
+
+/// What a survey of one relation answers over this lane, and how many blocks it read.
+fn surveyed(
+    alloc: Global,
+    blocks: [u32; 4],
+    lane: TestLane,
+) -> Result<(Result<Lsn, ReadFault>, u32), AllocError> {
+    let entry = RelEntry {
+        tablespace: 0,
+        database: 0,
+        relation: 16384,
+        blocks,
+    };
+    let Ok(catalog) = Catalog::build(alloc, &[entry]) else {
+        return Err(AllocError);
+    };
+    let mut page = Page::zeroed(alloc)?;
+    let mut lanes = Vec::new(alloc);
+    lanes.push(lane)?;
+    let found = survey(lanes.as_mut_slice(), &catalog, &mut page);
+    Ok((found, lanes[0].reads))
+}
+
+#[test]
+fn survey_gives_the_largest_position(rt: HostRuntime) -> Result<(), Fail> {
+    let (found, reads) = surveyed(rt.alloc(), [3, 0, 1, 2], TestLane::positioned(0x16B3740))?;
+    assert_eq!(rt; found, Ok(0x16B3740));
+    assert_eq!(rt; reads, 6);
+    let (found, reads) = surveyed(rt.alloc(), [0, 0, 0, 0], TestLane::positioned(8))?;
+    assert_eq!(rt; found, Ok(0));
+    assert_eq!(rt; reads, 0);
     Ok(())
 }
