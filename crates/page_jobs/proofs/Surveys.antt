@@ -1,8 +1,8 @@
 -- Surveys of some blocks, one after the other.
-use Rattle.std.proofs.Common.{◌≡◌, ◌⊎◌, inl, inr, ℕ, zero, suc, ◌+◌, ◌<◌, ◌≤◌, ◌&&◌, ◌^◌, ◌-◌, max, Bool, true, false, List, [], ◌∷◌, get_or, length, map, set, take, Option, Some, None, refl, sym, ap, ◌∙◌, subst, arith}
+use Rattle.std.proofs.Common.{◌≡◌, ◌⊎◌, inl, inr, ℕ, zero, suc, ◌+◌, ◌<◌, ◌≤◌, ◌^◌, ◌-◌, max, Bool, true, false, List, [], ◌∷◌, get_or, length, map, set, take, Option, Some, None, refl, sym, ap, ◌∙◌, subst, arith}
 use Rattle.std.specs.Prelude.{IfSome, IsSome, IsSomeAnd, nat_lt, sum_by}
 use Rattle.std.specs.Option.{ForSome, option_and_then}
-use Rattle.std.proofs.lemmas.List.{get_or-map, length-map, map-set, take_all}
+use Rattle.std.proofs.lemmas.List.{get_or-map, length-map, map-set}
 use Rattle.std.proofs.lemmas.List.Sums.{sum_by-cons}
 use Rattle.block_tag.specs.declared.catalogue.RelEntry.{RelEntry}
 use Rattle.block_tag.specs.declared.tag.Fork.{Fork}
@@ -14,7 +14,7 @@ use Rattle.log_device.specs.Faults.{Rose}
 use Rattle.page_layout.specs.Fields.{lsn_of}
 use Rattle.page_layout.specs.Soundness.{is_sound_page}
 use Rattle.segment_store.specs.Contents.{Marks, Pages}
-use Rattle.segment_store.specs.Lanes.{HasBlocks, lane_at, tag_at}
+use Rattle.segment_store.specs.Lanes.{HasBlocks, lane_at}
 use Rattle.page_jobs.specs.Relations.{IsCatalogOf}
 use Rattle.page_jobs.specs.Survey.{AreOfBlock, AreOfFork, AreOfForks, AreOfRelation, AreOfRelations, AreOnlyRead, FailsToRead, HaveTheirs, IsLargestLsn, IsListed, IsListedByName, IsLsnOf, IsSoundAt, RoseAt, Surveys, relation_blocks, sum_of_forks}
 

@@ -83,11 +83,11 @@ module _ {L G : Type 0} (d : Devices L G) (m : Manager L G) (fork : Fork) (block
     fault_cause (job.ReadFault tag) ends = ⊎_elim
         (λ (short : job.ReadFault tag ≡ job.Memory). absurd (cc))
         (λ rest. ⊎_elim
-            (λ (any : AnyMeets d.contents m 0 fork (workers_in ps) (workers_in qs) (job.ReadFault tag)). rose_from_none (sum_by d.read_faults lanes)
-            (some_read_failed d m.table.table.shared.key qs lanes log closed counted none
-            (backends.fault_met d.contents m fork (length ps) ps qs new more parts last tag any)))
-            (λ (out : (job.ReadFault tag ≡ job.OutFault) × Rose outs outs_now). absurd (let no = out.0 in cc))
-            rest)
+        (λ (any : AnyMeets d.contents m 0 fork (workers_in ps) (workers_in qs) (job.ReadFault tag)). rose_from_none (sum_by d.read_faults lanes)
+        (some_read_failed d m.table.table.shared.key qs lanes log closed counted none
+        (backends.fault_met d.contents m fork (length ps) ps qs new more parts last tag any)))
+        (λ (out : (job.ReadFault tag ≡ job.OutFault) × Rose outs outs_now). absurd (let no = out.0 in cc))
+        rest)
         ends
     fault_cause (job.WriteFault tag) ends = tt
     fault_cause job.LogFault ends = tt
@@ -96,9 +96,9 @@ module _ {L G : Type 0} (d : Devices L G) (m : Manager L G) (fork : Fork) (block
     fault_cause job.OutFault ends = ⊎_elim
         (λ (short : job.OutFault ≡ job.Memory). absurd (cc))
         (λ rest. ⊎_elim
-            (λ (any : AnyMeets d.contents m 0 fork (workers_in ps) (workers_in qs) job.OutFault). absurd (backends.none_meets_output d.contents m fork (workers_in ps) (workers_in qs) any))
-            (λ (out : (job.OutFault ≡ job.OutFault) × Rose outs outs_now). out.1)
-            rest)
+        (λ (any : AnyMeets d.contents m 0 fork (workers_in ps) (workers_in qs) job.OutFault). absurd (backends.none_meets_output d.contents m fork (workers_in ps) (workers_in qs) any))
+        (λ (out : (job.OutFault ≡ job.OutFault) × Rose outs outs_now). out.1)
+        rest)
         ends
     fault_cause job.Memory ends = tt
 

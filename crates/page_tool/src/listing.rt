@@ -152,12 +152,7 @@ fn start<L: BlockLane + Send>(
 }
 
 /// The backends read the blocks, and what is printed of them is put.
-fn list_blocks<
-    L: BlockLane + Send,
-    R: Threads + Wait + Sync,
-    O: Sink,
-    T: Gate + Sync,
->(
+fn list_blocks<L: BlockLane + Send, R: Threads + Wait + Sync, O: Sink, T: Gate + Sync>(
     manager: &Manager<L, MemLog>,
     rt: &R,
     alloc: Global,
@@ -186,12 +181,7 @@ fn list_blocks<
 }
 
 /// The backends list the blocks, and the manager is closed, which returns its lanes.
-fn list_and_close<
-    L: BlockLane + Send,
-    R: Threads + Wait + Sync,
-    O: Sink,
-    T: Gate + Sync,
->(
+fn list_and_close<L: BlockLane + Send, R: Threads + Wait + Sync, O: Sink, T: Gate + Sync>(
     manager: Manager<L, MemLog>,
     rt: &R,
     alloc: Global,

@@ -47,6 +47,14 @@ fn main(rt: HostRuntime) -> ExitCode {
         let _ = err.put(MEMORY_LINE);
         return ExitCode::from(MEMORY_STATUS);
     };
-    let status = run(&rt, rt.alloc(), &words, &mut host, &mut out, &mut err, &OpenGate);
+    let status = run(
+        &rt,
+        rt.alloc(),
+        &words,
+        &mut host,
+        &mut out,
+        &mut err,
+        &OpenGate,
+    );
     ExitCode::from(status)
 }

@@ -1,10 +1,9 @@
-use Rattle.std.proofs.Common.{◌≡◌, ℕ, ◌+◌, ◌<◌, ◌≤◌, length, map, take, refl, subst, sym, ap, ◌∙◌, arith, rules}
+use Rattle.std.proofs.Common.{◌≡◌, ℕ, ◌+◌, ◌<◌, length, map, take, subst, sym, arith}
 use Rattle.std.specs.Prelude.{sum_by}
-use Rattle.std.proofs.Math.Seq.{take-length}
 use Rattle.std.proofs.lemmas.List.Sums.{sum_by-take-le}
 use Rattle.block_tag.specs.Catalogue.{blocks_at}
-use Rattle.page_jobs.specs.Survey.{AreOfRelation, AreOfRelations, IsListed, Surveys, catalog_blocks, relation_blocks, sum_of_forks}
-use Rattle.page_jobs.proofs.Surveys.{all_relations, earlier_relation, fails_after, largest_of_same, next_relation, next_relation_count, survey_of_both, this_relation}
+use Rattle.page_jobs.specs.Survey.{AreOfRelation, AreOfRelations, IsListed, Surveys, relation_blocks, sum_of_forks}
+use Rattle.page_jobs.proofs.Surveys.{all_relations, earlier_relation, largest_of_same, next_relation, next_relation_count, survey_of_both, this_relation}
 use Rattle.page_jobs.proofs.surveying.survey.Goals as goal
 
 pub loop-rel-preserved : goal.loop-rel-preserved

@@ -1,7 +1,7 @@
-use Rattle.std.proofs.Common.{ℕ, ◌+◌, ◌≤◌, map, refl, subst, sym, arith}
+use Rattle.std.proofs.Common.{ℕ, ◌+◌, refl, subst, sym}
 use Rattle.block_tag.specs.Names.{tag_of_parts}
 use Rattle.page_jobs.specs.Survey.{AreOfBlock, AreOfFork, Surveys}
-use Rattle.page_jobs.proofs.Surveys.{earlier_block, fails_after, next_block, still_have, survey_of_both, survey_of_none, this_block}
+use Rattle.page_jobs.proofs.Surveys.{earlier_block, next_block, survey_of_both, this_block}
 use Rattle.page_jobs.proofs.surveying.survey_fork.Goals as goal
 
 pub loop-block-preserved : goal.loop-block-preserved
