@@ -82,3 +82,15 @@ module _ {L G : Type 0} (contents : L → Option Pages) (m : Manager L G) where
         (λ same. subst (λ (x : ℕ). (link q.view x).content ≡ (link p.view x).content) (sym same) (back.here ∙ sym none))
         (λ n. ap (λ (l : Link). l.content) (back.others f n ∙ takes.others f n));
   }
+
+  -- calls between a pin and its release
+  pub pinned_returns : (f : ℕ) (p u v q : PassState) → SamePass p u → KeepsLocks p u → tokens_less f u.tokens ≡ p.tokens → Returns contents m u v → Belongs contents m q → SamePass v q → q.tokens ≡ tokens_less f v.tokens → KeepsLocks v q → Returns contents m p q
+  pinned_returns f p u v q same locks back r b last spent kept = record {
+    belongs = b;
+    same = same_on p v q (same_on p u v same r.same) last;
+    tokens = spent ∙ ap (tokens_less f) r.tokens ∙ back;
+    locks = λ g. kept g ∙ r.locks g ∙ locks g;
+  }
+
+  pub returns_on : (p u q : PassState) → Returns contents m p u → Returns contents m u q → Returns contents m p q
+  returns_on p u q a b = record { belongs = b.belongs; same = same_on p u q a.same b.same; tokens = b.tokens ∙ a.tokens; locks = λ g. b.locks g ∙ a.locks g }
