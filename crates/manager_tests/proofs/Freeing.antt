@@ -83,14 +83,14 @@ module _ {L G : Type 0} (contents : L → Option Pages) (m : Manager L G) where
         (λ n. ap (λ (l : Link). l.content) (back.others f n ∙ takes.others f n));
   }
 
+  pub returns_on : (p u q : PassState) → Returns contents m p u → Returns contents m u q → Returns contents m p q
+  returns_on p u q a b = record { belongs = b.belongs; same = same_on p u q a.same b.same; tokens = b.tokens ∙ a.tokens; locks = λ f. b.locks f ∙ a.locks f }
+
   -- calls between a pin and its release
-  pub pinned_returns : (f : ℕ) (p u v q : PassState) → SamePass p u → KeepsLocks p u → tokens_less f u.tokens ≡ p.tokens → Returns contents m u v → Belongs contents m q → SamePass v q → q.tokens ≡ tokens_less f v.tokens → KeepsLocks v q → Returns contents m p q
-  pinned_returns f p u v q same locks back r b last spent kept = record {
+  pub pinned_returns : (pinned given : Pinned) (p u v q : PassState) → given ≡ pinned → SamePass p u → KeepsLocks p u → tokens_less pinned.frame u.tokens ≡ p.tokens → Returns contents m u v → Belongs contents m q → SamePass v q → q.tokens ≡ tokens_less given.frame v.tokens → KeepsLocks v q → Returns contents m p q
+  pinned_returns pinned given p u v q e same locks back r b last spent kept = record {
     belongs = b;
     same = same_on p v q (same_on p u v same r.same) last;
-    tokens = spent ∙ ap (tokens_less f) r.tokens ∙ back;
-    locks = λ g. kept g ∙ r.locks g ∙ locks g;
+    tokens = subst (λ (x : Pinned). q.tokens ≡ tokens_less x.frame v.tokens) e spent ∙ ap (tokens_less pinned.frame) r.tokens ∙ back;
+    locks = λ f. kept f ∙ r.locks f ∙ locks f;
   }
-
-  pub returns_on : (p u q : PassState) → Returns contents m p u → Returns contents m u q → Returns contents m p q
-  returns_on p u q a b = record { belongs = b.belongs; same = same_on p u q a.same b.same; tokens = b.tokens ∙ a.tokens; locks = λ g. b.locks g ∙ a.locks g }

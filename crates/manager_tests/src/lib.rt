@@ -8,6 +8,6 @@ pub mod locking;
 pub mod putting;
 pub mod reading;
 pub mod sharing;
-pub mod waiting;
 #[cfg(test)]
 mod tests;
+pub mod waiting;
