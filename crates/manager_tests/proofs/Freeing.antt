@@ -8,6 +8,8 @@ use Rattle.pin_core.specs.declared.view.Content.TheVariants.{Unlocked}
 use Rattle.pin_core.specs.declared.view.Link.{Link}
 use Rattle.pin_core.specs.declared.view.View.{View}
 use Rattle.pin_core.specs.State.{link}
+use Rattle.pin_core.proofs.Views.{link_new}
+use Rattle.frame_table.specs.Seats.{base_of, frames_of, lanes_in}
 use Rattle.held_pins.specs.Tokens.{IsPinnedFor, tokens_less}
 use Rattle.backend_pass.specs.declared.manager.Manager.{Manager}
 use Rattle.backend_pass.specs.declared.pinned.Pinned.{Pinned}
@@ -15,7 +17,7 @@ use Rattle.backend_pass.specs.Locks.{ChangesLock, HasLock}
 use Rattle.backend_pass.specs.Managers.{AreNewPasses, Belongs, IsNewPass}
 use Rattle.backend_pass.specs.Passes.{KeepsLocks, PassState, SamePass}
 use Rattle.backend_pass.proofs.Seated.{same_on}
-use Rattle.manager_tests.specs.Bench.{HasOnly, IsFree, Returns}
+use Rattle.manager_tests.specs.Bench.{HasOnly, IsFree, IsUnlocked, Returns}
 
 -- a list of three, from its end
 length_three : (xs : List PassState) (a b c : PassState) → length (((xs ++ a ∷ []) ++ b ∷ []) ++ c ∷ []) ≡ length xs + 3
@@ -30,12 +32,26 @@ module _ {L G : Type 0} (contents : L → Option Pages) (m : Manager L G) where
   new_free : (i : ℕ) (p : PassState) → IsNewPass contents m 3 i p → IsFree contents m i p
   new_free i p n = record { is = record { belongs = n.belongs; number = ap (λ (v : View). v.number) n.view; joined = ap (λ (v : View). v.joined) n.view; next = n.next }; spent = n.tokens }
 
-  pub three_free : (ps qs rs ss : List PassState) (a b c : PassState) → AreNewPasses contents m 3 ps → ps ≡ qs ++ c ∷ [] → qs ≡ rs ++ b ∷ [] → rs ≡ ss ++ a ∷ []
-      → IsFree contents m 0 a × IsFree contents m 1 b × IsFree contents m 2 c
-  three_free ps qs rs ss a b c new last middle front =
+  new_unlocked : (i : ℕ) (p : PassState) → IsNewPass contents m 3 i p → IsUnlocked contents m p
+  new_unlocked i p n = record {
+    belongs = n.belongs;
+    unlocked = λ f. ap (λ (v : View). (link v f).content) n.view ∙ ap (λ (l : Link). l.content) (link_new (frames_of m.table) 128 (lanes_in m.table) i (base_of m.table) f);
+  }
+
+  three_new : (ps qs rs ss : List PassState) (a b c : PassState) → AreNewPasses contents m 3 ps → ps ≡ qs ++ c ∷ [] → qs ≡ rs ++ b ∷ [] → rs ≡ ss ++ a ∷ []
+      → IsNewPass contents m 3 0 a × IsNewPass contents m 3 1 b × IsNewPass contents m 3 2 c
+  three_new ps qs rs ss a b c new last middle front =
       let all = three ss a b c ps (last ∙ ap (λ (l : List PassState). l ++ c ∷ []) (middle ∙ ap (λ (l : List PassState). l ++ b ∷ []) front)) new.counted in
       let each = subst (AreNewPasses contents m 3) all new in
-      (new_free 0 a (each.each 0 a refl), new_free 1 b (each.each 1 b refl), new_free 2 c (each.each 2 c refl))
+      (each.each 0 a refl, each.each 1 b refl, each.each 2 c refl)
+
+  pub three_free : (ps qs rs ss : List PassState) (a b c : PassState) → AreNewPasses contents m 3 ps → ps ≡ qs ++ c ∷ [] → qs ≡ rs ++ b ∷ [] → rs ≡ ss ++ a ∷ []
+      → IsFree contents m 0 a × IsFree contents m 1 b × IsFree contents m 2 c
+  three_free ps qs rs ss a b c new last middle front = let t = three_new ps qs rs ss a b c new last middle front in (new_free 0 a t.0, new_free 1 b t.1, new_free 2 c t.2)
+
+  pub three_unlocked : (ps qs rs ss : List PassState) (a b c : PassState) → AreNewPasses contents m 3 ps → ps ≡ qs ++ c ∷ [] → qs ≡ rs ++ b ∷ [] → rs ≡ ss ++ a ∷ []
+      → IsUnlocked contents m a × IsUnlocked contents m b × IsUnlocked contents m c
+  three_unlocked ps qs rs ss a b c new last middle front = let t = three_new ps qs rs ss a b c new last middle front in (new_unlocked 0 a t.0, new_unlocked 1 b t.1, new_unlocked 2 c t.2)
 
   -- a call that keeps tokens and locks
   pub only_on : (lock : Content) (pinned : Pinned) (i : ℕ) (p q : PassState) → HasOnly contents lock pinned m i p → Belongs contents m q → SamePass p q → q.tokens ≡ p.tokens → KeepsLocks p q → HasOnly contents lock pinned m i q
@@ -65,4 +81,16 @@ module _ {L G : Type 0} (contents : L → Option Pages) (m : Manager L G) where
     locks = λ f. dite (ℕ_discrete f pinned.frame)
         (λ same. subst (λ (x : ℕ). (link q.view x).content ≡ (link p.view x).content) (sym same) (back.here ∙ sym none))
         (λ n. ap (λ (l : Link). l.content) (back.others f n ∙ takes.others f n));
+  }
+
+  pub returns_on : (p u q : PassState) → Returns contents m p u → Returns contents m u q → Returns contents m p q
+  returns_on p u q a b = record { belongs = b.belongs; same = same_on p u q a.same b.same; tokens = b.tokens ∙ a.tokens; locks = λ f. b.locks f ∙ a.locks f }
+
+  -- calls between a pin and its release
+  pub pinned_returns : (pinned given : Pinned) (p u v q : PassState) → given ≡ pinned → SamePass p u → KeepsLocks p u → tokens_less pinned.frame u.tokens ≡ p.tokens → Returns contents m u v → Belongs contents m q → SamePass v q → q.tokens ≡ tokens_less given.frame v.tokens → KeepsLocks v q → Returns contents m p q
+  pinned_returns pinned given p u v q e same locks back r b last spent kept = record {
+    belongs = b;
+    same = same_on p v q (same_on p u v same r.same) last;
+    tokens = subst (λ (x : Pinned). q.tokens ≡ tokens_less x.frame v.tokens) e spent ∙ ap (tokens_less pinned.frame) r.tokens ∙ back;
+    locks = λ f. kept f ∙ r.locks f ∙ locks f;
   }

@@ -2,6 +2,7 @@
 use Rattle.std.specs.Prelude.{◌≡◌, ℕ, Option, None}
 use Rattle.segment_store.specs.Contents.{Pages}
 use Rattle.pin_core.specs.declared.view.Content.{Content}
+use Rattle.pin_core.specs.declared.view.Content.TheVariants.{Unlocked}
 use Rattle.held_pins.specs.Tokens.{IsPinnedFor, no_tokens, tokens_less}
 use Rattle.backend_pass.specs.declared.manager.Manager.{Manager}
 use Rattle.backend_pass.specs.declared.pinned.Pinned.{Pinned}
@@ -22,7 +23,12 @@ module _ {L G : Type 0} (contents : L → Option Pages) where
     pub is : IsNumber m i p
     pub spent : p.tokens ≡ no_tokens
 
-  -- or this one alone, and this content lock of its frame
+  -- It may have tokens, and has no content lock
+  pub record IsUnlocked (m : Manager L G) (p : PassState) : Type 0 where
+    pub belongs : Belongs contents m p
+    pub unlocked : (f : ℕ) → HasLock Unlocked f p
+
+  -- It has this token alone, and this content lock of its frame
   pub record HasOnly (lock : Content) (pinned : Pinned) (m : Manager L G) (i : ℕ) (p : PassState) : Type 0 where
     pub is : IsNumber m i p
     pub token : IsPinnedFor pinned.tag pinned.frame p.tokens
@@ -40,3 +46,6 @@ module _ {L G : Type 0} where
   -- It is so in a manager over lanes that don't tell what they hold
   abbrev pub IsFreeIn : Manager L G → ℕ → PassState → Type 0
   IsFreeIn m i p = IsFree (λ _. None) m i p
+
+  abbrev pub IsUnlockedIn : Manager L G → PassState → Type 0
+  IsUnlockedIn m p = IsUnlocked (λ _. None) m p

@@ -1,6 +1,6 @@
 //! A small manager.
 ghost use Rattle.std.specs.Prelude.{◌≡◌, ◌≤◌, ◌%◌, ◌^◌, [], IfOk, vec_capacity};
-ghost use Rattle.manager_tests.specs.Bench.{IsFree, IsFreeIn};
+ghost use Rattle.manager_tests.specs.Bench.{IsFree, IsFreeIn, IsUnlockedIn};
 
 use backend_pass::{Config, Manager, Pass, StartRefused};
 use block_tag::{Catalog, CatalogError, Fork, RelEntry, RelNo, Tag};
@@ -52,6 +52,9 @@ pub fn start(
     ensures first { IfOk result (λ b. IsFreeIn b.manager 0 b.first) }
     ensures second { IfOk result (λ b. IsFreeIn b.manager 1 b.second) }
     ensures third { IfOk result (λ b. IsFreeIn b.manager 2 b.third) }
+    ensures first_unlocked { IfOk result (λ b. IsUnlockedIn b.manager b.first) }
+    ensures second_unlocked { IfOk result (λ b. IsUnlockedIn b.manager b.second) }
+    ensures third_unlocked { IfOk result (λ b. IsUnlockedIn b.manager b.third) }
 {
     let Ok(catalog) = catalog(alloc, blocks) else {
         return Err(AllocError);

@@ -5,7 +5,7 @@ ghost use Rattle.pin_core.specs.declared.view.Content.TheVariants.{Unlocked};
 ghost use Rattle.held_pins.specs.Tokens.{IsPinnedFor};
 ghost use Rattle.backend_pass.specs.Locks.{HasLock};
 ghost use Rattle.backend_pass.specs.Managers.{Belongs};
-ghost use Rattle.manager_tests.specs.Bench.{IsFree, IsFreeIn, Returns};
+ghost use Rattle.manager_tests.specs.Bench.{IsFree, IsFreeIn, IsUnlocked, Returns};
 
 use crate::bench::block;
 use crate::reading::{copy_all, pin, unpin};
@@ -43,7 +43,7 @@ fn try_clean<L: BlockLane, G: LogDevice>(
 }
 
 /// Takes it, and gives it up. Why it was not taken.
-fn clean<L: BlockLane, G: LogDevice, R: Wait>(
+pub fn clean<L: BlockLane, G: LogDevice, R: Wait>(
     manager: &Manager<L, G>,
     rt: &R,
     pass: &mut Pass,
@@ -70,7 +70,7 @@ fn saw(refused: Option<TryCleanup>, waiter: bool) -> bool {
 }
 
 /// Tries until another pass has a pin, or waits.
-fn look_for<L: BlockLane, G: LogDevice>(
+pub fn look_for<L: BlockLane, G: LogDevice>(
     manager: &Manager<L, G>,
     pass: &mut Pass,
     mut pinned: Pinned,
@@ -93,7 +93,7 @@ fn look_for<L: BlockLane, G: LogDevice>(
 }
 
 /// Waits for the cleanup lock, once another pass has pinned the block. None where it isn't read.
-fn wait_beside<L: BlockLane, G: LogDevice, R: Wait>(
+pub fn wait_beside<L: BlockLane, G: LogDevice, R: Wait>(
     manager: &Manager<L, G>,
     rt: &R,
     pass: &mut Pass,
@@ -219,4 +219,69 @@ pub fn try_not_alone<L: BlockLane, G: LogDevice, R: Wait>(
     let token = second.unshare(manager, token);
     unpin(manager, rt, second, 1, token);
     Some(NotAlone { pinned, shared })
+}
+
+/// Why a pass doesn't get the cleanup lock of a block of which it has two tokens, and why not once it has one.
+#[derive(Clone, Copy, PartialEq, Debug)]
+pub struct OwnPins {
+    pub twice: Option<TryCleanup>,
+    pub once: Option<TryCleanup>,
+}
+
+/// Tries with a further token of a block, and gives that back. None where it is taken, or the block isn't read.
+fn try_with_another<L: BlockLane, G: LogDevice, R: Wait>(
+    manager: &Manager<L, G>,
+    rt: &R,
+    pass: &mut Pass,
+    tag: Tag,
+) -> Option<TryCleanup>
+    requires { IsUnlocked L.contents manager.now pass.old }
+    ensures { Returns L.contents manager.now pass.old pass.new }
+{
+    let Ok(pinned) = pass.read_buffer(manager, rt, tag, &mut None) else {
+        return None;
+    };
+    let (pinned, refused) = try_clean(manager, pass, pinned);
+    pass.release(manager, rt, pinned);
+    refused
+}
+
+/// Tries with two tokens of a block, and with the one that is left. None where the block isn't read.
+pub fn try_twice<L: BlockLane, G: LogDevice, R: Wait>(
+    manager: &Manager<L, G>,
+    rt: &R,
+    pass: &mut Pass,
+    tag: Tag,
+) -> Option<OwnPins>
+    requires { IsUnlocked L.contents manager.now pass.old }
+    ensures { Returns L.contents manager.now pass.old pass.new }
+{
+    let Ok(pinned) = pass.read_buffer(manager, rt, tag, &mut None) else {
+        return None;
+    };
+    let twice = try_with_another(manager, rt, pass, tag);
+    let (pinned, once) = try_clean(manager, pass, pinned);
+    pass.release(manager, rt, pinned);
+    Some(OwnPins { twice, once })
+}
+
+/// The same while a second pass pins the block. None where that doesn't read it.
+pub fn try_twice_beside<L: BlockLane, G: LogDevice, R: Wait>(
+    manager: &Manager<L, G>,
+    rt: &R,
+    first: &mut Pass,
+    second: &mut Pass,
+    tag: Tag,
+) -> Option<OwnPins>
+    requires first { IsUnlocked L.contents manager.now first.old }
+    requires second { IsFree L.contents manager.now 1 second.old }
+    ensures first { Returns L.contents manager.now first.old first.new }
+    ensures second { IsFree L.contents manager.now 1 second.new }
+{
+    let Ok(token) = pin(manager, rt, second, 1, tag, &mut None) else {
+        return None;
+    };
+    let own = try_twice(manager, rt, first, tag);
+    unpin(manager, rt, second, 1, token);
+    own
 }

@@ -10,3 +10,4 @@ pub mod reading;
 pub mod sharing;
 #[cfg(test)]
 mod tests;
+pub mod waiting;

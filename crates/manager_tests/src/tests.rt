@@ -1,11 +1,14 @@
 //! Managers that are run.
 use crate::bench::{Bench, block, start};
-use crate::cleaning::{Asked, NotAlone, try_not_alone, wait_and_ask};
+use crate::cleaning::{
+    Asked, NotAlone, OwnPins, try_not_alone, try_twice, try_twice_beside, wait_and_ask,
+};
 use crate::crowding::{Crowded, hold_first};
 use crate::locking::{Refusals, try_beside_exclusive, try_beside_shared};
 use crate::putting::{flush_once, put_once};
 use crate::reading::{Access, copy_once, read_once};
 use crate::sharing::{Copied, copy_all_twice, copy_beside};
+use crate::waiting::wait_at_both;
 use access_rings::{Ring, RingKind};
 use backend_pass::{
     CleanupError, Config, FlushError, Manager, PutError, ReadError, Setting, StartError,
@@ -712,5 +715,72 @@ fn a_try_that_is_not_alone_is_refused(rt: HostRuntime) -> Result<(), Fail> {
             shared: Some(TryCleanup::Busy { word: 1 })
         })
     );
+    Ok(())
+}
+
+#[test]
+fn two_waiters_at_two_frames_are_woken(rt: HostRuntime) -> Result<(), Fail> {
+    let Bench {
+        manager,
+        mut first,
+        mut second,
+        mut third,
+        passes,
+    } = start(
+        rt.alloc(),
+        64,
+        TestLane::numbered(None),
+        TestLog::new(rt.alloc(), 0),
+        0,
+    )?;
+    let (asked, waited) = wait_at_both(&manager, &rt, &mut first, &mut second, &mut third);
+    let (_lanes, _log) = Bench {
+        manager,
+        first,
+        second,
+        third,
+        passes,
+    }
+    .close();
+    assert_eq!(rt;
+        asked,
+        (
+            Some(Some(CleanupError::OtherWaiter { backend: 0 })),
+            Some(Some(CleanupError::OtherWaiter { backend: 1 }))
+        )
+    );
+    assert_eq!(rt; waited, (Some(None), Some(None)));
+    Ok(())
+}
+
+#[test]
+fn a_try_with_two_tokens_is_refused(rt: HostRuntime) -> Result<(), Fail> {
+    let Bench {
+        manager,
+        mut first,
+        mut second,
+        third,
+        passes,
+    } = start(
+        rt.alloc(),
+        64,
+        TestLane::numbered(None),
+        TestLog::new(rt.alloc(), 0),
+        0,
+    )?;
+    let beside = try_twice_beside(&manager, &rt, &mut first, &mut second, block(0));
+    let alone = try_twice(&manager, &rt, &mut first, block(0));
+    let (_lanes, _log) = Bench {
+        manager,
+        first,
+        second,
+        third,
+        passes,
+    }
+    .close();
+    let twice = Some(TryCleanup::LocalPins { count: 2 });
+    let once = Some(TryCleanup::OtherPins { word: 0x8308_0002 });
+    assert_eq!(rt; beside, Some(OwnPins { twice, once }));
+    assert_eq!(rt; alone, Some(OwnPins { twice, once: None }));
     Ok(())
 }

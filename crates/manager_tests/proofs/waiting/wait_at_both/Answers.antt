@@ -1,0 +1,11 @@
+use denote.Exit.{no}
+use denote.Param.Send.{IsSend, param_send, arg_send, mut_send, shr_send}
+use Rattle.manager_tests.proofs.Crossing.{managers_shared, passes_sent, three_sent}
+use Rattle.manager_tests.proofs.waiting.wait_at_both.Lts.{arg-0-1}
+use Rattle.manager_tests.proofs.waiting.wait_at_both.Goals as goal
+
+pub join_mut-requires-send-F : goal.join_mut-requires-send-F
+join_mut-requires-send-F g c = λ κs b.
+    let X = arg-0-1 g.row.R g.R.laws g.R.Threads-dict g.R.Wait-dict κs in
+    let s : IsSend X = arg_send _ no _ (three_sent _ _ _ _ (shr_send _ _ _ (managers_shared _ _)) (shr_send _ _ _ c.type_bounds.sync-R) (mut_send _ _ _ passes_sent)) in
+    param_send 1 X s
