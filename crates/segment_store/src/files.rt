@@ -389,4 +389,6 @@ where
     ghost write_faults_fit = { λ h. h.write_faults.fits };
 
     ghost log_faults_fit = { λ h. h.log_faults.fits };
+
+    ghost logs_told = { λ h log. tt };
 }
