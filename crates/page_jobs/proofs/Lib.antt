@@ -13,3 +13,9 @@ pub mod Backends
 pub mod Counted
 pub mod Starting
 pub mod Surveys
+mod BlockRewrites
+mod RewriteSums
+mod PartRewrites
+mod RewriteCounts
+mod RewriteClosed
+mod RewriteLanes

@@ -24,7 +24,7 @@ use Rattle.buffer_frames.specs.PageReads.{ReadsPage}
 use Rattle.backend_pass.specs.Passes.{KeepsCalls, KeepsLocks, KeepsMark, PassState, SamePass}
 use Rattle.backend_pass.specs.Reading.{ReadingRefused, met_read_refused}
 use Rattle.page_jobs.specs.declared.ending.JobError.{JobError}
-use Rattle.page_jobs.specs.declared.ending.JobError.TheVariants.{ReadFault, WriteFault, LogFault, LogDown, LogShort, OutFault, Memory}
+use Rattle.page_jobs.specs.declared.ending.JobError.TheVariants.{ReadFault, WriteFault, LogFault, LogDown, LogShort, LogFull, OutFault, Memory}
 use Rattle.page_jobs.specs.declared.reading.BlockPage.{BlockPage}
 use Rattle.page_jobs.specs.declared.reading.BlockPage.TheVariants.{Sound, Unsound}
 use Rattle.page_jobs.specs.Printed.{BlockRead, copied, unsound}
@@ -60,6 +60,7 @@ MetFault (WriteFault tag) m n = m.writes < n.writes
 MetFault LogFault m n = m.logs < n.logs
 MetFault (LogDown at) m n = Unit {0}
 MetFault (LogShort lsn end) m n = Unit {0}
+MetFault (LogFull end) m n = Unit {0}
 MetFault OutFault m n = ⊥
 MetFault Memory m n = ⊥
 

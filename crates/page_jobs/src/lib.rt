@@ -4,15 +4,19 @@
 mod dealing;
 mod ending;
 mod gate;
+mod laws;
 mod printing;
 mod puts;
 mod reading;
+mod rewrites;
+mod rewriting;
 mod scans;
 mod surveying;
 mod working;
 
 pub use ending::{JobEnd, JobError, Totals};
 pub use gate::Gate;
+pub use laws::rewrite_ends;
 pub use scans::{dump, scan};
 pub use surveying::{ReadFault, survey};
 

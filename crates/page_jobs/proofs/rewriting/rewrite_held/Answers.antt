@@ -1,0 +1,22 @@
+use Rattle.std.proofs.Common.{◌≡◌, ap, ◌∙◌}
+use Rattle.held_pins.specs.Tokens.{no_tokens, tokens_less}
+use Rattle.backend_pass.specs.declared.pinned.Pinned.{Pinned}
+use Rattle.backend_pass.specs.declared.tokens.Exclusive.{Exclusive}
+use Rattle.page_jobs.proofs.BlockRewrites.{held, quiet_on}
+use Rattle.page_jobs.proofs.rewriting.rewrite_held.Goals as goal
+
+pub returns : goal.returns
+returns g c =
+    let w = c.rewrite_locked-answer.ensures in
+    let x = c.unexclusive-pinned.ensures in
+    let y = c.release.ensures in
+    let q = c.rewrite_locked-answer.new.pass in
+    let same : c.unexclusive-pinned.result ≡ c.args.exclusive.pinned = x.token ∙ ap (λ (e : Exclusive). e.pinned) w.same in
+    let spent : c.release.new.self.tokens ≡ no_tokens =
+    y.tokens ∙ ap (tokens_less c.unexclusive-pinned.result.frame) (x.tokens ∙ w.rewrites.tokens) ∙ ap (λ (b : Pinned). tokens_less b.frame c.args.pass.now.tokens) same ∙ c.requires.last in
+    record {
+      rewrites = held {L = g.row.L.Denot} {G = g.row.G.Denot} g.L.BlockLane.contents c.args.manager.now c.args.exclusive.pinned.tag c.args.pass.now q c.release.new.self c.rewrite_locked-answer.result w.rewrites
+          (quiet_on {L = g.row.L.Denot} {G = g.row.G.Denot} g.L.BlockLane.contents c.args.manager.now q c.unexclusive-pinned.new.self c.release.new.self
+          (record { belongs = x.belongs; same = x.same; calls = x.calls; met = x.devices.met })
+          (record { belongs = y.belongs; same = y.same; calls = y.calls; met = y.devices.met })) spent;
+    }

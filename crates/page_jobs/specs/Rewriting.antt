@@ -1,0 +1,136 @@
+-- How a worker rewrites a block, and what it does with its part of the blocks.
+use Rattle.std.specs.Prelude.{◌≡◌, ℕ, ◌+◌, ◌<◌, ◌≤◌, ◌⊎◌, false, true, List, ◌++◌, length, Option, Result, Err, OnOk, IfOk, IfErr}
+use Rattle.block_tag.specs.declared.tag.Fork.{Fork}
+use Rattle.block_tag.specs.declared.tag.Tag.{Tag}
+use Rattle.block_tag.specs.Names.{tag_of_parts}
+use Rattle.page_layout.specs.declared.outcomes.PageRewrite.{PageRewrite}
+use Rattle.page_layout.specs.declared.outcomes.RewriteTotals.{RewriteTotals}
+use Rattle.page_layout.specs.Outcomes.{IsRewriteWithin, sum_of_rewrite_totals}
+use Rattle.page_layout.specs.Soundness.{is_sound_page}
+use Rattle.segment_store.specs.Contents.{Pages}
+use Rattle.pin_core.specs.declared.view.Content.TheVariants.{Exclusive}
+use Rattle.pin_core.specs.State.{Page}
+use Rattle.frame_table.specs.Seats.{OnlyRises, relations_of}
+use Rattle.held_pins.specs.Tokens.{IsPinnedFor, no_tokens, tokens_less}
+use Rattle.wal_flush.specs.declared.inserts.InsertError.{InsertError}
+use Rattle.wal_flush.specs.declared.inserts.InsertError.TheVariants as put
+use Rattle.buffer_frames.specs.Loading.{WasUnsoundAtOpening}
+use Rattle.buffer_frames.specs.Puts.{PutRefused, met_put}
+use Rattle.backend_pass.specs.declared.manager.Manager.{Manager}
+use Rattle.backend_pass.specs.declared.tokens.Exclusive.{Exclusive as Token}
+use Rattle.backend_pass.specs.Locks.{HasLock}
+use Rattle.backend_pass.specs.Managers.{Belongs}
+use Rattle.backend_pass.specs.Passes.{KeepsCalls, KeepsLocks, PassState, SamePass}
+use Rattle.page_jobs.specs.declared.ending.JobError.{JobError}
+use Rattle.page_jobs.specs.declared.ending.JobError.TheVariants.{LogDown, LogFault, LogFull, Memory}
+use Rattle.page_jobs.specs.Parts.{MeetsFault, blocks_in}
+use Rattle.page_jobs.specs.Rewrites.{AreFrom, EachOutcome, IsEnded, Outcome, unsound, kept, refused, changed, block_of, calls_by, calls_for, rule_of, told_of, totals_of_rewrite}
+
+-- what ends a job, by the refusal of a put
+abbrev pub fault_of_put : InsertError → JobError
+fault_of_put (put.LogFull end) = LogFull end
+fault_of_put (put.LogDown at) = LogDown at
+fault_of_put put.LogFault = LogFault
+
+module _ {L G : Type 0} (contents : L → Option Pages) (m : Manager L G) where
+  -- What a rewrite leaves of a pass: it is the same one, its content locks are as they were, and its front isn't before the old one
+  pub record GoesOn (p q : PassState) : Type 0 where
+    pub belongs : Belongs contents m q
+    pub same : SamePass p q
+    pub locks : KeepsLocks p q
+    pub front : p.view.front ≤ q.view.front
+
+  -- The block's cleanup lock is held, with the only token that the pass has
+  pub record LocksOne (tag : Tag) (p q : PassState) (e : Token) : Type 0 where
+    pub belongs : Belongs contents m q
+    pub same : SamePass p q
+    pub front : p.view.front ≤ q.view.front
+    pub calls : KeepsCalls p q
+    pub met : q.view.met ≡ p.view.met
+    pub tag_is : e.pinned.tag ≡ tag
+    pub token : IsPinnedFor tag e.pinned.frame q.tokens
+    pub last : tokens_less e.pinned.frame q.tokens ≡ no_tokens
+    pub locked : HasLock Exclusive e.pinned.frame q
+
+  -- The put of a page was refused, for this reason, and the pass met that fault, and no other
+  pub record PutFails (tag : Tag) (p q : PassState) (why : InsertError) : Type 0 where
+    pub frame : ℕ
+    pub page : Page
+    pub before : PassState
+    pub after : PassState
+    pub since : OnlyRises p.view before.view
+    pub refuses : PutRefused (relations_of m.table) frame tag page why before.view after.view
+    pub met : q.view.met ≡ met_put (Err why) p.view.met
+
+  -- The rule was followed, by the backend of this number: a page that isn't sound wasn't as the table was opened, where that is known; a sound page was changed where the rule changes it, and its write is past its read
+  abbrev pub FollowsRule : ℕ → Fork → ℕ → Outcome → Type 0
+  FollowsRule rel fork number (unsound b) = WasUnsoundAtOpening contents m.table (tag_of_parts rel fork b)
+  FollowsRule rel fork number (kept b i p n) = (i ≡ number) × (is_sound_page p ≡ true) × ((rule_of rel fork).changes p ≡ false)
+  FollowsRule rel fork number (refused b i p n) = (i ≡ number) × (is_sound_page p ≡ true) × ((rule_of rel fork).changes p ≡ true)
+  FollowsRule rel fork number (changed b i p n k) = (i ≡ number) × (is_sound_page p ≡ true) × ((rule_of rel fork).changes p ≡ true) × (n < k)
+
+  -- What came of a sound page of a block, between these two states of the pass
+  pub record RewritesPage (tag : Tag) (p q : PassState) (r : Result PageRewrite InsertError) : Type 0 where
+    pub outcome : Outcome
+    pub block : block_of outcome ≡ tag.block
+    pub calls : q.view.calls ≡ p.view.calls ++ calls_by (rule_of tag.rel.0 tag.fork) outcome
+    pub follows : FollowsRule tag.rel.0 tag.fork p.view.number outcome
+    pub done : IfOk r (λ what. (what ≡ told_of outcome) × IsEnded outcome × (q.view.met ≡ p.view.met))
+    pub cause : IfErr r (PutFails tag p q)
+
+  -- so it was under the cleanup lock
+  pub record RewritesLocked (tag : Tag) (p q : PassState) (r : Result PageRewrite InsertError) : Type 0 where
+    pub goes : GoesOn p q
+    pub tokens : q.tokens ≡ p.tokens
+    pub page : RewritesPage tag p q r
+
+  -- and so it was until the lock and the pin were given up
+  pub record RewritesHeld (tag : Tag) (p q : PassState) (r : Result PageRewrite InsertError) : Type 0 where
+    pub belongs : Belongs contents m q
+    pub same : SamePass p q
+    pub front : p.view.front ≤ q.view.front
+    pub tokens : q.tokens ≡ no_tokens
+    pub page : RewritesPage tag p q r
+
+module _ {L G : Type 0} (contents : L → Option Pages) (m : Manager L G) (rel : ℕ) (fork : Fork) where
+  -- The put of one of the fork's blocks was refused, for a reason that the error names
+  pub record MeetsFullOrDown (p q : PassState) (e : JobError) : Type 0 where
+    pub block : ℕ
+    pub inside : block < blocks_in m rel fork
+    pub why : InsertError
+    pub fault : fault_of_put why ≡ e
+    pub fails : PutFails contents m (tag_of_parts rel fork block) p q why
+
+  -- why a worker of a rewrite ends before its end
+  abbrev pub EndsRewriteFor : PassState → PassState → JobError → Type 0
+  EndsRewriteFor p q e = (e ≡ Memory) ⊎ (MeetsFault contents m rel fork p q e ⊎ MeetsFullOrDown p q e)
+
+  -- The blocks from `from` on were rewritten one after the other, none at `to` or past it, by calls that are exactly those of their outcomes
+  pub record RewritesPart (from to : ℕ) (p q : PassState) (t u : RewriteTotals) (end : Result Unit JobError) : Type 0 where
+    pub belongs : Belongs contents m q
+    pub same : SamePass p q
+    pub front : p.view.front ≤ q.view.front
+    pub spent : q.tokens ≡ no_tokens
+    pub outcomes : List Outcome
+    pub calls : q.view.calls ≡ p.view.calls ++ calls_for (rule_of rel fork) outcomes
+    pub order : AreFrom from outcomes
+    pub follow : EachOutcome (FollowsRule contents m rel fork p.view.number) outcomes
+    pub within : from + length outcomes ≤ to
+    -- where it ended well all of the part was rewritten, no put was refused, no fault was met, and the totals are those of the outcomes
+    pub done : OnOk end ((from + length outcomes ≡ to) × EachOutcome IsEnded outcomes × (q.view.met ≡ p.view.met))
+    pub totals : OnOk end ((u ≡ sum_of_rewrite_totals t (totals_of_rewrite outcomes)) × IsRewriteWithin u u.blocks)
+    pub cause : IfErr end (EndsRewriteFor p q)
+
+  -- A block was rewritten, or not, for this reason
+  pub record RewritesBlock (block : ℕ) (p q : PassState) (r : Result PageRewrite JobError) : Type 0 where
+    pub belongs : Belongs contents m q
+    pub same : SamePass p q
+    pub front : p.view.front ≤ q.view.front
+    pub spent : q.tokens ≡ no_tokens
+    pub outcomes : List Outcome
+    pub calls : q.view.calls ≡ p.view.calls ++ calls_for (rule_of rel fork) outcomes
+    pub order : AreFrom block outcomes
+    pub follow : EachOutcome (FollowsRule contents m rel fork p.view.number) outcomes
+    pub few : length outcomes ≤ 1
+    pub done : IfOk r (λ what. (length outcomes ≡ 1) × EachOutcome (λ o. (what ≡ told_of o) × IsEnded o) outcomes × (q.view.met ≡ p.view.met))
+    pub cause : IfErr r (EndsRewriteFor p q)

@@ -1,0 +1,20 @@
+//! What the end of a manager tells of a rewrite. The functions do nothing: their contracts are the laws.
+ghost use Rattle.std.specs.Prelude.{ℕ, List};
+ghost use Rattle.pin_core.specs.declared.view.Call.{Call};
+ghost use Rattle.history_core.specs.History.{IsHistory};
+ghost use Rattle.history_core.specs.Laws.{Laws};
+ghost use Rattle.history_core.specs.State.{State};
+ghost use Rattle.page_jobs.specs.Rewrites.{Rule};
+ghost use Rattle.page_jobs.specs.RewriteEnds.{Finishes, HasRewrites, IsResult, LanesHoldEither, Part, Rewrites};
+
+/// What the state that the devices are given back in holds of a rewrite whose calls are in its history.
+pub fn rewrite_ends()
+    // With any end a block has at most one entry, the image of its page at the start, and its lane holds one of the two pages, or its last write failed.
+    ensures any { (r : Rule) (n : ℕ) (s : State) (calls : List Call) (ps : List Part)
+        → Laws s → IsHistory s.known s.origin s.log calls → Rewrites r n s.known s.origin calls ps
+        → HasRewrites r n s.known s.origin s.log × LanesHoldEither s }
+
+    // After one of all blocks, and a checkpoint behind it, the log has exactly the entries of the changed blocks, and the lanes hold the rewritten relation.
+    ensures all { (r : Rule) (n : ℕ) (s : State) (calls : List Call) (ps : List Part) (upto : ℕ)
+        → Finishes r n s calls ps upto → IsResult r n s }
+{}
