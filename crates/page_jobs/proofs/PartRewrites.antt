@@ -13,14 +13,15 @@ use Rattle.frame_table.specs.Seats.{OnlyRises}
 use Rattle.frame_table.proofs.Rising.{rises_on}
 use Rattle.buffer_frames.specs.Puts.{met_put}
 use Rattle.backend_pass.specs.declared.manager.Manager.{Manager}
+use Rattle.backend_pass.specs.Managers.{Belongs}
 use Rattle.backend_pass.specs.Passes.{PassState}
 use Rattle.backend_pass.specs.Reading.{met_read_refused}
 use Rattle.backend_pass.proofs.Seated.{same_on}
 use Rattle.page_jobs.specs.declared.ending.JobError.{JobError}
 use Rattle.page_jobs.specs.declared.ending.JobError.TheVariants.{Memory}
 use Rattle.page_jobs.specs.Reads.{IsFree}
-use Rattle.page_jobs.specs.Rewrites.{AreFrom, EachOutcome, IsEnded, Outcome, Rule, calls_by, calls_for, rule_of, told_of, totals_of_rewrite}
-use Rattle.page_jobs.specs.Rewriting.{EndsRewriteFor, FollowsRule, RewritesBlock, RewritesPart}
+use Rattle.page_jobs.specs.Rewrites.{AreFrom, EachOutcome, IsEnded, IsUnput, Outcome, Rule, calls_by, calls_for, outcome_totals, rule_of, told_of}
+use Rattle.page_jobs.specs.Rewriting.{EndsRewriteFor, FollowsRule, GoesOn, RewritesBlock, RewritesBlocks, RewritesPart, RewritesWhole}
 use Rattle.page_jobs.proofs.BlockWork.{on_err, on_ok}
 use Rattle.page_jobs.proofs.RewriteSums.{rewrites_joined, rewrites_none, with_outcome-is}
 use Rattle.page_jobs.proofs.Staying.{stays_none}
@@ -28,6 +29,10 @@ use Rattle.page_jobs.proofs.Staying.{stays_none}
 pub each_append : (P : Outcome → Type 0) (os us : List Outcome) → EachOutcome P os → EachOutcome P us → EachOutcome P (os ++ us)
 each_append P [] us a b = b
 each_append P (o ∷ os) us a b = (a.0, each_append P os us a.1 b)
+
+each_split : (P : Outcome → Type 0) (os us : List Outcome) → EachOutcome P (os ++ us) → EachOutcome P os × EachOutcome P us
+each_split P [] us a = (tt, a)
+each_split P (o ∷ os) us a = let rest = each_split P os us a.1 in ((a.0, rest.0), rest.1)
 
 pub from_append : (a : ℕ) (os us : List Outcome) → AreFrom a os → AreFrom (a + length os) us → AreFrom a (os ++ us)
 from_append a [] us x y = subst (λ (n : ℕ). AreFrom n us) (add-zero a) y
@@ -38,20 +43,34 @@ calls_for-append r [] us = refl
 calls_for-append r (o ∷ os) us = ap (λ (l : List Call). calls_by r o ++ l) (calls_for-append r os us) ∙ sym (append_assoc (calls_by r o) (calls_for r os) (calls_for r us))
 
 module _ {L G : Type 0} (contents : L → Option Pages) (m : Manager L G) (rel : ℕ) (fork : Fork) where
-  pub rewrites_nothing : (from to : ℕ) (p : PassState) (t : RewriteTotals) (end : Result Unit JobError) → IsFree contents m p → from ≤ to → IsRewriteWithin t t.blocks → OnOk end (from ≡ to) → IfErr end (λ e. e ≡ Memory)
-      → RewritesPart contents m rel fork from to p p t t end
-  rewrites_nothing from to p t end free le within whole cause = record {
-    belongs = free.belongs;
-    same = (stays_none contents m p free.belongs).same;
-    front = omega arith;
+  goes_none : (p : PassState) → Belongs contents m p → GoesOn contents m p p
+  goes_none p b = record { belongs = b; same = (stays_none contents m p b).same; front = omega arith }
+
+  pub goes_on : (p q r : PassState) → GoesOn contents m p q → GoesOn contents m q r → GoesOn contents m p r
+  goes_on p q r a b = record { belongs = b.belongs; same = same_on p q r a.same b.same; front = let x = a.front in let y = b.front in omega arith }
+
+  -- no block was dealt with
+  pub blocks_none : (from to : ℕ) (p : PassState) → IsFree contents m p → from ≤ to → RewritesBlocks contents m rel fork from to [] p p
+  blocks_none from to p free le = record {
+    goes = goes_none p free.belongs;
     spent = free.spent;
-    outcomes = [];
+    locks = λ f. refl;
+    mark = λ unput. refl;
     calls = sym (append-nil p.view.calls);
     order = tt;
     follow = tt;
     within = omega arith;
-    done = on_ok end (λ (e : from ≡ to). (add-zero from ∙ e, tt, refl)) whole;
-    totals = on_ok end (λ (e : from ≡ to). (sym (rewrites_none t), within)) whole;
+  }
+
+  pub rewrites_nothing : (from to : ℕ) (p : PassState) (t : RewriteTotals) (end : Result Unit JobError) → IsFree contents m p → from ≤ to → IsRewriteWithin t t.blocks → OnOk end (from ≡ to) → IfErr end (λ e. e ≡ Memory)
+      → RewritesPart contents m rel fork from to p p t t end
+  rewrites_nothing from to p t end free le within whole cause = let none = blocks_none from to p free le in record {
+    outcomes = [];
+    blocks = none;
+    within = within;
+    few = omega arith;
+    whole = on_ok end (λ (e : from ≡ to). record { blocks = none; whole = add-zero from ∙ e; ended = tt; met = refl }) whole;
+    totals = on_ok end (λ (e : from ≡ to). sym (rewrites_none t)) whole;
     cause = on_err (λ e. e ≡ Memory) (EndsRewriteFor contents m rel fork p p) end (λ e x. inl x) cause;
   }
 
@@ -75,79 +94,63 @@ module _ {L G : Type 0} (contents : L → Option Pages) (m : Manager L G) (rel :
     fails = let f = x.fails in record { frame = f.frame; page = f.page; before = f.before; after = f.after; since = rises_on p.view q.view f.before.view s f.since; refuses = f.refuses; met = f.met ∙ ap (λ (n : Met). met_put (Err x.why) n) met };
   })
 
+  -- some blocks after the other
+  blocks_on : (from mid to : ℕ) (os us : List Outcome) (p q r : PassState) → RewritesBlocks contents m rel fork from mid os p q → RewritesBlocks contents m rel fork mid to us q r → from + length os ≡ mid → RewritesBlocks contents m rel fork from to (os ++ us) p r
+  blocks_on from mid to os us p q r a b at = record {
+    goes = goes_on p q r a.goes b.goes;
+    spent = b.spent;
+    locks = λ f. b.locks f ∙ a.locks f;
+    mark = λ unput. let both = each_split IsUnput os us unput in b.mark both.1 ∙ a.mark both.0;
+    calls = b.calls
+        ∙ ap (λ (l : List Call). l ++ calls_for (rule_of rel fork) us) a.calls
+        ∙ append_assoc p.view.calls (calls_for (rule_of rel fork) os) (calls_for (rule_of rel fork) us)
+        ∙ ap (λ (l : List Call). p.view.calls ++ l) (sym (calls_for-append (rule_of rel fork) os us));
+    order = from_append from os us a.order (subst (λ (n : ℕ). AreFrom n us) (sym at) b.order);
+    follow = each_append (FollowsRule contents m rel fork p.view.number) os us a.follow (subst (λ (n : ℕ). EachOutcome (FollowsRule contents m rel fork n) us) a.goes.same.keeps.number b.follow);
+    within = let w = b.within in let l = length-append os us in omega arith;
+  }
+
   -- one part after the other
   pub rewrites_on : (from mid to : ℕ) (p q r : PassState) (t u v : RewriteTotals) (end : Result Unit JobError) → RewritesPart contents m rel fork from mid p q t u (Ok tt) → RewritesPart contents m rel fork mid to q r u v end → RewritesPart contents m rel fork from to p r t v end
   rewrites_on from mid to p q r t u v end a b =
-      let at = a.done.0 in
+      let w = a.whole in
+      let both = blocks_on from mid to a.outcomes b.outcomes p q r a.blocks b.blocks w.whole in
       record {
-        belongs = b.belongs;
-        same = same_on p q r a.same b.same;
-        front = let x = a.front in let y = b.front in omega arith;
-        spent = b.spent;
         outcomes = a.outcomes ++ b.outcomes;
-        calls = b.calls
-            ∙ ap (λ (l : List Call). l ++ calls_for (rule_of rel fork) b.outcomes) a.calls
-            ∙ append_assoc p.view.calls (calls_for (rule_of rel fork) a.outcomes) (calls_for (rule_of rel fork) b.outcomes)
-            ∙ ap (λ (l : List Call). p.view.calls ++ l) (sym (calls_for-append (rule_of rel fork) a.outcomes b.outcomes));
-        order = from_append from a.outcomes b.outcomes a.order (subst (λ (n : ℕ). AreFrom n b.outcomes) (sym at) b.order);
-        follow = each_append (FollowsRule contents m rel fork p.view.number) a.outcomes b.outcomes a.follow (subst (λ (n : ℕ). EachOutcome (FollowsRule contents m rel fork n) b.outcomes) a.same.keeps.number b.follow);
-        within = let w = b.within in let l = length-append a.outcomes b.outcomes in omega arith;
-        done = on_ok end (λ d. ((let l = length-append a.outcomes b.outcomes in let x = d.0 in omega arith), each_append IsEnded a.outcomes b.outcomes a.done.1 d.1, d.2 ∙ a.done.2)) b.done;
-        totals = on_ok end (λ d. (rewrites_joined t u v a.outcomes b.outcomes a.totals.0 d.0, d.1)) b.totals;
-        cause = on_err (EndsRewriteFor contents m rel fork q r) (EndsRewriteFor contents m rel fork p r) end (λ e x. ends_since p q r e a.same.keeps.advances x a.done.2) b.cause;
+        blocks = both;
+        within = b.within;
+        few = let l = length-append a.outcomes b.outcomes in let x = a.few in let y = b.few in omega arith;
+        whole = on_ok end (λ (d : RewritesWhole contents m rel fork mid to b.outcomes q r). record { blocks = both; whole = (let l = length-append a.outcomes b.outcomes in let x = d.whole in let y = w.whole in omega arith); ended = each_append IsEnded a.outcomes b.outcomes w.ended d.ended; met = d.met ∙ w.met }) b.whole;
+        totals = on_ok end (λ d. rewrites_joined t u v a.outcomes b.outcomes a.totals d) b.totals;
+        cause = on_err (EndsRewriteFor contents m rel fork q r) (EndsRewriteFor contents m rel fork p r) end (λ e x. ends_since p q r e a.blocks.goes.same.keeps.advances x w.met) b.cause;
       }
+
+  blocks_wider : (from mid to : ℕ) (os : List Outcome) (p q : PassState) → mid ≤ to → RewritesBlocks contents m rel fork from mid os p q → RewritesBlocks contents m rel fork from to os p q
+  blocks_wider from mid to os p q le a = record { goes = a.goes; spent = a.spent; locks = a.locks; mark = a.mark; calls = a.calls; order = a.order; follow = a.follow; within = let w = a.within in omega arith }
 
   -- a part that ended before its end is one of a longer part
   pub rewrites_wider : (from mid to : ℕ) (p q : PassState) (t u : RewriteTotals) (e : JobError) → mid ≤ to → RewritesPart contents m rel fork from mid p q t u (Err e) → RewritesPart contents m rel fork from to p q t u (Err e)
-  rewrites_wider from mid to p q t u e le a = record {
-    belongs = a.belongs;
-    same = a.same;
-    front = a.front;
-    spent = a.spent;
-    outcomes = a.outcomes;
-    calls = a.calls;
-    order = a.order;
-    follow = a.follow;
-    within = let w = a.within in omega arith;
-    done = tt;
-    totals = tt;
-    cause = a.cause;
-  }
+  rewrites_wider from mid to p q t u e le a = record { outcomes = a.outcomes; blocks = blocks_wider from mid to a.outcomes p q le a.blocks; within = a.within; few = a.few; whole = tt; totals = tt; cause = a.cause }
 
-  told_one : (what : PageRewrite) (os : List Outcome) → length os ≡ 1 → EachOutcome (λ o. (what ≡ told_of o) × IsEnded o) os → (totals_of_rewrite os ≡ totals_of_outcomes (what ∷ [])) × EachOutcome IsEnded os
+  told_one : (what : PageRewrite) (os : List Outcome) → length os ≡ 1 → EachOutcome (λ o. (what ≡ told_of o) × IsEnded o) os → (outcome_totals os ≡ totals_of_outcomes (what ∷ [])) × EachOutcome IsEnded os
   told_one what [] one each = absurd (omega arith)
   told_one what (o ∷ []) one each = (ap (λ (w : PageRewrite). totals_of_outcomes (w ∷ [])) (sym each.0.0), (each.0.1, tt))
   told_one what (o ∷ u ∷ os) one each = absurd (omega arith)
 
   -- a block is a part
   pub block_part : (block : ℕ) (p q : PassState) (t u : RewriteTotals) (what : PageRewrite) → RewritesBlock contents m rel fork block p q (Ok what) → u ≡ with_outcome t what → IsRewriteWithin u u.blocks → RewritesPart contents m rel fork block (block + 1) p q t u (Ok tt)
-  block_part block p q t u what x total within = let told = told_one what x.outcomes x.done.0 x.done.1 in record {
-    belongs = x.belongs;
-    same = x.same;
-    front = x.front;
-    spent = x.spent;
-    outcomes = x.outcomes;
-    calls = x.calls;
-    order = x.order;
-    follow = x.follow;
-    within = let w = x.few in omega arith;
-    done = ((let w = x.done.0 in omega arith), told.1, x.done.2);
-    totals = (total ∙ with_outcome-is t what ∙ ap (λ (y : RewriteTotals). sum_of_rewrite_totals t y) (sym told.0), within);
-    cause = tt;
-  }
+  block_part block p q t u what x total within =
+      let told = told_one what x.outcomes x.done.0 x.done.1 in
+      let sum = total ∙ with_outcome-is t what in
+      record {
+        outcomes = x.outcomes;
+        blocks = x.blocks;
+        within = within;
+        few = let more = ap (λ (y : RewriteTotals). y.blocks) sum in let one = x.done.0 in omega arith;
+        whole = record { blocks = x.blocks; whole = (let w = x.done.0 in omega arith); ended = told.1; met = x.done.2 };
+        totals = sum ∙ ap (λ (y : RewriteTotals). sum_of_rewrite_totals t y) (sym told.0);
+        cause = tt;
+      }
 
-  pub block_stop : (block : ℕ) (p q : PassState) (t u : RewriteTotals) (e : JobError) → RewritesBlock contents m rel fork block p q (Err e) → RewritesPart contents m rel fork block (block + 1) p q t u (Err e)
-  block_stop block p q t u e x = record {
-    belongs = x.belongs;
-    same = x.same;
-    front = x.front;
-    spent = x.spent;
-    outcomes = x.outcomes;
-    calls = x.calls;
-    order = x.order;
-    follow = x.follow;
-    within = let w = x.few in omega arith;
-    done = tt;
-    totals = tt;
-    cause = x.cause;
-  }
+  pub block_stop : (block : ℕ) (p q : PassState) (t : RewriteTotals) (e : JobError) → IsRewriteWithin t t.blocks → RewritesBlock contents m rel fork block p q (Err e) → RewritesPart contents m rel fork block (block + 1) p q t t (Err e)
+  block_stop block p q t e within x = record { outcomes = x.outcomes; blocks = x.blocks; within = within; few = omega arith; whole = tt; totals = tt; cause = x.cause }

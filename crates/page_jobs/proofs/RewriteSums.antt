@@ -7,7 +7,7 @@ use Rattle.page_layout.specs.declared.outcomes.PageRewrite.TheVariants.{Invalid,
 use Rattle.page_layout.specs.declared.outcomes.RewriteTotals.{RewriteTotals}
 use Rattle.page_layout.specs.declared.rewrite.Rewrite.TheVariants.{Same, Changed, Skipped}
 use Rattle.page_layout.specs.Outcomes.{IsRewriteWithin, dead_of, is_changed_outcome, is_invalid_outcome, is_new_outcome, is_same_outcome, is_skipped_outcome, no_rewrite_totals, sum_of_rewrite_totals, totals_of_outcomes, with_outcome}
-use Rattle.page_jobs.specs.Rewrites.{Outcome, told_of, totals_of_rewrite}
+use Rattle.page_jobs.specs.Rewrites.{Outcome, told_of, outcome_totals}
 
 totals_of_outcomes-append : (ss ts : List PageRewrite) → totals_of_outcomes (ss ++ ts) ≡ sum_of_rewrite_totals (totals_of_outcomes ss) (totals_of_outcomes ts)
 totals_of_outcomes-append ss ts =
@@ -21,8 +21,8 @@ totals_of_outcomes-append ss ts =
       sum_by-append dead_of ss ts,
     ) refl
 
-pub totals_of_rewrite-append : (os us : List Outcome) → totals_of_rewrite (os ++ us) ≡ sum_of_rewrite_totals (totals_of_rewrite os) (totals_of_rewrite us)
-totals_of_rewrite-append os us = ap totals_of_outcomes (map-append told_of os us) ∙ totals_of_outcomes-append (map told_of os) (map told_of us)
+pub outcome_totals-append : (os us : List Outcome) → outcome_totals (os ++ us) ≡ sum_of_rewrite_totals (outcome_totals os) (outcome_totals us)
+outcome_totals-append os us = ap totals_of_outcomes (map-append told_of os us) ∙ totals_of_outcomes-append (map told_of os) (map told_of us)
 
 pub with_outcome-is : (t : RewriteTotals) (what : PageRewrite) → with_outcome t what ≡ sum_of_rewrite_totals t (totals_of_outcomes (what ∷ []))
 with_outcome-is t Invalid = simp add-zero
@@ -34,19 +34,18 @@ with_outcome-is t (Used (Changed dead)) = simp (add-zero, zero-add)
 pub rewrites_none : (t : RewriteTotals) → sum_of_rewrite_totals t no_rewrite_totals ≡ t
 rewrites_none t = simp add-zero
 
+pub rewrites_first : (t : RewriteTotals) → sum_of_rewrite_totals no_rewrite_totals t ≡ t
+rewrites_first t = simp zero-add
+
 pub rewrites_assoc : (t u v : RewriteTotals) → sum_of_rewrite_totals (sum_of_rewrite_totals t u) v ≡ sum_of_rewrite_totals t (sum_of_rewrite_totals u v)
 rewrites_assoc t u v = simp add_assoc
 
-pub rewrites_joined : (t u v : RewriteTotals) (os us : List Outcome) → u ≡ sum_of_rewrite_totals t (totals_of_rewrite os) → v ≡ sum_of_rewrite_totals u (totals_of_rewrite us) → v ≡ sum_of_rewrite_totals t (totals_of_rewrite (os ++ us))
+pub rewrites_joined : (t u v : RewriteTotals) (os us : List Outcome) → u ≡ sum_of_rewrite_totals t (outcome_totals os) → v ≡ sum_of_rewrite_totals u (outcome_totals us) → v ≡ sum_of_rewrite_totals t (outcome_totals (os ++ us))
 rewrites_joined t u v os us first second =
     second
-    ∙ ap (λ (x : RewriteTotals). sum_of_rewrite_totals x (totals_of_rewrite us)) first
-    ∙ rewrites_assoc t (totals_of_rewrite os) (totals_of_rewrite us)
-    ∙ ap (λ (x : RewriteTotals). sum_of_rewrite_totals t x) (sym (totals_of_rewrite-append os us))
-
-pub as_many : (os : List Outcome) → (totals_of_rewrite os).blocks ≡ length os
-as_many [] = refl
-as_many (o ∷ os) = ap suc (as_many os)
+    ∙ ap (λ (x : RewriteTotals). sum_of_rewrite_totals x (outcome_totals us)) first
+    ∙ rewrites_assoc t (outcome_totals os) (outcome_totals us)
+    ∙ ap (λ (x : RewriteTotals). sum_of_rewrite_totals t x) (sym (outcome_totals-append os us))
 
 -- the totals of nothing
 pub none_within : (t : RewriteTotals) → t ≡ no_rewrite_totals → IsRewriteWithin t t.blocks

@@ -10,3 +10,5 @@ pub mod Rewrites
 pub mod Rewriting
 pub mod RewriteEnds
 pub mod Rewriters
+pub mod RewriteJobs
+pub mod RewriteCloses

@@ -68,8 +68,8 @@ told_of (kept b i p n) = page_rewrite_of p
 told_of (refused b i p n) = page_rewrite_of p
 told_of (changed b i p n m) = page_rewrite_of p
 
-abbrev pub totals_of_rewrite : List Outcome → RewriteTotals
-totals_of_rewrite os = totals_of_outcomes (map told_of os)
+abbrev pub outcome_totals : List Outcome → RewriteTotals
+outcome_totals os = totals_of_outcomes (map told_of os)
 
 -- so it is of each
 abbrev pub EachOutcome : (Outcome → Type 0) → List Outcome → Type 0
@@ -83,3 +83,13 @@ AreFrom a (o ∷ os) = (block_of o ≡ a) × AreFrom (a + 1) os
 
 abbrev pub IsEnded : Outcome → Type 0
 IsEnded o = is_ended o ≡ true
+
+-- whether no put was tried for the block
+abbrev pub is_unput : Outcome → Bool
+is_unput (unsound b) = true
+is_unput (kept b i p n) = true
+is_unput (refused b i p n) = false
+is_unput (changed b i p n m) = false
+
+abbrev pub IsUnput : Outcome → Type 0
+IsUnput o = is_unput o ≡ true

@@ -1,5 +1,5 @@
 -- How a worker rewrites a block, and what it does with its part of the blocks.
-use Rattle.std.specs.Prelude.{◌≡◌, ℕ, ◌+◌, ◌<◌, ◌≤◌, ◌⊎◌, false, true, List, ◌++◌, length, Option, Result, Err, OnOk, IfOk, IfErr}
+use Rattle.std.specs.Prelude.{◌≡◌, ◌≢◌, ℕ, ◌+◌, ◌<◌, ◌≤◌, ◌⊎◌, false, true, List, ◌++◌, length, Option, Result, Err, OnOk, IfOk, IfErr}
 use Rattle.block_tag.specs.declared.tag.Fork.{Fork}
 use Rattle.block_tag.specs.declared.tag.Tag.{Tag}
 use Rattle.block_tag.specs.Names.{tag_of_parts}
@@ -8,8 +8,8 @@ use Rattle.page_layout.specs.declared.outcomes.RewriteTotals.{RewriteTotals}
 use Rattle.page_layout.specs.Outcomes.{IsRewriteWithin, sum_of_rewrite_totals}
 use Rattle.page_layout.specs.Soundness.{is_sound_page}
 use Rattle.segment_store.specs.Contents.{Pages}
-use Rattle.pin_core.specs.declared.view.Content.TheVariants.{Exclusive}
-use Rattle.pin_core.specs.State.{Page}
+use Rattle.pin_core.specs.declared.view.Content.TheVariants.{Exclusive, Unlocked}
+use Rattle.pin_core.specs.State.{Page, link}
 use Rattle.frame_table.specs.Seats.{OnlyRises, relations_of}
 use Rattle.held_pins.specs.Tokens.{IsPinnedFor, no_tokens, tokens_less}
 use Rattle.wal_flush.specs.declared.inserts.InsertError.{InsertError}
@@ -20,11 +20,11 @@ use Rattle.backend_pass.specs.declared.manager.Manager.{Manager}
 use Rattle.backend_pass.specs.declared.tokens.Exclusive.{Exclusive as Token}
 use Rattle.backend_pass.specs.Locks.{HasLock}
 use Rattle.backend_pass.specs.Managers.{Belongs}
-use Rattle.backend_pass.specs.Passes.{KeepsCalls, KeepsLocks, PassState, SamePass}
+use Rattle.backend_pass.specs.Passes.{KeepsCalls, KeepsLocks, KeepsMark, PassState, SamePass}
 use Rattle.page_jobs.specs.declared.ending.JobError.{JobError}
 use Rattle.page_jobs.specs.declared.ending.JobError.TheVariants.{LogDown, LogFault, LogFull, Memory}
 use Rattle.page_jobs.specs.Parts.{MeetsFault, blocks_in}
-use Rattle.page_jobs.specs.Rewrites.{AreFrom, EachOutcome, IsEnded, Outcome, unsound, kept, refused, changed, block_of, calls_by, calls_for, rule_of, told_of, totals_of_rewrite}
+use Rattle.page_jobs.specs.Rewrites.{AreFrom, EachOutcome, IsEnded, IsUnput, Outcome, unsound, kept, refused, changed, block_of, calls_by, calls_for, outcome_totals, rule_of, told_of}
 
 -- what ends a job, by the refusal of a put
 abbrev pub fault_of_put : InsertError → JobError
@@ -32,25 +32,30 @@ fault_of_put (put.LogFull end) = LogFull end
 fault_of_put (put.LogDown at) = LogDown at
 fault_of_put put.LogFault = LogFault
 
+-- the content locks that a pass has of other frames are as they were
+abbrev pub KeepsOtherLocks : ℕ → PassState → PassState → Type 0
+KeepsOtherLocks f p q = (g : ℕ) → g ≢ f → (link q.view g).content ≡ (link p.view g).content
+
 module _ {L G : Type 0} (contents : L → Option Pages) (m : Manager L G) where
-  -- What a rewrite leaves of a pass: it is the same one, its content locks are as they were, and its front isn't before the old one
+  -- What every call of a rewrite leaves of a pass: it is the same one, and its front isn't before the old one
   pub record GoesOn (p q : PassState) : Type 0 where
     pub belongs : Belongs contents m q
     pub same : SamePass p q
-    pub locks : KeepsLocks p q
     pub front : p.view.front ≤ q.view.front
 
   -- The block's cleanup lock is held, with the only token that the pass has
   pub record LocksOne (tag : Tag) (p q : PassState) (e : Token) : Type 0 where
-    pub belongs : Belongs contents m q
-    pub same : SamePass p q
-    pub front : p.view.front ≤ q.view.front
+    pub goes : GoesOn p q
+    pub mark : KeepsMark p q
     pub calls : KeepsCalls p q
     pub met : q.view.met ≡ p.view.met
     pub tag_is : e.pinned.tag ≡ tag
     pub token : IsPinnedFor tag e.pinned.frame q.tokens
     pub last : tokens_less e.pinned.frame q.tokens ≡ no_tokens
     pub locked : HasLock Exclusive e.pinned.frame q
+    -- the pass had no lock of that frame before
+    pub unlocked : HasLock Unlocked e.pinned.frame p
+    pub others : KeepsOtherLocks e.pinned.frame p q
 
   -- The put of a page was refused, for this reason, and the pass met that fault, and no other
   pub record PutFails (tag : Tag) (p q : PassState) (why : InsertError) : Type 0 where
@@ -75,6 +80,7 @@ module _ {L G : Type 0} (contents : L → Option Pages) (m : Manager L G) where
     pub block : block_of outcome ≡ tag.block
     pub calls : q.view.calls ≡ p.view.calls ++ calls_by (rule_of tag.rel.0 tag.fork) outcome
     pub follows : FollowsRule tag.rel.0 tag.fork p.view.number outcome
+    pub mark : IsUnput outcome → KeepsMark p q
     pub done : IfOk r (λ what. (what ≡ told_of outcome) × IsEnded outcome × (q.view.met ≡ p.view.met))
     pub cause : IfErr r (PutFails tag p q)
 
@@ -82,14 +88,15 @@ module _ {L G : Type 0} (contents : L → Option Pages) (m : Manager L G) where
   pub record RewritesLocked (tag : Tag) (p q : PassState) (r : Result PageRewrite InsertError) : Type 0 where
     pub goes : GoesOn p q
     pub tokens : q.tokens ≡ p.tokens
+    pub locks : KeepsLocks p q
     pub page : RewritesPage tag p q r
 
-  -- and so it was until the lock and the pin were given up
-  pub record RewritesHeld (tag : Tag) (p q : PassState) (r : Result PageRewrite InsertError) : Type 0 where
-    pub belongs : Belongs contents m q
-    pub same : SamePass p q
-    pub front : p.view.front ≤ q.view.front
+  -- and so it was until the lock of this frame and the pin were given up
+  pub record RewritesHeld (tag : Tag) (frame : ℕ) (p q : PassState) (r : Result PageRewrite InsertError) : Type 0 where
+    pub goes : GoesOn p q
     pub tokens : q.tokens ≡ no_tokens
+    pub unlocked : HasLock Unlocked frame q
+    pub others : KeepsOtherLocks frame p q
     pub page : RewritesPage tag p q r
 
 module _ {L G : Type 0} (contents : L → Option Pages) (m : Manager L G) (rel : ℕ) (fork : Fork) where
@@ -105,32 +112,37 @@ module _ {L G : Type 0} (contents : L → Option Pages) (m : Manager L G) (rel :
   abbrev pub EndsRewriteFor : PassState → PassState → JobError → Type 0
   EndsRewriteFor p q e = (e ≡ Memory) ⊎ (MeetsFault contents m rel fork p q e ⊎ MeetsFullOrDown p q e)
 
-  -- The blocks from `from` on were rewritten one after the other, none at `to` or past it, by calls that are exactly those of their outcomes
-  pub record RewritesPart (from to : ℕ) (p q : PassState) (t u : RewriteTotals) (end : Result Unit JobError) : Type 0 where
-    pub belongs : Belongs contents m q
-    pub same : SamePass p q
-    pub front : p.view.front ≤ q.view.front
+  -- The blocks from `from` on were dealt with one after the other, with these outcomes, none at `to` or past it: the calls are those of the outcomes and no others. The pass is the same one, without tokens, with its content locks as they were, and with its mark as it was where nothing was put
+  pub record RewritesBlocks (from to : ℕ) (os : List Outcome) (p q : PassState) : Type 0 where
+    pub goes : GoesOn contents m p q
     pub spent : q.tokens ≡ no_tokens
+    pub locks : KeepsLocks p q
+    pub mark : EachOutcome IsUnput os → KeepsMark p q
+    pub calls : q.view.calls ≡ p.view.calls ++ calls_for (rule_of rel fork) os
+    pub order : AreFrom from os
+    pub follow : EachOutcome (FollowsRule contents m rel fork p.view.number) os
+    pub within : from + length os ≤ to
+
+  -- So it was with all of them: no put was refused, and no fault was met
+  pub record RewritesWhole (from to : ℕ) (os : List Outcome) (p q : PassState) : Type 0 where
+    pub blocks : RewritesBlocks from to os p q
+    pub whole : from + length os ≡ to
+    pub ended : EachOutcome IsEnded os
+    pub met : q.view.met ≡ p.view.met
+
+  -- A worker has rewritten its part, and counted what came of its blocks
+  pub record RewritesPart (from to : ℕ) (p q : PassState) (t u : RewriteTotals) (end : Result Unit JobError) : Type 0 where
     pub outcomes : List Outcome
-    pub calls : q.view.calls ≡ p.view.calls ++ calls_for (rule_of rel fork) outcomes
-    pub order : AreFrom from outcomes
-    pub follow : EachOutcome (FollowsRule contents m rel fork p.view.number) outcomes
-    pub within : from + length outcomes ≤ to
-    -- where it ended well all of the part was rewritten, no put was refused, no fault was met, and the totals are those of the outcomes
-    pub done : OnOk end ((from + length outcomes ≡ to) × EachOutcome IsEnded outcomes × (q.view.met ≡ p.view.met))
-    pub totals : OnOk end ((u ≡ sum_of_rewrite_totals t (totals_of_rewrite outcomes)) × IsRewriteWithin u u.blocks)
+    pub blocks : RewritesBlocks from to outcomes p q
+    pub within : IsRewriteWithin u u.blocks
+    pub few : u.blocks ≤ t.blocks + length outcomes
+    pub whole : OnOk end (RewritesWhole from to outcomes p q)
+    pub totals : OnOk end (u ≡ sum_of_rewrite_totals t (outcome_totals outcomes))
     pub cause : IfErr end (EndsRewriteFor p q)
 
   -- A block was rewritten, or not, for this reason
   pub record RewritesBlock (block : ℕ) (p q : PassState) (r : Result PageRewrite JobError) : Type 0 where
-    pub belongs : Belongs contents m q
-    pub same : SamePass p q
-    pub front : p.view.front ≤ q.view.front
-    pub spent : q.tokens ≡ no_tokens
     pub outcomes : List Outcome
-    pub calls : q.view.calls ≡ p.view.calls ++ calls_for (rule_of rel fork) outcomes
-    pub order : AreFrom block outcomes
-    pub follow : EachOutcome (FollowsRule contents m rel fork p.view.number) outcomes
-    pub few : length outcomes ≤ 1
+    pub blocks : RewritesBlocks block (block + 1) outcomes p q
     pub done : IfOk r (λ what. (length outcomes ≡ 1) × EachOutcome (λ o. (what ≡ told_of o) × IsEnded o) outcomes × (q.view.met ≡ p.view.met))
     pub cause : IfErr r (EndsRewriteFor p q)

@@ -1,4 +1,4 @@
-//! Jobs over all blocks of a relation, by several backends of a manager: scans and dumps. Each backend works in a thread of its own, on a part of the blocks.
+//! Jobs over all blocks of a relation, by several backends of a manager: scans, dumps and rewrites. Each backend works in a thread of its own, on a part of the blocks.
 #![tactic(auto)]
 
 mod dealing;
@@ -16,9 +16,12 @@ mod working;
 
 pub use ending::{JobEnd, JobError, Totals};
 pub use gate::Gate;
-pub use laws::rewrite_ends;
+pub use laws::{rewrite_closes, rewrite_ends};
+pub use rewrites::rewrite;
 pub use scans::{dump, scan};
 pub use surveying::{ReadFault, survey};
 
+#[cfg(test)]
+mod rewrite_tests;
 #[cfg(test)]
 mod tests;

@@ -99,7 +99,7 @@ fn rewrite_held<L: BlockLane, G: LogDevice, R: Wait, T: Gate>(
     requires pinned { IsPinnedFor exclusive.pinned.tag exclusive.pinned.frame pass.old.tokens }
     requires last { tokens_less exclusive.pinned.frame pass.old.tokens ≡ no_tokens }
     requires locked { HasLock content.Exclusive exclusive.pinned.frame pass.old }
-    ensures rewrites { RewritesHeld L.contents manager.now exclusive.pinned.tag pass.old pass.new result }
+    ensures rewrites { RewritesHeld L.contents manager.now exclusive.pinned.tag exclusive.pinned.frame pass.old pass.new result }
 {
     let answer = rewrite_locked(manager, rt, gate, worker, pass, &mut exclusive, desk);
     let pinned = pass.unexclusive(manager, exclusive);

@@ -12,8 +12,8 @@ returns-in-Ok-rewrite_held g c =
     let one = c.in-Ok.ensures.locked in
     record {
       rewrites = block_rewritten {L = g.row.L.Denot} {G = g.row.G.Denot} g.L.BlockLane.contents c.args.manager.now c.args.tag c.args.pass.now c.lock_block.new.pass c.rewrite_held.new.pass c.in-Ok.exclusive one c.in-Ok-rewrite_held.what
-          (subst (λ (t : Tag). RewritesHeld {L = g.row.L.Denot} {G = g.row.G.Denot} g.L.BlockLane.contents c.args.manager.now t c.lock_block.new.pass c.rewrite_held.new.pass (Ok c.in-Ok-rewrite_held.what)) one.tag_is
-          (subst (λ (r : Result PageRewrite _). RewritesHeld {L = g.row.L.Denot} {G = g.row.G.Denot} g.L.BlockLane.contents c.args.manager.now c.in-Ok.exclusive.pinned.tag c.lock_block.new.pass c.rewrite_held.new.pass r) c.in-Ok-rewrite_held.is c.rewrite_held.ensures.rewrites));
+          (subst (λ (t : Tag). RewritesHeld {L = g.row.L.Denot} {G = g.row.G.Denot} g.L.BlockLane.contents c.args.manager.now t c.in-Ok.exclusive.pinned.frame c.lock_block.new.pass c.rewrite_held.new.pass (Ok c.in-Ok-rewrite_held.what)) one.tag_is
+          (subst (λ (r : Result PageRewrite _). RewritesHeld {L = g.row.L.Denot} {G = g.row.G.Denot} g.L.BlockLane.contents c.args.manager.now c.in-Ok.exclusive.pinned.tag c.in-Ok.exclusive.pinned.frame c.lock_block.new.pass c.rewrite_held.new.pass r) c.in-Ok-rewrite_held.is c.rewrite_held.ensures.rewrites));
     }
 
 pub returns-in-Err-rewrite_held : goal.returns-in-Err-rewrite_held
@@ -22,8 +22,8 @@ returns-in-Err-rewrite_held g c =
     record {
       rewrites = subst (λ (e : JobError). RewritesBlock {L = g.row.L.Denot} {G = g.row.G.Denot} g.L.BlockLane.contents c.args.manager.now c.args.tag.rel.0 c.args.tag.fork c.args.tag.block c.args.pass.now c.rewrite_held.new.pass (Err e)) (sym c.fault_of_put.ensures)
           (block_unput {L = g.row.L.Denot} {G = g.row.G.Denot} g.L.BlockLane.contents c.args.manager.now c.args.tag c.args.pass.now c.lock_block.new.pass c.rewrite_held.new.pass c.in-Ok.exclusive one c.in-Err-rewrite_held.why c.requires.block
-          (subst (λ (t : Tag). RewritesHeld {L = g.row.L.Denot} {G = g.row.G.Denot} g.L.BlockLane.contents c.args.manager.now t c.lock_block.new.pass c.rewrite_held.new.pass (Err c.in-Err-rewrite_held.why)) one.tag_is
-          (subst (λ (r : Result PageRewrite _). RewritesHeld {L = g.row.L.Denot} {G = g.row.G.Denot} g.L.BlockLane.contents c.args.manager.now c.in-Ok.exclusive.pinned.tag c.lock_block.new.pass c.rewrite_held.new.pass r) c.in-Err-rewrite_held.is c.rewrite_held.ensures.rewrites)));
+          (subst (λ (t : Tag). RewritesHeld {L = g.row.L.Denot} {G = g.row.G.Denot} g.L.BlockLane.contents c.args.manager.now t c.in-Ok.exclusive.pinned.frame c.lock_block.new.pass c.rewrite_held.new.pass (Err c.in-Err-rewrite_held.why)) one.tag_is
+          (subst (λ (r : Result PageRewrite _). RewritesHeld {L = g.row.L.Denot} {G = g.row.G.Denot} g.L.BlockLane.contents c.args.manager.now c.in-Ok.exclusive.pinned.tag c.in-Ok.exclusive.pinned.frame c.lock_block.new.pass c.rewrite_held.new.pass r) c.in-Err-rewrite_held.is c.rewrite_held.ensures.rewrites)));
     }
 
 pub returns-in-Some : goal.returns-in-Some

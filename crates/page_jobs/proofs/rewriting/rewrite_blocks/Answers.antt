@@ -2,7 +2,7 @@ use Rattle.std.proofs.Common.{◌+◌, ◌≤◌, refl, ap, arith, Ok}
 use Rattle.std.proofs.lemmas.Result.{err_from_is_err_and}
 use Rattle.page_layout.specs.declared.outcomes.RewriteTotals.{RewriteTotals}
 use Rattle.page_jobs.proofs.PartRewrites.{rewrites_nothing, rewrites_on, rewrites_wider}
-use Rattle.page_jobs.proofs.RewriteSums.{as_many, none_within}
+use Rattle.page_jobs.proofs.RewriteSums.{none_within}
 use Rattle.page_jobs.proofs.rewriting.rewrite_blocks.Goals as goal
 
 pub loop-block-init : goal.loop-block-init
@@ -11,19 +11,18 @@ loop-block-init g c = record {
 }
 
 pub rewrite_counted-requires-clause-free : goal.rewrite_counted-requires-clause-free
-rewrite_counted-requires-clause-free g c = let d = c.loop-block.invariant.rewrites in record { belongs = d.belongs; spent = d.spent }
+rewrite_counted-requires-clause-free g c = let d = c.loop-block.invariant.rewrites in record { belongs = d.blocks.goes.belongs; spent = d.blocks.spent }
 
 pub rewrite_counted-requires-clause-within : goal.rewrite_counted-requires-clause-within
-rewrite_counted-requires-clause-within g c = c.loop-block.invariant.rewrites.totals.1
+rewrite_counted-requires-clause-within g c = c.loop-block.invariant.rewrites.within
 
 pub rewrite_counted-requires-clause-room : goal.rewrite_counted-requires-clause-room
 rewrite_counted-requires-clause-room g c =
     let d = c.loop-block.invariant.rewrites in
-    let t = ap (λ (u : RewriteTotals). u.blocks) d.totals.0 in
-    let l = as_many d.outcomes in
-    let e = d.done.0 in
+    let few = d.few in
+    let e = d.whole.whole in
     let z = ap (λ (u : RewriteTotals). u.blocks) c.requires.none in
-    omega (arith, t, l, e, z)
+    omega (arith, few, e, z)
 
 pub loop-block-preserved : goal.loop-block-preserved
 loop-block-preserved g c = record {

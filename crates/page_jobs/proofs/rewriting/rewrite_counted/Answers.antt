@@ -8,7 +8,7 @@ pub returns-in_err-what : goal.returns-in_err-what
 returns-in_err-what g c =
     let p = err_from_is_err_and c.from_residual.result c.from_residual.ensures.1 in
     record {
-      rewrites = rw (p.1, p.2) (block_stop {L = g.row.L.Denot} {G = g.row.G.Denot} g.L.BlockLane.contents c.args.manager.now c.args.tag.rel.0 c.args.tag.fork c.args.tag.block c.args.pass.now c.rewrite_block.new.pass c.args.totals.now c.args.totals.now c.in_err-what.field-0.0 c.in_err-what.ensures.rewrites);
+      rewrites = rw (p.1, p.2) (block_stop {L = g.row.L.Denot} {G = g.row.G.Denot} g.L.BlockLane.contents c.args.manager.now c.args.tag.rel.0 c.args.tag.fork c.args.tag.block c.args.pass.now c.rewrite_block.new.pass c.args.totals.now c.in_err-what.field-0.0 c.requires.within c.in_err-what.ensures.rewrites);
     }
 
 pub returns : goal.returns

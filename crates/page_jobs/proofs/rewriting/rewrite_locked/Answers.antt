@@ -13,7 +13,7 @@ returns-then-is_new-clause-rewrites g c =
     let r = c.read_exclusive-place.ensures in
     let new : is_new_page c.read_exclusive-place.new.page ≡ true = search rules in
     kept_page {L = g.row.L.Denot} {G = g.row.G.Denot} g.L.BlockLane.contents c.args.manager.now c.args.exclusive.now.pinned.tag c.read_exclusive-place.new.page c.read_exclusive-place.result New c.args.pass.now c.read_exclusive-place.new.self
-    r.belongs r.same r.locks r.tokens r.devices.met r.reads (told_new c.read_exclusive-place.new.page r.reads.sound new) refl
+    r.belongs r.same r.mark r.locks r.tokens r.devices.met r.reads (told_new c.read_exclusive-place.new.page r.reads.sound new) refl
 
 pub returns-in_err-_lsn-clause-rewrites : goal.returns-in_err-_lsn-clause-rewrites
 returns-in_err-_lsn-clause-rewrites g c =
@@ -46,5 +46,5 @@ returns-in_default g c =
     record {
       same = refl;
       rewrites = kept_page {L = g.row.L.Denot} {G = g.row.G.Denot} g.L.BlockLane.contents c.args.manager.now c.args.exclusive.now.pinned.tag c.read_exclusive-place.new.page c.read_exclusive-place.result (Used c.rewritten-what.result) c.args.pass.now c.read_exclusive-place.new.self
-          r.belongs r.same r.locks r.tokens r.devices.met r.reads told (unchanged c.rewritten-what.result c.in_default.not-Changed);
+          r.belongs r.same r.mark r.locks r.tokens r.devices.met r.reads told (unchanged c.rewritten-what.result c.in_default.not-Changed);
     }
