@@ -86,7 +86,7 @@ met_shown (Unsound tag) m = m
 abbrev pub shown_after : ReadError → Shown → Shown
 shown_after why s = record s { met = met_shown why s.met }
 
--- What it leaves of the census, which has room for the words of n frames: what it was where the block had a frame at first, an empty one where a victim was chosen, and where all frames were pinned their words, as the refusal tells
+-- What it leaves of the census, which has room for the words of n frames. A call that chooses a victim empties it, and leaves it empty where the victim's flush is refused; one that chooses none leaves it as it was. Where all frames are pinned the refusal tells the words
 abbrev pub ReadingCensus : ℕ → CensusList → CensusList → Result Pinned ReadError → Type 0
 ReadingCensus n c d (Ok pinned) = KeptOrEmptied n c d
 ReadingCensus n c d (Err (PastEnd block blocks)) = d ≡ c

@@ -63,7 +63,7 @@ met_read_block (Err (NoFrame why)) m = met_victim why m
 met_read_block (Err (ReadFault tag)) m = met_read m
 met_read_block (Err (Unsound tag)) m = m
 
--- what a read leaves of the census: what it was where the block had a frame at first, and an empty one where a victim was chosen
+-- the census is as it was, or empty: a read that chooses a victim empties it
 abbrev pub KeptOrEmptied : ℕ → CensusList → CensusList → Type 0
 KeptOrEmptied n c d = (d ≡ c) ⊎ (d ≡ new_census n)
 

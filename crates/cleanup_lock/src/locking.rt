@@ -16,6 +16,7 @@ use pin_core::View;
 use segment_store::BlockLane;
 use state_word::{Flag, has, pins, waiter};
 use std::sync::Wait;
+use std::thread;
 
 /// Why a cleanup lock was not taken.
 #[derive(Clone, Copy, PartialEq, Eq, Debug)]
@@ -85,6 +86,7 @@ fn wait<L: BlockLane, G: LogDevice, R: Wait>(
         if !shows_waiter(word, number) {
             return;
         }
+        thread::yield_now();
     }
     unreachable!()
 }

@@ -22,6 +22,7 @@ use page_layout::Page;
 use pin_core::View;
 use segment_store::BlockLane;
 use std::sync::Wait;
+use std::thread;
 
 /// Waits until no sharer has the copy latch of the frame, and takes it.
 fn take_copy<L: BlockLane, G: LogDevice, R: Wait>(
@@ -42,6 +43,7 @@ fn take_copy<L: BlockLane, G: LogDevice, R: Wait>(
         if try_copy(table, seat, frame) {
             return;
         }
+        thread::yield_now();
     }
     unreachable!()
 }

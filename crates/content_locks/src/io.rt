@@ -16,6 +16,7 @@ use pin_core::View;
 use segment_store::BlockLane;
 use state_word::{Flag, IoEnd, has};
 use std::sync::Wait;
+use std::thread;
 
 /// What came of one try to begin.
 enum TryIo {
@@ -91,7 +92,7 @@ pub fn start_io<L: BlockLane, G: LogDevice, R: Wait>(
 {
     for _ in rt.forever() {
         match try_io(table, rt, seat, frame, input) {
-            TryIo::InProgress => {}
+            TryIo::InProgress => thread::yield_now(),
             TryIo::Nothing => return None,
             TryIo::Begun(right) => return Some(right),
         }

@@ -14,6 +14,7 @@ use log_device::LogDevice;
 use pin_core::View;
 use segment_store::BlockLane;
 use std::sync::Wait;
+use std::thread;
 
 /// Why a content lock was not taken.
 #[derive(Clone, Copy, PartialEq, Eq, Debug)]
@@ -94,7 +95,7 @@ pub fn share<L: BlockLane, G: LogDevice, R: Wait>(
     for _ in rt.forever() {
         match try_share(table, seat, frame) {
             Ok(()) => return,
-            Err(_why) => {}
+            Err(_why) => thread::yield_now(),
         }
     }
     unreachable!()
@@ -118,7 +119,7 @@ pub fn exclusive<L: BlockLane, G: LogDevice, R: Wait>(
     for _ in rt.forever() {
         match try_exclusive(table, seat, frame) {
             Ok(()) => return,
-            Err(_why) => {}
+            Err(_why) => thread::yield_now(),
         }
     }
     unreachable!()

@@ -21,6 +21,7 @@ use segment_store::BlockLane;
 use state_word::{Flag, LOCKED, has, locked, pinned, unpinned};
 use std::marker::Brand;
 use std::sync::Wait;
+use std::thread;
 use table_rule::{Value, state_place};
 
 impl<L: BlockLane, G: LogDevice> FrameTable<L, G> {
@@ -122,6 +123,7 @@ impl<L: BlockLane, G: LogDevice> FrameTable<L, G> {
             if let Some(left) = self.try_unpin(seat, frame) {
                 return left;
             }
+            thread::yield_now();
         }
         unreachable!()
     }
@@ -175,6 +177,7 @@ impl<L: BlockLane, G: LogDevice> FrameTable<L, G> {
             if !has(found, Flag::Locked) {
                 return locked(found);
             }
+            thread::yield_now();
         }
         unreachable!()
     }

@@ -20,6 +20,7 @@ use segment_store::BlockLane;
 use state_word::{Flag, has, pinned};
 use std::marker::Brand;
 use std::sync::Wait;
+use std::thread;
 use table_rule::{Value, state_place};
 
 impl<L: BlockLane, G: LogDevice> FrameTable<L, G> {
@@ -92,6 +93,7 @@ impl<L: BlockLane, G: LogDevice> FrameTable<L, G> {
             if self.try_mapped(seat, frame, packed, ring) {
                 return Pin { frame };
             }
+            thread::yield_now();
         }
         unreachable!()
     }

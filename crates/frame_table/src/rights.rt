@@ -24,6 +24,7 @@ use state_word::{
 };
 use std::marker::Brand;
 use std::sync::Wait;
+use std::thread;
 use table_rule::{Value, state_place};
 
 impl<L: BlockLane, G: LogDevice> FrameTable<L, G> {
@@ -41,6 +42,7 @@ impl<L: BlockLane, G: LogDevice> FrameTable<L, G> {
             if self.try_mark_dirty(seat, frame) {
                 return;
             }
+            thread::yield_now();
         }
         unreachable!()
     }

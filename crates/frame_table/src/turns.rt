@@ -13,6 +13,7 @@ use pin_core::View;
 use segment_store::BlockLane;
 use std::marker::Brand;
 use std::sync::Wait;
+use std::thread;
 use table_rule::{FIRST_LANE, LOG_PLACE, Turn, Value};
 
 impl<L: BlockLane, G: LogDevice> FrameTable<L, G> {
@@ -60,6 +61,7 @@ impl<L: BlockLane, G: LogDevice> FrameTable<L, G> {
             if self.try_take::<Brand>(seat, turn, place) {
                 return;
             }
+            thread::yield_now();
         }
         unreachable!()
     }

@@ -40,7 +40,7 @@ fn words(rt: &HostRuntime) -> Result<Vec<String>, AllocError> {
 }
 
 fn main(rt: HostRuntime) -> ExitCode {
-    let mut host = FileHost::new(&rt);
+    let mut host = FileHost::new(&rt, rt.alloc());
     let mut out = StdSink::new(rt.stdout());
     let mut err = StdSink::new(rt.stderr());
     let Ok(words) = words(&rt) else {

@@ -6,9 +6,9 @@ use page_jobs::Gate;
 use segment_store::{LanePlan, MemFile, MemHost, MemLogs};
 use std::alloc::Global;
 use std::sync::Wait;
-use std::sync::atomic::{AtomicU64, Ordering};
+use std::sync::atomic::{AtomicBool, AtomicU64, Ordering};
 use std::test::Fail;
-use std::thread::Threads;
+use std::thread::{Threads, yield_now};
 
 /// Lets every block through, and counts what it hears of.
 #[derive(Drop)]
@@ -33,6 +33,58 @@ impl Gate for CountingGate {
 
     fn seen(&self, _worker: u32, _pinned: &Pinned) {
         self.seen.fetch_add(1, Ordering::SeqCst);
+    }
+}
+
+/// How often the first worker looks for the second before it gives up.
+const TURNS: u32 = 10_000_000;
+
+/// Holds the first worker before its first block until the second worker has come. It counts the pins
+/// of blocks below 64, and adds up 1 << block of each: 64 pins that add up to all ones are one of each block.
+#[derive(Drop)]
+struct HoldingGate {
+    second_came: AtomicBool,
+    gave_up: AtomicBool,
+    pins: AtomicU64,
+    sum: AtomicU64,
+}
+
+impl HoldingGate {
+    fn new() -> HoldingGate {
+        HoldingGate {
+            second_came: AtomicBool::new(false),
+            gave_up: AtomicBool::new(false),
+            pins: AtomicU64::new(0),
+            sum: AtomicU64::new(0),
+        }
+    }
+
+    fn await_second(&self) {
+        for _ in 0..TURNS {
+            if self.second_came.load(Ordering::SeqCst) {
+                return;
+            }
+            yield_now();
+        }
+        self.gave_up.store(true, Ordering::SeqCst);
+    }
+}
+
+impl Gate for HoldingGate {
+    fn before(&self, worker: u32, block: u32) {
+        match worker {
+            0 if block == 0 => self.await_second(),
+            1 => self.second_came.store(true, Ordering::SeqCst),
+            _ => {}
+        }
+    }
+
+    fn seen(&self, _worker: u32, pinned: &Pinned) {
+        let block = pinned.tag().block;
+        if block < 64 {
+            self.pins.fetch_add(1, Ordering::SeqCst);
+            self.sum.fetch_add(1 << block, Ordering::SeqCst);
+        }
     }
 }
 
@@ -384,6 +436,23 @@ fn dumps_line_pointers(rt: HostRuntime) -> Result<(), Fail> {
     let lines = ONE_ITEM.split_once('\n').ok_or("no line ends")?;
     let want = format!(in rt.alloc(); "{}\n  1 normal 8184 4 01020304\n{}", lines.0, lines.1)?;
     assert_eq!(rt; answer.out.bytes(), want.as_bytes());
+    Ok(())
+}
+
+/// The second worker goes on while the first is held: neither waits for the other's part.
+#[test]
+fn workers_work_side_by_side(rt: HostRuntime) -> Result<(), Fail> {
+    let alloc = rt.alloc();
+    let (bytes, text) = numbered_pages(alloc)?;
+    let gate = HoldingGate::new();
+    let line = "scan base/5/16384 --backends 2";
+    let answer = answer_at(&rt, alloc, line, &[&bytes], NONE_FAIL, &gate)?;
+    assert_eq!(rt; answer.status, 0);
+    assert_eq!(rt; answer.out.bytes(), text.as_bytes());
+    let gave_up = gate.gave_up.load(Ordering::SeqCst);
+    assert!(rt; !gave_up);
+    assert_eq!(rt; gate.pins.load(Ordering::SeqCst), 64);
+    assert_eq!(rt; gate.sum.load(Ordering::SeqCst), u64::MAX);
     Ok(())
 }
 

@@ -16,10 +16,10 @@ use block_tag::{Fork, RelNo, Tag, segment_place};
 use log_device::{Failed, FaultCount, FileLog};
 use page_layout::{PAGE_SIZE, Page};
 use std::alloc::{AllocError, Global};
-use std::fs::{OpenFile, OpenOptions};
+use std::fs::{Metadata, OpenFile, OpenOptions};
 use std::io;
 use std::io::ErrorKind;
-use std::os::unix::fs::FileExt;
+use std::os::unix::fs::{FileExt, MetadataExt};
 use std::rt::Files;
 use std::sync::Arc;
 
@@ -116,11 +116,35 @@ impl<F: FileExt + OpenFile + Drop> BlockLane for FileLane<F> {
     ghost whole = { λ l. tt };
 }
 
+/// What tells files apart whatever their paths: two names of one file agree in both numbers.
+#[derive(Clone, Copy, PartialEq, Eq)]
+struct FileIdentity {
+    device: u64,
+    inode: u64,
+}
+
+impl From<&Metadata> for FileIdentity {
+    fn from(found: &Metadata) -> FileIdentity {
+        FileIdentity {
+            device: found.dev(),
+            inode: found.ino(),
+        }
+    }
+}
+
 /// The files of a relation's segments, and how many blocks they have.
 #[derive(Drop)]
 struct Segments<F: Drop> {
     files: Vec<F>,
+    identities: Vec<FileIdentity>,
     blocks: u32,
+}
+
+/// A relation as it was opened, and which files it has.
+#[derive(Drop)]
+struct OpenedFiles<F: Drop> {
+    opened: Opened<FileLane<F>>,
+    identities: Vec<FileIdentity>,
 }
 
 /// The path of a segment: the plain one, or with the segment's number behind a point.
@@ -140,22 +164,25 @@ fn open_file<R: Files>(rt: &R, path: &str) -> io::Result<R::File> {
     }
 }
 
-/// Opens a file for writing: it is created, or emptied where it exists.
-fn open_empty<R: Files>(rt: &R, path: &str) -> io::Result<R::File> {
-    OpenOptions::new()
-        .write(true)
-        .create(true)
-        .truncate(true)
-        .open(rt, path)
+/// Opens a file for writing: it is created, or emptied where it exists. It isn't emptied before it is
+/// known to be none of the relation's files: a path may name one of these by a link.
+fn open_empty<R: Files>(rt: &R, path: &str, relation: &[FileIdentity]) -> io::Result<R::File> {
+    let file = OpenOptions::new().write(true).create(true).open(rt, path)?;
+    let identity = FileIdentity::from(&file.metadata()?);
+    if relation.contains(&identity) {
+        return Err(ErrorKind::InvalidInput.into());
+    }
+    file.set_len(0)?;
+    Ok(file)
 }
 
-/// How many whole blocks a file has. A directory, or what else is no file, is an error.
-fn whole_blocks<F: OpenFile>(file: &F) -> io::Result<u64> {
+/// What is known of a file. A directory, or what else is no file, is an error.
+fn regular_file<F: OpenFile>(file: &F) -> io::Result<Metadata> {
     let found = file.metadata()?;
     if !found.is_file() {
         return Err(ErrorKind::InvalidInput.into());
     }
-    Ok(found.len() / PAGE_SIZE as u64)
+    Ok(found)
 }
 
 /// Opens the segments of a relation from the first on, to the first that is short or missing.
@@ -166,6 +193,7 @@ fn open_files<R: Files>(
     seg_blocks: u32,
 ) -> Result<Segments<R::File>, HostError> {
     let mut files = Vec::new(alloc);
+    let mut identities = Vec::new(alloc);
     let mut blocks = 0u32;
     for segment in 0..u32::MAX {
         let name = segment_path(alloc, path, segment).map_err(|_| HostError::Memory)?;
@@ -174,8 +202,11 @@ fn open_files<R: Files>(
             Err(error) if error.kind() == ErrorKind::NotFound => break,
             Err(_) => return Err(HostError::Failed),
         };
-        let count = whole_blocks(&file).map_err(|_| HostError::Failed)?;
+        let found = regular_file(&file).map_err(|_| HostError::Failed)?;
+        let identity = FileIdentity::from(&found);
+        identities.push(identity).map_err(|_| HostError::Memory)?;
         files.push(file).map_err(|_| HostError::Memory)?;
+        let count = found.len() / PAGE_SIZE as u64;
         if count < u64::from(seg_blocks) {
             blocks = blocks.saturating_add(count as u32);
             break;
@@ -188,26 +219,33 @@ fn open_files<R: Files>(
     if files.is_empty() {
         return Err(HostError::Missing);
     }
-    Ok(Segments { files, blocks })
+    Ok(Segments {
+        files,
+        identities,
+        blocks,
+    })
 }
 
 /// A host over the file system.
 #[derive(Drop)]
 pub struct FileHost<'a, R: Files> {
     rt: &'a R,
+    /// The files of the relation that was opened last.
+    relation: Vec<FileIdentity>,
     read_faults: FaultCount,
     write_faults: FaultCount,
     log_faults: FaultCount,
 }
 
 impl<'a, R: Files> FileHost<'a, R> {
-    pub fn new(rt: &'a R) -> FileHost<'a, R>
+    pub fn new(rt: &'a R, alloc: Global) -> FileHost<'a, R>
         ensures reads { result.read_faults.count ≡ 0 }
         ensures writes { result.write_faults.count ≡ 0 }
         ensures logs { result.log_faults.count ≡ 0 }
     {
         FileHost {
             rt,
+            relation: Vec::new(alloc),
             read_faults: FaultCount::new(),
             write_faults: FaultCount::new(),
             log_faults: FaultCount::new(),
@@ -247,15 +285,16 @@ where
         path: &str,
         seg_blocks: u32,
         count: u32,
-    ) -> Result<Opened<FileLane<R::File>>, HostError>
+    ) -> Result<OpenedFiles<R::File>, HostError>
         requires { 1 ≤ count }
-        ensures count { IfOk result (λ opened. length opened.lanes.items ≡ count) }
-        ensures reads { IfOk result (λ opened. sum_by (λ lane. lane.read_faults.count) opened.lanes.items ≡ 0) }
-        ensures writes { IfOk result (λ opened. sum_by (λ lane. lane.write_faults.count) opened.lanes.items ≡ 0) }
-        ensures synced { IfOk result (λ opened. All (λ lane. unsynced_in lane.history ≡ no_marks) opened.lanes.items) }
+        ensures count { IfOk result (λ found. length found.opened.lanes.items ≡ count) }
+        ensures reads { IfOk result (λ found. sum_by (λ lane. lane.read_faults.count) found.opened.lanes.items ≡ 0) }
+        ensures writes { IfOk result (λ found. sum_by (λ lane. lane.write_faults.count) found.opened.lanes.items ≡ 0) }
+        ensures synced { IfOk result (λ found. All (λ lane. unsynced_in lane.history ≡ no_marks) found.opened.lanes.items) }
     {
         let segments = open_files(self.rt, alloc, path, seg_blocks)?;
         let blocks = segments.blocks;
+        let identities = segments.identities;
         let files = Arc::new(alloc, segments.files).map_err(|_| HostError::Memory)?;
         let mut lanes = Vec::new(alloc);
         for _i in 0..count {
@@ -271,7 +310,10 @@ where
             };
             lanes.push(lane).map_err(|_| HostError::Memory)?;
         }
-        Ok(Opened { blocks, lanes })
+        Ok(OpenedFiles {
+            opened: Opened { blocks, lanes },
+            identities,
+        })
     }
 }
 
@@ -307,7 +349,10 @@ where
         lanes: u32,
     ) -> Result<Opened<FileLane<R::File>>, HostError> {
         match self.open(alloc, path, seg_blocks, lanes) {
-            Ok(opened) => Ok(opened),
+            Ok(found) => {
+                self.relation = found.identities;
+                Ok(found.opened)
+            }
             Err(HostError::Missing) => Err(HostError::Missing),
             Err(HostError::Memory) => Err(HostError::Memory),
             Err(HostError::Failed) => {
@@ -318,7 +363,7 @@ where
     }
 
     fn log(&mut self, _alloc: Global, path: &str) -> Result<FileLog<R::File>, LogOpen> {
-        if let Ok(file) = open_empty(self.rt, path) {
+        if let Ok(file) = open_empty(self.rt, path, &self.relation) {
             return Ok(FileLog::new(file));
         }
         self.log_faults.raise();
@@ -344,4 +389,6 @@ where
     ghost write_faults_fit = { λ h. h.write_faults.fits };
 
     ghost log_faults_fit = { λ h. h.log_faults.fits };
+
+    ghost logs_told = { λ h log. tt };
 }

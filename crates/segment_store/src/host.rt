@@ -1,5 +1,5 @@
 //! The host: relations and logs by their paths.
-ghost use Rattle.std.specs.Prelude.{◌≡◌, ◌≢◌, ℕ, ◌<◌, ◌≤◌, ◌^◌, List, [], Option, IfOk, IfSome, IsErrOf, MatchResult, map, option_map, sum_by};
+ghost use Rattle.std.specs.Prelude.{◌≡◌, ◌≢◌, ℕ, ◌<◌, ◌≤◌, ◌^◌, List, [], Option, IfOk, IfSome, IsErrOf, IsSome, MatchResult, map, option_map, sum_by};
 ghost use Rattle.std.specs.Option.{option_map_or};
 ghost use Rattle.log_device.specs.Faults.{Added};
 ghost use Rattle.segment_store.specs.Faults.{HasOpeningCause};
@@ -123,4 +123,7 @@ pub trait Host {
     ghost write_faults_fit: { (host : Self) → write_faults host < 2 ^ 64 };
 
     ghost log_faults_fit: { (host : Self) → log_faults host < 2 ^ 64 };
+
+    /// Where the logs are known, so are the bytes of each log that the host opens, also after calls to it.
+    ghost logs_told: { (host : Self) (log : Self.Log) → IfSome (logs host) (λ _. IsSome (Self.Log.bytes log)) };
 }

@@ -1,5 +1,6 @@
 //! A host in memory.
 ghost use Rattle.std.specs.Option.{option_map_or};
+ghost use Rattle.std.proofs.Common.{refl};
 ghost use Rattle.std.specs.Prelude.{option_map, true, ◌↔◌, MatchResult, string_bytes, ◌≡◌, ◌≢◌, ◌+◌, ◌++◌, ◌==◌, ◌<◌, ◌≤◌, ◌*◌, ◌/◌, ◌^◌, ◌-◌, [], All, Some, IfOk, IfSome, IsErrOf, OnOk, if◌then◌else◌, length, map, sum_by, vec_len};
 ghost use Rattle.log_device.specs.Faults.{Added};
 ghost use Rattle.segment_store.specs.Faults.{CountsOneOpening, HasOpeningCause};
@@ -488,4 +489,6 @@ impl Host for MemHost {
     ghost write_faults_fit = { λ h. h.write_faults.fits };
 
     ghost log_faults_fit = { λ h. h.logs.faults.fits };
+
+    ghost logs_told = { λ h log. refl };
 }

@@ -320,7 +320,7 @@ fn host_over_files(rt: HostRuntime) -> Result<(), Fail> {
     let second = second_path(rt.alloc(), &path)?;
     fs::write(&rt, path.as_str(), [1u8; 16384].as_slice())?;
     fs::write(&rt, second.as_str(), [2u8; 8292].as_slice())?;
-    let mut host = FileHost::new(&rt);
+    let mut host = FileHost::new(&rt, rt.alloc());
     use_files(&rt, &rt, &mut host, &path)?;
     assert_eq!(rt; (host.read_faults(), host.write_faults()), (6, 0));
     fs::remove_file(&rt, path.as_str())?;
@@ -360,7 +360,7 @@ fn write_log(
 fn log_over_a_file(rt: HostRuntime) -> Result<(), Fail> {
     let path = own_path(&rt, "log")?;
     fs::write(&rt, path.as_str(), "what was there before")?;
-    let mut host = FileHost::new(&rt);
+    let mut host = FileHost::new(&rt, rt.alloc());
     let refused = write_log(rt.alloc(), &mut host, "/tmp");
     assert_eq!(rt; refused, Err(LogOpen::Failed));
     let written = write_log(rt.alloc(), &mut host, &path);
@@ -368,6 +368,54 @@ fn log_over_a_file(rt: HostRuntime) -> Result<(), Fail> {
     assert_eq!(rt; host.log_faults(), 1);
     assert!(rt; holds(&rt, &path, b"one two")?);
     fs::remove_file(&rt, path.as_str())?;
+    Ok(())
+}
+
+/// A relation is opened, and then logs at its first segment's path, at another path of it, at a link to
+/// its second segment, and at a path of their own; the answers are whether a log was opened.
+fn logs_at(
+    alloc: Global,
+    host: &mut FileHost<HostRuntime>,
+    path: &str,
+    others: [&str; 3],
+) -> Result<[bool; 4], HostError> {
+    let opened = host.relation(alloc, path, 1, 1)?;
+    let mut answers = [false; 4];
+    for (answer, path) in answers
+        .iter_mut()
+        .zip([path, others[0], others[1], others[2]])
+    {
+        *answer = host.log(alloc, path).is_ok();
+    }
+    host.give_back(opened.lanes, None);
+    Ok(answers)
+}
+
+/// No log empties a file of the relation, whatever path names it.
+#[test]
+fn a_log_is_no_file_of_the_relation(rt: HostRuntime) -> Result<(), Fail> {
+    let alloc = rt.alloc();
+    let path = own_path(&rt, "aliased")?;
+    let second = second_path(alloc, &path)?;
+    let link = format!(in alloc; "{path}-link")?;
+    let log = format!(in alloc; "{path}-log")?;
+    let name = path.as_str().strip_prefix("/tmp/").unwrap_or("");
+    let roundabout = format!(in alloc; "/tmp/./{name}")?;
+    fs::write(&rt, path.as_str(), [1u8; 8192].as_slice())?;
+    fs::write(&rt, second.as_str(), [2u8; 8192].as_slice())?;
+    fs::write(&rt, log.as_str(), "old")?;
+    fs::hard_link(&rt, second.as_str(), link.as_str())?;
+    let mut host = FileHost::new(&rt, alloc);
+    let others = [roundabout.as_str(), link.as_str(), log.as_str()];
+    let answers = logs_at(alloc, &mut host, &path, others)?;
+    assert_eq!(rt; answers, [false, false, false, true]);
+    assert_eq!(rt; host.log_faults(), 3);
+    assert!(rt; holds(&rt, &path, &[1; 8192])?);
+    assert!(rt; holds(&rt, &second, &[2; 8192])?);
+    assert!(rt; holds(&rt, &log, b"")?);
+    for path in [&path, &second, &link, &log] {
+        fs::remove_file(&rt, path.as_str())?;
+    }
     Ok(())
 }
 
@@ -400,7 +448,7 @@ fn openings_that_fail(rt: HostRuntime) -> Result<(), Fail> {
     let second = second_path(rt.alloc(), &path)?;
     fs::write(&rt, path.as_str(), [1u8; 8192].as_slice())?;
     fs::create_dir(&rt, second.as_str())?;
-    let mut host = FileHost::new(&rt);
+    let mut host = FileHost::new(&rt, rt.alloc());
     assert_eq!(rt;
         openings_at(rt.alloc(), &mut host, &path)?,
         [Err(HostError::Failed); 3]

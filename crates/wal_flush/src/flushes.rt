@@ -15,6 +15,7 @@ use page_layout::Lsn;
 use pin_core::View;
 use segment_store::BlockLane;
 use std::sync::Wait;
+use std::thread;
 use thiserror::Error;
 
 /// Why the log was not flushed.
@@ -114,6 +115,7 @@ fn await_flushed<L: BlockLane, G: LogDevice, R: Wait>(
         if lsn <= table.load_flushed(seat) {
             return;
         }
+        thread::yield_now();
     }
     unreachable!()
 }
