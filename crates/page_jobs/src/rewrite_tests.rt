@@ -274,25 +274,41 @@ fn other_pages_are_left(rt: HostRuntime) -> Result<(), Fail> {
     Ok(())
 }
 
-#[test]
-fn any_workers_change_the_same_pages(rt: HostRuntime) -> Result<(), Fail> {
+/// Whether so many workers change each of 64 pages once, as expected.
+fn change_all<R: Threads + Wait + Sync>(
+    rt: &R,
+    alloc: Global,
+    workers: u32,
+) -> Result<bool, AllocError>
+    requires { (1 ≤ workers) × (workers ≤ 60) }
+{
     let gate = Counts::new();
-    let mut page = Page::zeroed(rt.alloc())?;
-    // Thirty workers have more pins than there are frames: they give theirs up, and try again.
-    for workers in [1, 3, 8, 30] {
-        let lane = PageLane::new(rt.alloc(), 64, Content::WithDead, 0)?;
-        let log = TestLog::new(rt.alloc(), 0);
-        let run = run_rewrite(&rt, rt.alloc(), workers, 64, lane, log, &gate)?;
-        let totals = run.end.ok().ok_or("the rewrite ended early")?;
-        assert_eq!(rt; totals.changed, 64);
-        assert_eq!(rt; totals.dead, 128);
-        assert_eq!(rt; run.log.bytes.len(), 64 * RECORD);
-        for block in 0..64 {
-            page.fill(&without_dead(block as u8));
-            assert_eq!(rt; records_of(&run.log.bytes, block, &mut page), 1);
+    let lane = PageLane::new(alloc, 64, Content::WithDead, 0)?;
+    let log = TestLog::new(alloc, 0);
+    let run = run_rewrite(rt, alloc, workers, 64, lane, log, &gate)?;
+    let Ok(totals) = run.end else {
+        return Ok(false);
+    };
+    if totals.changed != 64 || totals.dead != 128 || run.log.bytes.len() != 64 * RECORD {
+        return Ok(false);
+    }
+    let mut page = Page::zeroed(alloc).map_err(|_| AllocError)?;
+    for block in 0..64 {
+        page.fill(&without_dead(block as u8));
+        if records_of(&run.log.bytes, block, &mut page) != 1 {
+            return Ok(false);
         }
     }
-    assert_eq!(rt; gate.seen.load(Ordering::SeqCst), 256);
+    Ok(gate.seen.load(Ordering::SeqCst) == 64)
+}
+
+#[test]
+fn any_workers_change_the_same_pages(rt: HostRuntime) -> Result<(), Fail> {
+    assert_eq!(rt; change_all(&rt, rt.alloc(), 1)?, true);
+    assert_eq!(rt; change_all(&rt, rt.alloc(), 3)?, true);
+    assert_eq!(rt; change_all(&rt, rt.alloc(), 8)?, true);
+    // Thirty have more pins than there are frames: they give theirs up, and try again.
+    assert_eq!(rt; change_all(&rt, rt.alloc(), 30)?, true);
     Ok(())
 }
 
