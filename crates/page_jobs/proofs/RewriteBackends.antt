@@ -1,5 +1,5 @@
 -- Backends that were started for a rewrite, once it is over.
-use Rattle.std.proofs.Common.{◌≡◌, ℕ, ◌<◌, List, Option, refl, sym, subst, ⊎_elim, arith}
+use Rattle.std.proofs.Common.{◌≡◌, ℕ, ◌<◌, List, Option, sym, subst, ⊎_elim, arith}
 use mathlib.Core.Option.{some}
 use lib.ListN.{get_elem?}
 use Rattle.block_tag.specs.declared.tag.Fork.{Fork}
@@ -9,7 +9,7 @@ use Rattle.backend_pass.specs.Managers.{AreAll, AreNewPasses}
 use Rattle.backend_pass.specs.Passes.{PassState}
 use Rattle.page_jobs.specs.Jobs.{last_in, workers_in}
 use Rattle.page_jobs.specs.RewriteJobs.{RewriteParts}
-use Rattle.page_jobs.proofs.Backends.{CameFrom, IsGiven, all_of, came_back, given_back, new_is_given, worked_given}
+use Rattle.page_jobs.proofs.Backends.{IsGiven, all_of, came_back, given_back, new_is_given, worked_given}
 use Rattle.page_jobs.proofs.Standing.{inside, there}
 
 module _ {L G : Type 0} (contents : L → Option Pages) (m : Manager L G) (fork : Fork) (n : ℕ) (ps qs : List PassState) (new : AreNewPasses contents m n ps) (several : 1 < n) where

@@ -1,17 +1,15 @@
 -- What the devices hold that a manager gives back after a rewrite.
-use Rattle.std.proofs.Common.{◌≡◌, ℕ, zero, suc, ◌+◌, ◌%◌, ◌<◌, ◌≤◌, ◌⊎◌, Bool, true, false, List, [], ◌∷◌, ◌++◌, length, Option, Some, None, refl, sym, ap, ◌∙◌, subst, ⊎_elim, inl, inr, arith}
+use Rattle.std.proofs.Common.{◌≡◌, ℕ, zero, suc, ◌%◌, ◌<◌, ◌≤◌, ◌⊎◌, Bool, true, false, List, [], ◌∷◌, ◌++◌, Option, Some, None, refl, sym, ap, ◌∙◌, subst, ⊎_elim, inl, inr, arith}
 use Rattle.std.specs.Prelude.{is_some, nat_lt}
 use Rattle.std.proofs.lemmas.Option.{same_Some}
 use mathlib.Core.Option.{some, some-injective, some-ne-none}
 use lib.ListN.{get_elem?}
 use Rattle.block_tag.specs.declared.tag.Fork.{Fork}
 use Rattle.block_tag.specs.declared.tag.Tag.{Tag}
-use Rattle.block_tag.specs.Names.{lane_number, names_block, packed_tag, tag_of_parts}
-use Rattle.page_layout.specs.declared.outcomes.PageRewrite.TheVariants.{Invalid}
+use Rattle.block_tag.specs.Names.{lane_number, packed_tag, tag_of_parts}
 use Rattle.page_layout.specs.Outcomes.{is_changed_outcome, page_rewrite_of}
 use Rattle.page_layout.specs.Soundness.{is_sound_page}
 use Rattle.segment_store.specs.Contents.{Pages}
-use Rattle.grid.specs.Shape.{total}
 use Rattle.pin_core.specs.declared.view.Call.{Call}
 use Rattle.pin_core.specs.declared.view.View.{View}
 use Rattle.pin_core.specs.State.{Page}
@@ -21,7 +19,6 @@ use Rattle.history_core.proofs.Calls.{at_both, total-both}
 use Rattle.table_rule.specs.declared.opening.Opening.{Opening}
 use Rattle.table_rule.specs.Layout.{lane_of_tag, tag_lane}
 use Rattle.table_rule.specs.Shows.{Devices, IsPlaced}
-use Rattle.table_rule.specs.TakenLanes.{IsBlockOf}
 use Rattle.table_rule.proofs.Tags.{packed_is}
 use Rattle.frame_table.specs.Seats.{lanes_in, opened_of, relations_of}
 use Rattle.buffer_frames.specs.Loading.{WasUnsoundAtOpening}
@@ -31,14 +28,13 @@ use Rattle.backend_pass.specs.Managers.{first_in, is_first, others_in}
 use Rattle.backend_pass.specs.Passes.{PassState}
 use Rattle.backend_pass.proofs.Joining.{first_here, first_past, others_here, others_past}
 use Rattle.page_jobs.specs.declared.ending.Totals.{Totals}
-use Rattle.page_jobs.specs.Jobs.{workers_in}
 use Rattle.page_jobs.specs.Parts.{blocks_in}
-use Rattle.page_jobs.specs.Rewrites.{Outcome, Rule, unsound, kept, refused, changed, block_of, is_ended, rule_of}
+use Rattle.page_jobs.specs.Rewrites.{Outcome, Rule, unsound, kept, refused, changed, block_of, rule_of}
 use Rattle.page_jobs.specs.RewriteCloses.{ClosesEither, ClosesRewritten, HasImage, HoldEither, HoldRewritten, IsInLanes, RewritesAlone, RewritesAndStores}
-use Rattle.page_jobs.specs.RewriteEnds.{Finishes, HasEntry, HasRewrites, IsAfter, IsFair, IsResult, OnlyReads, Part, Rewrites, RewritesAll, all_done, block_weight, times}
+use Rattle.page_jobs.specs.RewriteEnds.{HasRewrites, IsAfter, IsFair, IsResult, OnlyReads, Part, Rewrites, RewritesAll, all_done, block_weight, times}
 use Rattle.page_jobs.specs.Rewriting.{FollowsRule}
 use Rattle.page_jobs.proofs.RewriteClosed.{has_rewrites}
-use Rattle.page_jobs.proofs.RewriteCounts.{Each, total_some}
+use Rattle.page_jobs.proofs.RewriteCounts.{Each}
 use Rattle.page_jobs.proofs.RewriteCourse.{Parted, all_parted}
 use Rattle.page_jobs.proofs.RewriteLanes.{finishes, lanes_hold_either}
 use Rattle.page_jobs.proofs.RewriteOrder.{InOrder, calls_ordered, in_order}

@@ -1,5 +1,5 @@
 -- Totals of blocks that were rewritten.
-use Rattle.std.proofs.Common.{◌≡◌, suc, length, List, [], ◌∷◌, ◌++◌, map, cond, refl, sym, ap, subst, ◌∙◌, arith, add-zero, zero-add, add_assoc}
+use Rattle.std.proofs.Common.{◌≡◌, List, [], ◌∷◌, ◌++◌, map, cond, refl, sym, ap, subst, ◌∙◌, arith, add-zero, zero-add, add_assoc}
 use Rattle.std.proofs.lemmas.List.{length-append, map-append}
 use Rattle.std.proofs.lemmas.List.Sums.{sum_by-append}
 use Rattle.page_layout.specs.declared.outcomes.PageRewrite.{PageRewrite}

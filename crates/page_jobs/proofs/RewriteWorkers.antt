@@ -1,5 +1,5 @@
 -- What all workers of a rewrite did, together.
-use Rattle.std.proofs.Common.{◌≡◌, ℕ, zero, suc, ◌+◌, ◌<◌, ◌≤◌, ◌⊎◌, true, List, [], ◌∷◌, ◌++◌, length, map, Option, Result, Ok, Err, refl, sym, ap, ap₂, ◌∙◌, subst, arith, inl, inr}
+use Rattle.std.proofs.Common.{◌≡◌, ℕ, zero, suc, ◌+◌, ◌<◌, ◌≤◌, ◌⊎◌, true, List, [], ◌∷◌, length, map, Option, Result, Ok, Err, refl, sym, ap, ap₂, ◌∙◌, subst, arith, inl, inr}
 use Rattle.std.specs.Prelude.{OnOk, IfErr, IfOk}
 use mathlib.Core.Option.{some, some-injective, some-ne-none}
 use lib.ListN.{get_elem?}
@@ -17,9 +17,9 @@ use Rattle.page_jobs.specs.declared.working.Worker.{Worker}
 use Rattle.page_jobs.specs.Dealt.{AllDone, AreDealt}
 use Rattle.page_jobs.specs.Ending.{totals_of_rewrite}
 use Rattle.page_jobs.specs.Jobs.{AreFree}
-use Rattle.page_jobs.specs.Parts.{MeetsFault, blocks_in, part_start}
+use Rattle.page_jobs.specs.Parts.{blocks_in, part_start}
 use Rattle.page_jobs.specs.Rewrites.{Outcome, outcome_totals}
-use Rattle.page_jobs.specs.Rewriting.{EndsRewriteFor, MeetsFullOrDown, RewritesBlocks, RewritesPart, RewritesWhole}
+use Rattle.page_jobs.specs.Rewriting.{EndsRewriteFor, RewritesBlocks, RewritesPart, RewritesWhole}
 use Rattle.page_jobs.specs.Rewriters.{AreRewritesCounted, DoRewrites, EndsFirst, HasRewritten, HaveRewritten, rewritten_totals}
 use Rattle.page_jobs.specs.RewriteJobs.{EndsRewrite, FailsFirst, RewriteParts, RewritesFork, outcomes_in_all}
 use Rattle.page_jobs.proofs.Deals.{start_last, start_le}
