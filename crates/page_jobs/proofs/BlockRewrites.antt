@@ -25,6 +25,7 @@ use Rattle.frame_table.specs.Seats.{relations_of}
 use Rattle.frame_table.proofs.Rising.{rises_on}
 use Rattle.held_pins.specs.Tokens.{IsPinnedFor, Tokens, no_tokens, tokens_less}
 use Rattle.wal_flush.specs.declared.inserts.InsertError.{InsertError}
+use Rattle.cleanup_lock.specs.Cleanup.{GrantsCleanup}
 use Rattle.buffer_frames.specs.PageReads.{ReadsPage}
 use Rattle.buffer_frames.specs.Puts.{DidPut, PutRefused, met_put}
 use Rattle.backend_pass.specs.declared.errors.ReadError.{ReadError}
@@ -39,8 +40,8 @@ use Rattle.backend_pass.proofs.Seated.{same_on}
 use Rattle.page_jobs.specs.declared.ending.JobError.{JobError}
 use Rattle.page_jobs.specs.Parts.{blocks_in}
 use Rattle.page_jobs.specs.Reads.{FindsUnsound, PinsOne, RefusesBlock, Stays, fault_of_refusal}
-use Rattle.page_jobs.specs.Rewrites.{IsEnded, Outcome, unsound, kept, refused, changed, calls_by, calls_for, rule_of, told_of}
-use Rattle.page_jobs.specs.Rewriting.{FollowsRule, GoesOn, KeepsOtherLocks, LocksOne, PutFails, RewritesBlock, RewritesBlocks, RewritesHeld, RewritesLocked, fault_of_put}
+use Rattle.page_jobs.specs.Rewrites.{IfRead, IsEnded, Outcome, unsound, kept, refused, changed, calls_by, calls_for, rule_of, told_of}
+use Rattle.page_jobs.specs.Rewriting.{FollowsRule, GoesOn, HoldsUntil, KeepsOtherLocks, LocksOne, PutFails, RewritesBlock, RewritesBlocks, RewritesHeld, RewritesLocked, UnderCleanup, fault_of_put}
 use Rattle.page_jobs.proofs.BlockWork.{on_err}
 use Rattle.page_jobs.proofs.Staying.{calls_on, stays_on}
 
@@ -64,6 +65,12 @@ not_skipped false what dead f e = refl
 pub on_ok_value : {A E : Type 0} (P Q : A → Type 0) (r : Result A E) → ((a : A) → P a → Q a) → IfOk r P → IfOk r Q
 on_ok_value P Q (Ok a) f p = f a p
 on_ok_value P Q (Err e) f p = tt
+
+for_read : {P : Type 0} (o : Outcome) → P → IfRead o P
+for_read (unsound b) x = tt
+for_read (kept b i p n) x = x
+for_read (refused b i p n) x = x
+for_read (changed b i p n m) x = x
 
 module _ {L G : Type 0} (contents : L → Option Pages) (m : Manager L G) where
   -- The pass read and put nothing, and met no fault
@@ -108,8 +115,9 @@ module _ {L G : Type 0} (contents : L → Option Pages) (m : Manager L G) where
   }
 
   pub locks_one : (tag : Tag) (pinned : Pinned) (e : Exclusive) (p q r s : PassState) → Stays contents m p q → KeepsCalls p q → q.view.met ≡ p.view.met → PinsOne contents m tag q r pinned → Quiet r s → KeepsMark r s → s.tokens ≡ r.tokens → e.pinned ≡ pinned
-      → ChangesLock content.Exclusive pinned.frame r s → LocksOne contents m tag p s e
-  locks_one tag pinned e p q r s st k met one rs mark stayed same lock =
+      → ChangesLock content.Exclusive pinned.frame r s → GrantsCleanup r.view.number pinned.frame r.view s.view → LocksOne contents m tag p s e
+  locks_one tag pinned e p q r s st k met one rs mark stayed same lock granted =
+      let pr = same_on p q r st.same one.stays.same in
       let qs = quiet_on q r s (quiet_pins tag q r pinned one) rs in
       let frame : e.pinned.frame ≡ pinned.frame = ap (λ (x : Pinned). x.frame) same in
       record {
@@ -121,6 +129,9 @@ module _ {L G : Type 0} (contents : L → Option Pages) (m : Manager L G) where
         token = subst (λ (t : Tokens). IsPinnedFor tag e.pinned.frame t) (sym stayed) (subst (λ (x : Pinned). IsPinnedFor tag x.frame r.tokens) (sym same) one.token);
         last = ap (tokens_less e.pinned.frame) stayed ∙ ap (λ (x : Pinned). tokens_less x.frame r.tokens) same ∙ one.last;
         locked = subst (λ (x : Pinned). HasLock content.Exclusive x.frame s) (sym same) lock.here;
+        asked = r.view;
+        since = pr.keeps.advances;
+        granted = subst (λ (n : ℕ). GrantsCleanup n e.pinned.frame r.view s.view) pr.keeps.number (subst (λ (f : ℕ). GrantsCleanup r.view.number f r.view s.view) (sym frame) granted);
         unlocked = subst (λ (f : ℕ). HasLock content.Unlocked f p) (sym frame) (sym (one.stays.locks pinned.frame ∙ st.locks pinned.frame) ∙ one.unlocked);
         others = λ g other. ap (λ (l : Link). l.content) (lock.others g (λ is. other (is ∙ sym frame))) ∙ one.stays.locks g ∙ st.locks g;
       }
@@ -192,12 +203,13 @@ module _ {L G : Type 0} (contents : L → Option Pages) (m : Manager L G) where
   fails_later tag p q r why met f = record { frame = f.frame; page = f.page; before = f.before; after = f.after; since = f.since; refuses = f.refuses; met = met ∙ f.met }
 
   -- and then the lock of this frame and the pin were given up
-  pub held : (tag : Tag) (frame : ℕ) (p q r : PassState) (answer : Result PageRewrite InsertError) → RewritesLocked contents m tag p q answer → Quiet q r → KeepsMark q r → HasLock content.Unlocked frame r → KeepsOtherLocks frame q r → r.tokens ≡ no_tokens → RewritesHeld contents m tag frame p r answer
-  held tag frame p q r answer x k mark unlocked others spent = record {
+  pub held : (tag : Tag) (frame : ℕ) (p q r : PassState) (answer : Result PageRewrite InsertError) → RewritesLocked contents m tag p q answer → HasLock content.Exclusive frame p → Quiet q r → KeepsMark q r → HasLock content.Unlocked frame r → KeepsOtherLocks frame q r → r.tokens ≡ no_tokens → RewritesHeld contents m tag frame p r answer
+  held tag frame p q r answer x locked k mark unlocked others spent = record {
     goes = record { belongs = k.belongs; same = same_on p q r x.goes.same k.same; front = let a = x.goes.front in let b = k.calls.front in omega arith };
     tokens = spent;
     unlocked = unlocked;
     others = λ g other. others g other ∙ x.locks g;
+    until = record { done = q.view; since = x.goes.same.keeps.advances; calls_are = x.page.calls; held = x.locks frame ∙ locked; until = k.same.keeps.advances };
     page = record {
       outcome = x.page.outcome;
       block = x.page.block;
@@ -219,6 +231,18 @@ module _ {L G : Type 0} (contents : L → Option Pages) (m : Manager L G) where
         (λ is. ap (λ (f : ℕ). (link r.view f).content) is ∙ unlocked ∙ sym one.unlocked ∙ ap (λ (f : ℕ). (link p.view f).content) (sym is))
         (λ other. others g other ∙ one.others g other)
 
+    under : (answer : Result PageRewrite InsertError) (x : RewritesHeld contents m tag e.pinned.frame q r answer)
+        → UnderCleanup p.view.number p.view.calls (p.view.calls ++ calls_by (rule_of tag.rel.0 tag.fork) x.page.outcome) p.view r.view
+    under answer x = record {
+      frame = e.pinned.frame;
+      asked = one.asked;
+      granted = q.view;
+      since = one.since;
+      grants = one.granted;
+      calls_are = one.calls.calls;
+      until = subst (λ (l : List Call). HoldsUntil e.pinned.frame (l ++ calls_by (rule_of tag.rel.0 tag.fork) x.page.outcome) q.view r.view) one.calls.calls x.until;
+    }
+
     blocks_after : (answer : Result PageRewrite InsertError) (x : RewritesHeld contents m tag e.pinned.frame q r answer) → RewritesBlocks contents m tag.rel.0 tag.fork tag.block (tag.block + 1) (x.page.outcome ∷ []) p r
     blocks_after answer x = record {
       goes = record { belongs = x.goes.belongs; same = same_on p q r one.goes.same x.goes.same; front = let a = one.goes.front in let b = x.goes.front in omega arith };
@@ -229,6 +253,8 @@ module _ {L G : Type 0} (contents : L → Option Pages) (m : Manager L G) where
       order = (x.page.block, tt);
       follow = (subst (λ (n : ℕ). FollowsRule contents m tag.rel.0 tag.fork n x.page.outcome) one.goes.same.keeps.number x.page.follows, tt);
       within = omega arith;
+      stopped = (inr refl, tt);
+      locked = (for_read x.page.outcome (under answer x), tt);
     }
 
     pub block_rewritten : (what : PageRewrite) → RewritesHeld contents m tag e.pinned.frame q r (Ok what) → RewritesBlock contents m tag.rel.0 tag.fork tag.block p r (Ok what)
@@ -266,6 +292,8 @@ module _ {L G : Type 0} (contents : L → Option Pages) (m : Manager L G) where
       order = tt;
       follow = tt;
       within = omega arith;
+      stopped = tt;
+      locked = tt;
     };
     done = tt;
     cause = inr (inl record { block = tag.block; inside = inside; why = why; fault = fault; before = x.before; since = x.since; refused = x.refused; met = x.met });
@@ -284,6 +312,8 @@ module _ {L G : Type 0} (contents : L → Option Pages) (m : Manager L G) where
       order = (refl, tt);
       follow = (x.unsound, tt);
       within = omega arith;
+      stopped = (inr refl, tt);
+      locked = (tt, tt);
     };
     done = (refl, ((refl, refl), tt), x.met);
     cause = tt;

@@ -9,8 +9,9 @@ use Rattle.page_layout.specs.Outcomes.{IsRewriteWithin, sum_of_rewrite_totals, t
 use Rattle.segment_store.specs.Contents.{Pages}
 use Rattle.pin_core.specs.declared.view.Call.{Call}
 use Rattle.pin_core.specs.declared.view.Met.{Met}
+use Rattle.pin_core.specs.declared.view.View.{View}
 use Rattle.frame_table.specs.Seats.{OnlyRises}
-use Rattle.frame_table.proofs.Rising.{rises_on}
+use Rattle.frame_table.proofs.Rising.{rises_none, rises_on}
 use Rattle.buffer_frames.specs.Puts.{met_put}
 use Rattle.backend_pass.specs.declared.manager.Manager.{Manager}
 use Rattle.backend_pass.specs.Managers.{Belongs}
@@ -20,8 +21,8 @@ use Rattle.backend_pass.proofs.Seated.{same_on}
 use Rattle.page_jobs.specs.declared.ending.JobError.{JobError}
 use Rattle.page_jobs.specs.declared.ending.JobError.TheVariants.{Memory}
 use Rattle.page_jobs.specs.Reads.{IsFree}
-use Rattle.page_jobs.specs.Rewrites.{AreFrom, EachOutcome, IsEnded, IsUnput, Outcome, Rule, calls_by, calls_for, outcome_totals, rule_of, told_of}
-use Rattle.page_jobs.specs.Rewriting.{EndsRewriteFor, FollowsRule, GoesOn, RewritesBlock, RewritesBlocks, RewritesPart, RewritesWhole}
+use Rattle.page_jobs.specs.Rewrites.{AreFrom, EachOutcome, IfRead, IsEnded, IsUnput, Outcome, Rule, StopsAtFailure, unsound, kept, refused, changed, calls_by, calls_for, outcome_totals, rule_of, told_of}
+use Rattle.page_jobs.specs.Rewriting.{AllUnderCleanup, EndsRewriteFor, FollowsRule, GoesOn, HoldsUntil, RewritesBlock, RewritesBlocks, RewritesPart, RewritesWhole, UnderCleanup}
 use Rattle.page_jobs.proofs.BlockWork.{on_err, on_ok}
 use Rattle.page_jobs.proofs.RewriteSums.{rewrites_joined, rewrites_none, with_outcome-is}
 use Rattle.page_jobs.proofs.Staying.{stays_none}
@@ -42,6 +43,37 @@ pub calls_for-append : (r : Rule) (os us : List Outcome) → calls_for r (os ++ 
 calls_for-append r [] us = refl
 calls_for-append r (o ∷ os) us = ap (λ (l : List Call). calls_by r o ++ l) (calls_for-append r os us) ∙ sym (append_assoc (calls_by r o) (calls_for r os) (calls_for r us))
 
+stops_later : (os us : List Outcome) → EachOutcome IsEnded os → StopsAtFailure us → StopsAtFailure (os ++ us)
+stops_later [] us ended stops = stops
+stops_later (o ∷ os) us ended stops = (inl ended.0, stops_later os us ended.1 stops)
+
+if_read : (o : Outcome) (P Q : Type 0) → (P → Q) → IfRead o P → IfRead o Q
+if_read (unsound b) P Q f x = tt
+if_read (kept b i p n) P Q f x = f x
+if_read (refused b i p n) P Q f x = f x
+if_read (changed b i p n m) P Q f x = f x
+
+holds_wider : (frame : ℕ) (calls : List Call) (v w x : View) → HoldsUntil frame calls v w → OnlyRises w x → HoldsUntil frame calls v x
+holds_wider frame calls v w x h more = record { done = h.done; since = h.since; calls_are = h.calls_are; held = h.held; until = rises_on h.done w x h.until more }
+
+-- a lock that was taken between two views was taken between two that are farther apart
+under_wider : (number : ℕ) (before after : List Call) (u v w x : View) → OnlyRises u v → OnlyRises w x → UnderCleanup number before after v w → UnderCleanup number before after u x
+under_wider number before after u v w x earlier later h = record { frame = h.frame; asked = h.asked; granted = h.granted; since = rises_on u v h.asked earlier h.since; grants = h.grants; calls_are = h.calls_are; until = holds_wider h.frame after h.granted w x h.until later }
+
+all_wider : (r : Rule) (number : ℕ) (u v w x : View) → OnlyRises u v → OnlyRises w x → (calls : List Call) (os : List Outcome) → AllUnderCleanup r number v w calls os → AllUnderCleanup r number u x calls os
+all_wider r number u v w x earlier later calls [] all = tt
+all_wider r number u v w x earlier later calls (o ∷ os) all = (
+  if_read o _ _ (under_wider number calls (calls ++ calls_by r o) u v w x earlier later) all.0,
+  all_wider r number u v w x earlier later (calls ++ calls_by r o) os all.1,
+)
+
+under_on : (r : Rule) (number : ℕ) (u v w : View) → OnlyRises u v → OnlyRises v w → (calls : List Call) (os us : List Outcome) → AllUnderCleanup r number u v calls os → AllUnderCleanup r number v w (calls ++ calls_for r os) us → AllUnderCleanup r number u w calls (os ++ us)
+under_on r number u v w earlier later calls [] us a b = all_wider r number u v w w earlier (rises_none w) calls us (subst (λ (l : List Call). AllUnderCleanup r number v w l us) (append-nil calls) b)
+under_on r number u v w earlier later calls (o ∷ os) us a b = (
+  if_read o _ _ (under_wider number calls (calls ++ calls_by r o) u u v w (rises_none u) later) a.0,
+  under_on r number u v w earlier later (calls ++ calls_by r o) os us a.1 (subst (λ (l : List Call). AllUnderCleanup r number v w l us) (sym (append_assoc calls (calls_by r o) (calls_for r os))) b),
+)
+
 module _ {L G : Type 0} (contents : L → Option Pages) (m : Manager L G) (rel : ℕ) (fork : Fork) where
   goes_none : (p : PassState) → Belongs contents m p → GoesOn contents m p p
   goes_none p b = record { belongs = b; same = (stays_none contents m p b).same; front = omega arith }
@@ -60,6 +92,8 @@ module _ {L G : Type 0} (contents : L → Option Pages) (m : Manager L G) (rel :
     order = tt;
     follow = tt;
     within = omega arith;
+    stopped = tt;
+    locked = tt;
   }
 
   pub rewrites_nothing : (from to : ℕ) (p : PassState) (t : RewriteTotals) (end : Result Unit JobError) → IsFree contents m p → from ≤ to → IsRewriteWithin t t.blocks → OnOk end (from ≡ to) → IfErr end (λ e. e ≡ Memory)
@@ -95,8 +129,8 @@ module _ {L G : Type 0} (contents : L → Option Pages) (m : Manager L G) (rel :
   })
 
   -- some blocks after the other
-  blocks_on : (from mid to : ℕ) (os us : List Outcome) (p q r : PassState) → RewritesBlocks contents m rel fork from mid os p q → RewritesBlocks contents m rel fork mid to us q r → from + length os ≡ mid → RewritesBlocks contents m rel fork from to (os ++ us) p r
-  blocks_on from mid to os us p q r a b at = record {
+  blocks_on : (from mid to : ℕ) (os us : List Outcome) (p q r : PassState) → RewritesBlocks contents m rel fork from mid os p q → RewritesBlocks contents m rel fork mid to us q r → from + length os ≡ mid → EachOutcome IsEnded os → RewritesBlocks contents m rel fork from to (os ++ us) p r
+  blocks_on from mid to os us p q r a b at ended = record {
     goes = goes_on p q r a.goes b.goes;
     spent = b.spent;
     locks = λ f. b.locks f ∙ a.locks f;
@@ -108,13 +142,17 @@ module _ {L G : Type 0} (contents : L → Option Pages) (m : Manager L G) (rel :
     order = from_append from os us a.order (subst (λ (n : ℕ). AreFrom n us) (sym at) b.order);
     follow = each_append (FollowsRule contents m rel fork p.view.number) os us a.follow (subst (λ (n : ℕ). EachOutcome (FollowsRule contents m rel fork n) us) a.goes.same.keeps.number b.follow);
     within = let w = b.within in let l = length-append os us in omega arith;
+    stopped = stops_later os us ended b.stopped;
+    locked = under_on (rule_of rel fork) p.view.number p.view q.view r.view a.goes.same.keeps.advances b.goes.same.keeps.advances p.view.calls os us a.locked
+        (subst (λ (n : ℕ). AllUnderCleanup (rule_of rel fork) n q.view r.view (p.view.calls ++ calls_for (rule_of rel fork) os) us) a.goes.same.keeps.number
+        (subst (λ (l : List Call). AllUnderCleanup (rule_of rel fork) q.view.number q.view r.view l us) a.calls b.locked));
   }
 
   -- one part after the other
   pub rewrites_on : (from mid to : ℕ) (p q r : PassState) (t u v : RewriteTotals) (end : Result Unit JobError) → RewritesPart contents m rel fork from mid p q t u (Ok tt) → RewritesPart contents m rel fork mid to q r u v end → RewritesPart contents m rel fork from to p r t v end
   rewrites_on from mid to p q r t u v end a b =
       let w = a.whole in
-      let both = blocks_on from mid to a.outcomes b.outcomes p q r a.blocks b.blocks w.whole in
+      let both = blocks_on from mid to a.outcomes b.outcomes p q r a.blocks b.blocks w.whole w.ended in
       record {
         outcomes = a.outcomes ++ b.outcomes;
         blocks = both;
@@ -126,7 +164,7 @@ module _ {L G : Type 0} (contents : L → Option Pages) (m : Manager L G) (rel :
       }
 
   blocks_wider : (from mid to : ℕ) (os : List Outcome) (p q : PassState) → mid ≤ to → RewritesBlocks contents m rel fork from mid os p q → RewritesBlocks contents m rel fork from to os p q
-  blocks_wider from mid to os p q le a = record { goes = a.goes; spent = a.spent; locks = a.locks; mark = a.mark; calls = a.calls; order = a.order; follow = a.follow; within = let w = a.within in omega arith }
+  blocks_wider from mid to os p q le a = record { goes = a.goes; spent = a.spent; locks = a.locks; mark = a.mark; calls = a.calls; order = a.order; follow = a.follow; within = (let w = a.within in omega arith); stopped = a.stopped; locked = a.locked }
 
   -- a part that ended before its end is one of a longer part
   pub rewrites_wider : (from mid to : ℕ) (p q : PassState) (t u : RewriteTotals) (e : JobError) → mid ≤ to → RewritesPart contents m rel fork from mid p q t u (Err e) → RewritesPart contents m rel fork from to p q t u (Err e)

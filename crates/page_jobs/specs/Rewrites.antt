@@ -1,5 +1,5 @@
 -- What a rewrite does with blocks, and the calls that it makes for them.
-use Rattle.std.specs.Prelude.{◌≡◌, ℕ, ◌+◌, Bool, true, false, List, [], ◌∷◌, ◌++◌, map}
+use Rattle.std.specs.Prelude.{◌≡◌, ◌⊎◌, ℕ, ◌+◌, Bool, true, false, List, [], ◌∷◌, ◌++◌, map}
 use Rattle.block_tag.specs.declared.tag.Fork.{Fork}
 use Rattle.block_tag.specs.Names.{packed_tag, tag_of_parts}
 use Rattle.page_layout.specs.declared.outcomes.PageRewrite.{PageRewrite}
@@ -83,6 +83,18 @@ AreFrom a (o ∷ os) = (block_of o ≡ a) × AreFrom (a + 1) os
 
 abbrev pub IsEnded : Outcome → Type 0
 IsEnded o = is_ended o ≡ true
+
+-- all were dealt with to their end, but maybe the last one
+abbrev pub StopsAtFailure : List Outcome → Type 0
+StopsAtFailure [] = Unit {0}
+StopsAtFailure (o ∷ os) = (IsEnded o ⊎ (os ≡ [])) × StopsAtFailure os
+
+-- where a block's page was read
+abbrev pub IfRead : Outcome → Type 0 → Type 0
+IfRead (unsound b) P = Unit {0}
+IfRead (kept b i p n) P = P
+IfRead (refused b i p n) P = P
+IfRead (changed b i p n m) P = P
 
 -- whether no put was tried for the block
 abbrev pub is_unput : Outcome → Bool

@@ -1,5 +1,5 @@
 -- How a worker rewrites a block, and what it does with its part of the blocks.
-use Rattle.std.specs.Prelude.{◌≡◌, ◌≢◌, ℕ, ◌+◌, ◌<◌, ◌≤◌, ◌⊎◌, false, true, List, ◌++◌, length, Option, Result, Err, OnOk, IfOk, IfErr}
+use Rattle.std.specs.Prelude.{◌≡◌, ◌≢◌, ℕ, ◌+◌, ◌<◌, ◌≤◌, ◌⊎◌, false, true, List, [], ◌∷◌, ◌++◌, length, Option, Result, Err, OnOk, IfOk, IfErr}
 use Rattle.block_tag.specs.declared.tag.Fork.{Fork}
 use Rattle.block_tag.specs.declared.tag.Tag.{Tag}
 use Rattle.block_tag.specs.Names.{tag_of_parts}
@@ -9,11 +9,14 @@ use Rattle.page_layout.specs.Outcomes.{IsRewriteWithin, sum_of_rewrite_totals}
 use Rattle.page_layout.specs.Soundness.{is_sound_page}
 use Rattle.segment_store.specs.Contents.{Pages}
 use Rattle.pin_core.specs.declared.view.Content.TheVariants.{Exclusive, Unlocked}
+use Rattle.pin_core.specs.declared.view.Call.{Call}
+use Rattle.pin_core.specs.declared.view.View.{View}
 use Rattle.pin_core.specs.State.{Page, link}
 use Rattle.frame_table.specs.Seats.{OnlyRises, relations_of}
 use Rattle.held_pins.specs.Tokens.{IsPinnedFor, no_tokens, tokens_less}
 use Rattle.wal_flush.specs.declared.inserts.InsertError.{InsertError}
 use Rattle.wal_flush.specs.declared.inserts.InsertError.TheVariants as put
+use Rattle.cleanup_lock.specs.Cleanup.{GrantsCleanup}
 use Rattle.buffer_frames.specs.Loading.{WasUnsoundAtOpening}
 use Rattle.buffer_frames.specs.Puts.{PutRefused, met_put}
 use Rattle.backend_pass.specs.declared.manager.Manager.{Manager}
@@ -24,7 +27,7 @@ use Rattle.backend_pass.specs.Passes.{KeepsCalls, KeepsLocks, KeepsMark, PassSta
 use Rattle.page_jobs.specs.declared.ending.JobError.{JobError}
 use Rattle.page_jobs.specs.declared.ending.JobError.TheVariants.{LogDown, LogFault, LogFull, Memory}
 use Rattle.page_jobs.specs.Parts.{MeetsFault, blocks_in}
-use Rattle.page_jobs.specs.Rewrites.{AreFrom, EachOutcome, IsEnded, IsUnput, Outcome, unsound, kept, refused, changed, block_of, calls_by, calls_for, outcome_totals, rule_of, told_of}
+use Rattle.page_jobs.specs.Rewrites.{AreFrom, EachOutcome, IfRead, IsEnded, IsUnput, Outcome, Rule, StopsAtFailure, unsound, kept, refused, changed, block_of, calls_by, calls_for, outcome_totals, rule_of, told_of}
 
 -- what ends a job, by the refusal of a put
 abbrev pub fault_of_put : InsertError → JobError
@@ -35,6 +38,29 @@ fault_of_put put.LogFault = LogFault
 -- the content locks that a pass has of other frames are as they were
 abbrev pub KeepsOtherLocks : ℕ → PassState → PassState → Type 0
 KeepsOtherLocks f p q = (g : ℕ) → g ≢ f → (link q.view g).content ≡ (link p.view g).content
+
+-- The view still had the content lock of a frame exclusively when its calls were these
+pub record HoldsUntil (frame : ℕ) (calls : List Call) (v w : View) : Type 0 where
+  pub done : View
+  pub since : OnlyRises v done
+  pub calls_are : done.calls ≡ calls
+  pub held : (link done frame).content ≡ Exclusive
+  pub until : OnlyRises done w
+
+-- The view was granted the cleanup lock of a frame when its calls were those before, and had the lock until they were those after
+pub record UnderCleanup (number : ℕ) (before after : List Call) (v w : View) : Type 0 where
+  pub frame : ℕ
+  pub asked : View
+  pub granted : View
+  pub since : OnlyRises v asked
+  pub grants : GrantsCleanup number frame asked granted
+  pub calls_are : granted.calls ≡ before
+  pub until : HoldsUntil frame after granted w
+
+-- after these calls each block that was read was read, and put, under its cleanup lock
+abbrev pub AllUnderCleanup : Rule → ℕ → View → View → List Call → List Outcome → Type 0
+AllUnderCleanup r number v w calls [] = Unit {0}
+AllUnderCleanup r number v w calls (o ∷ os) = IfRead o (UnderCleanup number calls (calls ++ calls_by r o) v w) × AllUnderCleanup r number v w (calls ++ calls_by r o) os
 
 module _ {L G : Type 0} (contents : L → Option Pages) (m : Manager L G) where
   -- What every call of a rewrite leaves of a pass: it is the same one, and its front isn't before the old one
@@ -53,6 +79,9 @@ module _ {L G : Type 0} (contents : L → Option Pages) (m : Manager L G) where
     pub token : IsPinnedFor tag e.pinned.frame q.tokens
     pub last : tokens_less e.pinned.frame q.tokens ≡ no_tokens
     pub locked : HasLock Exclusive e.pinned.frame q
+    pub asked : View
+    pub since : OnlyRises p.view asked
+    pub granted : GrantsCleanup p.view.number e.pinned.frame asked q.view
     -- the pass had no lock of that frame before
     pub unlocked : HasLock Unlocked e.pinned.frame p
     pub others : KeepsOtherLocks e.pinned.frame p q
@@ -98,6 +127,7 @@ module _ {L G : Type 0} (contents : L → Option Pages) (m : Manager L G) where
     pub unlocked : HasLock Unlocked frame q
     pub others : KeepsOtherLocks frame p q
     pub page : RewritesPage tag p q r
+    pub until : HoldsUntil frame (p.view.calls ++ calls_by (rule_of tag.rel.0 tag.fork) page.outcome) p.view q.view
 
 module _ {L G : Type 0} (contents : L → Option Pages) (m : Manager L G) (rel : ℕ) (fork : Fork) where
   -- The put of one of the fork's blocks was refused, for a reason that the error names
@@ -112,7 +142,7 @@ module _ {L G : Type 0} (contents : L → Option Pages) (m : Manager L G) (rel :
   abbrev pub EndsRewriteFor : PassState → PassState → JobError → Type 0
   EndsRewriteFor p q e = (e ≡ Memory) ⊎ (MeetsFault contents m rel fork p q e ⊎ MeetsFullOrDown p q e)
 
-  -- The blocks from `from` on were dealt with one after the other, with these outcomes, none at `to` or past it: the calls are those of the outcomes and no others. The pass is the same one, without tokens, with its content locks as they were, and with its mark as it was where nothing was put
+  -- The blocks from `from` on were dealt with one after the other, with these outcomes, none at `to` or past it, and none after one whose put was refused: the calls are those of the outcomes and no others, and each page was read, and put, under the cleanup lock. The pass is the same one, without tokens, with its content locks as they were, and with its mark as it was where nothing was put
   pub record RewritesBlocks (from to : ℕ) (os : List Outcome) (p q : PassState) : Type 0 where
     pub goes : GoesOn contents m p q
     pub spent : q.tokens ≡ no_tokens
@@ -122,6 +152,8 @@ module _ {L G : Type 0} (contents : L → Option Pages) (m : Manager L G) (rel :
     pub order : AreFrom from os
     pub follow : EachOutcome (FollowsRule contents m rel fork p.view.number) os
     pub within : from + length os ≤ to
+    pub stopped : StopsAtFailure os
+    pub locked : AllUnderCleanup (rule_of rel fork) p.view.number p.view q.view p.view.calls os
 
   -- So it was with all of them: no put was refused, and no fault was met
   pub record RewritesWhole (from to : ℕ) (os : List Outcome) (p q : PassState) : Type 0 where

@@ -23,7 +23,7 @@ returns g c =
     let others : KeepsOtherLocks c.args.exclusive.pinned.frame q c.release.new.self =
     λ f other. y.locks f ∙ ap (λ (l : Link). l.content) (x.lock.others f (λ is. other (is ∙ ap (λ (e : Exclusive). e.pinned.frame) w.same))) in
     record {
-      rewrites = held {L = g.row.L.Denot} {G = g.row.G.Denot} g.L.BlockLane.contents c.args.manager.now c.args.exclusive.pinned.tag c.args.exclusive.pinned.frame c.args.pass.now q c.release.new.self c.rewrite_locked-answer.result w.rewrites
+      rewrites = held {L = g.row.L.Denot} {G = g.row.G.Denot} g.L.BlockLane.contents c.args.manager.now c.args.exclusive.pinned.tag c.args.exclusive.pinned.frame c.args.pass.now q c.release.new.self c.rewrite_locked-answer.result w.rewrites c.requires.locked
           (quiet_on {L = g.row.L.Denot} {G = g.row.G.Denot} g.L.BlockLane.contents c.args.manager.now q c.unexclusive-pinned.new.self c.release.new.self
           (record { belongs = x.belongs; same = x.same; calls = x.calls; met = x.devices.met })
           (record { belongs = y.belongs; same = y.same; calls = y.calls; met = y.devices.met })) (y.mark ∙ x.mark) unlocked others spent;
