@@ -108,13 +108,17 @@ module _ {r : Rule} {n : ℕ} {known : ℕ → Bool} {origin : ℕ → Page} {lo
 
 -- Where all blocks are done
 module _ {r : Rule} {n : ℕ} {known : ℕ → Bool} {origin : ℕ → Page} {log : Log} {calls : List Call} {ps : List Part} (h : IsHistory known origin log calls) (w : RewritesAll r n known origin calls ps) (told : (b : ℕ) → b < n → known (r.tag b) ≡ true) where
+  pub kept_read : (j b i : ℕ) (q : Page) (p : ℕ) → get_elem? (all_done ps) j ≡ some (kept b i q p) → q ≡ origin (r.tag b)
+  kept_read j b i q p at = let o = kept b i q p in read_page h w.rewrites j o at q p (legal_done h w.rewrites j o at 0 (Read i (r.tag b) q p) refl) (λ c k t z x e. absurd (cc)) (told b (w.rewrites.below j o at))
+
+  pub changed_read : (j b i : ℕ) (q : Page) (p m : ℕ) → get_elem? (all_done ps) j ≡ some (changed b i q p m) → q ≡ origin (r.tag b)
+  changed_read j b i q p m at = read_changed h w.rewrites j b i m q p at (told b (w.rewrites.below j (changed b i q p m) at))
+
   changes_here : (j : ℕ) (o : Outcome) → get_elem? (all_done ps) j ≡ some o → outcome_weight o ≡ change_weight r origin (block_of o)
   changes_here j (unsound b) at = ap (λ (t : Bool). cond t 1 0) (sym (w.rewrites.fair j (unsound b) at (told b (w.rewrites.below j (unsound b) at))))
-  changes_here j (kept b i q p) at = let o = kept b i q p in let is = read_page h w.rewrites j o at q p (legal_done h w.rewrites j o at 0 (Read i (r.tag b) q p) refl) (λ c k t z x e. absurd (cc)) (told b (w.rewrites.below j o at)) in
-      ap (λ (t : Bool). cond t 1 0) (sym (w.rewrites.fair j o at) ∙ ap r.changes is)
+  changes_here j (kept b i q p) at = ap (λ (t : Bool). cond t 1 0) (sym (w.rewrites.fair j (kept b i q p) at) ∙ ap r.changes (kept_read j b i q p at))
   changes_here j (refused b i q p) at = let e = w.ended j (refused b i q p) at in absurd (cc)
-  changes_here j (changed b i q p m) at = let o = changed b i q p m in let is = read_changed h w.rewrites j b i m q p at (told b (w.rewrites.below j o at)) in
-      ap (λ (t : Bool). cond t 1 0) (sym (w.rewrites.fair j o at).0 ∙ ap r.changes is)
+  changes_here j (changed b i q p m) at = ap (λ (t : Bool). cond t 1 0) (sym (w.rewrites.fair j (changed b i q p m) at).0 ∙ ap r.changes (changed_read j b i q p m at))
 
   has_entry : (j : ℕ) (o : Outcome) → get_elem? (all_done ps) j ≡ some o → outcome_weight o ≡ 1 → HasEntry log (r.tag (block_of o))
   has_entry j (changed b i q p m) at e = let l : IsLegalWrite log i (r.tag b) (r.rewritten q m) m = legal_done h w.rewrites j (changed b i q p m) at 1 (Write i (r.tag b) (r.rewritten q m) m) refl in record { index = l.index; entry = l.entry; there = l.there; tagged = l.tagged }

@@ -11,15 +11,16 @@ use Rattle.history_core.proofs.Calls.{at_both}
 use Rattle.backend_pass.specs.declared.manager.Manager.{Manager}
 use Rattle.backend_pass.specs.Closing.{EachPass, PutNothing}
 use Rattle.backend_pass.specs.Passes.{PassState}
-use Rattle.page_jobs.specs.Jobs.{last_in, workers_in}
+use Rattle.page_jobs.specs.Jobs.{workers_in}
 use Rattle.page_jobs.specs.Parts.{blocks_in, part_start}
 use Rattle.page_jobs.specs.Rewrites.{EachOutcome, IsEnded, Outcome, calls_for, is_ended, rule_of}
 use Rattle.page_jobs.specs.Rewriting.{FollowsRule, RewritesBlocks}
 use Rattle.page_jobs.specs.RewriteCloses.{PutsNoMore, RewritesAlone}
 use Rattle.page_jobs.specs.RewriteEnds.{AreParts, AreWhole, OnlyReads, Part, all_done}
+use Rattle.page_jobs.specs.RewriteJobs.{outcomes_in_all}
 use Rattle.page_jobs.proofs.Deals.{start_first, start_last}
 use Rattle.page_jobs.proofs.RewriteOrder.{HaveParts}
-use Rattle.page_jobs.proofs.Standing.{dropped, inside, length_front, taken}
+use Rattle.page_jobs.proofs.Standing.{inside, length_front, taken}
 
 each_at : (P : Outcome → Type 0) (os : List Outcome) (k : ℕ) (o : Outcome) → EachOutcome P os → get_elem? os k ≡ some o → P o
 each_at P [] k o all at = absurd (some-ne-none o (sym at))
@@ -34,9 +35,10 @@ module _ {L G : Type 0} (contents : L → Option Pages) (m : Manager L G) (rel :
   abbrev DidPart : ℕ → ℕ → PassState → PassState → List Outcome → Type 0
   DidPart k j p q os = RewritesBlocks contents m rel fork (start k j) (start k (j + 1)) os p q × (W → (start k j + length os ≡ start k (j + 1)) × EachOutcome IsEnded os)
 
-  -- The parts of these passes, from this block on
-  pub record Parted (from : ℕ) (zs : List PassState) : Type 0 where
+  -- The parts of these passes, with these outcomes, from this block on
+  pub record Parted (from : ℕ) (zs : List PassState) (oss : List (List Outcome)) : Type 0 where
     pub parts : List Part
+    pub dones : all_done parts ≡ outcomes_in_all oss
     pub have : HaveParts (rule_of rel fork) zs parts
     pub reads : OnlyReads parts
     pub fit : AreParts from parts (blocks_in m rel fork)
@@ -52,12 +54,13 @@ module _ {L G : Type 0} (contents : L → Option Pages) (m : Manager L G) (rel :
   none_read k x at = absurd (some-ne-none x (sym at))
 
   -- the pass that doesn't work
-  beside : (from : ℕ) (p q z : PassState) → from ≤ blocks_in m rel fork → (W → from ≡ blocks_in m rel fork) → q ≡ p → PutNothing p → PutsNoMore q z → Parted from (z ∷ [])
+  beside : (from : ℕ) (p q z : PassState) → from ≤ blocks_in m rel fork → (W → from ≡ blocks_in m rel fork) → q.view.calls ≡ p.view.calls → PutNothing p → PutsNoMore q z → Parted from (z ∷ []) []
   beside from p q z le all same before after =
       let part : Part = record { before = p.view.calls; done = []; after = after.more } in
       record {
         parts = part ∷ [];
-        have = (after.calls ∙ ap (λ (x : PassState). x.view.calls ++ after.more) same, tt);
+        dones = refl;
+        have = (after.calls ∙ ap (λ (l : List Call). l ++ after.more) same, tt);
         reads = only_reads part [] before after.reads none_read;
         fit = (from, tt, (omega arith), le);
         follow = λ k o at. absurd (some-ne-none o (sym at));
@@ -66,12 +69,13 @@ module _ {L G : Type 0} (contents : L → Option Pages) (m : Manager L G) (rel :
       }
 
   -- one that works
-  works : (k j : ℕ) (p q z : PassState) (zs : List PassState) (os : List Outcome) → DidPart k j p q os → PutNothing p → PutsNoMore q z → Parted (start k (j + 1)) zs → Parted (start k j) (z ∷ zs)
-  works k j p q z zs os did before after rest =
+  works : (k j : ℕ) (p q z : PassState) (zs : List PassState) (os : List Outcome) (oss : List (List Outcome)) → DidPart k j p q os → PutNothing p → PutsNoMore q z → Parted (start k (j + 1)) zs oss → Parted (start k j) (z ∷ zs) (os ∷ oss)
+  works k j p q z zs os oss did before after rest =
       let r = rule_of rel fork in
       let part : Part = record { before = p.view.calls; done = os; after = after.more } in
       record {
         parts = part ∷ rest.parts;
+        dones = ap (λ (us : List Outcome). os ++ us) rest.dones;
         have = (after.calls ∙ ap (λ (l : List Call). l ++ after.more) did.0.calls ∙ append_assoc p.view.calls (calls_for r os) after.more, rest.have);
         reads = only_reads part rest.parts before after.reads rest.reads;
         fit = (start k (j + 1), did.0.order, did.0.within, rest.fit);
@@ -88,13 +92,13 @@ module _ {L G : Type 0} (contents : L → Option Pages) (m : Manager L G) (rel :
 
   parted : (k w : ℕ) (ps qs zs : List PassState) (oss : List (List Outcome)) → 0 < k → w + length oss ≡ k → length ps ≡ suc (length oss) → length qs ≡ length ps → length zs ≡ length qs
       → ((i j : ℕ) (p q : PassState) (os : List Outcome) → j ≡ w + i → get_elem? ps i ≡ some p → get_elem? qs i ≡ some q → get_elem? oss i ≡ some os → DidPart k j p q os)
-      → ((p q : PassState) → get_elem? ps (length oss) ≡ some p → get_elem? qs (length oss) ≡ some q → q ≡ p)
-      → EachPass PutNothing ps → ((i : ℕ) (q z : PassState) → get_elem? qs i ≡ some q → get_elem? zs i ≡ some z → PutsNoMore q z) → Parted (start k w) zs
+      → ((p q : PassState) → get_elem? ps (length oss) ≡ some p → get_elem? qs (length oss) ≡ some q → q.view.calls ≡ p.view.calls)
+      → EachPass PutNothing ps → ((i : ℕ) (q z : PassState) → get_elem? qs i ≡ some q → get_elem? zs i ≡ some z → PutsNoMore q z) → Parted (start k w) zs oss
   parted k w [] qs zs oss more count a b c did last before after = absurd (omega arith)
   parted k w (p ∷ ps) [] zs oss more count a b c did last before after = absurd (omega arith)
   parted k w (p ∷ ps) (q ∷ qs) [] oss more count a b c did last before after = absurd (omega arith)
   parted k w (p ∷ ps) (q ∷ qs) (z ∷ zs) (os ∷ oss) more count a b c did last before after =
-      works k w p q z zs os (did zero w p q os (omega arith) refl refl refl) (before zero p refl) (after zero q z refl refl)
+      works k w p q z zs os oss (did zero w p q os (omega arith) refl refl refl) (before zero p refl) (after zero q z refl refl)
       (parted k (w + 1) ps qs zs oss more (omega arith) (omega arith) (omega arith) (omega arith)
       (λ i j x y us e. did (suc i) j x y us (omega arith)) last (λ i. before (suc i)) (λ i. after (suc i)))
   parted k w (p ∷ x ∷ ps) (q ∷ qs) (z ∷ zs) [] more count a b c did last before after = absurd (omega arith)
@@ -105,28 +109,20 @@ module _ {L G : Type 0} (contents : L → Option Pages) (m : Manager L G) (rel :
       let end : start k w ≡ n = ap (part_start n k) (let e : w ≡ k = omega arith in e) ∙ start_last n k more in
       beside (start k w) p q z (omega (arith, end)) (λ yes. end) (last p q refl refl) (before zero p refl) (after zero q z refl refl)
 
-  same_length : (ps qs zs : List PassState) → RewritesAlone contents m rel fork ps qs zs → length qs ≡ length ps
-  same_length ps qs zs x = let several = x.several in let of_ps = length_front ps in let of_qs = length_front qs in let same = x.parts.counted in omega arith
-
-  last_of : (ps qs : List PassState) (n : ℕ) (p q : PassState) → last_in qs ≡ last_in ps → length ps - 1 ≡ n → length qs - 1 ≡ n → get_elem? ps n ≡ some p → get_elem? qs n ≡ some q → q ≡ p
-  last_of ps qs n p q same of_ps of_qs at there =
-      let at_last : (xs : List PassState) (x : PassState) → length xs - 1 ≡ n → get_elem? xs n ≡ some x → get_elem? (last_in xs) 0 ≡ some x =
-      λ xs x e is. dropped (length xs - 1) 0 xs ∙ ap (λ (i : ℕ). get_elem? xs i) (let f : length xs - 1 + 0 ≡ n = omega arith in f) ∙ is in
-      some-injective q p (sym (at_last qs q of_qs there) ∙ ap (λ (l : List PassState). get_elem? l 0) same ∙ at_last ps p of_ps at)
-
   -- all passes
   pub all_parted : (ps qs zs : List PassState) (oss : List (List Outcome)) → RewritesAlone contents m rel fork ps qs zs → length oss ≡ length (workers_in ps)
       → ((w : ℕ) (p q : PassState) (os : List Outcome) → get_elem? (workers_in ps) w ≡ some p → get_elem? (workers_in qs) w ≡ some q → get_elem? oss w ≡ some os → DidPart (length (workers_in ps)) w p q os)
-      → Parted 0 zs
+      → Parted 0 zs oss
   all_parted ps qs zs oss x listed did =
       let k = length (workers_in ps) in
       let several = x.several in
       let of_ps = length_front ps in
-      let same = same_length ps qs zs x in
-      subst (λ (b : ℕ). Parted b zs) (start_first (blocks_in m rel fork) k)
+      let same = x.beside.counted in
+      let end : length oss ≡ length ps - 1 = omega arith in
+      subst (λ (b : ℕ). Parted b zs oss) (start_first (blocks_in m rel fork) k)
       (parted k 0 ps qs zs oss (omega arith) (omega arith) (omega arith) same x.counted
       (λ i j p q os e at there of.
       let below = inside oss i os of in
       subst (λ (y : ℕ). DidPart k y p q os) (let f : i ≡ j = omega arith in f)
       (did i p q os (taken (length ps - 1) i ps (omega arith) ∙ at) (taken (length qs - 1) i qs (omega arith) ∙ there) of))
-      (λ p q. last_of ps qs (length oss) p q x.last (omega arith) (omega arith)) x.before x.after)
+      (λ p q at there. (x.beside.last p q (ap (λ (n : ℕ). get_elem? ps n) (sym end) ∙ at) (ap (λ (n : ℕ). get_elem? qs n) (sym end) ∙ there)).calls.calls) x.before x.after)

@@ -1,5 +1,5 @@
 -- What the devices hold that a manager gives back after a rewrite.
-use Rattle.std.proofs.Common.{◌≡◌, ℕ, zero, suc, ◌%◌, ◌<◌, ◌≤◌, ◌⊎◌, Bool, true, false, List, [], ◌∷◌, ◌++◌, Option, Some, None, refl, sym, ap, ◌∙◌, subst, ⊎_elim, inl, inr, arith}
+use Rattle.std.proofs.Common.{◌≡◌, ℕ, zero, suc, ◌+◌, ◌%◌, ◌<◌, ◌≤◌, ◌⊎◌, Bool, true, false, List, [], ◌∷◌, ◌++◌, length, map, Option, Some, None, refl, sym, ap, ap₂, ◌∙◌, subst, ⊎_elim, inl, inr, arith}
 use Rattle.std.specs.Prelude.{is_some, nat_lt}
 use Rattle.std.proofs.lemmas.Option.{same_Some}
 use mathlib.Core.Option.{some, some-injective, some-ne-none}
@@ -7,7 +7,9 @@ use lib.ListN.{get_elem?}
 use Rattle.block_tag.specs.declared.tag.Fork.{Fork}
 use Rattle.block_tag.specs.declared.tag.Tag.{Tag}
 use Rattle.block_tag.specs.Names.{lane_number, packed_tag, tag_of_parts}
-use Rattle.page_layout.specs.Outcomes.{is_changed_outcome, page_rewrite_of}
+use Rattle.page_layout.specs.declared.outcomes.PageRewrite.{PageRewrite}
+use Rattle.page_layout.specs.declared.outcomes.PageRewrite.TheVariants.{Invalid}
+use Rattle.page_layout.specs.Outcomes.{is_changed_outcome, page_rewrite_of, rewrite_totals_of, totals_of_outcomes}
 use Rattle.page_layout.specs.Soundness.{is_sound_page}
 use Rattle.segment_store.specs.Contents.{Pages}
 use Rattle.pin_core.specs.declared.view.Call.{Call}
@@ -28,22 +30,31 @@ use Rattle.backend_pass.specs.Managers.{first_in, is_first, others_in}
 use Rattle.backend_pass.specs.Passes.{PassState}
 use Rattle.backend_pass.proofs.Joining.{first_here, first_past, others_here, others_past}
 use Rattle.page_jobs.specs.declared.ending.Totals.{Totals}
+use Rattle.page_jobs.specs.Ending.{totals_of_rewrite}
+use Rattle.page_jobs.specs.Jobs.{IsOrigin}
 use Rattle.page_jobs.specs.Parts.{blocks_in}
-use Rattle.page_jobs.specs.Rewrites.{Outcome, Rule, unsound, kept, refused, changed, block_of, rule_of}
+use Rattle.page_jobs.specs.Rewrites.{Outcome, Rule, unsound, kept, refused, changed, block_of, outcome_totals, rule_of, told_of}
 use Rattle.page_jobs.specs.RewriteCloses.{ClosesEither, ClosesRewritten, HasImage, HoldEither, HoldRewritten, IsInLanes, RewritesAlone, RewritesAndStores}
 use Rattle.page_jobs.specs.RewriteEnds.{HasRewrites, IsAfter, IsFair, IsResult, OnlyReads, Part, Rewrites, RewritesAll, all_done, block_weight, times}
 use Rattle.page_jobs.specs.Rewriting.{FollowsRule}
-use Rattle.page_jobs.proofs.RewriteClosed.{has_rewrites}
+use Rattle.page_jobs.proofs.RewriteClosed.{changed_read, has_rewrites, kept_read}
 use Rattle.page_jobs.proofs.RewriteCounts.{Each}
 use Rattle.page_jobs.proofs.RewriteCourse.{Parted, all_parted}
 use Rattle.page_jobs.proofs.RewriteLanes.{finishes, lanes_hold_either}
 use Rattle.page_jobs.proofs.RewriteOrder.{InOrder, calls_ordered, in_order}
-use Rattle.page_jobs.proofs.RewriteRanges.{parts_below, parts_once, whole_all}
-use Rattle.page_jobs.proofs.Standing.{there}
+use Rattle.page_jobs.proofs.RewriteRanges.{from_at, parts_below, parts_once, whole_all, whole_from}
+use Rattle.page_jobs.proofs.Standing.{inside, there}
 
-told_invalid : (page : Page) → is_sound_page page ≡ false → is_changed_outcome (page_rewrite_of page) ≡ false
+told_invalid : (page : Page) → is_sound_page page ≡ false → page_rewrite_of page ≡ Invalid
 unfolding page_rewrite_of
 told_invalid page bad = rw bad refl
+
+-- where what is told of each outcome is what is told of a page the totals are those of the pages
+same_told : (os : List Outcome) (pages : List Page) → length os ≡ length pages → ((i : ℕ) (o : Outcome) (page : Page) → get_elem? os i ≡ some o → get_elem? pages i ≡ some page → told_of o ≡ page_rewrite_of page) → map told_of os ≡ map page_rewrite_of pages
+same_told [] [] long each = refl
+same_told [] (p ∷ pages) long each = absurd (omega arith)
+same_told (o ∷ os) [] long each = absurd (omega arith)
+same_told (o ∷ os) (p ∷ pages) long each = ap₂ (λ (a : PageRewrite) (b : List PageRewrite). a ∷ b) (each zero o p refl refl) (same_told os pages (omega arith) (λ i. each (suc i)))
 
 some_of : (x : Option Pages) → is_some x ≡ true → (p : Pages) × (x ≡ Some p)
 some_of None e = absurd (let no : false ≡ true = e in cc)
@@ -152,8 +163,8 @@ module _ {L G : Type 0} (d : Devices L G) (m : Manager L G) (rel : ℕ) (fork : 
   lane_of b low = ap (lane_of_tag (lanes_in m.table)) (packed_is (tag_of_parts rel fork b) (x.parts.named b low))
 
   -- a block that wasn't sound at the opening has no page that the rule changes
-  unsound_fair : (b : ℕ) → b < blocks_in m rel fork → WasUnsoundAtOpening d.contents m.table (tag_of_parts rel fork b) → c.state.known (rule.tag b) ≡ true → rule.changes (c.state.origin (rule.tag b)) ≡ false
-  unsound_fair b low u known =
+  unsound_told : (b : ℕ) → b < blocks_in m rel fork → WasUnsoundAtOpening d.contents m.table (tag_of_parts rel fork b) → c.state.known (rule.tag b) ≡ true → page_rewrite_of (c.state.origin (rule.tag b)) ≡ Invalid
+  unsound_told b low u known =
       let tag = tag_of_parts rel fork b in
       let word = rule.tag b in
       let q = lane_number tag (lanes_in m.table) in
@@ -167,12 +178,12 @@ module _ {L G : Type 0} (d : Devices L G) (m : Manager L G) (rel : ℕ) (fork : 
       told_invalid (c.state.origin word) (subst (λ (p : Page). is_sound_page p ≡ false) same u.unsound)
 
   fair : (number : ℕ) (o : Outcome) → block_of o < blocks_in m rel fork → FollowsRule d.contents m rel fork number o → IsFair rule c.state.known c.state.origin o
-  fair number (unsound b) low f = unsound_fair b low f
+  fair number (unsound b) low f = λ known. ap is_changed_outcome (unsound_told b low f known)
   fair number (kept b i p n) low f = f.2
   fair number (refused b i p n) low f = f.2
   fair number (changed b i p n k) low f = (f.2, f.3)
 
-  module _ (W : Type 0) (t : Parted d.contents m rel fork W 0 zs) where
+  module _ (W : Type 0) (oss : List (List Outcome)) (t : Parted d.contents m rel fork W 0 zs oss) where
     ordered : InOrder rule zs t.parts
     ordered = in_order rule zs t.parts t.have t.reads
 
@@ -207,13 +218,13 @@ module _ {L G : Type 0} (d : Devices L G) (m : Manager L G) (rel : ℕ) (fork : 
     }
 
   any_end : HasRewrites rule (blocks_in m rel fork) c.state.known c.state.origin c.state.log
-  any_end = has_rewrites c.history (rewrites ⊥ (all_parted d.contents m rel fork ⊥ ps qs zs x.parts.outcomes x x.parts.listed (λ w p q os at there of. (x.parts.each w p q os at there of, λ no. absurd no))))
+  any_end = has_rewrites c.history (rewrites ⊥ x.parts.outcomes (all_parted d.contents m rel fork ⊥ ps qs zs x.parts.outcomes x x.parts.listed (λ w p q os at there of. (x.parts.each w p q os at there of, λ no. absurd no))))
 
 pub closes_either : {L G : Type 0} (d : Devices L G) (m : Manager L G) → ClosesEither d m
 closes_either d m rel fork ps qs zs lanes log x c = let has = any_end d m rel fork ps qs zs lanes log c x in (has, hold_either d m.table.table.shared.key zs lanes log c (rule_of rel fork) (blocks_in m rel fork) has)
 
 module _ {L G : Type 0} (d : Devices L G) (m : Manager L G) (rel : ℕ) (fork : Fork) (ps qs zs : List PassState) (totals : Totals) (upto : ℕ) (lanes : List L) (log : G) (c : ClosesAll d m.table.table.shared.key zs lanes log) (y : RewritesAndStores d.contents m rel fork ps qs zs totals upto) where
-  whole_parts_of : Parted d.contents m rel fork (Unit {0}) 0 zs
+  whole_parts_of : Parted d.contents m rel fork (Unit {0}) 0 zs y.all.outcomes
   whole_parts_of = all_parted d.contents m rel fork (Unit {0}) ps qs zs y.all.outcomes y.alone y.all.listed (λ w p q os at there of. let z = y.all.each w p q os at there of in (z.blocks, λ yes. (z.whole, z.ended)))
 
   all_known : (b : ℕ) → b < blocks_in m rel fork → c.state.known ((rule_of rel fork).tag b) ≡ true
@@ -226,17 +237,53 @@ module _ {L G : Type 0} (d : Devices L G) (m : Manager L G) (rel : ℕ) (fork : 
   all_behind : (k : ℕ) (e : Call) → get_elem? (calls_in_order zs) k ≡ some e → place_of e ≤ upto
   all_behind = each_in_order (λ (e : Call). place_of e ≤ upto) zs (λ i z at k e there. let f = (c.each i z at).front in let a = f.above k e there in let b = y.fronts i z at in omega arith)
 
+  all_rewrites : RewritesAll (rule_of rel fork) (blocks_in m rel fork) c.state.known c.state.origin (calls_in_order zs) (in_turn d m rel fork ps qs zs lanes log c y.alone (Unit {0}) y.all.outcomes whole_parts_of)
+  all_rewrites = rewrites_all d m rel fork ps qs zs lanes log c y.alone (Unit {0}) y.all.outcomes whole_parts_of tt
+
   all_result : IsResult (rule_of rel fork) (blocks_in m rel fork) c.state
-  all_result = finishes (rule_of rel fork) (blocks_in m rel fork) c.state (calls_in_order zs) (in_turn d m rel fork ps qs zs lanes log c y.alone (Unit {0}) whole_parts_of) upto record {
+  all_result = finishes (rule_of rel fork) (blocks_in m rel fork) c.state (calls_in_order zs) (in_turn d m rel fork ps qs zs lanes log c y.alone (Unit {0}) y.all.outcomes whole_parts_of) upto record {
     laws = c.laws;
     history = c.history;
-    rewrites = rewrites_all d m rel fork ps qs zs lanes log c y.alone (Unit {0}) whole_parts_of tt;
+    rewrites = all_rewrites;
     told = all_known;
     stored_all = ((c.each y.place y.checkpointer y.there).swept upto (λ q below. y.swept q (let e = c.opened.lanes in omega arith))).1;
     behind = all_behind;
   }
 
+  -- what is told of a block is what is told of its page at the opening
+  told_at : (j : ℕ) (o : Outcome) → get_elem? (all_done whole_parts_of.parts) j ≡ some o → told_of o ≡ page_rewrite_of (c.state.origin ((rule_of rel fork).tag (block_of o)))
+  told_at j o at = by_case o at
+    where
+      order : InOrder (rule_of rel fork) zs whole_parts_of.parts
+      order = ordered d m rel fork ps qs zs lanes log c y.alone (Unit {0}) y.all.outcomes whole_parts_of
+
+      by_case : (u : Outcome) → get_elem? (all_done whole_parts_of.parts) j ≡ some u → told_of u ≡ page_rewrite_of (c.state.origin ((rule_of rel fork).tag (block_of u)))
+      by_case (unsound b) e = let low = parts_below 0 (blocks_in m rel fork) whole_parts_of.parts whole_parts_of.fit j (unsound b) e in sym (unsound_told d m rel fork ps qs zs lanes log c y.alone b low (whole_parts_of.follow j (unsound b) e).1 (all_known b low))
+      by_case (kept b i p n) e = let k = order.onto j (kept b i p n) e in ap page_rewrite_of (kept_read c.history all_rewrites all_known k.0 b i p n k.1)
+      by_case (refused b i p n) e = absurd (let bad : false ≡ true = whole_parts_of.ended tt j (refused b i p n) e in cc)
+      by_case (changed b i p n l) e = let k = order.onto j (changed b i p n l) e in ap page_rewrite_of (changed_read c.history all_rewrites all_known k.0 b i p n l k.1)
+
+  -- the page of a block at the opening
+  origin_is : (pages : List Page) → IsOrigin d.contents m rel fork pages → (b : ℕ) (page : Page) → get_elem? pages b ≡ some page → page ≡ c.state.origin ((rule_of rel fork).tag b)
+  origin_is pages origin b page at =
+      let w = origin.each b page at in
+      let tag = tag_of_parts rel fork b in
+      let low : b < blocks_in m rel fork = let i = inside pages b page at in let e = origin.counted in omega arith in
+      let placed : IsPlaced (relations_of m.table) (lanes_in m.table) (lane_number tag (lanes_in m.table)) ((rule_of rel fork).tag b) tag = record { named = packed_is tag (y.alone.parts.named b low); listed = below_test b (blocks_in m rel fork) low; placed = refl } in
+      same_Some page (c.state.origin ((rule_of rel fork).tag b)) (sym w.is ∙ c.opened.origin (lane_number tag (lanes_in m.table)) w.lane w.pages ((rule_of rel fork).tag b) tag w.opened w.known placed)
+
+  totals_of_origin : (pages : List Page) → IsOrigin d.contents m rel fork pages → totals ≡ totals_of_rewrite (rewrite_totals_of pages)
+  totals_of_origin pages origin =
+      let os = all_done whole_parts_of.parts in
+      let all = whole_from 0 (blocks_in m rel fork) whole_parts_of.parts (whole_parts_of.whole tt) in
+      let same : map told_of os ≡ map page_rewrite_of pages = same_told os pages (let e = all.1 in let k = origin.counted in omega arith) (λ i o page at there.
+      let block : block_of o ≡ i = let e = from_at 0 os i o all.0 at in omega arith in
+      told_at i o at ∙ ap (λ (b : ℕ). page_rewrite_of (c.state.origin ((rule_of rel fork).tag b))) block ∙ ap page_rewrite_of (sym (origin_is pages origin i page there))) in
+      y.all.totals_is
+      ∙ ap (λ (us : List Outcome). totals_of_rewrite (outcome_totals us)) (sym whole_parts_of.dones)
+      ∙ ap (λ (l : List PageRewrite). totals_of_rewrite (totals_of_outcomes l)) same
+
 pub closes_rewritten : {L G : Type 0} (d : Devices L G) (m : Manager L G) → ClosesRewritten d m
 closes_rewritten d m rel fork ps qs zs totals upto lanes log y c =
     let result = all_result d m rel fork ps qs zs totals upto lanes log c y in
-    (result.rewritten, hold_rewritten d m.table.table.shared.key zs lanes log c (rule_of rel fork) (blocks_in m rel fork) result)
+    (result.rewritten, totals_of_origin d m rel fork ps qs zs totals upto lanes log c y, hold_rewritten d m.table.table.shared.key zs lanes log c (rule_of rel fork) (blocks_in m rel fork) result)

@@ -34,6 +34,7 @@ pub record InOrder (r : Rule) (zs : List PassState) (ps : List Part) : Type 0 wh
   pub other_calls : calls_of_passes (others_in zs) ≡ calls_of r others
   pub same : (b : ℕ) → times b first.done + times b (all_done others) ≡ times b (all_done ps)
   pub among : (k : ℕ) (o : Outcome) → get_elem? (all_done (first ∷ others)) k ≡ some o → (j : ℕ) × (get_elem? (all_done ps) j ≡ some o)
+  pub onto : (j : ℕ) (o : Outcome) → get_elem? (all_done ps) j ≡ some o → (k : ℕ) × (get_elem? (all_done (first ∷ others)) k ≡ some o)
   pub first_reads : (writes_in first.before ≡ 0) × (writes_in first.after ≡ 0)
   pub other_reads : OnlyReads others
 
@@ -61,6 +62,7 @@ first_comes r z zs p ps is h reads = record {
   other_calls = ap calls_of_passes (others_here z zs is) ∙ all_calls r zs ps h.1;
   same = λ b. sym (total-both (block_weight b) p.done (all_done ps));
   among = λ k o at. (k, at);
+  onto = λ j o at. (j, at);
   first_reads = reads zero p refl;
   other_reads = λ k q at. reads (suc k) q at;
 }
@@ -81,6 +83,13 @@ first_later r z zs p ps later calls reads x = record {
       (λ (u : (j : ℕ) × (get_elem? (all_done x.others) j ≡ some o)). let y = x.among (length x.first.done + u.0) o (at_right x.first.done (all_done x.others) u.0 o u.1) in right_of p.done (all_done ps) y.0 o y.1)
       (at_both p.done (all_done x.others) t.0 o t.1))
       (at_both x.first.done (p.done ++ all_done x.others) k o at);
+  onto = λ j o at. ⊎_elim
+      (λ (t : get_elem? p.done j ≡ some o). let y = left_of p.done (all_done x.others) j o t in right_of x.first.done (p.done ++ all_done x.others) y.0 o y.1)
+      (λ (t : (i : ℕ) × (get_elem? (all_done ps) i ≡ some o)). let y = x.onto t.0 o t.1 in ⊎_elim
+      (λ (u : get_elem? x.first.done y.0 ≡ some o). left_of x.first.done (p.done ++ all_done x.others) y.0 o u)
+      (λ (u : (i : ℕ) × (get_elem? (all_done x.others) i ≡ some o)). let v = right_of p.done (all_done x.others) u.0 o u.1 in right_of x.first.done (p.done ++ all_done x.others) v.0 o v.1)
+      (at_both x.first.done (all_done x.others) y.0 o y.1))
+      (at_both p.done (all_done ps) j o at);
   first_reads = x.first_reads;
   other_reads = others;
 }
@@ -102,6 +111,7 @@ in_order r [] [] h reads = record {
   other_calls = refl;
   same = λ b. refl;
   among = λ k o at. (k, at);
+  onto = λ j o at. (j, at);
   first_reads = (none_put, none_put);
   other_reads = λ k q at. absurd (some-ne-none q (sym at));
 }

@@ -1,6 +1,7 @@
 -- The parts of a rewrite, cut one behind the other.
 use Rattle.std.proofs.Common.{◌≡◌, ℕ, zero, suc, ◌+◌, ◌<◌, ◌≤◌, List, [], ◌∷◌, length, sym, refl, ap, ◌∙◌, ⊎_elim, arith}
 use Rattle.std.proofs.lemmas.Bool.{cases_lt}
+use Rattle.std.proofs.lemmas.List.{length-append}
 use mathlib.Core.Logic.{dite}
 use native.Mathlib.Decide.{ℕ_discrete}
 use mathlib.Core.Option.{some, some-ne-none, some-injective}
@@ -9,6 +10,7 @@ use Rattle.history_core.proofs.Calls.{at_both, total-both}
 use Rattle.grid.specs.Shape.{total}
 use Rattle.page_jobs.specs.Rewrites.{AreFrom, Outcome, block_of}
 use Rattle.page_jobs.specs.RewriteEnds.{AreParts, AreWhole, Part, all_done, block_weight, times}
+use Rattle.page_jobs.proofs.PartRewrites.{from_append}
 use Rattle.page_jobs.proofs.RewriteCounts.{test_else, test_same}
 
 -- How often a block is among outcomes from a on, up to e
@@ -82,3 +84,13 @@ whole_all b a n (p ∷ ps) h low up =
     (λ (t : b < a + length p.done). let x = here.inside low t in let y = (parts_few b (a + length p.done) n ps (whole_parts (a + length p.done) n ps h.1)).1 t in omega arith)
     (λ (t : a + length p.done ≤ b). let x = here.behind t in let y = whole_all b (a + length p.done) n ps h.1 t up in omega arith)
     (cases_lt b (a + length p.done))
+
+-- whole parts are of all blocks, in order
+pub whole_from : (a n : ℕ) (ps : List Part) → AreWhole a ps n → AreFrom a (all_done ps) × (a + length (all_done ps) ≡ n)
+whole_from a n [] h = (tt, omega arith)
+whole_from a n (p ∷ ps) h = let rest = whole_from (a + length p.done) n ps h.1 in (from_append a p.done (all_done ps) h.0 rest.0, (let l = length-append p.done (all_done ps) in let e = rest.1 in omega arith))
+
+pub from_at : (a : ℕ) (os : List Outcome) (i : ℕ) (o : Outcome) → AreFrom a os → get_elem? os i ≡ some o → block_of o ≡ a + i
+from_at a [] i o h at = absurd (some-ne-none o (sym at))
+from_at a (x ∷ os) zero o h at = let e = h.0 in omega (arith, ap block_of (some-injective x o at))
+from_at a (x ∷ os) (suc i) o h at = let e = from_at (a + 1) os i o h.1 at in omega arith

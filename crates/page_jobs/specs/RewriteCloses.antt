@@ -4,6 +4,7 @@ use mathlib.Core.Option.{some}
 use lib.ListN.{get_elem?}
 use Rattle.block_tag.specs.declared.tag.Fork.{Fork}
 use Rattle.block_tag.specs.declared.tag.Tag.{Tag}
+use Rattle.page_layout.specs.Outcomes.{rewrite_totals_of}
 use Rattle.segment_store.specs.Contents.{Pages}
 use Rattle.pin_core.specs.declared.view.Call.{Call}
 use Rattle.pin_core.specs.State.{Page}
@@ -16,11 +17,12 @@ use Rattle.backend_pass.specs.declared.manager.Manager.{Manager}
 use Rattle.backend_pass.specs.Closing.{ClosesAll, EachPass, HasSwept, PutNothing}
 use Rattle.backend_pass.specs.Passes.{PassState}
 use Rattle.page_jobs.specs.declared.ending.Totals.{Totals}
-use Rattle.page_jobs.specs.Jobs.{last_in, workers_in}
+use Rattle.page_jobs.specs.Ending.{totals_of_rewrite}
+use Rattle.page_jobs.specs.Jobs.{IsOrigin, workers_in}
 use Rattle.page_jobs.specs.Parts.{blocks_in}
 use Rattle.page_jobs.specs.Rewrites.{Rule, rule_of}
 use Rattle.page_jobs.specs.RewriteEnds.{HasEntry, HasRewrites, IsRewritten}
-use Rattle.page_jobs.specs.RewriteJobs.{RewriteParts, RewritesFork}
+use Rattle.page_jobs.specs.RewriteJobs.{RewriteParts, RewritesFork, StaysBeside}
 
 -- A pass has put no page since then
 pub record PutsNoMore (q z : PassState) : Type 0 where
@@ -40,7 +42,7 @@ module _ {L G : Type 0} (contents : L → Option Pages) (m : Manager L G) (rel :
   pub record RewritesAlone (ps qs zs : List PassState) : Type 0 where
     pub several : 1 < length ps
     pub parts : RewriteParts contents m rel fork (workers_in ps) (workers_in qs)
-    pub last : last_in qs ≡ last_in ps
+    pub beside : StaysBeside contents m ps qs
     pub before : EachPass PutNothing ps
     pub counted : length zs ≡ length qs
     pub after : (i : ℕ) (q z : PassState) → get_elem? qs i ≡ some q → get_elem? zs i ≡ some z → PutsNoMore q z
@@ -93,9 +95,10 @@ module _ {L G : Type 0} (d : Devices L G) (m : Manager L G) where
       → HasRewrites (rule_of rel fork) (blocks_in m rel fork) c.state.known c.state.origin c.state.log
       × HoldEither d m.table.table.shared.key lanes (rule_of rel fork) c.state
 
-  -- After one of all blocks, and a checkpoint, the log has exactly the entries of the changed blocks, and the lanes have the rewritten relation
+  -- After one of all blocks, and a checkpoint, the log has exactly the entries of the changed blocks, the totals are those of the pages at the opening, and the lanes have the rewritten relation
   abbrev pub ClosesRewritten : Type 0
   ClosesRewritten = (rel : ℕ) (fork : Fork) (ps qs zs : List PassState) (totals : Totals) (upto : ℕ) (lanes : List L) (log : G) → RewritesAndStores d.contents m rel fork ps qs zs totals upto
       → (c : ClosesAll d m.table.table.shared.key zs lanes log)
       → IsRewritten (rule_of rel fork) (blocks_in m rel fork) c.state.known c.state.origin c.state.log
+      × ((pages : List Page) → IsOrigin d.contents m rel fork pages → totals ≡ totals_of_rewrite (rewrite_totals_of pages))
       × HoldRewritten d m.table.table.shared.key lanes (rule_of rel fork) (blocks_in m rel fork) c.state.log

@@ -1,12 +1,13 @@
 -- What a rewrite of a fork does.
-use Rattle.std.specs.Prelude.{◌≡◌, ◌⊎◌, ℕ, ◌+◌, ◌<◌, true, List, [], ◌∷◌, ◌++◌, length, Option}
+use Rattle.std.specs.Prelude.{◌≡◌, ◌⊎◌, ℕ, ◌+◌, ◌-◌, ◌<◌, true, List, [], ◌∷◌, ◌++◌, length, Option}
 use mathlib.Core.Option.{some}
 use lib.ListN.{get_elem?}
 use Rattle.block_tag.specs.declared.tag.Fork.{Fork}
 use Rattle.block_tag.specs.Names.{names_block, tag_of_parts}
 use Rattle.segment_store.specs.Contents.{Pages}
 use Rattle.backend_pass.specs.declared.manager.Manager.{Manager}
-use Rattle.backend_pass.specs.Passes.{PassState}
+use Rattle.backend_pass.specs.Managers.{Belongs}
+use Rattle.backend_pass.specs.Passes.{KeepsCalls, KeepsLocks, KeepsMark, PassState, SamePass}
 use Rattle.page_jobs.specs.declared.ending.JobError.{JobError}
 use Rattle.page_jobs.specs.declared.ending.JobError.TheVariants.{Memory}
 use Rattle.page_jobs.specs.declared.ending.Totals.{Totals}
@@ -19,6 +20,21 @@ use Rattle.page_jobs.specs.Rewriting.{MeetsFullOrDown, RewritesBlocks, RewritesW
 abbrev pub outcomes_in_all : List (List Outcome) → List Outcome
 outcomes_in_all [] = []
 outcomes_in_all (os ∷ oss) = os ++ outcomes_in_all oss
+
+module _ {L G : Type 0} (contents : L → Option Pages) (m : Manager L G) where
+  -- A pass worked beside the workers: it read and put nothing, and has its tokens, its content locks and its mark as they were
+  pub record WorksBeside (p q : PassState) : Type 0 where
+    pub belongs : Belongs contents m q
+    pub same : SamePass p q
+    pub tokens : q.tokens ≡ p.tokens
+    pub locks : KeepsLocks p q
+    pub mark : KeepsMark p q
+    pub calls : KeepsCalls p q
+
+  -- As many passes are there as were, and the last one worked beside the others
+  pub record StaysBeside (ps qs : List PassState) : Type 0 where
+    pub counted : length qs ≡ length ps
+    pub last : (p q : PassState) → get_elem? ps (length ps - 1) ≡ some p → get_elem? qs (length ps - 1) ≡ some q → WorksBeside p q
 
 module _ {L G : Type 0} (contents : L → Option Pages) (m : Manager L G) (rel : ℕ) (fork : Fork) where
   -- Each pass dealt with blocks of its part, from the first on
