@@ -1,0 +1,6 @@
+use Rattle.std.proofs.Common.{◌≡◌, ◌++◌}
+use Rattle.sample_relation.specs.Samples.{Appends, pointers}
+use Rattle.sample_relation.proofs.put_pointers.Given as goal
+
+abbrev pub invariant-loop-before : goal.invariant-loop-before
+invariant-loop-before l = Appends l.initial.bytes.items l.bytes.items (pointers l.block l.before)
