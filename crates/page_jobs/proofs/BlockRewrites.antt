@@ -40,7 +40,7 @@ use Rattle.backend_pass.proofs.Seated.{same_on}
 use Rattle.page_jobs.specs.declared.ending.JobError.{JobError}
 use Rattle.page_jobs.specs.Parts.{blocks_in}
 use Rattle.page_jobs.specs.Reads.{FindsUnsound, PinsOne, RefusesBlock, Stays, fault_of_refusal}
-use Rattle.page_jobs.specs.Rewrites.{IfRead, IsEnded, Outcome, unsound, kept, refused, changed, calls_by, calls_for, rule_of, told_of}
+use Rattle.page_jobs.specs.Rewrites.{IfRead, IsEnded, Outcome, unsound, kept, refused, changed, calls_by, calls_for, rule_of, result_of}
 use Rattle.page_jobs.specs.Rewriting.{FollowsRule, GoesOn, HoldsUntil, KeepsOtherLocks, LocksOne, PutFails, RewritesBlock, RewritesBlocks, RewritesHeld, RewritesLocked, UnderCleanup, fault_of_put}
 use Rattle.page_jobs.proofs.BlockWork.{on_err}
 use Rattle.page_jobs.proofs.Staying.{calls_on, stays_on}
@@ -216,7 +216,7 @@ module _ {L G : Type 0} (contents : L → Option Pages) (m : Manager L G) where
       calls = k.calls.calls ∙ x.page.calls;
       follows = x.page.follows;
       mark = λ unput. mark ∙ x.page.mark unput;
-      done = on_ok_value (λ what. (what ≡ told_of x.page.outcome) × IsEnded x.page.outcome × (q.view.met ≡ p.view.met)) (λ what. (what ≡ told_of x.page.outcome) × IsEnded x.page.outcome × (r.view.met ≡ p.view.met)) answer (λ what d. (d.0, d.1, k.met ∙ d.2)) x.page.done;
+      done = on_ok_value (λ what. (what ≡ result_of x.page.outcome) × IsEnded x.page.outcome × (q.view.met ≡ p.view.met)) (λ what. (what ≡ result_of x.page.outcome) × IsEnded x.page.outcome × (r.view.met ≡ p.view.met)) answer (λ what d. (d.0, d.1, k.met ∙ d.2)) x.page.done;
       cause = on_err (PutFails contents m tag p q) (PutFails contents m tag p r) answer (λ why f. fails_later tag p q r why k.met f) x.page.cause;
     };
   }

@@ -21,7 +21,7 @@ use Rattle.backend_pass.proofs.Seated.{same_on}
 use Rattle.page_jobs.specs.declared.ending.JobError.{JobError}
 use Rattle.page_jobs.specs.declared.ending.JobError.TheVariants.{Memory}
 use Rattle.page_jobs.specs.Reads.{IsFree}
-use Rattle.page_jobs.specs.Rewrites.{AreFrom, EachOutcome, IfRead, IsEnded, IsUnput, Outcome, Rule, StopsAtFailure, unsound, kept, refused, changed, calls_by, calls_for, outcome_totals, rule_of, told_of}
+use Rattle.page_jobs.specs.Rewrites.{AreFrom, EachOutcome, IfRead, IsEnded, IsUnput, Outcome, Rule, StopsAtFailure, unsound, kept, refused, changed, calls_by, calls_for, outcome_totals, rule_of, result_of}
 use Rattle.page_jobs.specs.Rewriting.{AllUnderCleanup, EndsRewriteFor, FollowsRule, GoesOn, HoldsUntil, RewritesBlock, RewritesBlocks, RewritesPart, RewritesWhole, UnderCleanup}
 use Rattle.page_jobs.proofs.BlockWork.{on_err, on_ok}
 use Rattle.page_jobs.proofs.RewriteSums.{rewrites_joined, rewrites_none, with_outcome-is}
@@ -170,7 +170,7 @@ module _ {L G : Type 0} (contents : L → Option Pages) (m : Manager L G) (rel :
   pub rewrites_wider : (from mid to : ℕ) (p q : PassState) (t u : RewriteTotals) (e : JobError) → mid ≤ to → RewritesPart contents m rel fork from mid p q t u (Err e) → RewritesPart contents m rel fork from to p q t u (Err e)
   rewrites_wider from mid to p q t u e le a = record { outcomes = a.outcomes; blocks = blocks_wider from mid to a.outcomes p q le a.blocks; within = a.within; few = a.few; whole = tt; totals = tt; cause = a.cause }
 
-  told_one : (what : PageRewrite) (os : List Outcome) → length os ≡ 1 → EachOutcome (λ o. (what ≡ told_of o) × IsEnded o) os → (outcome_totals os ≡ totals_of_outcomes (what ∷ [])) × EachOutcome IsEnded os
+  told_one : (what : PageRewrite) (os : List Outcome) → length os ≡ 1 → EachOutcome (λ o. (what ≡ result_of o) × IsEnded o) os → (outcome_totals os ≡ totals_of_outcomes (what ∷ [])) × EachOutcome IsEnded os
   told_one what [] one each = absurd (omega arith)
   told_one what (o ∷ []) one each = (ap (λ (w : PageRewrite). totals_of_outcomes (w ∷ [])) (sym each.0.0), (each.0.1, tt))
   told_one what (o ∷ u ∷ os) one each = absurd (omega arith)

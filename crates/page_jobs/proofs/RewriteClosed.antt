@@ -11,7 +11,7 @@ use Rattle.grid.proofs.Lists.{put_else}
 use Rattle.grid.proofs.Sums.{total-same}
 use Rattle.history_core.specs.History.{IsHistory}
 use Rattle.page_jobs.specs.Rewrites.{Rule, Outcome, unsound, kept, refused, changed, block_of, calls_by}
-use Rattle.page_jobs.specs.RewriteEnds.{Part, all_done, block_weight, Rewrites, RewritesAll, HasRewrites, HasEntry, IsRewritten, change_weight}
+use Rattle.page_jobs.specs.RewriteEnds.{BackendCalls, all_done, block_weight, Rewrites, RewritesAll, HasRewrites, HasEntry, IsRewritten, change_weight}
 use Rattle.page_jobs.proofs.RewriteCounts.{Each, each_done, total_some, test_is, outcome_at, outcome_weight, writes_at_are, writes_are, same_place, total_blocks}
 use Rattle.history_core.proofs.Logs.{cut_in, cut_out, in_or_out}
 
@@ -24,7 +24,7 @@ cell_untouched origin (e ∷ es) p tag h = in_or_out p e
     subst (λ (l : List Entry). cell origin l tag ≡ origin tag) (sym (cut_in p e es t)) (cell_untouched (put origin e.tag e.image) es p tag (λ k x at. h (suc k) x at) ∙ put_else origin e.tag e.image tag other))
     (λ (t : p < end_of e). subst (λ (l : List Entry). cell origin l tag ≡ origin tag) (sym (cut_out p e es t)) (cell_untouched origin es p tag (λ k x at. h (suc k) x at)))
 
-module _ {r : Rule} {n : ℕ} {known : ℕ → Bool} {origin : ℕ → Page} {log : Log} {calls : List Call} {ps : List Part} (h : IsHistory known origin log calls) (w : Rewrites r n known origin calls ps) where
+module _ {r : Rule} {n : ℕ} {known : ℕ → Bool} {origin : ℕ → Page} {log : Log} {calls : List Call} {ps : List BackendCalls} (h : IsHistory known origin log calls) (w : Rewrites r n known origin calls ps) where
   legal_done : (k : ℕ) (o : Outcome) → get_elem? (all_done ps) k ≡ some o → Each (IsLegal known origin log) (calls_by r o)
   legal_done = each_done r (IsLegal known origin log) ps (subst (Each (IsLegal known origin log)) w.calls_are h.legal)
 
@@ -83,7 +83,7 @@ module _ {r : Rule} {n : ℕ} {known : ℕ → Bool} {origin : ℕ → Page} {lo
   one_entry j k d e at to same = let m = made_by j d at in let x = outcome_of k m.index e (changed m.block m.backend m.page m.place (end_of d)) to m.there (sym same ∙ m.tagged) in
       same_index j k d e at to (ap place_after x.1)
 
-  -- the page that was read of a block, and not behind its entry, is the page at the start
+  -- the page that was read of a block, and not after its entry, is the page at the start
   read_page : (j : ℕ) (o : Outcome) → get_elem? (all_done ps) j ≡ some o → (q : Page) (p : ℕ) → IsLegalRead known origin log (r.tag (block_of o)) q p → ((b i t m : ℕ) (x : Page) → o ≡ changed b i x t m → p < m) → known (r.tag (block_of o)) ≡ true → q ≡ origin (r.tag (block_of o))
   read_page j o at q p l before is = l.reads is ∙ cell_untouched origin log.entries p (r.tag (block_of o)) (λ k e to tagged. let x = outcome_of k j e o to at tagged in before x.0.block x.0.backend x.0.place (end_of e) x.0.page x.1)
 
@@ -107,7 +107,7 @@ module _ {r : Rule} {n : ℕ} {known : ℕ → Bool} {origin : ℕ → Page} {lo
   no_entry j o at none x = let y = outcome_of x.index j x.entry o x.there at x.tagged in absurd (let z = ap outcome_weight y.1 in omega arith)
 
 -- Where all blocks are done
-module _ {r : Rule} {n : ℕ} {known : ℕ → Bool} {origin : ℕ → Page} {log : Log} {calls : List Call} {ps : List Part} (h : IsHistory known origin log calls) (w : RewritesAll r n known origin calls ps) (told : (b : ℕ) → b < n → known (r.tag b) ≡ true) where
+module _ {r : Rule} {n : ℕ} {known : ℕ → Bool} {origin : ℕ → Page} {log : Log} {calls : List Call} {ps : List BackendCalls} (h : IsHistory known origin log calls) (w : RewritesAll r n known origin calls ps) (told : (b : ℕ) → b < n → known (r.tag b) ≡ true) where
   pub kept_read : (j b i : ℕ) (q : Page) (p : ℕ) → get_elem? (all_done ps) j ≡ some (kept b i q p) → q ≡ origin (r.tag b)
   kept_read j b i q p at = let o = kept b i q p in read_page h w.rewrites j o at q p (legal_done h w.rewrites j o at 0 (Read i (r.tag b) q p) refl) (λ c k t z x e. absurd (cc)) (told b (w.rewrites.below j o at))
 

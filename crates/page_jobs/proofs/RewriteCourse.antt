@@ -16,7 +16,7 @@ use Rattle.page_jobs.specs.Parts.{blocks_in, part_start}
 use Rattle.page_jobs.specs.Rewrites.{EachOutcome, IsEnded, Outcome, calls_for, is_ended, rule_of}
 use Rattle.page_jobs.specs.Rewriting.{FollowsRule, RewritesBlocks}
 use Rattle.page_jobs.specs.RewriteCloses.{PutsNoMore, RewritesAlone}
-use Rattle.page_jobs.specs.RewriteEnds.{AreParts, AreWhole, OnlyReads, Part, all_done}
+use Rattle.page_jobs.specs.RewriteEnds.{AreParts, AreWhole, OnlyReads, BackendCalls, all_done}
 use Rattle.page_jobs.specs.RewriteJobs.{outcomes_in_all}
 use Rattle.page_jobs.proofs.Deals.{start_first, start_last}
 use Rattle.page_jobs.proofs.RewriteOrder.{HaveParts}
@@ -37,7 +37,7 @@ module _ {L G : Type 0} (contents : L → Option Pages) (m : Manager L G) (rel :
 
   -- The parts of these passes, with these outcomes, from this block on
   pub record Parted (from : ℕ) (zs : List PassState) (oss : List (List Outcome)) : Type 0 where
-    pub parts : List Part
+    pub parts : List BackendCalls
     pub dones : all_done parts ≡ outcomes_in_all oss
     pub have : HaveParts (rule_of rel fork) zs parts
     pub reads : OnlyReads parts
@@ -46,8 +46,8 @@ module _ {L G : Type 0} (contents : L → Option Pages) (m : Manager L G) (rel :
     pub whole : W → AreWhole from parts (blocks_in m rel fork)
     pub ended : W → (k : ℕ) (o : Outcome) → get_elem? (all_done parts) k ≡ some o → is_ended o ≡ true
 
-  only_reads : (p : Part) (ps : List Part) → writes_in p.before ≡ 0 → writes_in p.after ≡ 0 → OnlyReads ps → OnlyReads (p ∷ ps)
-  only_reads p ps before after rest zero x at = subst (λ (y : Part). (writes_in y.before ≡ 0) × (writes_in y.after ≡ 0)) (some-injective p x at) (before, after)
+  only_reads : (p : BackendCalls) (ps : List BackendCalls) → writes_in p.before ≡ 0 → writes_in p.after ≡ 0 → OnlyReads ps → OnlyReads (p ∷ ps)
+  only_reads p ps before after rest zero x at = subst (λ (y : BackendCalls). (writes_in y.before ≡ 0) × (writes_in y.after ≡ 0)) (some-injective p x at) (before, after)
   only_reads p ps before after rest (suc k) x at = rest k x at
 
   none_read : OnlyReads []
@@ -56,7 +56,7 @@ module _ {L G : Type 0} (contents : L → Option Pages) (m : Manager L G) (rel :
   -- the pass that doesn't work
   beside : (from : ℕ) (p q z : PassState) → from ≤ blocks_in m rel fork → (W → from ≡ blocks_in m rel fork) → q.view.calls ≡ p.view.calls → PutNothing p → PutsNoMore q z → Parted from (z ∷ []) []
   beside from p q z le all same before after =
-      let part : Part = record { before = p.view.calls; done = []; after = after.more } in
+      let part : BackendCalls = record { before = p.view.calls; done = []; after = after.more } in
       record {
         parts = part ∷ [];
         dones = refl;
@@ -72,7 +72,7 @@ module _ {L G : Type 0} (contents : L → Option Pages) (m : Manager L G) (rel :
   works : (k j : ℕ) (p q z : PassState) (zs : List PassState) (os : List Outcome) (oss : List (List Outcome)) → DidPart k j p q os → PutNothing p → PutsNoMore q z → Parted (start k (j + 1)) zs oss → Parted (start k j) (z ∷ zs) (os ∷ oss)
   works k j p q z zs os oss did before after rest =
       let r = rule_of rel fork in
-      let part : Part = record { before = p.view.calls; done = os; after = after.more } in
+      let part : BackendCalls = record { before = p.view.calls; done = os; after = after.more } in
       record {
         parts = part ∷ rest.parts;
         dones = ap (λ (us : List Outcome). os ++ us) rest.dones;

@@ -33,9 +33,9 @@ use Rattle.page_jobs.specs.declared.ending.Totals.{Totals}
 use Rattle.page_jobs.specs.Ending.{totals_of_rewrite}
 use Rattle.page_jobs.specs.Jobs.{IsOrigin}
 use Rattle.page_jobs.specs.Parts.{blocks_in}
-use Rattle.page_jobs.specs.Rewrites.{Outcome, Rule, unsound, kept, refused, changed, block_of, outcome_totals, rule_of, told_of}
+use Rattle.page_jobs.specs.Rewrites.{Outcome, Rule, unsound, kept, refused, changed, block_of, outcome_totals, rule_of, result_of}
 use Rattle.page_jobs.specs.RewriteCloses.{ClosesEither, ClosesRewritten, HasImage, HoldEither, HoldRewritten, IsInLanes, RewritesAlone, RewritesAndStores}
-use Rattle.page_jobs.specs.RewriteEnds.{HasRewrites, IsAfter, IsFair, IsResult, OnlyReads, Part, Rewrites, RewritesAll, all_done, block_weight, times}
+use Rattle.page_jobs.specs.RewriteEnds.{HasRewrites, IsAfter, IsFair, IsResult, OnlyReads, BackendCalls, Rewrites, RewritesAll, all_done, block_weight, times}
 use Rattle.page_jobs.specs.Rewriting.{FollowsRule}
 use Rattle.page_jobs.proofs.RewriteClosed.{changed_read, has_rewrites, kept_read}
 use Rattle.page_jobs.proofs.RewriteCounts.{Each}
@@ -50,7 +50,7 @@ unfolding page_rewrite_of
 told_invalid page bad = rw bad refl
 
 -- where what is told of each outcome is what is told of a page the totals are those of the pages
-same_told : (os : List Outcome) (pages : List Page) → length os ≡ length pages → ((i : ℕ) (o : Outcome) (page : Page) → get_elem? os i ≡ some o → get_elem? pages i ≡ some page → told_of o ≡ page_rewrite_of page) → map told_of os ≡ map page_rewrite_of pages
+same_told : (os : List Outcome) (pages : List Page) → length os ≡ length pages → ((i : ℕ) (o : Outcome) (page : Page) → get_elem? os i ≡ some o → get_elem? pages i ≡ some page → result_of o ≡ page_rewrite_of page) → map result_of os ≡ map page_rewrite_of pages
 same_told [] [] long each = refl
 same_told [] (p ∷ pages) long each = absurd (omega arith)
 same_told (o ∷ os) [] long each = absurd (omega arith)
@@ -187,7 +187,7 @@ module _ {L G : Type 0} (d : Devices L G) (m : Manager L G) (rel : ℕ) (fork : 
     ordered : InOrder rule zs t.parts
     ordered = in_order rule zs t.parts t.have t.reads
 
-    abbrev in_turn : List Part
+    abbrev in_turn : List BackendCalls
     in_turn = ordered.first ∷ ordered.others
 
     times_in_turn : (b : ℕ) → times b (all_done in_turn) ≡ times b (all_done t.parts)
@@ -207,7 +207,7 @@ module _ {L G : Type 0} (d : Devices L G) (m : Manager L G) (rel : ℕ) (fork : 
     }
       where
         only_reads : OnlyReads in_turn
-        only_reads zero p at = subst (λ (q : Part). (writes_in q.before ≡ 0) × (writes_in q.after ≡ 0)) (some-injective ordered.first p at) ordered.first_reads
+        only_reads zero p at = subst (λ (q : BackendCalls). (writes_in q.before ≡ 0) × (writes_in q.after ≡ 0)) (some-injective ordered.first p at) ordered.first_reads
         only_reads (suc k) p at = ordered.other_reads k p at
 
     rewrites_all : W → RewritesAll rule (blocks_in m rel fork) c.state.known c.state.origin (calls_in_order zs) in_turn
@@ -234,8 +234,8 @@ module _ {L G : Type 0} (d : Devices L G) (m : Manager L G) (rel : ℕ) (fork : 
       let l = opened_at d m rel fork ps qs zs lanes log c y.alone ((rule_of rel fork).tag b) tag in
       c.opened.known q l.0 ((rule_of rel fork).tag b) l.1 (lane_of d m rel fork ps qs zs lanes log c y.alone b low) ∙ y.known q l.0 l.1
 
-  all_behind : (k : ℕ) (e : Call) → get_elem? (calls_in_order zs) k ≡ some e → place_of e ≤ upto
-  all_behind = each_in_order (λ (e : Call). place_of e ≤ upto) zs (λ i z at k e there. let f = (c.each i z at).front in let a = f.above k e there in let b = y.fronts i z at in omega arith)
+  all_reached : (k : ℕ) (e : Call) → get_elem? (calls_in_order zs) k ≡ some e → place_of e ≤ upto
+  all_reached = each_in_order (λ (e : Call). place_of e ≤ upto) zs (λ i z at k e there. let f = (c.each i z at).front in let a = f.above k e there in let b = y.fronts i z at in omega arith)
 
   all_rewrites : RewritesAll (rule_of rel fork) (blocks_in m rel fork) c.state.known c.state.origin (calls_in_order zs) (in_turn d m rel fork ps qs zs lanes log c y.alone (Unit {0}) y.all.outcomes whole_parts_of)
   all_rewrites = rewrites_all d m rel fork ps qs zs lanes log c y.alone (Unit {0}) y.all.outcomes whole_parts_of tt
@@ -245,19 +245,19 @@ module _ {L G : Type 0} (d : Devices L G) (m : Manager L G) (rel : ℕ) (fork : 
     laws = c.laws;
     history = c.history;
     rewrites = all_rewrites;
-    told = all_known;
-    stored_all = ((c.each y.place y.checkpointer y.there).swept upto (λ q below. y.swept q (let e = c.opened.lanes in omega arith))).1;
-    behind = all_behind;
+    known = all_known;
+    stored_all = ((c.each y.index y.checkpointer y.there).swept upto (λ q below. y.swept q (let e = c.opened.lanes in omega arith))).1;
+    reached = all_reached;
   }
 
   -- what is told of a block is what is told of its page at the opening
-  told_at : (j : ℕ) (o : Outcome) → get_elem? (all_done whole_parts_of.parts) j ≡ some o → told_of o ≡ page_rewrite_of (c.state.origin ((rule_of rel fork).tag (block_of o)))
+  told_at : (j : ℕ) (o : Outcome) → get_elem? (all_done whole_parts_of.parts) j ≡ some o → result_of o ≡ page_rewrite_of (c.state.origin ((rule_of rel fork).tag (block_of o)))
   told_at j o at = by_case o at
     where
       order : InOrder (rule_of rel fork) zs whole_parts_of.parts
       order = ordered d m rel fork ps qs zs lanes log c y.alone (Unit {0}) y.all.outcomes whole_parts_of
 
-      by_case : (u : Outcome) → get_elem? (all_done whole_parts_of.parts) j ≡ some u → told_of u ≡ page_rewrite_of (c.state.origin ((rule_of rel fork).tag (block_of u)))
+      by_case : (u : Outcome) → get_elem? (all_done whole_parts_of.parts) j ≡ some u → result_of u ≡ page_rewrite_of (c.state.origin ((rule_of rel fork).tag (block_of u)))
       by_case (unsound b) e = let low = parts_below 0 (blocks_in m rel fork) whole_parts_of.parts whole_parts_of.fit j (unsound b) e in sym (unsound_told d m rel fork ps qs zs lanes log c y.alone b low (whole_parts_of.follow j (unsound b) e).1 (all_known b low))
       by_case (kept b i p n) e = let k = order.onto j (kept b i p n) e in ap page_rewrite_of (kept_read c.history all_rewrites all_known k.0 b i p n k.1)
       by_case (refused b i p n) e = absurd (let bad : false ≡ true = whole_parts_of.ended tt j (refused b i p n) e in cc)
@@ -276,7 +276,7 @@ module _ {L G : Type 0} (d : Devices L G) (m : Manager L G) (rel : ℕ) (fork : 
   totals_of_origin pages origin =
       let os = all_done whole_parts_of.parts in
       let all = whole_from 0 (blocks_in m rel fork) whole_parts_of.parts (whole_parts_of.whole tt) in
-      let same : map told_of os ≡ map page_rewrite_of pages = same_told os pages (let e = all.1 in let k = origin.counted in omega arith) (λ i o page at there.
+      let same : map result_of os ≡ map page_rewrite_of pages = same_told os pages (let e = all.1 in let k = origin.counted in omega arith) (λ i o page at there.
       let block : block_of o ≡ i = let e = from_at 0 os i o all.0 at in omega arith in
       told_at i o at ∙ ap (λ (b : ℕ). page_rewrite_of (c.state.origin ((rule_of rel fork).tag b))) block ∙ ap page_rewrite_of (sym (origin_is pages origin i page there))) in
       y.all.totals_is

@@ -16,7 +16,7 @@ use Rattle.grid.specs.Shape.{put}
 use Rattle.grid.proofs.Lists.{put_at, put_else}
 use Rattle.history_core.specs.History.{IsHistory}
 use Rattle.page_jobs.specs.Rewrites.{Rule}
-use Rattle.page_jobs.specs.RewriteEnds.{HasRewrites, HasEntry, LanesHoldEither, LanesHoldAll, Part, IsRewritten, IsResult, Finishes}
+use Rattle.page_jobs.specs.RewriteEnds.{HasRewrites, HasEntry, LanesHoldEither, LanesHoldAll, BackendCalls, IsRewritten, IsResult, Finishes}
 use Rattle.page_jobs.proofs.RewriteCounts.{total_some, test_is}
 use Rattle.page_jobs.proofs.RewriteClosed.{cell_untouched, is_rewritten}
 use Rattle.history_core.proofs.Logs.{cut_in, cut_out, in_or_out}
@@ -79,19 +79,19 @@ lanes_hold_all s r n upto h w stores low = record {
   other = λ tag is ok none. let x = h.invariant.flushed_cells tag in x.is_cell is ok ∙ cell_untouched s.origin s.log.entries (stored_upto s tag) tag (λ k e at tagged. absurd (none (record { index = k; entry = e; there = at; tagged = tagged })));
 }
 
-pub finishes : (r : Rule) (n : ℕ) (s : State) (calls : List Call) (ps : List Part) (upto : ℕ) → Finishes r n s calls ps upto → IsResult r n s
+pub finishes : (r : Rule) (n : ℕ) (s : State) (calls : List Call) (ps : List BackendCalls) (upto : ℕ) → Finishes r n s calls ps upto → IsResult r n s
 finishes r n s calls ps upto f = record {
   rewritten = rewritten;
-  changed = λ b low is. let x = rewritten.all b low is in let e = rewritten.rewrites.each x.index x.entry x.there in let known : s.known x.entry.tag ≡ true = ap s.known x.tagged ∙ f.told b low in (
+  changed = λ b low is. let x = rewritten.all b low is in let e = rewritten.rewrites.each x.index x.entry x.there in let known : s.known x.entry.tag ≡ true = ap s.known x.tagged ∙ f.known b low in (
     x,
     subst (λ (t : ℕ). x.entry.image ≡ r.rewritten (s.origin t) (end_of x.entry)) x.tagged (e.image known),
     subst (λ (t : ℕ). failed s t ≡ false → stored s t ≡ x.entry.image) x.tagged (lanes.written x.index x.entry x.there known),
   );
-  same = λ b low is. let none : HasEntry s.log (r.tag b) → ⊥ = (λ x. let e = rewritten.rewrites.each x.index x.entry x.there in let y = e.changes (ap s.known x.tagged ∙ f.told b low) in let z = ap (λ (t : ℕ). r.changes (s.origin t)) x.tagged in absurd (cc)) in (none, λ ok. lanes.other (r.tag b) (f.told b low) ok none);
+  same = λ b low is. let none : HasEntry s.log (r.tag b) → ⊥ = (λ x. let e = rewritten.rewrites.each x.index x.entry x.there in let y = e.changes (ap s.known x.tagged ∙ f.known b low) in let z = ap (λ (t : ℕ). r.changes (s.origin t)) x.tagged in absurd (cc)) in (none, λ ok. lanes.other (r.tag b) (f.known b low) ok none);
 }
   where
     rewritten : IsRewritten r n s.known s.origin s.log
-    rewritten = is_rewritten f.history f.rewrites f.told
+    rewritten = is_rewritten f.history f.rewrites f.known
 
     lanes : LanesHoldAll s
-    lanes = lanes_hold_all s r n upto f.laws rewritten.rewrites f.stored_all (λ k e at. entries_fronted f.history upto f.behind k e at)
+    lanes = lanes_hold_all s r n upto f.laws rewritten.rewrites f.stored_all (λ k e at. entries_fronted f.history upto f.reached k e at)

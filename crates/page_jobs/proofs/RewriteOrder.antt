@@ -11,12 +11,12 @@ use Rattle.backend_pass.specs.Managers.{first_in, is_first, others_in}
 use Rattle.backend_pass.specs.Passes.{PassState}
 use Rattle.backend_pass.proofs.Joining.{first_here, first_past, others_here, others_past}
 use Rattle.page_jobs.specs.Rewrites.{Outcome, Rule, calls_for}
-use Rattle.page_jobs.specs.RewriteEnds.{OnlyReads, Part, all_done, block_weight, calls_of, times}
+use Rattle.page_jobs.specs.RewriteEnds.{OnlyReads, BackendCalls, all_done, block_weight, calls_of, times}
 use Rattle.grid.proofs.Lists.{at_longer}
 use Rattle.page_jobs.proofs.RewriteCounts.{at_right}
 
 -- each pass has its part
-abbrev pub HaveParts : Rule → List PassState → List Part → Type 0
+abbrev pub HaveParts : Rule → List PassState → List BackendCalls → Type 0
 HaveParts r [] [] = Unit {0}
 HaveParts r [] (p ∷ ps) = ⊥
 HaveParts r (z ∷ zs) [] = ⊥
@@ -27,9 +27,9 @@ unfolding total
 none_put = refl
 
 -- The first pass's part, and those of the others
-pub record InOrder (r : Rule) (zs : List PassState) (ps : List Part) : Type 0 where
-  pub first : Part
-  pub others : List Part
+pub record InOrder (r : Rule) (zs : List PassState) (ps : List BackendCalls) : Type 0 where
+  pub first : BackendCalls
+  pub others : List BackendCalls
   pub first_calls : (first_in zs).calls ≡ first.before ++ (calls_for r first.done ++ first.after)
   pub other_calls : calls_of_passes (others_in zs) ≡ calls_of r others
   pub same : (b : ℕ) → times b first.done + times b (all_done others) ≡ times b (all_done ps)
@@ -38,7 +38,7 @@ pub record InOrder (r : Rule) (zs : List PassState) (ps : List Part) : Type 0 wh
   pub first_reads : (writes_in first.before ≡ 0) × (writes_in first.after ≡ 0)
   pub other_reads : OnlyReads others
 
-all_calls : (r : Rule) (zs : List PassState) (ps : List Part) → HaveParts r zs ps → calls_of_passes zs ≡ calls_of r ps
+all_calls : (r : Rule) (zs : List PassState) (ps : List BackendCalls) → HaveParts r zs ps → calls_of_passes zs ≡ calls_of r ps
 all_calls r [] [] h = refl
 all_calls r [] (p ∷ ps) h = absurd h
 all_calls r (z ∷ zs) [] h = absurd h
@@ -54,7 +54,7 @@ left_of os us k o at = (k, at_longer os us k o at)
 right_of : (os us : List Outcome) (k : ℕ) (o : Outcome) → get_elem? us k ≡ some o → (j : ℕ) × (get_elem? (os ++ us) j ≡ some o)
 right_of os us k o at = (length os + k, at_right os us k o at)
 
-first_comes : (r : Rule) (z : PassState) (zs : List PassState) (p : Part) (ps : List Part) → is_first z ≡ true → HaveParts r (z ∷ zs) (p ∷ ps) → OnlyReads (p ∷ ps) → InOrder r (z ∷ zs) (p ∷ ps)
+first_comes : (r : Rule) (z : PassState) (zs : List PassState) (p : BackendCalls) (ps : List BackendCalls) → is_first z ≡ true → HaveParts r (z ∷ zs) (p ∷ ps) → OnlyReads (p ∷ ps) → InOrder r (z ∷ zs) (p ∷ ps)
 first_comes r z zs p ps is h reads = record {
   first = p;
   others = ps;
@@ -67,7 +67,7 @@ first_comes r z zs p ps is h reads = record {
   other_reads = λ k q at. reads (suc k) q at;
 }
 
-first_later : (r : Rule) (z : PassState) (zs : List PassState) (p : Part) (ps : List Part) → is_first z ≡ false → z.view.calls ≡ p.before ++ (calls_for r p.done ++ p.after) → OnlyReads (p ∷ ps) → InOrder r zs ps → InOrder r (z ∷ zs) (p ∷ ps)
+first_later : (r : Rule) (z : PassState) (zs : List PassState) (p : BackendCalls) (ps : List BackendCalls) → is_first z ≡ false → z.view.calls ≡ p.before ++ (calls_for r p.done ++ p.after) → OnlyReads (p ∷ ps) → InOrder r zs ps → InOrder r (z ∷ zs) (p ∷ ps)
 first_later r z zs p ps later calls reads x = record {
   first = x.first;
   others = p ∷ x.others;
@@ -98,11 +98,11 @@ first_later r z zs p ps later calls reads x = record {
     others zero q at = reads zero q at
     others (suc k) q at = x.other_reads k q at
 
-by_first : (r : Rule) (b : Bool) (z : PassState) (zs : List PassState) (p : Part) (ps : List Part) → is_first z ≡ b → HaveParts r (z ∷ zs) (p ∷ ps) → OnlyReads (p ∷ ps) → InOrder r zs ps → InOrder r (z ∷ zs) (p ∷ ps)
+by_first : (r : Rule) (b : Bool) (z : PassState) (zs : List PassState) (p : BackendCalls) (ps : List BackendCalls) → is_first z ≡ b → HaveParts r (z ∷ zs) (p ∷ ps) → OnlyReads (p ∷ ps) → InOrder r zs ps → InOrder r (z ∷ zs) (p ∷ ps)
 by_first r true z zs p ps is h reads x = first_comes r z zs p ps is h reads
 by_first r false z zs p ps is h reads x = first_later r z zs p ps is h.0 reads x
 
-pub in_order : (r : Rule) (zs : List PassState) (ps : List Part) → HaveParts r zs ps → OnlyReads ps → InOrder r zs ps
+pub in_order : (r : Rule) (zs : List PassState) (ps : List BackendCalls) → HaveParts r zs ps → OnlyReads ps → InOrder r zs ps
 unfolding total
 in_order r [] [] h reads = record {
   first = record { before = []; done = []; after = [] };
@@ -120,7 +120,7 @@ in_order r (z ∷ zs) [] h reads = absurd h
 in_order r (z ∷ zs) (p ∷ ps) h reads = by_first r (is_first z) z zs p ps refl h reads (in_order r zs ps h.1 (λ k q at. reads (suc k) q at))
 
 -- the calls of all passes are those of the parts
-pub calls_ordered : (r : Rule) (zs : List PassState) (ps : List Part) (x : InOrder r zs ps) → calls_in_order zs ≡ calls_of r (x.first ∷ x.others)
+pub calls_ordered : (r : Rule) (zs : List PassState) (ps : List BackendCalls) (x : InOrder r zs ps) → calls_in_order zs ≡ calls_of r (x.first ∷ x.others)
 calls_ordered r zs ps x =
     ap₂ (λ (a b : List Call). a ++ b) x.first_calls x.other_calls
     ∙ append_assoc x.first.before (calls_for r x.first.done ++ x.first.after) (calls_of r x.others)

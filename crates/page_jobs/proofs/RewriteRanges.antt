@@ -1,4 +1,4 @@
--- The parts of a rewrite, cut one behind the other.
+-- The parts of a rewrite, cut one after the other.
 use Rattle.std.proofs.Common.{◌≡◌, ℕ, zero, suc, ◌+◌, ◌<◌, ◌≤◌, List, [], ◌∷◌, length, sym, refl, ap, ◌∙◌, ⊎_elim, arith}
 use Rattle.std.proofs.lemmas.Bool.{cases_lt}
 use Rattle.std.proofs.lemmas.List.{length-append}
@@ -9,7 +9,7 @@ use lib.ListN.{get_elem?}
 use Rattle.history_core.proofs.Calls.{at_both, total-both}
 use Rattle.grid.specs.Shape.{total}
 use Rattle.page_jobs.specs.Rewrites.{AreFrom, Outcome, block_of}
-use Rattle.page_jobs.specs.RewriteEnds.{AreParts, AreWhole, Part, all_done, block_weight, times}
+use Rattle.page_jobs.specs.RewriteEnds.{AreParts, AreWhole, BackendCalls, all_done, block_weight, times}
 use Rattle.page_jobs.proofs.PartRewrites.{from_append}
 use Rattle.page_jobs.proofs.RewriteCounts.{test_else, test_same}
 
@@ -37,12 +37,12 @@ in_range a [] k o h e = absurd (some-ne-none o (sym e))
 in_range a (x ∷ os) zero o h e = let y = h.0 in omega (arith, ap block_of (some-injective x o e))
 in_range a (x ∷ os) (suc k) o h e = let y = in_range (a + 1) os k o h.1 e in omega arith
 
-parts_least : (a n : ℕ) (ps : List Part) → AreParts a ps n → a ≤ n
+parts_least : (a n : ℕ) (ps : List BackendCalls) → AreParts a ps n → a ≤ n
 parts_least a n [] h = h
 parts_least a n (p ∷ ps) h = let x = parts_least h.0 n ps h.3 in let y = h.2 in omega arith
 
 -- each block is done once at most, and none before a
-parts_few : (b a n : ℕ) (ps : List Part) → AreParts a ps n → (times b (all_done ps) ≤ 1) × (b < a → times b (all_done ps) ≡ 0)
+parts_few : (b a n : ℕ) (ps : List BackendCalls) → AreParts a ps n → (times b (all_done ps) ≤ 1) × (b < a → times b (all_done ps) ≡ 0)
 unfolding total
 parts_few b a n [] h = (omega arith, λ l. refl)
 parts_few b a n (p ∷ ps) h =
@@ -57,10 +57,10 @@ parts_few b a n (p ∷ ps) h =
       λ l. let y = here.below l in let z = rest.1 (omega arith) in omega arith,
     )
 
-pub parts_once : (n : ℕ) (ps : List Part) → AreParts 0 ps n → (b : ℕ) → times b (all_done ps) ≤ 1
+pub parts_once : (n : ℕ) (ps : List BackendCalls) → AreParts 0 ps n → (b : ℕ) → times b (all_done ps) ≤ 1
 parts_once n ps h b = (parts_few b 0 n ps h).0
 
-pub parts_below : (a n : ℕ) (ps : List Part) → AreParts a ps n → (k : ℕ) (o : Outcome) → get_elem? (all_done ps) k ≡ some o → block_of o < n
+pub parts_below : (a n : ℕ) (ps : List BackendCalls) → AreParts a ps n → (k : ℕ) (o : Outcome) → get_elem? (all_done ps) k ≡ some o → block_of o < n
 parts_below a n [] h k o e = absurd (some-ne-none o (sym e))
 parts_below a n (p ∷ ps) h k o e =
     let low = h.2 in
@@ -71,11 +71,11 @@ parts_below a n (p ∷ ps) h k o e =
     (at_both p.done (all_done ps) k o e)
 
 -- whole parts are parts, and do each block below n
-pub whole_parts : (a n : ℕ) (ps : List Part) → AreWhole a ps n → AreParts a ps n
+pub whole_parts : (a n : ℕ) (ps : List BackendCalls) → AreWhole a ps n → AreParts a ps n
 whole_parts a n [] h = omega arith
 whole_parts a n (p ∷ ps) h = (a + length p.done, h.0, omega arith, whole_parts (a + length p.done) n ps h.1)
 
-pub whole_all : (b a n : ℕ) (ps : List Part) → AreWhole a ps n → a ≤ b → b < n → times b (all_done ps) ≡ 1
+pub whole_all : (b a n : ℕ) (ps : List BackendCalls) → AreWhole a ps n → a ≤ b → b < n → times b (all_done ps) ≡ 1
 whole_all b a n [] h low up = absurd (omega arith)
 whole_all b a n (p ∷ ps) h low up =
     let here = times_range b a p.done h.0 in
@@ -86,7 +86,7 @@ whole_all b a n (p ∷ ps) h low up =
     (cases_lt b (a + length p.done))
 
 -- whole parts are of all blocks, in order
-pub whole_from : (a n : ℕ) (ps : List Part) → AreWhole a ps n → AreFrom a (all_done ps) × (a + length (all_done ps) ≡ n)
+pub whole_from : (a n : ℕ) (ps : List BackendCalls) → AreWhole a ps n → AreFrom a (all_done ps) × (a + length (all_done ps) ≡ n)
 whole_from a n [] h = (tt, omega arith)
 whole_from a n (p ∷ ps) h = let rest = whole_from (a + length p.done) n ps h.1 in (from_append a p.done (all_done ps) h.0 rest.0, (let l = length-append p.done (all_done ps) in let e = rest.1 in omega arith))
 

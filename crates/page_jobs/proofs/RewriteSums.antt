@@ -7,7 +7,7 @@ use Rattle.page_layout.specs.declared.outcomes.PageRewrite.TheVariants.{Invalid,
 use Rattle.page_layout.specs.declared.outcomes.RewriteTotals.{RewriteTotals}
 use Rattle.page_layout.specs.declared.rewrite.Rewrite.TheVariants.{Same, Changed, Skipped}
 use Rattle.page_layout.specs.Outcomes.{IsRewriteWithin, dead_of, is_changed_outcome, is_invalid_outcome, is_new_outcome, is_same_outcome, is_skipped_outcome, no_rewrite_totals, sum_of_rewrite_totals, totals_of_outcomes, with_outcome}
-use Rattle.page_jobs.specs.Rewrites.{Outcome, told_of, outcome_totals}
+use Rattle.page_jobs.specs.Rewrites.{Outcome, result_of, outcome_totals}
 
 totals_of_outcomes-append : (ss ts : List PageRewrite) → totals_of_outcomes (ss ++ ts) ≡ sum_of_rewrite_totals (totals_of_outcomes ss) (totals_of_outcomes ts)
 totals_of_outcomes-append ss ts =
@@ -22,7 +22,7 @@ totals_of_outcomes-append ss ts =
     ) refl
 
 pub outcome_totals-append : (os us : List Outcome) → outcome_totals (os ++ us) ≡ sum_of_rewrite_totals (outcome_totals os) (outcome_totals us)
-outcome_totals-append os us = ap totals_of_outcomes (map-append told_of os us) ∙ totals_of_outcomes-append (map told_of os) (map told_of us)
+outcome_totals-append os us = ap totals_of_outcomes (map-append result_of os us) ∙ totals_of_outcomes-append (map result_of os) (map result_of us)
 
 pub with_outcome-is : (t : RewriteTotals) (what : PageRewrite) → with_outcome t what ≡ sum_of_rewrite_totals t (totals_of_outcomes (what ∷ []))
 with_outcome-is t Invalid = simp add-zero

@@ -31,8 +31,8 @@ pub record PutsNoMore (q z : PassState) : Type 0 where
   pub reads : writes_in more ≡ 0
 
 -- The log has an entry of this block, which is what the rule made of this page, and durable; and that is the page that the block has now
-pub record HasImage (r : Rule) (s : State) (word : ℕ) (page : Page) (now : Option Page) : Type 0 where
-  pub made : HasEntry s.log word
+pub record HasImage (r : Rule) (s : State) (packed : ℕ) (page : Page) (now : Option Page) : Type 0 where
+  pub made : HasEntry s.log packed
   pub image : made.entry.image ≡ r.rewritten page (end_of made.entry)
   pub durable : head_size + end_of made.entry ≤ s.log.base + s.device.synced
   pub held : now ≡ Some made.entry.image
@@ -50,32 +50,32 @@ module _ {L G : Type 0} (contents : L → Option Pages) (m : Manager L G) (rel :
     pub lanes : length (opened_of m.table) ≡ lanes_in m.table
     pub some_lanes : 0 < lanes_in m.table
 
-  -- It rewrote all blocks, whose pages are known, and afterwards a pass swept each lane up to a position that is at least the front of each pass, by a checkpoint that is its last
+  -- It rewrote all blocks, whose pages are known, and at the close one of the passes has swept each lane up to a position that is at least the front of each pass
   pub record RewritesAndStores (ps qs zs : List PassState) (totals : Totals) (upto : ℕ) : Type 0 where
     pub alone : RewritesAlone ps qs zs
     pub all : RewritesFork contents m rel fork (workers_in ps) (workers_in qs) totals
     pub known : (q : ℕ) (l : L) → get_elem? (opened_of m.table) q ≡ some l → is_some (contents l) ≡ true
-    pub place : ℕ
+    pub index : ℕ
     pub checkpointer : PassState
-    pub there : get_elem? zs place ≡ some checkpointer
+    pub there : get_elem? zs index ≡ some checkpointer
     pub swept : HasSwept (lanes_in m.table) upto checkpointer.view
     pub fronts : EachPass (λ z. z.view.front ≤ upto) zs
 
 module _ {L G : Type 0} (d : Devices L G) (o : Opening L G) (lanes : List L) where
   -- The block of this tag, whose number this is, lies in a lane with these contents as the table was opened, and with these as it was closed
-  pub record IsInLanes (word : ℕ) (tag : Tag) (before after : Pages) (closed : L) : Type 0 where
+  pub record IsInLanes (packed : ℕ) (tag : Tag) (before after : Pages) (closed : L) : Type 0 where
     pub lane : ℕ
     pub opened : L
     pub was : get_elem? o.lanes.value.items lane ≡ some opened
     pub is : get_elem? lanes lane ≡ some closed
     pub held : d.contents opened ≡ Some before
     pub holds : d.contents closed ≡ Some after
-    pub placed : IsPlaced o.catalog.value o.config.lanes lane word tag
+    pub placed : IsPlaced o.catalog.value o.config.lanes lane packed tag
 
   -- Each block has the page that it had, or what the rule made of it, or its last write failed
   abbrev pub HoldEither : Rule → State → Type 0
-  HoldEither r s = (word : ℕ) (tag : Tag) (before after : Pages) (closed : L) (page : Page) → IsInLanes word tag before after closed → before tag ≡ Some page → d.failed_writes closed tag ≡ false
-      → (after tag ≡ Some page) ⊎ HasImage r s word page (after tag)
+  HoldEither r s = (packed : ℕ) (tag : Tag) (before after : Pages) (closed : L) (page : Page) → IsInLanes packed tag before after closed → before tag ≡ Some page → d.failed_writes closed tag ≡ false
+      → (after tag ≡ Some page) ⊎ HasImage r s packed page (after tag)
 
   -- The lanes have the rewritten relation of n blocks
   pub record HoldRewritten (r : Rule) (n : ℕ) (log : Log) : Type 0 where
@@ -85,7 +85,7 @@ module _ {L G : Type 0} (d : Devices L G) (o : Opening L G) (lanes : List L) whe
     -- of another one it has none
     pub same : (block : ℕ) (tag : Tag) (before after : Pages) (closed : L) (page : Page) → block < n → IsInLanes (r.tag block) tag before after closed → before tag ≡ Some page → r.changes page ≡ false → HasEntry log (r.tag block) → ⊥
     -- and a block of which it has none, here or elsewhere, has its page as before, or its last write failed
-    pub others : (word : ℕ) (tag : Tag) (before after : Pages) (closed : L) (page : Page) → IsInLanes word tag before after closed → before tag ≡ Some page → (HasEntry log word → ⊥) → d.failed_writes closed tag ≡ false → after tag ≡ Some page
+    pub others : (packed : ℕ) (tag : Tag) (before after : Pages) (closed : L) (page : Page) → IsInLanes packed tag before after closed → before tag ≡ Some page → (HasEntry log packed → ⊥) → d.failed_writes closed tag ≡ false → after tag ≡ Some page
 
 module _ {L G : Type 0} (d : Devices L G) (m : Manager L G) where
   -- After a rewrite with any end each entry of the log is what the rule made of a block's page at the opening, and a block has one at most; each lane has the one page or the other

@@ -20,22 +20,22 @@ IsFair r known origin (refused b i p n) = r.changes p ≡ true
 IsFair r known origin (changed b i p n m) = (r.changes p ≡ true) × (n < m)
 
 -- A backend's calls before the rewrite, what it did in it, and its calls after that
-pub record Part : Type 0 where
+pub record BackendCalls : Type 0 where
   pub before : List Call
   pub done : List Outcome
   pub after : List Call
 
-abbrev pub calls_of : Rule → List Part → List Call
+abbrev pub calls_of : Rule → List BackendCalls → List Call
 calls_of r [] = []
 calls_of r (p ∷ ps) = p.before ++ (calls_for r p.done ++ (p.after ++ calls_of r ps))
 
-abbrev pub all_done : List Part → List Outcome
+abbrev pub all_done : List BackendCalls → List Outcome
 all_done [] = []
 all_done (p ∷ ps) = p.done ++ all_done ps
 
 -- no backend had a write before, or made one after
-abbrev pub OnlyReads : List Part → Type 0
-OnlyReads ps = (k : ℕ) (p : Part) → get_elem? ps k ≡ some p → (writes_in p.before ≡ 0) × (writes_in p.after ≡ 0)
+abbrev pub OnlyReads : List BackendCalls → Type 0
+OnlyReads ps = (k : ℕ) (p : BackendCalls) → get_elem? ps k ≡ some p → (writes_in p.before ≡ 0) × (writes_in p.after ≡ 0)
 
 -- how often a block is among the outcomes
 abbrev pub block_weight : ℕ → Outcome → ℕ
@@ -45,7 +45,7 @@ abbrev pub times : ℕ → List Outcome → ℕ
 times b os = total (block_weight b) os
 
 -- A rewrite of blocks below n, with any end
-pub record Rewrites (r : Rule) (n : ℕ) (known : ℕ → Bool) (origin : ℕ → Page) (calls : List Call) (ps : List Part) : Type 0 where
+pub record Rewrites (r : Rule) (n : ℕ) (known : ℕ → Bool) (origin : ℕ → Page) (calls : List Call) (ps : List BackendCalls) : Type 0 where
   pub calls_are : calls ≡ calls_of r ps
   pub reads : OnlyReads ps
   -- each is fair, and of a block below n, which is done once at most
@@ -56,12 +56,12 @@ pub record Rewrites (r : Rule) (n : ℕ) (known : ℕ → Bool) (origin : ℕ �
   pub apart : (a b : ℕ) → a < n → b < n → r.tag a ≡ r.tag b → a ≡ b
 
 -- and one that did all of them
-pub record RewritesAll (r : Rule) (n : ℕ) (known : ℕ → Bool) (origin : ℕ → Page) (calls : List Call) (ps : List Part) : Type 0 where
+pub record RewritesAll (r : Rule) (n : ℕ) (known : ℕ → Bool) (origin : ℕ → Page) (calls : List Call) (ps : List BackendCalls) : Type 0 where
   pub rewrites : Rewrites r n known origin calls ps
   pub all : (b : ℕ) → b < n → times b (all_done ps) ≡ 1
   pub ended : (k : ℕ) (o : Outcome) → get_elem? (all_done ps) k ≡ some o → is_ended o ≡ true
 
--- An entry is the image that the rule makes of a block's page at the start
+-- An entry is the image that the rule makes of a block's page at the start, where that is known
 pub record IsRewrite (r : Rule) (n : ℕ) (known : ℕ → Bool) (origin : ℕ → Page) (e : Entry) : Type 0 where
   pub block : ℕ
   pub below : block < n
@@ -119,20 +119,20 @@ pub record IsResult (r : Rule) (n : ℕ) (s : State) : Type 0 where
   pub same : (b : ℕ) → b < n → r.changes (s.origin (r.tag b)) ≡ false → (HasEntry s.log (r.tag b) → ⊥) × (failed s (r.tag b) ≡ false → stored s (r.tag b) ≡ s.origin (r.tag b))
 
 -- A state with the law, whose history is that of a rewrite of all blocks; all entries up to `upto` are stored, and no call is past it
-pub record Finishes (r : Rule) (n : ℕ) (s : State) (calls : List Call) (ps : List Part) (upto : ℕ) : Type 0 where
+pub record Finishes (r : Rule) (n : ℕ) (s : State) (calls : List Call) (ps : List BackendCalls) (upto : ℕ) : Type 0 where
   pub laws : Laws s
   pub history : IsHistory s.known s.origin s.log calls
   pub rewrites : RewritesAll r n s.known s.origin calls ps
-  pub told : (b : ℕ) → b < n → s.known (r.tag b) ≡ true
+  pub known : (b : ℕ) → b < n → s.known (r.tag b) ≡ true
   pub stored_all : AreStored s upto
-  pub behind : (k : ℕ) (c : Call) → get_elem? calls k ≡ some c → place_of c ≤ upto
+  pub reached : (k : ℕ) (c : Call) → get_elem? calls k ≡ some c → place_of c ≤ upto
 
--- The parts are of the blocks from a up to n, cut one behind the other; each did its blocks from the first on
-abbrev pub AreParts : ℕ → List Part → ℕ → Type 0
+-- The parts are of the blocks from a up to n, cut one after the other; each did its blocks from the first on
+abbrev pub AreParts : ℕ → List BackendCalls → ℕ → Type 0
 AreParts a [] n = a ≤ n
 AreParts a (p ∷ ps) n = (c : ℕ) × AreFrom a p.done × (a + length p.done ≤ c) × AreParts c ps n
 
 -- and each did all of its blocks
-abbrev pub AreWhole : ℕ → List Part → ℕ → Type 0
+abbrev pub AreWhole : ℕ → List BackendCalls → ℕ → Type 0
 AreWhole a [] n = a ≡ n
 AreWhole a (p ∷ ps) n = AreFrom a p.done × AreWhole (a + length p.done) ps n

@@ -14,7 +14,7 @@ use Rattle.page_jobs.specs.declared.ending.Totals.{Totals}
 use Rattle.page_jobs.specs.Ending.{totals_of_rewrite}
 use Rattle.page_jobs.specs.Parts.{MeetsFault, blocks_in, part_start}
 use Rattle.page_jobs.specs.Rewrites.{Outcome, outcome_totals}
-use Rattle.page_jobs.specs.Rewriting.{MeetsFullOrDown, RewritesBlocks, RewritesWhole}
+use Rattle.page_jobs.specs.Rewriting.{PutIsRefused, RewritesBlocks, RewritesWhole}
 
 -- the outcomes of several passes, one pass after the other
 abbrev pub outcomes_in_all : List (List Outcome) → List Outcome
@@ -58,7 +58,7 @@ module _ {L G : Type 0} (contents : L → Option Pages) (m : Manager L G) (rel :
   -- of the passes from this number on, of so many that work, the first that didn't deal with all of its part met a fault, or its put was refused, as the error says
   abbrev pub FailsFirst : ℕ → ℕ → List PassState → List PassState → JobError → Type 0
   FailsFirst workers number (p ∷ ps) (q ∷ qs) e =
-      (MeetsFault contents m rel fork p q e ⊎ MeetsFullOrDown contents m rel fork p q e)
+      (MeetsFault contents m rel fork p q e ⊎ PutIsRefused contents m rel fork p q e)
       ⊎ (((os : List Outcome) × RewritesWhole contents m rel fork (part_start (blocks_in m rel fork) workers number) (part_start (blocks_in m rel fork) workers (number + 1)) os p q) × FailsFirst workers (number + 1) ps qs e)
   FailsFirst workers number ps qs e = ⊥
 

@@ -62,14 +62,14 @@ calls_for r [] = []
 calls_for r (o ∷ os) = calls_by r o ++ calls_for r os
 
 -- what a rewrite tells of the block
-abbrev pub told_of : Outcome → PageRewrite
-told_of (unsound b) = Invalid
-told_of (kept b i p n) = page_rewrite_of p
-told_of (refused b i p n) = page_rewrite_of p
-told_of (changed b i p n m) = page_rewrite_of p
+abbrev pub result_of : Outcome → PageRewrite
+result_of (unsound b) = Invalid
+result_of (kept b i p n) = page_rewrite_of p
+result_of (refused b i p n) = page_rewrite_of p
+result_of (changed b i p n m) = page_rewrite_of p
 
 abbrev pub outcome_totals : List Outcome → RewriteTotals
-outcome_totals os = totals_of_outcomes (map told_of os)
+outcome_totals os = totals_of_outcomes (map result_of os)
 
 -- so it is of each
 abbrev pub EachOutcome : (Outcome → Type 0) → List Outcome → Type 0

@@ -27,7 +27,7 @@ use Rattle.backend_pass.specs.Passes.{KeepsCalls, KeepsLocks, KeepsMark, PassSta
 use Rattle.page_jobs.specs.declared.ending.JobError.{JobError}
 use Rattle.page_jobs.specs.declared.ending.JobError.TheVariants.{LogDown, LogFault, LogFull, Memory}
 use Rattle.page_jobs.specs.Parts.{MeetsFault, blocks_in}
-use Rattle.page_jobs.specs.Rewrites.{AreFrom, EachOutcome, IfRead, IsEnded, IsUnput, Outcome, Rule, StopsAtFailure, unsound, kept, refused, changed, block_of, calls_by, calls_for, outcome_totals, rule_of, told_of}
+use Rattle.page_jobs.specs.Rewrites.{AreFrom, EachOutcome, IfRead, IsEnded, IsUnput, Outcome, Rule, StopsAtFailure, unsound, kept, refused, changed, block_of, calls_by, calls_for, outcome_totals, rule_of, result_of}
 
 -- what ends a job, by the refusal of a put
 abbrev pub fault_of_put : InsertError → JobError
@@ -110,7 +110,7 @@ module _ {L G : Type 0} (contents : L → Option Pages) (m : Manager L G) where
     pub calls : q.view.calls ≡ p.view.calls ++ calls_by (rule_of tag.rel.0 tag.fork) outcome
     pub follows : FollowsRule tag.rel.0 tag.fork p.view.number outcome
     pub mark : IsUnput outcome → KeepsMark p q
-    pub done : IfOk r (λ what. (what ≡ told_of outcome) × IsEnded outcome × (q.view.met ≡ p.view.met))
+    pub done : IfOk r (λ what. (what ≡ result_of outcome) × IsEnded outcome × (q.view.met ≡ p.view.met))
     pub cause : IfErr r (PutFails tag p q)
 
   -- so it was under the cleanup lock
@@ -131,7 +131,7 @@ module _ {L G : Type 0} (contents : L → Option Pages) (m : Manager L G) where
 
 module _ {L G : Type 0} (contents : L → Option Pages) (m : Manager L G) (rel : ℕ) (fork : Fork) where
   -- The put of one of the fork's blocks was refused, for a reason that the error names
-  pub record MeetsFullOrDown (p q : PassState) (e : JobError) : Type 0 where
+  pub record PutIsRefused (p q : PassState) (e : JobError) : Type 0 where
     pub block : ℕ
     pub inside : block < blocks_in m rel fork
     pub why : InsertError
@@ -140,7 +140,7 @@ module _ {L G : Type 0} (contents : L → Option Pages) (m : Manager L G) (rel :
 
   -- why a worker of a rewrite ends before its end
   abbrev pub EndsRewriteFor : PassState → PassState → JobError → Type 0
-  EndsRewriteFor p q e = (e ≡ Memory) ⊎ (MeetsFault contents m rel fork p q e ⊎ MeetsFullOrDown p q e)
+  EndsRewriteFor p q e = (e ≡ Memory) ⊎ (MeetsFault contents m rel fork p q e ⊎ PutIsRefused p q e)
 
   -- The blocks from `from` on were dealt with one after the other, with these outcomes, none at `to` or past it, and none after one whose put was refused: the calls are those of the outcomes and no others, and each page was read, and put, under the cleanup lock. The pass is the same one, without tokens, with its content locks as they were, and with its mark as it was where nothing was put
   pub record RewritesBlocks (from to : ℕ) (os : List Outcome) (p q : PassState) : Type 0 where
@@ -176,5 +176,5 @@ module _ {L G : Type 0} (contents : L → Option Pages) (m : Manager L G) (rel :
   pub record RewritesBlock (block : ℕ) (p q : PassState) (r : Result PageRewrite JobError) : Type 0 where
     pub outcomes : List Outcome
     pub blocks : RewritesBlocks block (block + 1) outcomes p q
-    pub done : IfOk r (λ what. (length outcomes ≡ 1) × EachOutcome (λ o. (what ≡ told_of o) × IsEnded o) outcomes × (q.view.met ≡ p.view.met))
+    pub done : IfOk r (λ what. (length outcomes ≡ 1) × EachOutcome (λ o. (what ≡ result_of o) × IsEnded o) outcomes × (q.view.met ≡ p.view.met))
     pub cause : IfErr r (EndsRewriteFor p q)

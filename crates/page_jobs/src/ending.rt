@@ -26,7 +26,7 @@ pub enum JobError {
     /// A page that was to be written is of a position past the log's end.
     #[error("the log ends at {end}, before {lsn}")]
     LogShort { lsn: Lsn, end: Lsn },
-    /// An entry behind the log's end, which is here, would pass the last position.
+    /// A record at the log's end, given here, would pass the last position.
     #[error("the log is full at {end}")]
     LogFull { end: Lsn },
     #[error("the output failed")]

@@ -7,7 +7,7 @@ ghost use Rattle.history_core.specs.State.{State};
 ghost use Rattle.table_rule.specs.Shows.{devices};
 ghost use Rattle.page_jobs.specs.Rewrites.{Rule};
 ghost use Rattle.page_jobs.specs.RewriteCloses.{ClosesEither, ClosesRewritten};
-ghost use Rattle.page_jobs.specs.RewriteEnds.{Finishes, HasRewrites, IsResult, LanesHoldEither, Part, Rewrites};
+ghost use Rattle.page_jobs.specs.RewriteEnds.{Finishes, HasRewrites, IsResult, LanesHoldEither, BackendCalls, Rewrites};
 
 use backend_pass::Manager;
 use log_device::LogDevice;
@@ -16,12 +16,12 @@ use segment_store::BlockLane;
 /// What the state that the devices are given back in holds of a rewrite whose calls are in its history, by any rule.
 pub fn rewrite_ends()
     // With any end a block has at most one entry, the image of its page at the start, and its lane holds one of the two pages, or its last write failed.
-    ensures any { (r : Rule) (n : ℕ) (s : State) (calls : List Call) (ps : List Part)
+    ensures any { (r : Rule) (n : ℕ) (s : State) (calls : List Call) (ps : List BackendCalls)
         → Laws s → IsHistory s.known s.origin s.log calls → Rewrites r n s.known s.origin calls ps
         → HasRewrites r n s.known s.origin s.log × LanesHoldEither s }
 
-    // After one of all blocks, and a checkpoint behind it, the log has exactly the entries of the changed blocks, and the lanes hold the rewritten relation.
-    ensures all { (r : Rule) (n : ℕ) (s : State) (calls : List Call) (ps : List Part) (upto : ℕ)
+    // After one of all blocks, and a checkpoint after it, the log has exactly the entries of the changed blocks, and the lanes hold the rewritten relation.
+    ensures all { (r : Rule) (n : ℕ) (s : State) (calls : List Call) (ps : List BackendCalls) (upto : ℕ)
         → Finishes r n s calls ps upto → IsResult r n s }
 {}
 

@@ -27,7 +27,7 @@ use std::thread;
 
 /// What a worker rewrites with: room for the page that it reads and for what becomes of it, and the ring of a vacuum.
 #[derive(Drop)]
-pub(crate) struct RewriteDesk {
+pub(crate) struct RewriteBuffers {
     pub(crate) page: Page,
     pub(crate) after: Page,
     pub(crate) ring: Option<Ring>,
@@ -65,7 +65,7 @@ fn rewrite_locked<L: BlockLane, G: LogDevice, R: Wait, T: Gate>(
     worker: u32,
     pass: &mut Pass,
     exclusive: &mut Exclusive,
-    desk: &mut RewriteDesk,
+    desk: &mut RewriteBuffers,
 ) -> Result<PageRewrite, PutError>
     requires belongs { Belongs L.contents manager.now pass.old }
     requires pinned { IsPinnedFor exclusive.old.pinned.tag exclusive.old.pinned.frame pass.old.tokens }
@@ -93,7 +93,7 @@ fn rewrite_held<L: BlockLane, G: LogDevice, R: Wait, T: Gate>(
     worker: u32,
     pass: &mut Pass,
     mut exclusive: Exclusive,
-    desk: &mut RewriteDesk,
+    desk: &mut RewriteBuffers,
 ) -> Result<PageRewrite, PutError>
     requires belongs { Belongs L.contents manager.now pass.old }
     requires pinned { IsPinnedFor exclusive.pinned.tag exclusive.pinned.frame pass.old.tokens }
@@ -126,7 +126,7 @@ pub(crate) fn rewrite_block<L: BlockLane, G: LogDevice, R: Wait, T: Gate>(
     worker: u32,
     pass: &mut Pass,
     tag: Tag,
-    desk: &mut RewriteDesk,
+    desk: &mut RewriteBuffers,
 ) -> Result<PageRewrite, JobError>
     requires free { IsFree L.contents manager.now pass.old }
     requires block { tag.block < blocks_at (relations_of manager.now.table) tag.rel.0 tag.fork }
@@ -152,7 +152,7 @@ fn rewrite_counted<L: BlockLane, G: LogDevice, R: Wait, T: Gate>(
     worker: u32,
     pass: &mut Pass,
     tag: Tag,
-    desk: &mut RewriteDesk,
+    desk: &mut RewriteBuffers,
     totals: &mut RewriteTotals,
 ) -> Result<(), JobError>
     requires free { IsFree L.contents manager.now pass.old }
@@ -178,7 +178,7 @@ fn rewrite_blocks<L: BlockLane, G: LogDevice, R: Wait, T: Gate>(
     fork: Fork,
     from: u32,
     to: u32,
-    desk: &mut RewriteDesk,
+    desk: &mut RewriteBuffers,
     totals: &mut RewriteTotals,
 ) -> Result<(), JobError>
     requires free { IsFree L.contents manager.now pass.old }
@@ -213,7 +213,7 @@ pub(crate) fn rewrite_part<L: BlockLane, G: LogDevice, R: Wait, T: Gate>(
     requires frames { (16 ≤ frames_of manager.now.table) × (frames_of manager.now.table ≤ 4096) }
     ensures rewrites { RewritesPart L.contents manager.now rel.0 fork from to pass.old pass.new totals.entry.now totals.exit.now result }
 {
-    let mut desk = RewriteDesk {
+    let mut desk = RewriteBuffers {
         page: Page::zeroed(alloc)?,
         after: Page::zeroed(alloc)?,
         ring: Some(Ring::build(alloc, RingKind::Vacuum, manager.frames())?),
