@@ -17,8 +17,8 @@ use Rattle.held_pins.specs.Tokens.{no_tokens}
 use Rattle.backend_pass.specs.declared.errors.ReadError.{ReadError}
 use Rattle.backend_pass.specs.declared.errors.ReadError.TheVariants as read
 use Rattle.backend_pass.specs.declared.manager.Manager.{Manager}
-use Rattle.backend_pass.specs.Managers.{AreAll, AreNewPasses, first_in}
-use Rattle.backend_pass.specs.Passes.{PassState}
+use Rattle.backend_pass.specs.Managers.{AreAll, AreNewPasses, IsNewPass, first_in}
+use Rattle.backend_pass.specs.Passes.{PassState, SamePass}
 use Rattle.backend_pass.specs.Closing.{EachPass, HasNoMark, PutNothing, met_by_passes}
 use Rattle.backend_pass.specs.Reading.{met_read_refused}
 use Rattle.backend_pass.proofs.Joining.{first_here, fronted_each, spent_each}
@@ -82,6 +82,44 @@ no_output_fault (read.LogDown at) e = cc
 no_output_fault (read.LogShort lsn end) e = cc
 no_output_fault (read.Unsound failed) e = cc
 
+-- What a pass was before a job: the same, or a worker
+pub record CameFrom (ps qs : List PassState) (i : ℕ) (q : PassState) : Type 0 where
+  pub before : PassState
+  pub at : get_elem? ps i ≡ some before
+  pub either : (q ≡ before) ⊎ ((get_elem? (workers_in ps) i ≡ some before) × (get_elem? (workers_in qs) i ≡ some q))
+
+module _ (n : ℕ) (ps qs : List PassState) (counted : length ps ≡ n) (several : 1 < n) (long : length (workers_in qs) ≡ length (workers_in ps)) where
+  pub given_back : length qs ≡ n
+  given_back = let a = length_front qs in let b = length_front ps in omega arith
+
+  module _ (last : last_in qs ≡ last_in ps) where
+    pub came_back : (i : ℕ) (q : PassState) → get_elem? qs i ≡ some q → CameFrom ps qs i q
+    came_back i q at = dite (dec_le (suc i) (n - 1)) worker beside
+      where
+        within : i < n
+        within = let k = inside qs i q at in let e = given_back in omega arith
+
+        worker : suc i ≤ n - 1 → CameFrom ps qs i q
+        worker below =
+            let e = given_back in let f = length_front ps in
+            let p = there (workers_in ps) i (omega arith) in
+            record {
+              before = p.0;
+              at = sym (taken (length ps - 1) i ps (omega arith)) ∙ p.1;
+              either = inr (p.1, taken (length qs - 1) i qs (omega arith) ∙ at);
+            }
+
+        beside : ¬ (suc i ≤ n - 1) → CameFrom ps qs i q
+        beside above =
+            let e = given_back in let w = within in
+            let of_ps : i ≡ length ps - 1 + 0 = omega arith in
+            let of_qs : length qs - 1 + 0 ≡ i = omega arith in
+            record {
+              before = q;
+              at = ap (λ (j : ℕ). get_elem? ps j) of_ps ∙ sym (dropped (length ps - 1) 0 ps) ∙ ap (λ (l : List PassState). get_elem? l 0) (sym last) ∙ dropped (length qs - 1) 0 qs ∙ ap (λ (j : ℕ). get_elem? qs j) of_qs ∙ at;
+              either = inl refl;
+            }
+
 module _ {L G : Type 0} (contents : L → Option Pages) (m : Manager L G) (fork : Fork) where
   free_each : (ps : List PassState) → ((i : ℕ) (p : PassState) → get_elem? ps i ≡ some p → AreFree contents m (p ∷ [])) → AreFree contents m ps
   free_each [] each = tt
@@ -105,18 +143,48 @@ module _ {L G : Type 0} (contents : L → Option Pages) (m : Manager L G) (fork 
       (λ later. let f = read_fault_met ps qs tag later in (suc f.0, f.1, f.2, f.3))
       any
 
+  -- The pass number i of n, which can be given back
+  pub record IsGiven (n i : ℕ) (q : PassState) : Type 0 where
+    pub table : q.table ≡ m.table.table.shared.table_id
+    pub spent : q.tokens ≡ no_tokens
+    pub front : IsFront (base_of m.table) q.view.calls q.view.front
+    pub number : q.view.number ≡ i
+    pub next : i ≡ 0 → q.view.next ≡ n
+    pub joined : q.view.joined ≡ 0
+
+  -- a pass as it was started
+  pub new_is_given : (n i : ℕ) (p : PassState) → IsNewPass contents m n i p → IsGiven n i p
+  new_is_given n i p h = record {
+    table = h.belongs.table;
+    spent = h.tokens;
+    front = h.belongs.front;
+    number = ap (λ (v : View). v.number) h.view;
+    next = h.next;
+    joined = ap (λ (v : View). v.joined) h.view;
+  }
+
+  -- new passes have put nothing
+  pub new_put_nothing : (n : ℕ) (ps : List PassState) → AreNewPasses contents m n ps → EachPass PutNothing ps
+  new_put_nothing n ps new i p at = ap (λ (v : View). writes_in v.calls) (new.each i p at).view ∙ none_put
+
   -- The pass number i of n, which has done nothing but reads
   record HasRead (n i : ℕ) (q : PassState) : Type 0 where
-    table : q.table ≡ m.table.table.shared.table_id
-    spent : q.tokens ≡ no_tokens
-    front : IsFront (base_of m.table) q.view.calls q.view.front
-    number : q.view.number ≡ i
-    next : i ≡ 0 → q.view.next ≡ n
-    joined : q.view.joined ≡ 0
+    given : IsGiven n i q
     mark : q.view.dirtied_or_synced ≡ false
     puts : writes_in q.view.calls ≡ 0
 
-  all_of : (n : ℕ) (qs : List PassState) → 0 < n → length qs ≡ n → ((i : ℕ) (q : PassState) → get_elem? qs i ≡ some q → HasRead n i q) → AreAll m qs
+  -- and after it worked
+  pub worked_given : (n i : ℕ) (p q : PassState) → IsGiven n i p → SamePass p q → IsFront (base_of m.table) q.view.calls q.view.front → q.tokens ≡ no_tokens → IsGiven n i q
+  worked_given n i p q h same front spent = record {
+    table = same.keeps.table ∙ h.table;
+    spent = spent;
+    front = front;
+    number = same.keeps.number ∙ h.number;
+    next = λ first. same.keeps.next ∙ h.next first;
+    joined = same.keeps.joined ∙ h.joined;
+  }
+
+  pub all_of : (n : ℕ) (qs : List PassState) → 0 < n → length qs ≡ n → ((i : ℕ) (q : PassState) → get_elem? qs i ≡ some q → IsGiven n i q) → AreAll m qs
   all_of n [] more counted each = absurd (omega arith)
   all_of n (q ∷ qs) more counted each =
       let h = each 0 q refl in
@@ -131,64 +199,21 @@ module _ {L G : Type 0} (contents : L → Option Pages) (m : Manager L G) (fork 
 
   module _ (n : ℕ) (ps qs : List PassState) (new : AreNewPasses contents m n ps) (several : 1 < n) (parts : ReadParts contents m 0 fork (workers_in ps) (workers_in qs)) (last : last_in qs ≡ last_in ps) where
     as_many : length qs ≡ n
-    as_many = let a = length_front qs in let b = length_front ps in let e = parts.counted in let k = new.counted in omega arith
+    as_many = given_back n ps qs new.counted several parts.counted
 
-    -- What a pass was: the same, or a worker
-    record CameFrom (i : ℕ) (q : PassState) : Type 0 where
-      before : PassState
-      at : get_elem? ps i ≡ some before
-      either : (q ≡ before) ⊎ ((get_elem? (workers_in ps) i ≡ some before) × (get_elem? (workers_in qs) i ≡ some q))
-
-    came_from : (i : ℕ) (q : PassState) → get_elem? qs i ≡ some q → CameFrom i q
-    came_from i q at = dite (dec_le (suc i) (n - 1)) worker beside
-      where
-        counted : length ps ≡ n
-        counted = new.counted
-
-        within : i < n
-        within = let k = inside qs i q at in let e = as_many in omega arith
-
-        worker : suc i ≤ n - 1 → CameFrom i q
-        worker below =
-            let e = as_many in let k = counted in let f = length_front ps in
-            let p = there (workers_in ps) i (omega arith) in
-            record {
-              before = p.0;
-              at = sym (taken (length ps - 1) i ps (omega arith)) ∙ p.1;
-              either = inr (p.1, taken (length qs - 1) i qs (omega arith) ∙ at);
-            }
-
-        beside : ¬ (suc i ≤ n - 1) → CameFrom i q
-        beside above =
-            let e = as_many in let k = counted in let w = within in
-            let of_ps : i ≡ length ps - 1 + 0 = omega arith in
-            let of_qs : length qs - 1 + 0 ≡ i = omega arith in
-            record {
-              before = q;
-              at = ap (λ (j : ℕ). get_elem? ps j) of_ps ∙ sym (dropped (length ps - 1) 0 ps) ∙ ap (λ (l : List PassState). get_elem? l 0) (sym last) ∙ dropped (length qs - 1) 0 qs ∙ ap (λ (j : ℕ). get_elem? qs j) of_qs ∙ at;
-              either = inl refl;
-            }
+    came_from : (i : ℕ) (q : PassState) → get_elem? qs i ≡ some q → CameFrom ps qs i q
+    came_from = came_back n ps qs new.counted several parts.counted last
 
     fresh : (i : ℕ) (p : PassState) → get_elem? ps i ≡ some p → HasRead n i p
     fresh i p at = let h = new.each i p at in record {
-      table = h.belongs.table;
-      spent = h.tokens;
-      front = h.belongs.front;
-      number = ap (λ (v : View). v.number) h.view;
-      next = h.next;
-      joined = ap (λ (v : View). v.joined) h.view;
+      given = new_is_given n i p h;
       mark = ap (λ (v : View). v.dirtied_or_synced) h.view;
-      puts = ap (λ (v : View). writes_in v.calls) h.view ∙ none_put;
+      puts = new_put_nothing n ps new i p at;
     }
 
     worked : (i from to : ℕ) (p q : PassState) → HasRead n i p → ReadsPart contents m 0 fork from to p q → HasRead n i q
     worked i from to p q h r = record {
-      table = r.stays.same.keeps.table ∙ h.table;
-      spent = r.spent;
-      front = r.stays.belongs.front;
-      number = r.stays.same.keeps.number ∙ h.number;
-      next = λ first. r.stays.same.keeps.next ∙ h.next first;
-      joined = r.stays.same.keeps.joined ∙ h.joined;
+      given = worked_given n i p q h.given r.stays.same r.stays.belongs.front r.spent;
       mark = r.stays.mark ∙ h.mark;
       puts = let both = writes_both p.view.calls (calls_of_reads p.view.number 0 fork from r.reads) in
           let none = reads_put_nothing p.view.number fork from r.reads in
@@ -203,7 +228,7 @@ module _ {L G : Type 0} (contents : L → Option Pages) (m : Manager L G) (fork 
         c.either
 
     pub all_given : AreAll m qs
-    all_given = all_of n qs (omega arith) as_many each
+    all_given = all_of n qs (omega arith) as_many (λ i q at. (each i q at).given)
 
     pub none_marked : EachPass HasNoMark qs
     none_marked i q at = (each i q at).mark

@@ -58,11 +58,11 @@ lines-append lines block (r ∷ rs) ss =
     ∙ sym (append_assoc (read_lines lines block r) (reads_lines lines (block + 1) rs) (reads_lines lines (block + 1 + length rs) ss))
     ∙ ap (λ (n : ℕ). (read_lines lines block r ++ reads_lines lines (block + 1) rs) ++ reads_lines lines n ss) (shift block (length rs))
 
-on_ok : {A E P Q : Type 0} (r : Result A E) → (P → Q) → OnOk r P → OnOk r Q
+pub on_ok : {A E P Q : Type 0} (r : Result A E) → (P → Q) → OnOk r P → OnOk r Q
 on_ok (Ok a) f p = f p
 on_ok (Err e) f p = tt
 
-on_err : {A E : Type 0} (P Q : E → Type 0) (r : Result A E) → ((e : E) → P e → Q e) → IfErr r P → IfErr r Q
+pub on_err : {A E : Type 0} (P Q : E → Type 0) (r : Result A E) → ((e : E) → P e → Q e) → IfErr r P → IfErr r Q
 on_err P Q (Ok a) f p = tt
 on_err P Q (Err e) f p = f e p
 

@@ -22,6 +22,7 @@ use Rattle.backend_pass.specs.contracts.manager.Manager as manager
 use Rattle.backend_pass.specs.contracts.pass.Pass as pass
 use Rattle.page_jobs.specs.contracts.working.Worker as worker
 use Rattle.page_jobs.specs.contracts.working.Job as job
+use Rattle.page_jobs.specs.contracts.rewriting.ForkBlocks as blocks
 use Rattle.std.specs.contracts.alloc.Global as global
 
 shared_sync : (S V K P : RattleType) (g : rule.Ghosts P.Denot S.Denot V.Denot K.Denot) → IsSend S → IsSync (shared.the_row S V K P g)
@@ -51,6 +52,9 @@ globals_shared = search (sendable, crosses, over.crosses) depth 20
 
 pub jobs_shared : IsSync job.the_row
 jobs_shared = search (sendable, crosses, over.crosses) depth 20
+
+pub blocks_shared : IsSync blocks.the_row
+blocks_shared = search (sendable, crosses, over.crosses) depth 20
 
 -- what captures five values may be shared where they may
 pub captures_shared : (ν : Sym) (A B C D E : RattleType) → IsSync A → IsSync B → IsSync C → IsSync D → IsSync E → IsSync (TupleAt ν (A ∷ B ∷ C ∷ D ∷ E ∷ []))

@@ -84,6 +84,7 @@ module _ {L G : Type 0} (contents : L → Option Pages) (m : Manager L G) (rel :
     within = let le = start_within blocks workers (number + 1) (omega arith) in let b = d.to in omega arith;
     text = d.text;
     totals = d.totals;
+    rewritten = d.rewritten;
   }
 
   pub all_ready : (blocks workers number : ℕ) (ps : List PassState) (ws : List Worker) → blocks ≡ blocks_in m rel fork → 0 < workers → number + length ps ≡ workers → AreDealt blocks workers number ps ws → AreFree contents m ps

@@ -13,3 +13,16 @@ pub mod Backends
 pub mod Counted
 pub mod Starting
 pub mod Surveys
+mod BlockRewrites
+mod RewriteSums
+mod RewriteTotals
+mod PartRewrites
+mod RewriteWorkers
+mod RewriteCounts
+mod RewriteClosed
+mod RewriteLanes
+mod RewriteRanges
+mod RewriteOrder
+mod RewriteCourse
+mod RewriteDevices
+pub mod RewriteBackends

@@ -94,7 +94,7 @@ pub put_failed : {E F : Type 0} (ws : List Worker) (i : ℕ) (w : Worker) (old m
 put_failed ws i w old mid new r f at h puts =
     stopped_after (job_text [] ws) h.part w.printed.text.items (text_if_done w.end (job_text [] (drop (i + 1) ws))) old mid new r f (h.whole ∙ ap (λ (l : List ℕ). h.part ++ l) (next_text ws i w at)) h.out puts
 
-drop_all : {A : Type 0} (l : List A) (i : ℕ) → length l ≤ i → drop i l ≡ []
+pub drop_all : {A : Type 0} (l : List A) (i : ℕ) → length l ≤ i → drop i l ≡ []
 drop_all [] zero le = refl
 drop_all [] (suc i) le = refl
 drop_all (x ∷ l) zero le = absurd (omega arith)

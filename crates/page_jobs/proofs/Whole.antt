@@ -259,7 +259,7 @@ module _ {L G : Type 0} (contents : L → Option Pages) (m : Manager L G) (rel :
       let e = ap (part_start n (length ps)) (let z : 0 + length ps ≡ length ps = omega arith in z) in
       omega (arith, few, last, e, fits)
 
-  free_at : (ps : List PassState) (w : ℕ) (p : PassState) → AreFree contents m ps → get_elem? ps w ≡ some p → IsFree contents m p
+  pub free_at : (ps : List PassState) (w : ℕ) (p : PassState) → AreFree contents m ps → get_elem? ps w ≡ some p → IsFree contents m p
   free_at [] w p free at = absurd (some-ne-none p (sym at))
   free_at (x ∷ ps) zero p free at = subst (IsFree contents m) (some-injective x p at) free.0
   free_at (x ∷ ps) (suc w) p free at = free_at ps w p free.1 at

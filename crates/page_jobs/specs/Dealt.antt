@@ -2,6 +2,7 @@
 use Rattle.std.specs.Prelude.{◌≡◌, ◌⊎◌, ℕ, ◌+◌, ◌<◌, ◌≤◌, List, [], ◌∷◌, ◌++◌, Option, Result, Ok, Err, length, slice_index_or}
 use Rattle.block_tag.specs.declared.tag.Fork.{Fork}
 use Rattle.page_layout.specs.declared.scan.ScanTotals.{ScanTotals}
+use Rattle.page_layout.specs.Outcomes.{no_rewrite_totals}
 use Rattle.page_layout.specs.Scan.{IsWithin, no_totals, sum_of_totals}
 use Rattle.segment_store.specs.Contents.{Pages}
 use Rattle.backend_pass.specs.declared.manager.Manager.{Manager}
@@ -12,7 +13,7 @@ use Rattle.page_jobs.specs.declared.working.Worker.{Worker}
 use Rattle.page_jobs.specs.Parts.{DoesPart, blocks_in, part_start}
 use Rattle.page_jobs.specs.Reads.{IsFree}
 
--- The worker has this pass, its part of the blocks, and nothing printed
+-- The worker has this pass, its part of the blocks, and nothing printed or rewritten
 pub record IsDealt (blocks workers number : ℕ) (p : PassState) (w : Worker) : Type 0 where
   pub number_is : w.number ≡ number
   pub pass : w.pass ≡ p
@@ -20,6 +21,7 @@ pub record IsDealt (blocks workers number : ℕ) (p : PassState) (w : Worker) : 
   pub to : w.to ≡ part_start blocks workers (number + 1)
   pub text : w.printed.text.items ≡ []
   pub totals : w.printed.totals ≡ no_totals
+  pub rewritten : w.rewritten ≡ no_rewrite_totals
 
 -- each pass has its worker, from this number on
 abbrev pub AreDealt : ℕ → ℕ → ℕ → List PassState → List Worker → Type 0
@@ -59,13 +61,14 @@ AnyEnds e [] = ⊥
 AnyEnds e (w ∷ ws) = (w.end ≡ Err e) ⊎ AnyEnds e ws
 
 module _ {L G : Type 0} (contents : L → Option Pages) (m : Manager L G) (rel : ℕ) (fork : Fork) where
-  -- A worker can begin: its pass has no token, its part is one of the fork's blocks, and nothing is printed
+  -- A worker can begin: its pass has no token, its part is one of the fork's blocks, and nothing is printed or rewritten
   pub record IsReady (w : Worker) : Type 0 where
     pub free : IsFree contents m w.pass
     pub ordered : w.from ≤ w.to
     pub within : w.to ≤ blocks_in m rel fork
     pub text : w.printed.text.items ≡ []
     pub totals : w.printed.totals ≡ no_totals
+    pub rewritten : w.rewritten ≡ no_rewrite_totals
 
   -- and has done its part
   abbrev pub HasWorked : Lines → Worker → Worker → Type 0

@@ -1,5 +1,6 @@
 -- The totals of a job, and its end.
 use Rattle.std.specs.Prelude.{Result, Ok, Err}
+use Rattle.page_layout.specs.declared.outcomes.RewriteTotals.{RewriteTotals}
 use Rattle.page_layout.specs.declared.scan.ScanTotals.{ScanTotals}
 use Rattle.page_jobs.specs.declared.ending.Totals.{Totals}
 
@@ -17,6 +18,22 @@ totals_of_scan t = record {
   changed = 0;
   same = 0;
   skipped = 0;
+}
+
+-- those of a rewrite, which counts no line pointers but the dead ones of the pages that it changed
+abbrev pub totals_of_rewrite : RewriteTotals → Totals
+totals_of_rewrite t = record {
+  blocks = t.blocks;
+  used = 0;
+  new = t.new;
+  invalid = t.invalid;
+  normal = 0;
+  redirect = 0;
+  dead = t.dead;
+  unused = 0;
+  changed = t.changed;
+  same = t.same;
+  skipped = t.skipped;
 }
 
 -- whether it ended well

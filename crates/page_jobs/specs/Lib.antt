@@ -6,3 +6,9 @@ pub mod Dealt
 pub mod Jobs
 pub mod Relations
 pub mod Survey
+pub mod Rewrites
+pub mod Rewriting
+pub mod RewriteEnds
+pub mod Rewriters
+pub mod RewriteJobs
+pub mod RewriteCloses

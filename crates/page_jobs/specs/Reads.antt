@@ -1,5 +1,5 @@
 -- How a worker reads a block.
-use Rattle.std.specs.Prelude.{◌≡◌, ℕ, ◌+◌, ◌<◌, ◌≤◌, Bool, true, false, List, [], ◌∷◌, Option, Some, None}
+use Rattle.std.specs.Prelude.{◌≡◌, ℕ, ◌+◌, ◌≤◌, Bool, true, false, List, [], ◌∷◌, Option, Some, None}
 use Rattle.block_tag.specs.declared.tag.Fork.{Fork}
 use Rattle.block_tag.specs.declared.tag.Tag.{Tag}
 use Rattle.block_tag.specs.Names.{packed_tag, tag_of_parts}
@@ -8,7 +8,6 @@ use Rattle.segment_store.specs.Contents.{Pages}
 use Rattle.pin_core.specs.declared.view.Call.{Call}
 use Rattle.pin_core.specs.declared.view.Call.TheVariants.{Read}
 use Rattle.pin_core.specs.declared.view.Content.TheVariants.{Unlocked}
-use Rattle.pin_core.specs.declared.view.Met.{Met}
 use Rattle.pin_core.specs.State.{Page}
 use Rattle.frame_table.specs.Opened.{WasAtOpening}
 use Rattle.frame_table.specs.Seats.{OnlyRises, base_of}
@@ -24,7 +23,7 @@ use Rattle.buffer_frames.specs.PageReads.{ReadsPage}
 use Rattle.backend_pass.specs.Passes.{KeepsCalls, KeepsLocks, KeepsMark, PassState, SamePass}
 use Rattle.backend_pass.specs.Reading.{ReadingRefused, met_read_refused}
 use Rattle.page_jobs.specs.declared.ending.JobError.{JobError}
-use Rattle.page_jobs.specs.declared.ending.JobError.TheVariants.{ReadFault, WriteFault, LogFault, LogDown, LogShort, OutFault, Memory}
+use Rattle.page_jobs.specs.declared.ending.JobError.TheVariants.{ReadFault, WriteFault, LogFault, LogDown, LogShort}
 use Rattle.page_jobs.specs.declared.reading.BlockPage.{BlockPage}
 use Rattle.page_jobs.specs.declared.reading.BlockPage.TheVariants.{Sound, Unsound}
 use Rattle.page_jobs.specs.Printed.{BlockRead, copied, unsound}
@@ -52,16 +51,6 @@ fault_of_refusal read.LogFault = Some LogFault
 fault_of_refusal (read.LogDown at) = Some (LogDown at)
 fault_of_refusal (read.LogShort lsn end) = Some (LogShort lsn end)
 fault_of_refusal (read.Unsound tag) = None
-
--- the count of faults that rose, where an error is a fault that the pass met
-abbrev pub MetFault : JobError → Met → Met → Type 0
-MetFault (ReadFault tag) m n = m.reads < n.reads
-MetFault (WriteFault tag) m n = m.writes < n.writes
-MetFault LogFault m n = m.logs < n.logs
-MetFault (LogDown at) m n = Unit {0}
-MetFault (LogShort lsn end) m n = Unit {0}
-MetFault OutFault m n = ⊥
-MetFault Memory m n = ⊥
 
 -- the calls of a backend that reads blocks of a fork one after the other: one for each sound page
 abbrev pub calls_of_reads : ℕ → ℕ → Fork → ℕ → List BlockRead → List Call

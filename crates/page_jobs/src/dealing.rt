@@ -7,6 +7,7 @@ ghost use Rattle.page_jobs.specs.Parts.{part_start};
 use crate::printing::Printed;
 use crate::working::Worker;
 use backend_pass::Pass;
+use page_layout::RewriteTotals;
 use std::alloc::{AllocError, Global};
 
 /// Where the part of a worker begins, of so many; that of the number past the last one is where the last part ends.
@@ -39,6 +40,7 @@ pub(crate) fn deal(
             from: part_start(blocks, count, number),
             to: part_start(blocks, count, number + 1),
             printed: Printed::none(alloc),
+            rewritten: RewriteTotals::none(),
             end: Ok(()),
         });
     }
@@ -60,6 +62,7 @@ pub(crate) fn gather(mut workers: Vec<Worker>, passes: &mut Vec<Pass>)
             from: _,
             to: _,
             printed: _,
+            rewritten: _,
             end: _,
         } = worker;
         passes.push_reserved(pass);

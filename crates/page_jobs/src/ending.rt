@@ -1,10 +1,10 @@
 //! How a job ends.
 ghost use Rattle.std.specs.Prelude.{◌≡◌};
-ghost use Rattle.page_jobs.specs.Ending.{totals_of_scan};
+ghost use Rattle.page_jobs.specs.Ending.{totals_of_rewrite, totals_of_scan};
 
 use backend_pass::Pass;
 use block_tag::Tag;
-use page_layout::{Lsn, ScanTotals};
+use page_layout::{Lsn, RewriteTotals, ScanTotals};
 use std::alloc::AllocError;
 use thiserror::Error;
 
@@ -26,6 +26,9 @@ pub enum JobError {
     /// A page that was to be written is of a position past the log's end.
     #[error("the log ends at {end}, before {lsn}")]
     LogShort { lsn: Lsn, end: Lsn },
+    /// A record at the log's end, given here, would pass the last position.
+    #[error("the log is full at {end}")]
+    LogFull { end: Lsn },
     #[error("the output failed")]
     OutFault,
     #[error("out of memory")]
@@ -43,7 +46,7 @@ impl From<AllocError> for JobError {
     }
 }
 
-/// What a job counts of the blocks: of a scan and a dump how many there are of each kind, and how many line pointers of each state the used ones have. What a job doesn't count is 0.
+/// What a job counts of the blocks: of a scan and a dump how many there are of each kind, and how many line pointers of each state the used ones have; of a rewrite what became of them, and how many dead line pointers the changed ones had. What a job doesn't count is 0.
 #[derive(Clone, Copy, PartialEq, Eq, Debug)]
 pub struct Totals {
     pub blocks: u64,
@@ -86,6 +89,34 @@ impl Totals {
             changed: 0,
             same: 0,
             skipped: 0,
+        }
+    }
+
+    /// The totals of a rewrite.
+    pub(crate) fn of_rewrite(rewrite: RewriteTotals) -> Totals
+        ensures { result ≡ totals_of_rewrite rewrite }
+    {
+        let RewriteTotals {
+            blocks,
+            changed,
+            same,
+            skipped,
+            new,
+            invalid,
+            dead,
+        } = rewrite;
+        Totals {
+            blocks,
+            used: 0,
+            new,
+            invalid,
+            normal: 0,
+            redirect: 0,
+            dead,
+            unused: 0,
+            changed,
+            same,
+            skipped,
         }
     }
 }

@@ -1,20 +1,27 @@
-//! Jobs over all blocks of a relation, by several backends of a manager: scans and dumps. Each backend works in a thread of its own, on a part of the blocks.
+//! Jobs over all blocks of a relation, by several backends of a manager: scans, dumps and rewrites. Each backend works in a thread of its own, on a part of the blocks.
 #![tactic(auto)]
 
 mod dealing;
 mod ending;
 mod gate;
+mod laws;
 mod printing;
 mod puts;
 mod reading;
+mod rewrites;
+mod rewriting;
 mod scans;
 mod surveying;
 mod working;
 
 pub use ending::{JobEnd, JobError, Totals};
 pub use gate::Gate;
+pub use laws::{rewrite_closes, rewrite_ends};
+pub use rewrites::rewrite;
 pub use scans::{dump, scan};
 pub use surveying::{ReadFault, survey};
 
+#[cfg(test)]
+mod rewrite_tests;
 #[cfg(test)]
 mod tests;

@@ -26,7 +26,7 @@ fn is_crowding(why: &ReadError) -> bool
 }
 
 /// Pins a block. Where each frame is pinned it tries again.
-fn pin_block<L: BlockLane, G: LogDevice, R: Wait>(
+pub(crate) fn pin_block<L: BlockLane, G: LogDevice, R: Wait>(
     manager: &Manager<L, G>,
     rt: &R,
     pass: &mut Pass,
@@ -76,7 +76,7 @@ fn copy_block<L: BlockLane, G: LogDevice, R: Wait, T: Gate>(
 }
 
 /// What ends the job where a read was refused for this reason; nothing where the page isn't sound.
-fn fault_of(why: ReadError) -> Option<JobError>
+pub(crate) fn fault_of(why: ReadError) -> Option<JobError>
     requires { is_tried_once why ≡ true }
     ensures { result ≡ fault_of_refusal why }
 {

@@ -18,13 +18,13 @@ const BLOCKS: u32 = 64;
 
 /// Counts what it hears of.
 #[derive(Drop)]
-struct Counts {
-    before: AtomicU64,
-    seen: AtomicU64,
+pub(crate) struct Counts {
+    pub(crate) before: AtomicU64,
+    pub(crate) seen: AtomicU64,
 }
 
 impl Counts {
-    fn new() -> Counts {
+    pub(crate) fn new() -> Counts {
         Counts {
             before: AtomicU64::new(0),
             seen: AtomicU64::new(0),

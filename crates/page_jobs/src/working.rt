@@ -14,7 +14,7 @@ use access_rings::{Memory, Ring, RingKind};
 use backend_pass::{Manager, Pass};
 use block_tag::{Fork, RelNo, Tag};
 use log_device::LogDevice;
-use page_layout::Page;
+use page_layout::{Page, RewriteTotals};
 use segment_store::BlockLane;
 use std::alloc::Global;
 use std::sync::Wait;
@@ -27,13 +27,14 @@ pub(crate) struct Job {
     pub(crate) lines: Lines,
 }
 
-/// A backend that works on a part of the blocks, from `from` up to, not including, `to`.
+/// A backend that works on a part of the blocks, from `from` up to, not including, `to`: it prints them, or rewrites them and counts what becomes of each.
 pub(crate) struct Worker {
     pub(crate) number: u32,
     pub(crate) pass: Pass,
     pub(crate) from: u32,
     pub(crate) to: u32,
     pub(crate) printed: Printed,
+    pub(crate) rewritten: RewriteTotals,
     pub(crate) end: Result<(), JobError>,
 }
 

@@ -93,6 +93,7 @@ module _ {L G : Type 0} (d : Devices L G) (m : Manager L G) (fork : Fork) (block
     fault_cause job.LogFault ends = tt
     fault_cause (job.LogDown at) ends = tt
     fault_cause (job.LogShort lsn end) ends = tt
+    fault_cause (job.LogFull end) ends = tt
     fault_cause job.OutFault ends = ⊎_elim
         (λ (short : job.OutFault ≡ job.Memory). absurd (cc))
         (λ rest. ⊎_elim

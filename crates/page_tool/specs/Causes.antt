@@ -14,6 +14,7 @@ listing_error (job.WriteFault tag) = Memory
 listing_error job.LogFault = Memory
 listing_error (job.LogDown at) = Memory
 listing_error (job.LogShort lsn end) = Memory
+listing_error (job.LogFull end) = Memory
 listing_error job.OutFault = OutFault
 listing_error job.Memory = Memory
 

@@ -55,7 +55,8 @@ impl ListingError {
             | JobError::WriteFault { .. }
             | JobError::LogFault
             | JobError::LogDown { .. }
-            | JobError::LogShort { .. } => ListingError::Memory,
+            | JobError::LogShort { .. }
+            | JobError::LogFull { .. } => ListingError::Memory,
         }
     }
 }

@@ -1,0 +1,289 @@
+-- What the devices hold that a manager gives back after a rewrite.
+use Rattle.std.proofs.Common.{◌≡◌, ℕ, zero, suc, ◌%◌, ◌<◌, ◌≤◌, ◌⊎◌, Bool, true, false, List, [], ◌∷◌, ◌++◌, length, map, Option, Some, None, refl, sym, ap, ap₂, ◌∙◌, subst, ⊎_elim, inl, inr, arith}
+use Rattle.std.specs.Prelude.{is_some, nat_lt}
+use Rattle.std.proofs.lemmas.Option.{same_Some}
+use mathlib.Core.Option.{some, some-injective, some-ne-none}
+use lib.ListN.{get_elem?}
+use Rattle.block_tag.specs.declared.tag.Fork.{Fork}
+use Rattle.block_tag.specs.declared.tag.Tag.{Tag}
+use Rattle.block_tag.specs.Names.{lane_number, packed_tag, tag_of_parts}
+use Rattle.page_layout.specs.declared.outcomes.PageRewrite.{PageRewrite}
+use Rattle.page_layout.specs.declared.outcomes.PageRewrite.TheVariants.{Invalid}
+use Rattle.page_layout.specs.Outcomes.{is_changed_outcome, page_rewrite_of, rewrite_totals_of, totals_of_outcomes}
+use Rattle.page_layout.specs.Soundness.{is_sound_page}
+use Rattle.segment_store.specs.Contents.{Pages}
+use Rattle.pin_core.specs.declared.view.Call.{Call}
+use Rattle.pin_core.specs.declared.view.View.{View}
+use Rattle.pin_core.specs.State.{Page}
+use Rattle.history_core.specs.Log.{Entry, end_of, place_of, writes_in}
+use Rattle.history_core.specs.State.{stored, failed}
+use Rattle.history_core.proofs.Calls.{at_both, total-both}
+use Rattle.table_rule.specs.declared.opening.Opening.{Opening}
+use Rattle.table_rule.specs.Layout.{lane_of_tag, tag_lane}
+use Rattle.table_rule.specs.Shows.{Devices, IsPlaced}
+use Rattle.table_rule.proofs.Tags.{packed_is}
+use Rattle.frame_table.specs.Seats.{lanes_in, opened_of, relations_of}
+use Rattle.buffer_frames.specs.Loading.{WasUnsoundAtOpening}
+use Rattle.backend_pass.specs.declared.manager.Manager.{Manager}
+use Rattle.backend_pass.specs.Closing.{ClosesAll, EachPass, calls_in_order, calls_of_passes}
+use Rattle.backend_pass.specs.Managers.{first_in, is_first, others_in}
+use Rattle.backend_pass.specs.Passes.{PassState}
+use Rattle.backend_pass.proofs.Joining.{first_here, first_past, others_here, others_past}
+use Rattle.page_jobs.specs.declared.ending.Totals.{Totals}
+use Rattle.page_jobs.specs.Ending.{totals_of_rewrite}
+use Rattle.page_jobs.specs.Jobs.{IsOrigin}
+use Rattle.page_jobs.specs.Parts.{blocks_in}
+use Rattle.page_jobs.specs.Rewrites.{Outcome, Rule, unsound, kept, refused, changed, block_of, outcome_totals, rule_of, result_of}
+use Rattle.page_jobs.specs.RewriteCloses.{ClosesEither, ClosesRewritten, HasImage, HoldEither, HoldRewritten, IsInLanes, RewritesAlone, RewritesAndStores}
+use Rattle.page_jobs.specs.RewriteEnds.{HasRewrites, IsAfter, IsFair, IsResult, OnlyReads, BackendCalls, Rewrites, RewritesAll, all_done, block_weight, times}
+use Rattle.page_jobs.specs.Rewriting.{FollowsRule}
+use Rattle.page_jobs.proofs.RewriteClosed.{changed_read, has_rewrites, kept_read}
+use Rattle.page_jobs.proofs.RewriteCounts.{Each}
+use Rattle.page_jobs.proofs.RewriteCourse.{Parted, all_parted}
+use Rattle.page_jobs.proofs.RewriteLanes.{finishes, lanes_hold_either}
+use Rattle.page_jobs.proofs.RewriteOrder.{InOrder, calls_ordered, in_order}
+use Rattle.page_jobs.proofs.RewriteRanges.{from_at, parts_below, parts_once, whole_all, whole_from}
+use Rattle.page_jobs.proofs.Standing.{inside, there}
+
+told_invalid : (page : Page) → is_sound_page page ≡ false → page_rewrite_of page ≡ Invalid
+unfolding page_rewrite_of
+told_invalid page bad = rw bad refl
+
+-- where what is told of each outcome is what is told of a page the totals are those of the pages
+same_told : (os : List Outcome) (pages : List Page) → length os ≡ length pages → ((i : ℕ) (o : Outcome) (page : Page) → get_elem? os i ≡ some o → get_elem? pages i ≡ some page → result_of o ≡ page_rewrite_of page) → map result_of os ≡ map page_rewrite_of pages
+same_told [] [] long each = refl
+same_told [] (p ∷ pages) long each = absurd (omega arith)
+same_told (o ∷ os) [] long each = absurd (omega arith)
+same_told (o ∷ os) (p ∷ pages) long each = ap₂ (λ (a : PageRewrite) (b : List PageRewrite). a ∷ b) (each zero o p refl refl) (same_told os pages (omega arith) (λ i. each (suc i)))
+
+some_of : (x : Option Pages) → is_some x ≡ true → (p : Pages) × (x ≡ Some p)
+some_of None e = absurd (let no : false ≡ true = e in cc)
+some_of (Some p) e = (p, refl)
+
+below_test : (b n : ℕ) → b < n → nat_lt b n ≡ true
+below_test b n low = grind (arith, low)
+
+lane_below : (h n : ℕ) → 0 < n → h % n < n
+lane_below h n more = omega (arith, more)
+
+-- the blocks of a fork have numbers of their own
+numbers_apart : (rel : ℕ) (fork : Fork) (a b : ℕ) → packed_tag (tag_of_parts rel fork a) ≡ packed_tag (tag_of_parts rel fork b) → a ≡ b
+numbers_apart rel fork a b e = omega (arith, e)
+
+-- what holds of the calls of each pass holds of all
+module _ (P : Call → Type 0) where
+  both : (l m : List Call) → Each P l → Each P m → Each P (l ++ m)
+  both l m first second k c at = ⊎_elim (λ (t : get_elem? l k ≡ some c). first k c t) (λ (t : (j : ℕ) × (get_elem? m j ≡ some c)). second t.0 c t.1) (at_both l m k c at)
+
+  each_pass : (zs : List PassState) → EachPass (λ z. Each P z.view.calls) zs → Each P (calls_of_passes zs)
+  each_pass [] each = λ k c at. absurd (some-ne-none c (sym at))
+  each_pass (z ∷ zs) each = both z.view.calls (calls_of_passes zs) (each zero z refl) (each_pass zs (λ i. each (suc i)))
+
+  first_by : (b : Bool) (z : PassState) (zs : List PassState) → is_first z ≡ b → Each P z.view.calls → Each P (first_in zs).calls → Each P (first_in (z ∷ zs)).calls
+  first_by true z zs is here rest = subst (λ (v : View). Each P v.calls) (sym (first_here z zs is)) here
+  first_by false z zs is here rest = subst (λ (v : View). Each P v.calls) (sym (first_past z zs is)) rest
+
+  in_first : (zs : List PassState) → EachPass (λ z. Each P z.view.calls) zs → Each P (first_in zs).calls
+  in_first [] each = λ k c at. absurd (some-ne-none c (sym at))
+  in_first (z ∷ zs) each = first_by (is_first z) z zs refl (each zero z refl) (in_first zs (λ i. each (suc i)))
+
+  others_by : (b : Bool) (z : PassState) (zs : List PassState) → is_first z ≡ b → Each P z.view.calls → Each P (calls_of_passes zs) → Each P (calls_of_passes (others_in zs)) → Each P (calls_of_passes (others_in (z ∷ zs)))
+  others_by true z zs is here all rest = subst (λ (l : List PassState). Each P (calls_of_passes l)) (sym (others_here z zs is)) all
+  others_by false z zs is here all rest = subst (λ (l : List PassState). Each P (calls_of_passes l)) (sym (others_past z zs is)) (both z.view.calls (calls_of_passes (others_in zs)) here rest)
+
+  in_others : (zs : List PassState) → EachPass (λ z. Each P z.view.calls) zs → Each P (calls_of_passes (others_in zs))
+  in_others [] each = λ k c at. absurd (some-ne-none c (sym at))
+  in_others (z ∷ zs) each = others_by (is_first z) z zs refl (each zero z refl) (each_pass zs (λ i. each (suc i))) (in_others zs (λ i. each (suc i)))
+
+  each_in_order : (zs : List PassState) → EachPass (λ z. Each P z.view.calls) zs → Each P (calls_in_order zs)
+  each_in_order zs each = both (first_in zs).calls (calls_of_passes (others_in zs)) (in_first zs each) (in_others zs each)
+
+module _ {L G : Type 0} (d : Devices L G) (o : Opening L G) (zs : List PassState) (lanes : List L) (log : G) (c : ClosesAll d o zs lanes log) where
+  -- a lane that was given back has what the state says of a block
+  module _ (word : ℕ) (tag : Tag) (before after : Pages) (closed : L) (x : IsInLanes d o lanes word tag before after closed) where
+    lane_is : c.state.lane_of word ≡ x.lane
+    lane_is = ap (λ (f : ℕ → ℕ). f word) c.opened.lane_of ∙ ap (lane_of_tag o.config.lanes) x.placed.named ∙ x.placed.placed
+
+    placed_is : IsPlaced o.catalog.value c.state.lanes x.lane word tag
+    placed_is = subst (λ (k : ℕ). IsPlaced o.catalog.value k x.lane word tag) (sym c.opened.lanes) x.placed
+
+    has_page : after tag ≡ Some (stored c.state word)
+    has_page = (c.lane x.lane closed x.is).pages after word tag x.holds placed_is ∙ ap (λ (k : ℕ). Some ((c.state.lane k).stored word)) (sym lane_is)
+
+    has_failed : failed c.state word ≡ d.failed_writes closed tag
+    has_failed = ap (λ (k : ℕ). (c.state.lane k).failed word) lane_is ∙ (c.lane x.lane closed x.is).failed after word tag x.holds placed_is
+
+    is_known : c.state.known word ≡ true
+    is_known = c.opened.known x.lane x.opened word x.was (ap (lane_of_tag o.config.lanes) x.placed.named ∙ x.placed.placed) ∙ ap (λ (y : Option Pages). is_some y) x.held
+
+    was_page : (page : Page) → before tag ≡ Some page → page ≡ c.state.origin word
+    was_page page is = same_Some page (c.state.origin word) (sym is ∙ c.opened.origin x.lane x.opened before word tag x.was x.held x.placed)
+
+  hold_either : (r : Rule) (n : ℕ) → HasRewrites r n c.state.known c.state.origin c.state.log → HoldEither d o lanes r c.state
+  hold_either r n has word tag before after closed page x was unfailed = either (lanes_hold_either c.state c.laws word (is_known word tag before after closed x) (has_failed word tag before after closed x ∙ unfailed))
+    where
+      origin : page ≡ c.state.origin word
+      origin = was_page word tag before after closed x page was
+
+      now : after tag ≡ Some (stored c.state word)
+      now = has_page word tag before after closed x
+
+      image : (k : ℕ) (e : Entry) → get_elem? c.state.log.entries k ≡ some e → e.tag ≡ word → e.image ≡ r.rewritten page (end_of e)
+      image k e at tagged = (has.each k e at).image (ap c.state.known tagged ∙ is_known word tag before after closed x) ∙ ap (λ (p : Page). r.rewritten p (end_of e)) (ap c.state.origin tagged ∙ sym origin)
+
+      either : IsAfter c.state word → (after tag ≡ Some page) ⊎ HasImage r c.state word page (after tag)
+      either (inl (k, e, at, tagged, durable, is)) = inr record { made = record { index = k; entry = e; there = at; tagged = tagged }; image = image k e at tagged; durable = durable; held = now ∙ ap (λ (p : Page). Some p) is }
+      either (inr is) = inl (now ∙ ap (λ (p : Page). Some p) (is ∙ sym origin))
+
+  hold_rewritten : (r : Rule) (n : ℕ) → IsResult r n c.state → HoldRewritten d o lanes r n c.state.log
+  hold_rewritten r n result = record {
+    changed = λ b tag before after closed page low x was changes.
+        let same = was_page (r.tag b) tag before after closed x page was in
+        let y = result.changed b low (ap r.changes (sym same) ∙ changes) in (
+          y.0,
+          y.1 ∙ ap (λ (p : Page). r.rewritten p (end_of y.0.entry)) (sym same),
+          λ unfailed. has_page (r.tag b) tag before after closed x ∙ ap (λ (p : Page). Some p) (y.2 (has_failed (r.tag b) tag before after closed x ∙ unfailed)),
+        );
+    same = λ b tag before after closed page low x was changes. (result.same b low (ap r.changes (sym (was_page (r.tag b) tag before after closed x page was)) ∙ changes)).0;
+    others = λ word tag before after closed page x was none unfailed. ⊎_elim
+        (λ (t : (after tag ≡ Some page)). t)
+        (λ (t : HasImage r c.state word page (after tag)). absurd (none t.made))
+        (hold_either r n result.rewritten.rewrites word tag before after closed page x was unfailed);
+  }
+
+module _ {L G : Type 0} (d : Devices L G) (m : Manager L G) (rel : ℕ) (fork : Fork) (ps qs zs : List PassState) (lanes : List L) (log : G) (c : ClosesAll d m.table.table.shared.key zs lanes log) (x : RewritesAlone d.contents m rel fork ps qs zs) where
+  abbrev rule : Rule
+  rule = rule_of rel fork
+
+  -- the lane of a block, as the manager was opened
+  opened_at : (word : ℕ) → (tag : Tag) → (l : L) × (get_elem? (opened_of m.table) (lane_number tag (lanes_in m.table)) ≡ some l)
+  opened_at word tag = let wide = x.lanes in let low : lane_number tag (lanes_in m.table) < lanes_in m.table = lane_below _ (lanes_in m.table) x.some_lanes in there (opened_of m.table) (lane_number tag (lanes_in m.table)) (omega arith)
+
+  lane_of : (b : ℕ) → b < blocks_in m rel fork → tag_lane (lanes_in m.table) (rule.tag b) ≡ lane_number (tag_of_parts rel fork b) (lanes_in m.table)
+  lane_of b low = ap (lane_of_tag (lanes_in m.table)) (packed_is (tag_of_parts rel fork b) (x.parts.named b low))
+
+  -- a block that wasn't sound at the opening has no page that the rule changes
+  unsound_told : (b : ℕ) → b < blocks_in m rel fork → WasUnsoundAtOpening d.contents m.table (tag_of_parts rel fork b) → c.state.known (rule.tag b) ≡ true → page_rewrite_of (c.state.origin (rule.tag b)) ≡ Invalid
+  unsound_told b low u known =
+      let tag = tag_of_parts rel fork b in
+      let word = rule.tag b in
+      let q = lane_number tag (lanes_in m.table) in
+      let l = opened_at word tag in
+      let pages = some_of (d.contents l.0) (sym (c.opened.known q l.0 word l.1 (lane_of b low)) ∙ known) in
+      let named = x.parts.named b low in
+      let listed : nat_lt b (blocks_in m rel fork) ≡ true = below_test b (blocks_in m rel fork) low in
+      let is : pages.0 tag ≡ Some u.page = u.was q l.0 pages.0 record { named = named; listed = listed; placed = refl } l.1 pages.1 in
+      let placed : IsPlaced (relations_of m.table) (lanes_in m.table) q word tag = record { named = packed_is tag named; listed = listed; placed = refl } in
+      let same : u.page ≡ c.state.origin word = same_Some u.page (c.state.origin word) (sym is ∙ c.opened.origin q l.0 pages.0 word tag l.1 pages.1 placed) in
+      told_invalid (c.state.origin word) (subst (λ (p : Page). is_sound_page p ≡ false) same u.unsound)
+
+  fair : (number : ℕ) (o : Outcome) → block_of o < blocks_in m rel fork → FollowsRule d.contents m rel fork number o → IsFair rule c.state.known c.state.origin o
+  fair number (unsound b) low f = λ known. ap is_changed_outcome (unsound_told b low f known)
+  fair number (kept b i p n) low f = f.2
+  fair number (refused b i p n) low f = f.2
+  fair number (changed b i p n k) low f = (f.2, f.3)
+
+  module _ (W : Type 0) (oss : List (List Outcome)) (t : Parted d.contents m rel fork W 0 zs oss) where
+    ordered : InOrder rule zs t.parts
+    ordered = in_order rule zs t.parts t.have t.reads
+
+    abbrev in_turn : List BackendCalls
+    in_turn = ordered.first ∷ ordered.others
+
+    times_in_turn : (b : ℕ) → times b (all_done in_turn) ≡ times b (all_done t.parts)
+    times_in_turn b = let a = total-both (block_weight b) ordered.first.done (all_done ordered.others) in let s = ordered.same b in omega arith
+
+    below_in_turn : (k : ℕ) (o : Outcome) → get_elem? (all_done in_turn) k ≡ some o → block_of o < blocks_in m rel fork
+    below_in_turn k o at = let y = ordered.among k o at in parts_below 0 (blocks_in m rel fork) t.parts t.fit y.0 o y.1
+
+    rewrites : Rewrites rule (blocks_in m rel fork) c.state.known c.state.origin (calls_in_order zs) in_turn
+    rewrites = record {
+      calls_are = calls_ordered rule zs t.parts ordered;
+      reads = only_reads;
+      fair = λ k o at. let y = ordered.among k o at in let f = t.follow y.0 o y.1 in fair f.0 o (below_in_turn k o at) f.1;
+      below = below_in_turn;
+      once = λ b. let e = times_in_turn b in let l = parts_once (blocks_in m rel fork) t.parts t.fit b in omega arith;
+      apart = λ a b low high same. numbers_apart rel fork a b same;
+    }
+      where
+        only_reads : OnlyReads in_turn
+        only_reads zero p at = subst (λ (q : BackendCalls). (writes_in q.before ≡ 0) × (writes_in q.after ≡ 0)) (some-injective ordered.first p at) ordered.first_reads
+        only_reads (suc k) p at = ordered.other_reads k p at
+
+    rewrites_all : W → RewritesAll rule (blocks_in m rel fork) c.state.known c.state.origin (calls_in_order zs) in_turn
+    rewrites_all w = record {
+      rewrites = rewrites;
+      all = λ b low. times_in_turn b ∙ whole_all b 0 (blocks_in m rel fork) t.parts (t.whole w) (omega arith) low;
+      ended = λ k o at. let y = ordered.among k o at in t.ended w y.0 o y.1;
+    }
+
+  any_end : HasRewrites rule (blocks_in m rel fork) c.state.known c.state.origin c.state.log
+  any_end = has_rewrites c.history (rewrites ⊥ x.parts.outcomes (all_parted d.contents m rel fork ⊥ ps qs zs x.parts.outcomes x x.parts.listed (λ w p q os at there of. (x.parts.each w p q os at there of, λ no. absurd no))))
+
+pub closes_either : {L G : Type 0} (d : Devices L G) (m : Manager L G) → ClosesEither d m
+closes_either d m rel fork ps qs zs lanes log x c = let has = any_end d m rel fork ps qs zs lanes log c x in (has, hold_either d m.table.table.shared.key zs lanes log c (rule_of rel fork) (blocks_in m rel fork) has)
+
+module _ {L G : Type 0} (d : Devices L G) (m : Manager L G) (rel : ℕ) (fork : Fork) (ps qs zs : List PassState) (totals : Totals) (upto : ℕ) (lanes : List L) (log : G) (c : ClosesAll d m.table.table.shared.key zs lanes log) (y : RewritesAndStores d.contents m rel fork ps qs zs totals upto) where
+  whole_parts_of : Parted d.contents m rel fork (Unit {0}) 0 zs y.all.outcomes
+  whole_parts_of = all_parted d.contents m rel fork (Unit {0}) ps qs zs y.all.outcomes y.alone y.all.listed (λ w p q os at there of. let z = y.all.each w p q os at there of in (z.blocks, λ yes. (z.whole, z.ended)))
+
+  all_known : (b : ℕ) → b < blocks_in m rel fork → c.state.known ((rule_of rel fork).tag b) ≡ true
+  all_known b low =
+      let tag = tag_of_parts rel fork b in
+      let q = lane_number tag (lanes_in m.table) in
+      let l = opened_at d m rel fork ps qs zs lanes log c y.alone ((rule_of rel fork).tag b) tag in
+      c.opened.known q l.0 ((rule_of rel fork).tag b) l.1 (lane_of d m rel fork ps qs zs lanes log c y.alone b low) ∙ y.known q l.0 l.1
+
+  all_reached : (k : ℕ) (e : Call) → get_elem? (calls_in_order zs) k ≡ some e → place_of e ≤ upto
+  all_reached = each_in_order (λ (e : Call). place_of e ≤ upto) zs (λ i z at k e there. let f = (c.each i z at).front in let a = f.above k e there in let b = y.fronts i z at in omega arith)
+
+  all_rewrites : RewritesAll (rule_of rel fork) (blocks_in m rel fork) c.state.known c.state.origin (calls_in_order zs) (in_turn d m rel fork ps qs zs lanes log c y.alone (Unit {0}) y.all.outcomes whole_parts_of)
+  all_rewrites = rewrites_all d m rel fork ps qs zs lanes log c y.alone (Unit {0}) y.all.outcomes whole_parts_of tt
+
+  all_result : IsResult (rule_of rel fork) (blocks_in m rel fork) c.state
+  all_result = finishes (rule_of rel fork) (blocks_in m rel fork) c.state (calls_in_order zs) (in_turn d m rel fork ps qs zs lanes log c y.alone (Unit {0}) y.all.outcomes whole_parts_of) upto record {
+    laws = c.laws;
+    history = c.history;
+    rewrites = all_rewrites;
+    known = all_known;
+    stored_all = ((c.each y.index y.checkpointer y.there).swept upto (λ q below. y.swept q (let e = c.opened.lanes in omega arith))).1;
+    reached = all_reached;
+  }
+
+  -- what is told of a block is what is told of its page at the opening
+  told_at : (j : ℕ) (o : Outcome) → get_elem? (all_done whole_parts_of.parts) j ≡ some o → result_of o ≡ page_rewrite_of (c.state.origin ((rule_of rel fork).tag (block_of o)))
+  told_at j o at = by_case o at
+    where
+      order : InOrder (rule_of rel fork) zs whole_parts_of.parts
+      order = ordered d m rel fork ps qs zs lanes log c y.alone (Unit {0}) y.all.outcomes whole_parts_of
+
+      by_case : (u : Outcome) → get_elem? (all_done whole_parts_of.parts) j ≡ some u → result_of u ≡ page_rewrite_of (c.state.origin ((rule_of rel fork).tag (block_of u)))
+      by_case (unsound b) e = let low = parts_below 0 (blocks_in m rel fork) whole_parts_of.parts whole_parts_of.fit j (unsound b) e in sym (unsound_told d m rel fork ps qs zs lanes log c y.alone b low (whole_parts_of.follow j (unsound b) e).1 (all_known b low))
+      by_case (kept b i p n) e = let k = order.onto j (kept b i p n) e in ap page_rewrite_of (kept_read c.history all_rewrites all_known k.0 b i p n k.1)
+      by_case (refused b i p n) e = absurd (let bad : false ≡ true = whole_parts_of.ended tt j (refused b i p n) e in cc)
+      by_case (changed b i p n l) e = let k = order.onto j (changed b i p n l) e in ap page_rewrite_of (changed_read c.history all_rewrites all_known k.0 b i p n l k.1)
+
+  -- the page of a block at the opening
+  origin_is : (pages : List Page) → IsOrigin d.contents m rel fork pages → (b : ℕ) (page : Page) → get_elem? pages b ≡ some page → page ≡ c.state.origin ((rule_of rel fork).tag b)
+  origin_is pages origin b page at =
+      let w = origin.each b page at in
+      let tag = tag_of_parts rel fork b in
+      let low : b < blocks_in m rel fork = let i = inside pages b page at in let e = origin.counted in omega arith in
+      let placed : IsPlaced (relations_of m.table) (lanes_in m.table) (lane_number tag (lanes_in m.table)) ((rule_of rel fork).tag b) tag = record { named = packed_is tag (y.alone.parts.named b low); listed = below_test b (blocks_in m rel fork) low; placed = refl } in
+      same_Some page (c.state.origin ((rule_of rel fork).tag b)) (sym w.is ∙ c.opened.origin (lane_number tag (lanes_in m.table)) w.lane w.pages ((rule_of rel fork).tag b) tag w.opened w.known placed)
+
+  totals_of_origin : (pages : List Page) → IsOrigin d.contents m rel fork pages → totals ≡ totals_of_rewrite (rewrite_totals_of pages)
+  totals_of_origin pages origin =
+      let os = all_done whole_parts_of.parts in
+      let all = whole_from 0 (blocks_in m rel fork) whole_parts_of.parts (whole_parts_of.whole tt) in
+      let same : map result_of os ≡ map page_rewrite_of pages = same_told os pages (let e = all.1 in let k = origin.counted in omega arith) (λ i o page at there.
+      let block : block_of o ≡ i = let e = from_at 0 os i o all.0 at in omega arith in
+      told_at i o at ∙ ap (λ (b : ℕ). page_rewrite_of (c.state.origin ((rule_of rel fork).tag b))) block ∙ ap page_rewrite_of (sym (origin_is pages origin i page there))) in
+      y.all.totals_is
+      ∙ ap (λ (us : List Outcome). totals_of_rewrite (outcome_totals us)) (sym whole_parts_of.dones)
+      ∙ ap (λ (l : List PageRewrite). totals_of_rewrite (totals_of_outcomes l)) same
+
+pub closes_rewritten : {L G : Type 0} (d : Devices L G) (m : Manager L G) → ClosesRewritten d m
+closes_rewritten d m rel fork ps qs zs totals upto lanes log y c =
+    let result = all_result d m rel fork ps qs zs totals upto lanes log c y in
+    (result.rewritten, totals_of_origin d m rel fork ps qs zs totals upto lanes log c y, hold_rewritten d m.table.table.shared.key zs lanes log c (rule_of rel fork) (blocks_in m rel fork) result)

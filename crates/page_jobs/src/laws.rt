@@ -1,0 +1,35 @@
+//! What the end of a manager tells of a rewrite. The functions do nothing: their contracts are the laws.
+ghost use Rattle.std.specs.Prelude.{ℕ, List};
+ghost use Rattle.pin_core.specs.declared.view.Call.{Call};
+ghost use Rattle.history_core.specs.History.{IsHistory};
+ghost use Rattle.history_core.specs.Laws.{Laws};
+ghost use Rattle.history_core.specs.State.{State};
+ghost use Rattle.table_rule.specs.Shows.{devices};
+ghost use Rattle.page_jobs.specs.Rewrites.{Rule};
+ghost use Rattle.page_jobs.specs.RewriteCloses.{ClosesEither, ClosesRewritten};
+ghost use Rattle.page_jobs.specs.RewriteEnds.{Finishes, HasRewrites, IsResult, LanesHoldEither, BackendCalls, Rewrites};
+
+use backend_pass::Manager;
+use log_device::LogDevice;
+use segment_store::BlockLane;
+
+/// What the state that the devices are given back in holds of a rewrite whose calls are in its history, by any rule.
+pub fn rewrite_ends()
+    // With any end a block has at most one entry, the image of its page at the start, and its lane holds one of the two pages, or its last write failed.
+    ensures any { (r : Rule) (n : ℕ) (s : State) (calls : List Call) (ps : List BackendCalls)
+        → Laws s → IsHistory s.known s.origin s.log calls → Rewrites r n s.known s.origin calls ps
+        → HasRewrites r n s.known s.origin s.log × LanesHoldEither s }
+
+    // After one of all blocks, and a checkpoint after it, the log has exactly the entries of the changed blocks, and the lanes hold the rewritten relation.
+    ensures all { (r : Rule) (n : ℕ) (s : State) (calls : List Call) (ps : List BackendCalls) (upto : ℕ)
+        → Finishes r n s calls ps upto → IsResult r n s }
+{}
+
+/// What the devices hold that `Manager::close` gives back after `rewrite`, where no other page was put.
+pub fn rewrite_closes<L: BlockLane, G: LogDevice>(_manager: &Manager<L, G>)
+    // With any end a block has at most one entry, and its lane holds its page from before or the rewritten one, or its last write failed.
+    ensures any { ClosesEither (devices L.contents L.failed_writes L.unsynced L.read_faults L.write_faults L.calls G.bytes G.synced G.faults G.calls) _manager.now }
+
+    // After a whole rewrite, and a later checkpoint that is the last of its pass, the log has exactly the entries of the changed blocks, and the lanes hold the rewritten relation, but for blocks whose last write failed.
+    ensures all { ClosesRewritten (devices L.contents L.failed_writes L.unsynced L.read_faults L.write_faults L.calls G.bytes G.synced G.faults G.calls) _manager.now }
+{}

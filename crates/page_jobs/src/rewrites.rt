@@ -1,0 +1,121 @@
+//! Rewrites.
+ghost use Rattle.std.specs.Prelude.{◌≡◌, ◌<◌, ◌≤◌, ◌^◌, IfErr, IfOk, vec_capacity, vec_len, All};
+ghost use Rattle.frame_table.specs.Seats.{frames_of};
+ghost use Rattle.page_jobs.specs.Dealt.{AllDone, IsReady};
+ghost use Rattle.page_jobs.specs.Ending.{totals_of_rewrite};
+ghost use Rattle.page_jobs.specs.Jobs.{AreFree, last_in, workers_in};
+ghost use Rattle.page_jobs.specs.Rewriters.{AreRewritesCounted, EndsFirst, HaveRewritten, rewritten_totals};
+ghost use Rattle.page_jobs.specs.RewriteJobs.{EndsRewrite, RewriteParts, RewritesFork};
+
+use crate::dealing::{deal, gather};
+use crate::ending::{JobEnd, JobError, Totals};
+use crate::gate::Gate;
+use crate::rewriting::ForkBlocks;
+use crate::working::Worker;
+use backend_pass::{Manager, Pass};
+use block_tag::{Fork, RelNo};
+use log_device::LogDevice;
+use page_layout::RewriteTotals;
+use segment_store::BlockLane;
+use std::alloc::Global;
+use std::sync::Wait;
+use std::thread;
+use std::thread::Threads;
+
+/// All workers rewrite at once, each in a thread of its own where one can be made.
+fn rewrite_all<L: BlockLane + Send, G: LogDevice + Send, R: Threads + Wait + Sync, T: Gate + Sync>(
+    manager: &Manager<L, G>,
+    rt: &R,
+    alloc: Global,
+    gate: &T,
+    blocks: ForkBlocks,
+    workers: &mut Vec<Worker>,
+)
+    requires some { 0 < vec_len workers.old }
+    requires ready { All (IsReady L.contents manager.now blocks.rel.0 blocks.fork) workers.old.items }
+    requires frames { (16 ≤ frames_of manager.now.table) × (frames_of manager.now.table ≤ 4096) }
+    ensures count { vec_len workers.new ≡ vec_len workers.old }
+    ensures rewritten { HaveRewritten L.contents manager.now blocks.rel.0 blocks.fork workers.old.items workers.new.items }
+{
+    let threads = workers.len();
+    thread::for_each_mut(
+        rt,
+        workers.as_mut_slice(),
+        threads,
+        &|_place, worker| { worker.rewrite(manager, rt, alloc, gate, blocks) },
+    );
+}
+
+/// The totals of all workers, or why the first of those ended that didn't rewrite its whole part.
+fn sum_rewritten(workers: &[Worker]) -> Result<Totals, JobError>
+    requires counts { AreRewritesCounted workers.now }
+    requires few { (rewritten_totals workers.now).blocks ≤ 2 ^ 32 }
+    ensures done { IfOk result (λ totals. (totals ≡ totals_of_rewrite (rewritten_totals workers.now)) × AllDone workers.now) }
+    ensures cause { IfErr result (λ e. EndsFirst e workers.now) }
+{
+    let mut totals = RewriteTotals::none();
+    for worker in workers {
+        if let Err(error) = worker.end {
+            return Err(error);
+        }
+        totals.add(&worker.rewritten);
+    }
+    Ok(Totals::of_rewrite(totals))
+}
+
+/// The passes rewrite, each its part of the blocks.
+fn rewrite_passes<
+    L: BlockLane + Send,
+    G: LogDevice + Send,
+    R: Threads + Wait + Sync,
+    T: Gate + Sync,
+>(
+    manager: &Manager<L, G>,
+    rt: &R,
+    alloc: Global,
+    passes: &mut Vec<Pass>,
+    blocks: ForkBlocks,
+    gate: &T,
+) -> Result<Totals, JobError>
+    requires some { 0 < vec_len passes.old }
+    requires few { vec_len passes.old < 64 }
+    requires free { AreFree L.contents manager.now passes.old.items }
+    requires frames { (16 ≤ frames_of manager.now.table) × (frames_of manager.now.table ≤ 4096) }
+    ensures passes { RewriteParts L.contents manager.now blocks.rel.0 blocks.fork passes.old.items passes.new.items }
+    ensures capacity { vec_capacity passes.new ≡ vec_capacity passes.old }
+    ensures done { IfOk result (RewritesFork L.contents manager.now blocks.rel.0 blocks.fork passes.old.items passes.new.items) }
+    ensures cause { IfErr result (EndsRewrite L.contents manager.now blocks.rel.0 blocks.fork passes.old.items passes.new.items) }
+{
+    let count = manager.blocks(blocks.rel, blocks.fork);
+    let mut workers = deal(alloc, count, passes)?;
+    rewrite_all(manager, rt, alloc, gate, blocks, &mut workers);
+    let end = sum_rewritten(&workers);
+    gather(workers, passes);
+    end
+}
+
+/// Rewrites the blocks of a fork, each under its cleanup lock: the page of a block that the rule changes is put into the log and into its frame (`lazy_vacuum_heap_page`). All passes are given, of which all but the last work, each on its part of the blocks; all are given back.
+pub fn rewrite<L: BlockLane + Send, G: LogDevice + Send, R: Threads + Wait + Sync, T: Gate + Sync>(
+    manager: &Manager<L, G>,
+    rt: &R,
+    alloc: Global,
+    mut passes: Vec<Pass>,
+    rel: RelNo,
+    fork: Fork,
+    gate: &T,
+) -> JobEnd
+    requires several { 2 ≤ vec_len passes }
+    requires few { vec_len passes ≤ 64 }
+    requires free { AreFree L.contents manager.now passes.items }
+    requires frames { (16 ≤ frames_of manager.now.table) × (frames_of manager.now.table ≤ 4096) }
+    ensures passes { RewriteParts L.contents manager.now rel.0 fork (workers_in passes.items) (workers_in result.passes.items) }
+    ensures last { last_in result.passes.items ≡ last_in passes.items }
+    ensures done { IfOk result.end (RewritesFork L.contents manager.now rel.0 fork (workers_in passes.items) (workers_in result.passes.items)) }
+    ensures cause { IfErr result.end (EndsRewrite L.contents manager.now rel.0 fork (workers_in passes.items) (workers_in result.passes.items)) }
+{
+    let beside = passes.take_last();
+    let blocks = ForkBlocks { rel, fork };
+    let end = rewrite_passes(manager, rt, alloc, &mut passes, blocks, gate);
+    passes.push_reserved(beside);
+    JobEnd { passes, end }
+}
