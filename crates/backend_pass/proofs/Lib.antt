@@ -11,3 +11,4 @@ pub mod PassReading
 pub mod Flushed
 pub mod PassPuts
 pub mod CleanupLocks
+pub mod PassSyncing

@@ -95,3 +95,12 @@ kept_taken P (Err why) x e = absurd (cc)
 pub kept_refused : {A E : Type 0} (P : Type 0) (r : Result A E) (why : E) → r ≡ Err why → P → IfErr r (λ _. P)
 kept_refused P (Ok z) why e p = tt
 kept_refused P (Err z) why e p = p
+
+-- what a lock that was taken tells, and one that was refused
+pub lock_taken : {A E : Type 0} (P : Type 0) (r : Result A E) (x : A) → r ≡ Ok x → P → IfOk r (λ _. P)
+lock_taken P (Ok z) x e p = p
+lock_taken P (Err why) x e p = tt
+
+pub lock_refused : {A E : Type 0} (P : Type 0) (r : Result A E) (why : E) → r ≡ Err why → IfOk r (λ _. P)
+lock_refused P (Ok z) why e = absurd (cc)
+lock_refused P (Err other) why e = tt

@@ -1,19 +1,23 @@
 -- How a pass writes the page of a frame, and what it is refused for.
-use Rattle.std.specs.Prelude.{◌≡◌, ◌≤◌, ℕ, true, Bool, Option, Result, Ok, Err}
+use Rattle.std.specs.Prelude.{◌≡◌, ◌≤◌, ℕ, true, Option, Result, Ok, Err}
 use Rattle.block_tag.specs.declared.tag.Tag.{Tag}
 use Rattle.page_layout.specs.Fields.{lsn_of}
 use Rattle.page_layout.specs.Soundness.{is_sound_page}
 use Rattle.segment_store.specs.Contents.{Pages}
+use Rattle.pin_core.specs.declared.view.View.{View}
 use Rattle.pin_core.specs.State.{Page}
 use Rattle.frame_table.specs.declared.table.FrameTable.{FrameTable}
+use Rattle.frame_table.specs.Seats.{OnlyRises}
 use Rattle.frame_table.specs.Opened.{WasAtOpening}
 use Rattle.wal_flush.specs.declared.flushes.FlushLog.TheVariants as log
 use Rattle.buffer_frames.specs.declared.flushing.FlushError as frames
 use Rattle.buffer_frames.specs.declared.flushing.FlushError.TheVariants as flush
+use Rattle.buffer_frames.specs.Flushing.{EndedInError, met_refused}
+use Rattle.buffer_sync.specs.Syncs.{WritesBlock}
 use Rattle.backend_pass.specs.declared.errors.FlushError.{FlushError}
 use Rattle.backend_pass.specs.declared.errors.FlushError.TheVariants.{WriteFault, LogFault, LogDown, LogShort}
 use Rattle.backend_pass.specs.declared.met.Shown.{Shown}
-use Rattle.backend_pass.specs.Passes.{shown_log, shown_write}
+use Rattle.backend_pass.specs.Passes.{PassState, shown_log, shown_write}
 
 -- the refusal of a pass's frames that it tells of, and their answer
 abbrev pub frame_refusal : FlushError → frames.FlushError
@@ -22,8 +26,8 @@ frame_refusal LogFault = flush.Log log.LogFault
 frame_refusal (LogDown at) = flush.Log (log.LogDown at)
 frame_refusal (LogShort lsn end) = flush.Log (log.LogShort lsn end)
 
-abbrev pub frame_answer : Result Bool FlushError → Result Bool frames.FlushError
-frame_answer (Ok wrote) = Ok wrote
+abbrev pub frame_answer : {A : Type 0} → Result A FlushError → Result A frames.FlushError
+frame_answer (Ok done) = Ok done
 frame_answer (Err why) = Err (frame_refusal why)
 
 -- what is shown after a refusal
@@ -36,3 +40,13 @@ shown_unflushed (LogShort lsn end) s = s
 -- Each sound page that the block's lane can have held as the table was opened has its position at `end` or before it
 abbrev pub WasWithin : {L G : Type 0} → (L → Option Pages) → FrameTable L G → Tag → ℕ → Type 0
 WasWithin contents t tag end = (page : Page) → is_sound_page page ≡ true → WasAtOpening contents t tag page → lsn_of page ≤ end
+
+module _ {L G : Type 0} (contents : L → Option Pages) (t : FrameTable L G) where
+  -- In this call the page of a frame was not written, for this reason
+  pub record RefusesFrame (p q : PassState) (why : FlushError) : Type 0 where
+    pub before : View
+    pub since : OnlyRises p.view before
+    pub frame : ℕ
+    pub refused : WritesBlock contents t frame before q.view (Err (frame_refusal why))
+    pub ended : EndedInError frame before q.view
+    pub met : q.view.met ≡ met_refused (frame_refusal why) p.view.met

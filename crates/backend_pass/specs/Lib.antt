@@ -8,3 +8,4 @@ pub mod FrameFlushes
 pub mod Closing
 pub mod Locks
 pub mod Cleanups
+pub mod PassSyncs

@@ -9,6 +9,7 @@ use Rattle.frame_table.specs.Seats.{OnlyRises}
 use Rattle.held_pins.specs.Rests.{Rests, SameLocks}
 use Rattle.wal_flush.specs.declared.inserts.InsertError.{InsertError}
 use Rattle.wal_flush.specs.declared.inserts.InsertError.TheVariants.{LogFull, LogDown, LogFault}
+use Rattle.backend_pass.specs.declared.marked.MarkedFrame.{MarkedFrame}
 use Rattle.backend_pass.specs.declared.met.Shown.{Shown}
 
 -- A backend of a manager between two calls
@@ -21,6 +22,8 @@ pub record PassState : Type 0 where
   pub tokens : List HeldFrame
   -- the words that its last choice of a victim loaded, where that found each frame pinned
   pub census : CensusList
+  -- the frames that its checkpoint has marked
+  pub marked : List MarkedFrame
 
 abbrev pub view_in : List View → View
 view_in [] = emptied_view
@@ -70,6 +73,14 @@ pub record KeepsCalls (p q : PassState) : Type 0 where
   pub calls : q.view.calls ≡ p.view.calls
   pub front : q.view.front ≡ p.view.front
   pub place_loads : q.view.place_loads ≡ p.view.place_loads
+
+-- What its callers have of it is as it was: their tokens and content locks, the census, and what the pass read and put
+pub record KeepsCallers (p q : PassState) : Type 0 where
+  pub keeps : KeepsPass p q
+  pub tokens : q.tokens ≡ p.tokens
+  pub locks : SameLocks p.view q.view
+  pub census : q.census ≡ p.census
+  pub calls : KeepsCalls p q
 
 -- whether it has marked a frame dirty or synced a lane
 abbrev pub KeepsMark : PassState → PassState → Type 0

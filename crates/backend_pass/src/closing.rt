@@ -35,6 +35,7 @@ impl Pass {
             seat,
             held,
             census: _,
+            marked: _,
             page: _,
             shown: _,
         } = self;

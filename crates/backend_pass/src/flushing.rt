@@ -9,7 +9,7 @@ ghost use Rattle.held_pins.specs.Rests.{Rests};
 ghost use Rattle.held_pins.specs.Tokens.{IsPinnedFor};
 ghost use Rattle.buffer_frames.specs.Flushing.{EndedInError, EndedWritten, FlushAnswer, met_flushing};
 ghost use Rattle.buffer_frames.specs.Working.{WorksAt};
-ghost use Rattle.backend_pass.specs.Passes.{view_in, shown_log};
+ghost use Rattle.backend_pass.specs.Passes.{view_in, shown_log, shown_write};
 ghost use Rattle.backend_pass.specs.FrameFlushes.{frame_refusal, shown_unflushed};
 
 use crate::errors::FlushError;
@@ -31,7 +31,7 @@ use std::sync::Wait;
 use wal_flush::FlushLog;
 
 /// The refusal of a pass whose frames refuse a flush.
-fn refused(why: buffer_frames::FlushError) -> FlushError
+pub(crate) fn refused(why: buffer_frames::FlushError) -> FlushError
     ensures { frame_refusal result ≡ why }
 {
     match why {
@@ -45,6 +45,18 @@ fn refused(why: buffer_frames::FlushError) -> FlushError
 }
 
 impl Shown {
+    /// After a lane failed to write or to sync: a fault is counted.
+    pub(crate) fn after_lane_fault(self) -> Shown
+        ensures { result ≡ shown_write self }
+    {
+        let Shown { front, met } = self;
+        let writes = met.writes.saturating_add(1);
+        Shown {
+            front,
+            met: Met { writes, ..met },
+        }
+    }
+
     /// After the log failed: a fault is counted.
     pub(crate) fn after_log_fault(self) -> Shown
         ensures { result ≡ shown_log self }
@@ -58,18 +70,11 @@ impl Shown {
     }
 
     /// After a flush was refused.
-    fn after_flush(self, why: &FlushError) -> Shown
+    pub(crate) fn after_flush(self, why: &FlushError) -> Shown
         ensures { result ≡ shown_unflushed why.now self }
     {
         match why {
-            FlushError::WriteFault { tag: _ } => {
-                let Shown { front, met } = self;
-                let writes = met.writes.saturating_add(1);
-                Shown {
-                    front,
-                    met: Met { writes, ..met },
-                }
-            }
+            FlushError::WriteFault { tag: _ } => self.after_lane_fault(),
             FlushError::LogFault => self.after_log_fault(),
             _ => self,
         }

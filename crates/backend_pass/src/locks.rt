@@ -189,6 +189,7 @@ impl Pass {
         ensures calls { KeepsCalls self.old self.new }
         ensures mark { KeepsMark self.old self.new }
         ensures devices { KeepsDevices self.old self.new }
+        ensures down { self.new.view.saw_down ≡ self.old.view.saw_down }
         ensures token { result ≡ exclusive.pinned }
         ensures lock { ChangesLock lock.Unlocked exclusive.pinned.frame self.old self.new }
         ensures did { (was : ℕ) × Did (pages kinds.unexclude) exclusive.pinned.frame self.old.view self.new.view was }

@@ -1,6 +1,7 @@
 //! Passes.
 
 use crate::manager::Manager;
+use crate::marked::MarkedFrame;
 use crate::met::{Met, Shown};
 use crate::pinned::Pinned;
 use atomic_table::Badge;
@@ -17,28 +18,29 @@ use std::marker::Model;
 use std::mem::replace;
 use std::sync::Wait;
 
-/// A backend of a manager: the seat that it works with, the pins that it has handed out, and room of its own for a census and a page. `Manager::close` takes it back.
+/// A backend of a manager: the seat that it works with, the pins that it has handed out, and room of its own for a census, for the frames that a checkpoint marks, and for a page. `Manager::close` takes it back.
 pub struct Pass {
     pub(crate) number: u32,
     pub(crate) seat: Badge<View>,
     pub(crate) held: HeldPins,
     pub(crate) census: Census,
+    pub(crate) marked: Vec<MarkedFrame>,
     pub(crate) page: Page,
     pub(crate) shown: CachePadded<Shown>,
 }
 
 impl Model for Pass {
-    ghost use Rattle.std.specs.Prelude.{◌≡◌, ◌∷◌, []};
+    ghost use Rattle.std.specs.Prelude.{◌≡◌, ◌≤◌, ◌∷◌, [], vec_capacity};
     ghost use Rattle.crossbeam_utils.specs.Padded.{padded_value};
     ghost use Rattle.held_pins.specs.Rests.{Rests};
     ghost use Rattle.backend_pass.specs.Passes.{IsNumbered, IsShown, PassState, view_in};
 
     ghost Value = { PassState };
 
-    ghost view = { λ p. record { table = p.seat.table_id; id = p.seat.id; view = view_in p.seat.views; tokens = p.held; census = p.census } };
+    ghost view = { λ p. record { table = p.seat.table_id; id = p.seat.id; view = view_in p.seat.views; tokens = p.held; census = p.census; marked = p.marked.items } };
 
-    // Its seat has one view, which holds what its tokens say and nothing else.
-    ghost invariant = { λ p. (p.seat.views ≡ view_in p.seat.views ∷ []) × Rests p.held (view_in p.seat.views) × IsNumbered p.number p.seat.id (view_in p.seat.views) × IsShown (view_in p.seat.views) (padded_value p.shown) };
+    // Its seat has one view, which holds what its tokens say and nothing else. It has room to mark each frame.
+    ghost invariant = { λ p. (p.seat.views ≡ view_in p.seat.views ∷ []) × Rests p.held (view_in p.seat.views) × IsNumbered p.number p.seat.id (view_in p.seat.views) × IsShown (view_in p.seat.views) (padded_value p.shown) × (p.census.frames ≤ vec_capacity p.marked) };
 }
 
 impl Pass {
@@ -91,6 +93,7 @@ impl Pass {
         ensures mark { KeepsMark self.old self.new }
         ensures locks { KeepsLocks self.old self.new }
         ensures devices { KeepsDevices self.old self.new }
+        ensures down { self.new.view.saw_down ≡ self.old.view.saw_down }
 
         // With the last token the pin is given up, by one step after loads of the state word, and the backend is woken that waits for its own pin to be the only one.
         ensures unpins { tokens_of (held_at self.old.tokens pinned.frame) ≡ 1 → Woken pinned.frame self.old.view self.new.view }

@@ -1,7 +1,8 @@
 //! The memory of a pass, which is taken before a table is opened.
-ghost use Rattle.std.specs.Prelude.{◌≡◌, [], IfOk};
+ghost use Rattle.std.specs.Prelude.{◌≡◌, ◌≤◌, [], IfOk, vec_capacity};
 ghost use Rattle.clock_sweep.specs.CensusList.{new_census};
 
+use crate::marked::MarkedFrame;
 use clock_sweep::Census;
 use held_pins::HeldPins;
 use page_layout::Page;
@@ -11,8 +12,11 @@ use std::alloc::{AllocError, Global};
 pub(crate) struct PassMemory {
     pub(crate) held: HeldPins,
     pub(crate) census: Census,
+    pub(crate) marked: Vec<MarkedFrame>,
     pub(crate) page: Page,
     ghost empty: { held ≡ [] },
+    ghost unmarked: { marked.items ≡ [] },
+    ghost room: { census.frames ≤ vec_capacity marked },
 }
 
 impl PassMemory {
@@ -21,15 +25,22 @@ impl PassMemory {
         ensures { IfOk result (λ memory. memory.census ≡ new_census frames) }
     {
         let census = Census::build(alloc, frames)?;
+        let marked = Vec::with_capacity(alloc, frames as usize)?;
         let page = Page::zeroed(alloc)?;
         let held = HeldPins::build(alloc)?;
-        Ok(PassMemory { held, census, page })
+        Ok(PassMemory {
+            held,
+            census,
+            marked,
+            page,
+        })
     }
 
     pub(crate) fn spend(self) {
         let PassMemory {
             held,
             census: _,
+            marked: _,
             page: _,
         } = self;
         held.spend();

@@ -2,7 +2,7 @@
 ghost use Rattle.std.specs.Prelude.{◌≡◌, ◌<◌, ℕ, true};
 ghost use Rattle.block_tag.specs.Catalogue.{blocks_at};
 ghost use Rattle.block_tag.specs.Names.{names_block, tag_of_parts};
-ghost use Rattle.frame_table.specs.Seats.{frames_of, relations_of};
+ghost use Rattle.frame_table.specs.Seats.{frames_of, lanes_in, relations_of};
 
 use crate::manager::Manager;
 use block_tag::{Fork, RelNo, Tag};
@@ -15,6 +15,13 @@ impl<L: BlockLane, G: LogDevice> Manager<L, G> {
         ensures { result ≡ frames_of self.now.table }
     {
         self.table.frames()
+    }
+
+    /// How many lanes it has.
+    pub fn lanes(&self) -> u32
+        ensures { result ≡ lanes_in self.now.table }
+    {
+        self.table.lanes()
     }
 
     /// How many blocks a fork of a relation has (`RelationGetNumberOfBlocksInFork`), none where the catalogue lacks the relation.

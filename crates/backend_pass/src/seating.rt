@@ -29,9 +29,14 @@ impl Pass {
     ) -> Pass
         requires hand { seat.me.1 ≡ [] }
         requires fresh { IsFreshView number seat.id base seat.me.0 }
-        ensures { result ≡ record { table = seat.table_id; id = seat.id; view = seat.me.0; tokens = []; census = memory.census } }
+        ensures { result ≡ record { table = seat.table_id; id = seat.id; view = seat.me.0; tokens = []; census = memory.census; marked = [] } }
     {
-        let PassMemory { held, census, page } = memory;
+        let PassMemory {
+            held,
+            census,
+            marked,
+            page,
+        } = memory;
         let met = Met {
             reads: 0,
             writes: 0,
@@ -42,6 +47,7 @@ impl Pass {
             seat: seat.into_badge(),
             held,
             census,
+            marked,
             page,
             shown: CachePadded::new(Shown { front: base, met }),
         }

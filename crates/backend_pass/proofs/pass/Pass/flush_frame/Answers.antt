@@ -65,6 +65,7 @@ invariant_of-self-in-Err g c =
       e.rests,
       subst (λ (id : ℕ). IsNumbered c.self.inside.number id w) (sym e.id) (numbered_kept c.self.inside.number c.self.inside.seat.id v w e.works.kept i.2),
       subst (IsShown w) (sym shown) (shown_not_flushed v w (padded_value c.self.inside.shown) c.refused-why.result (ap (λ (x : View). x.front) e.works.kept) met i.3),
+      i.4,
     )
 
 pub returns-in-Err-clause-same : goal.returns-in-Err-clause-same

@@ -44,6 +44,7 @@ invariant_of-self g c =
       e.rests,
       subst (λ (id : ℕ). IsNumbered c.self.inside.number id w) (sym e.id) (numbered_put c.args.exclusive.now.pinned.frame c.self.inside.number c.self.inside.seat.id v w e.puts i.2),
       subst (IsShown w) (sym (c.new-self-inside.ensures ∙ ap (λ (s : Shown). record s { front = c.in-Ok.lsn }) c.deref.ensures)) (shown_put v w (padded_value c.self.inside.shown) c.in-Ok.lsn e.answer.front e.met i.3),
+      i.4,
     )
 
 pub invariant_of-self-in-Err : goal.invariant_of-self-in-Err
@@ -57,6 +58,7 @@ invariant_of-self-in-Err g c =
       e.rests,
       subst (λ (id : ℕ). IsNumbered c.self.inside.number id w) (sym e.id) (numbered_put c.args.exclusive.now.pinned.frame c.self.inside.number c.self.inside.seat.id v w e.puts i.2),
       subst (IsShown w) (sym shown) (shown_not_put v w (padded_value c.self.inside.shown) c.in-Err.why e.answer.front e.met i.3),
+      i.4,
     )
 
 pub returns-in-Ok-clause-belongs : goal.returns-in-Ok-clause-belongs

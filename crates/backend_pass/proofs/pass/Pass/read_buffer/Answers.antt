@@ -21,7 +21,7 @@ returns-in_default-clause-pinned g c = pinned_read {L = g.row.L.Denot} {G = g.ro
 pub invariant_of-self : goal.invariant_of-self
 invariant_of-self g c =
     let i = c.self.invariant in
-    (i.0, subst (λ (t : Tokens). Rests t (view_in c.self.inside.seat.views)) (sym c.add_token.ensures.tokens) (rests_again c.in-Some.frame c.self.inside.held (view_in c.self.inside.seat.views) i.1), i.2, i.3)
+    (i.0, subst (λ (t : Tokens). Rests t (view_in c.self.inside.seat.views)) (sym c.add_token.ensures.tokens) (rests_again c.in-Some.frame c.self.inside.held (view_in c.self.inside.seat.views) i.1), i.2, i.3, i.4)
 
 pub returns-clause-belongs : goal.returns-clause-belongs
 returns-clause-belongs g c =

@@ -47,6 +47,7 @@ invariant_of-self g c =
       rests_read f c.requires.pinned.held c.self.inside.held _ _ there only others here i.1,
       subst (λ (id : ℕ). IsNumbered c.self.inside.number id (view_in c.into_badge.result.views)) (sym same) (numbered_read c.self.inside.number c.self.inside.seat.id _ _ only i.2),
       shown_read _ _ (padded_value c.self.inside.shown) c.deref.result.now _ c.read_copy-place.result only front c.deref.ensures c.new-self-inside.ensures i.3,
+      i.4,
     )
 
 pub returns-clause-belongs : goal.returns-clause-belongs

@@ -1,4 +1,5 @@
-use Rattle.std.proofs.Common.{◌≡◌, ◌∙◌, ℕ, Err, ap, refl, sym, subst}
+use Rattle.std.proofs.Common.{◌≡◌, ◌≤◌, ◌∙◌, ℕ, Err, ap, refl, sym, subst}
+use Rattle.std.specs.Prelude.{vec_capacity}
 use Rattle.crossbeam_utils.specs.Padded.{padded_value}
 use Rattle.block_tag.specs.Names.{packed_tag}
 use Rattle.pin_core.specs.declared.view.View.{View}
@@ -24,6 +25,7 @@ invariant_of-self g c =
       subst (λ (t : Tokens). Rests t w) (sym c.add_pin.ensures.tokens) (rests_pinned (packed_tag c.args.tag) c.in-Ok.field-0.pin.frame c.self.inside.held w e.quiet e.latches e.answer.1 e.answer.2),
       subst (λ (id : ℕ). IsNumbered c.self.inside.number id w) (sym e.id) (numbered_kept c.self.inside.number c.self.inside.seat.id v w e.kept i.2),
       shown_met v w (padded_value c.self.inside.shown) (ap (λ (x : View). x.front) e.kept) e.met i.3,
+      subst (λ (frames : ℕ). frames ≤ vec_capacity c.self.inside.marked) (sym e.room) i.4,
     )
 
 pub invariant_of-self-in-Err : goal.invariant_of-self-in-Err
@@ -38,6 +40,7 @@ invariant_of-self-in-Err g c =
       record { quiet = e.quiet; links = links_refused {L = g.row.L.Denot} {G = g.row.G.Denot} g.L.BlockLane.contents c.args.manager.now.table c.args.tag c.self.inside.held c.read_seated.new.census.words v w c.in-Err.cause e.answer; latches = e.latches },
       subst (λ (id : ℕ). IsNumbered c.self.inside.number id w) (sym e.id) (numbered_kept c.self.inside.number c.self.inside.seat.id v w e.kept i.2),
       subst (IsShown w) (sym shown) (shown_refused v w (padded_value c.self.inside.shown) c.refused-why.result (ap (λ (x : View). x.front) e.kept) met i.3),
+      subst (λ (frames : ℕ). frames ≤ vec_capacity c.self.inside.marked) (sym e.room) i.4,
     )
 
 pub returns-in-Ok-clause-belongs : goal.returns-in-Ok-clause-belongs

@@ -18,7 +18,7 @@ use Rattle.backend_pass.proofs.pass.Pass.release.Goals as goal
 
 pub invariant_of-self : goal.invariant_of-self
 invariant_of-self g c = let i = c.self.invariant in
-    (i.0, subst (λ (t : Tokens). Rests t (view_in c.self.inside.seat.views)) (sym c.take_token.ensures.tokens) (rests_fewer c.args.pinned.frame c.self.inside.held _ (above_one _ c.in_default.ensures.others.0) i.1), i.2, i.3)
+    (i.0, subst (λ (t : Tokens). Rests t (view_in c.self.inside.seat.views)) (sym c.take_token.ensures.tokens) (rests_fewer c.args.pinned.frame c.self.inside.held _ (above_one _ c.in_default.ensures.others.0) i.1), i.2, i.3, i.4)
 
 pub returns-in_default-clause-belongs : goal.returns-in_default-clause-belongs
 returns-in_default-clause-belongs g c =
@@ -52,6 +52,7 @@ invariant_of-self-2 g c =
       subst (λ (t : Tokens). Rests t (view_in c.into_badge.result.views)) (sym c.take_token.ensures.tokens) (rests_unpinned f c.self.inside.held _ _ u unlocked none i.1),
       subst (λ (id : ℕ). IsNumbered c.self.inside.number id (view_in c.into_badge.result.views)) (sym same) (numbered_self c.self.inside.number c.self.inside.seat.id _ _ u.touches.self i.2),
       shown_self _ _ _ u.touches.self i.3,
+      i.4,
     )
 
 pub returns-clause-belongs : goal.returns-clause-belongs

@@ -21,6 +21,7 @@ invariant_of-self g c =
       rests_relocked f c.requires.pinned.held c.self.inside.held _ _ there k i.1,
       subst (λ (id : ℕ). IsNumbered c.self.inside.number id (view_in c.into_badge.result.views)) (sym same) (numbered_self c.self.inside.number c.self.inside.seat.id _ _ k.touches.self i.2),
       shown_self _ _ _ k.touches.self i.3,
+      i.4,
     )
 
 pub returns-clause-belongs : goal.returns-clause-belongs

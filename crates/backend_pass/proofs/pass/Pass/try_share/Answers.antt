@@ -3,13 +3,15 @@ use Rattle.atomic_table.specs.declared.badge.Badge.{Badge}
 use Rattle.pin_core.specs.declared.view.Link.{Link}
 use Rattle.pin_core.specs.declared.view.View.{View}
 use Rattle.pin_core.specs.State.{link}
+use Rattle.page_core.specs.Kinds as kinds
+use Rattle.content_locks.specs.Locks.{LocksContent}
 use Rattle.frame_table.specs.Content.{shared_link}
 use Rattle.held_pins.specs.Rests.{SameLocks}
 use Rattle.held_pins.specs.Tokens.{held_at}
 use Rattle.backend_pass.specs.Managers.{Belongs}
 use Rattle.backend_pass.specs.Passes.{IsNumbered, PassState, view_in}
 use Rattle.backend_pass.proofs.Releasing.{belongs_touched, numbered_self, same_touched, shown_self}
-use Rattle.backend_pass.proofs.Relocking.{Relocks, held_same, kept_refused, kept_taken, locks_kept, relocks_tried, rests_relocked}
+use Rattle.backend_pass.proofs.Relocking.{Relocks, held_same, kept_refused, kept_taken, lock_refused, lock_taken, locks_kept, relocks_tried, rests_relocked}
 use Rattle.backend_pass.proofs.Seated.{moved, one_view, same_from, view_of_seat}
 use Rattle.backend_pass.proofs.pass.Pass.try_share.Goals.{in-Ok, in-Err}
 use Rattle.backend_pass.proofs.pass.Pass.try_share.Goals as goal
@@ -26,6 +28,7 @@ invariant_of-self g c =
       rests_relocked f c.requires.pinned.held c.self.inside.held _ _ there k i.1,
       subst (λ (id : ℕ). IsNumbered c.self.inside.number id (view_in c.into_badge.result.views)) (sym same) (numbered_self c.self.inside.number c.self.inside.seat.id _ _ k.touches.self i.2),
       shown_self _ _ _ k.touches.self i.3,
+      i.4,
     )
 
 pub returns-clause-belongs : goal.returns-clause-belongs
@@ -56,4 +59,15 @@ returns-clause-kept g c =
       | in-Err w ↦
           let here = moved (λ v w. (link w f).content ≡ (link v f).content) (view_in c.self.inside.seat.views) (view_in c.into_badge.result.views) _ _ before (ap view_in c.into_badge.ensures.2) (ap (λ (l : Link). l.content) w.in-Err.ensures.left) in
           kept_refused (SameLocks c.args.self.now.view (view_in c.into_badge.result.views)) c.match-answer.result _ w.result-is (subst (λ (p : PassState). SameLocks p.view (view_in c.into_badge.result.views)) c.self.view_is (locks_kept f (view_in c.self.inside.seat.views) (view_in c.into_badge.result.views) others here))
+    ]
+
+pub returns-clause-did : goal.returns-clause-did
+returns-clause-did g c =
+    let f = c.args.pinned.frame in
+    let before = view_of_seat c.self.inside.seat c.replace.result c.into_seat-seat.result.me.0 c.replace.ensures.value c.into_seat-seat.ensures.2 in
+    elim c.match-answer.branch [
+      | in-Ok w ↦
+          let did = moved (LocksContent kinds.share f) (view_in c.self.inside.seat.views) (view_in c.into_badge.result.views) _ _ before (ap view_in c.into_badge.ensures.2) w.in-Ok.ensures.did in
+          lock_taken (LocksContent kinds.share f c.args.self.now.view (view_in c.into_badge.result.views)) c.match-answer.result _ w.result-is (subst (λ (p : PassState). LocksContent kinds.share f p.view (view_in c.into_badge.result.views)) c.self.view_is did)
+      | in-Err w ↦ lock_refused (LocksContent kinds.share f c.args.self.now.view (view_in c.into_badge.result.views)) c.match-answer.result _ w.result-is
     ]

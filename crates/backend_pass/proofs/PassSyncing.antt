@@ -1,0 +1,151 @@
+-- What a pass keeps as the background writer, or for a checkpoint.
+use Rattle.std.proofs.Common.{◌≡◌, ◌≢◌, ◌≤◌, ◌+◌, ℕ, List, [], ◌∷◌, Bool, true, false, Option, Some, None, Result, Ok, Err, refl, sym, ap, ◌∙◌, subst, max, arith}
+use Rattle.std.specs.Prelude.{IfErr, IfOk, IsOk}
+use Rattle.std.specs.Result.{is_ok}
+use Rattle.block_tag.specs.declared.tag.Tag.{Tag}
+use Rattle.block_tag.specs.Names.{lane_number}
+use Rattle.log_device.specs.declared.device.Failed.{Failed}
+use Rattle.segment_store.specs.Contents.{Pages}
+use Rattle.pin_core.specs.declared.view.Load.{Load}
+use Rattle.pin_core.specs.declared.view.Met.{Met}
+use Rattle.pin_core.specs.declared.view.View.{View}
+use Rattle.pin_core.specs.Kinds.{load_of}
+use Rattle.pin_core.specs.State.{link}
+use Rattle.history_core.specs.Steps.{unmarked}
+use Rattle.frame_table.specs.declared.table.FrameTable.{FrameTable}
+use Rattle.frame_table.specs.Latches.{work_of}
+use Rattle.frame_table.specs.Seats.{Grows, OnlyRises, lanes_in}
+use Rattle.frame_table.specs.WordSteps.{begin_checkpoint, load_hand, view_of}
+use Rattle.frame_table.proofs.Rising.{grows_loads, rises_by}
+use Rattle.wal_flush.specs.declared.flushes.FlushLog.{FlushLog}
+use Rattle.wal_flush.specs.declared.flushes.FlushLog.TheVariants.{LogShort, LogDown, LogFault}
+use Rattle.wal_flush.specs.declared.flushes.FlushedBy.{FlushedBy}
+use Rattle.wal_flush.specs.declared.flushes.FlushedBy.TheVariants.{NoSync, OneSync}
+use Rattle.wal_flush.specs.Flushes.{as_looked, flushed_view, unflushed_view}
+use Rattle.held_pins.specs.Rests.{LinkRests, LinksRest, SameLocks, kept_by_calls}
+use Rattle.held_pins.specs.Tokens.{HeldFrame, Tokens, held_at}
+use Rattle.buffer_frames.specs.Flushing.{met_flushing, met_lane_write}
+use Rattle.buffer_frames.specs.Working.{met_log, met_write}
+use Rattle.buffer_sync.specs.declared.syncing.Synced.{Synced}
+use Rattle.buffer_sync.specs.declared.syncing.SyncOnly.{SyncOnly}
+use Rattle.buffer_sync.specs.declared.syncing.Synced.TheVariants.{Skipped, Clean, Written}
+use Rattle.buffer_sync.specs.Syncs.{AreAlone, SyncsFrame, synced_work}
+use Rattle.backend_pass.specs.declared.errors.FlushError.{FlushError}
+use Rattle.backend_pass.specs.declared.manager.Manager.{Manager}
+use Rattle.backend_pass.specs.declared.met.Shown.{Shown}
+use Rattle.backend_pass.specs.FrameFlushes.{frame_answer, frame_refusal}
+use Rattle.backend_pass.specs.Managers.{Belongs}
+use Rattle.backend_pass.specs.Passes.{IsShown, KeepsCallers, PassState, SamePass, shown_count}
+use Rattle.backend_pass.specs.PassSyncs.{FlushesLog, shown_lane_synced, shown_log_flushed, shown_synced}
+use Rattle.backend_pass.specs.Reading.{NothingFails}
+use Rattle.backend_pass.proofs.BlockReads.{calls_kept, count_on, same_kept, shown_met}
+use Rattle.backend_pass.proofs.Flushed.{flush_complete, shown_logged, shown_not_flushed}
+
+-- a checkpoint that begins leaves the frames at rest
+pub rests_unmarked : (t : Tokens) (v w : View) → ((f : ℕ) → link w f ≡ unmarked (link v f)) → LinksRest t v → LinksRest t w
+rests_unmarked t v w e rests f = let r = rests f in let c = r.calm in subst (LinkRests (held_at t f)) (sym (e f)) record {
+  calm = record { no_header = c.no_header; assigned = c.assigned; no_copy = c.no_copy; applied = c.applied; no_io = c.no_io; page_home = c.page_home; no_wait = c.no_wait };
+  role = r.role;
+  tag = r.tag;
+  seen = r.seen;
+  unlocked = r.unlocked;
+}
+
+pub callers_kept : (p q : PassState) → q.table ≡ p.table → q.id ≡ p.id → q.tokens ≡ p.tokens → q.census ≡ p.census → kept_by_calls q.view ≡ kept_by_calls p.view → OnlyRises p.view q.view → SameLocks p.view q.view → KeepsCallers p q
+callers_kept p q table id tokens census e rises locks = record { keeps = (same_kept p q table id (ap (λ c. c.frames) census) e rises).keeps; tokens = tokens; locks = locks; census = census; calls = calls_kept p q e }
+
+pub callers_from : (a p q : PassState) → p ≡ a → KeepsCallers p q → KeepsCallers a q
+callers_from a p q e k = subst (λ (x : PassState). KeepsCallers x q) e k
+
+-- the hand is loaded, and a checkpoint begins
+pub rises_hand : (hand : ℕ) (v w : View) → w ≡ view_of load_hand hand v → OnlyRises v w
+rises_hand hand v w e = subst (OnlyRises v) (sym e) (rises_by v (view_of load_hand hand v) (grows_loads _ v (view_of load_hand hand v) refl refl (omega arith)) refl (omega arith) (omega arith))
+
+pub rises_begun : (upto : ℕ) (v w : View) → w ≡ view_of begin_checkpoint upto v → OnlyRises v w
+rises_begun upto v w e = subst (OnlyRises v) (sym e) (rises_by v (view_of begin_checkpoint upto v) (grows_loads _ v (view_of begin_checkpoint upto v) refl refl (omega arith)) refl (omega arith) (omega arith))
+
+pub callers_begun : (upto : ℕ) (p q : PassState) → q.table ≡ p.table → q.id ≡ p.id → q.tokens ≡ p.tokens → q.census ≡ p.census → q.view ≡ view_of begin_checkpoint upto p.view → SameLocks p.view q.view → KeepsCallers p q
+callers_begun upto p q table id tokens census e locks = record {
+  keeps = record {
+    table = table;
+    id = id;
+    frames = ap (λ c. c.frames) census;
+    number = ap (λ (x : View). x.number) e;
+    next = ap (λ (x : View). x.next) e;
+    joined = ap (λ (x : View). x.joined) e;
+    kept = ap (λ (x : View). x.kept) e;
+    advances = rises_begun upto p.view q.view e;
+  };
+  tokens = tokens;
+  locks = locks;
+  census = census;
+  calls = record { calls = ap (λ (x : View). x.calls) e; front = ap (λ (x : View). x.front) e; place_loads = ap (λ (x : View). x.place_loads) e };
+}
+
+pub locks_unmarked : (v w : View) → ((f : ℕ) → link w f ≡ unmarked (link v f)) → SameLocks v w
+locks_unmarked v w e f = ap (λ l. l.content) (e f)
+
+-- what is shown after a frame was to be written
+pub shown_sync : (v w : View) (s : Shown) (r : Result Synced FlushError) → w.front ≡ v.front → w.met ≡ met_flushing (frame_answer r) v.met → IsShown v s → IsShown w (shown_synced r s)
+shown_sync v w s (Ok synced) front met n = shown_met v w s front met n
+shown_sync v w s (Err why) front met n = shown_not_flushed v w s why front met n
+
+-- the log to be flushed
+flushed_by : (by : FlushedBy) (v w : View) → w ≡ as_looked (flushed_view by v) w → w.met ≡ v.met
+flushed_by NoSync v w e = ap (λ (x : View). x.met) e
+flushed_by OneSync v w e = ap (λ (x : View). x.met) e
+
+pub shown_flush : (lsn : ℕ) (v w : View) (s : Shown) (r : Result Unit FlushLog) → FlushesLog lsn v w r → IsShown v s → IsShown w (shown_log_flushed r s)
+shown_flush lsn v w s (Ok done) f n = shown_met v w s (ap (λ (x : View). x.front) f.work) (flushed_by f.view.0 v w f.view.1) n
+shown_flush lsn v w s (Err (LogShort l end)) f n = shown_met v w s (ap (λ (x : View). x.front) f.work) (ap (λ (x : View). x.met) f.left) n
+shown_flush lsn v w s (Err (LogDown at)) f n = shown_met v w s (ap (λ (x : View). x.front) f.work) (ap (λ (x : View). x.met) f.left) n
+shown_flush lsn v w s (Err LogFault) f n = shown_logged v w s (ap (λ (x : View). x.front) f.work) (ap (λ (x : View). x.met) f.left) n
+
+pub flush_is_complete : (lsn : ℕ) (v w : View) (r : Result Unit FlushLog) → FlushesLog lsn v w r → lsn ≤ v.end_seen → w.saw_down ≡ false → IsOk r
+flush_is_complete lsn v w (Ok done) f low up = refl
+flush_is_complete lsn v w (Err (LogShort l end)) f low up = let c = f.cause.1.work.work in absurd (let short = c.2 in let seen = f.seen.0 in omega arith)
+flush_is_complete lsn v w (Err (LogDown at)) f low up = let down = ap (λ (x : View). x.saw_down) f.left in absurd (let no : true ≡ false = sym down ∙ up in cc)
+flush_is_complete lsn v w (Err LogFault) f low up = let down = ap (λ (x : View). x.saw_down) f.left in absurd (let no : true ≡ false = sym down ∙ up in cc)
+
+-- and a lane to be synced
+pub shown_lane : (lane : ℕ) (v w : View) (s : Shown) (r : Result Unit Failed) → work_of w ≡ synced_work lane (is_ok r) v → IsShown v s → IsShown w (shown_lane_synced r s)
+shown_lane lane v w s (Ok done) e n = shown_met v w s (ap (λ (x : View). x.front) e) (ap (λ (x : View). x.met) e) n
+shown_lane lane v w s (Err failed) e n = let met = ap (λ (x : View). x.met) e in record {
+  front = n.front ∙ sym (ap (λ (x : View). x.front) e);
+  reads = n.reads ∙ ap (λ (m : Met). shown_count m.reads) (sym met);
+  writes = count_on v.met.writes s.met.writes n.writes ∙ ap (λ (m : Met). shown_count m.writes) (sym met);
+  logs = n.logs ∙ ap (λ (m : Met). shown_count m.logs) (sym met);
+}
+
+pub kept_synced : (lane : ℕ) (done : Bool) (v w : View) → work_of w ≡ synced_work lane done v → kept_by_calls w ≡ record (kept_by_calls v) { dirtied_or_synced = true }
+kept_synced lane done v w e = ap kept_by_calls e
+
+pub callers_synced : (lane : ℕ) (done : Bool) (p q : PassState) → q.table ≡ p.table → q.id ≡ p.id → q.tokens ≡ p.tokens → q.census ≡ p.census → work_of q.view ≡ synced_work lane done p.view → OnlyRises p.view q.view → SameLocks p.view q.view → KeepsCallers p q
+callers_synced lane done p q table id tokens census e rises locks = record {
+  keeps = record {
+    table = table;
+    id = id;
+    frames = ap (λ c. c.frames) census;
+    number = ap (λ (x : View). x.number) e;
+    next = ap (λ (x : View). x.next) e;
+    joined = ap (λ (x : View). x.joined) e;
+    kept = ap (λ (x : View). x.kept) e;
+    advances = rises;
+  };
+  tokens = tokens;
+  locks = locks;
+  census = census;
+  calls = record { calls = ap (λ (x : View). x.calls) e; front = ap (λ (x : View). x.front) e; place_loads = ap (λ (x : View). x.place_loads) e };
+}
+
+pub same_synced : (lane : ℕ) (done : Bool) (p q : PassState) → q.table ≡ p.table → q.id ≡ p.id → q.tokens ≡ p.tokens → q.census ≡ p.census → work_of q.view ≡ synced_work lane done p.view → OnlyRises p.view q.view → SameLocks p.view q.view → SamePass p q
+same_synced lane done p q table id tokens census e rises locks = record { keeps = (callers_synced lane done p q table id tokens census e rises locks).keeps; upto = ap (λ (x : View). x.upto) e }
+
+module _ {L G : Type 0} (contents : L → Option Pages) (t : FrameTable L G) where
+  pub sync_complete : (only : SyncOnly) (f : ℕ) (p q : PassState) (r : Result Synced FlushError) → SyncsFrame contents t only f p.view q.view (frame_answer r) → q.view.met ≡ met_flushing (frame_answer r) p.view.met → NothingFails contents t p q → IsOk r
+  sync_complete only f p q (Ok synced) s met n = refl
+  sync_complete only f p q (Err why) s met n = let b = s.came.2 in flush_complete contents t (lane_number b.tag (lanes_in t)) b.tag f p.view q.view (Err why) b.answer met (n.within b.tag b.named b.listed) n.up n.met
+
+-- a pass has no two tokens of one block
+pub pass_alone : {L G : Type 0} (contents : L → Option Pages) (m : Manager L G) (p : PassState) → Belongs contents m p → AreAlone p.tokens
+pass_alone contents m p b = b.alone

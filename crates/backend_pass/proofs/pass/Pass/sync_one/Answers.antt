@@ -1,0 +1,86 @@
+use Rattle.std.proofs.Common.{◌≡◌, ◌≢◌, ◌∙◌, ℕ, refl, sym, ap, subst}
+use Rattle.crossbeam_utils.specs.Padded.{padded_value}
+use Rattle.pin_core.specs.declared.view.View.{View}
+use Rattle.pin_core.specs.State.{link}
+use Rattle.held_pins.specs.Rests.{SameLocks}
+use Rattle.held_pins.proofs.Keeping.{same_locks_at, same_locks_linked}
+use Rattle.backend_pass.specs.Managers.{Belongs}
+use Rattle.backend_pass.specs.Passes.{IsNumbered, IsShown, KeepsCallers, PassState, SamePass, view_in}
+use Rattle.backend_pass.proofs.BlockReads.{numbered_kept, same_kept}
+use Rattle.backend_pass.proofs.Releasing.{belongs_held}
+use Rattle.backend_pass.proofs.Seated.{same_from}
+use Rattle.std.proofs.Common.{Result}
+use Rattle.buffer_frames.specs.declared.flushing.FlushError as frames
+use Rattle.buffer_frames.specs.Flushing.{met_flushing}
+use Rattle.buffer_frames.specs.Working.{KeepsNotes}
+use Rattle.clock_sweep.specs.Keeping.{SamePins}
+use Rattle.buffer_sync.specs.declared.syncing.Synced.{Synced}
+use Rattle.buffer_sync.specs.Syncs.{EndsSync, SyncsFrame}
+use Rattle.buffer_sync.proofs.Passing.{pins_rest}
+use Rattle.backend_pass.specs.FrameFlushes.{frame_answer}
+use Rattle.backend_pass.specs.PassSyncs.{shown_synced}
+use Rattle.backend_pass.proofs.PassSyncing.{callers_from, callers_kept, pass_alone, shown_sync, sync_complete}
+use Rattle.backend_pass.proofs.pass.Pass.sync_one.Goals as goal
+
+pub sync_seated-frames_answer-requires-clause-alone : goal.sync_seated-frames_answer-requires-clause-alone
+sync_seated-frames_answer-requires-clause-alone g c =
+    pass_alone {L = g.row.L.Denot} {G = g.row.G.Denot} g.L.BlockLane.contents c.args.manager.now _ (subst (Belongs {L = g.row.L.Denot} {G = g.row.G.Denot} g.L.BlockLane.contents c.args.manager.now) (sym c.self.view_is) c.requires.belongs)
+
+pub invariant_of-self : goal.invariant_of-self
+invariant_of-self g c =
+    let i = c.self.invariant in
+    let e = c.sync_seated-frames_answer.ensures in
+    let v = (view_in c.self.inside.seat.views) in
+    let w = (view_in c.sync_seated-frames_answer.new.badge.views) in (
+      e.view,
+      e.rests,
+      subst (λ (id : ℕ). IsNumbered c.self.inside.number id w) (sym e.id) (numbered_kept c.self.inside.number c.self.inside.seat.id v w e.did.works.kept i.2),
+      subst (IsShown w) (sym (c.new-self-inside.ensures ∙ c.after_sync-shown.ensures ∙ ap (shown_synced c.told-answer.result) c.deref.ensures)) (shown_sync v w (padded_value c.self.inside.shown) c.told-answer.result (ap (λ (x : View). x.front) e.did.works.kept) (subst (λ (r : Result Synced frames.FlushError). w.met ≡ met_flushing r v.met) (sym c.told-answer.ensures) (e.did.met)) i.3),
+      i.4,
+    )
+
+pub returns-clause-belongs : goal.returns-clause-belongs
+returns-clause-belongs g c =
+    let e = c.sync_seated-frames_answer.ensures in
+    belongs_held {L = g.row.L.Denot} {G = g.row.G.Denot} g.L.BlockLane.contents c.args.manager.now _ _ e.table refl (ap (λ (x : View). x.calls) e.did.works.kept) (ap (λ (x : View). x.front) e.did.works.kept) (e.did.works.advances.end_seen) (λ f h at. (h, at, refl))
+    (subst (Belongs {L = g.row.L.Denot} {G = g.row.G.Denot} g.L.BlockLane.contents c.args.manager.now) (sym c.self.view_is) c.requires.belongs)
+
+pub returns-clause-same : goal.returns-clause-same
+returns-clause-same g c =
+    let e = c.sync_seated-frames_answer.ensures in same_from _ _ _ c.self.view_is (same_kept _ _ e.table e.id refl e.did.works.kept e.did.works.advances)
+
+pub returns-clause-callers : goal.returns-clause-callers
+returns-clause-callers g c =
+    let e = c.sync_seated-frames_answer.ensures in callers_from _ _ _ c.self.view_is (callers_kept _ _ e.table e.id refl refl e.did.works.kept e.did.works.advances (same_locks_at c.args.frame (view_in c.self.inside.seat.views) (view_in c.sync_seated-frames_answer.new.badge.views) e.did.works.others e.did.lock))
+
+pub returns-clause-others : goal.returns-clause-others
+returns-clause-others g c =
+    subst (λ (p : PassState). (h : ℕ) → h ≢ c.args.frame → link (view_in c.sync_seated-frames_answer.new.badge.views) h ≡ link p.view h) c.self.view_is (c.sync_seated-frames_answer.ensures.did.works.others)
+
+pub returns-clause-pins : goal.returns-clause-pins
+returns-clause-pins g c =
+    subst (λ (p : PassState). SamePins p.view (view_in c.sync_seated-frames_answer.new.badge.views)) c.self.view_is (pins_rest c.self.inside.held (view_in c.self.inside.seat.views) (view_in c.sync_seated-frames_answer.new.badge.views) c.self.invariant.1.links c.sync_seated-frames_answer.ensures.rests.links)
+
+pub returns-clause-notes : goal.returns-clause-notes
+returns-clause-notes g c =
+    subst (λ (p : PassState). KeepsNotes (link p.view c.args.frame) (link (view_in c.sync_seated-frames_answer.new.badge.views) c.args.frame)) c.self.view_is (c.sync_seated-frames_answer.ensures.did.notes)
+
+pub returns-clause-syncs : goal.returns-clause-syncs
+returns-clause-syncs g c =
+    subst (λ (r : Result Synced frames.FlushError). SyncsFrame {L = g.row.L.Denot} {G = g.row.G.Denot} g.L.BlockLane.contents c.args.manager.now.table c.args.only c.args.frame c.args.self.now.view (view_in c.sync_seated-frames_answer.new.badge.views) r) (sym c.told-answer.ensures) (subst (λ (p : PassState). SyncsFrame {L = g.row.L.Denot} {G = g.row.G.Denot} g.L.BlockLane.contents c.args.manager.now.table c.args.only c.args.frame p.view (view_in c.sync_seated-frames_answer.new.badge.views) c.sync_seated-frames_answer.result) c.self.view_is (c.sync_seated-frames_answer.ensures.did.syncs))
+
+pub returns-clause-met : goal.returns-clause-met
+returns-clause-met g c =
+    subst (λ (r : Result Synced frames.FlushError). (view_in c.sync_seated-frames_answer.new.badge.views).met ≡ met_flushing r c.args.self.now.view.met) (sym c.told-answer.ensures) (subst (λ (p : PassState). (view_in c.sync_seated-frames_answer.new.badge.views).met ≡ met_flushing c.sync_seated-frames_answer.result p.view.met) c.self.view_is (c.sync_seated-frames_answer.ensures.did.met))
+
+pub returns-clause-ended : goal.returns-clause-ended
+returns-clause-ended g c =
+    subst (λ (r : Result Synced frames.FlushError). EndsSync c.args.frame c.args.self.now.view (view_in c.sync_seated-frames_answer.new.badge.views) r) (sym c.told-answer.ensures) (subst (λ (p : PassState). EndsSync c.args.frame p.view (view_in c.sync_seated-frames_answer.new.badge.views) c.sync_seated-frames_answer.result) c.self.view_is (c.sync_seated-frames_answer.ensures.did.ended))
+
+pub returns-clause-unlisted : goal.returns-clause-unlisted
+returns-clause-unlisted g c =
+    λ skipped needed. c.sync_seated-frames_answer.ensures.did.unlisted (sym c.told-answer.ensures ∙ ap frame_answer skipped) needed
+
+pub returns-clause-complete : goal.returns-clause-complete
+returns-clause-complete g c =
+    sync_complete {L = g.row.L.Denot} {G = g.row.G.Denot} g.L.BlockLane.contents c.args.manager.now.table c.args.only c.args.frame _ _ c.told-answer.result (returns-clause-syncs g c) (returns-clause-met g c)

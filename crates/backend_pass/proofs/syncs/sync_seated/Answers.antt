@@ -1,0 +1,59 @@
+use Rattle.std.proofs.Common.{◌≡◌, ◌≢◌, ◌∙◌, ℕ, false, None, refl, sym, ap, subst}
+use Rattle.atomic_table.specs.declared.badge.Badge.{Badge}
+use Rattle.pin_core.specs.declared.view.View.{View}
+use Rattle.pin_core.specs.State.{link}
+use Rattle.held_pins.specs.Rests.{HasNoDevice, HasNoLatch, LinksRest, Rests, Stands}
+use Rattle.held_pins.proofs.Keeping.{latches_same}
+use Rattle.backend_pass.specs.Passes.{view_in}
+use Rattle.backend_pass.proofs.Seated.{moved, moved_one, one_view, view_of_seat}
+use Rattle.pin_core.specs.declared.view.Content.TheVariants.{Unlocked}
+use Rattle.buffer_sync.specs.Syncs.{SyncsOne}
+use Rattle.backend_pass.proofs.syncs.sync_seated.Goals as goal
+
+pub sync_one-answer-requires-clause-stands : goal.sync_one-answer-requires-clause-stands
+sync_one-answer-requires-clause-stands g c =
+    let before = view_of_seat c.args.badge.now c.replace.result c.into_seat-seat.result.me.0 c.replace.ensures.value c.into_seat-seat.ensures.2 in
+    record {
+      fits = c.into_seat-seat.ensures.0 ∙ ap (λ (b : Badge View). b.table_id) c.replace.ensures.value ∙ c.requires.table;
+      hand = c.into_seat-seat.ensures.3;
+      quiet = subst HasNoDevice before c.requires.rests.quiet;
+    }
+
+pub sync_one-answer-requires-clause-rests : goal.sync_one-answer-requires-clause-rests
+sync_one-answer-requires-clause-rests g c =
+    let before = view_of_seat c.args.badge.now c.replace.result c.into_seat-seat.result.me.0 c.replace.ensures.value c.into_seat-seat.ensures.2 in
+    subst (LinksRest c.args.held.now) before c.requires.rests.links
+
+pub sync_one-answer-requires-clause-unlocked : goal.sync_one-answer-requires-clause-unlocked
+sync_one-answer-requires-clause-unlocked g c =
+    let before = view_of_seat c.args.badge.now c.replace.result c.into_seat-seat.result.me.0 c.replace.ensures.value c.into_seat-seat.ensures.2 in
+    λ needed. subst (λ (v : View). (link v c.args.frame).content ≡ Unlocked) before (c.requires.unlocked needed)
+
+pub returns-clause-table : goal.returns-clause-table
+returns-clause-table g c = c.into_badge.ensures.0 ∙ c.sync_one-answer.ensures.seat.table ∙ c.into_seat-seat.ensures.0 ∙ ap (λ (b : Badge View). b.table_id) c.replace.ensures.value
+
+pub returns-clause-id : goal.returns-clause-id
+returns-clause-id g c = c.into_badge.ensures.1 ∙ c.sync_one-answer.ensures.seat.id ∙ c.into_seat-seat.ensures.1 ∙ ap (λ (b : Badge View). b.id) c.replace.ensures.value
+
+pub returns-clause-view : goal.returns-clause-view
+returns-clause-view g c = one_view c.into_badge.result c.sync_one-answer.new.seat.me.0 c.into_badge.ensures.2
+
+pub returns-clause-rests : goal.returns-clause-rests
+returns-clause-rests g c =
+    let before = view_of_seat c.args.badge.now c.replace.result c.into_seat-seat.result.me.0 c.replace.ensures.value c.into_seat-seat.ensures.2 in
+    let after = ap view_in c.into_badge.ensures.2 in
+    let e = c.sync_one-answer.ensures in
+    let v = c.into_seat-seat.result.me.0 in
+    let w = c.sync_one-answer.new.seat.me.0 in
+    let r = subst (Rests c.args.held.now) before c.requires.rests in
+    moved_one (Rests c.args.held.now) (view_in c.into_badge.result.views) w after record {
+      quiet = e.stands.quiet;
+      links = e.rests;
+      latches = latches_same v w e.one.works.partitions r.latches;
+    }
+
+pub returns-clause-did : goal.returns-clause-did
+returns-clause-did g c =
+    let before = view_of_seat c.args.badge.now c.replace.result c.into_seat-seat.result.me.0 c.replace.ensures.value c.into_seat-seat.ensures.2 in
+    let e = c.sync_one-answer.ensures in
+    moved (λ v w. SyncsOne {L = g.row.L.Denot} {G = g.row.G.Denot} g.L.BlockLane.contents c.args.table.now c.args.only c.args.frame v w c.sync_one-answer.result) (view_in c.args.badge.now.views) (view_in c.into_badge.result.views) c.into_seat-seat.result.me.0 c.sync_one-answer.new.seat.me.0 before (ap view_in c.into_badge.ensures.2) e.one

@@ -1,0 +1,63 @@
+-- A round of the background writer.
+use Rattle.std.specs.Prelude.{◌≡◌, ◌⊎◌, ℕ, ◌+◌, ◌<◌, ◌≤◌, ◌%◌, List, [], ◌∷◌, ◌++◌, length, Option, Result, Ok, Err}
+use Rattle.segment_store.specs.Contents.{Pages}
+use Rattle.pin_core.specs.declared.view.View.{View}
+use Rattle.frame_table.specs.declared.table.FrameTable.{FrameTable}
+use Rattle.frame_table.specs.Seats.{OnlyRises, frames_of}
+use Rattle.frame_table.specs.WordSteps.{DidWord, load_hand}
+use Rattle.clock_sweep.specs.Keeping.{SamePins}
+use Rattle.buffer_frames.specs.Flushing.{EndedInError}
+use Rattle.buffer_sync.specs.declared.syncing.SyncOnly.TheVariants.{Unused}
+use Rattle.buffer_sync.specs.declared.syncing.Synced.{Synced}
+use Rattle.buffer_sync.specs.declared.syncing.Synced.TheVariants.{Skipped, Clean, Written}
+use Rattle.buffer_sync.specs.Syncs.{SyncsFrame}
+use Rattle.backend_pass.specs.declared.errors.FlushError.{FlushError}
+use Rattle.backend_pass.specs.FrameFlushes.{frame_refusal}
+use Rattle.bg_writer.specs.declared.reports.Round.{Round}
+
+-- how many pages were written for a frame, and for frames, by what came of them
+abbrev pub pages_of : Synced → ℕ
+pages_of Written = 1
+pages_of Skipped = 0
+pages_of Clean = 0
+
+abbrev pub pages_of_all : List Synced → ℕ
+pages_of_all [] = 0
+pages_of_all (synced ∷ came) = pages_of synced + pages_of_all came
+
+module _ {L G : Type 0} (contents : L → Option Pages) (t : FrameTable L G) where
+  -- Beginning with the one at which the hand points, frames were looked at in order, and this came of them, while the view pinned what it pinned in `start` at each look
+  pub data Looked (hand : ℕ) (start v : View) : List Synced → View → Type 0 where
+    none : Looked hand start v [] v
+    next : {u w : View} (came : List Synced) (synced : Synced) → Looked hand start v came u → SamePins start u → SyncsFrame contents t Unused ((hand + length came) % frames_of t) u w (Ok synced) → Looked hand start v (came ++ synced ∷ []) w
+
+  -- The round ended: it had looked at all frames, or had written 100 pages
+  pub record EndsRound (hand : ℕ) (start v w : View) (round : Round) : Type 0 where
+    pub came : List Synced
+    pub looks : Looked hand start v came w
+    pub looked : length came ≡ round.looked
+    pub written : pages_of_all came ≡ round.written
+    pub within : (round.looked ≤ frames_of t) × (round.written ≤ 100)
+    pub done : (round.looked ≡ frames_of t) ⊎ (round.written ≡ 100)
+
+  -- It was refused, as the page of the next frame was not written
+  pub record StopsRound (hand : ℕ) (start v w : View) (why : FlushError) : Type 0 where
+    pub came : List Synced
+    pub before : View
+    pub since : OnlyRises start before
+    pub looks : Looked hand start v came before
+    pub left : (length came < frames_of t) × (pages_of_all came < 100)
+    pub pins : SamePins start before
+    pub refused : SyncsFrame contents t Unused ((hand + length came) % frames_of t) before w (Err (frame_refusal why))
+    pub ended : EndedInError ((hand + length came) % frames_of t) before w
+
+  abbrev pub RoundEnds : ℕ → View → View → View → Result Round FlushError → Type 0
+  RoundEnds hand start v w (Ok round) = EndsRound hand start v w round
+  RoundEnds hand start v w (Err why) = StopsRound hand start v w why
+
+  -- The clock's hand was loaded, and then frames were looked at
+  pub record Rounds (v w : View) (r : Result Round FlushError) : Type 0 where
+    pub hand : ℕ
+    pub loaded : View
+    pub loads : DidWord load_hand v loaded hand
+    pub ends : RoundEnds hand v loaded w r

@@ -1,0 +1,2 @@
+pub mod HasTags
+pub mod Passing

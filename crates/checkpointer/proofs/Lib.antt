@@ -1,0 +1,7 @@
+pub mod Ended
+pub mod Flushing
+pub mod Keeping
+pub mod MarkedFrames
+pub mod Stopping
+pub mod Syncing
+pub mod Whole

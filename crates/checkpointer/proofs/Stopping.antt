@@ -1,0 +1,56 @@
+-- Why a checkpoint stops, and when it doesn't.
+use Rattle.std.proofs.Common.{◌≡◌, ℕ, ◌≤◌, ◌+◌, Err, refl, sym, ap, ◌∙◌, arith}
+use Rattle.std.specs.Prelude.{Option, min}
+use Rattle.block_tag.specs.declared.tag.Tag.{Tag}
+use Rattle.segment_store.specs.Contents.{Pages}
+use Rattle.frame_table.specs.declared.table.FrameTable.{FrameTable}
+use Rattle.frame_table.specs.Seats.{OnlyRises}
+use Rattle.frame_table.proofs.Rising.{rises_none, rises_on}
+use Rattle.buffer_frames.specs.Flushing.{EndedInError, met_flushing, met_refused}
+use Rattle.buffer_sync.specs.declared.syncing.SyncOnly.TheVariants.{Needed}
+use Rattle.buffer_sync.specs.declared.syncing.Synced.{Synced}
+use Rattle.buffer_sync.specs.Syncs.{SyncsFrame}
+use Rattle.backend_pass.specs.declared.errors.FlushError.{FlushError}
+use Rattle.backend_pass.specs.declared.manager.Manager.{Manager}
+use Rattle.backend_pass.specs.FrameFlushes.{WasWithin, frame_refusal}
+use Rattle.backend_pass.specs.Managers.{Belongs}
+use Rattle.backend_pass.specs.Passes.{KeepsCallers, KeepsMark, PassState, SamePass}
+use Rattle.backend_pass.specs.Reading.{NothingFails}
+use Rattle.checkpointer.specs.Refusals.{StopsAtFrame, StopsWriting}
+use Rattle.checkpointer.specs.Stages.{FlushesPages, KeepsBackend, WritesMarked}
+use Rattle.checkpointer.proofs.Flushing.{flushes_none, flushes_on, made_none}
+use Rattle.checkpointer.proofs.Keeping.{keeps_on}
+
+-- where nothing fails from the first pass on nothing does from a later one on
+pub fails_later : {L G : Type 0} (contents : L → Option Pages) (t : FrameTable L G) (p u q : PassState) → OnlyRises p.view u.view → u.view.met ≡ p.view.met → NothingFails contents t p q → NothingFails contents t u q
+fails_later contents t p u q rises met n = record {
+  within = λ tag named listed page sound was. let low = n.within tag named listed page sound was in let more = rises.end_seen in omega arith;
+  up = n.up;
+  met = n.met ∙ sym met;
+}
+
+module _ {L G : Type 0} (contents : L → Option Pages) (m : Manager L G) where
+  -- the first write of a frame was refused
+  pub stops_first : (p q : PassState) (f : ℕ) (why : FlushError) → KeepsBackend contents m p q → KeepsMark p q → SyncsFrame contents m.table Needed f p.view q.view (Err (frame_refusal why)) → EndedInError f p.view q.view → q.view.met ≡ met_refused (frame_refusal why) p.view.met → StopsWriting contents m p q why
+  stops_first p q f why keeps mark syncs ended met = record {
+    keeps = keeps;
+    stops = record { before = p.view; since = rises_none p.view; written = 0; flushes = flushes_none p.view p.view (made_none p.view p.view refl); frame = f; refused = syncs.came.2; ended = ended; mark = mark };
+    met = met;
+  }
+
+  -- or one after pages were written
+  pub stops_on : (n : ℕ) (p u q : PassState) (why : FlushError) → WritesMarked contents m n p u → StopsWriting contents m u q why → StopsWriting contents m p q why
+  stops_on n p u q why w s = record {
+    keeps = keeps_on contents m p u q w.keeps s.keeps;
+    stops = record {
+      before = s.stops.before;
+      since = rises_on p.view u.view s.stops.before w.keeps.same.keeps.advances s.stops.since;
+      written = min (n + s.stops.written) 4294967295;
+      flushes = flushes_on n s.stops.written (min (n + s.stops.written) 4294967295) p.view u.view s.stops.before refl w.flushes s.stops.flushes;
+      frame = s.stops.frame;
+      refused = s.stops.refused;
+      ended = s.stops.ended;
+      mark = s.stops.mark ∙ w.mark;
+    };
+    met = s.met ∙ ap (met_refused (frame_refusal why)) w.met;
+  }

@@ -1,0 +1,31 @@
+use Rattle.std.proofs.Common.{◌≡◌, ℕ, ap, refl, subst, sym, arith}
+use Rattle.std.proofs.Common.{length}
+use Rattle.frame_table.specs.Seats.{frames_of}
+use Rattle.backend_pass.specs.Passes.{PassState}
+use Rattle.checkpointer.specs.Marked.{AreInside, AreMarked}
+use Rattle.checkpointer.proofs.Keeping.{marks_as, marks_needed, marks_on}
+use Rattle.checkpointer.proofs.MarkedFrames.{marked_clean, noted_inside, noted_marked, noted_others, noted_passed, noted_room}
+use Rattle.checkpointer.proofs.marking.mark_frame.Goals as goal
+
+pub returns-in_default-clause-marks : goal.returns-in_default-clause-marks
+returns-in_default-clause-marks g c =
+    let n = c.need_checkpoint.ensures in
+    marks_needed {L = g.row.L.Denot} {G = g.row.G.Denot} g.L.BlockLane.contents c.args.manager.now c.args.frame c.args.pass.now c.need_checkpoint.new.self n.belongs n.same n.callers n.mark n.touches
+
+pub returns-in_default-clause-marked : goal.returns-in_default-clause-marked
+returns-in_default-clause-marked g c are =
+    let n = c.need_checkpoint.ensures in
+    subst (λ l. AreMarked l c.need_checkpoint.new.self.view) (sym n.marked) (marked_clean c.args.frame c.args.pass.now.view c.need_checkpoint.new.self.view n.touches.others c.args.pass.now.marked c.in_default.ensures.unlisted are)
+
+pub returns-clause-marks : goal.returns-clause-marks
+returns-clause-marks g c =
+    let n = c.need_checkpoint.ensures in
+    marks_on {L = g.row.L.Denot} {G = g.row.G.Denot} g.L.BlockLane.contents c.args.manager.now c.args.pass.now c.need_checkpoint.new.self c.note_marked.new.self
+    (marks_needed {L = g.row.L.Denot} {G = g.row.G.Denot} g.L.BlockLane.contents c.args.manager.now c.args.frame c.args.pass.now c.need_checkpoint.new.self n.belongs n.same n.callers n.mark n.touches)
+    (marks_as {L = g.row.L.Denot} {G = g.row.G.Denot} g.L.BlockLane.contents c.args.manager.now c.need_checkpoint.new.self c.note_marked.new.self _ c.note_marked.ensures n.belongs)
+
+pub returns-clause-marked : goal.returns-clause-marked
+returns-clause-marked g c = let n = c.need_checkpoint.ensures in noted_marked c.args.frame c.args.pass.now c.need_checkpoint.new.self c.note_marked.new.self _ n.touches.others n.marked c.note_marked.ensures refl
+
+pub returns-clause-inside : goal.returns-clause-inside
+returns-clause-inside g c = let n = c.need_checkpoint.ensures in noted_inside c.args.frame c.args.pass.now c.need_checkpoint.new.self c.note_marked.new.self _ n.touches.others n.marked c.note_marked.ensures refl (frames_of c.args.manager.now.table) c.requires.inside

@@ -1,0 +1,27 @@
+use Rattle.std.proofs.Common.{◌≡◌, ℕ, length, ap, refl, subst, sym, arith}
+use Rattle.pin_core.specs.declared.view.View.{View}
+use Rattle.frame_table.specs.Seats.{frames_of}
+use Rattle.backend_pass.specs.Passes.{PassState}
+use Rattle.checkpointer.specs.Marked.{AreInside, AreMarked, HasPassed}
+use Rattle.checkpointer.proofs.Keeping.{marks_as, marks_none, marks_on}
+use Rattle.checkpointer.proofs.MarkedFrames.{inside_moved, inside_none, marked_moved, marked_none, passed_more, passed_none}
+use Rattle.checkpointer.proofs.marking.mark_frames.Goals as goal
+
+pub loop-frame-preserved : goal.loop-frame-preserved
+loop-frame-preserved g c =
+    let i = c.loop-frame.invariant in
+    let e = c.mark_frame.ensures in
+    record {
+      marks = marks_on {L = g.row.L.Denot} {G = g.row.G.Denot} g.L.BlockLane.contents c.args.manager.now c.args.pass.now c.loop-frame.pass c.mark_frame.new.pass i.marks e.marks;
+      passed = passed_more c.loop-frame.frame c.loop-frame.pass.view c.mark_frame.new.pass.view e.others i.passed e.passed;
+      marked = e.marked i.marked;
+      inside = e.inside i.inside;
+      room = e.room;
+    }
+
+pub returns-clause-marked : goal.returns-clause-marked
+returns-clause-marked g c =
+    subst (AreMarked c.sort_marked.new.self.marked) (sym (ap (λ (p : PassState). p.view) c.sort_marked.ensures.same)) (marked_moved c.loop-frame.pass.marked c.sort_marked.new.self.marked c.loop-frame.pass.view c.sort_marked.ensures.moved c.loop-frame.invariant.marked)
+
+pub returns-clause-inside : goal.returns-clause-inside
+returns-clause-inside g c = inside_moved (frames_of c.args.manager.now.table) c.loop-frame.pass.marked c.sort_marked.new.self.marked c.sort_marked.ensures.moved c.loop-frame.invariant.inside

@@ -1,0 +1,45 @@
+use Rattle.std.proofs.Common.{ap, ◌∙◌, arith}
+use Rattle.checkpointer.specs.Stages.{pages_by}
+use Rattle.checkpointer.proofs.Keeping.{writes_none, writes_on, writes_synced}
+use Rattle.checkpointer.proofs.MarkedFrames.{notes_at, notes_none, notes_on}
+use Rattle.checkpointer.proofs.Stopping.{fails_later, stops_first, stops_on}
+use Rattle.checkpointer.proofs.writing.write_frame.Goals as goal
+
+pub loop-preserved : goal.loop-preserved
+loop-preserved g c =
+    let i = c.loop.invariant in
+    let e = c.sync_one.ensures in
+    let ok = c.in-Ok.ensures in
+    record {
+      writes = writes_on {L = g.row.L.Denot} {G = g.row.G.Denot} g.L.BlockLane.contents c.args.manager.now c.loop.written (pages_by c.in-Ok.synced) _ c.args.pass.now c.loop.pass c.sync_one.new.self (let sum = c.saturating_add-written.ensures in let one = c.pages.ensures in omega arith) i.writes
+          (writes_synced {L = g.row.L.Denot} {G = g.row.G.Denot} g.L.BlockLane.contents c.args.manager.now c.args.frame c.in-Ok.synced c.loop.pass c.sync_one.new.self e.belongs e.same e.callers e.mark ok.syncs ok.met);
+      notes = notes_on c.args.pass.now.view c.loop.pass.view c.sync_one.new.self.view i.notes (notes_at c.args.frame c.loop.pass.view c.sync_one.new.self.view e.others e.notes);
+      marked = e.marked ∙ i.marked;
+    }
+
+pub returns-in-Skipped-clause-writes : goal.returns-in-Skipped-clause-writes
+returns-in-Skipped-clause-writes g c =
+    let i = c.loop.invariant in
+    let e = c.sync_one.ensures in
+    let ok = c.in-Ok.ensures in
+    let none = ap pages_by c.in-Skipped.is in
+    writes_on {L = g.row.L.Denot} {G = g.row.G.Denot} g.L.BlockLane.contents c.args.manager.now c.loop.written (pages_by c.in-Ok.synced) c.loop.written c.args.pass.now c.loop.pass c.sync_one.new.self (omega arith) i.writes
+    (writes_synced {L = g.row.L.Denot} {G = g.row.G.Denot} g.L.BlockLane.contents c.args.manager.now c.args.frame c.in-Ok.synced c.loop.pass c.sync_one.new.self e.belongs e.same e.callers e.mark ok.syncs ok.met)
+
+pub returns-in-Skipped-clause-notes : goal.returns-in-Skipped-clause-notes
+returns-in-Skipped-clause-notes g c =
+    let e = c.sync_one.ensures in
+    notes_on c.args.pass.now.view c.loop.pass.view c.sync_one.new.self.view c.loop.invariant.notes (notes_at c.args.frame c.loop.pass.view c.sync_one.new.self.view e.others e.notes)
+
+pub returns-in-Err-clause-stops : goal.returns-in-Err-clause-stops
+returns-in-Err-clause-stops g c =
+    let i = c.loop.invariant in
+    let e = c.sync_one.ensures in
+    let err = c.in-Err.ensures in
+    stops_on {L = g.row.L.Denot} {G = g.row.G.Denot} g.L.BlockLane.contents c.args.manager.now c.loop.written c.args.pass.now c.loop.pass c.sync_one.new.self c.in-Err.why i.writes
+    (stops_first {L = g.row.L.Denot} {G = g.row.G.Denot} g.L.BlockLane.contents c.args.manager.now c.loop.pass c.sync_one.new.self c.args.frame c.in-Err.why record { belongs = e.belongs; same = e.same; callers = e.callers } e.mark err.syncs err.ended err.met)
+
+pub returns-in-Err-clause-complete : goal.returns-in-Err-clause-complete
+returns-in-Err-clause-complete g c n =
+    let i = c.loop.invariant in
+    c.in-Err.ensures.complete (fails_later {L = g.row.L.Denot} {G = g.row.G.Denot} g.L.BlockLane.contents c.args.manager.now.table c.args.pass.now c.loop.pass c.sync_one.new.self i.writes.keeps.same.keeps.advances i.writes.met n)

@@ -1,0 +1,4 @@
+pub mod Checkpoints
+pub mod Marked
+pub mod Refusals
+pub mod Stages

@@ -1,0 +1,109 @@
+-- Why a checkpoint stops.
+use Rattle.std.specs.Prelude.{◌≡◌, ℕ, ◌<◌, ◌≤◌, true, false, [], ◌∷◌, ◌++◌, Option, Result, Ok, Err}
+use Rattle.segment_store.specs.Contents.{Pages}
+use Rattle.pin_core.specs.declared.view.DeviceCall.TheVariants.{LaneSync}
+use Rattle.pin_core.specs.declared.view.Met.{Met}
+use Rattle.pin_core.specs.declared.view.View.{View}
+use Rattle.frame_table.specs.Seats.{OnlyRises, frames_of, lanes_in}
+use Rattle.wal_flush.specs.declared.flushes.FlushLog.{FlushLog}
+use Rattle.wal_flush.specs.declared.flushes.FlushLog.TheVariants as log
+use Rattle.wal_flush.specs.Flushes.{FlushRefused}
+use Rattle.buffer_frames.specs.Flushing.{EndedInError, met_refused, syncs_refused}
+use Rattle.buffer_frames.specs.Working.{Made, met_log, met_write}
+use Rattle.buffer_sync.specs.Syncs.{WritesBlock}
+use Rattle.backend_pass.specs.declared.errors.FlushError.{FlushError}
+use Rattle.backend_pass.specs.declared.errors.FlushError.TheVariants as flush
+use Rattle.backend_pass.specs.declared.manager.Manager.{Manager}
+use Rattle.backend_pass.specs.FrameFlushes.{frame_refusal}
+use Rattle.backend_pass.specs.Passes.{PassState}
+use Rattle.checkpointer.specs.declared.ending.Checkpoint.{Checkpoint}
+use Rattle.checkpointer.specs.declared.ending.CheckpointError.{CheckpointError}
+use Rattle.checkpointer.specs.declared.ending.CheckpointError.TheVariants.{WriteFault, LogFault, LogDown, LogShort, SyncFault}
+use Rattle.checkpointer.specs.Marked.{HasNoneLeft}
+use Rattle.checkpointer.specs.Stages.{FlushesPages, KeepsBackend, syncs_below}
+
+-- by the refusal of a frame's write, and by that of a flush of the log
+abbrev pub refusal_of_flush : FlushError → CheckpointError
+refusal_of_flush (flush.WriteFault tag) = WriteFault tag
+refusal_of_flush flush.LogFault = LogFault
+refusal_of_flush (flush.LogDown at) = LogDown at
+refusal_of_flush (flush.LogShort lsn end) = LogShort lsn end
+
+abbrev pub refusal_of_log : FlushLog → CheckpointError
+refusal_of_log log.LogFault = LogFault
+refusal_of_log (log.LogDown at) = LogDown at
+refusal_of_log (log.LogShort lsn end) = LogShort lsn end
+
+-- the faults that were met, by the refusal, and by the answer
+abbrev pub met_stopping : CheckpointError → Met → Met
+met_stopping (WriteFault tag) m = met_write m
+met_stopping LogFault m = met_log m
+met_stopping (LogDown at) m = m
+met_stopping (LogShort lsn end) m = m
+met_stopping (SyncFault lane) m = met_write m
+
+abbrev pub met_checkpointing : Result Checkpoint CheckpointError → Met → Met
+met_checkpointing (Ok done) m = m
+met_checkpointing (Err why) m = met_stopping why m
+
+-- the log is down, or failed
+abbrev pub IsDownOrFault : FlushLog → Type 0
+IsDownOrFault log.LogFault = Unit {0}
+IsDownOrFault (log.LogDown at) = Unit {0}
+IsDownOrFault (log.LogShort lsn end) = ⊥
+
+-- The log was not flushed up to `upto`, after so many pages were written and none of the frames was left
+pub record StopsAtLog (frames upto : ℕ) (v w : View) (why : FlushLog) : Type 0 where
+  -- the view by then
+  pub before : View
+  pub since : OnlyRises v before
+  pub written : ℕ
+  pub flushes : FlushesPages written v before
+  pub none_left : HasNoneLeft frames before
+  pub refused : FlushRefused upto before w why
+  -- for it ends there or past it
+  pub cause : IsDownOrFault why
+  pub shows : w.saw_down ≡ true
+  pub calls : Made (syncs_refused why) before w
+  -- whether it has marked a frame dirty or synced a lane is as it was
+  pub mark : w.dirtied_or_synced ≡ v.dirtied_or_synced
+
+-- The sync of a lane failed, after so many pages were written and none of the frames was left, the log was flushed up to `upto`, and the lanes before this one were synced
+pub record StopsAtLane (frames upto : ℕ) (v w : View) (lane : ℕ) : Type 0 where
+  pub before : View
+  pub since : OnlyRises v before
+  pub written : ℕ
+  pub flushes : FlushesPages written v before
+  pub none_left : HasNoneLeft frames before
+  pub flushed : upto ≤ before.flushed
+  pub calls : Made (syncs_below lane ++ LaneSync lane false ∷ []) before w
+
+module _ {L G : Type 0} (contents : L → Option Pages) (m : Manager L G) where
+  -- The page of a frame was not written, after so many were
+  pub record StopsAtFrame (v w : View) (why : FlushError) : Type 0 where
+    pub before : View
+    pub since : OnlyRises v before
+    pub written : ℕ
+    pub flushes : FlushesPages written v before
+    pub frame : ℕ
+    pub refused : WritesBlock contents m.table frame before w (Err (frame_refusal why))
+    pub ended : EndedInError frame before w
+    pub mark : w.dirtied_or_synced ≡ v.dirtied_or_synced
+
+  -- Why a checkpoint stopped that had begun at `upto`
+  pub data Stops (upto : ℕ) (v w : View) (why : CheckpointError) : Type 0 where
+    at_frame : (cause : FlushError) → why ≡ refusal_of_flush cause → StopsAtFrame v w cause → Stops upto v w why
+    at_log : (cause : FlushLog) → why ≡ refusal_of_log cause → StopsAtLog (frames_of m.table) upto v w cause → Stops upto v w why
+    at_lane : (lane : ℕ) → why ≡ SyncFault lane → lane < lanes_in m.table → StopsAtLane (frames_of m.table) upto v w lane → Stops upto v w why
+
+  -- the pass, where it stopped so
+  pub record StopsWriting (p q : PassState) (why : FlushError) : Type 0 where
+    pub keeps : KeepsBackend contents m p q
+    pub stops : StopsAtFrame p.view q.view why
+    pub met : q.view.met ≡ met_refused (frame_refusal why) p.view.met
+
+  pub record StopsSyncing (p q : PassState) (lane : ℕ) : Type 0 where
+    pub keeps : KeepsBackend contents m p q
+    pub inside : lane < lanes_in m.table
+    pub calls : Made (syncs_below lane ++ LaneSync lane false ∷ []) p.view q.view
+    pub met : q.view.met ≡ met_write p.view.met

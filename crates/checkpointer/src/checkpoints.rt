@@ -1,0 +1,56 @@
+//! A checkpoint.
+ghost use Rattle.std.specs.Prelude.{◌≡◌, ℕ, IfErr, IfOk, IsOk};
+ghost use Rattle.frame_table.specs.Seats.{lanes_in};
+ghost use Rattle.backend_pass.specs.Managers.{Belongs};
+ghost use Rattle.backend_pass.specs.Passes.{KeepsCallers};
+ghost use Rattle.backend_pass.specs.Reading.{NothingFails};
+ghost use Rattle.checkpointer.specs.Checkpoints.{Begins, Completes};
+ghost use Rattle.checkpointer.specs.Refusals.{Stops, met_checkpointing};
+ghost use Rattle.checkpointer.specs.Stages.{HasNoLock};
+
+use crate::ending::{Checkpoint, CheckpointError, unflushed, unwritten};
+use crate::lanes::sync_lanes;
+use crate::marking::mark_frames;
+use crate::writing::write_marked;
+use backend_pass::{Manager, Pass};
+use log_device::LogDevice;
+use segment_store::BlockLane;
+use std::sync::Wait;
+
+/// Makes a checkpoint (`CheckPointBuffers`): marks each dirty frame, writes those still marked in the order of their tags, flushes the log up to where it ended at first, and syncs each lane. The pass has no content lock.
+pub fn checkpoint<L: BlockLane, G: LogDevice, R: Wait>(
+    manager: &Manager<L, G>,
+    rt: &R,
+    pass: &mut Pass,
+) -> Result<Checkpoint, CheckpointError>
+    requires belongs { Belongs L.contents manager.now pass.old }
+    requires unlocked { HasNoLock pass.old }
+    ensures belongs { Belongs L.contents manager.now pass.new }
+    ensures callers { KeepsCallers pass.old pass.new }
+
+    // Where it completes, what was logged up to its beginning is stored, and the calls of devices and the pages written are counted.
+    ensures completes { IfOk result (λ done. Completes (lanes_in manager.now.table) done pass.old.view pass.new.view) }
+
+    // Where it stops, this is why, and which devices were called.
+    ensures stops { IfErr result (λ why. (upto : ℕ) × Begins upto pass.old.view pass.new.view × Stops L.contents manager.now upto pass.old.view pass.new.view why) }
+    ensures met { pass.new.view.met ≡ met_checkpointing result pass.old.view.met }
+
+    // It completes where the log isn't down, no call fails, and no page has a position past the log's end.
+    ensures complete { NothingFails L.contents manager.now.table pass.old pass.new → IsOk result }
+{
+    pass.forget_marked();
+    let upto = pass.begin_checkpoint(manager);
+    mark_frames(manager, rt, pass);
+    let written = match write_marked(manager, rt, pass) {
+        Ok(written) => written,
+        Err(why) => return Err(unwritten(why)),
+    };
+    match pass.flush_log(manager, rt, upto) {
+        Ok(()) => {}
+        Err(why) => return Err(unflushed(why)),
+    }
+    match sync_lanes(manager, rt, pass) {
+        Ok(()) => Ok(Checkpoint { upto, written }),
+        Err(lane) => Err(CheckpointError::SyncFault { lane }),
+    }
+}

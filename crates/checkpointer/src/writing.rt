@@ -1,0 +1,84 @@
+//! A checkpoint writes what it marked.
+ghost use Rattle.std.specs.Prelude.{◌≡◌, ◌<◌, false, IfErr, IfOk, IsOk, OnOk};
+ghost use Rattle.frame_table.specs.Seats.{frames_of};
+ghost use Rattle.pin_core.specs.declared.view.Content.TheVariants.{Unlocked};
+ghost use Rattle.pin_core.specs.State.{link};
+ghost use Rattle.backend_pass.specs.Locks.{HasLock};
+ghost use Rattle.backend_pass.specs.Managers.{Belongs};
+ghost use Rattle.backend_pass.specs.Reading.{NothingFails};
+ghost use Rattle.checkpointer.specs.Marked.{AreInside, AreMarked, HasPassed, HasNoneLeft, KeepsEachNote};
+ghost use Rattle.checkpointer.specs.Refusals.{StopsWriting};
+ghost use Rattle.checkpointer.specs.Stages.{HasNoLock, WritesMarked, pages_by};
+
+use backend_pass::{FlushError, Manager, Pass, SyncOnly, Synced};
+use log_device::LogDevice;
+use segment_store::BlockLane;
+use std::sync::Wait;
+
+/// How many pages are written by what came of a frame.
+fn pages(synced: Synced) -> u32
+    ensures { result ≡ pages_by synced }
+{
+    match synced {
+        Synced::Written => 1,
+        Synced::Skipped | Synced::Clean => 0,
+    }
+}
+
+/// WritesMarked a frame until it is seen without BM_CHECKPOINT_NEEDED, and returns how many times that was. Where another backend dirties the frame while it is written the flag stays, and it is written once more.
+fn write_frame<L: BlockLane, G: LogDevice, R: Wait>(
+    manager: &Manager<L, G>,
+    rt: &R,
+    pass: &mut Pass,
+    frame: u32,
+) -> Result<u32, FlushError>
+    requires belongs { Belongs L.contents manager.now pass.old }
+    requires inside { frame < frames_of manager.now.table }
+    requires unlocked { HasLock Unlocked frame pass.old }
+    ensures writes { IfOk result (λ written. WritesMarked L.contents manager.now written pass.old pass.new) }
+    ensures unlisted { OnOk result ((link pass.new.view frame).listed ≡ false) }
+    ensures notes { OnOk result (KeepsEachNote pass.old.view pass.new.view) }
+    ensures marked { pass.new.marked ≡ pass.old.marked }
+    ensures stops { IfErr result (StopsWriting L.contents manager.now pass.old pass.new) }
+    ensures complete { NothingFails L.contents manager.now.table pass.old pass.new → IsOk result }
+{
+    let mut written = 0u32;
+    for _ in rt.forever() {
+        let synced = match pass.sync_one(manager, rt, frame, SyncOnly::Needed) {
+            Ok(synced) => synced,
+            Err(why) => return Err(why),
+        };
+        if let Synced::Skipped = synced {
+            return Ok(written);
+        }
+        written = written.saturating_add(pages(synced));
+    }
+    unreachable!()
+}
+
+/// WritesMarked each frame that was marked and needs it still, and returns how many pages were written (`BufferSync`).
+pub(crate) fn write_marked<L: BlockLane, G: LogDevice, R: Wait>(
+    manager: &Manager<L, G>,
+    rt: &R,
+    pass: &mut Pass,
+) -> Result<u32, FlushError>
+    requires belongs { Belongs L.contents manager.now pass.old }
+    requires unlocked { HasNoLock pass.old }
+    requires passed { HasPassed (frames_of manager.now.table) pass.old.view }
+    requires marked { AreMarked pass.old.marked pass.old.view }
+    requires inside { AreInside (frames_of manager.now.table) pass.old.marked }
+    ensures writes { IfOk result (λ written. WritesMarked L.contents manager.now written pass.old pass.new) }
+    ensures none_left { OnOk result (HasNoneLeft (frames_of manager.now.table) pass.new.view) }
+    ensures stops { IfErr result (StopsWriting L.contents manager.now pass.old pass.new) }
+    ensures complete { NothingFails L.contents manager.now.table pass.old pass.new → IsOk result }
+{
+    let mut written = 0u32;
+    for place in 0..pass.marked().len() {
+        let frame = pass.marked()[place].frame;
+        match write_frame(manager, rt, pass, frame) {
+            Ok(more) => written = written.saturating_add(more),
+            Err(why) => return Err(why),
+        }
+    }
+    Ok(written)
+}
