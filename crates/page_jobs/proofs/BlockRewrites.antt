@@ -5,7 +5,7 @@ use Rattle.std.proofs.lemmas.List.{append-nil}
 use mathlib.Core.Logic.{dite}
 use native.Mathlib.Decide.{ℕ_discrete}
 use Rattle.block_tag.specs.declared.tag.Tag.{Tag}
-use Rattle.block_tag.specs.Names.{packed_tag}
+use Rattle.block_tag.specs.Names.{packed_tag, tag_of_parts}
 use Rattle.page_layout.specs.declared.outcomes.PageRewrite.{PageRewrite}
 use Rattle.page_layout.specs.declared.outcomes.PageRewrite.TheVariants.{Invalid, New, Used}
 use Rattle.page_layout.specs.declared.rewrite.Rewrite.{Rewrite}
@@ -32,7 +32,7 @@ use Rattle.backend_pass.specs.declared.errors.ReadError.{ReadError}
 use Rattle.backend_pass.specs.declared.manager.Manager.{Manager}
 use Rattle.backend_pass.specs.declared.pinned.Pinned.{Pinned}
 use Rattle.backend_pass.specs.declared.tokens.Exclusive.{Exclusive}
-use Rattle.backend_pass.specs.Locks.{ChangesLock, HasLock}
+use Rattle.backend_pass.specs.Locks.{ChangesLock, HasLock, IsTagged}
 use Rattle.backend_pass.specs.Managers.{Belongs}
 use Rattle.backend_pass.specs.Passes.{KeepsCalls, KeepsLocks, KeepsMark, PassState, SamePass}
 use Rattle.backend_pass.specs.Reading.{met_read_refused}
@@ -40,7 +40,7 @@ use Rattle.backend_pass.proofs.Seated.{same_on}
 use Rattle.page_jobs.specs.declared.ending.JobError.{JobError}
 use Rattle.page_jobs.specs.Parts.{blocks_in}
 use Rattle.page_jobs.specs.Reads.{FindsUnsound, PinsOne, RefusesBlock, Stays, fault_of_refusal}
-use Rattle.page_jobs.specs.Rewrites.{IfRead, IsEnded, Outcome, unsound, kept, refused, changed, calls_by, calls_for, rule_of, result_of}
+use Rattle.page_jobs.specs.Rewrites.{IfRead, IsEnded, Outcome, unsound, kept, refused, changed, block_of, calls_by, calls_for, rule_of, result_of}
 use Rattle.page_jobs.specs.Rewriting.{FollowsRule, GoesOn, HoldsUntil, KeepsOtherLocks, LocksOne, PutFails, RewritesBlock, RewritesBlocks, RewritesHeld, RewritesLocked, UnderCleanup, fault_of_put}
 use Rattle.page_jobs.proofs.BlockWork.{on_err}
 use Rattle.page_jobs.proofs.Staying.{calls_on, stays_on}
@@ -115,8 +115,8 @@ module _ {L G : Type 0} (contents : L → Option Pages) (m : Manager L G) where
   }
 
   pub locks_one : (tag : Tag) (pinned : Pinned) (e : Exclusive) (p q r s : PassState) → Stays contents m p q → KeepsCalls p q → q.view.met ≡ p.view.met → PinsOne contents m tag q r pinned → Quiet r s → KeepsMark r s → s.tokens ≡ r.tokens → e.pinned ≡ pinned
-      → ChangesLock content.Exclusive pinned.frame r s → GrantsCleanup r.view.number pinned.frame r.view s.view → LocksOne contents m tag p s e
-  locks_one tag pinned e p q r s st k met one rs mark stayed same lock granted =
+      → ChangesLock content.Exclusive pinned.frame r s → GrantsCleanup r.view.number pinned.frame r.view s.view → IsTagged pinned.tag pinned.frame s → LocksOne contents m tag p s e
+  locks_one tag pinned e p q r s st k met one rs mark stayed same lock granted tagged =
       let pr = same_on p q r st.same one.stays.same in
       let qs = quiet_on q r s (quiet_pins tag q r pinned one) rs in
       let frame : e.pinned.frame ≡ pinned.frame = ap (λ (x : Pinned). x.frame) same in
@@ -129,6 +129,7 @@ module _ {L G : Type 0} (contents : L → Option Pages) (m : Manager L G) where
         token = subst (λ (t : Tokens). IsPinnedFor tag e.pinned.frame t) (sym stayed) (subst (λ (x : Pinned). IsPinnedFor tag x.frame r.tokens) (sym same) one.token);
         last = ap (tokens_less e.pinned.frame) stayed ∙ ap (λ (x : Pinned). tokens_less x.frame r.tokens) same ∙ one.last;
         locked = subst (λ (x : Pinned). HasLock content.Exclusive x.frame s) (sym same) lock.here;
+        tagged = subst (λ (f : ℕ). IsTagged tag f s) (sym frame) (subst (λ (t : Tag). IsTagged t pinned.frame s) one.tag_is tagged);
         asked = r.view;
         since = pr.keeps.advances;
         granted = subst (λ (n : ℕ). GrantsCleanup n e.pinned.frame r.view s.view) pr.keeps.number (subst (λ (f : ℕ). GrantsCleanup r.view.number f r.view s.view) (sym frame) granted);
@@ -232,13 +233,14 @@ module _ {L G : Type 0} (contents : L → Option Pages) (m : Manager L G) where
         (λ other. others g other ∙ one.others g other)
 
     under : (answer : Result PageRewrite InsertError) (x : RewritesHeld contents m tag e.pinned.frame q r answer)
-        → UnderCleanup p.view.number p.view.calls (p.view.calls ++ calls_by (rule_of tag.rel.0 tag.fork) x.page.outcome) p.view r.view
+        → UnderCleanup p.view.number ((rule_of tag.rel.0 tag.fork).tag (block_of x.page.outcome)) p.view.calls (p.view.calls ++ calls_by (rule_of tag.rel.0 tag.fork) x.page.outcome) p.view r.view
     under answer x = record {
       frame = e.pinned.frame;
       asked = one.asked;
       granted = q.view;
       since = one.since;
       grants = one.granted;
+      tagged = one.tagged ∙ ap (λ (b : ℕ). Some (packed_tag (tag_of_parts tag.rel.0 tag.fork b))) (sym x.page.block);
       calls_are = one.calls.calls;
       until = subst (λ (l : List Call). HoldsUntil e.pinned.frame (l ++ calls_by (rule_of tag.rel.0 tag.fork) x.page.outcome) q.view r.view) one.calls.calls x.until;
     }

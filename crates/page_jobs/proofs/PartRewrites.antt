@@ -21,7 +21,7 @@ use Rattle.backend_pass.proofs.Seated.{same_on}
 use Rattle.page_jobs.specs.declared.ending.JobError.{JobError}
 use Rattle.page_jobs.specs.declared.ending.JobError.TheVariants.{Memory}
 use Rattle.page_jobs.specs.Reads.{IsFree}
-use Rattle.page_jobs.specs.Rewrites.{AreFrom, EachOutcome, IfRead, IsEnded, IsUnput, Outcome, Rule, StopsAtFailure, unsound, kept, refused, changed, calls_by, calls_for, outcome_totals, rule_of, result_of}
+use Rattle.page_jobs.specs.Rewrites.{AreFrom, EachOutcome, IfRead, IsEnded, IsUnput, Outcome, Rule, StopsAtFailure, unsound, kept, refused, changed, block_of, calls_by, calls_for, outcome_totals, rule_of, result_of}
 use Rattle.page_jobs.specs.Rewriting.{AllUnderCleanup, EndsRewriteFor, FollowsRule, GoesOn, HoldsUntil, RewritesBlock, RewritesBlocks, RewritesPart, RewritesWhole, UnderCleanup}
 use Rattle.page_jobs.proofs.BlockWork.{on_err, on_ok}
 use Rattle.page_jobs.proofs.RewriteSums.{rewrites_joined, rewrites_none, with_outcome-is}
@@ -57,20 +57,20 @@ holds_wider : (frame : ℕ) (calls : List Call) (v w x : View) → HoldsUntil fr
 holds_wider frame calls v w x h more = record { done = h.done; since = h.since; calls_are = h.calls_are; held = h.held; until = rises_on h.done w x h.until more }
 
 -- a lock that was taken between two views was taken between two that are farther apart
-under_wider : (number : ℕ) (before after : List Call) (u v w x : View) → OnlyRises u v → OnlyRises w x → UnderCleanup number before after v w → UnderCleanup number before after u x
-under_wider number before after u v w x earlier later h = record { frame = h.frame; asked = h.asked; granted = h.granted; since = rises_on u v h.asked earlier h.since; grants = h.grants; calls_are = h.calls_are; until = holds_wider h.frame after h.granted w x h.until later }
+under_wider : (number packed : ℕ) (before after : List Call) (u v w x : View) → OnlyRises u v → OnlyRises w x → UnderCleanup number packed before after v w → UnderCleanup number packed before after u x
+under_wider number packed before after u v w x earlier later h = record { frame = h.frame; asked = h.asked; granted = h.granted; since = rises_on u v h.asked earlier h.since; grants = h.grants; tagged = h.tagged; calls_are = h.calls_are; until = holds_wider h.frame after h.granted w x h.until later }
 
 all_wider : (r : Rule) (number : ℕ) (u v w x : View) → OnlyRises u v → OnlyRises w x → (calls : List Call) (os : List Outcome) → AllUnderCleanup r number v w calls os → AllUnderCleanup r number u x calls os
 all_wider r number u v w x earlier later calls [] all = tt
 all_wider r number u v w x earlier later calls (o ∷ os) all = (
-  if_read o _ _ (under_wider number calls (calls ++ calls_by r o) u v w x earlier later) all.0,
+  if_read o _ _ (under_wider number (r.tag (block_of o)) calls (calls ++ calls_by r o) u v w x earlier later) all.0,
   all_wider r number u v w x earlier later (calls ++ calls_by r o) os all.1,
 )
 
 under_on : (r : Rule) (number : ℕ) (u v w : View) → OnlyRises u v → OnlyRises v w → (calls : List Call) (os us : List Outcome) → AllUnderCleanup r number u v calls os → AllUnderCleanup r number v w (calls ++ calls_for r os) us → AllUnderCleanup r number u w calls (os ++ us)
 under_on r number u v w earlier later calls [] us a b = all_wider r number u v w w earlier (rises_none w) calls us (subst (λ (l : List Call). AllUnderCleanup r number v w l us) (append-nil calls) b)
 under_on r number u v w earlier later calls (o ∷ os) us a b = (
-  if_read o _ _ (under_wider number calls (calls ++ calls_by r o) u u v w (rises_none u) later) a.0,
+  if_read o _ _ (under_wider number (r.tag (block_of o)) calls (calls ++ calls_by r o) u u v w (rises_none u) later) a.0,
   under_on r number u v w earlier later (calls ++ calls_by r o) os us a.1 (subst (λ (l : List Call). AllUnderCleanup r number v w l us) (sym (append_assoc calls (calls_by r o) (calls_for r os))) b),
 )
 

@@ -1,5 +1,5 @@
 -- How a worker rewrites a block, and what it does with its part of the blocks.
-use Rattle.std.specs.Prelude.{◌≡◌, ◌≢◌, ℕ, ◌+◌, ◌<◌, ◌≤◌, ◌⊎◌, false, true, List, [], ◌∷◌, ◌++◌, length, Option, Result, Err, OnOk, IfOk, IfErr}
+use Rattle.std.specs.Prelude.{◌≡◌, ◌≢◌, ℕ, ◌+◌, ◌<◌, ◌≤◌, ◌⊎◌, false, true, List, [], ◌∷◌, ◌++◌, length, Option, Some, Result, Err, OnOk, IfOk, IfErr}
 use Rattle.block_tag.specs.declared.tag.Fork.{Fork}
 use Rattle.block_tag.specs.declared.tag.Tag.{Tag}
 use Rattle.block_tag.specs.Names.{tag_of_parts}
@@ -21,7 +21,7 @@ use Rattle.buffer_frames.specs.Loading.{WasUnsoundAtOpening}
 use Rattle.buffer_frames.specs.Puts.{PutRefused, met_put}
 use Rattle.backend_pass.specs.declared.manager.Manager.{Manager}
 use Rattle.backend_pass.specs.declared.tokens.Exclusive.{Exclusive as Token}
-use Rattle.backend_pass.specs.Locks.{HasLock}
+use Rattle.backend_pass.specs.Locks.{HasLock, IsTagged}
 use Rattle.backend_pass.specs.Managers.{Belongs}
 use Rattle.backend_pass.specs.Passes.{KeepsCalls, KeepsLocks, KeepsMark, PassState, SamePass}
 use Rattle.page_jobs.specs.declared.ending.JobError.{JobError}
@@ -47,20 +47,21 @@ pub record HoldsUntil (frame : ℕ) (calls : List Call) (v w : View) : Type 0 wh
   pub held : (link done frame).content ≡ Exclusive
   pub until : OnlyRises done w
 
--- The view was granted the cleanup lock of a frame when its calls were those before, and had the lock until they were those after
-pub record UnderCleanup (number : ℕ) (before after : List Call) (v w : View) : Type 0 where
+-- The view was granted the cleanup lock of the frame that has this packed tag when its calls were those before, and had the lock until they were those after
+pub record UnderCleanup (number packed : ℕ) (before after : List Call) (v w : View) : Type 0 where
   pub frame : ℕ
   pub asked : View
   pub granted : View
   pub since : OnlyRises v asked
   pub grants : GrantsCleanup number frame asked granted
+  pub tagged : (link granted frame).tag ≡ Some packed
   pub calls_are : granted.calls ≡ before
   pub until : HoldsUntil frame after granted w
 
 -- after these calls each block that was read was read, and put, under its cleanup lock
 abbrev pub AllUnderCleanup : Rule → ℕ → View → View → List Call → List Outcome → Type 0
 AllUnderCleanup r number v w calls [] = Unit {0}
-AllUnderCleanup r number v w calls (o ∷ os) = IfRead o (UnderCleanup number calls (calls ++ calls_by r o) v w) × AllUnderCleanup r number v w (calls ++ calls_by r o) os
+AllUnderCleanup r number v w calls (o ∷ os) = IfRead o (UnderCleanup number (r.tag (block_of o)) calls (calls ++ calls_by r o) v w) × AllUnderCleanup r number v w (calls ++ calls_by r o) os
 
 module _ {L G : Type 0} (contents : L → Option Pages) (m : Manager L G) where
   -- What every call of a rewrite leaves of a pass: it is the same one, and its front isn't before the old one
@@ -79,6 +80,7 @@ module _ {L G : Type 0} (contents : L → Option Pages) (m : Manager L G) where
     pub token : IsPinnedFor tag e.pinned.frame q.tokens
     pub last : tokens_less e.pinned.frame q.tokens ≡ no_tokens
     pub locked : HasLock Exclusive e.pinned.frame q
+    pub tagged : IsTagged tag e.pinned.frame q
     pub asked : View
     pub since : OnlyRises p.view asked
     pub granted : GrantsCleanup p.view.number e.pinned.frame asked q.view
@@ -142,7 +144,7 @@ module _ {L G : Type 0} (contents : L → Option Pages) (m : Manager L G) (rel :
   abbrev pub EndsRewriteFor : PassState → PassState → JobError → Type 0
   EndsRewriteFor p q e = (e ≡ Memory) ⊎ (MeetsFault contents m rel fork p q e ⊎ PutIsRefused p q e)
 
-  -- The blocks from `from` on were dealt with one after the other, with these outcomes, none at `to` or past it, and none after one whose put was refused: the calls are those of the outcomes and no others, and each page was read, and put, under the cleanup lock. The pass is the same one, without tokens, with its content locks as they were, and with its mark as it was where nothing was put
+  -- The blocks from `from` on were dealt with one after the other, with these outcomes, none at `to` or past it, and none after one whose put was refused: the calls are those of the outcomes and no others, and each page was read, and put, under its cleanup lock. The pass is the same one, without tokens, with its content locks as they were, and with its mark as it was where nothing was put
   pub record RewritesBlocks (from to : ℕ) (os : List Outcome) (p q : PassState) : Type 0 where
     pub goes : GoesOn contents m p q
     pub spent : q.tokens ≡ no_tokens
