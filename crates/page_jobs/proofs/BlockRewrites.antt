@@ -1,5 +1,5 @@
 -- A worker rewrites a block.
-use Rattle.std.proofs.Common.{◌≡◌, ◌<◌, ◌+◌, ℕ, Bool, true, false, List, [], ◌∷◌, ◌++◌, Option, Some, Result, Ok, Err, refl, sym, ap, ◌∙◌, subst, arith, append_assoc, inl, inr}
+use Rattle.std.proofs.Common.{◌≡◌, ◌<◌, ◌≤◌, ◌+◌, ℕ, Bool, true, false, List, [], ◌∷◌, ◌++◌, Option, Some, Result, Ok, Err, refl, sym, ap, ◌∙◌, subst, arith, append_assoc, inl, inr}
 use Rattle.std.specs.Prelude.{IfOk}
 use Rattle.std.proofs.lemmas.List.{append-nil}
 use mathlib.Core.Logic.{dite}
@@ -20,14 +20,16 @@ use Rattle.pin_core.specs.declared.view.Call.TheVariants.{Read, Write}
 use Rattle.pin_core.specs.declared.view.Content.TheVariants as content
 use Rattle.pin_core.specs.declared.view.Met.{Met}
 use Rattle.pin_core.specs.declared.view.Link.{Link}
+use Rattle.pin_core.specs.declared.view.View.{View}
 use Rattle.pin_core.specs.State.{Page, link}
 use Rattle.frame_table.specs.Seats.{relations_of}
 use Rattle.frame_table.proofs.Rising.{rises_on}
 use Rattle.held_pins.specs.Tokens.{IsPinnedFor, Tokens, no_tokens, tokens_less}
 use Rattle.wal_flush.specs.declared.inserts.InsertError.{InsertError}
+use Rattle.wal_flush.specs.declared.inserts.InsertError.TheVariants.{LogFull, LogDown, LogFault}
 use Rattle.cleanup_lock.specs.Cleanup.{GrantsCleanup}
 use Rattle.buffer_frames.specs.PageReads.{ReadsPage}
-use Rattle.buffer_frames.specs.Puts.{DidPut, PutRefused, met_put}
+use Rattle.buffer_frames.specs.Puts.{DidPut, PutRefused, RefusalShows, met_put}
 use Rattle.backend_pass.specs.declared.errors.ReadError.{ReadError}
 use Rattle.backend_pass.specs.declared.manager.Manager.{Manager}
 use Rattle.backend_pass.specs.declared.pinned.Pinned.{Pinned}
@@ -65,6 +67,12 @@ not_skipped false what dead f e = refl
 pub on_ok_value : {A E : Type 0} (P Q : A → Type 0) (r : Result A E) → ((a : A) → P a → Q a) → IfOk r P → IfOk r Q
 on_ok_value P Q (Ok a) f p = f a p
 on_ok_value P Q (Err e) f p = tt
+
+-- what a refusal shows of the log is seen later too
+shows_later : (why : InsertError) (v w : View) → w.saw_down ≡ v.saw_down → v.end_seen ≤ w.end_seen → RefusalShows why v → RefusalShows why w
+shows_later (LogFull end) v w down later s = (s.0, (let x = s.1 in omega arith))
+shows_later (LogDown at) v w down later s = (down ∙ s.0, (let x = s.1 in omega arith))
+shows_later LogFault v w down later s = down ∙ s
 
 for_read : {P : Type 0} (o : Outcome) → P → IfRead o P
 for_read (unsound b) x = tt
@@ -196,16 +204,25 @@ module _ {L G : Type 0} (contents : L → Option Pages) (m : Manager L G) where
       follows = (refl, reads.sound, ap is_changed_outcome told ∙ is_changed);
       mark = λ unput. absurd (let no : false ≡ true = unput in cc);
       done = tt;
-      cause = record { frame = frame; page = after; before = q; after = r; since = same.keeps.advances; refuses = unput; met = met' ∙ ap (λ (n : Met). met_put (Err why) n) met };
+      cause = record { frame = frame; page = after; before = q; after = r; since = same.keeps.advances; refuses = unput; met = met' ∙ ap (λ (n : Met). met_put (Err why) n) met; shows = unput.shows };
     };
   }
 
-  fails_later : (tag : Tag) (p q r : PassState) (why : InsertError) → r.view.met ≡ q.view.met → PutFails contents m tag p q why → PutFails contents m tag p r why
-  fails_later tag p q r why met f = record { frame = f.frame; page = f.page; before = f.before; after = f.after; since = f.since; refuses = f.refuses; met = met ∙ f.met }
+  fails_later : (tag : Tag) (p q r : PassState) (why : InsertError) → Quiet q r → r.view.saw_down ≡ q.view.saw_down → PutFails contents m tag p q why → PutFails contents m tag p r why
+  fails_later tag p q r why k down f = record {
+    frame = f.frame;
+    page = f.page;
+    before = f.before;
+    after = f.after;
+    since = f.since;
+    refuses = f.refuses;
+    met = k.met ∙ f.met;
+    shows = shows_later why q.view r.view down k.same.keeps.advances.end_seen f.shows;
+  }
 
   -- and then the lock of this frame and the pin were given up
-  pub held : (tag : Tag) (frame : ℕ) (p q r : PassState) (answer : Result PageRewrite InsertError) → RewritesLocked contents m tag p q answer → HasLock content.Exclusive frame p → Quiet q r → KeepsMark q r → HasLock content.Unlocked frame r → KeepsOtherLocks frame q r → r.tokens ≡ no_tokens → RewritesHeld contents m tag frame p r answer
-  held tag frame p q r answer x locked k mark unlocked others spent = record {
+  pub held : (tag : Tag) (frame : ℕ) (p q r : PassState) (answer : Result PageRewrite InsertError) → RewritesLocked contents m tag p q answer → HasLock content.Exclusive frame p → Quiet q r → KeepsMark q r → HasLock content.Unlocked frame r → KeepsOtherLocks frame q r → r.tokens ≡ no_tokens → r.view.saw_down ≡ q.view.saw_down → RewritesHeld contents m tag frame p r answer
+  held tag frame p q r answer x locked k mark unlocked others spent down = record {
     goes = record { belongs = k.belongs; same = same_on p q r x.goes.same k.same; front = let a = x.goes.front in let b = k.calls.front in omega arith };
     tokens = spent;
     unlocked = unlocked;
@@ -218,7 +235,7 @@ module _ {L G : Type 0} (contents : L → Option Pages) (m : Manager L G) where
       follows = x.page.follows;
       mark = λ unput. mark ∙ x.page.mark unput;
       done = on_ok_value (λ what. (what ≡ result_of x.page.outcome) × IsEnded x.page.outcome × (q.view.met ≡ p.view.met)) (λ what. (what ≡ result_of x.page.outcome) × IsEnded x.page.outcome × (r.view.met ≡ p.view.met)) answer (λ what d. (d.0, d.1, k.met ∙ d.2)) x.page.done;
-      cause = on_err (PutFails contents m tag p q) (PutFails contents m tag p r) answer (λ why f. fails_later tag p q r why k.met f) x.page.cause;
+      cause = on_err (PutFails contents m tag p q) (PutFails contents m tag p r) answer (λ why f. fails_later tag p q r why k down f) x.page.cause;
     };
   }
 
@@ -277,7 +294,7 @@ module _ {L G : Type 0} (contents : L → Option Pages) (m : Manager L G) where
         inside = inside;
         why = why;
         fault = refl;
-        fails = record { frame = f.frame; page = f.page; before = f.before; after = f.after; since = rises_on p.view q.view f.before.view one.goes.same.keeps.advances f.since; refuses = f.refuses; met = f.met ∙ ap (λ (n : Met). met_put (Err why) n) one.met };
+        fails = record { frame = f.frame; page = f.page; before = f.before; after = f.after; since = rises_on p.view q.view f.before.view one.goes.same.keeps.advances f.since; refuses = f.refuses; met = f.met ∙ ap (λ (n : Met). met_put (Err why) n) one.met; shows = f.shows };
       });
     }
 

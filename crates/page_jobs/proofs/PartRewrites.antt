@@ -125,7 +125,7 @@ module _ {L G : Type 0} (contents : L → Option Pages) (m : Manager L G) (rel :
     inside = x.inside;
     why = x.why;
     fault = x.fault;
-    fails = let f = x.fails in record { frame = f.frame; page = f.page; before = f.before; after = f.after; since = rises_on p.view q.view f.before.view s f.since; refuses = f.refuses; met = f.met ∙ ap (λ (n : Met). met_put (Err x.why) n) met };
+    fails = let f = x.fails in record { frame = f.frame; page = f.page; before = f.before; after = f.after; since = rises_on p.view q.view f.before.view s f.since; refuses = f.refuses; met = f.met ∙ ap (λ (n : Met). met_put (Err x.why) n) met; shows = f.shows };
   })
 
   -- some blocks after the other

@@ -18,7 +18,7 @@ use Rattle.wal_flush.specs.declared.inserts.InsertError.{InsertError}
 use Rattle.wal_flush.specs.declared.inserts.InsertError.TheVariants as put
 use Rattle.cleanup_lock.specs.Cleanup.{GrantsCleanup}
 use Rattle.buffer_frames.specs.Loading.{WasUnsoundAtOpening}
-use Rattle.buffer_frames.specs.Puts.{PutRefused, met_put}
+use Rattle.buffer_frames.specs.Puts.{PutRefused, RefusalShows, met_put}
 use Rattle.backend_pass.specs.declared.manager.Manager.{Manager}
 use Rattle.backend_pass.specs.declared.tokens.Exclusive.{Exclusive as Token}
 use Rattle.backend_pass.specs.Locks.{HasLock, IsTagged}
@@ -88,7 +88,7 @@ module _ {L G : Type 0} (contents : L → Option Pages) (m : Manager L G) where
     pub unlocked : HasLock Unlocked e.pinned.frame p
     pub others : KeepsOtherLocks e.pinned.frame p q
 
-  -- The put of a page was refused, for this reason, and the pass met that fault, and no other
+  -- The put of a page was refused, for this reason, which the pass has seen, and it met that fault, and no other
   pub record PutFails (tag : Tag) (p q : PassState) (why : InsertError) : Type 0 where
     pub frame : ℕ
     pub page : Page
@@ -97,6 +97,7 @@ module _ {L G : Type 0} (contents : L → Option Pages) (m : Manager L G) where
     pub since : OnlyRises p.view before.view
     pub refuses : PutRefused (relations_of m.table) frame tag page why before.view after.view
     pub met : q.view.met ≡ met_put (Err why) p.view.met
+    pub shows : RefusalShows why q.view
 
   -- The rule was followed, by the backend of this number: a page that isn't sound wasn't as the table was opened, where that is known; a sound page was changed where the rule changes it, and its write is past its read
   abbrev pub FollowsRule : ℕ → Fork → ℕ → Outcome → Type 0
