@@ -43,7 +43,7 @@ use Rattle.page_jobs.specs.declared.ending.JobError.{JobError}
 use Rattle.page_jobs.specs.Parts.{blocks_in}
 use Rattle.page_jobs.specs.Reads.{FindsUnsound, PinsOne, RefusesBlock, Stays, fault_of_refusal}
 use Rattle.page_jobs.specs.Rewrites.{IfRead, IsEnded, Outcome, unsound, kept, refused, changed, block_of, calls_by, calls_for, rule_of, result_of}
-use Rattle.page_jobs.specs.Rewriting.{FollowsRule, GoesOn, HoldsUntil, KeepsOtherLocks, LocksOne, PutFails, RewritesBlock, RewritesBlocks, RewritesHeld, RewritesLocked, UnderCleanup, fault_of_put}
+use Rattle.page_jobs.specs.Rewriting.{FollowsRule, GoesOn, HoldsUntil, KeepsOtherLocks, LastReads, LocksOne, PutFails, RewritesBlock, RewritesBlocks, RewritesHeld, RewritesLocked, UnderCleanup, fault_of_put}
 use Rattle.page_jobs.proofs.BlockWork.{on_err}
 use Rattle.page_jobs.proofs.Staying.{calls_on, stays_on}
 
@@ -73,6 +73,20 @@ shows_later : (why : InsertError) (v w : View) → w.saw_down ≡ v.saw_down →
 shows_later (LogFull end) v w down later s = (s.0, (let x = s.1 in omega arith))
 shows_later (LogDown at) v w down later s = (down ∙ s.0, (let x = s.1 in omega arith))
 shows_later LogFault v w down later s = down ∙ s
+
+-- the last of calls is the last of these and calls before them
+pub reads_since : (number n : ℕ) (tag : Tag) (page : Page) (before made here after : List Call) → n ≡ number → here ≡ before ++ made → LastReads n tag page here after → LastReads number tag page before after
+reads_since number n tag page before made here after same more r =
+    let last : ℕ → List Call = λ k. r.others ++ Read k (packed_tag tag) page r.place ∷ [] in
+    record {
+      others = made ++ r.others;
+      place = r.place;
+      calls = r.calls
+          ∙ ap (λ (k : ℕ). here ++ last k) same
+          ∙ ap (λ (l : List Call). l ++ last number) more
+          ∙ append_assoc before made (last number)
+          ∙ ap (λ (l : List Call). before ++ l) (sym (append_assoc made r.others (Read number (packed_tag tag) page r.place ∷ [])));
+    }
 
 for_read : {P : Type 0} (o : Outcome) → P → IfRead o P
 for_read (unsound b) x = tt
@@ -204,7 +218,19 @@ module _ {L G : Type 0} (contents : L → Option Pages) (m : Manager L G) where
       follows = (refl, reads.sound, ap is_changed_outcome told ∙ is_changed);
       mark = λ unput. absurd (let no : false ≡ true = unput in cc);
       done = tt;
-      cause = record { frame = frame; page = after; before = q; after = r; since = same.keeps.advances; refuses = unput; met = met' ∙ ap (λ (n : Met). met_put (Err why) n) met; shows = unput.shows };
+      cause = record {
+        frame = frame;
+        page = after;
+        before = q;
+        after = r;
+        since = same.keeps.advances;
+        refuses = unput;
+        met = met' ∙ ap (λ (n : Met). met_put (Err why) n) met;
+        shows = unput.shows;
+        was = page;
+        changes = ap is_changed_outcome told ∙ is_changed;
+        reads = record { others = []; place = place; calls = keeps.calls ∙ reads.calls };
+      };
     };
   }
 
@@ -218,6 +244,9 @@ module _ {L G : Type 0} (contents : L → Option Pages) (m : Manager L G) where
     refuses = f.refuses;
     met = k.met ∙ f.met;
     shows = shows_later why q.view r.view down k.same.keeps.advances.end_seen f.shows;
+    was = f.was;
+    changes = f.changes;
+    reads = record { others = f.reads.others; place = f.reads.place; calls = k.calls.calls ∙ f.reads.calls };
   }
 
   -- and then the lock of this frame and the pin were given up
@@ -294,7 +323,19 @@ module _ {L G : Type 0} (contents : L → Option Pages) (m : Manager L G) where
         inside = inside;
         why = why;
         fault = refl;
-        fails = record { frame = f.frame; page = f.page; before = f.before; after = f.after; since = rises_on p.view q.view f.before.view one.goes.same.keeps.advances f.since; refuses = f.refuses; met = f.met ∙ ap (λ (n : Met). met_put (Err why) n) one.met; shows = f.shows };
+        fails = record {
+          frame = f.frame;
+          page = f.page;
+          before = f.before;
+          after = f.after;
+          since = rises_on p.view q.view f.before.view one.goes.same.keeps.advances f.since;
+          refuses = f.refuses;
+          met = f.met ∙ ap (λ (n : Met). met_put (Err why) n) one.met;
+          shows = f.shows;
+          was = f.was;
+          changes = f.changes;
+          reads = reads_since p.view.number q.view.number tag f.was p.view.calls [] q.view.calls r.view.calls one.goes.same.keeps.number (one.calls.calls ∙ sym (append-nil p.view.calls)) f.reads;
+        };
       });
     }
 

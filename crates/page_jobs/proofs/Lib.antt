@@ -25,4 +25,5 @@ mod RewriteRanges
 mod RewriteOrder
 mod RewriteCourse
 mod RewriteDevices
+mod RewriteFull
 pub mod RewriteBackends

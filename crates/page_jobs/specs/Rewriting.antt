@@ -2,7 +2,7 @@
 use Rattle.std.specs.Prelude.{◌≡◌, ◌≢◌, ℕ, ◌+◌, ◌<◌, ◌≤◌, ◌⊎◌, false, true, List, [], ◌∷◌, ◌++◌, length, Option, Some, Result, Err, OnOk, IfOk, IfErr}
 use Rattle.block_tag.specs.declared.tag.Fork.{Fork}
 use Rattle.block_tag.specs.declared.tag.Tag.{Tag}
-use Rattle.block_tag.specs.Names.{tag_of_parts}
+use Rattle.block_tag.specs.Names.{packed_tag, tag_of_parts}
 use Rattle.page_layout.specs.declared.outcomes.PageRewrite.{PageRewrite}
 use Rattle.page_layout.specs.declared.outcomes.RewriteTotals.{RewriteTotals}
 use Rattle.page_layout.specs.Outcomes.{IsRewriteWithin, sum_of_rewrite_totals}
@@ -10,6 +10,7 @@ use Rattle.page_layout.specs.Soundness.{is_sound_page}
 use Rattle.segment_store.specs.Contents.{Pages}
 use Rattle.pin_core.specs.declared.view.Content.TheVariants.{Exclusive, Unlocked}
 use Rattle.pin_core.specs.declared.view.Call.{Call}
+use Rattle.pin_core.specs.declared.view.Call.TheVariants.{Read}
 use Rattle.pin_core.specs.declared.view.View.{View}
 use Rattle.pin_core.specs.State.{Page, link}
 use Rattle.frame_table.specs.Seats.{OnlyRises, relations_of}
@@ -58,6 +59,12 @@ pub record UnderCleanup (number packed : ℕ) (before after : List Call) (v w : 
   pub calls_are : granted.calls ≡ before
   pub until : HoldsUntil frame after granted w
 
+-- Calls were made after those before, the last one the backend's read of this page of the block
+pub record LastReads (number : ℕ) (tag : Tag) (page : Page) (before after : List Call) : Type 0 where
+  pub others : List Call
+  pub place : ℕ
+  pub calls : after ≡ before ++ (others ++ Read number (packed_tag tag) page place ∷ [])
+
 -- after these calls each block that was read was read, and put, under its cleanup lock
 abbrev pub AllUnderCleanup : Rule → ℕ → View → View → List Call → List Outcome → Type 0
 AllUnderCleanup r number v w calls [] = Unit {0}
@@ -88,7 +95,7 @@ module _ {L G : Type 0} (contents : L → Option Pages) (m : Manager L G) where
     pub unlocked : HasLock Unlocked e.pinned.frame p
     pub others : KeepsOtherLocks e.pinned.frame p q
 
-  -- The put of a page was refused, for this reason, which the pass has seen, and it met that fault, and no other
+  -- The put of a page was refused, for this reason, which the pass has seen, and it met that fault, and no other. Its last call is the read of the block, whose page the rule changes
   pub record PutFails (tag : Tag) (p q : PassState) (why : InsertError) : Type 0 where
     pub frame : ℕ
     pub page : Page
@@ -98,6 +105,9 @@ module _ {L G : Type 0} (contents : L → Option Pages) (m : Manager L G) where
     pub refuses : PutRefused (relations_of m.table) frame tag page why before.view after.view
     pub met : q.view.met ≡ met_put (Err why) p.view.met
     pub shows : RefusalShows why q.view
+    pub was : Page
+    pub changes : (rule_of tag.rel.0 tag.fork).changes was ≡ true
+    pub reads : LastReads p.view.number tag was p.view.calls q.view.calls
 
   -- The rule was followed, by the backend of this number: a page that isn't sound wasn't as the table was opened, where that is known; a sound page was changed where the rule changes it, and its write is past its read
   abbrev pub FollowsRule : ℕ → Fork → ℕ → Outcome → Type 0
