@@ -89,20 +89,19 @@ all_less (us ∷ oss) (suc k) os at less =
     omega (arith, here, both, long, rest)
 
 -- the first pass's calls come first, and the writes are as many in any order
+writes_next : (b : Bool) (z : PassState) (zs : List PassState) → is_first z ≡ b → writes_in (calls_in_order zs) ≡ writes_in (calls_of_passes zs) → writes_in (calls_in_order (z ∷ zs)) ≡ writes_in (calls_of_passes (z ∷ zs))
+writes_next true z zs is rest = ap₂ (λ (v : View) (l : List PassState). writes_in (v.calls ++ calls_of_passes l)) (first_here z zs is) (others_here z zs is)
+writes_next false z zs later rest =
+    let e : writes_in (calls_in_order (z ∷ zs)) ≡ writes_in ((first_in zs).calls ++ (z.view.calls ++ calls_of_passes (others_in zs))) = ap₂ (λ (v : View) (l : List PassState). writes_in (v.calls ++ calls_of_passes l)) (first_past z zs later) (others_past z zs later) in
+    let a = total-both write_weight (first_in zs).calls (z.view.calls ++ calls_of_passes (others_in zs)) in
+    let b = total-both write_weight z.view.calls (calls_of_passes (others_in zs)) in
+    let c = total-both write_weight (first_in zs).calls (calls_of_passes (others_in zs)) in
+    let d = total-both write_weight z.view.calls (calls_of_passes zs) in
+    omega (arith, e, a, b, c, d, rest)
+
 writes_ordered : (zs : List PassState) → writes_in (calls_in_order zs) ≡ writes_in (calls_of_passes zs)
 writes_ordered [] = refl
-writes_ordered (z ∷ zs) = by_first (is_first z) refl
-  where
-    by_first : (b : Bool) → is_first z ≡ b → writes_in (calls_in_order (z ∷ zs)) ≡ writes_in (calls_of_passes (z ∷ zs))
-    by_first true is = ap₂ (λ (v : View) (l : List PassState). writes_in (v.calls ++ calls_of_passes l)) (first_here z zs is) (others_here z zs is)
-    by_first false later =
-        let e : writes_in (calls_in_order (z ∷ zs)) ≡ writes_in ((first_in zs).calls ++ (z.view.calls ++ calls_of_passes (others_in zs))) = ap₂ (λ (v : View) (l : List PassState). writes_in (v.calls ++ calls_of_passes l)) (first_past z zs later) (others_past z zs later) in
-        let a = total-both write_weight (first_in zs).calls (z.view.calls ++ calls_of_passes (others_in zs)) in
-        let b = total-both write_weight z.view.calls (calls_of_passes (others_in zs)) in
-        let c = total-both write_weight (first_in zs).calls (calls_of_passes (others_in zs)) in
-        let d = total-both write_weight z.view.calls (calls_of_passes zs) in
-        let rest = writes_ordered zs in
-        omega (arith, e, a, b, c, d, rest)
+writes_ordered (z ∷ zs) = writes_next (is_first z) z zs refl (writes_ordered zs)
 
 -- no refusal of a read is for a full log, and one of a put shows it
 never_read : (why : ReadError) (end : ℕ) → fault_of_refusal why ≡ Some (LogFull end) → ⊥
