@@ -26,4 +26,5 @@ mod RewriteOrder
 mod RewriteCourse
 mod RewriteDevices
 mod RewriteFull
+pub mod RewriteDown
 pub mod RewriteBackends
