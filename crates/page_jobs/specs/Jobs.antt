@@ -26,10 +26,6 @@ use Rattle.page_jobs.specs.Parts.{AllReads, AreKnown, MeetsFault, blocks_in, par
 abbrev pub workers_in : List PassState → List PassState
 workers_in ps = take (length ps - 1) ps
 
--- the last one alone
-abbrev pub last_in : List PassState → List PassState
-last_in ps = drop (length ps - 1) ps
-
 -- no pass has seen more of the log than its beginning
 abbrev pub AllAtBase : ℕ → List PassState → Type 0
 AllAtBase base [] = Unit {0}
