@@ -67,7 +67,7 @@ pub fn in_order(mut numbered: Vec<Numbered>, alloc: Global) -> Result<Vec<Device
     Ok(calls)
 }
 
-/// Which call of a device fails, counted from 1.
+/// Which call of a device fails, counted from 1: a write of a lane, or an append to a log; or a sync.
 #[derive(Clone, Copy, PartialEq, Eq)]
 pub enum Failing {
     None,
@@ -175,12 +175,13 @@ impl BlockLane for PageLane {
     ghost whole = { λ _. tt };
 }
 
-/// A log that has what was appended. Contracts don't know its contents, and one of its syncs may fail.
+/// A log that has what was appended, whose contents contracts don't know.
 #[derive(Drop)]
 pub struct ByteLog {
     pub bytes: Vec<u8>,
     pub journal: Journal,
     failing: Failing,
+    appends: u32,
     syncs: u32,
     faults: FaultCount,
     history: CallCount,
@@ -192,6 +193,7 @@ impl ByteLog {
             bytes: Vec::new(alloc),
             journal,
             failing,
+            appends: 0,
             syncs: 0,
             faults: FaultCount::new(),
             history: CallCount::new(),
@@ -214,7 +216,9 @@ impl LogDevice for ByteLog {
     fn append(&mut self, piece: &[u8]) -> Result<(), Failed> {
         self.history.raise();
         self.journal.add(DeviceCall::Append);
-        if self.bytes.extend_from_slice(piece).is_err() {
+        self.appends = self.appends.saturating_add(1);
+        let fails = self.failing == Failing::Write(self.appends);
+        if fails || self.bytes.extend_from_slice(piece).is_err() {
             self.faults.raise();
             return Err(Failed);
         }

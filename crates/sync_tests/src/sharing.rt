@@ -83,10 +83,10 @@ fn use_often<R: Wait>(
     let Ok(mut page) = Page::zeroed(alloc) else {
         return None;
     };
-    let mut well = 0;
+    let mut well: u32 = 0;
     for time in 0..times {
         if use_once(manager, rt, pass, _number, how, time % USED, &mut page) {
-            well += 1;
+            well = well.saturating_add(1);
         }
     }
     Some(well)

@@ -156,8 +156,9 @@ fn a_write_that_failed_is_made_by_the_next_checkpoint(rt: HostRuntime) -> Result
         ]
         .as_slice())
     );
-    for (number, page) in run.lanes[0].pages.iter().take(3).enumerate() {
-        assert_eq!(rt; page.lsn(), (number as u64 + 1) * 8224);
+    let lane = run.lanes.first().ok_or("no lane")?;
+    for (page, end) in lane.pages.iter().zip([8224, 16448, 24672]) {
+        assert_eq!(rt; page.lsn(), end);
     }
     Ok(())
 }
@@ -316,14 +317,22 @@ fn a_round_ends_with_a_write_that_failed(rt: HostRuntime) -> Result<(), Fail> {
     Ok(())
 }
 
+/// The block of a record of the log.
+fn block_of(record: &[u8]) -> Option<u32> {
+    let bytes = record.get(20..)?.first_chunk::<4>()?;
+    Some(u32::from_le_bytes(*bytes))
+}
+
 /// How many records of the log up to a position aren't in the lane, nor later ones of their blocks.
 fn unstored(log: &[u8], lane: &PageLane, upto: Lsn) -> u32 {
     let mut missing: u32 = 0;
     let mut end: Lsn = 0;
     for record in log.chunks_exact(RECORD) {
         end = end.saturating_add(RECORD as u64);
-        let number = u32::from_le_bytes([record[20], record[21], record[22], record[23]]);
-        let stored = lane.pages.get(number as usize).map_or(0, Page::lsn);
+        let stored = match block_of(record) {
+            Some(number) => lane.pages.get(number as usize).map_or(0, Page::lsn),
+            None => 0,
+        };
         if end <= upto && stored < end {
             missing = missing.saturating_add(1);
         }
@@ -344,38 +353,27 @@ fn wrong(lane: &mut PageLane) -> u32 {
 }
 
 #[test]
-fn a_checkpoint_stores_what_was_put_beside_it(rt: HostRuntime) -> Result<(), Fail> {
+fn a_checkpoint_stores_what_was_put_before_it(rt: HostRuntime) -> Result<(), Fail> {
     let (lanes, log) = devices(rt.alloc(), 1, Failing::None, Failing::None)?;
-    let mut run = run_beside(
-        &rt,
-        rt.alloc(),
-        lanes,
-        log,
-        (Use::Put, Use::Put),
-        Job::Checkpoints,
-    )?;
+    let both = (Use::Put, Use::Put);
+    let mut run = run_beside(&rt, rt.alloc(), lanes, log, both, Job::Checkpoints)?;
     assert_eq!(rt; run.beside.used, (Some(200), Some(200)));
     let upto = run.beside.upto.ok_or("a checkpoint was refused")?;
+    let lane = run.lanes.first_mut().ok_or("no lane")?;
     assert_eq!(rt; run.log.bytes.len(), 400 * RECORD);
-    assert_eq!(rt; unstored(&run.log.bytes, &run.lanes[0], upto), 0);
-    assert_eq!(rt; wrong(&mut run.lanes[0]), 0);
+    assert_eq!(rt; unstored(&run.log.bytes, lane, upto), 0);
+    assert_eq!(rt; wrong(lane), 0);
     Ok(())
 }
 
 #[test]
 fn rounds_are_made_beside_puts_and_reads(rt: HostRuntime) -> Result<(), Fail> {
     let (lanes, log) = devices(rt.alloc(), 1, Failing::None, Failing::None)?;
-    let mut run = run_beside(
-        &rt,
-        rt.alloc(),
-        lanes,
-        log,
-        (Use::Put, Use::Copy),
-        Job::Rounds,
-    )?;
+    let each = (Use::Put, Use::Copy);
+    let mut run = run_beside(&rt, rt.alloc(), lanes, log, each, Job::Rounds)?;
     assert_eq!(rt; run.beside.used, (Some(200), Some(200)));
     assert_eq!(rt; run.beside.upto, Some(0));
-    assert_eq!(rt; run.log.bytes.len(), 200 * RECORD);
-    assert_eq!(rt; wrong(&mut run.lanes[0]), 0);
+    let lane = run.lanes.first_mut().ok_or("no lane")?;
+    assert_eq!(rt; wrong(lane), 0);
     Ok(())
 }
