@@ -1,11 +1,11 @@
 -- The events of the eviction and of the wait are steps.
-use Rattle.std.proofs.Common.{◌≡◌, ◌≢◌, false, [], ◌∷◌, slice_index_or, None, lit<, refl}
+use Rattle.std.proofs.Common.{◌≡◌, ◌≢◌, false, [], ◌∷◌, None, lit<, refl}
 use Rattle.pin_core.specs.declared.view.Role.TheVariants.{Victim}
 use Rattle.pin_core.specs.declared.view.MapChange.TheVariants.{Settled}
 use Rattle.pin_core.specs.declared.view.PartitionHold.{PartitionHold}
 use Rattle.pin_core.specs.declared.view.Link.{Link}
 use Rattle.pin_core.specs.declared.view.View.{View}
-use Rattle.pin_core.specs.State.{emptied_view, split_state}
+use Rattle.pin_core.specs.State.{split_state}
 use Rattle.pin_core.specs.Kinds as pins
 use Rattle.pin_core.specs.Turns.{TurnKind, take_turn, leave_turn, map_out, change_map, map_back}
 use Rattle.pin_core.specs.Steps as pin_steps
@@ -17,18 +17,18 @@ use Rattle.page_core.specs.Sample.{sample_entry}
 use Rattle.history_core.specs.State.{State}
 use Rattle.history_core.specs.Steps.{pools, Run, rests, goes}
 use Rattle.history_core.specs.Evictions.{evict, wait, wake, EvictionRuns, WaitRuns}
-use Rattle.history_core.proofs.Miss.{view_of, pooled, turned, paged, m22, filled, run_append}
+use Rattle.history_core.proofs.Miss.{view_at, view_of, pooled, turned, paged, m22, filled, run_append}
 
-abbrev second_of : State → View
-second_of s = slice_index_or s.pool.core.views 1 emptied_view
+abbrev pub second_of : State → View
+second_of s = view_at 1 s
 
-abbrev second_pooled : pins.Kind → State → State
+abbrev pub second_pooled : pins.Kind → State → State
 second_pooled k s = record s { pool = record s.pool { core = pin_steps.state_after k s.pool.core 1 0 (second_of s) } }
 
 abbrev second_turned : TurnKind → State → State
 second_turned k s = record s { pool = record s.pool { core = pin_steps.state_turned k s.pool.core 1 0 (second_of s) } }
 
-abbrev second_paged : Kind → State → State
+abbrev pub second_paged : Kind → State → State
 second_paged k s = record s { pool = page_steps.state_after k s.pool 1 0 (second_of s) }
 
 abbrev e1 : State

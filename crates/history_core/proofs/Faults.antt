@@ -3,6 +3,7 @@ use Rattle.std.proofs.Common.{◌≡◌, ◌<◌, true, false, ◌++◌, Some, N
 use Rattle.std.proofs.lemmas.Option.{same_Some}
 use Rattle.state_word.specs.declared.word.IoEnd.TheVariants.{Bad}
 use Rattle.pin_core.specs.declared.view.Link.{Link}
+use Rattle.pin_core.specs.declared.view.LaneHold.{LaneHold}
 use Rattle.pin_core.specs.declared.view.TakenLane.{TakenLane}
 use Rattle.pin_core.specs.Kinds as pins
 use Rattle.pin_core.specs.Steps as pin_steps
@@ -15,7 +16,7 @@ use Rattle.history_core.specs.Lanes.{take_lane, leave_lane, lane_out, fail_read,
 use Rattle.history_core.specs.Steps.{pools, lanes, Run, rests, goes}
 use Rattle.history_core.specs.Sample.{sample_lane}
 use Rattle.history_core.specs.Faults.{faulted_lane, fail_input, sync_twice, FaultRuns}
-use Rattle.history_core.proofs.Miss.{view_of, pooled, paged, at_lane, m12, m13, m14, begun, goes_out, run_append, below, lane_one}
+use Rattle.history_core.proofs.Miss.{view_of, pooled, paged, at_lane, m12, m13, m14, begun, goes_out, run_append, below, at_one_lane}
 
 abbrev f1 : State
 f1 = at_lane (fail_read 7 1) m14
@@ -64,7 +65,7 @@ read_once : (taken : TakenLane) → Some faulted_lane ≡ Some taken → taken.r
 read_once taken e less = let x = ap (λ (t : TakenLane). t.read_faults) (same_Some faulted_lane taken e) in absurd (omega arith)
 
 no_write_out : HasNoWriteOut (view_of f4) 0
-no_write_out n out = absurd (out (lane_one (view_of f4).lanes _ refl refl n))
+no_write_out n out = absurd (out (at_one_lane (λ (h : LaneHold). h.out ≡ None) (view_of f4) _ refl refl refl n))
 
 fails : Run (fail_input ++ sync_twice) m12 f13
 fails = goes (lanes 0 0 take_lane (view_of m12) refl refl (lit< tt) (record { free = refl }) tt)

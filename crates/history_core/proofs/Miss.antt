@@ -28,8 +28,11 @@ use Rattle.history_core.specs.Sample.{sample_lane}
 use Rattle.history_core.specs.Miss.{miss_start, miss, begin_input, fill, MissRuns}
 use Rattle.grid.specs.Shape.{put}
 
+abbrev pub view_at : ℕ → State → View
+view_at i s = slice_index_or s.pool.core.views i emptied_view
+
 abbrev pub view_of : State → View
-view_of s = slice_index_or s.pool.core.views 0 emptied_view
+view_of s = view_at 0 s
 
 abbrev pub pooled : pins.Kind → State → State
 pooled k s = record s { pool = record s.pool { core = pin_steps.state_after k s.pool.core 0 0 (view_of s) } }
@@ -40,11 +43,17 @@ turned k s = record s { pool = record s.pool { core = pin_steps.state_turned k s
 abbrev pub paged : Kind → State → State
 paged k s = record s { pool = page_steps.state_after k s.pool 0 0 (view_of s) }
 
+abbrev pub at_lane_by : ℕ → LaneKind → State → State
+at_lane_by i k s = record s { pool = aside s.pool i (stepped (laned k 0 (view_at i s) (view_at i s))); lane = put s.lane 0 (lane_after k (s.lane 0)) }
+
 abbrev pub at_lane : LaneKind → State → State
-at_lane k s = record s { pool = aside s.pool 0 (stepped (laned k 0 (view_of s) (view_of s))); lane = put s.lane 0 (lane_after k (s.lane 0)) }
+at_lane k s = at_lane_by 0 k s
+
+abbrev pub noted_by : ℕ → Kind → State → State
+noted_by i k s = record s { pool = pool_after k (steps.pool_noting k s 0) i 0 (laned (lane_back false) 0 (view_at i s) (steps.paged k (steps.pool_noting k s 0) 0 (view_at i s))); lane = put s.lane 0 (lane_after (lane_back false) (s.lane 0)) }
 
 abbrev pub noted : Kind → State → State
-noted k s = record s { pool = pool_after k (steps.pool_noting k s 0) 0 0 (laned (lane_back false) 0 (view_of s) (steps.paged k (steps.pool_noting k s 0) 0 (view_of s))); lane = put s.lane 0 (lane_after (lane_back false) (s.lane 0)) }
+noted k s = noted_by 0 k s
 
 abbrev m0 : State
 m0 = miss_start
@@ -130,15 +139,16 @@ m27 = paged page_back m26
 abbrev m28 : State
 m28 = paged leave_copy m27
 
-pub lane_one : (l : List LaneHold) (a : LaneHold) → l ≡ a ∷ [] → a.out ≡ None → (n : ℕ) → (slice_index_or l n no_lane).out ≡ None
-lane_one l a e x n = subst (λ (y : List LaneHold). (slice_index_or y n no_lane).out ≡ None) (sym e) (cases n)
+-- where it holds at the one lane it holds of the view
+pub at_one_lane : (P : LaneHold → Type 0) (v : View) (a : LaneHold) → v.lanes ≡ a ∷ [] → P a → P no_lane → (n : ℕ) → P (lane_hold v n)
+at_one_lane P v a e x z n = subst (λ (l : List LaneHold). P (slice_index_or l n no_lane)) (sym e) (cases n)
   where
-    cases : (n : ℕ) → (slice_index_or (a ∷ []) n no_lane).out ≡ None
+    cases : (n : ℕ) → P (slice_index_or (a ∷ []) n no_lane)
     cases zero = x
-    cases (suc n) = refl
+    cases (suc n) = z
 
 pub no_write : HasNoWriteOut (view_of m21) 0
-no_write n out = absurd (out (lane_one (view_of m21).lanes _ refl refl n))
+no_write n out = absurd (out (at_one_lane (λ (h : LaneHold). h.out ≡ None) (view_of m21) _ refl refl refl n))
 
 pub goes_out : CanTakeOut sample_lane (m13.lane 0) (lane_hold (view_of m13) 0)
 goes_out = record { held = refl; home = refl; reads = refl; writes = refl; pages = λ blocks k b e at. absurd (cc) }

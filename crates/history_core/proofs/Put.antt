@@ -8,6 +8,7 @@ use Rattle.page_layout.specs.Fields.{header_of, lsn_of}
 use Rattle.page_layout.specs.Soundness.{is_new_page, is_sound_page}
 use Rattle.pin_core.specs.declared.view.Io.TheVariants.{Quiet}
 use Rattle.pin_core.specs.declared.view.Link.{Link}
+use Rattle.pin_core.specs.declared.view.LaneHold.{LaneHold}
 use Rattle.pin_core.specs.declared.view.Seen.TheVariants as seen
 use Rattle.pin_core.specs.State.{Page, lane_hold}
 use Rattle.pin_core.specs.Kinds as pins
@@ -26,7 +27,7 @@ use Rattle.history_core.specs.Sample.{sample_store, sample_lane, sample_log}
 use Rattle.history_core.specs.Miss.{miss_start, miss, fill}
 use Rattle.history_core.specs.Put.{IsPut, HasPut, some_page, put_entry, put_bytes, log_with, change, flush, write_out, PutRuns}
 use Rattle.history_core.proofs.Logs.{record_length}
-use Rattle.history_core.proofs.Miss.{view_of, pooled, paged, at_lane, noted, m22, filled, run_append, below, lane_one}
+use Rattle.history_core.proofs.Miss.{view_at, view_of, pooled, paged, at_lane, noted, m22, filled, run_append, below, at_one_lane}
 use Rattle.grid.specs.Shape.{put}
 
 has_room : 0 + record_size ≤ last_position
@@ -48,11 +49,11 @@ entered p s = let tag = (s.pool.core.frame 0).tag in let end = s.end + record_si
 abbrev raised : State → State
 raised s = record s { pool = aside s.pool 0 (has_raised s.end (view_of s)); flushed = max s.flushed s.end }
 
-abbrev loaded : State → State
-loaded s = record s { pool = aside s.pool 0 (looked (seen.Flushed s.flushed) (record (view_of s) { flushed = s.flushed })) }
+abbrev pub loaded_by : ℕ → State → State
+loaded_by i s = record s { pool = aside s.pool i (looked (seen.Flushed s.flushed) (record (view_at i s) { flushed = s.flushed })) }
 
-abbrev pub written : Page → State → State
-written p s = record s { pool = pool_after begin_write s.pool 0 0 (laned (write_block 0 7 p) 0 (view_of s) (steps.paged begin_write s.pool 0 (view_of s))); lane = put s.lane 0 (lane_after (write_block 0 7 p) (s.lane 0)) }
+abbrev pub written_by : ℕ → Page → State → State
+written_by i p s = record s { pool = pool_after begin_write s.pool i 0 (laned (write_block 0 7 p) 0 (view_at i s) (steps.paged begin_write s.pool 0 (view_at i s))); lane = put s.lane 0 (lane_after (write_block 0 7 p) (s.lane 0)) }
 
 abbrev q1 : Page → State
 q1 p = paged exclude m22
@@ -109,7 +110,7 @@ abbrev q18 : Page → State
 q18 p = at_log leave_log (q17 p)
 
 abbrev pub q19 : Page → State
-q19 p = loaded (q18 p)
+q19 p = loaded_by 0 (q18 p)
 
 abbrev q20 : Page → State
 q20 p = paged share (q19 p)
@@ -133,7 +134,7 @@ abbrev q26 : Page → State
 q26 p = at_lane (lane_out sample_lane) (q25 p)
 
 abbrev q27 : Page → State
-q27 p = written p (q26 p)
+q27 p = written_by 0 p (q26 p)
 
 abbrev q28 : Page → State
 q28 p = noted (note_write true) (q27 p)
@@ -154,7 +155,7 @@ takes_out : (p : Page) → CanTakeOut sample_lane ((q25 p).lane 0) (lane_hold (v
 takes_out p = record { held = refl; home = refl; reads = refl; writes = refl; pages = λ blocks k b e at. absurd (cc) }
 
 none_out : (p : Page) → HasNoWriteOut (view_of (q30 p)) 0
-none_out p n out = absurd (out (lane_one (view_of (q30 p)).lanes _ refl refl n))
+none_out p n out = absurd (out (at_one_lane (λ (h : LaneHold). h.out ≡ None) (view_of (q30 p)) _ refl refl refl n))
 
 may_log : (p : Page) → IsPut p → CanLog (q4 p) 0 7 p (view_of (q4 p))
 may_log p is = record { inside = lit< tt; tagged = refl; right = record { right = refl; dirtied = refl; settled = refl; sound = is.sound; used = is.used }; around = at_frame (λ (l : Link). l.unapplied ≡ false) (view_of (q4 p)) _ refl refl refl; full = is.full; ends = is.ends; room = has_room }
@@ -184,7 +185,7 @@ flushes p is = goes (logs 0 take_log (view_of (q12 p)) refl refl (record { free 
     (goes (loads_flushed 0 (view_of (q18 p)) refl refl)
     rests))))))
 
-writes_out : (p : Page) → IsPut p → Run (write_out p) (q19 p) (q32 p)
+writes_out : (p : Page) → IsPut p → Run (write_out 0 p) (q19 p) (q32 p)
 writes_out p is = goes (pools (page_steps.touches 0 0 share (view_of (q19 p)) refl refl (lit< tt) (record { pinned = λ e. cc; seen = refl; none = refl; free = refl }) tt) tt)
     (goes (pools (page_steps.cores (pin_steps.touches 0 0 pins.lock_header (view_of (q20 p)) refl refl (lit< tt) (record { unlocked = refl }) (at_frame (λ (l : Link). l.header ≡ None) (view_of (q20 p)) _ refl refl refl))) tt)
     (goes (pools (page_steps.touches 0 0 start_output (view_of (q21 p)) refl refl (lit< tt) (record { held = refl; settled = refl; pinned = λ e. cc; clear = refl; dirty = refl; right = refl }) (at_frame (λ (l : Link). l.io ≡ Quiet) (view_of (q21 p)) _ refl refl refl)) tt)
@@ -209,7 +210,7 @@ may_put : IsPut some_page
 unfolding is_sound_page is_new_page header_of lsn_of
 may_put = record { sound = refl; used = refl; full = omega (arith, length-replicate {A = ℕ} 8168 0); ends = refl }
 
-every_put : (p : Page) → IsPut p → (t : State) × Run (miss ++ fill ++ change p ++ flush p ++ write_out p) miss_start t × HasPut p t
+every_put : (p : Page) → IsPut p → (t : State) × Run (miss ++ fill ++ change p ++ flush p ++ write_out 0 p) miss_start t × HasPut p t
 every_put p is = (
   q32 p,
   run_append filled (run_append (changes p is) (run_append (flushes p is) (writes_out p is))),

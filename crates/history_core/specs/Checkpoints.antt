@@ -1,30 +1,45 @@
--- A checkpoint from its begin to its end, for the definitions to be seen at work: a backend has put a page into a frame and made the log durable; its checkpoint passes the frame and lists it, writes the page to the block's lane, and syncs the lane.
+-- A checkpoint from its begin to its end, for the definitions to be seen at work: a backend has put a page into a frame and made the log durable; the checkpoint of a second one passes the frame and lists it, writes the page to the block's lane, and syncs the lane; then the second backend is joined into the first, which keeps the checkpoint.
 use Rattle.std.specs.Prelude.{◌≡◌, true, false, List, [], ◌∷◌, ◌++◌}
 use mathlib.Core.Option.{some}
 use lib.ListN.{get_elem?}
+use Rattle.pin_core.specs.declared.view.Checkpoint.{Checkpoint}
 use Rattle.pin_core.specs.declared.view.View.{View}
-use Rattle.pin_core.specs.State.{Page, link, lane_hold}
+use Rattle.pin_core.specs.State.{Page, emptied_view}
 use Rattle.pin_core.specs.Kinds as pins
+use Rattle.pin_core.specs.Steps as pin_steps
 use Rattle.page_core.specs.Kinds.{need_checkpoint}
+use Rattle.page_core.specs.Steps as page_steps
 use Rattle.history_core.specs.Log.{record_size}
 use Rattle.history_core.specs.State.{State, stored, synced_upto}
 use Rattle.history_core.specs.Lanes.{take_lane, leave_lane, lane_out, sync_lane, lane_back}
-use Rattle.history_core.specs.Steps.{Event, lane, begin_checkpoint, Run}
+use Rattle.history_core.specs.Swept.{has_swept}
+use Rattle.history_core.specs.Debts.{has_passed, has_listed}
+use Rattle.history_core.specs.Steps as steps
+use Rattle.history_core.specs.Steps.{Event, lane, load_flushed, begin_checkpoint, Run}
 use Rattle.history_core.specs.Sample.{sample_lane}
-use Rattle.history_core.specs.Miss.{miss_start, pool, page, miss, fill}
+use Rattle.history_core.specs.Miss.{miss_start, miss, fill}
 use Rattle.history_core.specs.Put.{IsPut, change, flush, write_out}
+use Rattle.history_core.specs.Evictions.{second_pool, second_page}
 
--- the checkpoint begins, and the dirty frame is flagged and listed
+-- the checkpoint of a second backend begins, and the dirty frame is flagged and listed
 abbrev pub begin : List Event
-begin = begin_checkpoint 0 ∷ pool pins.lock_header ∷ page need_checkpoint ∷ []
+begin = steps.pool (page_steps.pins_and_maps pin_steps.split) ∷ begin_checkpoint 1 ∷ second_pool pins.lock_header ∷ second_page need_checkpoint ∷ []
 
--- the page is written; a load of the state word sees that the flag is gone, and nothing is left to write
+-- under a pin of the frame the page is written
 abbrev pub write : Page → List Event
-write p = write_out p ++ pool pins.load_state ∷ []
+write p = second_pool (pins.pin false) ∷ second_pool pins.load_state ∷ load_flushed 1 ∷ write_out 1 p
+
+-- the pin goes; a load of the state word sees that the flag is gone, and nothing is left to write
+abbrev pub drop : List Event
+drop = second_pool pins.unpin ∷ second_pool pins.load_state ∷ []
 
 -- the lane is synced
 abbrev pub sync : List Event
-sync = lane 0 0 take_lane ∷ lane 0 0 (lane_out sample_lane) ∷ lane 0 0 sync_lane ∷ lane 0 0 (lane_back false) ∷ lane 0 0 leave_lane ∷ []
+sync = lane 1 0 take_lane ∷ lane 1 0 (lane_out sample_lane) ∷ lane 1 0 sync_lane ∷ lane 1 0 (lane_back false) ∷ lane 1 0 leave_lane ∷ []
+
+-- the second backend, which holds nothing, is joined into the first
+abbrev pub join : List Event
+join = steps.pool (page_steps.pins_and_maps (pin_steps.join 1)) ∷ []
 
 -- After the checkpoint
 pub record HasStored (p : Page) (t : State) : Type 0 where
@@ -32,8 +47,10 @@ pub record HasStored (p : Page) (t : State) : Type 0 where
   pub lane : stored t 7 ≡ p
   pub durable : synced_upto t 7 ≡ record_size
   pub clean : (t.pool.core.frame 0).word.dirty ≡ false
-  -- the backend's checkpoint began at the entry's end, and has passed the frame, which is no longer listed; and the backend has swept the lane up to there
-  pub ended : (v : View) × (get_elem? t.pool.core.views 0 ≡ some v) × (v.upto ≡ record_size) × ((link v 0).passed ≡ true) × ((link v 0).listed ≡ false) × ((lane_hold v 0).swept ≡ record_size)
+  -- nothing is left of the second backend
+  pub joined : get_elem? t.pool.core.views 1 ≡ some emptied_view
+  -- but its checkpoint, the only one that the first keeps: it began at the entry's end, has passed the frame, which is no longer listed, and has swept the lane up to there
+  pub ended : (v : View) × (c : Checkpoint) × (get_elem? t.pool.core.views 0 ≡ some v) × (v.kept ≡ c ∷ []) × (c.upto ≡ record_size) × (has_passed c 0 ≡ true) × (has_listed c 0 ≡ false) × (has_swept c 0 ≡ record_size)
 
 abbrev pub CheckpointRuns : Type 0
-CheckpointRuns = (p : Page) → IsPut p → (t : State) × Run (miss ++ fill ++ change p ++ flush p ++ begin ++ write p ++ sync) miss_start t × HasStored p t
+CheckpointRuns = (p : Page) → IsPut p → (t : State) × Run (miss ++ fill ++ change p ++ flush p ++ begin ++ write p ++ drop ++ sync ++ join) miss_start t × HasStored p t

@@ -15,7 +15,7 @@ use Rattle.page_core.specs.Sample.{sample_entry}
 use Rattle.history_core.specs.State.{State}
 use Rattle.history_core.specs.Steps as steps
 use Rattle.history_core.specs.Steps.{Event, Run}
-use Rattle.history_core.specs.Miss.{miss_start, pool, turn, page, miss, fill}
+use Rattle.history_core.specs.Miss.{miss_start, pool_by, page_by, pool, turn, page, miss, fill}
 
 -- the pin goes; under the latch of the partition the tag is erased, the frame cleared, and the map's entry left out
 abbrev pub evict : List Event
@@ -33,13 +33,13 @@ EvictionRuns = (t : State) × Run (miss ++ fill ++ evict) miss_start t × Evicte
 
 -- a step of a second backend
 abbrev pub second_pool : pins.Kind → Event
-second_pool k = steps.pool (page_steps.pins_and_maps (pin_steps.at 1 0 k))
+second_pool k = pool_by 1 k
 
 abbrev pub second_turn : TurnKind → Event
 second_turn k = steps.pool (page_steps.pins_and_maps (pin_steps.turn 1 0 k))
 
 abbrev pub second_page : Kind → Event
-second_page k = steps.pool (page_steps.at 1 0 k)
+second_page k = page_by 1 k
 
 -- it pins the frame and locks it exclusively; the first one's pin is there still, so it sets itself as waiter, and lets go of the lock
 abbrev pub wait : List Event

@@ -1,5 +1,5 @@
 -- A miss and a read, for the definitions to be seen at work: a backend gives a frame to a block, reads the block from its lane into it, copies the page under the shared lock and gives the read its place.
-use Rattle.std.specs.Prelude.{◌≡◌, false, List, [], ◌∷◌, ◌++◌}
+use Rattle.std.specs.Prelude.{◌≡◌, ℕ, false, List, [], ◌∷◌, ◌++◌}
 use mathlib.Core.Option.{some}
 use lib.ListN.{get_elem?}
 use Rattle.state_word.specs.declared.word.IoEnd.TheVariants.{ReadOk}
@@ -21,15 +21,22 @@ use Rattle.history_core.specs.Sample.{sample_config, sample_store, sample_lane}
 abbrev pub miss_start : State
 miss_start = opening sample_config (record sample_store { origin = λ _. sample_page }) []
 
--- a step of the one backend, at the one frame or the one latch of a partition
+-- a step of backend i at the one frame
+abbrev pub pool_by : ℕ → pins.Kind → Event
+pool_by i k = steps.pool (page_steps.pins_and_maps (pin_steps.at i 0 k))
+
+abbrev pub page_by : ℕ → Kind → Event
+page_by i k = steps.pool (page_steps.at i 0 k)
+
+-- a step of the first backend, at the one frame or the one latch of a partition
 abbrev pub pool : pins.Kind → Event
-pool k = steps.pool (page_steps.pins_and_maps (pin_steps.at 0 0 k))
+pool k = pool_by 0 k
 
 abbrev pub turn : TurnKind → Event
 turn k = steps.pool (page_steps.pins_and_maps (pin_steps.turn 0 0 k))
 
 abbrev pub page : Kind → Event
-page k = steps.pool (page_steps.at 0 0 k)
+page k = page_by 0 k
 
 -- the frame is given the block 7, under the latch of its partition
 abbrev pub miss : List Event

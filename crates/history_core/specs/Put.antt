@@ -17,7 +17,7 @@ use Rattle.history_core.specs.Lanes.{take_lane, leave_lane, lane_out, write_bloc
 use Rattle.history_core.specs.Device.{take_log, leave_log, log_out, append, sync_log, log_back}
 use Rattle.history_core.specs.Steps.{Event, lane, write, note, log, enter, raise_flushed, load_flushed, Run}
 use Rattle.history_core.specs.Sample.{sample_store, sample_lane, sample_log}
-use Rattle.history_core.specs.Miss.{miss_start, pool, page, miss, fill}
+use Rattle.history_core.specs.Miss.{miss_start, pool_by, page_by, page, miss, fill}
 
 -- A page that may be put into the frame: a sound page of 8192 bytes with content, whose position in the log is where its entry will end
 pub record IsPut (p : Page) : Type 0 where
@@ -49,9 +49,9 @@ change p = page exclude ∷ page mark_dirty ∷ log 0 take_log ∷ log 0 (log_ou
 abbrev pub flush : Page → List Event
 flush p = log 0 take_log ∷ log 0 (log_out (log_with p)) ∷ log 0 sync_log ∷ log 0 (log_back false) ∷ raise_flushed 0 ∷ log 0 leave_log ∷ load_flushed 0 ∷ []
 
--- under the shared lock and the output right the page is written to the block's lane
-abbrev pub write_out : Page → List Event
-write_out p = page share ∷ pool pins.lock_header ∷ page start_output ∷ pool pins.lock_header ∷ page clear_just_dirtied ∷ lane 0 0 take_lane ∷ lane 0 0 (lane_out sample_lane) ∷ write 0 0 0 (write_block 0 7 p) ∷ note 0 0 0 (lane_back false) (note_write true) ∷ lane 0 0 leave_lane ∷ pool pins.lock_header ∷ page (end_io WriteOk) ∷ page unshare ∷ []
+-- under the shared lock and the output right backend i writes the page to the block's lane
+abbrev pub write_out : ℕ → Page → List Event
+write_out i p = page_by i share ∷ pool_by i pins.lock_header ∷ page_by i start_output ∷ pool_by i pins.lock_header ∷ page_by i clear_just_dirtied ∷ lane i 0 take_lane ∷ lane i 0 (lane_out sample_lane) ∷ write i 0 0 (write_block 0 7 p) ∷ note i 0 0 (lane_back false) (note_write true) ∷ lane i 0 leave_lane ∷ pool_by i pins.lock_header ∷ page_by i (end_io WriteOk) ∷ page_by i unshare ∷ []
 
 -- After the write
 pub record HasPut (p : Page) (t : State) : Type 0 where
@@ -68,4 +68,4 @@ pub record HasPut (p : Page) (t : State) : Type 0 where
   pub called : (v : View) × (get_elem? t.pool.core.views 0 ≡ some v) × (v.calls ≡ Write 0 7 p record_size ∷ []) × (v.front ≡ record_size)
 
 abbrev pub PutRuns : Type 0
-PutRuns = IsPut some_page × ((p : Page) → IsPut p → (t : State) × Run (miss ++ fill ++ change p ++ flush p ++ write_out p) miss_start t × HasPut p t)
+PutRuns = IsPut some_page × ((p : Page) → IsPut p → (t : State) × Run (miss ++ fill ++ change p ++ flush p ++ write_out 0 p) miss_start t × HasPut p t)

@@ -138,8 +138,8 @@ pub fn failed_read_and_syncs()
     ensures { FaultRuns }
 {}
 
-/// An example: the checkpoint of a backend that has put a page into a frame, from its begin to the sync of the lane.
-pub fn checkpoint_and_sync()
+/// An example: after a backend has put a page into a frame, the checkpoint of a second one, from its begin to the sync of the lane, and the join of the second backend into the first.
+pub fn checkpoint_and_join()
     ensures { CheckpointRuns }
 {}
 

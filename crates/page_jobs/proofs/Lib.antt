@@ -3,6 +3,7 @@ mod Blocks
 mod Sums
 mod BlockWork
 mod Deals
+mod BesideWork
 mod Texts
 mod Whole
 mod Origin
@@ -25,4 +26,6 @@ mod RewriteRanges
 mod RewriteOrder
 mod RewriteCourse
 mod RewriteDevices
+mod RewriteFull
+pub mod RewriteDown
 pub mod RewriteBackends

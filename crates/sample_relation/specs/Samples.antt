@@ -1,7 +1,6 @@
 -- A relation made from a number, its seed. What the page of a block is goes by the sum of the seed and the block, modulo 8: the page is new, it
 -- isn't sound, or it has that many items, every third one's line pointer dead. Items go by their numbers, from 1 on.
-use Rattle.std.specs.Prelude.{◌≡◌, ℕ, zero, suc, ◌+◌, ◌-◌, ◌*◌, ◌/◌, ◌%◌, ◌^◌, ◌==◌, Bool, List, [], ◌++◌, map, replicate, if◌then◌else◌}
-use Rattle.std.specs.List.{range_with_len}
+use Rattle.std.specs.Prelude.{◌≡◌, ℕ, zero, suc, ◌+◌, ◌-◌, ◌*◌, ◌/◌, ◌%◌, ◌^◌, ◌==◌, Bool, List, [], ◌++◌, replicate, if◌then◌else◌}
 use Rattle.byteorder.specs.Endian.{little_bytes}
 
 -- a header: the log position, its high half first, no checksum, the flags, the ends of line pointers and of free space, no special
@@ -56,10 +55,6 @@ page_of_kind (suc (suc n)) block = used_page block (suc (suc n))
 -- the page of a block
 unfoldable pub sample_page : ℕ → ℕ → List ℕ
 sample_page seed block = page_of_kind ((seed + block) % 8) block
-
--- the pages of the first n blocks
-unfoldable pub sample_relation : ℕ → ℕ → List (List ℕ)
-sample_relation seed n = map (sample_page seed) (range_with_len 0 n)
 
 -- these bytes were put after the old ones
 pub record Appends (old new bytes : List ℕ) : Type 0 where

@@ -1,5 +1,5 @@
 use Rattle.history_core.proofs.Checkpoints.{checkpoints}
-use Rattle.history_core.proofs.checkpoint_and_sync.Goals as goal
+use Rattle.history_core.proofs.checkpoint_and_join.Goals as goal
 
 pub returns : goal.returns
 returns c = checkpoints
