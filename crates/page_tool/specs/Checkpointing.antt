@@ -1,0 +1,63 @@
+-- The checkpoint at the end of a rewrite.
+use Rattle.std.specs.Prelude.{◌≡◌, ◌⊎◌, ℕ, ◌+◌, ◌-◌, ◌<◌, ◌≤◌, true, List, length, Option}
+use mathlib.Core.Option.{some}
+use lib.ListN.{get_elem?}
+use Rattle.block_tag.specs.declared.tag.Tag.{Tag}
+use Rattle.page_layout.specs.Fields.{lsn_of}
+use Rattle.segment_store.specs.Contents.{Pages}
+use Rattle.pin_core.specs.declared.view.View.{View}
+use Rattle.pin_core.specs.State.{Page}
+use Rattle.history_core.specs.Log.{record_size}
+use Rattle.frame_table.specs.declared.table.FrameTable.{FrameTable}
+use Rattle.frame_table.specs.Opened.{WasAtOpening}
+use Rattle.backend_pass.specs.declared.manager.Manager.{Manager}
+use Rattle.backend_pass.specs.Closing.{EachPass, HasSwept}
+use Rattle.backend_pass.specs.Managers.{Belongs}
+use Rattle.backend_pass.specs.Passes.{KeepsCallers, PassState}
+use Rattle.page_tool.specs.declared.limits.PositionLimit.TheVariants.{OfPages, OfPage, OfLog}
+use Rattle.page_tool.specs.declared.rewriting.RewriteError.{RewriteError}
+use Rattle.page_tool.specs.declared.rewriting.RewriteError.TheVariants.{ReadFault, WriteFault, LogFault, OutFault, Memory, OverLimit}
+use Rattle.page_tool.specs.Limits.{last_position}
+
+-- The view has swept each of so many lanes up to a position that is at least this one
+pub record SweepsPast (lanes front : ℕ) (v : View) : Type 0 where
+  pub upto : ℕ
+  pub past : front ≤ upto
+  pub swept : HasSwept lanes upto v
+
+-- A page that the block's lane can have held as the table was opened has a position past the log's end, which wasn't before one that the view had seen
+pub record IsPastEnd {L G : Type 0} (contents : L → Option Pages) (t : FrameTable L G) (v : View) (lsn end : ℕ) : Type 0 where
+  pub tag : Tag
+  pub page : Page
+  pub was : WasAtOpening contents t tag page
+  pub position : lsn ≡ lsn_of page
+  pub past : end < lsn
+  pub seen : v.end_seen ≤ end
+
+-- why a pass whose view was v, and is w, ends a rewrite: it met a fault, or was told that the log is down
+abbrev pub PassMeets : {L G : Type 0} → (L → Option Pages) → FrameTable L G → View → View → RewriteError → Type 0
+PassMeets contents t v w ReadFault = 0 < w.met.reads
+PassMeets contents t v w WriteFault = 0 < w.met.writes
+PassMeets contents t v w LogFault = (0 < w.met.logs) ⊎ (w.saw_down ≡ true)
+PassMeets contents t v w OutFault = ⊥
+PassMeets contents t v w Memory = ⊥
+PassMeets contents t v w (OverLimit (OfPages largest blocks)) = ⊥
+PassMeets contents t v w (OverLimit (OfPage lsn end)) = IsPastEnd contents t v lsn end
+PassMeets contents t v w (OverLimit (OfLog end)) = (last_position < end + record_size) × (end ≤ w.end_seen)
+
+module _ {L G : Type 0} (contents : L → Option Pages) (m : Manager L G) where
+  -- The last pass made a checkpoint, and the others did nothing
+  pub record ChecksByLast (ps qs : List PassState) : Type 0 where
+    pub counted : length qs ≡ length ps
+    pub others : (i : ℕ) → i < length ps - 1 → get_elem? qs i ≡ get_elem? ps i
+    pub last : (p q : PassState) → get_elem? ps (length ps - 1) ≡ some p → get_elem? qs (length ps - 1) ≡ some q → Belongs contents m q × KeepsCallers p q
+
+-- the last one has swept each of so many lanes past the front of each pass, and met no fault
+pub record StoresAll (lanes : ℕ) (ps qs : List PassState) : Type 0 where
+  pub upto : ℕ
+  pub fronts : EachPass (λ q. q.view.front ≤ upto) qs
+  pub last : (p q : PassState) → get_elem? ps (length ps - 1) ≡ some p → get_elem? qs (length ps - 1) ≡ some q → HasSwept lanes upto q.view × (q.view.met ≡ p.view.met)
+
+-- the last one was refused for this reason
+abbrev pub LastMeets : {L G : Type 0} → (L → Option Pages) → FrameTable L G → List PassState → List PassState → RewriteError → Type 0
+LastMeets contents t ps qs e = (p q : PassState) → get_elem? ps (length ps - 1) ≡ some p → get_elem? qs (length ps - 1) ≡ some q → PassMeets contents t p.view q.view e
