@@ -14,6 +14,8 @@ use Rattle.pin_core.specs.declared.view.View.{View}
 use Rattle.history_core.specs.Log.{IsFront, writes_in}
 use Rattle.frame_table.specs.Seats.{base_of}
 use Rattle.held_pins.specs.Tokens.{no_tokens}
+use Rattle.backend_pass.specs.declared.errors.FlushError.{FlushError}
+use Rattle.backend_pass.specs.declared.errors.FlushError.TheVariants as flush
 use Rattle.backend_pass.specs.declared.errors.ReadError.{ReadError}
 use Rattle.backend_pass.specs.declared.errors.ReadError.TheVariants as read
 use Rattle.backend_pass.specs.declared.manager.Manager.{Manager}
@@ -26,9 +28,10 @@ use Rattle.page_jobs.specs.declared.ending.JobError.TheVariants.{OutFault, ReadF
 use Rattle.page_jobs.specs.Printed.{BlockRead, copied, unsound}
 use Rattle.page_jobs.specs.Parts.{MeetsFault}
 use Rattle.page_jobs.specs.Reads.{calls_of_reads, fault_of_refusal}
-use Rattle.page_jobs.specs.Jobs.{AllAtBase, AnyMeets, AreFree, ReadParts, ReadsPart, last_in, workers_in}
+use Rattle.page_jobs.specs.Beside.{StaysBeside, WorksBeside, fault_of_flush}
+use Rattle.page_jobs.specs.Jobs.{AllAtBase, AnyMeets, AreFree, ReadParts, ReadsPart, workers_in}
 use Rattle.page_jobs.specs.Relations.{MeetNothing}
-use Rattle.page_jobs.proofs.Standing.{dropped, inside, length_front, taken, taken_from, there}
+use Rattle.page_jobs.proofs.Standing.{inside, length_front, taken, taken_from, there}
 
 pub at_base_each : (base : ℕ) (ps : List PassState) → ((i : ℕ) (p : PassState) → get_elem? ps i ≡ some p → p.view.front ≡ base) → AllAtBase base ps
 at_base_each base [] each = tt
@@ -82,43 +85,52 @@ no_output_fault (read.LogDown at) e = cc
 no_output_fault (read.LogShort lsn end) e = cc
 no_output_fault (read.Unsound failed) e = cc
 
--- What a pass was before a job: the same, or a worker
-pub record CameFrom (ps qs : List PassState) (i : ℕ) (q : PassState) : Type 0 where
-  pub before : PassState
-  pub at : get_elem? ps i ≡ some before
-  pub either : (q ≡ before) ⊎ ((get_elem? (workers_in ps) i ≡ some before) × (get_elem? (workers_in qs) i ≡ some q))
+-- work beside the workers reads nothing and prints nothing
+pub work_meets_no_read : (why : FlushError) (tag : Tag) → fault_of_flush why ≡ ReadFault tag → ⊥
+work_meets_no_read (flush.WriteFault failed) tag e = cc
+work_meets_no_read flush.LogFault tag e = cc
+work_meets_no_read (flush.LogDown at) tag e = cc
+work_meets_no_read (flush.LogShort lsn end) tag e = cc
 
-module _ (n : ℕ) (ps qs : List PassState) (counted : length ps ≡ n) (several : 1 < n) (long : length (workers_in qs) ≡ length (workers_in ps)) where
-  pub given_back : length qs ≡ n
-  given_back = let a = length_front qs in let b = length_front ps in omega arith
+pub work_meets_no_output : (why : FlushError) → fault_of_flush why ≡ OutFault → ⊥
+work_meets_no_output (flush.WriteFault failed) e = cc
+work_meets_no_output flush.LogFault e = cc
+work_meets_no_output (flush.LogDown at) e = cc
+work_meets_no_output (flush.LogShort lsn end) e = cc
 
-  module _ (last : last_in qs ≡ last_in ps) where
-    pub came_back : (i : ℕ) (q : PassState) → get_elem? qs i ≡ some q → CameFrom ps qs i q
-    came_back i q at = dite (dec_le (suc i) (n - 1)) worker beside
-      where
-        within : i < n
-        within = let k = inside qs i q at in let e = given_back in omega arith
+module _ {L G : Type 0} (contents : L → Option Pages) (m : Manager L G) where
+  -- What a pass was before a job, in which it worked beside the workers, or was one of them
+  pub record CameFrom (ps qs : List PassState) (i : ℕ) (q : PassState) : Type 0 where
+    pub before : PassState
+    pub at : get_elem? ps i ≡ some before
+    pub either : WorksBeside contents m before q ⊎ ((get_elem? (workers_in ps) i ≡ some before) × (get_elem? (workers_in qs) i ≡ some q))
 
-        worker : suc i ≤ n - 1 → CameFrom ps qs i q
-        worker below =
-            let e = given_back in let f = length_front ps in
-            let p = there (workers_in ps) i (omega arith) in
-            record {
-              before = p.0;
-              at = sym (taken (length ps - 1) i ps (omega arith)) ∙ p.1;
-              either = inr (p.1, taken (length qs - 1) i qs (omega arith) ∙ at);
-            }
+  pub came_back : (ps qs : List PassState) → StaysBeside contents m ps qs → (i : ℕ) (q : PassState) → get_elem? qs i ≡ some q → CameFrom ps qs i q
+  came_back ps qs stays i q at = dite (dec_le (suc i) (length ps - 1)) worker beside
+    where
+      within : i < length ps
+      within = let k = inside qs i q at in let e = stays.counted in omega arith
 
-        beside : ¬ (suc i ≤ n - 1) → CameFrom ps qs i q
-        beside above =
-            let e = given_back in let w = within in
-            let of_ps : i ≡ length ps - 1 + 0 = omega arith in
-            let of_qs : length qs - 1 + 0 ≡ i = omega arith in
-            record {
-              before = q;
-              at = ap (λ (j : ℕ). get_elem? ps j) of_ps ∙ sym (dropped (length ps - 1) 0 ps) ∙ ap (λ (l : List PassState). get_elem? l 0) (sym last) ∙ dropped (length qs - 1) 0 qs ∙ ap (λ (j : ℕ). get_elem? qs j) of_qs ∙ at;
-              either = inl refl;
-            }
+      worker : suc i ≤ length ps - 1 → CameFrom ps qs i q
+      worker below =
+          let e = stays.counted in let f = length_front ps in
+          let p = there (workers_in ps) i (omega arith) in
+          record {
+            before = p.0;
+            at = sym (taken (length ps - 1) i ps (omega arith)) ∙ p.1;
+            either = inr (p.1, taken (length qs - 1) i qs (omega arith) ∙ at);
+          }
+
+      beside : ¬ (suc i ≤ length ps - 1) → CameFrom ps qs i q
+      beside above =
+          let w = within in
+          let last : length ps - 1 ≡ i = omega arith in
+          let p = there ps i w in
+          record {
+            before = p.0;
+            at = p.1;
+            either = inl (stays.last p.0 q (ap (λ (j : ℕ). get_elem? ps j) last ∙ p.1) (ap (λ (j : ℕ). get_elem? qs j) last ∙ at));
+          }
 
 module _ {L G : Type 0} (contents : L → Option Pages) (m : Manager L G) (fork : Fork) where
   free_each : (ps : List PassState) → ((i : ℕ) (p : PassState) → get_elem? ps i ≡ some p → AreFree contents m (p ∷ [])) → AreFree contents m ps
@@ -197,12 +209,12 @@ module _ {L G : Type 0} (contents : L → Option Pages) (m : Manager L G) (fork 
         fronts = fronted_each (base_of m.table) (q ∷ qs) (λ i x at. (each i x at).front);
       }
 
-  module _ (n : ℕ) (ps qs : List PassState) (new : AreNewPasses contents m n ps) (several : 1 < n) (parts : ReadParts contents m 0 fork (workers_in ps) (workers_in qs)) (last : last_in qs ≡ last_in ps) where
+  module _ (n : ℕ) (ps qs : List PassState) (new : AreNewPasses contents m n ps) (several : 1 < n) (parts : ReadParts contents m 0 fork (workers_in ps) (workers_in qs)) (last : StaysBeside contents m ps qs) where
     as_many : length qs ≡ n
-    as_many = given_back n ps qs new.counted several parts.counted
+    as_many = last.counted ∙ new.counted
 
-    came_from : (i : ℕ) (q : PassState) → get_elem? qs i ≡ some q → CameFrom ps qs i q
-    came_from = came_back n ps qs new.counted several parts.counted last
+    came_from : (i : ℕ) (q : PassState) → get_elem? qs i ≡ some q → CameFrom contents m ps qs i q
+    came_from = came_back contents m ps qs last
 
     fresh : (i : ℕ) (p : PassState) → get_elem? ps i ≡ some p → HasRead n i p
     fresh i p at = let h = new.each i p at in record {
@@ -221,9 +233,16 @@ module _ {L G : Type 0} (contents : L → Option Pages) (m : Manager L G) (fork 
           ap writes_in r.calls ∙ omega arith;
     }
 
+    stood_by : (i : ℕ) (p q : PassState) → HasRead n i p → WorksBeside contents m p q → HasRead n i q
+    stood_by i p q h w = record {
+      given = worked_given n i p q h.given w.same w.belongs.front (w.callers.tokens ∙ h.given.spent);
+      mark = w.mark ∙ h.mark;
+      puts = ap writes_in w.callers.calls.calls ∙ h.puts;
+    }
+
     each : (i : ℕ) (q : PassState) → get_elem? qs i ≡ some q → HasRead n i q
     each i q at = let c = came_from i q at in ⊎_elim
-        (λ (same : q ≡ c.before). subst (λ (x : PassState). HasRead n i x) (sym same) (fresh i c.before c.at))
+        (λ (w : WorksBeside contents m c.before q). stood_by i c.before q (fresh i c.before c.at) w)
         (λ (t : (get_elem? (workers_in ps) i ≡ some c.before) × (get_elem? (workers_in qs) i ≡ some q)). worked i _ _ c.before q (fresh i c.before c.at) (parts.each i c.before q t.0 t.1))
         c.either
 
@@ -236,13 +255,10 @@ module _ {L G : Type 0} (contents : L → Option Pages) (m : Manager L G) (fork 
     pub nothing_put : EachPass PutNothing qs
     nothing_put i q at = (each i q at).puts
 
-    -- where the workers met no more faults of reading than before, none was met
-    pub none_met : MeetNothing (workers_in ps) (workers_in qs) → (met_by_passes qs).reads ≡ 0
+    -- where the passes met no more faults of reading than before, none was met
+    pub none_met : MeetNothing ps qs → (met_by_passes qs).reads ≡ 0
     none_met met = met_by_none qs (λ i q at. let c = came_from i q at in
-        let before = ap (λ (v : View). v.met.reads) (new.each i c.before c.at).view in ⊎_elim
-        (λ (same : q ≡ c.before). ap (λ (x : PassState). x.view.met.reads) same ∙ before)
-        (λ (t : (get_elem? (workers_in ps) i ≡ some c.before) × (get_elem? (workers_in qs) i ≡ some q)). ap (λ (x : Met). x.reads) (met i c.before q t.0 t.1) ∙ before)
-        c.either)
+        ap (λ (x : Met). x.reads) (met i c.before q c.at at) ∙ ap (λ (v : View). v.met.reads) (new.each i c.before c.at).view)
 
     pub fault_met : (tag : Tag) → AnyMeets contents m 0 fork (workers_in ps) (workers_in qs) (ReadFault tag) → 0 < (met_by_passes qs).reads
     fault_met tag any = let f = read_fault_met (workers_in ps) (workers_in qs) tag any in met_by_one qs f.0 f.1 (taken_from (length qs - 1) f.0 qs f.1 f.2) f.3

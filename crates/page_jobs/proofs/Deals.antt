@@ -13,7 +13,7 @@ use Rattle.backend_pass.specs.Passes.{PassState}
 use Rattle.page_jobs.specs.declared.printing.Lines.{Lines}
 use Rattle.page_jobs.specs.declared.working.Worker.{Worker}
 use Rattle.page_jobs.specs.Dealt.{AreDealt, DoParts, HasWorked, HaveWorked, IsDealt, IsReady}
-use Rattle.page_jobs.specs.Jobs.{AreFree, last_in, workers_in}
+use Rattle.page_jobs.specs.Jobs.{AreFree, workers_in}
 use Rattle.page_jobs.specs.Parts.{DoesPart, blocks_in, part_start}
 use Rattle.page_jobs.specs.Reads.{IsFree}
 
@@ -115,23 +115,19 @@ module _ {L G : Type 0} (contents : L → Option Pages) (m : Manager L G) (rel :
   free_front [] qs free = tt
   free_front (p ∷ ps) qs free = (free.0, free_front ps qs free.1)
 
+  -- and those after them
+  pub free_back : (ps qs : List PassState) → AreFree contents m (ps ++ qs) → AreFree contents m qs
+  free_back [] qs free = free
+  free_back (p ∷ ps) qs free = free_back ps qs free.1
+
 take_front : (ps qs : List PassState) (n : ℕ) → n ≡ length ps → take n (ps ++ qs) ≡ ps
 take_front [] qs zero e = refl
 take_front [] qs (suc n) e = absurd (omega arith)
 take_front (p ∷ ps) qs zero e = absurd (omega arith)
 take_front (p ∷ ps) qs (suc n) e = ap (λ (l : List PassState). p ∷ l) (take_front ps qs n (omega arith))
 
-drop_front : (ps qs : List PassState) (n : ℕ) → n ≡ length ps → drop n (ps ++ qs) ≡ qs
-drop_front [] qs zero e = refl
-drop_front [] qs (suc n) e = absurd (omega arith)
-drop_front (p ∷ ps) qs zero e = absurd (omega arith)
-drop_front (p ∷ ps) qs (suc n) e = drop_front ps qs n (omega arith)
-
-less_one : (ps : List PassState) (p : PassState) → length (ps ++ p ∷ []) - 1 ≡ length ps
+pub less_one : (ps : List PassState) (p : PassState) → length (ps ++ p ∷ []) - 1 ≡ length ps
 less_one ps p = let l = length-append ps (p ∷ []) in omega arith
 
 pub workers_before : (all ps : List PassState) (p : PassState) → all ≡ ps ++ p ∷ [] → workers_in all ≡ ps
 workers_before all ps p e = ap workers_in e ∙ take_front ps (p ∷ []) (length (ps ++ p ∷ []) - 1) (less_one ps p)
-
-pub last_after : (all ps : List PassState) (p : PassState) → all ≡ ps ++ p ∷ [] → last_in all ≡ p ∷ []
-last_after all ps p e = ap last_in e ∙ drop_front ps (p ∷ []) (length (ps ++ p ∷ []) - 1) (less_one ps p)

@@ -3,6 +3,7 @@ mod Blocks
 mod Sums
 mod BlockWork
 mod Deals
+mod BesideWork
 mod Texts
 mod Whole
 mod Origin

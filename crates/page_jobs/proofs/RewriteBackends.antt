@@ -1,5 +1,5 @@
 -- Backends that were started for a rewrite, once it is over.
-use Rattle.std.proofs.Common.{◌≡◌, ℕ, ◌<◌, List, Option, sym, subst, ⊎_elim, arith}
+use Rattle.std.proofs.Common.{◌≡◌, ℕ, ◌<◌, List, Option, ◌∙◌, ⊎_elim, arith}
 use mathlib.Core.Option.{some}
 use lib.ListN.{get_elem?}
 use Rattle.block_tag.specs.declared.tag.Fork.{Fork}
@@ -7,24 +7,26 @@ use Rattle.segment_store.specs.Contents.{Pages}
 use Rattle.backend_pass.specs.declared.manager.Manager.{Manager}
 use Rattle.backend_pass.specs.Managers.{AreAll, AreNewPasses}
 use Rattle.backend_pass.specs.Passes.{PassState}
-use Rattle.page_jobs.specs.Jobs.{last_in, workers_in}
+use Rattle.page_jobs.specs.Beside.{StaysBeside, WorksBeside}
+use Rattle.page_jobs.specs.Jobs.{workers_in}
 use Rattle.page_jobs.specs.RewriteJobs.{RewriteParts}
-use Rattle.page_jobs.proofs.Backends.{IsGiven, all_of, came_back, given_back, new_is_given, worked_given}
+use Rattle.page_jobs.proofs.Backends.{IsGiven, all_of, came_back, new_is_given, worked_given}
 use Rattle.page_jobs.proofs.Standing.{inside, there}
 
 module _ {L G : Type 0} (contents : L → Option Pages) (m : Manager L G) (fork : Fork) (n : ℕ) (ps qs : List PassState) (new : AreNewPasses contents m n ps) (several : 1 < n) where
-  module _ (rel : ℕ) (parts : RewriteParts contents m rel fork (workers_in ps) (workers_in qs)) (last : last_in qs ≡ last_in ps) where
+  module _ (rel : ℕ) (parts : RewriteParts contents m rel fork (workers_in ps) (workers_in qs)) (last : StaysBeside contents m ps qs) where
     each_given : (i : ℕ) (q : PassState) → get_elem? qs i ≡ some q → IsGiven contents m fork n i q
-    each_given i q at = let c = came_back n ps qs new.counted several parts.counted last i q at in ⊎_elim
-        (λ (same : q ≡ c.before). subst (λ (x : PassState). IsGiven contents m fork n i x) (sym same) (new_is_given contents m fork n i c.before (new.each i c.before c.at)))
+    each_given i q at = let c = came_back contents m ps qs last i q at in
+        let fresh = new.each i c.before c.at in ⊎_elim
+        (λ (w : WorksBeside contents m c.before q). worked_given contents m fork n i c.before q (new_is_given contents m fork n i c.before fresh) w.same w.belongs.front (w.callers.tokens ∙ fresh.tokens))
         (λ (t : (get_elem? (workers_in ps) i ≡ some c.before) × (get_elem? (workers_in qs) i ≡ some q)).
         let below = inside (workers_in ps) i c.before t.0 in
         let long = parts.listed in
         let os = there parts.outcomes i (omega arith) in
         let d = parts.each i c.before q os.0 t.0 t.1 os.1 in
-        worked_given contents m fork n i c.before q (new_is_given contents m fork n i c.before (new.each i c.before c.at)) d.goes.same d.goes.belongs.front d.spent)
+        worked_given contents m fork n i c.before q (new_is_given contents m fork n i c.before fresh) d.goes.same d.goes.belongs.front d.spent)
         c.either
 
     -- all can be given back
     pub all_rewriters_given : AreAll m qs
-    all_rewriters_given = all_of contents m fork n qs (omega arith) (given_back n ps qs new.counted several parts.counted) each_given
+    all_rewriters_given = all_of contents m fork n qs (omega arith) (last.counted ∙ new.counted) each_given

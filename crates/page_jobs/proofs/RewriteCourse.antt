@@ -125,4 +125,4 @@ module _ {L G : Type 0} (contents : L → Option Pages) (m : Manager L G) (rel :
       let below = inside oss i os of in
       subst (λ (y : ℕ). DidPart k y p q os) (let f : i ≡ j = omega arith in f)
       (did i p q os (taken (length ps - 1) i ps (omega arith) ∙ at) (taken (length qs - 1) i qs (omega arith) ∙ there) of))
-      (λ p q at there. (x.beside.last p q (ap (λ (n : ℕ). get_elem? ps n) (sym end) ∙ at) (ap (λ (n : ℕ). get_elem? qs n) (sym end) ∙ there)).calls.calls) x.before x.after)
+      (λ p q at there. (x.beside.last p q (ap (λ (n : ℕ). get_elem? ps n) (sym end) ∙ at) (ap (λ (n : ℕ). get_elem? qs n) (sym end) ∙ there)).callers.calls.calls) x.before x.after)

@@ -14,6 +14,7 @@ use Rattle.page_jobs.specs.declared.ending.JobError.{JobError}
 use Rattle.page_jobs.specs.declared.ending.JobError.TheVariants.{Memory}
 use Rattle.page_jobs.specs.declared.ending.Totals.{Totals}
 use Rattle.page_jobs.specs.declared.working.Worker.{Worker}
+use Rattle.page_jobs.specs.Beside.{EndsBeside, WorkIsRefused}
 use Rattle.page_jobs.specs.Dealt.{AllDone, AreDealt}
 use Rattle.page_jobs.specs.Ending.{totals_of_rewrite}
 use Rattle.page_jobs.specs.Jobs.{AreFree}
@@ -21,7 +22,7 @@ use Rattle.page_jobs.specs.Parts.{blocks_in, part_start}
 use Rattle.page_jobs.specs.Rewrites.{Outcome, outcome_totals}
 use Rattle.page_jobs.specs.Rewriting.{EndsRewriteFor, RewritesBlocks, RewritesPart, RewritesWhole}
 use Rattle.page_jobs.specs.Rewriters.{AreRewritesCounted, DoRewrites, EndsFirst, HasRewritten, HaveRewritten, rewritten_totals}
-use Rattle.page_jobs.specs.RewriteJobs.{EndsRewrite, FailsFirst, RewriteParts, RewritesFork, outcomes_in_all}
+use Rattle.page_jobs.specs.RewriteJobs.{FailsFirst, RewriteParts, RewritesFork, outcomes_in_all}
 use Rattle.page_jobs.proofs.Deals.{start_last, start_le}
 use Rattle.page_jobs.proofs.PartRewrites.{blocks_none}
 use Rattle.page_jobs.proofs.RewriteSums.{outcome_totals-append, rewrites_first}
@@ -192,7 +193,23 @@ module _ {L G : Type 0} (contents : L → Option Pages) (m : Manager L G) (rel :
       other (inl memory) = inl memory
       other (inr fails) = inr (inr ((d.0.outcomes, subst Whole size whole), fails))
 
-  pub rewrite_cause : {A : Type 0} (n : ℕ) (ps : List PassState) (xs : List Worker) (r : Result A JobError) → n ≡ blocks_in m rel fork → DoRewrites contents m rel fork n (length ps) 0 ps xs → IfErr r (λ e. EndsFirst e xs)
-      → IfErr r (EndsRewrite contents m rel fork ps (map (λ (x : Worker). x.pass) xs))
-  rewrite_cause n ps xs (Ok a) size d ends = tt
-  rewrite_cause n ps xs (Err e) size d ends = fails_first n (length ps) 0 ps xs e size d ends
+  module _ (n : ℕ) (ps : List PassState) (xs : List Worker) (p q : PassState) (end : Result Unit JobError)
+      (size : n ≡ blocks_in m rel fork) (d : DoRewrites contents m rel fork n (length ps) 0 ps xs) (beside : EndsBeside contents m p q end) where
+    abbrev Ends : JobError → Type 0
+    Ends e = (e ≡ Memory) ⊎ (FailsFirst contents m rel fork (length ps) 0 ps (map (λ (x : Worker). x.pass) xs) e
+        ⊎ (((totals : Totals) × RewritesFork contents m rel fork ps (map (λ (x : Worker). x.pass) xs) totals) × WorkIsRefused contents m p q e))
+
+    cause_of : (e : JobError) → EndsFirst e xs ⊎ (AllDone xs × (end ≡ Err e)) → Ends e
+    cause_of e (inl ends) = of (fails_first n (length ps) 0 ps xs e size d ends)
+      where
+        of : (e ≡ Memory) ⊎ FailsFirst contents m rel fork (length ps) 0 ps (map (λ (x : Worker). x.pass) xs) e → Ends e
+        of (inl memory) = inl memory
+        of (inr fails) = inr (inl fails)
+    cause_of e (inr t) = inr (inr (
+      (totals_of_rewrite (rewritten_totals xs), rewrites_fork n ps xs (totals_of_rewrite (rewritten_totals xs)) size d t.0 refl),
+      subst (λ (r : Result Unit JobError). IfErr r (WorkIsRefused contents m p q)) t.1 beside.cause,
+    ))
+
+    pub rewrite_cause : {A : Type 0} (r : Result A JobError) → IfErr r (λ e. EndsFirst e xs ⊎ (AllDone xs × (end ≡ Err e))) → IfErr r Ends
+    rewrite_cause (Ok a) c = tt
+    rewrite_cause (Err e) c = cause_of e c

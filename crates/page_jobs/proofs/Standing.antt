@@ -36,11 +36,6 @@ module _ {A : Type 0} where
   pub all_at : (P : A → Type 0) (xs : List A) (i : ℕ) (x : A) → All P xs → get_elem? xs i ≡ some x → P x
   all_at P xs i x all e = subst P (standing_or xs i x x e) (all i x (inside xs i x e))
 
-  pub dropped : (n i : ℕ) (xs : List A) → get_elem? (drop n xs) i ≡ get_elem? xs (n + i)
-  dropped zero i xs = ap (λ (j : ℕ). get_elem? xs j) (sym (zero-add i))
-  dropped (suc n) i [] = refl
-  dropped (suc n) i (x ∷ xs) = let past : suc (n + i) ≡ suc n + i = omega arith in dropped n i xs ∙ ap (λ (j : ℕ). get_elem? (x ∷ xs) j) past
-
   pub length_taken : (n : ℕ) (xs : List A) → n < length xs → length (take n xs) ≡ n
   length_taken zero xs below = refl
   length_taken (suc n) [] below = absurd (omega arith)

@@ -9,7 +9,7 @@ use Rattle.backend_pass.specs.Passes.{KeepsCalls, PassState, SamePass}
 use Rattle.backend_pass.proofs.Seated.{same_on}
 use Rattle.page_jobs.specs.Reads.{Stays}
 
-same_none : (p : PassState) → SamePass p p
+pub same_none : (p : PassState) → SamePass p p
 same_none p = record { keeps = record { table = refl; id = refl; frames = refl; number = refl; next = refl; joined = refl; kept = refl; advances = rises_none p.view }; upto = refl }
 
 pub calls_on : (p q r : PassState) → KeepsCalls p q → KeepsCalls q r → KeepsCalls p r

@@ -25,7 +25,8 @@ use Rattle.page_jobs.specs.Printed.{BlockRead, reads_lines, reads_totals, totals
 use Rattle.page_jobs.specs.Reads.{IsFree, IsKnown, IsWithinFront, calls_of_reads}
 use Rattle.page_jobs.specs.Parts.{AllReads, AreKnown, DoesPart, EndsFor, MeetsFault, blocks_in, part_start}
 use Rattle.page_jobs.specs.Dealt.{AllDone, AnyEnds, AreCounted, DoParts, job_text, job_totals, text_if_done}
-use Rattle.page_jobs.specs.Jobs.{AnyMeets, AreFree, EndsJob, ReadParts, ReadsAll, ReadsPart, reads_between}
+use Rattle.page_jobs.specs.Beside.{EndsBeside, WorkIsRefused}
+use Rattle.page_jobs.specs.Jobs.{AnyMeets, AreFree, ReadParts, ReadsAll, ReadsPart, reads_between}
 use Rattle.page_jobs.proofs.Deals.{start_first, start_last, start_le}
 use Rattle.page_jobs.proofs.Staying.{stays_none}
 use Rattle.page_jobs.proofs.Texts.{text_last}
@@ -213,20 +214,24 @@ module _ {L G : Type 0} (contents : L → Option Pages) (m : Manager L G) (rel :
       other (inl memory) = inl memory
       other (inr meets) = inr (inr meets)
 
-  cause_of : (lines : Lines) (n : ℕ) (ps : List PassState) (xs : List Worker) (outs outs_now : ℕ) (e : JobError) → DoParts contents m rel fork lines n (length ps) 0 ps xs → (e ≡ Memory) ⊎ (AnyEnds e xs ⊎ ((e ≡ OutFault) × Rose outs outs_now))
-      → EndsJob contents m rel fork ps (map (λ (x : Worker). x.pass) xs) outs outs_now e
-  cause_of lines n ps xs outs outs_now e d (inl memory) = inl memory
-  cause_of lines n ps xs outs outs_now e d (inr (inl ends)) = of (any_meets lines n (length ps) 0 ps xs e d ends)
-    where
-      of : (e ≡ Memory) ⊎ AnyMeets contents m rel fork ps (map (λ (x : Worker). x.pass) xs) e → EndsJob contents m rel fork ps (map (λ (x : Worker). x.pass) xs) outs outs_now e
-      of (inl memory) = inl memory
-      of (inr meets) = inr (inl meets)
-  cause_of lines n ps xs outs outs_now e d (inr (inr out)) = inr (inr out)
+  module _ (lines : Lines) (n : ℕ) (ps : List PassState) (xs : List Worker) (p q : PassState) (end : Result Unit JobError) (outs outs_now : ℕ)
+      (d : DoParts contents m rel fork lines n (length ps) 0 ps xs) (beside : EndsBeside contents m p q end) where
+    abbrev Ends : JobError → Type 0
+    Ends e = (e ≡ Memory) ⊎ (AnyMeets contents m rel fork ps (map (λ (x : Worker). x.pass) xs) e ⊎ (WorkIsRefused contents m p q e ⊎ ((e ≡ OutFault) × Rose outs outs_now)))
 
-  pub job_cause : {A : Type 0} (lines : Lines) (n : ℕ) (ps : List PassState) (xs : List Worker) (outs outs_now : ℕ) (r : Result A JobError) → DoParts contents m rel fork lines n (length ps) 0 ps xs
-      → IfErr r (λ e. (e ≡ Memory) ⊎ (AnyEnds e xs ⊎ ((e ≡ OutFault) × Rose outs outs_now))) → IfErr r (EndsJob contents m rel fork ps (map (λ (x : Worker). x.pass) xs) outs outs_now)
-  job_cause lines n ps xs outs outs_now (Ok a) d c = tt
-  job_cause lines n ps xs outs outs_now (Err e) d c = cause_of lines n ps xs outs outs_now e d c
+    cause_of : (e : JobError) → (e ≡ Memory) ⊎ (AnyEnds e xs ⊎ ((end ≡ Err e) ⊎ ((e ≡ OutFault) × Rose outs outs_now))) → Ends e
+    cause_of e (inl memory) = inl memory
+    cause_of e (inr (inl ends)) = of (any_meets lines n (length ps) 0 ps xs e d ends)
+      where
+        of : (e ≡ Memory) ⊎ AnyMeets contents m rel fork ps (map (λ (x : Worker). x.pass) xs) e → Ends e
+        of (inl memory) = inl memory
+        of (inr meets) = inr (inl meets)
+    cause_of e (inr (inr (inl refused))) = inr (inr (inl (subst (λ (r : Result Unit JobError). IfErr r (WorkIsRefused contents m p q)) refused beside.cause)))
+    cause_of e (inr (inr (inr out))) = inr (inr (inr out))
+
+    pub job_cause : {A : Type 0} (r : Result A JobError) → IfErr r (λ e. (e ≡ Memory) ⊎ (AnyEnds e xs ⊎ ((end ≡ Err e) ⊎ ((e ≡ OutFault) × Rose outs outs_now)))) → IfErr r Ends
+    job_cause (Ok a) c = tt
+    job_cause (Err e) c = cause_of e c
 
   -- the workers' totals
   pub parts_counted : (lines : Lines) (n k number : ℕ) (ps : List PassState) (xs : List Worker) → DoParts contents m rel fork lines n k number ps xs → AreCounted xs

@@ -16,6 +16,7 @@ use Rattle.page_jobs.specs.declared.ending.JobError.{JobError}
 use Rattle.page_jobs.specs.declared.ending.JobError.TheVariants.{Memory, OutFault}
 use Rattle.page_jobs.specs.declared.ending.Totals.{Totals}
 use Rattle.page_jobs.specs.declared.printing.Lines.{Lines}
+use Rattle.page_jobs.specs.Beside.{LastIsRefused}
 use Rattle.page_jobs.specs.Ending.{totals_of_scan}
 use Rattle.page_jobs.specs.Printed.{BlockRead, reads_lines, reads_totals, totals_line}
 use Rattle.page_jobs.specs.Reads.{IsFree, IsWithinFront, Stays, calls_of_reads}
@@ -24,10 +25,6 @@ use Rattle.page_jobs.specs.Parts.{AllReads, AreKnown, MeetsFault, blocks_in, par
 -- the passes that work: all but the last
 abbrev pub workers_in : List PassState → List PassState
 workers_in ps = take (length ps - 1) ps
-
--- the last one alone
-abbrev pub last_in : List PassState → List PassState
-last_in ps = drop (length ps - 1) ps
 
 -- no pass has seen more of the log than its beginning
 abbrev pub AllAtBase : ℕ → List PassState → Type 0
@@ -91,6 +88,7 @@ module _ {L G : Type 0} (contents : L → Option Pages) (m : Manager L G) (rel :
   AnyMeets (p ∷ ps) (q ∷ qs) e = MeetsFault contents m rel fork p q e ⊎ AnyMeets ps qs e
   AnyMeets ps qs e = ⊥
 
-  -- why a job ended before its end: a pass met a fault, or the output failed, or there was no memory
+  -- why a job ended before its end: one of the passes that work met a fault, or the work of the last one was refused, or the output failed, or there was no memory
   abbrev pub EndsJob : List PassState → List PassState → ℕ → ℕ → JobError → Type 0
-  EndsJob ps qs outs outs_now e = (e ≡ Memory) ⊎ (AnyMeets ps qs e ⊎ ((e ≡ OutFault) × Rose outs outs_now))
+  EndsJob ps qs outs outs_now e =
+      (e ≡ Memory) ⊎ (AnyMeets (workers_in ps) (workers_in qs) e ⊎ (LastIsRefused contents m ps qs e ⊎ ((e ≡ OutFault) × Rose outs outs_now)))

@@ -3,6 +3,7 @@ pub mod Printed
 pub mod Reads
 pub mod Parts
 pub mod Dealt
+pub mod Beside
 pub mod Jobs
 pub mod Relations
 pub mod Survey

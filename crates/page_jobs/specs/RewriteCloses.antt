@@ -17,12 +17,13 @@ use Rattle.backend_pass.specs.declared.manager.Manager.{Manager}
 use Rattle.backend_pass.specs.Closing.{ClosesAll, EachPass, HasSwept, PutNothing}
 use Rattle.backend_pass.specs.Passes.{PassState}
 use Rattle.page_jobs.specs.declared.ending.Totals.{Totals}
+use Rattle.page_jobs.specs.Beside.{StaysBeside}
 use Rattle.page_jobs.specs.Ending.{totals_of_rewrite}
 use Rattle.page_jobs.specs.Jobs.{IsOrigin, workers_in}
 use Rattle.page_jobs.specs.Parts.{blocks_in}
 use Rattle.page_jobs.specs.Rewrites.{Rule, rule_of}
 use Rattle.page_jobs.specs.RewriteEnds.{HasEntry, HasRewrites, IsRewritten}
-use Rattle.page_jobs.specs.RewriteJobs.{RewriteParts, RewritesFork, StaysBeside}
+use Rattle.page_jobs.specs.RewriteJobs.{RewriteParts, RewritesFork}
 
 -- A pass has put no page since then
 pub record PutsNoMore (q z : PassState) : Type 0 where

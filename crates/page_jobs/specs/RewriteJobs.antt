@@ -1,17 +1,18 @@
 -- What a rewrite of a fork does.
-use Rattle.std.specs.Prelude.{◌≡◌, ◌⊎◌, ℕ, ◌+◌, ◌-◌, ◌<◌, true, List, [], ◌∷◌, ◌++◌, length, Option}
+use Rattle.std.specs.Prelude.{◌≡◌, ◌⊎◌, ℕ, ◌+◌, ◌<◌, true, List, [], ◌∷◌, ◌++◌, length, Option}
 use mathlib.Core.Option.{some}
 use lib.ListN.{get_elem?}
 use Rattle.block_tag.specs.declared.tag.Fork.{Fork}
 use Rattle.block_tag.specs.Names.{names_block, tag_of_parts}
 use Rattle.segment_store.specs.Contents.{Pages}
 use Rattle.backend_pass.specs.declared.manager.Manager.{Manager}
-use Rattle.backend_pass.specs.Managers.{Belongs}
-use Rattle.backend_pass.specs.Passes.{KeepsCalls, KeepsLocks, KeepsMark, PassState, SamePass}
+use Rattle.backend_pass.specs.Passes.{PassState}
 use Rattle.page_jobs.specs.declared.ending.JobError.{JobError}
 use Rattle.page_jobs.specs.declared.ending.JobError.TheVariants.{Memory}
 use Rattle.page_jobs.specs.declared.ending.Totals.{Totals}
+use Rattle.page_jobs.specs.Beside.{LastIsRefused}
 use Rattle.page_jobs.specs.Ending.{totals_of_rewrite}
+use Rattle.page_jobs.specs.Jobs.{workers_in}
 use Rattle.page_jobs.specs.Parts.{MeetsFault, blocks_in, part_start}
 use Rattle.page_jobs.specs.Rewrites.{Outcome, outcome_totals}
 use Rattle.page_jobs.specs.Rewriting.{PutIsRefused, RewritesBlocks, RewritesWhole}
@@ -20,21 +21,6 @@ use Rattle.page_jobs.specs.Rewriting.{PutIsRefused, RewritesBlocks, RewritesWhol
 abbrev pub outcomes_in_all : List (List Outcome) → List Outcome
 outcomes_in_all [] = []
 outcomes_in_all (os ∷ oss) = os ++ outcomes_in_all oss
-
-module _ {L G : Type 0} (contents : L → Option Pages) (m : Manager L G) where
-  -- A pass worked beside the workers: it read and put nothing, and has its tokens, its content locks and its mark as they were
-  pub record WorksBeside (p q : PassState) : Type 0 where
-    pub belongs : Belongs contents m q
-    pub same : SamePass p q
-    pub tokens : q.tokens ≡ p.tokens
-    pub locks : KeepsLocks p q
-    pub mark : KeepsMark p q
-    pub calls : KeepsCalls p q
-
-  -- As many passes are there as were, and the last one worked beside the others
-  pub record StaysBeside (ps qs : List PassState) : Type 0 where
-    pub counted : length qs ≡ length ps
-    pub last : (p q : PassState) → get_elem? ps (length ps - 1) ≡ some p → get_elem? qs (length ps - 1) ≡ some q → WorksBeside p q
 
 module _ {L G : Type 0} (contents : L → Option Pages) (m : Manager L G) (rel : ℕ) (fork : Fork) where
   -- Each pass dealt with blocks of its part, from the first on
@@ -62,6 +48,9 @@ module _ {L G : Type 0} (contents : L → Option Pages) (m : Manager L G) (rel :
       ⊎ (((os : List Outcome) × RewritesWhole contents m rel fork (part_start (blocks_in m rel fork) workers number) (part_start (blocks_in m rel fork) workers (number + 1)) os p q) × FailsFirst workers (number + 1) ps qs e)
   FailsFirst workers number ps qs e = ⊥
 
-  -- why a rewrite ended before its end: of the first pass that failed, or there was no memory
+  -- why a rewrite ended before its end: of the first of the passes that work that failed; or they dealt with all blocks, and the work of the last one was refused; or there was no memory
   abbrev pub EndsRewrite : List PassState → List PassState → JobError → Type 0
-  EndsRewrite ps qs e = (e ≡ Memory) ⊎ FailsFirst (length ps) 0 ps qs e
+  EndsRewrite ps qs e =
+      (e ≡ Memory)
+      ⊎ (FailsFirst (length (workers_in ps)) 0 (workers_in ps) (workers_in qs) e
+      ⊎ (((totals : Totals) × RewritesFork (workers_in ps) (workers_in qs) totals) × LastIsRefused contents m ps qs e))

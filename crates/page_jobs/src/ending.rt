@@ -14,7 +14,7 @@ pub enum JobError {
     /// The lane failed to read the page of this block.
     #[error("a page was not read")]
     ReadFault { tag: Tag },
-    /// The lane failed to write the page of this block, whose frame was to be freed.
+    /// The lane failed to write the page of this block.
     #[error("a page was not written")]
     WriteFault { tag: Tag },
     /// The log failed, which is down from now on.

@@ -1,6 +1,7 @@
 //! Jobs over all blocks of a relation, by several backends of a manager: scans, dumps and rewrites. Each backend works in a thread of its own, on a part of the blocks.
 #![tactic(auto)]
 
+mod beside;
 mod dealing;
 mod ending;
 mod gate;
@@ -14,6 +15,7 @@ mod scans;
 mod surveying;
 mod working;
 
+pub use beside::{Beside, NoBeside};
 pub use ending::{JobEnd, JobError, Totals};
 pub use gate::Gate;
 pub use laws::{rewrite_closes, rewrite_ends};

@@ -1,5 +1,5 @@
 //! The texts of the workers are put.
-ghost use Rattle.std.specs.Prelude.{◌≡◌, ◌≤◌, ◌+◌, ◌^◌, ◌⊎◌, [], IfErr, IfOk, OnOk};
+ghost use Rattle.std.specs.Prelude.{◌≡◌, ◌≤◌, ◌+◌, ◌^◌, ◌⊎◌, [], Ok, Err, IfErr, IfOk, OnOk};
 ghost use Rattle.log_device.specs.Bytes.{Puts};
 ghost use Rattle.log_device.specs.Faults.{Rose};
 ghost use Rattle.page_jobs.specs.declared.ending.JobError.TheVariants.{Memory, OutFault};
@@ -59,10 +59,11 @@ fn put_totals<O: Sink>(alloc: Global, totals: ScanTotals, out: &mut O) -> Result
     Ok(())
 }
 
-/// Puts the texts of the workers, and then the line of their totals.
+/// Puts the texts of the workers, and then the line of their totals, which isn't put where the work beside them was refused.
 pub(crate) fn put_all<O: Sink>(
     alloc: Global,
     workers: &[Worker],
+    beside_end: Result<(), JobError>,
     out: &mut O,
 ) -> Result<Totals, JobError>
     requires counts { AreCounted workers.now }
@@ -70,10 +71,14 @@ pub(crate) fn put_all<O: Sink>(
     ensures text { Puts (job_text (totals_line (job_totals workers.now)) workers.now) (O.bytes out.old) (O.bytes out.new) (as_done result) }
     ensures later { O.faults out.old ≤ O.faults out.new }
     ensures totals { IfOk result (λ totals. totals ≡ totals_of_scan (job_totals workers.now)) }
+    ensures beside { OnOk result (beside_end ≡ Ok tt) }
     ensures ok { OnOk result ((O.faults out.new ≡ O.faults out.old) × AllDone workers.now) }
-    ensures cause { IfErr result (λ e. (e ≡ Memory) ⊎ (AnyEnds e workers.now ⊎ ((e ≡ OutFault) × Rose (O.faults out.old) (O.faults out.new)))) }
+    ensures cause { IfErr result (λ e. (e ≡ Memory) ⊎ (AnyEnds e workers.now ⊎ ((beside_end ≡ Err e) ⊎ ((e ≡ OutFault) × Rose (O.faults out.old) (O.faults out.new))))) }
 {
     put_texts(workers, out)?;
+    if let Err(error) = beside_end {
+        return Err(error);
+    }
     let totals = sum_totals(workers);
     put_totals(alloc, totals, out)?;
     Ok(Totals::of_scan(totals))

@@ -2,16 +2,17 @@
 ghost use Rattle.std.specs.Prelude.{◌≡◌, ◌≤◌, ◌%◌, ◌^◌, length};
 
 use crate::tests::Counts;
-use crate::{JobEnd, JobError, Totals, rewrite};
-use backend_pass::{Config, Manager, StartRefused};
+use crate::{Beside, Gate, JobEnd, JobError, NoBeside, Totals, rewrite};
+use backend_pass::{Config, FlushError, Manager, Pass, Pinned, StartRefused};
 use block_tag::{Catalog, Fork, RelEntry, RelNo, Tag};
-use log_device::{Failed, FaultCount};
+use log_device::{Failed, FaultCount, LogDevice};
 use page_layout::{Lsn, Page};
 use segment_store::{BlockLane, LaneHistory};
 use std::alloc::{AllocError, Global};
 use std::sync::Wait;
-use std::sync::atomic::Ordering;
+use std::sync::atomic::{AtomicU64, Ordering};
 use std::test::Fail;
+use std::thread;
 use std::thread::Threads;
 use test_devices::{TestLog, one_item};
 
@@ -173,14 +174,15 @@ struct Rewritten {
 }
 
 /// The passes of a small manager, of which all but one work, rewrite a relation of so many blocks.
-fn run_rewrite<R: Threads + Wait + Sync>(
+fn run_rewrite<R: Threads + Wait + Sync, T: Gate + Sync, B: Beside<PageLane, TestLog>>(
     rt: &R,
     alloc: Global,
     workers: u32,
     blocks: u32,
     lane: PageLane,
     log: TestLog,
-    gate: &Counts,
+    gate: &T,
+    beside: &mut B,
 ) -> Result<Rewritten, AllocError>
     requires { (1 ≤ workers) × (workers ≤ 60) }
 {
@@ -210,6 +212,7 @@ fn run_rewrite<R: Threads + Wait + Sync>(
                 RelNo(0),
                 Fork::Main,
                 gate,
+                beside,
             );
             let (lanes, log) = manager.close(passes);
             Ok(Rewritten { end, lanes, log })
@@ -242,7 +245,7 @@ fn dead_line_pointers_are_removed(rt: HostRuntime) -> Result<(), Fail> {
     let gate = Counts::new();
     let lane = PageLane::new(rt.alloc(), 1, Content::WithDead, 0)?;
     let log = TestLog::new(rt.alloc(), 0);
-    let run = run_rewrite(&rt, rt.alloc(), 1, 1, lane, log, &gate)?;
+    let run = run_rewrite(&rt, rt.alloc(), 1, 1, lane, log, &gate, &mut NoBeside)?;
     let totals = run.end.ok().ok_or("the rewrite ended early")?;
     assert_eq!(rt; totals.blocks, 1);
     assert_eq!(rt; totals.changed, 1);
@@ -259,14 +262,14 @@ fn other_pages_are_left(rt: HostRuntime) -> Result<(), Fail> {
     let gate = Counts::new();
     let lane = PageLane::new(rt.alloc(), 3, Content::OneItem, 0)?;
     let log = TestLog::new(rt.alloc(), 0);
-    let run = run_rewrite(&rt, rt.alloc(), 1, 3, lane, log, &gate)?;
+    let run = run_rewrite(&rt, rt.alloc(), 1, 3, lane, log, &gate, &mut NoBeside)?;
     let totals = run.end.ok().ok_or("the rewrite ended early")?;
     assert_eq!(rt; totals.same, 3);
     assert_eq!(rt; totals.changed, 0);
     assert_eq!(rt; run.log.bytes.len(), 0);
     let lane = PageLane::new(rt.alloc(), 3, Content::TooLong, 0)?;
     let log = TestLog::new(rt.alloc(), 0);
-    let run = run_rewrite(&rt, rt.alloc(), 1, 3, lane, log, &gate)?;
+    let run = run_rewrite(&rt, rt.alloc(), 1, 3, lane, log, &gate, &mut NoBeside)?;
     let totals = run.end.ok().ok_or("the rewrite ended early")?;
     assert_eq!(rt; totals.skipped, 3);
     assert_eq!(rt; totals.dead, 0);
@@ -285,7 +288,7 @@ fn change_all<R: Threads + Wait + Sync>(
     let gate = Counts::new();
     let lane = PageLane::new(alloc, 64, Content::WithDead, 0)?;
     let log = TestLog::new(alloc, 0);
-    let run = run_rewrite(rt, alloc, workers, 64, lane, log, &gate)?;
+    let run = run_rewrite(rt, alloc, workers, 64, lane, log, &gate, &mut NoBeside)?;
     let Ok(totals) = run.end else {
         return Ok(false);
     };
@@ -317,17 +320,92 @@ fn faults_end_a_rewrite(rt: HostRuntime) -> Result<(), Fail> {
     let gate = Counts::new();
     let lane = PageLane::new(rt.alloc(), 64, Content::WithDead, 0)?;
     let log = TestLog::new(rt.alloc(), 2);
-    let run = run_rewrite(&rt, rt.alloc(), 1, 64, lane, log, &gate)?;
+    let run = run_rewrite(&rt, rt.alloc(), 1, 64, lane, log, &gate, &mut NoBeside)?;
     assert_eq!(rt; run.end, Err(JobError::LogFault));
     assert_eq!(rt; run.log.bytes.len(), RECORD);
     let lane = PageLane::new(rt.alloc(), 64, Content::WithDead, 1)?;
     let log = TestLog::new(rt.alloc(), 0);
-    let run = run_rewrite(&rt, rt.alloc(), 1, 64, lane, log, &gate)?;
+    let run = run_rewrite(&rt, rt.alloc(), 1, 64, lane, log, &gate, &mut NoBeside)?;
     let tag = Tag {
         rel: RelNo(0),
         fork: Fork::Main,
         block: 0,
     };
     assert_eq!(rt; run.end, Err(JobError::WriteFault { tag }));
+    Ok(())
+}
+
+/// How often each of two threads looks for the other, which may be slow to start.
+const PATIENCE: u32 = 10_000_000;
+
+/// Where a worker and the work beside it wait for each other.
+#[derive(Drop)]
+struct Meeting {
+    worker: AtomicU64,
+    beside: AtomicU64,
+    /// How many gave up.
+    alone: AtomicU64,
+}
+
+impl Meeting {
+    fn new() -> Meeting {
+        Meeting {
+            worker: AtomicU64::new(0),
+            beside: AtomicU64::new(0),
+            alone: AtomicU64::new(0),
+        }
+    }
+
+    /// Notes that one has come, and waits for the other.
+    fn meet(&self, one: &AtomicU64, other: &AtomicU64) {
+        one.fetch_add(1, Ordering::SeqCst);
+        for _ in 0..PATIENCE {
+            if other.load(Ordering::SeqCst) > 0 {
+                return;
+            }
+            thread::yield_now();
+        }
+        self.alone.fetch_add(1, Ordering::SeqCst);
+    }
+}
+
+impl Gate for Meeting {
+    fn before(&self, _worker: u32, _block: u32) {
+        self.meet(&self.worker, &self.beside);
+    }
+
+    fn seen(&self, _worker: u32, _pinned: &Pinned) {}
+}
+
+/// Work that waits for a worker.
+struct MeetWorker<'a> {
+    meeting: &'a Meeting,
+}
+
+impl<'a, L: BlockLane, G: LogDevice> Beside<L, G> for MeetWorker<'a> {
+    fn work<R: Wait>(
+        &mut self,
+        _manager: &Manager<L, G>,
+        _rt: &R,
+        _pass: &mut Pass,
+    ) -> Result<(), FlushError> {
+        let meeting = self.meeting;
+        meeting.meet(&meeting.beside, &meeting.worker);
+        Ok(())
+    }
+}
+
+#[test]
+fn the_last_pass_works_beside_the_others(rt: HostRuntime) -> Result<(), Fail> {
+    let meeting = Meeting::new();
+    let lane = PageLane::new(rt.alloc(), 8, Content::WithDead, 0)?;
+    let log = TestLog::new(rt.alloc(), 0);
+    let mut beside = MeetWorker { meeting: &meeting };
+    let run = run_rewrite(&rt, rt.alloc(), 2, 8, lane, log, &meeting, &mut beside)?;
+    let totals = run.end.ok().ok_or("the rewrite ended early")?;
+    assert_eq!(rt; totals.changed, 8);
+    assert_eq!(rt; meeting.worker.load(Ordering::SeqCst), 8);
+    assert_eq!(rt; meeting.beside.load(Ordering::SeqCst), 1);
+    assert_eq!(rt; meeting.alone.load(Ordering::SeqCst), 0);
     Ok(())
 }

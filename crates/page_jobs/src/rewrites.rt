@@ -1,12 +1,18 @@
 //! Rewrites.
-ghost use Rattle.std.specs.Prelude.{◌≡◌, ◌<◌, ◌≤◌, ◌^◌, IfErr, IfOk, vec_capacity, vec_len, All};
+ghost use Rattle.std.specs.Prelude.{◌≡◌, ◌<◌, ◌≤◌, ◌⊎◌, ◌^◌, Ok, Err, IfErr, IfOk, OnOk, length, vec_capacity, vec_len, All};
 ghost use Rattle.frame_table.specs.Seats.{frames_of};
+ghost use Rattle.page_jobs.specs.declared.ending.JobError.TheVariants.{Memory};
+ghost use Rattle.page_jobs.specs.declared.ending.Totals.{Totals};
+ghost use Rattle.page_jobs.specs.Beside.{EndsBeside, StaysBeside, WorkIsRefused, WorksBeside};
 ghost use Rattle.page_jobs.specs.Dealt.{AllDone, IsReady};
 ghost use Rattle.page_jobs.specs.Ending.{totals_of_rewrite};
-ghost use Rattle.page_jobs.specs.Jobs.{AreFree, last_in, workers_in};
+ghost use Rattle.page_jobs.specs.Jobs.{AreFree, workers_in};
+ghost use Rattle.page_jobs.specs.Reads.{IsFree};
+ghost use Rattle.page_jobs.specs.Relations.{MeetNothing};
 ghost use Rattle.page_jobs.specs.Rewriters.{AreRewritesCounted, EndsFirst, HaveRewritten, rewritten_totals};
-ghost use Rattle.page_jobs.specs.RewriteJobs.{EndsRewrite, RewriteParts, RewritesFork};
+ghost use Rattle.page_jobs.specs.RewriteJobs.{EndsRewrite, FailsFirst, RewriteParts, RewritesFork};
 
+use crate::beside::{Beside, work_last};
 use crate::dealing::{deal, gather};
 use crate::ending::{JobEnd, JobError, Totals};
 use crate::gate::Gate;
@@ -46,12 +52,59 @@ fn rewrite_all<L: BlockLane + Send, G: LogDevice + Send, R: Threads + Wait + Syn
     );
 }
 
-/// The totals of all workers, or why the first of those ended that didn't rewrite its whole part.
-fn sum_rewritten(workers: &[Worker]) -> Result<Totals, JobError>
+/// All workers rewrite at once, and the last pass works beside them.
+fn rewrite_beside<
+    L: BlockLane + Send,
+    G: LogDevice + Send,
+    R: Threads + Wait + Sync,
+    T: Gate + Sync,
+    B: Beside<L, G>,
+>(
+    manager: &Manager<L, G>,
+    rt: &R,
+    alloc: Global,
+    workers: &mut Vec<Worker>,
+    last: &mut Pass,
+    blocks: ForkBlocks,
+    gate: &T,
+    beside: &mut B,
+) -> Result<(), JobError>
+    requires some { 0 < vec_len workers.old }
+    requires ready { All (IsReady L.contents manager.now blocks.rel.0 blocks.fork) workers.old.items }
+    requires free { IsFree L.contents manager.now last.old }
+    requires frames { (16 ≤ frames_of manager.now.table) × (frames_of manager.now.table ≤ 4096) }
+    ensures count { vec_len workers.new ≡ vec_len workers.old }
+    ensures rewritten { HaveRewritten L.contents manager.now blocks.rel.0 blocks.fork workers.old.items workers.new.items }
+    ensures beside { EndsBeside L.contents manager.now last.old last.new result }
+{
+    let (_, end) = thread::join_mut(
+        rt,
+        &mut ||
+            requires {
+                (0 < vec_len workers.now)
+                × All (IsReady L.contents manager.now blocks.rel.0 blocks.fork) workers.now.items
+                × (16 ≤ frames_of manager.now.table) × (frames_of manager.now.table ≤ 4096)
+            }
+            ensures {
+                (vec_len workers.exit.now ≡ vec_len workers.entry.now)
+                × HaveRewritten L.contents manager.entry.now blocks.rel.0 blocks.fork workers.entry.now.items workers.exit.now.items
+            }
+        { rewrite_all(manager, rt, alloc, gate, blocks, workers) },
+        &mut || work_last(manager, rt, last, beside),
+    );
+    end
+}
+
+/// The totals of all workers, or why the first of those ended that didn't rewrite its whole part; where all did, why the work beside them was refused.
+fn sum_rewritten(
+    workers: &[Worker],
+    beside_end: Result<(), JobError>,
+) -> Result<Totals, JobError>
     requires counts { AreRewritesCounted workers.now }
     requires few { (rewritten_totals workers.now).blocks ≤ 2 ^ 32 }
     ensures done { IfOk result (λ totals. (totals ≡ totals_of_rewrite (rewritten_totals workers.now)) × AllDone workers.now) }
-    ensures cause { IfErr result (λ e. EndsFirst e workers.now) }
+    ensures beside { OnOk result (beside_end ≡ Ok tt) }
+    ensures cause { IfErr result (λ e. EndsFirst e workers.now ⊎ (AllDone workers.now × (beside_end ≡ Err e))) }
 {
     let mut totals = RewriteTotals::none();
     for worker in workers {
@@ -60,42 +113,67 @@ fn sum_rewritten(workers: &[Worker]) -> Result<Totals, JobError>
         }
         totals.add(&worker.rewritten);
     }
+    if let Err(error) = beside_end {
+        return Err(error);
+    }
     Ok(Totals::of_rewrite(totals))
 }
 
-/// The passes rewrite, each its part of the blocks.
+/// The passes rewrite, each its part of the blocks, and the last one works beside them.
 fn rewrite_passes<
     L: BlockLane + Send,
     G: LogDevice + Send,
     R: Threads + Wait + Sync,
     T: Gate + Sync,
+    B: Beside<L, G>,
 >(
     manager: &Manager<L, G>,
     rt: &R,
     alloc: Global,
     passes: &mut Vec<Pass>,
+    last: &mut Pass,
     blocks: ForkBlocks,
     gate: &T,
+    beside: &mut B,
 ) -> Result<Totals, JobError>
     requires some { 0 < vec_len passes.old }
     requires few { vec_len passes.old < 64 }
     requires free { AreFree L.contents manager.now passes.old.items }
+    requires last { IsFree L.contents manager.now last.old }
     requires frames { (16 ≤ frames_of manager.now.table) × (frames_of manager.now.table ≤ 4096) }
     ensures passes { RewriteParts L.contents manager.now blocks.rel.0 blocks.fork passes.old.items passes.new.items }
     ensures capacity { vec_capacity passes.new ≡ vec_capacity passes.old }
+    ensures last { WorksBeside L.contents manager.now last.old last.new }
+    ensures met { OnOk result (last.new.view.met ≡ last.old.view.met) }
     ensures done { IfOk result (RewritesFork L.contents manager.now blocks.rel.0 blocks.fork passes.old.items passes.new.items) }
-    ensures cause { IfErr result (EndsRewrite L.contents manager.now blocks.rel.0 blocks.fork passes.old.items passes.new.items) }
+    ensures cause { IfErr result (λ e. (e ≡ Memory) ⊎ (FailsFirst L.contents manager.now blocks.rel.0 blocks.fork (length passes.old.items) 0 passes.old.items passes.new.items e
+        ⊎ (((totals : Totals) × RewritesFork L.contents manager.now blocks.rel.0 blocks.fork passes.old.items passes.new.items totals) × WorkIsRefused L.contents manager.now last.old last.new e))) }
 {
     let count = manager.blocks(blocks.rel, blocks.fork);
     let mut workers = deal(alloc, count, passes)?;
-    rewrite_all(manager, rt, alloc, gate, blocks, &mut workers);
-    let end = sum_rewritten(&workers);
+    let beside_end = rewrite_beside(
+        manager,
+        rt,
+        alloc,
+        &mut workers,
+        last,
+        blocks,
+        gate,
+        beside,
+    );
+    let end = sum_rewritten(&workers, beside_end);
     gather(workers, passes);
     end
 }
 
-/// Rewrites the blocks of a fork, each under its cleanup lock: the page of a block that the rule changes is put into the log and into its frame (`lazy_vacuum_heap_page`). All passes are given, of which all but the last work, each on its part of the blocks; all are given back.
-pub fn rewrite<L: BlockLane + Send, G: LogDevice + Send, R: Threads + Wait + Sync, T: Gate + Sync>(
+/// Rewrites the blocks of a fork, each under its cleanup lock: the page of a block that the rule changes is put into the log and into its frame (`lazy_vacuum_heap_page`). All passes are given, of which all but the last work, each on its part of the blocks, and the last one does other work beside them; all are given back.
+pub fn rewrite<
+    L: BlockLane + Send,
+    G: LogDevice + Send,
+    R: Threads + Wait + Sync,
+    T: Gate + Sync,
+    B: Beside<L, G>,
+>(
     manager: &Manager<L, G>,
     rt: &R,
     alloc: Global,
@@ -103,19 +181,30 @@ pub fn rewrite<L: BlockLane + Send, G: LogDevice + Send, R: Threads + Wait + Syn
     rel: RelNo,
     fork: Fork,
     gate: &T,
+    beside: &mut B,
 ) -> JobEnd
     requires several { 2 ≤ vec_len passes }
     requires few { vec_len passes ≤ 64 }
     requires free { AreFree L.contents manager.now passes.items }
     requires frames { (16 ≤ frames_of manager.now.table) × (frames_of manager.now.table ≤ 4096) }
     ensures passes { RewriteParts L.contents manager.now rel.0 fork (workers_in passes.items) (workers_in result.passes.items) }
-    ensures last { last_in result.passes.items ≡ last_in passes.items }
+    ensures last { StaysBeside L.contents manager.now passes.items result.passes.items }
+    ensures met { OnOk result.end (MeetNothing passes.items result.passes.items) }
     ensures done { IfOk result.end (RewritesFork L.contents manager.now rel.0 fork (workers_in passes.items) (workers_in result.passes.items)) }
-    ensures cause { IfErr result.end (EndsRewrite L.contents manager.now rel.0 fork (workers_in passes.items) (workers_in result.passes.items)) }
+    ensures cause { IfErr result.end (EndsRewrite L.contents manager.now rel.0 fork passes.items result.passes.items) }
 {
-    let beside = passes.take_last();
+    let mut last = passes.take_last();
     let blocks = ForkBlocks { rel, fork };
-    let end = rewrite_passes(manager, rt, alloc, &mut passes, blocks, gate);
-    passes.push_reserved(beside);
+    let end = rewrite_passes(
+        manager,
+        rt,
+        alloc,
+        &mut passes,
+        &mut last,
+        blocks,
+        gate,
+        beside,
+    );
+    passes.push_reserved(last);
     JobEnd { passes, end }
 }

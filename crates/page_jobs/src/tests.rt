@@ -1,7 +1,7 @@
 //! Scans and dumps that are run.
 ghost use Rattle.std.specs.Prelude.{◌≤◌};
 
-use crate::{Gate, JobEnd, JobError, ReadFault, Totals, dump, scan, survey};
+use crate::{Gate, JobEnd, JobError, NoBeside, ReadFault, Totals, dump, scan, survey};
 use backend_pass::{Config, Manager, Pinned, StartRefused};
 use block_tag::{Catalog, Fork, RelEntry, RelNo};
 use log_device::{FaultPlan, MemSink};
@@ -72,9 +72,9 @@ fn run<R: Threads + Wait + Sync>(
     match Manager::start(alloc, config, catalog, lanes, TestLog::new(alloc, 0), 0) {
         Ok((manager, passes)) => {
             let JobEnd { passes, end } = if dumps {
-                dump(&manager, rt, alloc, passes, RelNo(0), Fork::Main, out, gate)
+                dump(&manager, rt, alloc, passes, RelNo(0), Fork::Main, out, gate, &mut NoBeside)
             } else {
-                scan(&manager, rt, alloc, passes, RelNo(0), Fork::Main, out, gate)
+                scan(&manager, rt, alloc, passes, RelNo(0), Fork::Main, out, gate, &mut NoBeside)
             };
             let (_lanes, _log) = manager.close(passes);
             Ok(end)

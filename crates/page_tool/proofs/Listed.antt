@@ -21,7 +21,8 @@ use Rattle.page_jobs.specs.declared.ending.JobError.{JobError}
 use Rattle.page_jobs.specs.declared.ending.JobError.TheVariants as job
 use Rattle.page_jobs.specs.declared.ending.Totals.{Totals}
 use Rattle.page_jobs.specs.Ending.{as_done}
-use Rattle.page_jobs.specs.Jobs.{AllAtBase, AnyMeets, EndsJob, IsOrigin, ReadParts, last_in, workers_in}
+use Rattle.page_jobs.specs.Beside.{LastIsRefused, StaysBeside}
+use Rattle.page_jobs.specs.Jobs.{AllAtBase, AnyMeets, EndsJob, IsOrigin, ReadParts, workers_in}
 use Rattle.page_jobs.specs.Relations.{IsCatalogOf, MeetNothing}
 use Rattle.page_jobs.proofs.Backends as backends
 use Rattle.page_jobs.proofs.Counted.{no_read_failed, no_write_failed, some_read_failed}
@@ -55,7 +56,7 @@ rose_from_none n more = omega arith
 
 module _ {L G : Type 0} (d : Devices L G) (m : Manager L G) (fork : Fork) (blocks : ℕ) (ps qs : List PassState) (lanes : List L) (log : G)
     (catalog : IsCatalogOf fork blocks (relations_of m.table)) (counted : length (opened_of m.table) ≡ lanes_in m.table) (several : 2 ≤ length ps)
-    (new : AreNewPasses d.contents m (length ps) ps) (parts : ReadParts d.contents m 0 fork (workers_in ps) (workers_in qs)) (last : last_in qs ≡ last_in ps)
+    (new : AreNewPasses d.contents m (length ps) ps) (parts : ReadParts d.contents m 0 fork (workers_in ps) (workers_in qs)) (last : StaysBeside d.contents m ps qs)
     (closed : ClosesAll d m.table.table.shared.key qs lanes log) where
   more : 1 < length ps
   more = several
@@ -78,7 +79,7 @@ module _ {L G : Type 0} (d : Devices L G) (m : Manager L G) (fork : Fork) (block
       (λ i p at. nothing_put.fronts i p at ∙ closed.opened.base)
 
   module _ (none : sum_by d.read_faults (opened_of m.table) ≡ 0) (outs outs_now : ℕ) (later : outs ≤ outs_now) where
-    fault_cause : (e : JobError) → EndsJob d.contents m 0 fork (workers_in ps) (workers_in qs) outs outs_now e
+    fault_cause : (e : JobError) → EndsJob d.contents m 0 fork ps qs outs outs_now e
         → IsCauseOf 0 (sum_by d.read_faults lanes) outs outs_now (listing_error e)
     fault_cause (job.ReadFault tag) ends = ⊎_elim
         (λ (short : job.ReadFault tag ≡ job.Memory). absurd (cc))
@@ -86,7 +87,10 @@ module _ {L G : Type 0} (d : Devices L G) (m : Manager L G) (fork : Fork) (block
         (λ (any : AnyMeets d.contents m 0 fork (workers_in ps) (workers_in qs) (job.ReadFault tag)). rose_from_none (sum_by d.read_faults lanes)
         (some_read_failed d m.table.table.shared.key qs lanes log closed counted none
         (backends.fault_met d.contents m fork (length ps) ps qs new more parts last tag any)))
+        (λ other. ⊎_elim
+        (λ (refused : LastIsRefused d.contents m ps qs (job.ReadFault tag)). absurd (backends.work_meets_no_read refused.refused.why tag refused.refused.fault))
         (λ (out : (job.ReadFault tag ≡ job.OutFault) × Rose outs outs_now). absurd (let no = out.0 in cc))
+        other)
         rest)
         ends
     fault_cause (job.WriteFault tag) ends = tt
@@ -98,13 +102,16 @@ module _ {L G : Type 0} (d : Devices L G) (m : Manager L G) (fork : Fork) (block
         (λ (short : job.OutFault ≡ job.Memory). absurd (cc))
         (λ rest. ⊎_elim
         (λ (any : AnyMeets d.contents m 0 fork (workers_in ps) (workers_in qs) job.OutFault). absurd (backends.none_meets_output d.contents m fork (workers_in ps) (workers_in qs) any))
+        (λ other. ⊎_elim
+        (λ (refused : LastIsRefused d.contents m ps qs job.OutFault). absurd (backends.work_meets_no_output refused.refused.why refused.refused.fault))
         (λ (out : (job.OutFault ≡ job.OutFault) × Rose outs outs_now). out.1)
+        other)
         rest)
         ends
     fault_cause job.Memory ends = tt
 
-    pub cause : (end : Result Totals JobError) → OnOk end (outs_now ≡ outs) → OnOk end (MeetNothing (workers_in ps) (workers_in qs))
-        → IfErr end (EndsJob d.contents m 0 fork (workers_in ps) (workers_in qs) outs outs_now)
+    pub cause : (end : Result Totals JobError) → OnOk end (outs_now ≡ outs) → OnOk end (MeetNothing ps qs)
+        → IfErr end (EndsJob d.contents m 0 fork ps qs outs outs_now)
         → HasListingCause 0 (sum_by d.read_faults lanes) outs outs_now (listing_end end)
     cause (Ok totals) quiet met ends = record {
       reads_later = omega arith;

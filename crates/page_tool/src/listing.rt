@@ -7,8 +7,9 @@ ghost use Rattle.pin_core.specs.State.{Page};
 ghost use Rattle.history_core.specs.Log.{head_bytes};
 ghost use Rattle.command_line.specs.Numbers.{HasOptionsInRange};
 ghost use Rattle.frame_table.specs.Seats.{base_of, frames_of, opened_of};
+ghost use Rattle.page_jobs.specs.Beside.{StaysBeside};
 ghost use Rattle.page_jobs.specs.Ending.{as_done};
-ghost use Rattle.page_jobs.specs.Jobs.{AllAtBase, AreFree, EndsJob, IsOrigin, ReadParts, last_in, workers_in};
+ghost use Rattle.page_jobs.specs.Jobs.{AllAtBase, AreFree, EndsJob, IsOrigin, ReadParts, workers_in};
 ghost use Rattle.page_jobs.specs.Relations.{MeetNothing};
 ghost use Rattle.page_tool.specs.Causes.{HasListingCause, listing_end, listing_error};
 ghost use Rattle.page_tool.specs.Listings.{LeavesLanes, text_of};
@@ -19,7 +20,7 @@ use backend_pass::{Manager, Pass};
 use block_tag::RelNo;
 use command_line::Options;
 use log_device::{LogPlan, MemLog, Sink};
-use page_jobs::{Gate, JobEnd, JobError, Totals, dump, scan};
+use page_jobs::{Gate, JobEnd, JobError, NoBeside, Totals, dump, scan};
 use segment_store::BlockLane;
 use std::alloc::{AllocError, Global};
 use std::sync::Wait;
@@ -113,17 +114,37 @@ fn list_blocks<L: BlockLane + Send, R: Threads + Wait + Sync, O: Sink, T: Gate +
     requires free { AreFree L.contents manager.now passes.items }
     requires frames { (16 ≤ frames_of manager.now.table) × (frames_of manager.now.table ≤ 4096) }
     ensures passes { ReadParts L.contents manager.now 0 listed.relation.fork (workers_in passes.items) (workers_in result.passes.items) }
-    ensures last { last_in result.passes.items ≡ last_in passes.items }
-    ensures met { OnOk result.end (MeetNothing (workers_in passes.items) (workers_in result.passes.items)) }
+    ensures last { StaysBeside L.contents manager.now passes.items result.passes.items }
+    ensures met { OnOk result.end (MeetNothing passes.items result.passes.items) }
     ensures text { (pages : List Page) → IsOrigin L.contents manager.now 0 listed.relation.fork pages → AllAtBase (base_of manager.now.table) (workers_in result.passes.items)
         → Puts (text_of listed.listing pages) (O.bytes out.old) (O.bytes out.new) (as_done result.end) }
     ensures quiet { OnOk result.end (O.faults out.new ≡ O.faults out.old) }
     ensures later { O.faults out.old ≤ O.faults out.new }
-    ensures cause { IfErr result.end (EndsJob L.contents manager.now 0 listed.relation.fork (workers_in passes.items) (workers_in result.passes.items) (O.faults out.old) (O.faults out.new)) }
+    ensures cause { IfErr result.end (EndsJob L.contents manager.now 0 listed.relation.fork passes.items result.passes.items (O.faults out.old) (O.faults out.new)) }
 {
     match listed.listing {
-        Listing::Scan => scan(manager, rt, alloc, passes, RelNo(0), listed.relation.fork, out, gate),
-        Listing::Dump => dump(manager, rt, alloc, passes, RelNo(0), listed.relation.fork, out, gate),
+        Listing::Scan => scan(
+            manager,
+            rt,
+            alloc,
+            passes,
+            RelNo(0),
+            listed.relation.fork,
+            out,
+            gate,
+            &mut NoBeside,
+        ),
+        Listing::Dump => dump(
+            manager,
+            rt,
+            alloc,
+            passes,
+            RelNo(0),
+            listed.relation.fork,
+            out,
+            gate,
+            &mut NoBeside,
+        ),
     }
 }
 
