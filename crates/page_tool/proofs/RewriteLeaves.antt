@@ -65,6 +65,13 @@ page_within (p ∷ pages) zero page at sound =
     omega arith
 page_within (p ∷ pages) (suc i) page at sound = let later = page_within pages i page at sound in omega arith
 
+-- the rule, and the file of a log whose bytes these are
+abbrev pub rule_at : RelationFork → Rule
+rule_at r = rule_of 0 r.fork
+
+abbrev pub file_at : {G : Type 0} → (G → ℕ) → G → List ℕ → StoredLog
+file_at synced log known = record { bytes = known; synced = synced log }
+
 below_test : (a b : ℕ) → a < b → nat_lt a b ≡ true
 below_test a b low = grind arith
 
@@ -73,15 +80,12 @@ block_named block low = grind arith
 
 module _ {L G : Type 0} (d : Devices L G) (m : Manager L G) (r : RelationFork) (base : ℕ) (ps zs : List PassState) (started : IsStarted d.contents r base m ps) (few : r.blocks < 2 ^ 32)
     (lanes : List L) (log : G) (c : ClosesAll d m.table.table.shared.key zs lanes log) where
-  abbrev rule : Rule
-  rule = rule_of 0 r.fork
-
   -- A block of the relation in its lane, before and after: the page that it had, what the lane has now, and whether the block's last write failed
   pub record InLanes (block : ℕ) (page : Page) : Type 0 where
     pub before : Pages
     pub after : Pages
     pub closed : L
-    pub is : IsInLanes d m.table.table.shared.key lanes (rule.tag block) (tag_at r.fork block) before after closed
+    pub is : IsInLanes d m.table.table.shared.key lanes ((rule_at r).tag block) (tag_at r.fork block) before after closed
     pub was : before (tag_at r.fork block) ≡ Some page
     pub now : page_in (map d.contents lanes) (tag_at r.fork block) ≡ after (tag_at r.fork block)
     pub marked : failed_after d.failed_writes r lanes block ≡ d.failed_writes closed (tag_at r.fork block)
@@ -92,7 +96,7 @@ module _ {L G : Type 0} (d : Devices L G) (m : Manager L G) (r : RelationFork) (
   named : (block : ℕ) → block < r.blocks → names_block (tag_at r.fork block) ≡ true
   named block low = block_named block (omega arith)
 
-  placed : (block : ℕ) → block < r.blocks → IsPlaced (relations_of m.table) (lanes_in m.table) (lane_number (tag_at r.fork block) (lanes_in m.table)) (rule.tag block) (tag_at r.fork block)
+  placed : (block : ℕ) → block < r.blocks → IsPlaced (relations_of m.table) (lanes_in m.table) (lane_number (tag_at r.fork block) (lanes_in m.table)) ((rule_at r).tag block) (tag_at r.fork block)
   placed block low = record {
     named = packed_is (tag_at r.fork block) (named block low);
     listed = ap (nat_lt block) started.catalog.counted ∙ below_test block r.blocks low;
@@ -102,6 +106,9 @@ module _ {L G : Type 0} (d : Devices L G) (m : Manager L G) (r : RelationFork) (
   some_of : (x : Option Pages) → is_some x ≡ true → (p : Pages) × (x ≡ Some p)
   some_of None e = absurd (let no : false ≡ true = e in cc)
   some_of (Some p) e = (p, refl)
+
+  pub names_are : c.state.names ≡ names_of r
+  names_are = c.opened.names ∙ ap log_name started.entries
 
   module _ (pages : List Page) (are : ArePages d.contents r base (opened_of m.table) pages) where
     low : (block : ℕ) (page : Page) → get_elem? pages block ≡ some page → block < r.blocks
@@ -117,19 +124,19 @@ module _ {L G : Type 0} (d : Devices L G) (m : Manager L G) (r : RelationFork) (
         (subst (λ (p : Page). IsSomeAnd (get_or (map d.contents (opened_of m.table)) (lane_number tag (lanes_in m.table)) None) (λ before. before tag ≡ Some p)) (standing_or pages block page [] at)
         (subst (λ (k : ℕ). IsSomeAnd (get_or (map d.contents (opened_of m.table)) (lane_number tag k) None) (λ before. before tag ≡ Some (get_or pages block []))) wide (are.held block (inside pages block page at))))
 
-    lane_is : (block : ℕ) → block < r.blocks → tag_lane (lanes_in m.table) (rule.tag block) ≡ lane_number (tag_at r.fork block) (lanes_in m.table)
+    lane_is : (block : ℕ) → block < r.blocks → tag_lane (lanes_in m.table) ((rule_at r).tag block) ≡ lane_number (tag_at r.fork block) (lanes_in m.table)
     lane_is block below = ap (lane_of_tag (lanes_in m.table)) (placed block below).named
 
     -- a block's lane is known
-    pub known_at : (block : ℕ) (page : Page) → get_elem? pages block ≡ some page → c.state.known (rule.tag block) ≡ true
+    pub known_at : (block : ℕ) (page : Page) → get_elem? pages block ≡ some page → c.state.known ((rule_at r).tag block) ≡ true
     known_at block page at = let x = was_there block page at in
-        c.opened.known (lane_number (tag_at r.fork block) (lanes_in m.table)) x.0 (rule.tag block) x.1 (lane_is block (low block page at)) ∙ ap (λ (p : Option Pages). is_some p) x.2.1
+        c.opened.known (lane_number (tag_at r.fork block) (lanes_in m.table)) x.0 ((rule_at r).tag block) x.1 (lane_is block (low block page at)) ∙ ap (λ (p : Option Pages). is_some p) x.2.1
 
     -- the page of a block at the start
-    pub origin_at : (block : ℕ) (page : Page) → get_elem? pages block ≡ some page → page ≡ c.state.origin (rule.tag block)
+    pub origin_at : (block : ℕ) (page : Page) → get_elem? pages block ≡ some page → page ≡ c.state.origin ((rule_at r).tag block)
     origin_at block page at = let x = was_there block page at in
-        same_Some page (c.state.origin (rule.tag block))
-        (sym x.2.2 ∙ c.opened.origin (lane_number (tag_at r.fork block) (lanes_in m.table)) x.0 x.2.0 (rule.tag block) (tag_at r.fork block) x.1 x.2.1 (placed block (low block page at)))
+        same_Some page (c.state.origin ((rule_at r).tag block))
+        (sym x.2.2 ∙ c.opened.origin (lane_number (tag_at r.fork block) (lanes_in m.table)) x.0 x.2.0 ((rule_at r).tag block) (tag_at r.fork block) x.1 x.2.1 (placed block (low block page at)))
 
     pub in_lanes : (block : ℕ) (page : Page) → get_elem? pages block ≡ some page → InLanes block page
     in_lanes block page at =
@@ -140,8 +147,8 @@ module _ {L G : Type 0} (d : Devices L G) (m : Manager L G) (r : RelationFork) (
         let many = c.counted in
         let wide = started.counted in
         let l = there lanes q (omega arith) in
-        let of_word : c.state.lane_of (rule.tag block) ≡ q = ap (λ (f : ℕ → ℕ). f (rule.tag block)) c.opened.lane_of ∙ lane_is block (low block page at) in
-        let after = some_of (d.contents l.0) (sym (c.lane q l.0 l.1).known ∙ ap (λ (p : ℕ). (c.state.lane p).known) (sym of_word) ∙ c.laws.invariant.known (rule.tag block) ∙ known_at block page at) in
+        let of_word : c.state.lane_of ((rule_at r).tag block) ≡ q = ap (λ (f : ℕ → ℕ). f ((rule_at r).tag block)) c.opened.lane_of ∙ lane_is block (low block page at) in
+        let after = some_of (d.contents l.0) (sym (c.lane q l.0 l.1).known ∙ ap (λ (p : ℕ). (c.state.lane p).known) (sym of_word) ∙ c.laws.invariant.known ((rule_at r).tag block) ∙ known_at block page at) in
         record {
           before = x.2.0;
           after = after.0;
@@ -171,8 +178,8 @@ module _ {L G : Type 0} (d : Devices L G) (m : Manager L G) (r : RelationFork) (
     pub was_old : (block : ℕ) (old new : Page) (b : Both block new) → get_elem? pages block ≡ some old → b.old ≡ old
     was_old block old new b at = some-injective b.old old (sym b.at ∙ at)
 
-    module _ (has : HasRewrites rule (blocks_in m 0 r.fork) c.state.known c.state.origin c.state.log) where
-      image_of : (e : Entry) → IsRewrite rule (blocks_in m 0 r.fork) c.state.known c.state.origin e → IsImageOf rule pages e
+    module _ (has : HasRewrites (rule_at r) (blocks_in m 0 r.fork) c.state.known c.state.origin c.state.log) where
+      image_of : (e : Entry) → IsRewrite (rule_at r) (blocks_in m 0 r.fork) c.state.known c.state.origin e → IsImageOf (rule_at r) pages e
       image_of e x =
           let short = x.below in
           let same = blocks_are in
@@ -184,65 +191,60 @@ module _ {L G : Type 0} (d : Devices L G) (m : Manager L G) (r : RelationFork) (
             block = x.block;
             page = p.0;
             there = p.1;
-            changes = ap rule.changes (sym is) ∙ x.changes told;
+            changes = ap (rule_at r).changes (sym is) ∙ x.changes told;
             tagged = x.tagged;
-            image = x.image told ∙ ap (λ (q : Page). rule.rewritten q (end_of e)) is;
+            image = x.image told ∙ ap (λ (q : Page). (rule_at r).rewritten q (end_of e)) is;
           }
 
-      pub images : HasImages rule pages c.state.log
+      pub images : HasImages (rule_at r) pages c.state.log
       images = record { each = λ k e at. image_of e (has.each k e at); one = has.one }
 
-      module _ (hold : HoldEither d m.table.table.shared.key lanes rule c.state) (known : List ℕ) (told : d.bytes log ≡ Some known) where
-        abbrev file : StoredLog
-        file = record { bytes = known; synced = d.synced log }
+    module _ (hold : HoldEither d m.table.table.shared.key lanes (rule_at r) c.state) (known : List ℕ) (told : d.bytes log ≡ Some known) where
+      logged : (block : ℕ) (new : Page) (b : Both block new) → HasImage (rule_at r) c.state ((rule_at r).tag block) b.old (b.of.after (tag_at r.fork block)) → IsLogged (rule_at r) c.state.log (file_at d.synced log known) block new
+      logged block new b x = record {
+        made = x.made;
+        image = sym (b.new_is ∙ ap (λ (p : Option Page). unwrap_or p b.old) x.held);
+        durable = subst (λ (n : ℕ). head_size + end_of x.made.entry ≤ c.state.log.base + n) (c.device.synced known told) x.durable;
+      }
 
-        logged : (block : ℕ) (new : Page) (b : Both block new) → HasImage rule c.state (rule.tag block) b.old (b.of.after (tag_at r.fork block)) → IsLogged rule c.state.log file block new
-        logged block new b x = record {
-          made = x.made;
-          image = sym (b.new_is ∙ ap (λ (p : Option Page). unwrap_or p b.old) x.held);
-          durable = subst (λ (n : ℕ). head_size + end_of x.made.entry ≤ c.state.log.base + n) (c.device.synced known told) x.durable;
-        }
+      either_at : (block : ℕ) (new : Page) (b : Both block new) → failed_after d.failed_writes r lanes block ≡ false → (new ≡ b.old) ⊎ IsLogged (rule_at r) c.state.log (file_at d.synced log known) block new
+      either_at block new b unfailed = ⊎_elim
+          (λ (same : b.of.after (tag_at r.fork block) ≡ Some b.old). inl (b.new_is ∙ ap (λ (p : Option Page). unwrap_or p b.old) same))
+          (λ (x : HasImage (rule_at r) c.state ((rule_at r).tag block) b.old (b.of.after (tag_at r.fork block))). inr (logged block new b x))
+          (hold ((rule_at r).tag block) (tag_at r.fork block) b.of.before b.of.after b.of.closed b.old b.of.is b.of.was (sym b.of.marked ∙ unfailed))
 
-        either_at : (block : ℕ) (new : Page) (b : Both block new) → failed_after d.failed_writes r lanes block ≡ false → (new ≡ b.old) ⊎ IsLogged rule c.state.log file block new
-        either_at block new b unfailed = ⊎_elim
-            (λ (same : b.of.after (tag_at r.fork block) ≡ Some b.old). inl (b.new_is ∙ ap (λ (p : Option Page). unwrap_or p b.old) same))
-            (λ (x : HasImage rule c.state (rule.tag block) b.old (b.of.after (tag_at r.fork block))). inr (logged block new b x))
-            (hold (rule.tag block) (tag_at r.fork block) b.of.before b.of.after b.of.closed b.old b.of.is b.of.was (sym b.of.marked ∙ unfailed))
+      pub each_either : (block : ℕ) (old new : Page) → get_elem? pages block ≡ some old → get_elem? (pages_after d.contents r lanes pages) block ≡ some new
+          → failed_after d.failed_writes r lanes block ≡ false → (new ≡ old) ⊎ IsLogged (rule_at r) c.state.log (file_at d.synced log known) block new
+      each_either block old new was at unfailed = let b = both_at block new at in
+          subst (λ (p : Page). (new ≡ p) ⊎ IsLogged (rule_at r) c.state.log (file_at d.synced log known) block new) (was_old block old new b was) (either_at block new b unfailed)
 
-        pub each_either : (block : ℕ) (old new : Page) → get_elem? pages block ≡ some old → get_elem? (pages_after d.contents r lanes pages) block ≡ some new
-            → failed_after d.failed_writes r lanes block ≡ false → (new ≡ old) ⊎ IsLogged rule c.state.log file block new
-        each_either block old new was at unfailed = let b = both_at block new at in
-            subst (λ (p : Page). (new ≡ p) ⊎ IsLogged rule c.state.log file block new) (was_old block old new b was) (either_at block new b unfailed)
+      first : (block : ℕ) (new : Page) → get_elem? (pages_after d.contents r lanes pages) block ≡ some new
+          → failed_after d.failed_writes r lanes block ≡ false → is_sound_page new ≡ true → base < lsn_of new → IsLogged (rule_at r) c.state.log (file_at d.synced log known) block new
+      first block new at unfailed sound past = let b = both_at block new at in ⊎_elim
+          (λ (same : new ≡ b.old). absurd (
+            let w = page_within pages block b.old b.at (ap is_sound_page (sym same) ∙ sound) in
+            let e = ap lsn_of same in
+            let l = are.within in
+            omega arith
+          ))
+          (λ (x : IsLogged (rule_at r) c.state.log (file_at d.synced log known) block new). x)
+          (either_at block new b unfailed)
 
-        first : (block : ℕ) (new : Page) → get_elem? (pages_after d.contents r lanes pages) block ≡ some new
-            → failed_after d.failed_writes r lanes block ≡ false → is_sound_page new ≡ true → base < lsn_of new → IsLogged rule c.state.log file block new
-        first block new at unfailed sound past = let b = both_at block new at in ⊎_elim
-            (λ (same : new ≡ b.old). absurd (
-              let w = page_within pages block b.old b.at (ap is_sound_page (sym same) ∙ sound) in
-              let e = ap lsn_of same in
-              let l = are.within in
-              omega arith
-            ))
-            (λ (x : IsLogged rule c.state.log file block new). x)
-            (either_at block new b unfailed)
+      -- behind the log's bytes stands only what a failure left
+      begins_with : (mark : Option ℕ) → IsLog d log mark c.state.device → (mark ≡ None → c.state.device.bytes ≡ log_bytes c.state.names c.state.log) → BeginsWith c.state.names c.state.log (file_at d.synced log known)
+      begins_with None device whole = record { rest = []; is_bytes = sym (device.bytes known told) ∙ whole refl ∙ sym (append-nil (log_bytes c.state.names c.state.log)) }
+      begins_with (Some p) device whole =
+          let left = (c.laws.invariant.device.columns 0 (omega arith)).left (λ none. let no = sym device.down ∙ none in absurd (cc)) in
+          record { rest = left.rest; is_bytes = sym (device.bytes known told) ∙ left.is_bytes }
 
-        pub names_are : c.state.names ≡ names_of r
-        names_are = c.opened.names ∙ ap log_name started.entries
-
-        -- behind the log's bytes stands only what a failure left
-        begins_with : (mark : Option ℕ) → IsLog d log mark c.state.device → (mark ≡ None → c.state.device.bytes ≡ log_bytes c.state.names c.state.log) → BeginsWith c.state.names c.state.log file
-        begins_with None device whole = record { rest = []; is_bytes = sym (device.bytes known told) ∙ whole refl ∙ sym (append-nil (log_bytes c.state.names c.state.log)) }
-        begins_with (Some p) device whole =
-            let left = (c.laws.invariant.device.columns 0 (omega arith)).left (λ none. let no = sym device.down ∙ none in absurd (cc)) in
-            record { rest = left.rest; is_bytes = sym (device.bytes known told) ∙ left.is_bytes }
-
-        pub leaves_either : LeavesEither rule (names_of r) base pages (pages_after d.contents r lanes pages) (failed_after d.failed_writes r lanes) file
-        leaves_either = record {
-          log = c.state.log;
-          based = c.opened.base ∙ started.based;
-          begins = subst (λ (names : ℕ → List ℕ). BeginsWith names c.state.log file) names_are (begins_with c.mark c.device c.bytes);
-          images = images;
-          counted = pages_long r.fork (map d.contents lanes) 0 pages;
-          each = each_either;
-          log_first = first;
-        }
+      pub leaves_either : HasRewrites (rule_at r) (blocks_in m 0 r.fork) c.state.known c.state.origin c.state.log
+        → LeavesEither (rule_at r) (names_of r) base pages (pages_after d.contents r lanes pages) (failed_after d.failed_writes r lanes) (file_at d.synced log known)
+      leaves_either has = record {
+        log = c.state.log;
+        based = c.opened.base ∙ started.based;
+        begins = subst (λ (names : ℕ → List ℕ). BeginsWith names c.state.log (file_at d.synced log known)) names_are (begins_with c.mark c.device c.bytes);
+        images = images has;
+        counted = pages_long r.fork (map d.contents lanes) 0 pages;
+        each = each_either;
+        log_first = first;
+      }
