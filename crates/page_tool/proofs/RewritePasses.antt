@@ -54,7 +54,8 @@ module _ {L G : Type 0} (contents : L → Option Pages) (m : Manager L G) where
   after_check qs zs checked i q z at now = dite (dec_le (suc i) (length qs - 1))
       (λ (below : suc i ≤ length qs - 1). inl (some-injective z q (sym now ∙ checked.others i below ∙ at)))
       (λ above. let low = inside qs i q at in let last : i ≡ length qs - 1 = omega arith in
-      inr (last, checked.last q z (ap (λ (k : ℕ). get_elem? qs k) (sym last) ∙ at) (ap (λ (k : ℕ). get_elem? zs k) (sym last) ∙ now)))
+      let x = checked.last q z (ap (λ (k : ℕ). get_elem? qs k) (sym last) ∙ at) (ap (λ (k : ℕ). get_elem? zs k) (sym last) ∙ now) in
+      inr (last, x.0, x.1))
 
   -- no checkpoint was made
   pub checks_none : (ps qs : List PassState) → StaysBeside contents m ps qs → 0 < length ps → ChecksByLast contents m qs qs

@@ -1,0 +1,19 @@
+use Rattle.std.proofs.Common.{◌≡◌, ◌≢◌, ◌≤◌, ◌+◌, ◌∙◌, sym, ap, ℕ, arith}
+use mathlib.Core.Logic.{dite}
+use mathlib.Core.Option.{some, some-injective}
+use native.Mathlib.Decide.{ℕ_discrete}
+use lib.ListN.{get_elem?}
+use Rattle.backend_pass.specs.Passes.{PassState}
+use Rattle.page_jobs.proofs.Standing.{inside}
+use Rattle.page_tool.proofs.rewriting.furthest_front.Goals as goal
+
+pub loop-pass-preserved : goal.loop-pass-preserved
+loop-pass-preserved c i p below at =
+    let front = c.front.ensures in
+    let most = c.max-furthest.ensures in
+    dite (ℕ_discrete i c.loop-pass.pass-index)
+    (λ (same : i ≡ c.loop-pass.pass-index). ?here)
+    (λ (other : i ≢ c.loop-pass.pass-index). let before = c.loop-pass.invariant i p (omega (arith, other)) at in omega arith)
+
+pub returns : goal.returns
+returns c i p at = let low = inside c.args.passes.now i p at in let all = c.loop-pass-test.false in c.loop-pass.invariant i p (omega arith) at
