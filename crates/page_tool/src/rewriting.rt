@@ -134,9 +134,13 @@ fn checkpoint_past<L: BlockLane, G: LogDevice, R: Wait>(
     ensures cause { IfErr result (λ why. PassMeets L.contents manager.now.table pass.old.view pass.new.view (checkpoint_error why)) }
 {
     for _ in rt.forever() {
-        let done = checkpoint(manager, rt, pass)?;
-        if done.upto >= front {
-            return Ok(());
+        match checkpoint(manager, rt, pass) {
+            Ok(done) => {
+                if done.upto >= front {
+                    return Ok(());
+                }
+            }
+            Err(why) => return Err(why),
         }
     }
     unreachable!()
