@@ -48,6 +48,11 @@ module _ {L G : Type 0} (contents : L → Option Pages) (m : Manager L G) where
   free_each [] each = tt
   free_each (p ∷ ps) each = (each 0 p refl, free_each ps (λ i. each (suc i)))
 
+  free_at : (ps : List PassState) (i : ℕ) (p : PassState) → AreFree contents m ps → get_elem? ps i ≡ some p → IsFree contents m p
+  free_at [] i p free at = absurd (some-ne-none p (sym at))
+  free_at (x ∷ ps) zero p free at = subst (IsFree contents m) (some-injective x p at) free.0
+  free_at (x ∷ ps) (suc i) p free at = free_at ps i p free.1 at
+
   -- each pass after a checkpoint by the last one
   pub after_check : (qs zs : List PassState) → ChecksByLast contents m qs zs → (i : ℕ) (q z : PassState) → get_elem? qs i ≡ some q → get_elem? zs i ≡ some z
       → (z ≡ q) ⊎ ((i ≡ length qs - 1) × Belongs contents m z × KeepsCallers q z)
@@ -95,6 +100,10 @@ module _ {L G : Type 0} (contents : L → Option Pages) (m : Manager L G) where
         let free : IsFree contents m q = record { belongs = x.goes.belongs; spent = x.spent } in
         free)
         c.either)
+
+    -- and have seen the log's beginning
+    pub all_seen_after : (i : ℕ) (q : PassState) → get_elem? qs i ≡ some q → base_of m.table ≤ q.view.end_seen
+    all_seen_after i q at = (free_at qs i q are_free at).belongs.seen
 
     pub all_seen : (i : ℕ) (p : PassState) → get_elem? ps i ≡ some p → base_of m.table ≤ p.view.end_seen
     all_seen i p at = (new.each i p at).belongs.seen

@@ -154,7 +154,7 @@ fn checkpoint_all<L: BlockLane, G: LogDevice, R: Wait>(
 ) -> Result<(), CheckpointError>
     requires some { 0 < vec_len passes.old }
     requires free { AreFree L.contents manager.now passes.old.items }
-    requires unlocked { (last : PassState) → get_elem? passes.old.items (vec_len passes.old - 1) ≡ some last → HasNoLock last }
+    requires unlocked { (last : PassState) → get_elem? passes.old.items (length passes.old.items - 1) ≡ some last → HasNoLock last }
     ensures passes { ChecksByLast L.contents manager.now passes.old.items passes.new.items }
     ensures swept { OnOk result (StoresAll (lanes_in manager.now.table) passes.old.items passes.new.items) }
     ensures cause { IfErr result (λ why. LastMeets L.contents manager.now.table passes.old.items passes.new.items (checkpoint_error why)) }
@@ -201,11 +201,16 @@ fn rewrite_and_store<
             return StoredRewrite { passes, end };
         }
     };
-    let end = match checkpoint_all(manager, rt, &mut passes) {
-        Ok(()) => Ok(totals),
-        Err(error) => Err(RewriteError::from(error)),
-    };
-    StoredRewrite { passes, end }
+    match checkpoint_all(manager, rt, &mut passes) {
+        Ok(()) => StoredRewrite {
+            passes,
+            end: Ok(totals),
+        },
+        Err(error) => StoredRewrite {
+            passes,
+            end: Err(RewriteError::from(error)),
+        },
+    }
 }
 
 /// The backends rewrite the blocks, and the manager is closed, which returns its lanes and its log.

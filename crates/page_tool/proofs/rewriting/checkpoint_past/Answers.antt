@@ -13,8 +13,8 @@ returns-in-Err-clause-cause g c =
     meets_since {L = g.row.L.Denot} {G = g.row.G.Denot} g.L.BlockLane.contents c.args.manager.now c.args.pass.now.view c.loop.pass.view c.checkpoint.new.pass.view (checkpoint_error c.in-Err.why) c.loop.invariant.callers.keeps.advances.end_seen
     (stop_meets {L = g.row.L.Denot} {G = g.row.G.Denot} g.L.BlockLane.contents c.args.manager.now x.0 c.loop.pass.view c.checkpoint.new.pass.view c.in-Err.why x.2 c.in-Err.ensures.met)
 
-pub returns-in-Ok-then-done-front-clause-callers : goal.returns-in-Ok-then-done-front-clause-callers
-returns-in-Ok-then-done-front-clause-callers g c = callers_on c.args.pass.now c.loop.pass c.checkpoint.new.pass c.loop.invariant.callers c.checkpoint.ensures.callers
+pub returns-then-done-front-clause-callers : goal.returns-then-done-front-clause-callers
+returns-then-done-front-clause-callers g c = callers_on c.args.pass.now c.loop.pass c.checkpoint.new.pass c.loop.invariant.callers c.checkpoint.ensures.callers
 
 pub loop-preserved : goal.loop-preserved
 loop-preserved g c = record {
