@@ -1,17 +1,24 @@
 -- What a run answers, and why.
-use Rattle.std.specs.Prelude.{◌≡◌, ◌≢◌, ◌<◌, ◌⊎◌, ℕ, ◌-◌, ◌^◌, ◌==◌, List, [], ◌++◌, Option, Some, None, Result, Ok, Err, IfSome, IsSomeAnd, option_map, if◌then◌else◌, codes}
+use Rattle.std.specs.Prelude.{◌≡◌, ◌≢◌, ◌<◌, ◌≤◌, ◌⊎◌, ℕ, ◌+◌, ◌-◌, ◌^◌, ◌==◌, false, true, List, [], ◌++◌, length, Option, Some, None, Result, Ok, Err, IfSome, IsSomeAnd, option_map, if◌then◌else◌, codes}
 use Rattle.command_line.specs.declared.numbers.Options.{Options}
 use Rattle.log_device.specs.declared.device.Failed.{Failed}
 use Rattle.log_device.specs.Bytes.{GainsPrefix, Puts}
 use Rattle.log_device.specs.Faults.{HasCause, Rose}
 use Rattle.segment_store.specs.Paths.{PathMarks, Paths}
 use Rattle.segment_store.specs.Relation.{relation_of}
+use Rattle.pin_core.specs.State.{Page}
+use Rattle.history_core.specs.Log.{record_size}
 use Rattle.page_tool.specs.declared.error.Crowding.{Crowding}
 use Rattle.page_tool.specs.declared.error.ToolError.{ToolError}
-use Rattle.page_tool.specs.declared.error.ToolError.TheVariants.{Usage, Crowded, Missing, ReadFault, OutFault, Memory}
+use Rattle.page_tool.specs.declared.error.ToolError.TheVariants.{Usage, Crowded, Missing, ReadFault, WriteFault, LogFault, OutFault, Memory, OverLimit}
+use Rattle.page_tool.specs.declared.limits.PositionLimit.{PositionLimit}
+use Rattle.page_tool.specs.declared.limits.PositionLimit.TheVariants.{OfPages, OfPage, OfLog}
+use Rattle.page_tool.specs.Limits.{PassesLimit, largest_lsn, last_position}
 use Rattle.page_tool.specs.Listings.{NoneFails, text_of}
-use Rattle.page_tool.specs.Request.{IsCrowded, ListingRequest}
-use Rattle.page_tool.specs.Status.{crowded_text, error_line, missing_text, status_of_error, tool_line, usage_text}
+use Rattle.page_tool.specs.Request.{Asked, IsCrowded, ListingAsked, RewriteAsked, is_rewriting, listing, rewriting, options_of, path_of}
+use Rattle.page_tool.specs.RewriteFiles.{HostFiles, RewritesFiles}
+use Rattle.page_tool.specs.RewriteTexts.{rewrite_text}
+use Rattle.page_tool.specs.Status.{crowded_text, error_line, limit_text, missing_text, status_of_error, tool_line, usage_text}
 
 -- where the paths are known, nothing is there at this one
 abbrev pub IsMissing : Option Paths → List ℕ → Type 0
@@ -21,60 +28,99 @@ IsMissing known path = IfSome known (λ paths. paths path ≡ [])
 abbrev pub IsThere : Option Paths → List ℕ → Type 0
 IsThere known path = IfSome known (λ paths. paths path ≢ [])
 
--- the text that is asked for, of the relation at the path
-abbrev pub text_asked : ListingRequest → Paths → List ℕ
-text_asked r paths = text_of r.listing (relation_of r.options.seg_blocks (paths r.path))
+-- the pages of the relation that is asked for
+abbrev pub pages_asked : Asked → Paths → List Page
+pages_asked a paths = relation_of (options_of a).seg_blocks (paths (path_of a))
 
--- no block's last write failed for a listing; where the words are no command, all is as it was
-abbrev pub FailsNone : Option ListingRequest → Paths → PathMarks → PathMarks → Type 0
+-- the text that is asked for
+abbrev pub text_asked : Asked → Paths → List ℕ
+text_asked (listing l) paths = text_of l.listing (pages_asked (listing l) paths)
+text_asked (rewriting r) paths = rewrite_text (pages_asked (rewriting r) paths)
+
+-- The counts of faults, of the host and of the output
+pub record FaultCounts : Type 0 where
+  pub reads : ℕ
+  pub writes : ℕ
+  pub logs : ℕ
+  pub outs : ℕ
+
+abbrev pub counts : ℕ → ℕ → ℕ → ℕ → FaultCounts
+counts reads writes logs outs = record { reads = reads; writes = writes; logs = logs; outs = outs }
+
+-- no count fell
+pub record CountsLater (old new : FaultCounts) : Type 0 where
+  pub reads : old.reads ≤ new.reads
+  pub writes : old.writes ≤ new.writes
+  pub logs : old.logs ≤ new.logs
+  pub outs : old.outs ≤ new.outs
+
+-- what is left of the files by a listing, and by words that are no command: no path and no log changed, and no further block's last write failed
+pub record ListingKeeps (l : ListingAsked) (old new : HostFiles) : Type 0 where
+  pub paths : new.paths ≡ old.paths
+  pub logs : new.logs ≡ old.logs
+  pub failed : NoneFails l.options.seg_blocks old.paths l.path old.failed new.failed
+
+-- the words ask for no rewrite
+abbrev pub IsNoRewrite : Option Asked → Type 0
+IsNoRewrite request = IfSome request (λ a. is_rewriting a ≡ false)
+
+-- no block's last write failed; where the words are no command, all is as it was
+abbrev pub FailsNone : Option Asked → Paths → PathMarks → PathMarks → Type 0
 FailsNone None paths old new = new ≡ old
-FailsNone (Some r) paths old new = NoneFails r.options.seg_blocks paths r.path old new
+FailsNone (Some a) paths old new = NoneFails (options_of a).seg_blocks paths (path_of a) old new
+
+-- what a run leaves of the files
+abbrev pub LeavesFiles : Option Asked → ℕ → HostFiles → HostFiles → Type 0
+LeavesFiles None status old new = new ≡ old
+LeavesFiles (Some (listing l)) status old new = ListingKeeps l old new
+LeavesFiles (Some (rewriting r)) status old new = RewritesFiles r status old new
 
 -- the refusals of words that are no command
 abbrev pub RefusesWords : ToolError → Type 0
 RefusesWords Usage = Unit {0}
-RefusesWords (Crowded crowding) = ⊥
-RefusesWords (Missing path) = ⊥
-RefusesWords ReadFault = ⊥
-RefusesWords OutFault = ⊥
 RefusesWords Memory = Unit {0}
+RefusesWords _ = ⊥
 
 abbrev pub crowding_of : Options → Crowding
 crowding_of o = record { backends = o.backends; frames = o.frames }
 
--- the cause of each refusal of a listing; where it is crowded none comes but the one that says so and want of memory, which has no cause
-abbrev pub IsRefusal : ListingRequest → Option Paths → ℕ → ℕ → ℕ → ℕ → ToolError → Type 0
-IsRefusal r known reads reads_now outs outs_now Usage = ⊥
-IsRefusal r known reads reads_now outs outs_now (Crowded crowding) = (crowding ≡ crowding_of r.options) × IsCrowded r.options
-IsRefusal r known reads reads_now outs outs_now (Missing path) = (path.now ≡ r.path) × IsMissing known r.path × ¬ IsCrowded r.options × (reads_now ≡ reads)
-IsRefusal r known reads reads_now outs outs_now ReadFault = Rose reads reads_now × ¬ IsCrowded r.options
-IsRefusal r known reads reads_now outs outs_now OutFault = Rose outs outs_now × IsThere known r.path × ¬ IsCrowded r.options
-IsRefusal r known reads reads_now outs outs_now Memory = Unit {0}
+-- A rewrite could pass the last log position: of pages of these positions, or of a page past the log's end, or of a log that is full; the last two don't come where the relation is known
+abbrev pub IsOverLimit : Option (List Page) → PositionLimit → Type 0
+IsOverLimit known (OfPages largest blocks) = PassesLimit largest blocks × IfSome known (λ pages. (largest ≡ largest_lsn pages) × (blocks ≡ length pages))
+IsOverLimit known (OfPage lsn end) = (end < lsn) × IfSome known (λ pages. ⊥)
+IsOverLimit known (OfLog end) = (last_position < end + record_size) × IfSome known (λ pages. ⊥)
 
--- a listing that was done: it wasn't crowded, the relation was there, and no count rose
-pub record IsDone (r : ListingRequest) (known : Option Paths) (reads reads_now outs outs_now : ℕ) : Type 0 where
-  pub roomy : ¬ IsCrowded r.options
-  pub there : IsThere known r.path
-  pub reads_same : reads_now ≡ reads
-  pub outs_same : outs_now ≡ outs
+-- the cause of each refusal of a command that isn't crowded
+abbrev pub IsRefusal : Asked → Option Paths → FaultCounts → FaultCounts → ToolError → Type 0
+IsRefusal a known old new Usage = ⊥
+IsRefusal a known old new (Crowded crowding) = (crowding ≡ crowding_of (options_of a)) × IsCrowded (options_of a)
+IsRefusal a known old new (Missing path) = (path.now ≡ path_of a) × IsMissing known (path_of a) × ¬ IsCrowded (options_of a) × (new.reads ≡ old.reads)
+IsRefusal a known old new ReadFault = Rose old.reads new.reads × ¬ IsCrowded (options_of a)
+IsRefusal a known old new WriteFault = Rose old.writes new.writes × IsThere known (path_of a) × ¬ IsCrowded (options_of a) × (is_rewriting a ≡ true)
+IsRefusal a known old new LogFault = Rose old.logs new.logs × IsThere known (path_of a) × ¬ IsCrowded (options_of a) × (is_rewriting a ≡ true)
+IsRefusal a known old new OutFault = Rose old.outs new.outs × IsThere known (path_of a) × ¬ IsCrowded (options_of a)
+IsRefusal a known old new Memory = Unit {0}
+IsRefusal a known old new (OverLimit limit) = IsOverLimit (option_map (pages_asked a) known) limit × IsThere known (path_of a) × ¬ IsCrowded (options_of a) × (is_rewriting a ≡ true)
 
--- how a listing ends
-abbrev pub EndsListing : ListingRequest → Option Paths → ℕ → ℕ → ℕ → ℕ → Result Unit ToolError → Type 0
-EndsListing r known reads reads_now outs outs_now (Ok done) = IsDone r known reads reads_now outs outs_now
-EndsListing r known reads reads_now outs outs_now (Err error) = IsRefusal r known reads reads_now outs outs_now error
+-- A command that was done: it wasn't crowded, the relation was there, and no count rose
+pub record IsDone (a : Asked) (known : Option Paths) (old new : FaultCounts) : Type 0 where
+  pub roomy : ¬ IsCrowded (options_of a)
+  pub there : IsThere known (path_of a)
+  pub quiet : new ≡ old
+
+-- how a command ends
+abbrev pub EndsCommand : Asked → Option Paths → FaultCounts → FaultCounts → Result Unit ToolError → Type 0
+EndsCommand a known old new (Ok done) = IsDone a known old new
+EndsCommand a known old new (Err error) = IsRefusal a known old new error
 
 -- how a run ends
-abbrev pub Ends : Option ListingRequest → Option Paths → ℕ → ℕ → ℕ → ℕ → Result Unit ToolError → Type 0
-Ends None known reads reads_now outs outs_now (Ok done) = ⊥
-Ends None known reads reads_now outs outs_now (Err error) = RefusesWords error
-Ends (Some r) known reads reads_now outs outs_now result = EndsListing r known reads reads_now outs outs_now result
-
--- no other status is answered
-abbrev pub IsStatus : ℕ → Type 0
-IsStatus status = (status ≡ 0) ⊎ ((status ≡ 1) ⊎ ((status ≡ 2) ⊎ ((status ≡ 3) ⊎ ((status ≡ 4) ⊎ ((status ≡ 7) ⊎ (status ≡ 8))))))
+abbrev pub Ends : Option Asked → Option Paths → FaultCounts → FaultCounts → Result Unit ToolError → Type 0
+Ends None known old new (Ok done) = ⊥
+Ends None known old new (Err error) = RefusesWords error
+Ends (Some a) known old new result = EndsCommand a known old new result
 
 -- status 1 comes only where the words are no command, and always then unless memory was short
-pub record UsageIf (request : Option ListingRequest) (status : ℕ) : Type 0 where
+pub record UsageIf (request : Option Asked) (status : ℕ) : Type 0 where
   pub only : status ≡ 1 → request ≡ None
   pub always : request ≡ None → (status ≡ 1) ⊎ (status ≡ 8)
 
@@ -84,35 +130,74 @@ pub record CrowdedIf (options : Options) (status : ℕ) : Type 0 where
   pub always : IsCrowded options → (status ≡ 2) ⊎ (status ≡ 8)
 
 -- status 3 comes only where it isn't crowded, nothing is there and no opening failed, and always then unless an opening failed or memory was short
-pub record MissingIf (r : ListingRequest) (known : Option Paths) (reads reads_now status : ℕ) : Type 0 where
-  pub only : status ≡ 3 → IsMissing known r.path × ¬ IsCrowded r.options × (reads_now ≡ reads)
-  pub always : ¬ IsCrowded r.options → IfSome known (λ paths. paths r.path ≡ [] → (status ≡ 3) ⊎ ((status ≡ 8) ⊎ ((status ≡ 4) × Rose reads reads_now)))
+pub record MissingIf (a : Asked) (known : Option Paths) (reads reads_now status : ℕ) : Type 0 where
+  pub only : status ≡ 3 → IsMissing known (path_of a) × ¬ IsCrowded (options_of a) × (reads_now ≡ reads)
+  pub always : ¬ IsCrowded (options_of a) → IfSome known (λ paths. paths (path_of a) ≡ [] → (status ≡ 3) ⊎ ((status ≡ 8) ⊎ ((status ≡ 4) × Rose reads reads_now)))
 
--- all of the text is out at status 0, nothing at 1, 2 and 3, and a prefix of the text at any
+-- the pages could pass the last log position
+abbrev pub ArePastLimit : List Page → Type 0
+ArePastLimit pages = PassesLimit (largest_lsn pages) (length pages)
+
+-- status 9 comes only for a rewrite of a relation that is there and isn't crowded, whose pages, where they are known, could pass the last position; and always then unless a read failed or memory was short
+pub record LimitIf (a : Asked) (known : Option Paths) (reads reads_now status : ℕ) : Type 0 where
+  pub only : status ≡ 9 → (is_rewriting a ≡ true) × ¬ IsCrowded (options_of a) × IfSome known (λ paths. (paths (path_of a) ≢ []) × ArePastLimit (pages_asked a paths))
+  pub always : is_rewriting a ≡ true → ¬ IsCrowded (options_of a)
+      → IfSome known (λ paths. paths (path_of a) ≢ [] → ArePastLimit (pages_asked a paths) → (status ≡ 9) ⊎ ((status ≡ 8) ⊎ ((status ≡ 4) × Rose reads reads_now)))
+
+-- the faults of writing and of the log are those of a rewrite alone
+pub record FaultIf (request : Option Asked) (old new : FaultCounts) (status : ℕ) : Type 0 where
+  pub reads : status ≡ 4 → Rose old.reads new.reads
+  pub writes : status ≡ 5 → Rose old.writes new.writes × IsSomeAnd request (λ a. is_rewriting a ≡ true)
+  pub logs : status ≡ 6 → Rose old.logs new.logs × IsSomeAnd request (λ a. is_rewriting a ≡ true)
+  pub outs : status ≡ 7 → Rose old.outs new.outs
+
+-- all of the text is out at status 0, and a prefix of the text at any
 pub record Wrote (text : List ℕ) (old new : Option (List ℕ)) (status : ℕ) : Type 0 where
   pub all : status ≡ 0 → new ≡ option_map (λ bytes. bytes ++ text) old
   pub prefix : IfSome old (λ bytes. IsSomeAnd new (GainsPrefix text bytes))
 
--- what is owed where no count rose: a relation that is there and isn't crowded is listed, unless memory was short
-abbrev pub IsComplete : ListingRequest → Option Paths → ℕ → ℕ → ℕ → ℕ → ℕ → Type 0
-IsComplete r known reads reads_now outs outs_now status = IfSome known (λ paths. ¬ IsCrowded r.options → paths r.path ≢ []
-    → reads_now ≡ reads → outs_now ≡ outs → reads < 2 ^ 64 - 1 → outs < 2 ^ 64 - 1 → (status ≡ 0) ⊎ (status ≡ 8))
+-- no count is at its last value, past which it doesn't rise
+pub record CountsBelowLast (old : FaultCounts) : Type 0 where
+  pub reads : old.reads < 2 ^ 64 - 1
+  pub writes : old.writes < 2 ^ 64 - 1
+  pub logs : old.logs < 2 ^ 64 - 1
+  pub outs : old.outs < 2 ^ 64 - 1
 
--- the text of a status, which the request makes whole
-abbrev pub status_text : Option ListingRequest → ℕ → List ℕ
-status_text None status = if status == 1 then usage_text else codes "out of memory"
-status_text (Some r) status =
-    if status == 2 then crowded_text (crowding_of r.options)
-    else (if status == 3 then missing_text r.path
-    else (if status == 4 then codes "read fault" else (if status == 7 then codes "output fault" else codes "out of memory")))
+-- a rewrite's positions stay below the last one; a listing has none
+abbrev pub HasPositions : Asked → List Page → Type 0
+HasPositions (listing l) pages = Unit {0}
+HasPositions (rewriting r) pages = ¬ ArePastLimit pages
+
+-- what is owed where no count rose: a relation that is there and isn't crowded is listed, or rewritten where its positions stay below the last one, unless memory was short
+abbrev pub IsComplete : Asked → Option Paths → FaultCounts → FaultCounts → ℕ → Type 0
+IsComplete a known old new status = IfSome known (λ paths. ¬ IsCrowded (options_of a) → paths (path_of a) ≢ [] → HasPositions a (pages_asked a paths)
+    → new ≡ old → CountsBelowLast old → (status ≡ 0) ⊎ (status ≡ 8))
+
+-- the text of a status, which the request and the position limit make whole
+abbrev pub status_text : Option Asked → PositionLimit → ℕ → List ℕ
+status_text None limit status = if status == 1 then usage_text else codes "out of memory"
+status_text (Some a) limit status =
+    if status == 2 then crowded_text (crowding_of (options_of a))
+    else (if status == 3 then missing_text (path_of a)
+    else (if status == 4 then codes "read fault"
+    else (if status == 5 then codes "write fault"
+    else (if status == 6 then codes "log fault"
+    else (if status == 7 then codes "output fault"
+    else (if status == 9 then limit_text limit else codes "out of memory"))))))
 
 -- the line of a status on the error stream; status 0 has none
-abbrev pub status_line : Option ListingRequest → ℕ → List ℕ
-status_line request status = if status == 0 then [] else tool_line (status_text request status)
+abbrev pub status_line : Option Asked → PositionLimit → ℕ → List ℕ
+status_line request limit status = if status == 0 then [] else tool_line (status_text request limit status)
 
 -- the text was put, or a prefix of it and the sink's count of faults rose
 abbrev pub Said : List ℕ → Option (List ℕ) → Option (List ℕ) → ℕ → ℕ → Type 0
 Said text old new faults faults_now = (result : Result Unit Failed) × Puts text old new result × HasCause faults faults_now result
+
+-- The line of the status was said; that of status 9 with a position limit that was passed
+pub record SaysStatus (request : Option Asked) (known : Option Paths) (old new : Option (List ℕ)) (faults faults_now status : ℕ) : Type 0 where
+  pub limit : PositionLimit
+  pub passed : status ≡ 9 → IsSomeAnd request (λ a. IsOverLimit (option_map (pages_asked a) known) limit)
+  pub said : Said (status_line request limit status) old new faults faults_now
 
 -- the line of a refusal was said, and the status is its own
 pub record SaysAs (error : ToolError) (old new : Option (List ℕ)) (faults faults_now status : ℕ) : Type 0 where

@@ -1,5 +1,12 @@
+pub mod Limits
 pub mod Listings
+pub mod Starting
+pub mod Request
+pub mod RewriteTexts
+pub mod RewriteResults
+pub mod Rewriting
+pub mod Checkpointing
+pub mod RewriteFiles
 pub mod Causes
 pub mod Status
-pub mod Request
 pub mod Answers

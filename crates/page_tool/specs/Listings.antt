@@ -23,15 +23,6 @@ abbrev pub text_of : Listing → List Page → List ℕ
 text_of Scan pages = scan_text pages
 text_of Dump pages = dump_text pages
 
--- The manager has so many blocks of this fork and no other block, and a log that begins at 0; these are all its passes, of which none has done anything
-pub record IsStarted {L : Type 0} (contents : L → Option Pages) (fork : Fork) (blocks : ℕ) (m : Manager L MemLog) (ps : List PassState) : Type 0 where
-  pub catalog : IsCatalogOf fork blocks (relations_of m.table)
-  pub counted : length (opened_of m.table) ≡ lanes_in m.table
-  pub base : base_of m.table ≡ 0
-  pub frames : (16 ≤ frames_of m.table) × (frames_of m.table ≤ 4096)
-  pub several : (2 ≤ length ps) × (length ps ≤ 64)
-  pub passes : AreNewPasses contents m (length ps) ps
-
 -- Lanes after a listing of the blocks of a fork: where its pages are known they stand in the lanes still, and none of its blocks is one whose last write failed; no write failed
 pub record LeavesLanes {L : Type 0} (contents : L → Option Pages) (failed : L → Marks) (write_faults : L → ℕ) (fork : Fork) (blocks : ℕ) (lanes lanes' : List L) : Type 0 where
   pub stay : (pages : List Page) → HoldPages fork pages (map contents lanes) → blocks ≡ length pages → HoldPages fork pages (map contents lanes')

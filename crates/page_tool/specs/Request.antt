@@ -1,30 +1,55 @@
 -- What the words ask of the tool.
-use Rattle.std.specs.Prelude.{ℕ, ◌+◌, ◌≤◌, List, Option, Some, None, option_and_then}
+use Rattle.std.specs.Prelude.{ℕ, ◌+◌, ◌≤◌, Bool, true, false, List, Option, Some, None, option_and_then}
 use Rattle.command_line.specs.declared.numbers.Options.{Options}
 use Rattle.page_tool.specs.declared.request.Request.{Request}
+use Rattle.page_tool.specs.declared.request.Request.TheVariants as request
 use Rattle.page_tool.specs.declared.listing.Listing.{Listing}
 use Rattle.page_tool.specs.declared.listing.Listing.TheVariants.{Scan, Dump}
 use Rattle.command_line.specs.Spelled.{Spelled, command_of, scan, dump, rewrite, sample}
 
 -- a scan or a dump of the relation at a path
-pub record ListingRequest : Type 0 where
+pub record ListingAsked : Type 0 where
   pub path : List ℕ
   pub options : Options
   pub listing : Listing
 
-abbrev pub asked : Request → ListingRequest
-asked r = record { path = r.path.now; options = r.options; listing = r.listing }
+-- a rewrite of the relation at a path, with the log at another
+pub record RewriteAsked : Type 0 where
+  pub path : List ℕ
+  pub log : List ℕ
+  pub options : Options
 
--- for now the tool does `scan` and `dump` alone, and the other commands are none
-abbrev pub listing_of : Spelled → Option ListingRequest
-listing_of (scan path options) = Some (record { path = path; options = options; listing = Scan })
-listing_of (dump path options) = Some (record { path = path; options = options; listing = Dump })
-listing_of (rewrite path log options) = None
-listing_of (sample seed blocks options) = None
+pub data Asked : Type 0 where
+  listing : ListingAsked → Asked
+  rewriting : RewriteAsked → Asked
 
--- the listing that the words ask for
-abbrev pub request_of : List (List ℕ) → Option ListingRequest
-request_of words = option_and_then listing_of (command_of words)
+abbrev pub asked : Request → Asked
+asked (request.List l) = listing (record { path = l.path.now; options = l.options; listing = l.listing })
+asked (request.Rewrite r) = rewriting (record { path = r.path.now; log = r.log.now; options = r.options })
+
+-- the relation's path, and the options
+abbrev pub path_of : Asked → List ℕ
+path_of (listing l) = l.path
+path_of (rewriting r) = r.path
+
+abbrev pub options_of : Asked → Options
+options_of (listing l) = l.options
+options_of (rewriting r) = r.options
+
+abbrev pub is_rewriting : Asked → Bool
+is_rewriting (listing l) = false
+is_rewriting (rewriting r) = true
+
+-- for now the tool does no `sample`
+abbrev pub asked_by : Spelled → Option Asked
+asked_by (scan path options) = Some (listing (record { path = path; options = options; listing = Scan }))
+asked_by (dump path options) = Some (listing (record { path = path; options = options; listing = Dump }))
+asked_by (rewrite path log options) = Some (rewriting (record { path = path; log = log; options = options }))
+asked_by (sample seed blocks options) = None
+
+-- what the words ask for
+abbrev pub request_of : List (List ℕ) → Option Asked
+request_of words = option_and_then asked_by (command_of words)
 
 -- the backends need more frames: two are kept besides one for each
 abbrev pub IsCrowded : Options → Type 0

@@ -1,8 +1,10 @@
 //! Why a command isn't done: the status and the line of each refusal.
 ghost use Rattle.std.specs.Prelude.{◌≡◌, ◌++◌, [], IfOk, Some, string_bytes};
-ghost use Rattle.page_tool.specs.Status.{crowding_text, error_line, error_text, host_error, status_of_error, tool_error};
+ghost use Rattle.page_tool.specs.Status.{crowding_text, error_line, error_text, host_error, listing_tool_error, rewrite_tool_error, status_of_error};
 
+use crate::limits::PositionLimit;
 use crate::listing::ListingError;
+use crate::rewriting::RewriteError;
 use segment_store::HostError;
 use std::alloc::{AllocError, Global};
 use std::fmt;
@@ -32,8 +34,12 @@ pub enum ToolError<'a> {
     /// The first segment of the relation isn't there.
     Missing { path: &'a str },
     ReadFault,
+    WriteFault,
+    LogFault,
     OutFault,
     Memory,
+    /// The log could pass its last position.
+    OverLimit(PositionLimit),
 }
 
 impl fmt::Display for ToolError<'_> {
@@ -47,8 +53,11 @@ impl fmt::Display for ToolError<'_> {
             ToolError::Crowded(crowding) => write!(f, "crowded: {crowding}"),
             ToolError::Missing { path } => write!(f, "missing: {path}"),
             ToolError::ReadFault => f.write_str("read fault"),
+            ToolError::WriteFault => f.write_str("write fault"),
+            ToolError::LogFault => f.write_str("log fault"),
             ToolError::OutFault => f.write_str("output fault"),
             ToolError::Memory => f.write_str("out of memory"),
+            ToolError::OverLimit(limit) => write!(f, "log position limit: {limit}"),
         }
     }
 }
@@ -63,8 +72,11 @@ impl<'a> ToolError<'a> {
             ToolError::Crowded(_) => 2,
             ToolError::Missing { .. } => 3,
             ToolError::ReadFault => 4,
+            ToolError::WriteFault => 5,
+            ToolError::LogFault => 6,
             ToolError::OutFault => 7,
             ToolError::Memory => 8,
+            ToolError::OverLimit(_) => 9,
         }
     }
 
@@ -88,12 +100,26 @@ impl<'a> ToolError<'a> {
 
     /// What the end of a listing means to the tool.
     pub fn from_listing(error: ListingError) -> ToolError<'a>
-        ensures { result ≡ tool_error error }
+        ensures { result ≡ listing_tool_error error }
     {
         match error {
             ListingError::ReadFault => ToolError::ReadFault,
             ListingError::OutFault => ToolError::OutFault,
             ListingError::Memory => ToolError::Memory,
+        }
+    }
+
+    /// What the end of a rewrite means to the tool.
+    pub fn from_rewrite(error: RewriteError) -> ToolError<'a>
+        ensures { result ≡ rewrite_tool_error error }
+    {
+        match error {
+            RewriteError::ReadFault => ToolError::ReadFault,
+            RewriteError::WriteFault => ToolError::WriteFault,
+            RewriteError::LogFault => ToolError::LogFault,
+            RewriteError::OutFault => ToolError::OutFault,
+            RewriteError::Memory => ToolError::Memory,
+            RewriteError::OverLimit(limit) => ToolError::OverLimit(limit),
         }
     }
 }

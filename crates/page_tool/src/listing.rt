@@ -1,6 +1,5 @@
 //! The blocks of a relation that is open are listed by the backends of a buffer manager.
-ghost use Rattle.std.specs.Prelude.{◌≡◌, ◌≤◌, List, IfOk, IfErr, OnOk, All, length, map, replicate, slice_set, sum_by, vec_len};
-ghost use Rattle.block_tag.specs.Names.{fork_number};
+ghost use Rattle.std.specs.Prelude.{◌≡◌, ◌≤◌, List, IfOk, IfErr, OnOk, All, length, map, sum_by, vec_len};
 ghost use Rattle.log_device.specs.Bytes.{Puts};
 ghost use Rattle.segment_store.specs.Contents.{no_marks};
 ghost use Rattle.segment_store.specs.Lanes.{HasBlocks, HoldPages};
@@ -11,12 +10,14 @@ ghost use Rattle.frame_table.specs.Seats.{base_of, frames_of, opened_of};
 ghost use Rattle.page_jobs.specs.Beside.{StaysBeside};
 ghost use Rattle.page_jobs.specs.Ending.{as_done};
 ghost use Rattle.page_jobs.specs.Jobs.{AllAtBase, AreFree, EndsJob, IsOrigin, ReadParts, workers_in};
-ghost use Rattle.page_jobs.specs.Relations.{IsCatalogOf, MeetNothing};
+ghost use Rattle.page_jobs.specs.Relations.{MeetNothing};
 ghost use Rattle.page_tool.specs.Causes.{HasListingCause, listing_end, listing_error};
-ghost use Rattle.page_tool.specs.Listings.{IsStarted, LeavesLanes, text_of};
+ghost use Rattle.page_tool.specs.Listings.{LeavesLanes, text_of};
+ghost use Rattle.page_tool.specs.Starting.{IsStarted};
 
-use backend_pass::{Config, Manager, Pass, StartRefused};
-use block_tag::{Catalog, Fork, RelEntry, RelNo};
+use crate::starting::{RelationFork, start};
+use backend_pass::{Manager, Pass};
+use block_tag::RelNo;
 use command_line::Options;
 use log_device::{LogPlan, MemLog, Sink};
 use page_jobs::{Gate, JobEnd, JobError, NoBeside, Totals, dump, scan};
@@ -72,12 +73,10 @@ fn end_of_job(end: Result<Totals, JobError>) -> Result<(), ListingError>
     }
 }
 
-/// Which relation is listed: its number, which fork of it, how many blocks that has, and how.
+/// A fork of a relation, and how it is listed.
 #[derive(Clone, Copy)]
 pub(crate) struct Listed {
-    pub(crate) relation: u32,
-    pub(crate) fork: Fork,
-    pub(crate) blocks: u32,
+    pub(crate) relation: RelationFork,
     pub(crate) listing: Listing,
 }
 
@@ -86,27 +85,6 @@ pub(crate) struct Listed {
 pub(crate) struct ListingEnd<L> {
     pub(crate) lanes: Vec<L>,
     pub(crate) end: Result<(), ListingError>,
-}
-
-/// The relation in the catalogue of a manager of its own: no other fork of it has blocks.
-fn entry_of(listed: Listed) -> RelEntry
-    ensures { result.blocks ≡ slice_set (replicate 4 0) (fork_number listed.fork) listed.blocks }
-{
-    let mut blocks = [0; 4];
-    blocks[listed.fork.number() as usize] = listed.blocks;
-    RelEntry {
-        tablespace: 0,
-        database: 0,
-        relation: listed.relation,
-        blocks,
-    }
-}
-
-/// A catalogue of this relation alone.
-fn catalog_of(alloc: Global, listed: Listed) -> Result<Catalog, AllocError>
-    ensures { IfOk result (IsCatalogOf listed.fork listed.blocks) }
-{
-    Catalog::build(alloc, &[entry_of(listed)]).map_err(|_| AllocError)
 }
 
 /// A log with room for its head alone, since a listing appends no record.
@@ -118,38 +96,6 @@ fn empty_log(alloc: Global) -> Result<MemLog, AllocError>
     match begin_log(&mut log, 0) {
         Ok(()) => Ok(log),
         Err(_) => Err(AllocError),
-    }
-}
-
-/// Starts a manager of the relation, with a pass for each backend and one besides. Out of memory, the lanes come back.
-fn start<L: BlockLane + Send>(
-    alloc: Global,
-    options: &Options,
-    listed: Listed,
-    lanes: Vec<L>,
-) -> Result<(Manager<L, MemLog>, Vec<Pass>), Vec<L>>
-    requires range { HasOptionsInRange options.now }
-    requires count { length lanes.items ≡ options.now.lanes }
-    requires unmarked { All (λ lane. L.failed_writes lane ≡ no_marks) lanes.items }
-    requires has { HasBlocks listed.fork listed.blocks (map L.contents lanes.items) }
-    ensures started { IfOk result (λ m. IsStarted L.contents listed.fork listed.blocks m.0 m.1.items) }
-    ensures opened { IfOk result (λ m. opened_of m.0.table ≡ lanes.items) }
-    ensures back { IfErr result (λ back. back.items ≡ lanes.items) }
-{
-    let (Ok(catalog), Ok(log)) = (catalog_of(alloc, listed), empty_log(alloc)) else {
-        return Err(lanes);
-    };
-    let config = Config {
-        frames: options.frames,
-        passes: options.backends + 1,
-        lanes: options.lanes,
-    };
-    match Manager::start(alloc, config, catalog, lanes, log, 0) {
-        Ok(started) => Ok(started),
-        Err(StartRefused { why: _, lanes, log }) => {
-            drop(log);
-            Err(lanes)
-        }
     }
 }
 
@@ -167,16 +113,16 @@ fn list_blocks<L: BlockLane + Send, R: Threads + Wait + Sync, O: Sink, T: Gate +
     requires few { vec_len passes ≤ 64 }
     requires free { AreFree L.contents manager.now passes.items }
     requires frames { (16 ≤ frames_of manager.now.table) × (frames_of manager.now.table ≤ 4096) }
-    ensures passes { ReadParts L.contents manager.now 0 listed.fork (workers_in passes.items) (workers_in result.passes.items) }
+    ensures passes { ReadParts L.contents manager.now 0 listed.relation.fork (workers_in passes.items) (workers_in result.passes.items) }
     ensures last { StaysBeside L.contents manager.now passes.items result.passes.items }
     ensures met { OnOk result.end (MeetNothing passes.items result.passes.items) }
-    ensures text { (pages : List Page) → IsOrigin L.contents manager.now 0 listed.fork pages → AllAtBase (base_of manager.now.table) (workers_in result.passes.items)
+    ensures text { (pages : List Page) → IsOrigin L.contents manager.now 0 listed.relation.fork pages → AllAtBase (base_of manager.now.table) (workers_in result.passes.items)
         → Puts (text_of listed.listing pages) (O.bytes out.old) (O.bytes out.new) (as_done result.end) }
     ensures quiet { OnOk result.end (O.faults out.new ≡ O.faults out.old) }
     ensures later { O.faults out.old ≤ O.faults out.new }
-    ensures cause { IfErr result.end (EndsJob L.contents manager.now 0 listed.fork passes.items result.passes.items (O.faults out.old) (O.faults out.new)) }
+    ensures cause { IfErr result.end (EndsJob L.contents manager.now 0 listed.relation.fork passes.items result.passes.items (O.faults out.old) (O.faults out.new)) }
 {
-    let (rel, fork) = (RelNo(0), listed.fork);
+    let (rel, fork) = (RelNo(0), listed.relation.fork);
     let mut none = NoBeside;
     match listed.listing {
         Listing::Scan => scan(manager, rt, alloc, passes, rel, fork, out, gate, &mut none),
@@ -194,12 +140,12 @@ fn list_and_close<L: BlockLane + Send, R: Threads + Wait + Sync, O: Sink, T: Gat
     out: &mut O,
     gate: &T,
 ) -> ListingEnd<L>
-    requires started { IsStarted L.contents listed.fork listed.blocks manager passes.items }
+    requires started { IsStarted L.contents listed.relation 0 manager passes.items }
     requires reads { sum_by L.read_faults (opened_of manager.table) ≡ 0 }
     requires writes { sum_by L.write_faults (opened_of manager.table) ≡ 0 }
-    ensures leaves { LeavesLanes L.contents L.failed_writes L.write_faults listed.fork listed.blocks (opened_of manager.table) result.lanes.items }
+    ensures leaves { LeavesLanes L.contents L.failed_writes L.write_faults listed.relation.fork listed.relation.blocks (opened_of manager.table) result.lanes.items }
     ensures cause { HasListingCause 0 (sum_by L.read_faults result.lanes.items) (O.faults out.old) (O.faults out.new) result.end }
-    ensures text { (pages : List Page) → HoldPages listed.fork pages (map L.contents (opened_of manager.table)) → listed.blocks ≡ length pages
+    ensures text { (pages : List Page) → HoldPages listed.relation.fork pages (map L.contents (opened_of manager.table)) → listed.relation.blocks ≡ length pages
         → Puts (text_of listed.listing pages) (O.bytes out.old) (O.bytes out.new) result.end }
 {
     let JobEnd { passes, end } = list_blocks(&manager, rt, alloc, passes, listed, out, gate);
@@ -225,15 +171,21 @@ pub(crate) fn list<L: BlockLane + Send, R: Threads + Wait + Sync, O: Sink, T: Ga
     requires reads { sum_by L.read_faults lanes.items ≡ 0 }
     requires writes { sum_by L.write_faults lanes.items ≡ 0 }
     requires unmarked { All (λ lane. L.failed_writes lane ≡ no_marks) lanes.items }
-    requires has { HasBlocks listed.fork listed.blocks (map L.contents lanes.items) }
-    ensures leaves { LeavesLanes L.contents L.failed_writes L.write_faults listed.fork listed.blocks lanes.items result.lanes.items }
+    requires has { HasBlocks listed.relation.fork listed.relation.blocks (map L.contents lanes.items) }
+    ensures leaves { LeavesLanes L.contents L.failed_writes L.write_faults listed.relation.fork listed.relation.blocks lanes.items result.lanes.items }
     ensures cause { HasListingCause 0 (sum_by L.read_faults result.lanes.items) (O.faults out.old) (O.faults out.new) result.end }
-    ensures text { (pages : List Page) → HoldPages listed.fork pages (map L.contents lanes.items) → listed.blocks ≡ length pages
+    ensures text { (pages : List Page) → HoldPages listed.relation.fork pages (map L.contents lanes.items) → listed.relation.blocks ≡ length pages
         → Puts (text_of listed.listing pages) (O.bytes out.old) (O.bytes out.new) result.end }
 {
-    match start(alloc, options, listed, lanes) {
+    let Ok(log) = empty_log(alloc) else {
+        return ListingEnd {
+            lanes,
+            end: Err(ListingError::Memory),
+        };
+    };
+    match start(alloc, options, listed.relation, lanes, log, 0) {
         Ok((manager, passes)) => list_and_close(manager, rt, alloc, passes, listed, out, gate),
-        Err(lanes) => ListingEnd {
+        Err((lanes, _log)) => ListingEnd {
             lanes,
             end: Err(ListingError::Memory),
         },

@@ -1,10 +1,14 @@
 //! `page_tool`: scans the pages of a PostgreSQL relation. `docs/page_tool.1.md` is its manual page.
 #![tactic(auto)]
 
+mod beside;
 mod error;
+mod limits;
 mod listing;
 mod request;
+mod rewriting;
 mod run;
+mod starting;
 #[cfg(test)]
 mod tests;
 

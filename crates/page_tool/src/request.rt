@@ -2,7 +2,7 @@
 ghost use Rattle.std.specs.Prelude.{◌≡◌, IfOk, IfSome, map, option_map, string_bytes};
 ghost use Rattle.command_line.specs.Numbers.{HasOptionsInRange};
 ghost use Rattle.command_line.specs.Spelled.{HasNumbersInRange, spelled};
-ghost use Rattle.page_tool.specs.Request.{asked, listing_of, request_of};
+ghost use Rattle.page_tool.specs.Request.{asked, asked_by, options_of, request_of};
 
 use crate::listing::Listing;
 use command_line::{Command, Options, read_command};
@@ -10,41 +10,60 @@ use std::alloc::{AllocError, Global};
 
 /// A scan or a dump of the relation at a path.
 #[derive(Clone, Copy, Debug)]
-pub struct Request<'a> {
+pub struct ListRequest<'a> {
     pub path: &'a str,
     pub options: Options,
     pub listing: Listing,
 }
 
-/// The listing that a command is. For now the tool does no other.
-fn listing_of(command: Command<'_>) -> Option<Request<'_>>
+/// A rewrite of the relation at a path, with its log at another.
+#[derive(Clone, Copy, Debug)]
+pub struct RewriteRequest<'a> {
+    pub path: &'a str,
+    pub log: &'a str,
+    pub options: Options,
+}
+
+/// A command that the tool does.
+#[derive(Clone, Copy, Debug)]
+pub enum Request<'a> {
+    List(ListRequest<'a>),
+    Rewrite(RewriteRequest<'a>),
+}
+
+/// What a command asks for. For now the tool does no `sample`.
+fn request_by(command: Command<'_>) -> Option<Request<'_>>
     requires { HasNumbersInRange (spelled command) }
-    ensures listing { option_map asked result ≡ listing_of (spelled command.entry) }
-    ensures range { IfSome result (λ r. HasOptionsInRange r.options) }
+    ensures asked { option_map asked result ≡ asked_by (spelled command.entry) }
+    ensures range { IfSome result (λ r. HasOptionsInRange (options_of (asked r))) }
 {
     match command {
-        Command::Scan { path, options } => Some(Request {
+        Command::Scan { path, options } => Some(Request::List(ListRequest {
             path,
             options,
             listing: Listing::Scan,
-        }),
-        Command::Dump { path, options } => Some(Request {
+        })),
+        Command::Dump { path, options } => Some(Request::List(ListRequest {
             path,
             options,
             listing: Listing::Dump,
-        }),
-        Command::Rewrite { .. } => None,
+        })),
+        Command::Rewrite { path, log, options } => Some(Request::Rewrite(RewriteRequest {
+            path,
+            log,
+            options,
+        })),
         Command::Sample { .. } => None,
     }
 }
 
-/// The listing that the words ask for, or none where they are no such command.
+/// What the words ask for, or none where they are no command.
 pub fn read_request(alloc: Global, words: &[String]) -> Result<Option<Request<'_>>, AllocError>
     ensures request { IfOk result (λ r. option_map asked r ≡ request_of (map string_bytes words.now)) }
-    ensures range { IfOk result (λ r. IfSome r (λ r. HasOptionsInRange r.options)) }
+    ensures range { IfOk result (λ r. IfSome r (λ r. HasOptionsInRange (options_of (asked r)))) }
 {
     match read_command(alloc, words)? {
-        Some(command) => Ok(listing_of(command)),
+        Some(command) => Ok(request_by(command)),
         None => Ok(None),
     }
 }

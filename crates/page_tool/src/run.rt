@@ -148,12 +148,14 @@ fn perform<'a, H: Host, R: Threads + Wait + Sync, O: Sink, G: Gate + Sync>(
     }
 }
 
-/// Runs a command line: the words behind the program's name.
+/// Runs a command line: the words after the program's name.
 ///
 /// `scan PATH` prints a line for each block of the relation at the path, and their totals; `dump PATH`
-/// prints besides a line for each line pointer of a page. The blocks are read by as many backends as
-/// `--backends` says, through a buffer manager of `--frames` frames. The answer is the status that
-/// the program ends with; a refusal has its line on the error stream.
+/// prints besides a line for each line pointer of a page. `rewrite PATH --log FILE` rewrites each page that
+/// has dead line pointers or room between its items, with a log of the pages at FILE, and prints the totals
+/// and the log's positions. The blocks are read and written by as many backends as `--backends` says,
+/// through a buffer manager of `--frames` frames. The answer is the status that the program ends with; a
+/// refusal has its line on the error stream.
 pub fn run<H: Host, R: Threads + Wait + Sync, O: Sink, E: Sink, G: Gate + Sync>(
     rt: &R,
     alloc: Global,
@@ -163,34 +165,47 @@ pub fn run<H: Host, R: Threads + Wait + Sync, O: Sink, E: Sink, G: Gate + Sync>(
     err: &mut E,
     gate: &G,
 ) -> u8
-    ensures status { IsStatus result }
+    ensures status { result ≤ 9 }
 
-    // When each refusal comes, by the words, the numbers of the options, and what is at the path.
+    // When each refusal comes, by the words, the numbers of the options, what is at the path, and the counts of faults.
     ensures usage { UsageIf (request_of (map string_bytes words.now)) result }
-    ensures crowded { IfSome (request_of (map string_bytes words.now)) (λ r. CrowdedIf r.options result) }
-    ensures missing { IfSome (request_of (map string_bytes words.now)) (λ r.
-        MissingIf r (H.contents host.old) (H.read_faults host.old) (H.read_faults host.new) result) }
-    ensures read_fault { result ≡ 4 → Rose (H.read_faults host.old) (H.read_faults host.new) }
-    ensures out_fault { result ≡ 7 → Rose (O.faults out.old) (O.faults out.new) }
+    ensures crowded { IfSome (request_of (map string_bytes words.now)) (λ a. CrowdedIf (options_of a) result) }
+    ensures missing { IfSome (request_of (map string_bytes words.now)) (λ a.
+        MissingIf a (H.contents host.old) (H.read_faults host.old) (H.read_faults host.new) result) }
+    ensures limit { result ≡ 9 → IsSome (request_of (map string_bytes words.now)) }
+    ensures over_limit { IfSome (request_of (map string_bytes words.now)) (λ a.
+        LimitIf a (H.contents host.old) (H.read_faults host.old) (H.read_faults host.new) result) }
+    ensures faults { FaultIf (request_of (map string_bytes words.now))
+        (counts (H.read_faults host.old) (H.write_faults host.old) (H.log_faults host.old) (O.faults out.old))
+        (counts (H.read_faults host.new) (H.write_faults host.new) (H.log_faults host.new) (O.faults out.new)) result }
 
-    // What is out: the text of the relation, or a prefix of it.
-    ensures text { IfSome (request_of (map string_bytes words.now)) (λ r. IfSome (H.contents host.old) (λ paths.
-        Wrote (text_asked r paths) (O.bytes out.old) (O.bytes out.new) result)) }
+    // What is out: the text that is asked for, or a prefix of it.
+    ensures text { IfSome (request_of (map string_bytes words.now)) (λ a. IfSome (H.contents host.old) (λ paths.
+        Wrote (text_asked a paths) (O.bytes out.old) (O.bytes out.new) result)) }
     ensures silent { 1 ≤ result → result ≤ 3 → O.bytes out.new ≡ O.bytes out.old }
     ensures no_command { request_of (map string_bytes words.now) ≡ None → O.bytes out.new ≡ O.bytes out.old }
     ensures quiet { result ≡ 0 → (E.bytes err.new ≡ E.bytes err.old) × (E.faults err.new ≡ E.faults err.old) }
-    ensures says { Said (status_line (request_of (map string_bytes words.now)) result) (E.bytes err.old) (E.bytes err.new) (E.faults err.old) (E.faults err.new) }
+    ensures says { SaysStatus (request_of (map string_bytes words.now)) (H.contents host.old)
+        (E.bytes err.old) (E.bytes err.new) (E.faults err.old) (E.faults err.new) result }
 
-    // No path and no log changes, no block's last write failed, and no count rises where all went well; no fault of writing or of a log is counted.
-    ensures contents { H.contents host.new ≡ H.contents host.old }
-    ensures failed { IfSome (H.contents host.old) (λ paths. FailsNone (request_of (map string_bytes words.now)) paths (H.failed_writes host.old) (H.failed_writes host.new)) }
-    ensures writes { H.write_faults host.new ≡ H.write_faults host.old }
-    ensures logs { H.logs host.new ≡ H.logs host.old }
-    ensures log_faults { H.log_faults host.new ≡ H.log_faults host.old }
-    ensures later { (H.read_faults host.old ≤ H.read_faults host.new) × (O.faults out.old ≤ O.faults out.new) }
-    ensures done { result ≡ 0 → (H.read_faults host.new ≡ H.read_faults host.old) × (O.faults out.new ≡ O.faults out.old) }
-    ensures complete { IfSome (request_of (map string_bytes words.now)) (λ r.
-        IsComplete r (H.contents host.old) (H.read_faults host.old) (H.read_faults host.new) (O.faults out.old) (O.faults out.new) result) }
+    // What is left of the files. But for a rewrite nothing changes, whether they are known or not.
+    ensures files { BecomesOf (files_of (H.contents host.old) (H.failed_writes host.old) (H.logs host.old))
+        (files_of (H.contents host.new) (H.failed_writes host.new) (H.logs host.new))
+        (LeavesFiles (request_of (map string_bytes words.now)) result) }
+    ensures listed { IsNoRewrite (request_of (map string_bytes words.now)) → (H.contents host.new ≡ H.contents host.old)
+        × (H.logs host.new ≡ H.logs host.old) × (H.write_faults host.new ≡ H.write_faults host.old) × (H.log_faults host.new ≡ H.log_faults host.old) }
+    ensures failed { IsNoRewrite (request_of (map string_bytes words.now)) → IfSome (H.contents host.old) (λ paths.
+        FailsNone (request_of (map string_bytes words.now)) paths (H.failed_writes host.old) (H.failed_writes host.new)) }
+
+    // No count falls, and none rises where all went well; and all goes well where none rises, unless memory is short.
+    ensures later { CountsLater
+        (counts (H.read_faults host.old) (H.write_faults host.old) (H.log_faults host.old) (O.faults out.old))
+        (counts (H.read_faults host.new) (H.write_faults host.new) (H.log_faults host.new) (O.faults out.new)) }
+    ensures done { result ≡ 0 → counts (H.read_faults host.new) (H.write_faults host.new) (H.log_faults host.new) (O.faults out.new)
+        ≡ counts (H.read_faults host.old) (H.write_faults host.old) (H.log_faults host.old) (O.faults out.old) }
+    ensures complete { IfSome (request_of (map string_bytes words.now)) (λ a. IsComplete a (H.contents host.old)
+        (counts (H.read_faults host.old) (H.write_faults host.old) (H.log_faults host.old) (O.faults out.old))
+        (counts (H.read_faults host.new) (H.write_faults host.new) (H.log_faults host.new) (O.faults out.new)) result) }
 {
     match perform(rt, alloc, words, host, out, gate) {
         Ok(()) => 0,
