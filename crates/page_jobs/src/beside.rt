@@ -35,6 +35,7 @@ pub trait Beside<L: BlockLane, G: LogDevice> {
 }
 
 /// No work.
+#[derive(Drop)]
 pub struct NoBeside;
 
 impl<L: BlockLane, G: LogDevice> Beside<L, G> for NoBeside {

@@ -9,6 +9,7 @@ use segment_store::BlockLane;
 use std::sync::Wait;
 
 /// So many rounds of the background writer.
+#[derive(Drop)]
 pub(crate) struct Rounds {
     count: u32,
 }
