@@ -1,6 +1,8 @@
 -- A cleanup lock is taken, or refused.
-use Rattle.std.proofs.Common.{◌≡◌, ℕ, Option, Some, None, Result, Ok, Err, sym, subst}
-use Rattle.std.specs.Prelude.{IfErr, IfOk}
+use Rattle.std.proofs.Common.{◌≡◌, ◌∙◌, ℕ, Option, Some, None, Result, Ok, Err, sym, ap, subst}
+use Rattle.std.specs.Prelude.{IfErr, IfOk, option_map}
+use Rattle.block_tag.specs.declared.tag.Tag.{Tag}
+use Rattle.block_tag.specs.Names.{packed_tag}
 use Rattle.pin_core.specs.declared.view.Content.{Content}
 use Rattle.pin_core.specs.declared.view.Content.TheVariants.{Exclusive, Unlocked}
 use Rattle.pin_core.specs.declared.view.Link.{Link}
@@ -11,7 +13,7 @@ use Rattle.frame_table.specs.Content.{exclusive_link}
 use Rattle.frame_table.specs.Seats.{Looked, SameMarks, Touches}
 use Rattle.cleanup_lock.specs.Cleanup.{CanLockForCleanup}
 use Rattle.held_pins.specs.Rests.{LinkRests, Rests}
-use Rattle.held_pins.specs.Tokens.{HeldFrame, Tokens, held_at}
+use Rattle.held_pins.specs.Tokens.{HeldFrame, IsPinnedFor, Tokens, held_at}
 use Rattle.held_pins.proofs.Keeping.{devices_touched, latches_same, link_looked, rests_touched}
 use Rattle.backend_pass.specs.Passes.{IsNumbered}
 use Rattle.backend_pass.proofs.Relocking.{can_lock}
@@ -43,6 +45,10 @@ rests_cleaned f h t v w there k r = record {
       (subst (λ (o : Option HeldFrame). LinkRests o (link w f)) (sym there) (link_cleaned h k.lock (link v f) (link w f) k.here (subst (λ (o : Option HeldFrame). LinkRests o (link v f)) there (r.links f)))) r.links;
   latches = latches_same v w k.touches.partitions r.latches;
 }
+
+-- a frame that is pinned for a block has its tag
+pub rests_tagged : (tag : Tag) (f : ℕ) (t : Tokens) (v : View) → IsPinnedFor tag f t → Rests t v → (link v f).tag ≡ Some (packed_tag tag)
+rests_tagged tag f t v pinned r = (r.links f).tag ∙ ap (λ (o : Option HeldFrame). option_map HeldFrame.tag o) pinned.there ∙ ap (λ (n : ℕ). Some n) pinned.same
 
 -- what a lock that was asked for leaves
 pub cleans_tried : {A E : Type 0} (f : ℕ) (v w : View) (r : Result A E) → Touches f v w → SameMarks v w

@@ -21,7 +21,7 @@ use Rattle.wal_flush.specs.Flushes.{FlushRefused, FlushSeesEnd, Flushed, as_look
 use Rattle.wal_flush.specs.Latched.{KeepsWork}
 use Rattle.buffer_frames.specs.Working.{Within}
 use Rattle.buffer_sync.specs.declared.syncing.Synced.{Synced}
-use Rattle.buffer_sync.specs.Syncs.{SeesNotDirty, synced_work}
+use Rattle.buffer_sync.specs.Syncs.{LeavesLane, SeesNotDirty, synced_work}
 use Rattle.backend_pass.specs.declared.errors.FlushError.{FlushError}
 use Rattle.backend_pass.specs.declared.met.Shown.{Shown}
 use Rattle.backend_pass.specs.FrameFlushes.{shown_unflushed}
@@ -76,9 +76,10 @@ pub record FlushesLog (lsn : ℕ) (v w : View) (r : Result Unit FlushLog) : Type
   pub seen : IfErr r (λ why. FlushSeesEnd why v w)
   pub cause : IfErr r (FlushRefused lsn v w)
 
--- The lane was synced, of a pool of so many frames
-pub record SyncsLane (frames lane : ℕ) (v w : View) (r : Result Unit Failed) : Type 0 where
+-- The lane was synced, one of so many, of a pool of so many frames
+pub record SyncsLane (frames lanes lane : ℕ) (v w : View) (r : Result Unit Failed) : Type 0 where
   pub rises : OnlyRises v w
   pub view : work_of w ≡ synced_work lane (is_ok r) v
   pub swept : IfOk r (λ _. swept_by v ≤ (lane_hold w lane).swept)
   pub wide : length v.links ≡ frames
+  pub left : LeavesLane lanes lane w

@@ -20,11 +20,11 @@ impl Pass {
     ghost use Rattle.cleanup_lock.specs.Cleanup.{GrantsCleanup, GrantsTry, RefusesCleanup, RefusesTry, local_pins, refused_tokens, tried_local_pins};
     ghost use Rattle.held_pins.specs.Tokens.{IsPinnedFor, held_at, tokens_of};
     ghost use Rattle.backend_pass.specs.Cleanups.{why_of};
-    ghost use Rattle.backend_pass.specs.Locks.{ChangesLock, HasLock};
+    ghost use Rattle.backend_pass.specs.Locks.{ChangesLock, HasLock, IsTagged};
     ghost use Rattle.backend_pass.specs.Managers.{Belongs};
     ghost use Rattle.backend_pass.specs.Passes.{KeepsCalls, KeepsDevices, KeepsLocks, KeepsMark, SamePass};
 
-    /// Takes the cleanup lock of the frame of the pass's only token there: the exclusive content lock, while no other backend pins the frame (`LockBufferForCleanup`). It waits for that, one backend at a time. A refusal gives the token back.
+    /// Takes the cleanup lock of the frame of the pass's only token there, which has the token's block: the exclusive content lock, while no other backend pins the frame (`LockBufferForCleanup`). It waits for that, one backend at a time. A refusal gives the token back.
     pub fn lock_cleanup<L: BlockLane, G: LogDevice, R: Wait>(
         &mut self,
         manager: &Manager<L, G>,
@@ -42,6 +42,7 @@ impl Pass {
         ensures mark { KeepsMark self.old self.new }
         ensures devices { KeepsDevices self.old self.new }
         ensures others { (g : ℕ) → g ≢ pinned.frame → link self.new.view g ≡ link self.old.view g }
+        ensures tagged { IsTagged pinned.tag pinned.frame self.new }
 
         // It is refused for the pass's other tokens exactly where there are such.
         ensures local { local_pins (why_of result) ≡ refused_tokens (tokens_of (held_at self.old.tokens pinned.frame)) }
@@ -81,6 +82,7 @@ impl Pass {
         ensures mark { KeepsMark self.old self.new }
         ensures devices { KeepsDevices self.old self.new }
         ensures others { (g : ℕ) → g ≢ pinned.frame → link self.new.view g ≡ link self.old.view g }
+        ensures tagged { IsTagged pinned.tag pinned.frame self.new }
         ensures local { tried_local_pins (why_of result) ≡ refused_tokens (tokens_of (held_at self.old.tokens pinned.frame)) }
         ensures token { IfOk result (λ taken. taken.pinned ≡ pinned) }
         ensures lock { IfOk result (λ _. ChangesLock lock.Exclusive pinned.frame self.old self.new) }

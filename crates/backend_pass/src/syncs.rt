@@ -163,7 +163,7 @@ fn sync_lane_seated<L: BlockLane, G: LogDevice, R: Wait>(
     ensures id { badge.new.id ≡ badge.old.id }
     ensures view { badge.new.views ≡ view_in badge.new.views ∷ [] }
     ensures rests { Rests _held.now (view_in badge.new.views) }
-    ensures did { SyncsLane (frames_of table.now) lane (view_in badge.old.views) (view_in badge.new.views) result }
+    ensures did { SyncsLane (frames_of table.now) (lanes_in table.now) lane (view_in badge.old.views) (view_in badge.new.views) result }
 {
     let mut seat = replace(badge, Badge::blank()).into_seat::<Value<L, G>>();
     let answer = sync_lane(table, rt, &mut seat, lane);
@@ -233,7 +233,7 @@ impl Pass {
     ghost use Rattle.buffer_frames.specs.Working.{KeepsNotes, Within};
     ghost use Rattle.buffer_sync.specs.declared.syncing.SyncOnly.TheVariants.{Needed};
     ghost use Rattle.buffer_sync.specs.declared.syncing.Synced.TheVariants.{Skipped};
-    ghost use Rattle.buffer_sync.specs.Syncs.{EndsSync, SeesNotDirty, SyncsFrame, synced_work};
+    ghost use Rattle.buffer_sync.specs.Syncs.{EndsSync, LeavesLane, SeesNotDirty, SyncsFrame, synced_work};
     ghost use Rattle.backend_pass.specs.FrameFlushes.{frame_answer};
     ghost use Rattle.backend_pass.specs.Locks.{HasLock};
     ghost use Rattle.backend_pass.specs.Managers.{Belongs};
@@ -376,6 +376,7 @@ impl Pass {
         ensures view { work_of self.new.view ≡ synced_work lane (is_ok result) self.old.view }
         ensures swept { IfOk result (λ _. swept_by self.old.view ≤ (lane_hold self.new.view lane).swept) }
         ensures wide { length self.old.view.links ≡ frames_of manager.now.table }
+        ensures left { LeavesLane (lanes_in manager.now.table) lane self.new.view }
     {
         let answer = sync_lane_seated(&manager.table, rt, &mut self.seat, &self.held, lane);
         let shown = self.shown.after_lane_sync(&answer);

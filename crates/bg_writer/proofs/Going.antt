@@ -20,7 +20,7 @@ use Rattle.buffer_frames.specs.Flushing.{WentToLane, log_syncs, met_flushing}
 use Rattle.buffer_frames.specs.Working.{IsFlushCall, KeepsNotes, Made}
 use Rattle.buffer_frames.proofs.Notes.{notes_on, notes_same}
 use Rattle.buffer_frames.proofs.WorkSteps.{made_none, made_on}
-use Rattle.buffer_sync.specs.declared.syncing.SyncOnly.TheVariants.{Unused}
+use Rattle.buffer_sync.specs.declared.syncing.SyncOnly.TheVariants.{NotRecentlyUsed}
 use Rattle.buffer_sync.specs.declared.syncing.Synced.{Synced}
 use Rattle.buffer_sync.specs.declared.syncing.Synced.TheVariants.{Skipped, Clean, Written}
 use Rattle.buffer_sync.specs.Syncs.{EndsSync, SyncsFrame, Writes, pages_written}
@@ -77,7 +77,7 @@ went_writes q tag page v w e = record {
 }
 
 module _ {L G : Type 0} (contents : L → Option Pages) (t : FrameTable L G) where
-  pub sync_writes : (f : ℕ) (v w : View) (synced : Synced) → SyncsFrame contents t Unused f v w (Ok synced) → Writes (pages_of synced) v w
+  pub sync_writes : (f : ℕ) (v w : View) (synced : Synced) → SyncsFrame contents t NotRecentlyUsed f v w (Ok synced) → Writes (pages_of synced) v w
   sync_writes f v w Skipped s = writes_none v w s.came.1
   sync_writes f v w Clean s = writes_none v w s.came.2
   sync_writes f v w Written s = let b = s.came.2 in went_writes _ _ b.answer.page v w b.answer.work
@@ -123,7 +123,7 @@ module _ {L G : Type 0} (contents : L → Option Pages) (m : Manager L G) where
     pub others : (g : ℕ) → g ≢ f → link q.view g ≡ link p.view g
     pub pins : SamePins p.view q.view
     pub notes : KeepsNotes (link p.view f) (link q.view f)
-    pub syncs : SyncsFrame contents m.table Unused f p.view q.view (Ok synced)
+    pub syncs : SyncsFrame contents m.table NotRecentlyUsed f p.view q.view (Ok synced)
     pub met : q.view.met ≡ p.view.met
 
   pub notes_held : (p q : PassState) (f : ℕ) → ((g : ℕ) → g ≢ f → link q.view g ≡ link p.view g) → KeepsNotes (link p.view f) (link q.view f) → (g : ℕ) → KeepsNotes (link p.view g) (link q.view g)
@@ -140,7 +140,7 @@ module _ {L G : Type 0} (contents : L → Option Pages) (m : Manager L G) where
     loaded = a.loaded;
     loads = a.loads;
     came = a.came ++ synced ∷ [];
-    looks = next a.came synced a.looks a.pins (subst (λ (x : ℕ). SyncsFrame contents m.table Unused x q.view r.view (Ok synced)) (at ∙ ap (λ (n : ℕ). (hand + n) % frames_of m.table) (sym a.counted)) s.syncs);
+    looks = next a.came synced a.looks a.pins (subst (λ (x : ℕ). SyncsFrame contents m.table NotRecentlyUsed x q.view r.view (Ok synced)) (at ∙ ap (λ (n : ℕ). (hand + n) % frames_of m.table) (sym a.counted)) s.syncs);
     counted = (let e = length-append a.came (synced ∷ []) in let n = a.counted in omega arith);
     pages = (let e = pages_snoc a.came synced in let n = a.pages in omega arith);
     writes = writes_on written (pages_of synced) p.view q.view r.view a.writes (sync_writes contents m.table f q.view r.view synced s.syncs);
@@ -156,7 +156,7 @@ module _ {L G : Type 0} (contents : L → Option Pages) (m : Manager L G) where
   }
 
   -- a frame was refused
-  pub stops_going : (p q r : PassState) (hand places written f : ℕ) (why : FlushError) → Going p q hand places written → f ≡ (hand + places) % frames_of m.table → places < frames_of m.table → written < 100 → SyncsFrame contents m.table Unused f q.view r.view (frame_answer (Err why)) → EndsSync f q.view r.view (frame_answer (Err why)) → Rounds contents m.table p.view r.view (Err why)
+  pub stops_going : (p q r : PassState) (hand places written f : ℕ) (why : FlushError) → Going p q hand places written → f ≡ (hand + places) % frames_of m.table → places < frames_of m.table → written < 100 → SyncsFrame contents m.table NotRecentlyUsed f q.view r.view (frame_answer (Err why)) → EndsSync f q.view r.view (frame_answer (Err why)) → Rounds contents m.table p.view r.view (Err why)
   stops_going p q r hand places written f why a at inside few s ended = let is = at ∙ ap (λ (n : ℕ). (hand + n) % frames_of m.table) (sym a.counted) in record {
     hand = hand;
     loaded = a.loaded;
@@ -168,12 +168,12 @@ module _ {L G : Type 0} (contents : L → Option Pages) (m : Manager L G) where
       looks = a.looks;
       left = ((let n = a.counted in omega arith), (let n = a.pages in omega arith));
       pins = a.pins;
-      refused = subst (λ (x : ℕ). SyncsFrame contents m.table Unused x q.view r.view (Err (frame_refusal why))) is s;
+      refused = subst (λ (x : ℕ). SyncsFrame contents m.table NotRecentlyUsed x q.view r.view (Err (frame_refusal why))) is s;
       ended = subst (λ (x : ℕ). EndsSync x q.view r.view (Err (frame_refusal why))) is ended;
     };
   }
 
-  pub refuses_going : (p q r : PassState) (hand places written f : ℕ) (why : FlushError) → Going p q hand places written → SyncsFrame contents m.table Unused f q.view r.view (frame_answer (Err why)) → EndsSync f q.view r.view (frame_answer (Err why)) → r.view.met ≡ met_flushing {A = Synced} (frame_answer (Err why)) q.view.met → RefusesFrame contents m.table p r why
+  pub refuses_going : (p q r : PassState) (hand places written f : ℕ) (why : FlushError) → Going p q hand places written → SyncsFrame contents m.table NotRecentlyUsed f q.view r.view (frame_answer (Err why)) → EndsSync f q.view r.view (frame_answer (Err why)) → r.view.met ≡ met_flushing {A = Synced} (frame_answer (Err why)) q.view.met → RefusesFrame contents m.table p r why
   refuses_going p q r hand places written f why a s ended met = record {
     before = q.view;
     since = a.same.keeps.advances;

@@ -7,7 +7,7 @@ use Rattle.frame_table.specs.Seats.{OnlyRises, frames_of}
 use Rattle.frame_table.specs.WordSteps.{DidWord, load_hand}
 use Rattle.clock_sweep.specs.Keeping.{SamePins}
 use Rattle.buffer_frames.specs.Flushing.{EndedInError}
-use Rattle.buffer_sync.specs.declared.syncing.SyncOnly.TheVariants.{Unused}
+use Rattle.buffer_sync.specs.declared.syncing.SyncOnly.TheVariants.{NotRecentlyUsed}
 use Rattle.buffer_sync.specs.declared.syncing.Synced.{Synced}
 use Rattle.buffer_sync.specs.declared.syncing.Synced.TheVariants.{Skipped, Clean, Written}
 use Rattle.buffer_sync.specs.Syncs.{SyncsFrame}
@@ -29,7 +29,7 @@ module _ {L G : Type 0} (contents : L → Option Pages) (t : FrameTable L G) whe
   -- Beginning with the one at which the hand points, frames were looked at in order, and this came of them, while the view pinned what it pinned in `start` at each look
   pub data Looked (hand : ℕ) (start v : View) : List Synced → View → Type 0 where
     none : Looked hand start v [] v
-    next : {u w : View} (came : List Synced) (synced : Synced) → Looked hand start v came u → SamePins start u → SyncsFrame contents t Unused ((hand + length came) % frames_of t) u w (Ok synced) → Looked hand start v (came ++ synced ∷ []) w
+    next : {u w : View} (came : List Synced) (synced : Synced) → Looked hand start v came u → SamePins start u → SyncsFrame contents t NotRecentlyUsed ((hand + length came) % frames_of t) u w (Ok synced) → Looked hand start v (came ++ synced ∷ []) w
 
   -- The round ended: it had looked at all frames, or had written 100 pages
   pub record EndsRound (hand : ℕ) (start v w : View) (round : Round) : Type 0 where
@@ -48,7 +48,7 @@ module _ {L G : Type 0} (contents : L → Option Pages) (t : FrameTable L G) whe
     pub looks : Looked hand start v came before
     pub left : (length came < frames_of t) × (pages_of_all came < 100)
     pub pins : SamePins start before
-    pub refused : SyncsFrame contents t Unused ((hand + length came) % frames_of t) before w (Err (frame_refusal why))
+    pub refused : SyncsFrame contents t NotRecentlyUsed ((hand + length came) % frames_of t) before w (Err (frame_refusal why))
     pub ended : EndedInError ((hand + length came) % frames_of t) before w
 
   abbrev pub RoundEnds : ℕ → View → View → View → Result Round FlushError → Type 0

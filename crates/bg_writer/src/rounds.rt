@@ -74,7 +74,7 @@ pub fn round<L: BlockLane, G: LogDevice, R: Wait>(
             return Ok(Round { looked, written });
         }
         let frame = frame_past(hand, looked, frames);
-        let synced = match pass.sync_one(manager, rt, frame, SyncOnly::Unused) {
+        let synced = match pass.sync_one(manager, rt, frame, SyncOnly::NotRecentlyUsed) {
             Ok(synced) => synced,
             Err(why) => return Err(why),
         };

@@ -38,7 +38,7 @@ use Rattle.buffer_frames.proofs.Calm.{none_absent, not_victim}
 use Rattle.buffer_frames.proofs.Notes.{notes_looked, notes_on, notes_unlocked}
 use Rattle.buffer_frames.proofs.WorkSteps.{made_after, made_before, made_none, made_touched, within_all, within_on, works_marked, works_on}
 use Rattle.buffer_sync.specs.declared.syncing.SyncOnly.{SyncOnly}
-use Rattle.buffer_sync.specs.declared.syncing.SyncOnly.TheVariants.{Unused, Needed}
+use Rattle.buffer_sync.specs.declared.syncing.SyncOnly.TheVariants.{NotRecentlyUsed, Needed}
 use Rattle.buffer_sync.specs.declared.syncing.Synced.{Synced}
 use Rattle.buffer_sync.specs.declared.syncing.Synced.TheVariants.{Skipped, Clean, Written}
 use Rattle.buffer_sync.specs.Syncs.{ComesAtOnce, EndsSync, IsDirty, FlushesPinned, LeavesPinned, LooksUnder, PinnedAnswer, PinsUnder, SeesClean, SyncAnswer, SyncsOne, WritesBlock, by_load, by_word, is_skipped, pinned_anew, pinned_before, synced_of}
@@ -181,8 +181,8 @@ third_of false false true d e = absurd (cc e)
 third_of false false false d e = refl
 
 -- the background writer writes no frame that the view pins itself
-pub unused_absent : (l : Link) (w : StateWord) → IsWordOf l w → is_skipped Unused w ≡ false → l.role ≡ Absent
-unused_absent l w shows unused = of_role l.role refl
+pub not_recently_used_absent : (l : Link) (w : StateWord) → IsWordOf l w → is_skipped NotRecentlyUsed w ≡ false → l.role ≡ Absent
+not_recently_used_absent l w shows unused = of_role l.role refl
   where
     none : nat_lt 0 w.pins ≡ false
     none = third_of (not w.valid) (not w.dirty) (nat_lt 0 w.pins) (nat_lt 0 w.usage) unused
@@ -194,7 +194,7 @@ unused_absent l w shows unused = of_role l.role refl
 
 -- a frame that is written has its content unlocked
 pub unlocked_at : (only : SyncOnly) (o : Option HeldFrame) (l : Link) (w : StateWord) → IsWordOf l w → is_skipped only w ≡ false → LinkRests o l → (only ≡ Needed → l.content ≡ Unlocked) → l.content ≡ Unlocked
-unlocked_at Unused o l w shows is r needed = r.unlocked (none_absent o (sym r.role ∙ unused_absent l w shows is))
+unlocked_at NotRecentlyUsed o l w shows is r needed = r.unlocked (none_absent o (sym r.role ∙ not_recently_used_absent l w shows is))
 unlocked_at Needed o l w shows is r needed = needed refl
 
 -- what came of a frame, with other steps before and after
@@ -316,7 +316,7 @@ module _ {L G : Type 0} (contents : L → Option Pages) (t : FrameTable L G) whe
 
   at_once_lacks : (synced : Synced) (only : SyncOnly) (word : StateWord) → ComesAtOnce only word (Some synced) → synced ≡ Skipped → only ≡ Needed → word.checkpoint_needed ≡ false
   at_once_lacks Skipped Needed word a e o = lacks_flag word.checkpoint_needed a
-  at_once_lacks Skipped Unused word a e o = absurd (cc o)
+  at_once_lacks Skipped NotRecentlyUsed word a e o = absurd (cc o)
   at_once_lacks Clean only word a e o = absurd (cc e)
   at_once_lacks Written only word a e o = absurd a
 

@@ -1,5 +1,5 @@
 -- How a frame is written for the background writer and for a checkpoint, and why it is passed over.
-use Rattle.std.specs.Prelude.{◌≡◌, ◌≢◌, ◌⊎◌, ℕ, ◌+◌, ◌≤◌, nat_lt, Bool, true, false, not, ◌||◌, List, [], ◌∷◌, ◌++◌, Option, Some, None, Result, Ok, Err}
+use Rattle.std.specs.Prelude.{◌≡◌, ◌≢◌, ◌⊎◌, ℕ, ◌+◌, ◌≤◌, nat_lt, Bool, true, false, not, ◌||◌, List, [], ◌∷◌, ◌++◌, length, Option, Some, None, Result, Ok, Err}
 use Rattle.std.specs.List.{All}
 use Rattle.state_word.specs.declared.word.StateWord.{StateWord}
 use Rattle.state_word.specs.Fields.{fields}
@@ -15,10 +15,11 @@ use Rattle.pin_core.specs.declared.view.View.{View}
 use Rattle.pin_core.specs.State.{link}
 use Rattle.pin_core.specs.Kinds.{pin_victim}
 use Rattle.table_rule.specs.Blocks.{has_block}
+use Rattle.table_rule.specs.declared.turn.Turn.TheVariants.{Lane}
 use Rattle.frame_table.specs.declared.table.FrameTable.{FrameTable}
 use Rattle.frame_table.specs.FrameSteps.{Did, looking}
 use Rattle.frame_table.specs.Kinds.{pins}
-use Rattle.frame_table.specs.Latches.{work_of}
+use Rattle.frame_table.specs.Latches.{DidTurn, IsTurned, work_of}
 use Rattle.frame_table.specs.Seats.{HasFlag, HoldsWord, OnlyRises, lanes_in, relations_of}
 use Rattle.content_locks.specs.Io.{LocksHeader}
 use Rattle.clock_sweep.specs.Keeping.{SamePins}
@@ -28,13 +29,13 @@ use Rattle.buffer_frames.specs.declared.flushing.FlushError.{FlushError}
 use Rattle.buffer_frames.specs.Flushing.{EndedInError, EndedWritten, FindsClean, FlushAnswer, met_flushing, met_lane_write}
 use Rattle.buffer_frames.specs.Working.{IsFlushCall, KeepsNotes, Made, Within, WorksAt}
 use Rattle.buffer_sync.specs.declared.syncing.SyncOnly.{SyncOnly}
-use Rattle.buffer_sync.specs.declared.syncing.SyncOnly.TheVariants.{Unused, Needed}
+use Rattle.buffer_sync.specs.declared.syncing.SyncOnly.TheVariants.{NotRecentlyUsed, Needed}
 use Rattle.buffer_sync.specs.declared.syncing.Synced.{Synced}
 use Rattle.buffer_sync.specs.declared.syncing.Synced.TheVariants.{Skipped, Clean, Written}
 
 -- whether a frame with this state word is passed over: the background writer writes a dirty frame that nobody pins and whose usage count is 0, and a checkpoint one that has BM_CHECKPOINT_NEEDED
 abbrev pub is_skipped : SyncOnly → StateWord → Bool
-is_skipped Unused w = not w.valid || not w.dirty || nat_lt 0 w.pins || nat_lt 0 w.usage
+is_skipped NotRecentlyUsed w = not w.valid || not w.dirty || nat_lt 0 w.pins || nat_lt 0 w.usage
 is_skipped Needed w = not w.checkpoint_needed
 
 -- The header of the frame f was locked and then the state word loaded, which was `word`, while the view pinned what it pinned at first
@@ -169,3 +170,10 @@ pub record Writes (n : ℕ) (v w : View) : Type 0 where
 -- what the sync of a lane makes of the view, beside what it has of latches: the call, the fault if it failed, and the mark
 abbrev pub synced_work : ℕ → Bool → View → View
 synced_work lane done v = record (work_of v) { device_calls = v.device_calls ++ LaneSync lane done ∷ []; met = met_lane_write done v.met; dirtied_or_synced = true }
+
+-- The last step to the view left the latch of this lane, one of so many. Nothing else that it has of latches was changed, as how far each lane is swept
+pub record LeavesLane (lanes lane : ℕ) (w : View) : Type 0 where
+  pub before : View
+  pub did : DidTurn false (Lane lane) before w
+  pub turned : IsTurned false (Lane lane) before w
+  pub wide : length before.lanes ≡ lanes

@@ -6,7 +6,7 @@ ghost use Rattle.history_core.specs.Lanes.{swept_by};
 ghost use Rattle.frame_table.specs.Latches.{work_of};
 ghost use Rattle.frame_table.specs.Seats.{OnlyRises, SameSeat, frames_of, lanes_in};
 ghost use Rattle.held_pins.specs.Rests.{Stands};
-ghost use Rattle.buffer_sync.specs.Syncs.{synced_work};
+ghost use Rattle.buffer_sync.specs.Syncs.{LeavesLane, synced_work};
 
 use atomic_table::Seat;
 use frame_table::{FrameTable, Turn, Value};
@@ -31,6 +31,7 @@ pub fn sync_lane<L: BlockLane, G: LogDevice, R: Wait>(
     ensures view { work_of seat.new.me.0 ≡ synced_work lane (is_ok result) seat.old.me.0 }
     ensures swept { IfOk result (λ _. swept_by seat.old.me.0 ≤ (lane_hold seat.new.me.0 lane).swept) }
     ensures wide { length seat.old.me.0.links ≡ frames_of table.now }
+    ensures left { LeavesLane (lanes_in table.now) lane seat.new.me.0 }
 {
     table.take_turn(rt, seat, Turn::Lane(lane));
     let mut out = table.lane_out(seat, lane);

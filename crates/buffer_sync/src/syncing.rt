@@ -29,7 +29,7 @@ use std::sync::Wait;
 #[derive(Clone, Copy, PartialEq, Eq, Debug)]
 pub enum SyncOnly {
     /// Dirty ones that no backend pins and whose usage count is 0, as the background writer does.
-    Unused,
+    NotRecentlyUsed,
     /// Those with BM_CHECKPOINT_NEEDED, as a checkpoint does.
     Needed,
 }
@@ -49,7 +49,7 @@ fn is_passed_over(word: u64, only: SyncOnly) -> bool
     ensures { result ≡ is_skipped only (fields word) }
 {
     match only {
-        SyncOnly::Unused => {
+        SyncOnly::NotRecentlyUsed => {
             !has(word, Flag::Valid) || !has(word, Flag::Dirty) || pins(word) > 0 || usage(word) > 0
         }
         SyncOnly::Needed => !has(word, Flag::CheckpointNeeded),

@@ -20,6 +20,7 @@ use Rattle.backend_pass.specs.declared.errors.FlushError.{FlushError}
 use Rattle.backend_pass.specs.declared.errors.FlushError.TheVariants as flush
 use Rattle.backend_pass.specs.declared.manager.Manager.{Manager}
 use Rattle.backend_pass.specs.declared.marked.MarkedFrame.{MarkedFrame}
+use Rattle.backend_pass.specs.Closing.{HasSwept}
 use Rattle.backend_pass.specs.FrameFlushes.{frame_refusal}
 use Rattle.backend_pass.specs.Managers.{Belongs}
 use Rattle.backend_pass.specs.Passes.{KeepsCallers, PassState, SamePass}
@@ -32,6 +33,7 @@ use Rattle.checkpointer.specs.Refusals.{IsDownOrFault, Stops, StopsAtFrame, Stop
 use Rattle.checkpointer.specs.Stages.{FlushesPages, KeepsBackend, MarksFrames, SyncsLanes, WritesMarked}
 use Rattle.checkpointer.proofs.Flushing.{flushes_log, flushes_none, flushes_on, made_none, made_on}
 use Rattle.checkpointer.proofs.Keeping.{callers_on, marks_listed}
+use Rattle.checkpointer.proofs.Storing.{stores}
 use Rattle.checkpointer.proofs.Syncing.{written_same}
 
 -- A checkpoint of the pass p began at `upto`, and nothing was called yet in q
@@ -175,9 +177,16 @@ module _ {L G : Type 0} (contents : L → Option Pages) (m : Manager L G) where
     each = whole.each;
     calls = made_on whole.made _ p.view u.view r.view whole.calls t.calls;
     written = sym whole.counted;
-    flushed = let more = t.keeps.same.keeps.advances.flushed in omega arith;
-    swept = λ lane low. let reached = t.swept lane low in let is : u.view.upto ≡ upto = same.upto ∙ s.same.upto ∙ ap (λ (v : View). v.upto) s.view in omega arith;
+    flushed = flushed_to;
+    swept = swept_to;
+    stored = stores (lanes_in m.table) t.left.0 r.view t.left.1 upto flushed_to swept_to;
   }
     where
+      flushed_to : upto ≤ r.view.flushed
+      flushed_to = let more = t.keeps.same.keeps.advances.flushed in omega arith
+
+      swept_to : HasSwept (lanes_in m.table) upto r.view
+      swept_to lane low = let reached = t.swept lane low in let is : u.view.upto ≡ upto = same.upto ∙ s.same.upto ∙ ap (λ (v : View). v.upto) s.view in omega arith
+
       keeps_same : (y z : PassState) → SamePass q y → SamePass y z → SamePass q z
       keeps_same y z a b = same_on q y z a b

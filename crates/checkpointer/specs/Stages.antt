@@ -11,7 +11,7 @@ use Rattle.frame_table.specs.Seats.{lanes_in}
 use Rattle.buffer_frames.specs.Working.{Made}
 use Rattle.buffer_sync.specs.declared.syncing.Synced.{Synced}
 use Rattle.buffer_sync.specs.declared.syncing.Synced.TheVariants.{Skipped, Clean, Written}
-use Rattle.buffer_sync.specs.Syncs.{pages_written}
+use Rattle.buffer_sync.specs.Syncs.{LeavesLane, pages_written}
 use Rattle.backend_pass.specs.Closing.{HasSwept}
 use Rattle.backend_pass.specs.declared.manager.Manager.{Manager}
 use Rattle.backend_pass.specs.Managers.{Belongs}
@@ -76,3 +76,5 @@ module _ {L G : Type 0} (contents : L → Option Pages) (m : Manager L G) where
     pub calls : Made (syncs_below (lanes_in m.table)) p.view q.view
     pub met : q.view.met ≡ p.view.met
     pub swept : HasSwept (lanes_in m.table) p.view.upto q.view
+    -- its last step left the latch of a lane
+    pub left : (lane : ℕ) × LeavesLane (lanes_in m.table) lane q.view

@@ -25,7 +25,7 @@ fn pages(synced: Synced) -> u32
     }
 }
 
-/// WritesMarked a frame until it is seen without BM_CHECKPOINT_NEEDED, and returns how many times that was. Where another backend dirties the frame while it is written the flag stays, and it is written once more.
+/// Writes a frame until it is seen without BM_CHECKPOINT_NEEDED, and returns how many times that was. Where another backend dirties the frame while it is written the flag stays, and it is written once more.
 fn write_frame<L: BlockLane, G: LogDevice, R: Wait>(
     manager: &Manager<L, G>,
     rt: &R,
@@ -56,7 +56,7 @@ fn write_frame<L: BlockLane, G: LogDevice, R: Wait>(
     unreachable!()
 }
 
-/// WritesMarked each frame that was marked and needs it still, and returns how many pages were written (`BufferSync`).
+/// Writes each frame that was marked and needs it still, and returns how many pages were written (`BufferSync`).
 pub(crate) fn write_marked<L: BlockLane, G: LogDevice, R: Wait>(
     manager: &Manager<L, G>,
     rt: &R,

@@ -1,11 +1,11 @@
 -- A worker rewrites a block.
-use Rattle.std.proofs.Common.{◌≡◌, ◌<◌, ◌+◌, ℕ, Bool, true, false, List, [], ◌∷◌, ◌++◌, Option, Some, Result, Ok, Err, refl, sym, ap, ◌∙◌, subst, arith, append_assoc, inl, inr}
+use Rattle.std.proofs.Common.{◌≡◌, ◌<◌, ◌≤◌, ◌+◌, ℕ, Bool, true, false, List, [], ◌∷◌, ◌++◌, Option, Some, Result, Ok, Err, refl, sym, ap, ◌∙◌, subst, arith, append_assoc, inl, inr}
 use Rattle.std.specs.Prelude.{IfOk}
 use Rattle.std.proofs.lemmas.List.{append-nil}
 use mathlib.Core.Logic.{dite}
 use native.Mathlib.Decide.{ℕ_discrete}
 use Rattle.block_tag.specs.declared.tag.Tag.{Tag}
-use Rattle.block_tag.specs.Names.{packed_tag}
+use Rattle.block_tag.specs.Names.{packed_tag, tag_of_parts}
 use Rattle.page_layout.specs.declared.outcomes.PageRewrite.{PageRewrite}
 use Rattle.page_layout.specs.declared.outcomes.PageRewrite.TheVariants.{Invalid, New, Used}
 use Rattle.page_layout.specs.declared.rewrite.Rewrite.{Rewrite}
@@ -20,19 +20,21 @@ use Rattle.pin_core.specs.declared.view.Call.TheVariants.{Read, Write}
 use Rattle.pin_core.specs.declared.view.Content.TheVariants as content
 use Rattle.pin_core.specs.declared.view.Met.{Met}
 use Rattle.pin_core.specs.declared.view.Link.{Link}
+use Rattle.pin_core.specs.declared.view.View.{View}
 use Rattle.pin_core.specs.State.{Page, link}
 use Rattle.frame_table.specs.Seats.{relations_of}
 use Rattle.frame_table.proofs.Rising.{rises_on}
 use Rattle.held_pins.specs.Tokens.{IsPinnedFor, Tokens, no_tokens, tokens_less}
 use Rattle.wal_flush.specs.declared.inserts.InsertError.{InsertError}
+use Rattle.wal_flush.specs.declared.inserts.InsertError.TheVariants.{LogFull, LogDown, LogFault}
 use Rattle.cleanup_lock.specs.Cleanup.{GrantsCleanup}
 use Rattle.buffer_frames.specs.PageReads.{ReadsPage}
-use Rattle.buffer_frames.specs.Puts.{DidPut, PutRefused, met_put}
+use Rattle.buffer_frames.specs.Puts.{DidPut, PutRefused, RefusalShows, met_put}
 use Rattle.backend_pass.specs.declared.errors.ReadError.{ReadError}
 use Rattle.backend_pass.specs.declared.manager.Manager.{Manager}
 use Rattle.backend_pass.specs.declared.pinned.Pinned.{Pinned}
 use Rattle.backend_pass.specs.declared.tokens.Exclusive.{Exclusive}
-use Rattle.backend_pass.specs.Locks.{ChangesLock, HasLock}
+use Rattle.backend_pass.specs.Locks.{ChangesLock, HasLock, IsTagged}
 use Rattle.backend_pass.specs.Managers.{Belongs}
 use Rattle.backend_pass.specs.Passes.{KeepsCalls, KeepsLocks, KeepsMark, PassState, SamePass}
 use Rattle.backend_pass.specs.Reading.{met_read_refused}
@@ -40,8 +42,8 @@ use Rattle.backend_pass.proofs.Seated.{same_on}
 use Rattle.page_jobs.specs.declared.ending.JobError.{JobError}
 use Rattle.page_jobs.specs.Parts.{blocks_in}
 use Rattle.page_jobs.specs.Reads.{FindsUnsound, PinsOne, RefusesBlock, Stays, fault_of_refusal}
-use Rattle.page_jobs.specs.Rewrites.{IfRead, IsEnded, Outcome, unsound, kept, refused, changed, calls_by, calls_for, rule_of, result_of}
-use Rattle.page_jobs.specs.Rewriting.{FollowsRule, GoesOn, HoldsUntil, KeepsOtherLocks, LocksOne, PutFails, RewritesBlock, RewritesBlocks, RewritesHeld, RewritesLocked, UnderCleanup, fault_of_put}
+use Rattle.page_jobs.specs.Rewrites.{IfRead, IsEnded, Outcome, unsound, kept, refused, changed, block_of, calls_by, calls_for, rule_of, result_of}
+use Rattle.page_jobs.specs.Rewriting.{FollowsRule, GoesOn, HoldsUntil, KeepsOtherLocks, LastReads, LocksOne, PutFails, RewritesBlock, RewritesBlocks, RewritesHeld, RewritesLocked, UnderCleanup, fault_of_put}
 use Rattle.page_jobs.proofs.BlockWork.{on_err}
 use Rattle.page_jobs.proofs.Staying.{calls_on, stays_on}
 
@@ -65,6 +67,26 @@ not_skipped false what dead f e = refl
 pub on_ok_value : {A E : Type 0} (P Q : A → Type 0) (r : Result A E) → ((a : A) → P a → Q a) → IfOk r P → IfOk r Q
 on_ok_value P Q (Ok a) f p = f a p
 on_ok_value P Q (Err e) f p = tt
+
+-- what a refusal shows of the log is seen later too
+shows_later : (why : InsertError) (v w : View) → w.saw_down ≡ v.saw_down → v.end_seen ≤ w.end_seen → RefusalShows why v → RefusalShows why w
+shows_later (LogFull end) v w down later s = (s.0, (let x = s.1 in omega arith))
+shows_later (LogDown at) v w down later s = (down ∙ s.0, (let x = s.1 in omega arith))
+shows_later LogFault v w down later s = down ∙ s
+
+-- the last of calls is the last of these and calls before them
+pub reads_since : (number n : ℕ) (tag : Tag) (page : Page) (before made here after : List Call) → n ≡ number → here ≡ before ++ made → LastReads n tag page here after → LastReads number tag page before after
+reads_since number n tag page before made here after same more r =
+    let last : ℕ → List Call = λ k. r.others ++ Read k (packed_tag tag) page r.place ∷ [] in
+    record {
+      others = made ++ r.others;
+      place = r.place;
+      calls = r.calls
+          ∙ ap (λ (k : ℕ). here ++ last k) same
+          ∙ ap (λ (l : List Call). l ++ last number) more
+          ∙ append_assoc before made (last number)
+          ∙ ap (λ (l : List Call). before ++ l) (sym (append_assoc made r.others (Read number (packed_tag tag) page r.place ∷ [])));
+    }
 
 for_read : {P : Type 0} (o : Outcome) → P → IfRead o P
 for_read (unsound b) x = tt
@@ -115,8 +137,8 @@ module _ {L G : Type 0} (contents : L → Option Pages) (m : Manager L G) where
   }
 
   pub locks_one : (tag : Tag) (pinned : Pinned) (e : Exclusive) (p q r s : PassState) → Stays contents m p q → KeepsCalls p q → q.view.met ≡ p.view.met → PinsOne contents m tag q r pinned → Quiet r s → KeepsMark r s → s.tokens ≡ r.tokens → e.pinned ≡ pinned
-      → ChangesLock content.Exclusive pinned.frame r s → GrantsCleanup r.view.number pinned.frame r.view s.view → LocksOne contents m tag p s e
-  locks_one tag pinned e p q r s st k met one rs mark stayed same lock granted =
+      → ChangesLock content.Exclusive pinned.frame r s → GrantsCleanup r.view.number pinned.frame r.view s.view → IsTagged pinned.tag pinned.frame s → LocksOne contents m tag p s e
+  locks_one tag pinned e p q r s st k met one rs mark stayed same lock granted tagged =
       let pr = same_on p q r st.same one.stays.same in
       let qs = quiet_on q r s (quiet_pins tag q r pinned one) rs in
       let frame : e.pinned.frame ≡ pinned.frame = ap (λ (x : Pinned). x.frame) same in
@@ -129,6 +151,7 @@ module _ {L G : Type 0} (contents : L → Option Pages) (m : Manager L G) where
         token = subst (λ (t : Tokens). IsPinnedFor tag e.pinned.frame t) (sym stayed) (subst (λ (x : Pinned). IsPinnedFor tag x.frame r.tokens) (sym same) one.token);
         last = ap (tokens_less e.pinned.frame) stayed ∙ ap (λ (x : Pinned). tokens_less x.frame r.tokens) same ∙ one.last;
         locked = subst (λ (x : Pinned). HasLock content.Exclusive x.frame s) (sym same) lock.here;
+        tagged = subst (λ (f : ℕ). IsTagged tag f s) (sym frame) (subst (λ (t : Tag). IsTagged t pinned.frame s) one.tag_is tagged);
         asked = r.view;
         since = pr.keeps.advances;
         granted = subst (λ (n : ℕ). GrantsCleanup n e.pinned.frame r.view s.view) pr.keeps.number (subst (λ (f : ℕ). GrantsCleanup r.view.number f r.view s.view) (sym frame) granted);
@@ -195,16 +218,40 @@ module _ {L G : Type 0} (contents : L → Option Pages) (m : Manager L G) where
       follows = (refl, reads.sound, ap is_changed_outcome told ∙ is_changed);
       mark = λ unput. absurd (let no : false ≡ true = unput in cc);
       done = tt;
-      cause = record { frame = frame; page = after; before = q; after = r; since = same.keeps.advances; refuses = unput; met = met' ∙ ap (λ (n : Met). met_put (Err why) n) met };
+      cause = record {
+        frame = frame;
+        page = after;
+        before = q;
+        after = r;
+        since = same.keeps.advances;
+        refuses = unput;
+        met = met' ∙ ap (λ (n : Met). met_put (Err why) n) met;
+        shows = unput.shows;
+        was = page;
+        changes = ap is_changed_outcome told ∙ is_changed;
+        reads = record { others = []; place = place; calls = keeps.calls ∙ reads.calls };
+      };
     };
   }
 
-  fails_later : (tag : Tag) (p q r : PassState) (why : InsertError) → r.view.met ≡ q.view.met → PutFails contents m tag p q why → PutFails contents m tag p r why
-  fails_later tag p q r why met f = record { frame = f.frame; page = f.page; before = f.before; after = f.after; since = f.since; refuses = f.refuses; met = met ∙ f.met }
+  fails_later : (tag : Tag) (p q r : PassState) (why : InsertError) → Quiet q r → r.view.saw_down ≡ q.view.saw_down → PutFails contents m tag p q why → PutFails contents m tag p r why
+  fails_later tag p q r why k down f = record {
+    frame = f.frame;
+    page = f.page;
+    before = f.before;
+    after = f.after;
+    since = f.since;
+    refuses = f.refuses;
+    met = k.met ∙ f.met;
+    shows = shows_later why q.view r.view down k.same.keeps.advances.end_seen f.shows;
+    was = f.was;
+    changes = f.changes;
+    reads = record { others = f.reads.others; place = f.reads.place; calls = k.calls.calls ∙ f.reads.calls };
+  }
 
   -- and then the lock of this frame and the pin were given up
-  pub held : (tag : Tag) (frame : ℕ) (p q r : PassState) (answer : Result PageRewrite InsertError) → RewritesLocked contents m tag p q answer → HasLock content.Exclusive frame p → Quiet q r → KeepsMark q r → HasLock content.Unlocked frame r → KeepsOtherLocks frame q r → r.tokens ≡ no_tokens → RewritesHeld contents m tag frame p r answer
-  held tag frame p q r answer x locked k mark unlocked others spent = record {
+  pub held : (tag : Tag) (frame : ℕ) (p q r : PassState) (answer : Result PageRewrite InsertError) → RewritesLocked contents m tag p q answer → HasLock content.Exclusive frame p → Quiet q r → KeepsMark q r → HasLock content.Unlocked frame r → KeepsOtherLocks frame q r → r.tokens ≡ no_tokens → r.view.saw_down ≡ q.view.saw_down → RewritesHeld contents m tag frame p r answer
+  held tag frame p q r answer x locked k mark unlocked others spent down = record {
     goes = record { belongs = k.belongs; same = same_on p q r x.goes.same k.same; front = let a = x.goes.front in let b = k.calls.front in omega arith };
     tokens = spent;
     unlocked = unlocked;
@@ -217,7 +264,7 @@ module _ {L G : Type 0} (contents : L → Option Pages) (m : Manager L G) where
       follows = x.page.follows;
       mark = λ unput. mark ∙ x.page.mark unput;
       done = on_ok_value (λ what. (what ≡ result_of x.page.outcome) × IsEnded x.page.outcome × (q.view.met ≡ p.view.met)) (λ what. (what ≡ result_of x.page.outcome) × IsEnded x.page.outcome × (r.view.met ≡ p.view.met)) answer (λ what d. (d.0, d.1, k.met ∙ d.2)) x.page.done;
-      cause = on_err (PutFails contents m tag p q) (PutFails contents m tag p r) answer (λ why f. fails_later tag p q r why k.met f) x.page.cause;
+      cause = on_err (PutFails contents m tag p q) (PutFails contents m tag p r) answer (λ why f. fails_later tag p q r why k down f) x.page.cause;
     };
   }
 
@@ -232,13 +279,14 @@ module _ {L G : Type 0} (contents : L → Option Pages) (m : Manager L G) where
         (λ other. others g other ∙ one.others g other)
 
     under : (answer : Result PageRewrite InsertError) (x : RewritesHeld contents m tag e.pinned.frame q r answer)
-        → UnderCleanup p.view.number p.view.calls (p.view.calls ++ calls_by (rule_of tag.rel.0 tag.fork) x.page.outcome) p.view r.view
+        → UnderCleanup p.view.number ((rule_of tag.rel.0 tag.fork).tag (block_of x.page.outcome)) p.view.calls (p.view.calls ++ calls_by (rule_of tag.rel.0 tag.fork) x.page.outcome) p.view r.view
     under answer x = record {
       frame = e.pinned.frame;
       asked = one.asked;
       granted = q.view;
       since = one.since;
       grants = one.granted;
+      tagged = one.tagged ∙ ap (λ (b : ℕ). Some (packed_tag (tag_of_parts tag.rel.0 tag.fork b))) (sym x.page.block);
       calls_are = one.calls.calls;
       until = subst (λ (l : List Call). HoldsUntil e.pinned.frame (l ++ calls_by (rule_of tag.rel.0 tag.fork) x.page.outcome) q.view r.view) one.calls.calls x.until;
     }
@@ -275,7 +323,19 @@ module _ {L G : Type 0} (contents : L → Option Pages) (m : Manager L G) where
         inside = inside;
         why = why;
         fault = refl;
-        fails = record { frame = f.frame; page = f.page; before = f.before; after = f.after; since = rises_on p.view q.view f.before.view one.goes.same.keeps.advances f.since; refuses = f.refuses; met = f.met ∙ ap (λ (n : Met). met_put (Err why) n) one.met };
+        fails = record {
+          frame = f.frame;
+          page = f.page;
+          before = f.before;
+          after = f.after;
+          since = rises_on p.view q.view f.before.view one.goes.same.keeps.advances f.since;
+          refuses = f.refuses;
+          met = f.met ∙ ap (λ (n : Met). met_put (Err why) n) one.met;
+          shows = f.shows;
+          was = f.was;
+          changes = f.changes;
+          reads = reads_since p.view.number q.view.number tag f.was p.view.calls [] q.view.calls r.view.calls one.goes.same.keeps.number (one.calls.calls ∙ sym (append-nil p.view.calls)) f.reads;
+        };
       });
     }
 

@@ -26,4 +26,6 @@ mod RewriteRanges
 mod RewriteOrder
 mod RewriteCourse
 mod RewriteDevices
+mod RewriteFull
+pub mod RewriteDown
 pub mod RewriteBackends

@@ -3,6 +3,7 @@ use Rattle.std.proofs.Common.{◌≡◌, ◌+◌, ◌≤◌, ℕ, suc, List, [],
 use Rattle.std.specs.Prelude.{OnOk, IfErr}
 use Rattle.std.proofs.lemmas.List.{append-nil, length-append}
 use Rattle.block_tag.specs.declared.tag.Fork.{Fork}
+use Rattle.block_tag.specs.Names.{tag_of_parts}
 use Rattle.page_layout.specs.declared.outcomes.PageRewrite.{PageRewrite}
 use Rattle.page_layout.specs.declared.outcomes.RewriteTotals.{RewriteTotals}
 use Rattle.page_layout.specs.Outcomes.{IsRewriteWithin, sum_of_rewrite_totals, totals_of_outcomes, with_outcome}
@@ -21,8 +22,9 @@ use Rattle.backend_pass.proofs.Seated.{same_on}
 use Rattle.page_jobs.specs.declared.ending.JobError.{JobError}
 use Rattle.page_jobs.specs.declared.ending.JobError.TheVariants.{Memory}
 use Rattle.page_jobs.specs.Reads.{IsFree}
-use Rattle.page_jobs.specs.Rewrites.{AreFrom, EachOutcome, IfRead, IsEnded, IsUnput, Outcome, Rule, StopsAtFailure, unsound, kept, refused, changed, calls_by, calls_for, outcome_totals, rule_of, result_of}
+use Rattle.page_jobs.specs.Rewrites.{AreFrom, EachOutcome, IfRead, IsEnded, IsUnput, Outcome, Rule, StopsAtFailure, unsound, kept, refused, changed, block_of, calls_by, calls_for, outcome_totals, rule_of, result_of}
 use Rattle.page_jobs.specs.Rewriting.{AllUnderCleanup, EndsRewriteFor, FollowsRule, GoesOn, HoldsUntil, RewritesBlock, RewritesBlocks, RewritesPart, RewritesWhole, UnderCleanup}
+use Rattle.page_jobs.proofs.BlockRewrites.{reads_since}
 use Rattle.page_jobs.proofs.BlockWork.{on_err, on_ok}
 use Rattle.page_jobs.proofs.RewriteSums.{rewrites_joined, rewrites_none, with_outcome-is}
 use Rattle.page_jobs.proofs.Staying.{stays_none}
@@ -57,20 +59,20 @@ holds_wider : (frame : ℕ) (calls : List Call) (v w x : View) → HoldsUntil fr
 holds_wider frame calls v w x h more = record { done = h.done; since = h.since; calls_are = h.calls_are; held = h.held; until = rises_on h.done w x h.until more }
 
 -- a lock that was taken between two views was taken between two that are farther apart
-under_wider : (number : ℕ) (before after : List Call) (u v w x : View) → OnlyRises u v → OnlyRises w x → UnderCleanup number before after v w → UnderCleanup number before after u x
-under_wider number before after u v w x earlier later h = record { frame = h.frame; asked = h.asked; granted = h.granted; since = rises_on u v h.asked earlier h.since; grants = h.grants; calls_are = h.calls_are; until = holds_wider h.frame after h.granted w x h.until later }
+under_wider : (number packed : ℕ) (before after : List Call) (u v w x : View) → OnlyRises u v → OnlyRises w x → UnderCleanup number packed before after v w → UnderCleanup number packed before after u x
+under_wider number packed before after u v w x earlier later h = record { frame = h.frame; asked = h.asked; granted = h.granted; since = rises_on u v h.asked earlier h.since; grants = h.grants; tagged = h.tagged; calls_are = h.calls_are; until = holds_wider h.frame after h.granted w x h.until later }
 
 all_wider : (r : Rule) (number : ℕ) (u v w x : View) → OnlyRises u v → OnlyRises w x → (calls : List Call) (os : List Outcome) → AllUnderCleanup r number v w calls os → AllUnderCleanup r number u x calls os
 all_wider r number u v w x earlier later calls [] all = tt
 all_wider r number u v w x earlier later calls (o ∷ os) all = (
-  if_read o _ _ (under_wider number calls (calls ++ calls_by r o) u v w x earlier later) all.0,
+  if_read o _ _ (under_wider number (r.tag (block_of o)) calls (calls ++ calls_by r o) u v w x earlier later) all.0,
   all_wider r number u v w x earlier later (calls ++ calls_by r o) os all.1,
 )
 
 under_on : (r : Rule) (number : ℕ) (u v w : View) → OnlyRises u v → OnlyRises v w → (calls : List Call) (os us : List Outcome) → AllUnderCleanup r number u v calls os → AllUnderCleanup r number v w (calls ++ calls_for r os) us → AllUnderCleanup r number u w calls (os ++ us)
 under_on r number u v w earlier later calls [] us a b = all_wider r number u v w w earlier (rises_none w) calls us (subst (λ (l : List Call). AllUnderCleanup r number v w l us) (append-nil calls) b)
 under_on r number u v w earlier later calls (o ∷ os) us a b = (
-  if_read o _ _ (under_wider number calls (calls ++ calls_by r o) u u v w (rises_none u) later) a.0,
+  if_read o _ _ (under_wider number (r.tag (block_of o)) calls (calls ++ calls_by r o) u u v w (rises_none u) later) a.0,
   under_on r number u v w earlier later (calls ++ calls_by r o) os us a.1 (subst (λ (l : List Call). AllUnderCleanup r number v w l us) (sym (append_assoc calls (calls_by r o) (calls_for r os))) b),
 )
 
@@ -108,24 +110,36 @@ module _ {L G : Type 0} (contents : L → Option Pages) (m : Manager L G) (rel :
     cause = on_err (λ e. e ≡ Memory) (EndsRewriteFor contents m rel fork p p) end (λ e x. inl x) cause;
   }
 
-  ends_since : (p q r : PassState) (e : JobError) → OnlyRises p.view q.view → EndsRewriteFor contents m rel fork q r e → q.view.met ≡ p.view.met → EndsRewriteFor contents m rel fork p r e
-  ends_since p q r e s (inl memory) met = inl memory
-  ends_since p q r e s (inr (inl x)) met = inr (inl record {
+  ends_since : (p q r : PassState) (e : JobError) (made : List Call) → GoesOn contents m p q → q.view.calls ≡ p.view.calls ++ made → EndsRewriteFor contents m rel fork q r e → q.view.met ≡ p.view.met → EndsRewriteFor contents m rel fork p r e
+  ends_since p q r e made goes calls (inl memory) met = inl memory
+  ends_since p q r e made goes calls (inr (inl x)) met = inr (inl record {
     block = x.block;
     inside = x.inside;
     why = x.why;
     fault = x.fault;
     before = x.before;
-    since = rises_on p.view q.view x.before.view s x.since;
+    since = rises_on p.view q.view x.before.view goes.same.keeps.advances x.since;
     refused = x.refused;
     met = x.met ∙ ap (λ (n : Met). met_read_refused x.why n) met;
   })
-  ends_since p q r e s (inr (inr x)) met = inr (inr record {
+  ends_since p q r e made goes calls (inr (inr x)) met = inr (inr record {
     block = x.block;
     inside = x.inside;
     why = x.why;
     fault = x.fault;
-    fails = let f = x.fails in record { frame = f.frame; page = f.page; before = f.before; after = f.after; since = rises_on p.view q.view f.before.view s f.since; refuses = f.refuses; met = f.met ∙ ap (λ (n : Met). met_put (Err x.why) n) met };
+    fails = let f = x.fails in record {
+      frame = f.frame;
+      page = f.page;
+      before = f.before;
+      after = f.after;
+      since = rises_on p.view q.view f.before.view goes.same.keeps.advances f.since;
+      refuses = f.refuses;
+      met = f.met ∙ ap (λ (n : Met). met_put (Err x.why) n) met;
+      shows = f.shows;
+      was = f.was;
+      changes = f.changes;
+      reads = reads_since p.view.number q.view.number (tag_of_parts rel fork x.block) f.was p.view.calls made q.view.calls r.view.calls goes.same.keeps.number calls f.reads;
+    };
   })
 
   -- some blocks after the other
@@ -160,7 +174,7 @@ module _ {L G : Type 0} (contents : L → Option Pages) (m : Manager L G) (rel :
         few = let l = length-append a.outcomes b.outcomes in let x = a.few in let y = b.few in omega arith;
         whole = on_ok end (λ (d : RewritesWhole contents m rel fork mid to b.outcomes q r). record { blocks = both; whole = (let l = length-append a.outcomes b.outcomes in let x = d.whole in let y = w.whole in omega arith); ended = each_append IsEnded a.outcomes b.outcomes w.ended d.ended; met = d.met ∙ w.met }) b.whole;
         totals = on_ok end (λ d. rewrites_joined t u v a.outcomes b.outcomes a.totals d) b.totals;
-        cause = on_err (EndsRewriteFor contents m rel fork q r) (EndsRewriteFor contents m rel fork p r) end (λ e x. ends_since p q r e a.blocks.goes.same.keeps.advances x w.met) b.cause;
+        cause = on_err (EndsRewriteFor contents m rel fork q r) (EndsRewriteFor contents m rel fork p r) end (λ e x. ends_since p q r e (calls_for (rule_of rel fork) a.outcomes) a.blocks.goes a.blocks.calls x w.met) b.cause;
       }
 
   blocks_wider : (from mid to : ℕ) (os : List Outcome) (p q : PassState) → mid ≤ to → RewritesBlocks contents m rel fork from mid os p q → RewritesBlocks contents m rel fork from to os p q

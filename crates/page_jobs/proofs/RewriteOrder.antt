@@ -38,7 +38,7 @@ pub record InOrder (r : Rule) (zs : List PassState) (ps : List BackendCalls) : T
   pub first_reads : (writes_in first.before ≡ 0) × (writes_in first.after ≡ 0)
   pub other_reads : OnlyReads others
 
-all_calls : (r : Rule) (zs : List PassState) (ps : List BackendCalls) → HaveParts r zs ps → calls_of_passes zs ≡ calls_of r ps
+pub all_calls : (r : Rule) (zs : List PassState) (ps : List BackendCalls) → HaveParts r zs ps → calls_of_passes zs ≡ calls_of r ps
 all_calls r [] [] h = refl
 all_calls r [] (p ∷ ps) h = absurd h
 all_calls r (z ∷ zs) [] h = absurd h

@@ -70,6 +70,11 @@ parts_below a n (p ∷ ps) h k o e =
     (λ (t : (j : ℕ) × (get_elem? (all_done ps) j ≡ some o)). parts_below h.0 n ps h.3 t.0 o t.1)
     (at_both p.done (all_done ps) k o e)
 
+-- they are no more than there are blocks
+pub parts_long : (a n : ℕ) (ps : List BackendCalls) → AreParts a ps n → a + length (all_done ps) ≤ n
+parts_long a n [] h = omega arith
+parts_long a n (p ∷ ps) h = let l = length-append p.done (all_done ps) in let w = h.2 in let rest = parts_long h.0 n ps h.3 in omega arith
+
 -- whole parts are parts, and do each block below n
 pub whole_parts : (a n : ℕ) (ps : List BackendCalls) → AreWhole a ps n → AreParts a ps n
 whole_parts a n [] h = omega arith

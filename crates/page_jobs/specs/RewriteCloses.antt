@@ -1,5 +1,5 @@
 -- What the devices hold when a manager is closed after a rewrite.
-use Rattle.std.specs.Prelude.{◌≡◌, ◌⊎◌, ℕ, ◌+◌, ◌<◌, ◌≤◌, true, false, List, ◌++◌, length, Option, Some, is_some}
+use Rattle.std.specs.Prelude.{◌≡◌, ◌⊎◌, ℕ, ◌+◌, ◌*◌, ◌<◌, ◌≤◌, true, false, List, ◌++◌, length, Option, Some, is_some}
 use mathlib.Core.Option.{some}
 use lib.ListN.{get_elem?}
 use Rattle.block_tag.specs.declared.tag.Fork.{Fork}
@@ -8,14 +8,16 @@ use Rattle.page_layout.specs.Outcomes.{rewrite_totals_of}
 use Rattle.segment_store.specs.Contents.{Pages}
 use Rattle.pin_core.specs.declared.view.Call.{Call}
 use Rattle.pin_core.specs.State.{Page}
-use Rattle.history_core.specs.Log.{Log, end_of, head_size, writes_in}
-use Rattle.history_core.specs.State.{State}
+use Rattle.history_core.specs.Log.{Log, end_of, head_size, record_size, writes_in}
+use Rattle.history_core.specs.State.{State, last_position}
 use Rattle.table_rule.specs.declared.opening.Opening.{Opening}
 use Rattle.table_rule.specs.Shows.{Devices, IsPlaced}
-use Rattle.frame_table.specs.Seats.{lanes_in, opened_of}
+use Rattle.frame_table.specs.Seats.{OnlyRises, base_of, lanes_in, opened_of}
 use Rattle.backend_pass.specs.declared.manager.Manager.{Manager}
 use Rattle.backend_pass.specs.Closing.{ClosesAll, EachPass, HasSwept, PutNothing}
 use Rattle.backend_pass.specs.Passes.{PassState}
+use Rattle.page_jobs.specs.declared.ending.JobError.{JobError}
+use Rattle.page_jobs.specs.declared.ending.JobError.TheVariants.{LogFull}
 use Rattle.page_jobs.specs.declared.ending.Totals.{Totals}
 use Rattle.page_jobs.specs.Beside.{StaysBeside}
 use Rattle.page_jobs.specs.Ending.{totals_of_rewrite}
@@ -23,7 +25,7 @@ use Rattle.page_jobs.specs.Jobs.{IsOrigin, workers_in}
 use Rattle.page_jobs.specs.Parts.{blocks_in}
 use Rattle.page_jobs.specs.Rewrites.{Rule, rule_of}
 use Rattle.page_jobs.specs.RewriteEnds.{HasEntry, HasRewrites, IsRewritten}
-use Rattle.page_jobs.specs.RewriteJobs.{RewriteParts, RewritesFork}
+use Rattle.page_jobs.specs.RewriteJobs.{EndsRewrite, RewriteParts, RewritesFork}
 
 -- A pass has put no page since then
 pub record PutsNoMore (q z : PassState) : Type 0 where
@@ -61,6 +63,12 @@ module _ {L G : Type 0} (contents : L → Option Pages) (m : Manager L G) (rel :
     pub there : get_elem? zs index ≡ some checkpointer
     pub swept : HasSwept (lanes_in m.table) upto checkpointer.view
     pub fronts : EachPass (λ z. z.view.front ≤ upto) zs
+
+  -- It ended early, for this reason, and the passes have seen since then what they had seen, and maybe more
+  pub record RewritesAndEnds (ps qs zs : List PassState) (e : JobError) : Type 0 where
+    pub alone : RewritesAlone ps qs zs
+    pub ends : EndsRewrite contents m rel fork (workers_in ps) (workers_in qs) e
+    pub rises : (i : ℕ) (q z : PassState) → get_elem? qs i ≡ some q → get_elem? zs i ≡ some z → OnlyRises q.view z.view
 
 module _ {L G : Type 0} (d : Devices L G) (o : Opening L G) (lanes : List L) where
   -- The block of this tag, whose number this is, lies in a lane with these contents as the table was opened, and with these as it was closed
@@ -103,3 +111,9 @@ module _ {L G : Type 0} (d : Devices L G) (m : Manager L G) where
       → IsRewritten (rule_of rel fork) (blocks_in m rel fork) c.state.known c.state.origin c.state.log
       × ((pages : List Page) → IsOrigin d.contents m rel fork pages → totals ≡ totals_of_rewrite (rewrite_totals_of pages))
       × HoldRewritten d m.table.table.shared.key lanes (rule_of rel fork) (blocks_in m rel fork) c.state.log
+
+  -- After one that ended as the log was full there was no room for a record at this end, and some block has none: one record more would end where one for each block does, or before that
+  abbrev pub ClosesFull : Type 0
+  ClosesFull = (rel : ℕ) (fork : Fork) (ps qs zs : List PassState) (end : ℕ) (lanes : List L) (log : G) → RewritesAndEnds d.contents m rel fork ps qs zs (LogFull end)
+      → ClosesAll d m.table.table.shared.key zs lanes log
+      → (last_position < end + record_size) × (end + record_size ≤ base_of m.table + record_size * blocks_in m rel fork)

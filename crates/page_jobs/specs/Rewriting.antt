@@ -1,8 +1,8 @@
 -- How a worker rewrites a block, and what it does with its part of the blocks.
-use Rattle.std.specs.Prelude.{◌≡◌, ◌≢◌, ℕ, ◌+◌, ◌<◌, ◌≤◌, ◌⊎◌, false, true, List, [], ◌∷◌, ◌++◌, length, Option, Result, Err, OnOk, IfOk, IfErr}
+use Rattle.std.specs.Prelude.{◌≡◌, ◌≢◌, ℕ, ◌+◌, ◌<◌, ◌≤◌, ◌⊎◌, false, true, List, [], ◌∷◌, ◌++◌, length, Option, Some, Result, Err, OnOk, IfOk, IfErr}
 use Rattle.block_tag.specs.declared.tag.Fork.{Fork}
 use Rattle.block_tag.specs.declared.tag.Tag.{Tag}
-use Rattle.block_tag.specs.Names.{tag_of_parts}
+use Rattle.block_tag.specs.Names.{packed_tag, tag_of_parts}
 use Rattle.page_layout.specs.declared.outcomes.PageRewrite.{PageRewrite}
 use Rattle.page_layout.specs.declared.outcomes.RewriteTotals.{RewriteTotals}
 use Rattle.page_layout.specs.Outcomes.{IsRewriteWithin, sum_of_rewrite_totals}
@@ -10,6 +10,7 @@ use Rattle.page_layout.specs.Soundness.{is_sound_page}
 use Rattle.segment_store.specs.Contents.{Pages}
 use Rattle.pin_core.specs.declared.view.Content.TheVariants.{Exclusive, Unlocked}
 use Rattle.pin_core.specs.declared.view.Call.{Call}
+use Rattle.pin_core.specs.declared.view.Call.TheVariants.{Read}
 use Rattle.pin_core.specs.declared.view.View.{View}
 use Rattle.pin_core.specs.State.{Page, link}
 use Rattle.frame_table.specs.Seats.{OnlyRises, relations_of}
@@ -18,10 +19,10 @@ use Rattle.wal_flush.specs.declared.inserts.InsertError.{InsertError}
 use Rattle.wal_flush.specs.declared.inserts.InsertError.TheVariants as put
 use Rattle.cleanup_lock.specs.Cleanup.{GrantsCleanup}
 use Rattle.buffer_frames.specs.Loading.{WasUnsoundAtOpening}
-use Rattle.buffer_frames.specs.Puts.{PutRefused, met_put}
+use Rattle.buffer_frames.specs.Puts.{PutRefused, RefusalShows, met_put}
 use Rattle.backend_pass.specs.declared.manager.Manager.{Manager}
 use Rattle.backend_pass.specs.declared.tokens.Exclusive.{Exclusive as Token}
-use Rattle.backend_pass.specs.Locks.{HasLock}
+use Rattle.backend_pass.specs.Locks.{HasLock, IsTagged}
 use Rattle.backend_pass.specs.Managers.{Belongs}
 use Rattle.backend_pass.specs.Passes.{KeepsCalls, KeepsLocks, KeepsMark, PassState, SamePass}
 use Rattle.page_jobs.specs.declared.ending.JobError.{JobError}
@@ -47,20 +48,27 @@ pub record HoldsUntil (frame : ℕ) (calls : List Call) (v w : View) : Type 0 wh
   pub held : (link done frame).content ≡ Exclusive
   pub until : OnlyRises done w
 
--- The view was granted the cleanup lock of a frame when its calls were those before, and had the lock until they were those after
-pub record UnderCleanup (number : ℕ) (before after : List Call) (v w : View) : Type 0 where
+-- The view was granted the cleanup lock of the frame that has this packed tag when its calls were those before, and had the lock until they were those after
+pub record UnderCleanup (number packed : ℕ) (before after : List Call) (v w : View) : Type 0 where
   pub frame : ℕ
   pub asked : View
   pub granted : View
   pub since : OnlyRises v asked
   pub grants : GrantsCleanup number frame asked granted
+  pub tagged : (link granted frame).tag ≡ Some packed
   pub calls_are : granted.calls ≡ before
   pub until : HoldsUntil frame after granted w
+
+-- Calls were made after those before, the last one the backend's read of this page of the block
+pub record LastReads (number : ℕ) (tag : Tag) (page : Page) (before after : List Call) : Type 0 where
+  pub others : List Call
+  pub place : ℕ
+  pub calls : after ≡ before ++ (others ++ Read number (packed_tag tag) page place ∷ [])
 
 -- after these calls each block that was read was read, and put, under its cleanup lock
 abbrev pub AllUnderCleanup : Rule → ℕ → View → View → List Call → List Outcome → Type 0
 AllUnderCleanup r number v w calls [] = Unit {0}
-AllUnderCleanup r number v w calls (o ∷ os) = IfRead o (UnderCleanup number calls (calls ++ calls_by r o) v w) × AllUnderCleanup r number v w (calls ++ calls_by r o) os
+AllUnderCleanup r number v w calls (o ∷ os) = IfRead o (UnderCleanup number (r.tag (block_of o)) calls (calls ++ calls_by r o) v w) × AllUnderCleanup r number v w (calls ++ calls_by r o) os
 
 module _ {L G : Type 0} (contents : L → Option Pages) (m : Manager L G) where
   -- What every call of a rewrite leaves of a pass: it is the same one, and its front isn't before the old one
@@ -79,6 +87,7 @@ module _ {L G : Type 0} (contents : L → Option Pages) (m : Manager L G) where
     pub token : IsPinnedFor tag e.pinned.frame q.tokens
     pub last : tokens_less e.pinned.frame q.tokens ≡ no_tokens
     pub locked : HasLock Exclusive e.pinned.frame q
+    pub tagged : IsTagged tag e.pinned.frame q
     pub asked : View
     pub since : OnlyRises p.view asked
     pub granted : GrantsCleanup p.view.number e.pinned.frame asked q.view
@@ -86,7 +95,7 @@ module _ {L G : Type 0} (contents : L → Option Pages) (m : Manager L G) where
     pub unlocked : HasLock Unlocked e.pinned.frame p
     pub others : KeepsOtherLocks e.pinned.frame p q
 
-  -- The put of a page was refused, for this reason, and the pass met that fault, and no other
+  -- The put of a page was refused, for this reason, which the pass has seen, and it met that fault, and no other. Its last call is the read of the block, whose page the rule changes
   pub record PutFails (tag : Tag) (p q : PassState) (why : InsertError) : Type 0 where
     pub frame : ℕ
     pub page : Page
@@ -95,6 +104,10 @@ module _ {L G : Type 0} (contents : L → Option Pages) (m : Manager L G) where
     pub since : OnlyRises p.view before.view
     pub refuses : PutRefused (relations_of m.table) frame tag page why before.view after.view
     pub met : q.view.met ≡ met_put (Err why) p.view.met
+    pub shows : RefusalShows why q.view
+    pub was : Page
+    pub changes : (rule_of tag.rel.0 tag.fork).changes was ≡ true
+    pub reads : LastReads p.view.number tag was p.view.calls q.view.calls
 
   -- The rule was followed, by the backend of this number: a page that isn't sound wasn't as the table was opened, where that is known; a sound page was changed where the rule changes it, and its write is past its read
   abbrev pub FollowsRule : ℕ → Fork → ℕ → Outcome → Type 0
@@ -142,7 +155,7 @@ module _ {L G : Type 0} (contents : L → Option Pages) (m : Manager L G) (rel :
   abbrev pub EndsRewriteFor : PassState → PassState → JobError → Type 0
   EndsRewriteFor p q e = (e ≡ Memory) ⊎ (MeetsFault contents m rel fork p q e ⊎ PutIsRefused p q e)
 
-  -- The blocks from `from` on were dealt with one after the other, with these outcomes, none at `to` or past it, and none after one whose put was refused: the calls are those of the outcomes and no others, and each page was read, and put, under the cleanup lock. The pass is the same one, without tokens, with its content locks as they were, and with its mark as it was where nothing was put
+  -- The blocks from `from` on were dealt with one after the other, with these outcomes, none at `to` or past it, and none after one whose put was refused: the calls are those of the outcomes and no others, and each page was read, and put, under its cleanup lock. The pass is the same one, without tokens, with its content locks as they were, and with its mark as it was where nothing was put
   pub record RewritesBlocks (from to : ℕ) (os : List Outcome) (p q : PassState) : Type 0 where
     pub goes : GoesOn contents m p q
     pub spent : q.tokens ≡ no_tokens

@@ -6,7 +6,7 @@ ghost use Rattle.history_core.specs.Laws.{Laws};
 ghost use Rattle.history_core.specs.State.{State};
 ghost use Rattle.table_rule.specs.Shows.{devices};
 ghost use Rattle.page_jobs.specs.Rewrites.{Rule};
-ghost use Rattle.page_jobs.specs.RewriteCloses.{ClosesEither, ClosesRewritten};
+ghost use Rattle.page_jobs.specs.RewriteCloses.{ClosesEither, ClosesFull, ClosesRewritten};
 ghost use Rattle.page_jobs.specs.RewriteEnds.{Finishes, HasRewrites, IsResult, LanesHoldEither, BackendCalls, Rewrites};
 
 use backend_pass::Manager;
@@ -32,4 +32,7 @@ pub fn rewrite_closes<L: BlockLane, G: LogDevice>(_manager: &Manager<L, G>)
 
     // After a whole rewrite, and a later checkpoint that is the last of its pass, the log has exactly the entries of the changed blocks, and the lanes hold the rewritten relation, but for blocks whose last write failed.
     ensures all { ClosesRewritten (devices L.contents L.failed_writes L.unsynced L.read_faults L.write_faults L.calls G.bytes G.synced G.faults G.calls) _manager.now }
+
+    // A log that has room for a record of each block is not full.
+    ensures full { ClosesFull (devices L.contents L.failed_writes L.unsynced L.read_faults L.write_faults L.calls G.bytes G.synced G.faults G.calls) _manager.now }
 {}

@@ -378,6 +378,7 @@ impl Gate for Meeting {
 }
 
 /// Work that waits for a worker.
+#[derive(Drop)]
 struct MeetWorker<'a> {
     meeting: &'a Meeting,
 }

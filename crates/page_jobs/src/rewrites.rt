@@ -80,15 +80,11 @@ fn rewrite_beside<
     let (_, end) = thread::join_mut(
         rt,
         &mut ||
-            requires {
-                (0 < vec_len workers.now)
+            requires { (0 < vec_len workers.now)
                 × All (IsReady L.contents manager.now blocks.rel.0 blocks.fork) workers.now.items
-                × (16 ≤ frames_of manager.now.table) × (frames_of manager.now.table ≤ 4096)
-            }
-            ensures {
-                (vec_len workers.exit.now ≡ vec_len workers.entry.now)
-                × HaveRewritten L.contents manager.entry.now blocks.rel.0 blocks.fork workers.entry.now.items workers.exit.now.items
-            }
+                × (16 ≤ frames_of manager.now.table) × (frames_of manager.now.table ≤ 4096) }
+            ensures { (vec_len workers.exit.now ≡ vec_len workers.entry.now)
+                × HaveRewritten L.contents manager.entry.now blocks.rel.0 blocks.fork workers.entry.now.items workers.exit.now.items }
         { rewrite_all(manager, rt, alloc, gate, blocks, workers) },
         &mut || work_last(manager, rt, last, beside),
     );
@@ -96,10 +92,7 @@ fn rewrite_beside<
 }
 
 /// The totals of all workers, or why the first of those ended that didn't rewrite its whole part; where all did, why the work beside them was refused.
-fn sum_rewritten(
-    workers: &[Worker],
-    beside_end: Result<(), JobError>,
-) -> Result<Totals, JobError>
+fn sum_rewritten(workers: &[Worker], beside_end: Result<(), JobError>) -> Result<Totals, JobError>
     requires counts { AreRewritesCounted workers.now }
     requires few { (rewritten_totals workers.now).blocks ≤ 2 ^ 32 }
     ensures done { IfOk result (λ totals. (totals ≡ totals_of_rewrite (rewritten_totals workers.now)) × AllDone workers.now) }
@@ -151,16 +144,7 @@ fn rewrite_passes<
 {
     let count = manager.blocks(blocks.rel, blocks.fork);
     let mut workers = deal(alloc, count, passes)?;
-    let beside_end = rewrite_beside(
-        manager,
-        rt,
-        alloc,
-        &mut workers,
-        last,
-        blocks,
-        gate,
-        beside,
-    );
+    let beside_end = rewrite_beside(manager, rt, alloc, &mut workers, last, blocks, gate, beside);
     let end = sum_rewritten(&workers, beside_end);
     gather(workers, passes);
     end

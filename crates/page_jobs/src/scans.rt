@@ -84,15 +84,11 @@ fn work_beside<
     let (_, end) = thread::join_mut(
         rt,
         &mut ||
-            requires {
-                (0 < vec_len workers.now)
+            requires { (0 < vec_len workers.now)
                 × All (IsReady L.contents manager.now job.rel.0 job.fork) workers.now.items
-                × (16 ≤ frames_of manager.now.table) × (frames_of manager.now.table ≤ 4096)
-            }
-            ensures {
-                (vec_len workers.exit.now ≡ vec_len workers.entry.now)
-                × HaveWorked L.contents manager.entry.now job.rel.0 job.fork job.lines workers.entry.now.items workers.exit.now.items
-            }
+                × (16 ≤ frames_of manager.now.table) × (frames_of manager.now.table ≤ 4096) }
+            ensures { (vec_len workers.exit.now ≡ vec_len workers.entry.now)
+                × HaveWorked L.contents manager.entry.now job.rel.0 job.fork job.lines workers.entry.now.items workers.exit.now.items }
         { work_all(manager, rt, alloc, gate, job, workers) },
         &mut || work_last(manager, rt, last, beside),
     );
@@ -176,7 +172,17 @@ fn run_job<
     ensures cause { IfErr result.end (EndsJob L.contents manager.now job.rel.0 job.fork passes.items result.passes.items (O.faults out.old) (O.faults out.new)) }
 {
     let mut last = passes.take_last();
-    let end = work_passes(manager, rt, alloc, &mut passes, &mut last, job, out, gate, beside);
+    let end = work_passes(
+        manager,
+        rt,
+        alloc,
+        &mut passes,
+        &mut last,
+        job,
+        out,
+        gate,
+        beside,
+    );
     passes.push_reserved(last);
     JobEnd { passes, end }
 }

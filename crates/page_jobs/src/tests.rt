@@ -71,10 +71,12 @@ fn run<R: Threads + Wait + Sync>(
     };
     match Manager::start(alloc, config, catalog, lanes, TestLog::new(alloc, 0), 0) {
         Ok((manager, passes)) => {
+            let (rel, fork) = (RelNo(0), Fork::Main);
+            let mut none = NoBeside;
             let JobEnd { passes, end } = if dumps {
-                dump(&manager, rt, alloc, passes, RelNo(0), Fork::Main, out, gate, &mut NoBeside)
+                dump(&manager, rt, alloc, passes, rel, fork, out, gate, &mut none)
             } else {
-                scan(&manager, rt, alloc, passes, RelNo(0), Fork::Main, out, gate, &mut NoBeside)
+                scan(&manager, rt, alloc, passes, rel, fork, out, gate, &mut none)
             };
             let (_lanes, _log) = manager.close(passes);
             Ok(end)

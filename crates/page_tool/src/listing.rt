@@ -122,29 +122,11 @@ fn list_blocks<L: BlockLane + Send, R: Threads + Wait + Sync, O: Sink, T: Gate +
     ensures later { O.faults out.old ≤ O.faults out.new }
     ensures cause { IfErr result.end (EndsJob L.contents manager.now 0 listed.relation.fork passes.items result.passes.items (O.faults out.old) (O.faults out.new)) }
 {
+    let (rel, fork) = (RelNo(0), listed.relation.fork);
+    let mut none = NoBeside;
     match listed.listing {
-        Listing::Scan => scan(
-            manager,
-            rt,
-            alloc,
-            passes,
-            RelNo(0),
-            listed.relation.fork,
-            out,
-            gate,
-            &mut NoBeside,
-        ),
-        Listing::Dump => dump(
-            manager,
-            rt,
-            alloc,
-            passes,
-            RelNo(0),
-            listed.relation.fork,
-            out,
-            gate,
-            &mut NoBeside,
-        ),
+        Listing::Scan => scan(manager, rt, alloc, passes, rel, fork, out, gate, &mut none),
+        Listing::Dump => dump(manager, rt, alloc, passes, rel, fork, out, gate, &mut none),
     }
 }
 

@@ -8,7 +8,7 @@ use Rattle.backend_pass.specs.Passes.{view_in}
 use Rattle.backend_pass.proofs.Seated.{moved, moved_one, one_view, view_of_seat}
 use Rattle.held_pins.proofs.Keeping.{devices_same, link_same, links_same}
 use Rattle.backend_pass.specs.PassSyncs.{SyncsLane}
-use Rattle.frame_table.specs.Seats.{frames_of}
+use Rattle.frame_table.specs.Seats.{frames_of, lanes_in}
 use Rattle.backend_pass.proofs.syncs.sync_lane_seated.Goals as goal
 
 pub sync_lane-answer-requires-clause-stands : goal.sync_lane-answer-requires-clause-stands
@@ -47,4 +47,4 @@ pub returns-clause-did : goal.returns-clause-did
 returns-clause-did g c =
     let before = view_of_seat c.args.badge.now c.replace.result c.into_seat-seat.result.me.0 c.replace.ensures.value c.into_seat-seat.ensures.2 in
     let e = c.sync_lane-answer.ensures in
-    moved (λ v w. SyncsLane (frames_of c.args.table.now) c.args.lane v w c.sync_lane-answer.result) (view_in c.args.badge.now.views) (view_in c.into_badge.result.views) c.into_seat-seat.result.me.0 c.sync_lane-answer.new.seat.me.0 before (ap view_in c.into_badge.ensures.2) record { rises = e.rises; view = e.view; swept = e.swept; wide = e.wide }
+    moved (λ v w. SyncsLane (frames_of c.args.table.now) (lanes_in c.args.table.now) c.args.lane v w c.sync_lane-answer.result) (view_in c.args.badge.now.views) (view_in c.into_badge.result.views) c.into_seat-seat.result.me.0 c.sync_lane-answer.new.seat.me.0 before (ap view_in c.into_badge.ensures.2) record { rises = e.rises; view = e.view; swept = e.swept; wide = e.wide; left = e.left }

@@ -20,6 +20,7 @@ loop-lane-init g c = record {
   calls = made_none c.args.pass.now.view c.args.pass.now.view refl;
   met = refl;
   swept = λ q low. absurd (omega arith);
+  left = λ some. absurd (omega arith);
 }
 
 pub sync_lane-requires-clause-belongs : goal.sync_lane-requires-clause-belongs
@@ -37,6 +38,7 @@ loop-lane-preserved g c =
       calls = calls_more lane c.args.pass.now.view c.loop-lane.pass.view c.sync_lane.new.self.view i.calls (synced_calls lane true c.loop-lane.pass.view c.sync_lane.new.self.view ok.view);
       met = ap (λ (v : View). v.met) ok.view ∙ i.met;
       swept = swept_more frames lane c.args.pass.now.view.upto c.loop-lane.pass.view c.sync_lane.new.self.view e.wide (written_same frames c.args.pass.now.view c.loop-lane.pass.view i.links c.requires.none_left) i.keeps.same.upto ok.swept e.same.keeps.advances i.swept;
+      left = λ some. (lane, e.left);
     }
 
 pub returns-in-Err-clause-stops : goal.returns-in-Err-clause-stops
@@ -63,4 +65,5 @@ returns-clause-syncs g c =
       calls = subst (λ (n : ℕ). Made (syncs_below n) c.args.pass.now.view c.loop-lane.pass.view) all i.calls;
       met = i.met;
       swept = λ q low. i.swept q (omega arith);
+      left = i.left (let some = c.args.manager.now.table.some in omega arith);
     }

@@ -1,6 +1,8 @@
 use Rattle.std.proofs.Common.{◌≡◌, ◌<◌, ◌≤◌, ℕ}
 use Rattle.pin_core.specs.State.{lane_hold}
+use Rattle.frame_table.specs.Seats.{lanes_in}
 use Rattle.buffer_frames.specs.Working.{Made}
+use Rattle.buffer_sync.specs.Syncs.{LeavesLane}
 use Rattle.checkpointer.specs.Stages.{KeepsBackend, syncs_below}
 use Rattle.checkpointer.proofs.lanes.sync_lanes.Given as goal
 
@@ -11,4 +13,5 @@ invariant-loop-lane g l = record {
   calls : Made (syncs_below l.lane) l.fn.pass.view l.pass.view;
   met : l.pass.view.met ≡ l.fn.pass.view.met;
   swept : (q : ℕ) → q < l.lane → l.fn.pass.view.upto ≤ (lane_hold l.pass.view q).swept;
+  left : 0 < l.lane → (lane : ℕ) × LeavesLane (lanes_in l.manager.table) lane l.pass.view;
 }

@@ -80,6 +80,6 @@ returns-clause-cause g c =
     subst (DoRewrites {L = g.row.L.Denot} {G = g.row.G.Denot} g.L.BlockLane.contents c.args.manager.now c.args.blocks.rel.0 c.args.blocks.fork c.blocks-count.result (length ps) 0 ps) (sym c.deref.ensures.value) d in
     let given : map (λ (x : Worker). x.pass) xs ≡ c.gather.new.passes.items = ap (map (λ (x : Worker). x.pass)) c.deref.ensures.value ∙ sym c.gather.ensures.passes in
     subst (λ (l : List PassState). IfErr c.sum_rewritten-end.result (λ f. (f ≡ Memory) ⊎ (FailsFirst {L = g.row.L.Denot} {G = g.row.G.Denot} g.L.BlockLane.contents c.args.manager.now c.args.blocks.rel.0 c.args.blocks.fork (length ps) 0 ps l f
-        ⊎ (((totals : Totals) × RewritesFork {L = g.row.L.Denot} {G = g.row.G.Denot} g.L.BlockLane.contents c.args.manager.now c.args.blocks.rel.0 c.args.blocks.fork ps l totals) × WorkIsRefused {L = g.row.L.Denot} {G = g.row.G.Denot} g.L.BlockLane.contents c.args.manager.now c.args.last.now c.rewrite_beside-beside_end.new.last f)))) given
+    ⊎ (((totals : Totals) × RewritesFork {L = g.row.L.Denot} {G = g.row.G.Denot} g.L.BlockLane.contents c.args.manager.now c.args.blocks.rel.0 c.args.blocks.fork ps l totals) × WorkIsRefused {L = g.row.L.Denot} {G = g.row.G.Denot} g.L.BlockLane.contents c.args.manager.now c.args.last.now c.rewrite_beside-beside_end.new.last f)))) given
     (rewrite_cause {L = g.row.L.Denot} {G = g.row.G.Denot} g.L.BlockLane.contents c.args.manager.now c.args.blocks.rel.0 c.args.blocks.fork c.blocks-count.result ps xs c.args.last.now c.rewrite_beside-beside_end.new.last c.rewrite_beside-beside_end.result c.blocks-count.ensures.count e c.rewrite_beside-beside_end.ensures.beside
     c.sum_rewritten-end.result c.sum_rewritten-end.ensures.cause)

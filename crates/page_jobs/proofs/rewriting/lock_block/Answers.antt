@@ -16,7 +16,7 @@ returns-in-Ok-clause-locked g c =
     let i = c.loop.invariant in
     let x = c.in-Ok.ensures in
     locks_one {L = g.row.L.Denot} {G = g.row.G.Denot} g.L.BlockLane.contents c.args.manager.now c.args.tag c.in_ok-pinned.pinned c.in-Ok.exclusive c.args.pass.now c.loop.pass c.pin_block.new.pass c.lock_cleanup.new.self i.stays i.calls i.met c.in_ok-pinned.ensures.pinned
-    (record { belongs = x.belongs; same = x.same; calls = x.calls; met = x.devices.met }) x.mark x.tokens x.token x.lock x.granted
+    (record { belongs = x.belongs; same = x.same; calls = x.calls; met = x.devices.met }) x.mark x.tokens x.token x.lock x.granted x.tagged
 
 pub loop-preserved : goal.loop-preserved
 loop-preserved g c =

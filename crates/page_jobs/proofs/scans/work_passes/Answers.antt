@@ -100,6 +100,6 @@ returns-clause-cause g c =
     subst (DoParts {L = g.row.L.Denot} {G = g.row.G.Denot} g.L.BlockLane.contents c.args.manager.now c.args.job.rel.0 c.args.job.fork c.args.job.lines c.blocks-blocks.result (length ps) 0 ps) (sym c.deref.ensures.value) d in
     let given : map (λ (x : Worker). x.pass) xs ≡ c.gather.new.passes.items = ap (map (λ (x : Worker). x.pass)) c.deref.ensures.value ∙ sym c.gather.ensures.passes in
     subst (λ (l : List PassState). IfErr c.put_all-end.result (λ f. (f ≡ Memory) ⊎ (AnyMeets {L = g.row.L.Denot} {G = g.row.G.Denot} g.L.BlockLane.contents c.args.manager.now c.args.job.rel.0 c.args.job.fork ps l f
-        ⊎ (WorkIsRefused {L = g.row.L.Denot} {G = g.row.G.Denot} g.L.BlockLane.contents c.args.manager.now c.args.last.now c.work_beside-beside_end.new.last f ⊎ ((f ≡ OutFault) × Rose (g.O.Sink.faults c.args.out.now) (g.O.Sink.faults c.put_all-end.new.out)))))) given
+    ⊎ (WorkIsRefused {L = g.row.L.Denot} {G = g.row.G.Denot} g.L.BlockLane.contents c.args.manager.now c.args.last.now c.work_beside-beside_end.new.last f ⊎ ((f ≡ OutFault) × Rose (g.O.Sink.faults c.args.out.now) (g.O.Sink.faults c.put_all-end.new.out)))))) given
     (job_cause {L = g.row.L.Denot} {G = g.row.G.Denot} g.L.BlockLane.contents c.args.manager.now c.args.job.rel.0 c.args.job.fork c.args.job.lines c.blocks-blocks.result ps xs c.args.last.now c.work_beside-beside_end.new.last c.work_beside-beside_end.result (g.O.Sink.faults c.args.out.now) (g.O.Sink.faults c.put_all-end.new.out) e c.work_beside-beside_end.ensures.beside
     c.put_all-end.result c.put_all-end.ensures.cause)

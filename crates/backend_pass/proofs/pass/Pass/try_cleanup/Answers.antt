@@ -3,11 +3,11 @@ use Rattle.atomic_table.specs.declared.badge.Badge.{Badge}
 use Rattle.pin_core.specs.declared.view.View.{View}
 use Rattle.pin_core.specs.State.{link}
 use Rattle.held_pins.specs.Rests.{SameLocks}
-use Rattle.held_pins.specs.Tokens.{held_at}
+use Rattle.held_pins.specs.Tokens.{IsPinnedFor, held_at}
 use Rattle.backend_pass.specs.Managers.{Belongs}
 use Rattle.backend_pass.specs.Passes.{IsNumbered, PassState, view_in}
 use Rattle.backend_pass.proofs.Releasing.{belongs_touched, numbered_self, same_touched, shown_self}
-use Rattle.backend_pass.proofs.CleanupLocks.{Cleans, cleans_tried, rests_cleaned}
+use Rattle.backend_pass.proofs.CleanupLocks.{Cleans, cleans_tried, rests_cleaned, rests_tagged}
 use Rattle.backend_pass.proofs.Relocking.{held_same, kept_refused, kept_taken, locks_kept}
 use Rattle.backend_pass.proofs.Seated.{moved, one_view, same_from, view_of_seat}
 use Rattle.backend_pass.proofs.pass.Pass.try_cleanup.Goals.{in-Ok, in-Err}
@@ -45,6 +45,14 @@ returns-clause-same g c =
     let table = c.into_badge.ensures.0 ∙ c.try_lock-answer.ensures.seat.table ∙ c.into_seat-seat.ensures.0 ∙ ap (λ (b : Badge View). b.table_id) c.replace.ensures.value in
     let id = c.into_badge.ensures.1 ∙ c.try_lock-answer.ensures.seat.id ∙ c.into_seat-seat.ensures.1 ∙ ap (λ (b : Badge View). b.id) c.replace.ensures.value in
     same_from _ _ _ c.self.view_is (same_touched _ _ f table id refl k.touches)
+
+pub returns-clause-tagged : goal.returns-clause-tagged
+returns-clause-tagged g c =
+    let f = c.args.pinned.frame in
+    let pinned = subst (λ (p : PassState). IsPinnedFor c.args.pinned.tag f p.tokens) (sym c.self.view_is) c.requires.pinned in
+    let before = view_of_seat c.self.inside.seat c.replace.result c.into_seat-seat.result.me.0 c.replace.ensures.value c.into_seat-seat.ensures.2 in
+    let k : Cleans f (view_in c.self.inside.seat.views) (view_in c.into_badge.result.views) = moved (Cleans f) _ _ _ _ before (ap view_in c.into_badge.ensures.2) (cleans_tried f _ _ c.try_lock-answer.result c.try_lock-answer.ensures.touches c.try_lock-answer.ensures.marks c.try_lock-answer.ensures.locked c.try_lock-answer.ensures.left) in
+    rests_tagged c.args.pinned.tag f c.self.inside.held _ pinned (rests_cleaned f pinned.held c.self.inside.held (view_in c.self.inside.seat.views) (view_in c.into_badge.result.views) pinned.there k c.self.invariant.1)
 
 pub returns-clause-kept : goal.returns-clause-kept
 returns-clause-kept g c =

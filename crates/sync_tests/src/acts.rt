@@ -1,0 +1,198 @@
+//! What three passes do one after another, and what comes of it.
+ghost use Rattle.std.specs.Prelude.{◌≡◌};
+ghost use Rattle.manager_tests.specs.Bench.{IsFree};
+ghost use Rattle.sync_tests.specs.Idle.{IsIdle};
+
+use crate::bench::start;
+use crate::devices::{ByteLog, DeviceCall, PageLane, in_order};
+use crate::syncing::{checkpoint_once, round_once};
+use backend_pass::{FlushError, Manager, Met, Pass, PutError, ReadError};
+use bg_writer::Round;
+use checkpointer::{Checkpoint, CheckpointError};
+use log_device::LogDevice;
+use manager_tests::bench::{Bench, block};
+use manager_tests::putting::put_once;
+use manager_tests::reading::{Access, pin, read_once, unpin};
+use page_layout::{Lsn, Page};
+use segment_store::BlockLane;
+use std::alloc::{AllocError, Global};
+use std::sync::Wait;
+use test_devices::one_item;
+
+/// What a pass does.
+#[derive(Clone, Copy)]
+pub enum Act {
+    /// The first pass puts a page to this block.
+    Put(u32),
+    /// The first pass reads this block.
+    Read(u32),
+    /// The second pass makes a round.
+    Round,
+    /// The second pass makes a round while the third one pins this block.
+    RoundBeside(u32),
+    /// The second pass makes a checkpoint.
+    Checkpoint,
+}
+
+/// What came of it.
+#[derive(Clone, Copy, PartialEq, Debug)]
+pub enum Answer {
+    Put(Option<Result<Lsn, PutError>>),
+    Read(Result<Access, ReadError>),
+    /// None where the block beside isn't read.
+    Round(Option<Result<Round, FlushError>>),
+    Checkpoint(Result<Checkpoint, CheckpointError>),
+}
+
+/// Makes a round while another pass pins a block. None where that isn't read.
+fn round_beside<L: BlockLane, G: LogDevice, R: Wait>(
+    manager: &Manager<L, G>,
+    rt: &R,
+    second: &mut Pass,
+    third: &mut Pass,
+    number: u32,
+) -> Option<Result<Round, FlushError>>
+    requires second { IsIdle L.contents manager.now 1 second.old }
+    requires third { IsFree L.contents manager.now 2 third.old }
+    ensures second { IsIdle L.contents manager.now 1 second.new }
+    ensures third { IsFree L.contents manager.now 2 third.new }
+{
+    let Ok(pinned) = pin(manager, rt, third, 2, block(number), &mut None) else {
+        return None;
+    };
+    let came = round_once(manager, rt, second, 1);
+    unpin(manager, rt, third, 2, pinned);
+    Some(came)
+}
+
+/// Does one act.
+fn perform<L: BlockLane, G: LogDevice, R: Wait>(
+    manager: &Manager<L, G>,
+    rt: &R,
+    first: &mut Pass,
+    second: &mut Pass,
+    third: &mut Pass,
+    act: Act,
+    page: &Page,
+) -> Answer
+    requires first { IsFree L.contents manager.now 0 first.old }
+    requires second { IsIdle L.contents manager.now 1 second.old }
+    requires third { IsFree L.contents manager.now 2 third.old }
+    ensures first { IsFree L.contents manager.now 0 first.new }
+    ensures second { IsIdle L.contents manager.now 1 second.new }
+    ensures third { IsFree L.contents manager.now 2 third.new }
+{
+    match act {
+        Act::Put(number) => {
+            let tag = block(number);
+            Answer::Put(put_once(manager, rt, first, 0, tag, page, &mut None))
+        }
+        Act::Read(number) => {
+            let tag = block(number);
+            Answer::Read(read_once(manager, rt, first, 0, tag, &mut None))
+        }
+        Act::Round => Answer::Round(Some(round_once(manager, rt, second, 1))),
+        Act::RoundBeside(number) => {
+            Answer::Round(round_beside(manager, rt, second, third, number))
+        }
+        Act::Checkpoint => Answer::Checkpoint(checkpoint_once(manager, rt, second, 1)),
+    }
+}
+
+/// Does acts in order.
+fn perform_all<L: BlockLane, G: LogDevice, R: Wait>(
+    manager: &Manager<L, G>,
+    rt: &R,
+    first: &mut Pass,
+    second: &mut Pass,
+    third: &mut Pass,
+    acts: &[Act],
+    page: &Page,
+    alloc: Global,
+) -> Result<Vec<Answer>, AllocError>
+    requires first { IsFree L.contents manager.now 0 first.old }
+    requires second { IsIdle L.contents manager.now 1 second.old }
+    requires third { IsFree L.contents manager.now 2 third.old }
+    ensures first { IsFree L.contents manager.now 0 first.new }
+    ensures second { IsIdle L.contents manager.now 1 second.new }
+    ensures third { IsFree L.contents manager.now 2 third.new }
+{
+    let mut answers = Vec::new(alloc);
+    for next in acts {
+        let answer = perform(manager, rt, first, second, third, *next, page);
+        answers.push(answer)?;
+    }
+    Ok(answers)
+}
+
+/// What came of acts, and the devices after them.
+#[derive(Drop)]
+pub struct Played {
+    pub answers: Vec<Answer>,
+    /// The calls of the devices, in the order in which they were made.
+    pub calls: Vec<DeviceCall>,
+    /// What the second pass met.
+    pub met: Met,
+    pub lanes: Vec<PageLane>,
+    pub log: ByteLog,
+}
+
+/// The calls of devices, in the order in which they were made.
+fn calls_of(
+    lanes: &[PageLane],
+    log: &ByteLog,
+    alloc: Global,
+) -> Result<Vec<DeviceCall>, AllocError> {
+    let mut calls = Vec::new(alloc);
+    calls.extend_from_slice(&log.journal.calls)?;
+    for lane in lanes {
+        calls.extend_from_slice(&lane.journal.calls)?;
+    }
+    in_order(calls, alloc)
+}
+
+/// The passes of a manager of so many frames over these devices do acts in order, and the manager is closed.
+pub fn play<R: Wait>(
+    rt: &R,
+    alloc: Global,
+    frames: u32,
+    lanes: Vec<PageLane>,
+    log: ByteLog,
+    acts: &[Act],
+) -> Result<Played, AllocError> {
+    let mut page = Page::zeroed(alloc)?;
+    page.fill(&one_item(200));
+    let Bench {
+        manager,
+        mut first,
+        mut second,
+        mut third,
+        passes,
+    } = start(alloc, frames, lanes, log)?;
+    let answers = perform_all(
+        &manager,
+        rt,
+        &mut first,
+        &mut second,
+        &mut third,
+        acts,
+        &page,
+        alloc,
+    );
+    let met = second.met();
+    let (lanes, log) = Bench {
+        manager,
+        first,
+        second,
+        third,
+        passes,
+    }
+    .close();
+    Ok(Played {
+        answers: answers?,
+        calls: calls_of(&lanes, &log, alloc)?,
+        met,
+        lanes,
+        log,
+    })
+}

@@ -1,0 +1,66 @@
+//! A small manager over devices that tell of their calls.
+ghost use Rattle.std.specs.Prelude.{IfOk};
+ghost use Rattle.sync_tests.specs.Idle.{IsIdleIn};
+
+use crate::devices::{ByteLog, PageLane};
+use backend_pass::{Config, Manager, StartRefused};
+use block_tag::{Catalog, CatalogError, RelEntry};
+use manager_tests::bench::Bench;
+use std::alloc::{AllocError, Global};
+
+/// How many blocks the relation has.
+pub const BLOCKS: u32 = 160;
+
+/// One relation of so many blocks.
+fn catalog(alloc: Global) -> Result<Catalog, CatalogError> {
+    let entry = RelEntry {
+        tablespace: 0,
+        database: 0,
+        relation: 16384,
+        blocks: [BLOCKS, 0, 0, 0],
+    };
+    Catalog::build(alloc, &[entry])
+}
+
+/// A manager of so many frames over these devices, and its three passes.
+pub fn start(
+    alloc: Global,
+    frames: u32,
+    lanes: Vec<PageLane>,
+    log: ByteLog,
+) -> Result<Bench<PageLane, ByteLog>, AllocError>
+    ensures first { IfOk result (λ b. IsIdleIn b.manager 0 b.first) }
+    ensures second { IfOk result (λ b. IsIdleIn b.manager 1 b.second) }
+    ensures third { IfOk result (λ b. IsIdleIn b.manager 2 b.third) }
+{
+    let Ok(catalog) = catalog(alloc) else {
+        return Err(AllocError);
+    };
+    let room = Vec::with_capacity(alloc, 3)?;
+    let config = Config {
+        frames,
+        passes: 3,
+        lanes: lanes.len() as u32,
+    };
+    match Manager::start(alloc, config, catalog, lanes, log, 0) {
+        Ok((manager, mut passes)) => {
+            let third = passes.take_last();
+            let second = passes.take_last();
+            let first = passes.take_last();
+            passes.destroy_empty();
+            Ok(Bench {
+                manager,
+                first,
+                second,
+                third,
+                passes: room,
+            })
+        }
+        Err(StartRefused { why: _, lanes, log }) => {
+            drop(lanes);
+            drop(log);
+            room.destroy_empty();
+            Err(AllocError)
+        }
+    }
+}

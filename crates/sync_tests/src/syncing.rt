@@ -1,0 +1,37 @@
+//! Rounds and checkpoints by a pass that has no token.
+ghost use Rattle.sync_tests.specs.Idle.{IsIdle};
+
+use backend_pass::{FlushError, Manager, Pass};
+use bg_writer::{Round, round};
+use block_tag::Tag;
+use checkpointer::{Checkpoint, CheckpointError, checkpoint};
+use log_device::LogDevice;
+use manager_tests::reading::{pin, unpin};
+use segment_store::BlockLane;
+use std::sync::Wait;
+
+/// Makes a round.
+pub fn round_once<L: BlockLane, G: LogDevice, R: Wait>(
+    manager: &Manager<L, G>,
+    rt: &R,
+    pass: &mut Pass,
+    _number: u32,
+) -> Result<Round, FlushError>
+    requires { IsIdle L.contents manager.now _number pass.old }
+    ensures { IsIdle L.contents manager.now _number pass.new }
+{
+    round(manager, rt, pass)
+}
+
+/// Makes a checkpoint.
+pub fn checkpoint_once<L: BlockLane, G: LogDevice, R: Wait>(
+    manager: &Manager<L, G>,
+    rt: &R,
+    pass: &mut Pass,
+    _number: u32,
+) -> Result<Checkpoint, CheckpointError>
+    requires { IsIdle L.contents manager.now _number pass.old }
+    ensures { IsIdle L.contents manager.now _number pass.new }
+{
+    checkpoint(manager, rt, pass)
+}
