@@ -1,5 +1,5 @@
 -- What a rewrite leaves of the lanes and the log that it is given, and why it ends before its end.
-use Rattle.std.specs.Prelude.{◌≡◌, ◌<◌, ◌≤◌, ℕ, ◌+◌, true, false, All, List, length, map, Option, Some, Result, Ok, Err, IfErr, IfOk, OnOk, MatchResult, is_some}
+use Rattle.std.specs.Prelude.{◌≡◌, ◌<◌, ◌≤◌, ℕ, ◌+◌, Bool, true, false, All, List, length, map, Option, Some, Result, Ok, Err, IfErr, IfOk, OnOk, MatchResult, is_some}
 use Rattle.segment_store.specs.Contents.{Marks, Pages}
 use Rattle.segment_store.specs.Lanes.{HoldPages, mark_in, tag_at}
 use Rattle.segment_store.specs.Restored.{pages_in}
@@ -69,7 +69,7 @@ HasPositionsLeft LogFault = Unit {0}
 HasPositionsLeft OutFault = Unit {0}
 HasPositionsLeft Memory = Unit {0}
 
-module _ {L G : Type 0} (contents : L → Option Pages) (failed : L → Marks) (bytes : G → Option (List ℕ)) (synced : G → ℕ) where
+module _ {L : Type 0} (contents : L → Option Pages) where
   -- These are the pages of the relation, as its lanes have them, which are all known. None of them is past the log's beginning
   pub record ArePages (r : RelationFork) (base : ℕ) (lanes : List L) (pages : List Page) : Type 0 where
     pub held : HoldPages r.fork pages (map contents lanes)
@@ -77,20 +77,22 @@ module _ {L G : Type 0} (contents : L → Option Pages) (failed : L → Marks) (
     pub known : All (λ lane. is_some (contents lane) ≡ true) lanes
     pub within : largest_lsn pages ≤ base
 
-  -- the pages as lanes have them, of which these were the pages before, and the marks of the blocks whose last write failed
+  -- the pages as lanes have them, of which these were the pages before
   abbrev pub pages_after : RelationFork → List L → List Page → List Page
   pages_after r lanes pages = pages_in r.fork (map contents lanes) 0 pages
 
-  abbrev pub failed_after : RelationFork → List L → ℕ → Bool
-  failed_after r lanes block = mark_in (map failed lanes) (tag_at r.fork block)
+-- the marks of the blocks whose last write failed
+abbrev pub failed_after : {L : Type 0} → (L → Marks) → RelationFork → List L → ℕ → Bool
+failed_after failed r lanes block = mark_in (map failed lanes) (tag_at r.fork block)
 
+module _ {L G : Type 0} (contents : L → Option Pages) (failed : L → Marks) (bytes : G → Option (List ℕ)) (synced : G → ℕ) where
   -- What a rewrite leaves of the lanes and of the log
   pub record LeavesRewritten (r : RelationFork) (base : ℕ) (lanes lanes' : List L) (log' : G) (end : Result RewriteTotals RewriteError) : Type 0 where
-    pub either : (pages : List Page) (known : List ℕ) → ArePages r base lanes pages → bytes log' ≡ Some known
-        → LeavesEither (rule_of 0 r.fork) (names_of r) base pages (pages_after r lanes' pages) (failed_after r lanes') (record { bytes = known; synced = synced log' })
-    pub whole : IfOk end (λ totals. (pages : List Page) (known : List ℕ) → ArePages r base lanes pages → bytes log' ≡ Some known
-        → IsRewritten (rule_of 0 r.fork) (names_of r) base pages (pages_after r lanes' pages) (record { bytes = known; synced = synced log' }))
-    pub totals : IfOk end (λ totals. (pages : List Page) → ArePages r base lanes pages → totals ≡ rewrite_totals_of pages)
-    pub unfailed : OnOk end ((pages : List Page) → ArePages r base lanes pages → (block : ℕ) → block < r.blocks → failed_after r lanes' block ≡ false)
+    pub either : (pages : List Page) (known : List ℕ) → ArePages contents r base lanes pages → bytes log' ≡ Some known
+        → LeavesEither (rule_of 0 r.fork) (names_of r) base pages (pages_after contents r lanes' pages) (failed_after failed r lanes') (record { bytes = known; synced = synced log' })
+    pub whole : IfOk end (λ totals. (pages : List Page) (known : List ℕ) → ArePages contents r base lanes pages → bytes log' ≡ Some known
+        → IsRewritten (rule_of 0 r.fork) (names_of r) base pages (pages_after contents r lanes' pages) (record { bytes = known; synced = synced log' }))
+    pub totals : IfOk end (λ totals. (pages : List Page) → ArePages contents r base lanes pages → totals ≡ rewrite_totals_of pages)
+    pub unfailed : OnOk end ((pages : List Page) → ArePages contents r base lanes pages → (block : ℕ) → block < r.blocks → failed_after failed r lanes' block ≡ false)
     -- no position is past the last one, or past the log's end
-    pub positions : IfErr end (λ e. (pages : List Page) → ArePages r base lanes pages → HasPositionsLeft e)
+    pub positions : IfErr end (λ e. (pages : List Page) → ArePages contents r base lanes pages → HasPositionsLeft e)

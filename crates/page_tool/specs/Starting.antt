@@ -29,7 +29,7 @@ pub record IsStarted {L G : Type 0} (contents : L → Option Pages) (r : Relatio
   pub entries : relations_of m.table ≡ entry_of r ∷ []
   pub catalog : IsCatalogOf r.fork r.blocks (relations_of m.table)
   pub counted : length (opened_of m.table) ≡ lanes_in m.table
-  pub base : base_of m.table ≡ base
+  pub based : base_of m.table ≡ base
   pub frames : (16 ≤ frames_of m.table) × (frames_of m.table ≤ 4096)
   pub several : (2 ≤ length ps) × (length ps ≤ 64)
   pub passes : AreNewPasses contents m (length ps) ps

@@ -11,7 +11,7 @@ ghost use Rattle.backend_pass.specs.Managers.{Belongs};
 ghost use Rattle.backend_pass.specs.Passes.{KeepsCallers};
 ghost use Rattle.checkpointer.specs.Stages.{HasNoLock};
 ghost use Rattle.page_jobs.specs.Jobs.{AreFree};
-ghost use Rattle.page_tool.specs.Checkpointing.{ChecksByLast, LastMeets, PassMeets, StoresAll, SweepsPast};
+ghost use Rattle.page_tool.specs.Checkpointing.{ChecksByLast, LastMeets, PassMeets, StoresAll, StoresRewrite, SweepsPast};
 ghost use Rattle.page_tool.specs.Rewriting.{HasRewriteCause, LeavesRewritten, checkpoint_error, rewrite_totals_in};
 ghost use Rattle.page_tool.specs.Starting.{IsStarted, log_of};
 
@@ -159,7 +159,49 @@ fn checkpoint_all<L: BlockLane, G: LogDevice, R: Wait>(
     end
 }
 
-/// The backends rewrite the blocks, what they put is stored by a checkpoint, and the manager is closed, which returns its lanes and its log. After a fault there is no checkpoint.
+/// How a rewrite ended, with the passes that it was given.
+struct StoredRewrite {
+    passes: Vec<Pass>,
+    end: Result<RewriteTotals, RewriteError>,
+}
+
+/// The backends rewrite the blocks, and what they put is stored by a checkpoint. After a fault there is none.
+fn rewrite_and_store<
+    L: BlockLane + Send,
+    G: LogDevice + Send,
+    R: Threads + Wait + Sync,
+    T: Gate + Sync,
+>(
+    manager: &Manager<L, G>,
+    rt: &R,
+    alloc: Global,
+    passes: Vec<Pass>,
+    relation: RelationFork,
+    rounds: u32,
+    gate: &T,
+) -> StoredRewrite
+    requires started { IsStarted L.contents relation (base_of manager.now.table) manager.now passes.items }
+    ensures stores { StoresRewrite L.contents manager.now relation.fork passes.items result.passes.items result.end }
+{
+    let fork = relation.fork;
+    let mut beside = Rounds::new(rounds);
+    let job = rewrite(manager, rt, alloc, passes, RelNo(0), fork, gate, &mut beside);
+    let JobEnd { mut passes, end } = job;
+    let totals = match end {
+        Ok(totals) => rewrite_totals(totals),
+        Err(error) => {
+            let end = Err(RewriteError::from(error));
+            return StoredRewrite { passes, end };
+        }
+    };
+    let end = match checkpoint_all(manager, rt, &mut passes) {
+        Ok(()) => Ok(totals),
+        Err(error) => Err(RewriteError::from(error)),
+    };
+    StoredRewrite { passes, end }
+}
+
+/// The backends rewrite the blocks, and the manager is closed, which returns its lanes and its log.
 fn rewrite_and_close<
     L: BlockLane + Send,
     G: LogDevice + Send,
@@ -178,28 +220,13 @@ fn rewrite_and_close<
     requires room { base_of manager.table + 8224 * relation.blocks ≤ 2 ^ 62 }
     requires reads { sum_by L.read_faults (opened_of manager.table) ≡ 0 }
     requires writes { sum_by L.write_faults (opened_of manager.table) ≡ 0 }
+    requires logs { G.faults (log_of manager) ≡ 0 }
     ensures cause { HasRewriteCause (sum_by L.read_faults result.lanes.items) (sum_by L.write_faults result.lanes.items) (G.faults (log_of manager)) (G.faults result.log) result.end }
     ensures leaves { LeavesRewritten L.contents L.failed_writes G.bytes G.synced relation (base_of manager.table) (opened_of manager.table) result.lanes.items result.log result.end }
 {
     rewrite_closes(&manager);
-    let mut beside = Rounds::new(rounds);
-    let JobEnd { mut passes, end } = rewrite(
-        &manager,
-        rt,
-        alloc,
-        passes,
-        RelNo(0),
-        relation.fork,
-        gate,
-        &mut beside,
-    );
-    let end = match end {
-        Ok(totals) => match checkpoint_all(&manager, rt, &mut passes) {
-            Ok(()) => Ok(rewrite_totals(totals)),
-            Err(error) => Err(RewriteError::from(error)),
-        },
-        Err(error) => Err(RewriteError::from(error)),
-    };
+    let StoredRewrite { passes, end } =
+        rewrite_and_store(&manager, rt, alloc, passes, relation, rounds, gate);
     let (lanes, log) = manager.close(passes);
     RewriteEnd { lanes, log, end }
 }
@@ -228,6 +255,7 @@ pub(crate) fn rewrite_lanes<
     requires has { HasBlocks relation.fork relation.blocks (map L.contents lanes.items) }
     requires base { (base % 8 ≡ 0) × (base + 8224 * relation.blocks ≤ 2 ^ 62) }
     requires log { IsNewLog (devices L.contents L.failed_writes L.unsynced L.read_faults L.write_faults L.calls G.bytes G.synced G.faults G.calls) base log }
+    requires log_faults { G.faults log ≡ 0 }
     ensures cause { HasRewriteCause (sum_by L.read_faults result.lanes.items) (sum_by L.write_faults result.lanes.items) (G.faults log) (G.faults result.log) result.end }
     ensures leaves { LeavesRewritten L.contents L.failed_writes G.bytes G.synced relation base lanes.items result.lanes.items result.log result.end }
 {
