@@ -140,7 +140,7 @@ fn open_log<H: Host>(
 }
 
 /// Rewrites the relation that is open over its lanes, which were surveyed, with a new log that begins at `base`, and gives both back.
-fn rewrite_surveyed<H: Host, R: Threads + Wait + Sync, T: Gate + Sync>(
+fn rewrite_and_give_back<H: Host, R: Threads + Wait + Sync, T: Gate + Sync>(
     rt: &R,
     alloc: Global,
     request: &RewriteRequest,
@@ -200,6 +200,35 @@ fn put_totals<O: Sink>(
     }
 }
 
+/// Rewrites the relation over its lanes, which were surveyed, gives them back with the log, and prints the totals.
+fn rewrite_surveyed<H: Host, R: Threads + Wait + Sync, O: Sink, T: Gate + Sync>(
+    rt: &R,
+    alloc: Global,
+    request: &RewriteRequest,
+    relation: RelationFork,
+    lanes: Vec<H::Lane>,
+    base: Lsn,
+    host: &mut H,
+    out: &mut O,
+    gate: &T,
+) -> Result<(), RewriteError>
+    requires range { HasOptionsInRange request.now.options }
+    requires open_at { IfSome (H.contents host.old) (λ _. H.open_at host.old ≡ record { path = request.now.path.now; seg_blocks = request.now.options.seg_blocks }) }
+    requires main { fork_of request.now.path.now ≡ Main }
+    requires surveyed { AreSurveyed H.Lane.contents H.Lane.failed_writes H.Lane.read_faults H.Lane.write_faults (H.contents host.old) (rewrite_asked request.now) relation base lanes.items }
+    ensures cause { HasFaultOf (counts (H.read_faults host.old) (H.write_faults host.old) (H.log_faults host.old) (O.faults out.old))
+        (counts (H.read_faults host.new) (H.write_faults host.new) (H.log_faults host.new) (O.faults out.new)) result }
+    ensures limit { StaysBelowLimit (option_map (pages_at (rewrite_asked request.now)) (H.contents host.old)) result }
+    ensures files { BecomesOf (files_of (H.contents host.old) (H.failed_writes host.old) (H.logs host.old))
+        (files_of (H.contents host.new) (H.failed_writes host.new) (H.logs host.new)) (LeavesByEnd (rewrite_asked request.now) result) }
+    ensures text { IfSome (H.contents host.old) (λ paths. Puts (rewrite_text (pages_at (rewrite_asked request.now) paths)) (O.bytes out.old) (O.bytes out.new) result) }
+{
+    match rewrite_and_give_back(rt, alloc, request, relation, lanes, base, host, gate) {
+        Ok(totals) => put_totals(alloc, &totals, base, out),
+        Err(error) => Err(error),
+    }
+}
+
 /// Rewrites a relation that is open, gives its lanes and its log back, and prints the totals.
 fn rewrite_opened<H: Host, R: Threads + Wait + Sync, O: Sink, G: Gate + Sync>(
     rt: &R,
@@ -228,16 +257,12 @@ fn rewrite_opened<H: Host, R: Threads + Wait + Sync, O: Sink, G: Gate + Sync>(
         blocks: opened.blocks,
     };
     let mut lanes = opened.lanes;
-    let base = match survey_base(alloc, relation, &mut lanes) {
-        Ok(base) => base,
+    match survey_base(alloc, relation, &mut lanes) {
+        Ok(base) => rewrite_surveyed(rt, alloc, request, relation, lanes, base, host, out, gate),
         Err(error) => {
             host.give_back(lanes, None);
-            return Err(error);
+            Err(error)
         }
-    };
-    match rewrite_surveyed(rt, alloc, request, relation, lanes, base, host, gate) {
-        Ok(totals) => put_totals(alloc, &totals, base, out),
-        Err(error) => Err(error),
     }
 }
 
