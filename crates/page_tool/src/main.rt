@@ -6,6 +6,7 @@ mod error;
 mod limits;
 mod listing;
 mod request;
+mod rewrite_command;
 mod rewriting;
 mod run;
 mod starting;
