@@ -115,7 +115,7 @@ module _ {L G : Type 0} (d : Devices L G) (m : Manager L G) (r : RelationFork) (
     low block page at = let i = inside pages block page at in let e = are.counted in omega arith
 
     -- the lane that has a block's page, as the manager was started
-    was_there : (block : ℕ) (page : Page) → get_elem? pages block ≡ some page
+    pub was_there : (block : ℕ) (page : Page) → get_elem? pages block ≡ some page
         → (l : L) × (get_elem? (opened_of m.table) (lane_number (tag_at r.fork block) (lanes_in m.table)) ≡ some l) × ((before : Pages) × (d.contents l ≡ Some before) × (before (tag_at r.fork block) ≡ Some page))
     was_there block page at =
         let tag = tag_at r.fork block in

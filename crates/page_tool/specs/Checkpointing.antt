@@ -20,6 +20,7 @@ use Rattle.backend_pass.specs.declared.manager.Manager.{Manager}
 use Rattle.backend_pass.specs.Closing.{EachPass, HasSwept}
 use Rattle.backend_pass.specs.Managers.{AreAll, Belongs}
 use Rattle.backend_pass.specs.Passes.{KeepsCallers, PassState}
+use Rattle.checkpointer.specs.declared.ending.CheckpointError.{CheckpointError}
 use Rattle.page_jobs.specs.declared.ending.JobError.{JobError}
 use Rattle.page_jobs.specs.declared.ending.Totals.{Totals}
 use Rattle.page_jobs.specs.Jobs.{workers_in}
@@ -30,7 +31,7 @@ use Rattle.page_tool.specs.declared.limits.PositionLimit.TheVariants.{OfPages, O
 use Rattle.page_tool.specs.declared.rewriting.RewriteError.{RewriteError}
 use Rattle.page_tool.specs.declared.rewriting.RewriteError.TheVariants.{ReadFault, WriteFault, LogFault, OutFault, Memory, OverLimit}
 use Rattle.page_tool.specs.Limits.{last_position}
-use Rattle.page_tool.specs.Rewriting.{rewrite_error, rewrite_totals_in}
+use Rattle.page_tool.specs.Rewriting.{checkpoint_error, rewrite_error, rewrite_totals_in}
 
 -- The view has swept each of so many lanes up to a position that is at least this one
 pub record SweepsPast (lanes front : ℕ) (v : View) : Type 0 where
@@ -89,7 +90,9 @@ module _ {L G : Type 0} (contents : L → Option Pages) (m : Manager L G) (fork 
 
   -- The job ended early, for this reason, and nothing was done after it; or the checkpoint was refused
   abbrev pub EndsEarly : List PassState → List PassState → List PassState → RewriteError → Type 0
-  EndsEarly ps qs zs e = ((why : JobError) × (e ≡ rewrite_error why) × (zs ≡ qs) × EndsRewrite contents m 0 fork ps qs why) ⊎ LastMeets contents m.table qs zs e
+  EndsEarly ps qs zs e =
+      ((why : JobError) × (e ≡ rewrite_error why) × (zs ≡ qs) × EndsRewrite contents m 0 fork ps qs why)
+      ⊎ ((why : CheckpointError) × (e ≡ checkpoint_error why) × LastMeets contents m.table qs zs (checkpoint_error why))
 
   -- The passes `ps` made a rewrite, and where that was whole the last of them a checkpoint. No other page was put, and all passes can be given back
   pub record StoresRewrite (ps zs : List PassState) (end : Result RewriteTotals RewriteError) : Type 0 where

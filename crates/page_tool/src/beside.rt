@@ -28,7 +28,10 @@ impl<L: BlockLane, G: LogDevice> Beside<L, G> for Rounds {
         pass: &mut Pass,
     ) -> Result<(), FlushError> {
         for _ in 0..self.count {
-            round(manager, rt, pass)?;
+            match round(manager, rt, pass) {
+                Ok(_done) => {}
+                Err(why) => return Err(why),
+            }
         }
         Ok(())
     }

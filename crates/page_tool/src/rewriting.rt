@@ -1,5 +1,7 @@
 //! The blocks of a relation that is open are rewritten by the backends of a buffer manager.
-ghost use Rattle.std.specs.Prelude.{◌≡◌, ◌≤◌, ◌<◌, ◌*◌, ◌+◌, ◌%◌, ◌^◌, List, All, IfErr, IfOk, OnOk, length, map, sum_by, vec_len};
+ghost use Rattle.std.specs.Prelude.{◌≡◌, ◌≤◌, ◌<◌, ◌*◌, ◌+◌, ◌-◌, ◌%◌, ◌^◌, List, All, IfErr, IfOk, OnOk, length, map, sum_by, vec_len};
+ghost use mathlib.Core.Option.{some};
+ghost use lib.ListN.{get_elem?};
 ghost use Rattle.segment_store.specs.Contents.{no_marks};
 ghost use Rattle.segment_store.specs.Lanes.{HasBlocks, HoldPages};
 ghost use Rattle.pin_core.specs.State.{Page};
@@ -8,7 +10,7 @@ ghost use Rattle.command_line.specs.Numbers.{HasOptionsInRange};
 ghost use Rattle.frame_table.specs.Seats.{base_of, lanes_in, opened_of};
 ghost use Rattle.backend_pass.specs.Closing.{EachPass};
 ghost use Rattle.backend_pass.specs.Managers.{Belongs};
-ghost use Rattle.backend_pass.specs.Passes.{KeepsCallers};
+ghost use Rattle.backend_pass.specs.Passes.{KeepsCallers, PassState};
 ghost use Rattle.checkpointer.specs.Stages.{HasNoLock};
 ghost use Rattle.page_jobs.specs.Jobs.{AreFree};
 ghost use Rattle.page_tool.specs.Checkpointing.{ChecksByLast, LastMeets, PassMeets, StoresAll, StoresRewrite, SweepsPast};
@@ -132,9 +134,13 @@ fn checkpoint_past<L: BlockLane, G: LogDevice, R: Wait>(
     ensures cause { IfErr result (λ why. PassMeets L.contents manager.now.table pass.old.view pass.new.view (checkpoint_error why)) }
 {
     for _ in rt.forever() {
-        let done = checkpoint(manager, rt, pass)?;
-        if done.upto >= front {
-            return Ok(());
+        match checkpoint(manager, rt, pass) {
+            Ok(done) => {
+                if done.upto >= front {
+                    return Ok(());
+                }
+            }
+            Err(why) => return Err(why),
         }
     }
     unreachable!()
@@ -148,6 +154,7 @@ fn checkpoint_all<L: BlockLane, G: LogDevice, R: Wait>(
 ) -> Result<(), CheckpointError>
     requires some { 0 < vec_len passes.old }
     requires free { AreFree L.contents manager.now passes.old.items }
+    requires unlocked { (last : PassState) → get_elem? passes.old.items (length passes.old.items - 1) ≡ some last → HasNoLock last }
     ensures passes { ChecksByLast L.contents manager.now passes.old.items passes.new.items }
     ensures swept { OnOk result (StoresAll (lanes_in manager.now.table) passes.old.items passes.new.items) }
     ensures cause { IfErr result (λ why. LastMeets L.contents manager.now.table passes.old.items passes.new.items (checkpoint_error why)) }
@@ -194,11 +201,16 @@ fn rewrite_and_store<
             return StoredRewrite { passes, end };
         }
     };
-    let end = match checkpoint_all(manager, rt, &mut passes) {
-        Ok(()) => Ok(totals),
-        Err(error) => Err(RewriteError::from(error)),
-    };
-    StoredRewrite { passes, end }
+    match checkpoint_all(manager, rt, &mut passes) {
+        Ok(()) => StoredRewrite {
+            passes,
+            end: Ok(totals),
+        },
+        Err(error) => StoredRewrite {
+            passes,
+            end: Err(RewriteError::from(error)),
+        },
+    }
 }
 
 /// The backends rewrite the blocks, and the manager is closed, which returns its lanes and its log.

@@ -14,7 +14,7 @@ use manager_tests::reading::copy_once;
 use page_layout::{Lsn, Page};
 use std::alloc::{AllocError, Global};
 use std::sync::Wait;
-use std::thread::{Threads, join_mut};
+use std::thread::{self, Threads, join_mut};
 use test_devices::one_item;
 
 type TestManager = Manager<PageLane, ByteLog>;
@@ -159,6 +159,7 @@ fn sync_often<R: Wait>(
     let mut upto = 0;
     for _ in 0..times {
         upto = sync_once(manager, rt, pass, _number, job)?;
+        thread::yield_now();
     }
     Some(upto)
 }

@@ -1,0 +1,69 @@
+-- Lanes and a log that no rewrite was made of.
+use Rattle.std.proofs.Common.{◌≡◌, ℕ, ◌+◌, ◌<◌, ◌≤◌, ◌++◌, append-nil, true, false, List, [], ◌∷◌, length, map, get_or, Option, Some, None, Err, refl, sym, ap, ◌∙◌, subst, inl, unwrap_or, arith}
+use Rattle.std.specs.Prelude.{IsSomeAnd}
+use Rattle.std.specs.Option.{option_and_then}
+use mathlib.Core.Option.{some, some-injective, some-ne-none}
+use lib.ListN.{get_elem?}
+use Rattle.block_tag.specs.declared.tag.Tag.{Tag}
+use Rattle.page_layout.specs.Fields.{lsn_of}
+use Rattle.page_layout.specs.Soundness.{is_sound_page}
+use Rattle.segment_store.specs.Contents.{Marks, Pages}
+use Rattle.segment_store.specs.Lanes.{lane_at, page_in, tag_at}
+use Rattle.pin_core.specs.State.{Page}
+use Rattle.history_core.specs.Log.{head_bytes, log_bytes, records}
+use Rattle.page_jobs.proofs.Standing.{inside, standing_or}
+use Rattle.page_tool.specs.declared.rewriting.RewriteError.TheVariants.{Memory}
+use Rattle.page_tool.specs.declared.starting.RelationFork.{RelationFork}
+use Rattle.page_tool.specs.RewriteResults.{LeavesEither}
+use Rattle.page_tool.specs.Rewriting.{ArePages, LeavesRewritten, failed_after, pages_after}
+use Rattle.page_tool.specs.Starting.{names_of}
+use Rattle.page_tool.proofs.RewriteLeaves.{file_at, page_at, page_within, pages_long, rule_at}
+
+page_of : (x : Option Pages) (tag : Tag) (page : Page) → IsSomeAnd x (λ pages. pages tag ≡ Some page) → option_and_then (λ (pages : Pages). pages tag) x ≡ Some page
+page_of None tag page has = absurd has
+page_of (Some pages) tag page has = has
+
+head_only : (names : ℕ → List ℕ) (base : ℕ) → log_bytes names (record { base = base; entries = [] }) ≡ head_bytes base
+unfolding records
+head_only names base = append-nil (head_bytes base)
+
+module _ {L G : Type 0} (contents : L → Option Pages) (failed : L → Marks) (bytes : G → Option (List ℕ)) (synced : G → ℕ) (r : RelationFork) (base : ℕ) (lanes : List L) (log : G)
+    (head : (known : List ℕ) → bytes log ≡ Some known → known ≡ head_bytes base) where
+  module _ (pages : List Page) (are : ArePages contents r base lanes pages) where
+    -- each page is as it was
+    same : (block : ℕ) (old new : Page) → get_elem? pages block ≡ some old → get_elem? (pages_after contents r lanes pages) block ≡ some new → new ≡ old
+    same block old new was at =
+        let x = page_at r.fork (map contents lanes) 0 pages block new at in
+        let here : 0 + block ≡ block = omega arith in
+        let is : x.0 ≡ old = some-injective x.0 old (sym x.1 ∙ was) in
+        let has : page_in (map contents lanes) (tag_at r.fork block) ≡ Some old =
+            page_of (lane_at (map contents lanes) (tag_at r.fork block)) (tag_at r.fork block) (get_or pages block []) (are.held block (inside pages block old was))
+            ∙ ap (λ (p : Page). Some p) (standing_or pages block old [] was) in
+        x.2 ∙ ap (λ (n : ℕ). unwrap_or (page_in (map contents lanes) (tag_at r.fork n)) x.0) here ∙ ap (λ (p : Option Page). unwrap_or p x.0) has
+
+    either : (known : List ℕ) → bytes log ≡ Some known → LeavesEither (rule_at r) (names_of r) base pages (pages_after contents r lanes pages) (failed_after failed r lanes) (file_at synced log known)
+    either known told = record {
+      log = record { base = base; entries = [] };
+      based = refl;
+      begins = record { rest = []; is_bytes = head known told ∙ sym (head_only (names_of r) base) ∙ sym (append-nil (log_bytes (names_of r) (record { base = base; entries = [] }))) };
+      images = record { each = λ k e at. absurd (some-ne-none e (sym at)); one = λ j k x y at also tagged. absurd (some-ne-none x (sym at)) };
+      counted = pages_long r.fork (map contents lanes) 0 pages;
+      each = λ block old new was at unfailed. inl (same block old new was at);
+      log_first = λ block new at unfailed sound past. absurd (
+        let x = page_at r.fork (map contents lanes) 0 pages block new at in
+        let is = same block x.0 new x.1 at in
+        let within = page_within pages block x.0 x.1 (ap is_sound_page (sym is) ∙ sound) in
+        let position = ap lsn_of is in
+        let largest = are.within in
+        omega arith
+      );
+    }
+
+  pub untouched : LeavesRewritten contents failed bytes synced r base lanes lanes log (Err Memory)
+  untouched = record {
+    either = λ pages known are told. either pages are known told;
+    whole = tt;
+    totals = tt;
+    unfailed = tt;
+    positions = λ pages are. tt;
+  }
