@@ -1,4 +1,7 @@
--- What threads share: a manager over the devices of these tests.
+-- What threads share: a manager over the devices of these tests, and plain values.
+use mathlib.Core.List.{[], ◌∷◌}
+use mir.Syntax.{Sym}
+use denote.Struct.Tuple.{TupleAt}
 use denote.Param.Send.{IsSend, IsSync, sendable}
 use Rattle.std.proofs.Crossing.{crosses, frees}
 use Rattle.std.proofs.CrossingOver as over
@@ -10,6 +13,7 @@ use Rattle.table_rule.specs.contracts.value.Value as value
 use Rattle.table_tests.proofs.Crossing.{shared_sync, lease_sync}
 use Rattle.sync_tests.specs.contracts.devices.PageLane as lane
 use Rattle.sync_tests.specs.contracts.devices.ByteLog as log
+use Rattle.sync_tests.specs.contracts.sharing.Use as uses
 
 sweeps_shared : IsSync sweep.the_row
 sweeps_shared = search (sendable, crosses, over.crosses, frees) depth 40 fits 20000
@@ -25,3 +29,9 @@ values_cross = search (sendable, crosses, over.crosses, lanes_cross, logs_cross)
 
 pub managers_shared : (a : block_lane.Ghosts lane.the_row.Denot) (b : log_device.Ghosts log.the_row.Denot) → IsSync (manager.the_row lane.the_row log.the_row a b)
 managers_shared a b = search (sendable, crosses, over.crosses, values_cross, shared_sync, lease_sync, sweeps_shared, frees) depth 50 fits 40000
+
+pub uses_shared : IsSync uses.the_row
+uses_shared = search (sendable, crosses, over.crosses) depth 20
+
+pub two_uses_shared : (ν : Sym) → IsSync (TupleAt ν (uses.the_row ∷ uses.the_row ∷ []))
+two_uses_shared ν = search (sendable, crosses, uses_shared) depth 20

@@ -16,6 +16,17 @@ use test_devices::one_item;
 /// How many bytes a record of the log has.
 const RECORD: usize = 8224;
 
+/// The pages of a relation, each with one item that tells its block's number.
+fn numbered_pages(alloc: Global) -> Result<Vec<Page>, AllocError> {
+    let mut pages = Vec::new(alloc);
+    for number in 0..BLOCKS {
+        let mut page = Page::zeroed(alloc)?;
+        page.fill(&one_item((number % 256) as u8));
+        pages.push(page)?;
+    }
+    Ok(pages)
+}
+
 /// So many lanes, of which the last one may fail, and a log.
 fn devices(
     alloc: Global,
@@ -31,7 +42,8 @@ fn devices(
         } else {
             Failing::None
         };
-        made.push(PageLane::new(alloc, BLOCKS, fails, journal.beside(alloc)?)?)?;
+        let pages = numbered_pages(alloc)?;
+        made.push(PageLane::new(pages, fails, journal.beside(alloc)?))?;
     }
     Ok((made, ByteLog::new(alloc, log_fails, journal)))
 }
