@@ -1,9 +1,9 @@
 -- A checkpoint that has nothing left to write.
-use Rattle.std.proofs.Common.{◌≡◌, ℕ, zero, suc, ◌<◌, ◌+◌, Bool, true, false, List, [], ◌∷◌, length, slice_index_or, refl, ap, ◌∙◌, subst, sym, cond, arith}
+use Rattle.std.proofs.Common.{◌≡◌, ℕ, zero, suc, ◌<◌, Bool, true, false, List, [], ◌∷◌, length, slice_index_or, refl, arith}
 use Rattle.std.specs.Prelude.{not, ◌&&◌, if◌then◌else◌}
 use Rattle.pin_core.specs.declared.view.Link.{Link}
 use Rattle.pin_core.specs.declared.view.View.{View}
-use Rattle.pin_core.specs.State.{idle, link}
+use Rattle.pin_core.specs.State.{idle}
 use Rattle.history_core.specs.Lanes.{all_ended, swept_by}
 use Rattle.checkpointer.specs.Marked.{HasNoneLeft}
 

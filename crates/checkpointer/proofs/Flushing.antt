@@ -1,5 +1,5 @@
 -- Calls of devices that flush.
-use Rattle.std.proofs.Common.{◌≡◌, ℕ, zero, suc, ◌<◌, ◌≤◌, ◌+◌, Bool, true, false, List, [], ◌∷◌, ◌++◌, append-nil, append_assoc, refl, ap, ◌∙◌, subst, sym, arith}
+use Rattle.std.proofs.Common.{◌≡◌, ℕ, ◌+◌, Bool, true, false, List, [], ◌∷◌, ◌++◌, append-nil, append_assoc, refl, ap, ◌∙◌, sym, arith}
 use Rattle.std.specs.Prelude.{min}
 use Rattle.std.specs.List.{All}
 use Rattle.std.proofs.lemmas.List.Elements.{All-nil, All-cons, All-append}
@@ -21,7 +21,7 @@ use Rattle.buffer_sync.specs.declared.syncing.SyncOnly.TheVariants.{Needed}
 use Rattle.buffer_sync.specs.declared.syncing.Synced.{Synced}
 use Rattle.buffer_sync.specs.declared.syncing.Synced.TheVariants.{Skipped, Clean, Written}
 use Rattle.buffer_sync.specs.Syncs.{SyncsFrame, pages_written}
-use Rattle.checkpointer.specs.Stages.{IsFlush, FlushesPages, answered_count, pages_by}
+use Rattle.checkpointer.specs.Stages.{IsFlush, FlushesPages, pages_by}
 
 writes_append : (xs ys : List DeviceCall) → pages_written (xs ++ ys) ≡ pages_written xs + pages_written ys
 writes_append [] ys = omega arith

@@ -1,23 +1,20 @@
 -- Why a checkpoint stops, and when it doesn't.
-use Rattle.std.proofs.Common.{◌≡◌, ℕ, ◌≤◌, ◌+◌, Err, refl, sym, ap, ◌∙◌, arith}
+use Rattle.std.proofs.Common.{◌≡◌, ℕ, ◌+◌, Err, refl, sym, ap, ◌∙◌, arith}
 use Rattle.std.specs.Prelude.{Option, min}
-use Rattle.block_tag.specs.declared.tag.Tag.{Tag}
 use Rattle.segment_store.specs.Contents.{Pages}
 use Rattle.frame_table.specs.declared.table.FrameTable.{FrameTable}
 use Rattle.frame_table.specs.Seats.{OnlyRises}
 use Rattle.frame_table.proofs.Rising.{rises_none, rises_on}
-use Rattle.buffer_frames.specs.Flushing.{EndedInError, met_flushing, met_refused}
+use Rattle.buffer_frames.specs.Flushing.{EndedInError, met_refused}
 use Rattle.buffer_sync.specs.declared.syncing.SyncOnly.TheVariants.{Needed}
-use Rattle.buffer_sync.specs.declared.syncing.Synced.{Synced}
 use Rattle.buffer_sync.specs.Syncs.{SyncsFrame}
 use Rattle.backend_pass.specs.declared.errors.FlushError.{FlushError}
 use Rattle.backend_pass.specs.declared.manager.Manager.{Manager}
-use Rattle.backend_pass.specs.FrameFlushes.{WasWithin, frame_refusal}
-use Rattle.backend_pass.specs.Managers.{Belongs}
-use Rattle.backend_pass.specs.Passes.{KeepsCallers, KeepsMark, PassState, SamePass}
+use Rattle.backend_pass.specs.FrameFlushes.{frame_refusal}
+use Rattle.backend_pass.specs.Passes.{KeepsMark, PassState}
 use Rattle.backend_pass.specs.Reading.{NothingFails}
-use Rattle.checkpointer.specs.Refusals.{StopsAtFrame, StopsWriting}
-use Rattle.checkpointer.specs.Stages.{FlushesPages, KeepsBackend, WritesMarked}
+use Rattle.checkpointer.specs.Refusals.{StopsWriting}
+use Rattle.checkpointer.specs.Stages.{KeepsBackend, WritesMarked}
 use Rattle.checkpointer.proofs.Flushing.{flushes_none, flushes_on, made_none}
 use Rattle.checkpointer.proofs.Keeping.{keeps_on}
 

@@ -14,7 +14,7 @@ use Rattle.backend_pass.specs.Closing.{HasSwept}
 use Rattle.checkpointer.specs.Checkpoints.{AreDurable, StoresUpTo}
 
 module _ (lanes lane : ℕ) (w : View) (l : LeavesLane lanes lane w) where
-  s : State
+  abbrev s : State
   s = l.did.state
 
   -- what was swept, and flushed, as the latch was left

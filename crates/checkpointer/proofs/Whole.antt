@@ -1,11 +1,9 @@
 -- A checkpoint from its begin to its end.
-use Rattle.std.proofs.Common.{◌≡◌, ℕ, ◌+◌, ◌≤◌, true, List, [], ◌∷◌, ◌++◌, append_assoc, refl, sym, ap, ◌∙◌, subst, arith}
-use Rattle.std.specs.Prelude.{Err, Option, min}
+use Rattle.std.proofs.Common.{◌≡◌, ℕ, ◌+◌, ◌≤◌, true, [], refl, sym, ap, ◌∙◌, subst, arith}
+use Rattle.std.specs.Prelude.{Option, min}
 use Rattle.segment_store.specs.Contents.{Pages}
-use Rattle.pin_core.specs.declared.view.DeviceCall.{DeviceCall}
 use Rattle.pin_core.specs.declared.view.Met.{Met}
 use Rattle.pin_core.specs.declared.view.View.{View}
-use Rattle.pin_core.specs.State.{link}
 use Rattle.frame_table.specs.Seats.{OnlyRises, frames_of, lanes_in}
 use Rattle.frame_table.specs.WordSteps.{DidWord, begin_checkpoint, view_of}
 use Rattle.frame_table.proofs.Rising.{rises_on}
@@ -15,22 +13,20 @@ use Rattle.wal_flush.specs.declared.flushes.FlushedBy.{FlushedBy}
 use Rattle.wal_flush.specs.declared.flushes.FlushedBy.TheVariants as flushed_by
 use Rattle.wal_flush.specs.Flushes.{FlushRefused, FlushSeesEnd, as_looked, flushed_view, unflushed_view}
 use Rattle.buffer_frames.specs.Flushing.{met_refused, syncs_refused}
-use Rattle.buffer_frames.specs.Working.{Made, met_write}
+use Rattle.buffer_frames.specs.Working.{Made}
 use Rattle.backend_pass.specs.declared.errors.FlushError.{FlushError}
 use Rattle.backend_pass.specs.declared.errors.FlushError.TheVariants as flush
 use Rattle.backend_pass.specs.declared.manager.Manager.{Manager}
-use Rattle.backend_pass.specs.declared.marked.MarkedFrame.{MarkedFrame}
 use Rattle.backend_pass.specs.Closing.{HasSwept}
 use Rattle.backend_pass.specs.FrameFlushes.{frame_refusal}
 use Rattle.backend_pass.specs.Managers.{Belongs}
 use Rattle.backend_pass.specs.Passes.{KeepsCallers, PassState, SamePass}
 use Rattle.backend_pass.proofs.Seated.{same_on}
-use Rattle.checkpointer.specs.declared.ending.Checkpoint.{Checkpoint}
 use Rattle.checkpointer.specs.declared.ending.CheckpointError.TheVariants.{SyncFault}
 use Rattle.checkpointer.specs.Checkpoints.{Begins, Completes}
 use Rattle.checkpointer.specs.Marked.{HasNoneLeft}
-use Rattle.checkpointer.specs.Refusals.{IsDownOrFault, Stops, StopsAtFrame, StopsAtLane, StopsAtLog, StopsSyncing, StopsWriting, at_frame, at_lane, at_log, met_stopping, refusal_of_flush, refusal_of_log}
-use Rattle.checkpointer.specs.Stages.{FlushesPages, KeepsBackend, MarksFrames, SyncsLanes, WritesMarked}
+use Rattle.checkpointer.specs.Refusals.{IsDownOrFault, Stops, StopsSyncing, StopsWriting, at_frame, at_lane, at_log, met_stopping, refusal_of_flush, refusal_of_log}
+use Rattle.checkpointer.specs.Stages.{FlushesPages, MarksFrames, SyncsLanes, WritesMarked}
 use Rattle.checkpointer.proofs.Flushing.{flushes_log, flushes_none, flushes_on, made_none, made_on}
 use Rattle.checkpointer.proofs.Keeping.{callers_on, marks_listed}
 use Rattle.checkpointer.proofs.Storing.{stores}

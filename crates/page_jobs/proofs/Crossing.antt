@@ -59,3 +59,7 @@ blocks_shared = search (sendable, crosses, over.crosses) depth 20
 -- what captures five values may be shared where they may
 pub captures_shared : (ν : Sym) (A B C D E : RattleType) → IsSync A → IsSync B → IsSync C → IsSync D → IsSync E → IsSync (TupleAt ν (A ∷ B ∷ C ∷ D ∷ E ∷ []))
 captures_shared ν A B C D E a b c d e = search (sendable, crosses) depth 20
+
+-- what captures six values may be handed over where they may
+pub captures_sent : (ν : Sym) (A B C D E F : RattleType) → IsSend A → IsSend B → IsSend C → IsSend D → IsSend E → IsSend F → IsSend (TupleAt ν (A ∷ B ∷ C ∷ D ∷ E ∷ F ∷ []))
+captures_sent ν A B C D E F a b c d e f = search (sendable, crosses) depth 20

@@ -16,14 +16,18 @@ use Rattle.table_rule.specs.Shows.{Devices}
 use Rattle.wal_flush.specs.declared.inserts.InsertError.{InsertError}
 use Rattle.wal_flush.specs.declared.inserts.InsertError.TheVariants as put
 use Rattle.buffer_frames.specs.Puts.{RefusalShows}
+use Rattle.backend_pass.specs.declared.errors.FlushError.{FlushError}
+use Rattle.backend_pass.specs.declared.errors.FlushError.TheVariants as flush
 use Rattle.backend_pass.specs.declared.errors.ReadError.{ReadError}
 use Rattle.backend_pass.specs.declared.errors.ReadError.TheVariants as read
 use Rattle.backend_pass.specs.declared.manager.Manager.{Manager}
 use Rattle.backend_pass.specs.Closing.{ClosesAll}
+use Rattle.backend_pass.specs.FrameFlushes.{RefusesFrame}
 use Rattle.backend_pass.specs.Passes.{PassState}
 use Rattle.backend_pass.specs.Reading.{ReadingRefused}
 use Rattle.page_jobs.specs.declared.ending.JobError.{JobError}
 use Rattle.page_jobs.specs.declared.ending.JobError.TheVariants.{LogDown, LogFault}
+use Rattle.page_jobs.specs.Beside.{fault_of_flush}
 use Rattle.page_jobs.specs.Jobs.{workers_in}
 use Rattle.page_jobs.specs.Reads.{fault_of_refusal}
 use Rattle.page_jobs.specs.RewriteJobs.{EndsRewrite, FailsFirst}
@@ -68,6 +72,12 @@ module _ {L G : Type 0} (contents : L → Option Pages) (m : Manager L G) where
   read_down tag p q (read.LogShort lsn end) e is of_log x = absurd (let no : false ≡ true = ap may_be_of_log is ∙ of_log in cc)
   read_down tag p q (read.Unsound failed) e is of_log x = absurd (let no : false ≡ true = ap may_be_of_log is ∙ of_log in cc)
 
+  write_down : (p q : PassState) (why : FlushError) (e : JobError) → fault_of_flush why ≡ e → is_of_log e ≡ true → RefusesFrame contents m.table p q why → q.view.saw_down ≡ true
+  write_down p q (flush.WriteFault tag) e is of_log x = absurd (let no : false ≡ true = ap is_of_log is ∙ of_log in cc)
+  write_down p q flush.LogFault e is of_log x = x.refused.answer.work.shows
+  write_down p q (flush.LogDown at) e is of_log x = x.refused.answer.work.shows.2
+  write_down p q (flush.LogShort lsn end) e is of_log x = absurd (let no : false ≡ true = ap is_of_log is ∙ of_log in cc)
+
   module _ (rel : ℕ) (fork : Fork) where
     saw_first : (workers number : ℕ) (ps qs : List PassState) (e : JobError) → is_of_log e ≡ true → FailsFirst contents m rel fork workers number ps qs e → SawDown qs
     saw_first workers number [] [] e of_log fails = absurd fails
@@ -79,10 +89,13 @@ module _ {L G : Type 0} (contents : L → Option Pages) (m : Manager L G) where
 
     pub saw_down : (ps qs : List PassState) (e : JobError) → is_of_log e ≡ true → EndsRewrite contents m rel fork ps qs e → SawDown qs
     saw_down ps qs e of_log (inl memory) = absurd (let no : false ≡ true = sym (ap is_of_log memory) ∙ of_log in cc)
-    saw_down ps qs e of_log (inr fails) = saw_first (length ps) 0 ps qs e of_log fails
+    saw_down ps qs e of_log (inr (inl fails)) =
+        let x = saw_first (length (workers_in ps)) 0 (workers_in ps) (workers_in qs) e of_log fails in
+        record { place = x.place; pass = x.pass; is = taken_from (length qs - 1) x.place qs x.pass x.is; down = x.down }
+    saw_down ps qs e of_log (inr (inr last)) = let x = last.1 in record { place = length ps - 1; pass = x.after; is = x.is; down = write_down x.before x.after x.refused.why e x.refused.fault of_log x.refused.refuses }
 
 -- the passes of a rewrite are given back as it ended: the log has failed since it was opened
-pub risen_at_close : {L G : Type 0} (d : Devices L G) (o : Opening L G) (qs : List PassState) (lanes : List L) (log : G) → SawDown (workers_in qs) → ClosesAll d o qs lanes log → HasRisen (d.log_faults o.log.value) (d.log_faults log)
+pub risen_at_close : {L G : Type 0} (d : Devices L G) (o : Opening L G) (qs : List PassState) (lanes : List L) (log : G) → SawDown qs → ClosesAll d o qs lanes log → HasRisen (d.log_faults o.log.value) (d.log_faults log)
 risen_at_close d o qs lanes log x c =
-    let risen = (c.each x.place x.pass (taken_from (length qs - 1) x.place qs x.pass x.is)).down x.down in
+    let risen = (c.each x.place x.pass x.is).down x.down in
     subst (λ (n : ℕ). HasRisen (d.log_faults o.log.value) n) c.device.faults (subst (λ (n : ℕ). HasRisen n c.state.device.faults) c.opened.log_faults risen)

@@ -18,6 +18,8 @@ use Rattle.frame_table.specs.Seats.{base_of}
 use Rattle.wal_flush.specs.declared.inserts.InsertError.{InsertError}
 use Rattle.wal_flush.specs.declared.inserts.InsertError.TheVariants as put
 use Rattle.buffer_frames.specs.Puts.{RefusalShows}
+use Rattle.backend_pass.specs.declared.errors.FlushError.{FlushError}
+use Rattle.backend_pass.specs.declared.errors.FlushError.TheVariants as flush
 use Rattle.backend_pass.specs.declared.errors.ReadError.{ReadError}
 use Rattle.backend_pass.specs.declared.errors.ReadError.TheVariants as read
 use Rattle.backend_pass.specs.declared.manager.Manager.{Manager}
@@ -27,6 +29,7 @@ use Rattle.backend_pass.specs.Passes.{PassState}
 use Rattle.backend_pass.proofs.Joining.{first_here, first_past, others_here, others_past}
 use Rattle.page_jobs.specs.declared.ending.JobError.{JobError}
 use Rattle.page_jobs.specs.declared.ending.JobError.TheVariants.{LogFull}
+use Rattle.page_jobs.specs.Beside.{fault_of_flush}
 use Rattle.page_jobs.specs.Jobs.{workers_in}
 use Rattle.page_jobs.specs.Parts.{blocks_in}
 use Rattle.page_jobs.specs.Reads.{fault_of_refusal}
@@ -103,7 +106,7 @@ writes_ordered : (zs : List PassState) → writes_in (calls_in_order zs) ≡ wri
 writes_ordered [] = refl
 writes_ordered (z ∷ zs) = writes_next (is_first z) z zs refl (writes_ordered zs)
 
--- no refusal of a read is for a full log, and one of a put shows it
+-- no refusal of a read or a write is for a full log, and one of a put shows it
 never_read : (why : ReadError) (end : ℕ) → fault_of_refusal why ≡ Some (LogFull end) → ⊥
 never_read (read.PastEnd block blocks) end e = absurd (cc e)
 never_read read.PinsFull end e = absurd (cc e)
@@ -114,6 +117,12 @@ never_read read.LogFault end e = absurd (cc e)
 never_read (read.LogDown at) end e = absurd (cc e)
 never_read (read.LogShort lsn last) end e = absurd (cc e)
 never_read (read.Unsound tag) end e = absurd (cc e)
+
+never_flush : (why : FlushError) (end : ℕ) → fault_of_flush why ≡ LogFull end → ⊥
+never_flush (flush.WriteFault tag) end e = absurd (cc e)
+never_flush flush.LogFault end e = absurd (cc e)
+never_flush (flush.LogDown at) end e = absurd (cc e)
+never_flush (flush.LogShort lsn last) end e = absurd (cc e)
 
 abbrev full_end : JobError → ℕ
 full_end (LogFull end) = end
@@ -146,9 +155,10 @@ module _ {L G : Type 0} (contents : L → Option Pages) (m : Manager L G) (rel :
   refused_at workers number (p ∷ ps) (q ∷ qs) end (inl (inr unput)) = record { place = zero; before = p; after = q; was = refl; is = refl; unput = unput }
   refused_at workers number (p ∷ ps) (q ∷ qs) end (inr later) = let x = refused_at workers (number + 1) ps qs end later.1 in record { place = suc x.place; before = x.before; after = x.after; was = x.was; is = x.is; unput = x.unput }
 
-  refused_in : (ps qs : List PassState) (end : ℕ) → EndsRewrite contents m rel fork ps qs (LogFull end) → RefusedAt ps qs (LogFull end)
+  refused_in : (ps qs : List PassState) (end : ℕ) → EndsRewrite contents m rel fork ps qs (LogFull end) → RefusedAt (workers_in ps) (workers_in qs) (LogFull end)
   refused_in ps qs end (inl memory) = absurd (cc memory)
-  refused_in ps qs end (inr fails) = refused_at (length ps) 0 ps qs end fails
+  refused_in ps qs end (inr (inl fails)) = refused_at (length (workers_in ps)) 0 (workers_in ps) (workers_in qs) end fails
+  refused_in ps qs end (inr (inr last)) = let x = last.1.refused in absurd (never_flush x.why end x.fault)
 
   -- that pass's last call is a read
   last_read : (from to : ℕ) (os : List Outcome) (p q : PassState) (e : JobError) → RewritesBlocks contents m rel fork from to os p q → PutIsRefused contents m rel fork p q e → total outcome_weight os < length os
@@ -164,7 +174,7 @@ module _ {L G : Type 0} (d : Devices L G) (m : Manager L G) (rel : ℕ) (fork : 
   t = all_parted d.contents m rel fork ⊥ ps qs zs outcomes x.alone x.alone.parts.listed (λ w p q os at there of. (x.alone.parts.each w p q os at there of, λ no. absurd no))
 
   refusal : RefusedAt d.contents m rel fork (workers_in ps) (workers_in qs) (LogFull end)
-  refusal = refused_in d.contents m rel fork (workers_in ps) (workers_in qs) end x.ends
+  refusal = refused_in d.contents m rel fork ps qs end x.ends
 
   writes_all : writes_in (calls_in_order zs) ≡ total outcome_weight (outcomes_in_all outcomes)
   writes_all = writes_ordered zs ∙ ap writes_in (all_calls (rule_of rel fork) zs t.parts t.have) ∙ writes_are (rule_of rel fork) t.parts t.reads ∙ ap (total outcome_weight) t.dones

@@ -67,7 +67,7 @@ module _ {L G : Type 0} (contents : L → Option Pages) (m : Manager L G) (rel :
   -- It ended early, for this reason, and the passes have seen since then what they had seen, and maybe more
   pub record RewritesAndEnds (ps qs zs : List PassState) (e : JobError) : Type 0 where
     pub alone : RewritesAlone ps qs zs
-    pub ends : EndsRewrite contents m rel fork (workers_in ps) (workers_in qs) e
+    pub ends : EndsRewrite contents m rel fork ps qs e
     pub rises : (i : ℕ) (q z : PassState) → get_elem? qs i ≡ some q → get_elem? zs i ≡ some z → OnlyRises q.view z.view
 
 module _ {L G : Type 0} (d : Devices L G) (o : Opening L G) (lanes : List L) where

@@ -1,10 +1,8 @@
-use Rattle.std.proofs.Common.{◌≡◌, ℕ, ap, refl, subst, sym, arith}
-use Rattle.std.proofs.Common.{length}
+use Rattle.std.proofs.Common.{refl, subst, sym}
 use Rattle.frame_table.specs.Seats.{frames_of}
-use Rattle.backend_pass.specs.Passes.{PassState}
-use Rattle.checkpointer.specs.Marked.{AreInside, AreMarked}
+use Rattle.checkpointer.specs.Marked.{AreMarked}
 use Rattle.checkpointer.proofs.Keeping.{marks_as, marks_needed, marks_on}
-use Rattle.checkpointer.proofs.MarkedFrames.{marked_clean, noted_inside, noted_marked, noted_others, noted_passed, noted_room}
+use Rattle.checkpointer.proofs.MarkedFrames.{marked_clean, noted_inside, noted_marked}
 use Rattle.checkpointer.proofs.marking.mark_frame.Goals as goal
 
 pub returns-in_default-clause-marks : goal.returns-in_default-clause-marks

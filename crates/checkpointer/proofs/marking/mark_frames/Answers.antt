@@ -1,10 +1,9 @@
-use Rattle.std.proofs.Common.{◌≡◌, ℕ, length, ap, refl, subst, sym, arith}
-use Rattle.pin_core.specs.declared.view.View.{View}
+use Rattle.std.proofs.Common.{ap, subst, sym}
 use Rattle.frame_table.specs.Seats.{frames_of}
 use Rattle.backend_pass.specs.Passes.{PassState}
-use Rattle.checkpointer.specs.Marked.{AreInside, AreMarked, HasPassed}
-use Rattle.checkpointer.proofs.Keeping.{marks_as, marks_none, marks_on}
-use Rattle.checkpointer.proofs.MarkedFrames.{inside_moved, inside_none, marked_moved, marked_none, passed_more, passed_none}
+use Rattle.checkpointer.specs.Marked.{AreMarked}
+use Rattle.checkpointer.proofs.Keeping.{marks_on}
+use Rattle.checkpointer.proofs.MarkedFrames.{inside_moved, marked_moved, passed_more}
 use Rattle.checkpointer.proofs.marking.mark_frames.Goals as goal
 
 pub loop-frame-preserved : goal.loop-frame-preserved

@@ -1,7 +1,7 @@
 use Rattle.std.proofs.Common.{ap, ◌∙◌, arith}
 use Rattle.checkpointer.specs.Stages.{pages_by}
-use Rattle.checkpointer.proofs.Keeping.{writes_none, writes_on, writes_synced}
-use Rattle.checkpointer.proofs.MarkedFrames.{notes_at, notes_none, notes_on}
+use Rattle.checkpointer.proofs.Keeping.{writes_on, writes_synced}
+use Rattle.checkpointer.proofs.MarkedFrames.{notes_at, notes_on}
 use Rattle.checkpointer.proofs.Stopping.{fails_later, stops_first, stops_on}
 use Rattle.checkpointer.proofs.writing.write_frame.Goals as goal
 

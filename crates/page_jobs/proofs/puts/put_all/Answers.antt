@@ -5,7 +5,7 @@ use Rattle.std.proofs.lemmas.Result.{err_from_is_err_and}
 use Rattle.page_layout.specs.declared.scan.ScanTotals.{ScanTotals}
 use Rattle.page_jobs.specs.Dealt.{job_text, job_totals}
 use Rattle.page_jobs.specs.Printed.{totals_line}
-use Rattle.page_jobs.proofs.Texts.{put_twice, stopped_after, stopped_in, text_first, text_last}
+use Rattle.page_jobs.proofs.Texts.{put_twice, stopped_after, stopped_at, stopped_in, text_first, text_last}
 use Rattle.page_jobs.proofs.puts.put_all.Goals as goal
 
 pub returns-in_err-put_texts-clause-text : goal.returns-in_err-put_texts-clause-text
@@ -15,6 +15,12 @@ returns-in_err-put_texts-clause-text g c =
     let line = totals_line (job_totals ws) in
     let f = text_first line ws in
     rw p.1 (stopped_in (job_text line ws) (job_text [] ws) f.0 (g.O.Sink.bytes c.args.out.now) (g.O.Sink.bytes c.put_texts.new.out) c.in_err-put_texts.field-0.0 p.0 f.1 c.in_err-put_texts.ensures.text)
+
+pub returns-in-Err-clause-text : goal.returns-in-Err-clause-text
+returns-in-Err-clause-text g c =
+    let ws = c.args.workers.now in
+    let line = totals_line (job_totals ws) in
+    stopped_at (job_text line ws) (job_text [] ws) line (g.O.Sink.bytes c.args.out.now) (g.O.Sink.bytes c.put_texts.new.out) _ (text_last line ws c.in_ok-put_texts.ensures.ok.1) c.in_ok-put_texts.ensures.text.ok
 
 pub returns-in_err-put_totals-clause-text : goal.returns-in_err-put_totals-clause-text
 returns-in_err-put_totals-clause-text g c =

@@ -1,4 +1,4 @@
-use Rattle.std.proofs.Common.{rules, ℕ, sym, subst}
+use Rattle.std.proofs.Common.{rules, ℕ, inl, sym, subst}
 use Rattle.atomic_table.proofs.Lists.{at_index}
 use Rattle.page_layout.specs.Outcomes.{IsRewriteWithin}
 use Rattle.page_jobs.proofs.RewriteTotals.{first_here, first_next, rewrite_counted_at, rewritten_few, rewritten_next}
@@ -18,7 +18,7 @@ add-requires-clause-room c =
 pub returns-in-Err-clause-cause : goal.returns-in-Err-clause-cause
 returns-in-Err-clause-cause c =
     let w = c.worker-item.result in
-    c.loop-worker.invariant.first _ (first_here c.args.workers.now c.loop-worker.worker-index w _ (at_index c.args.workers.now c.loop-worker.worker-index w (search rules) c.worker-item.is) c.in-Err.is)
+    inl (c.loop-worker.invariant.first _ (first_here c.args.workers.now c.loop-worker.worker-index w _ (at_index c.args.workers.now c.loop-worker.worker-index w (search rules) c.worker-item.is) c.in-Err.is))
 
 pub loop-worker-preserved : goal.loop-worker-preserved
 loop-worker-preserved c =
