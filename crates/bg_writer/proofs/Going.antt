@@ -1,21 +1,18 @@
 -- A round goes on.
-use Rattle.std.proofs.Common.{◌≡◌, ◌≢◌, ◌⊎◌, ℕ, ◌+◌, ◌<◌, ◌≤◌, ◌%◌, Bool, true, false, List, [], ◌∷◌, ◌++◌, length, Option, Result, Ok, Err, IsOk, inl, inr, refl, sym, ap, ◌∙◌, subst, length-append, append_assoc, arith}
+use Rattle.std.proofs.Common.{◌≡◌, ◌≢◌, ◌⊎◌, ℕ, ◌+◌, ◌<◌, ◌≤◌, ◌%◌, Bool, true, false, List, [], ◌∷◌, ◌++◌, length, Option, Ok, Err, refl, sym, ap, ◌∙◌, subst, length-append, arith}
 use Rattle.std.specs.List.{All}
 use mathlib.Core.Logic.{dite}
 use native.Mathlib.Decide.{ℕ_discrete}
 use Rattle.std.proofs.lemmas.List.Elements.{All-cons, All-head, All-nil, All-tail}
-use Rattle.block_tag.specs.declared.tag.Tag.{Tag}
 use Rattle.segment_store.specs.Contents.{Pages}
 use Rattle.pin_core.specs.declared.view.DeviceCall.{DeviceCall}
 use Rattle.pin_core.specs.declared.view.DeviceCall.TheVariants.{LaneRead, LaneWrite, LaneSync, LogAppend, LogSync}
 use Rattle.pin_core.specs.declared.view.View.{View}
 use Rattle.pin_core.specs.State.{Page, link}
 use Rattle.frame_table.specs.declared.table.FrameTable.{FrameTable}
-use Rattle.frame_table.specs.Seats.{OnlyRises, frames_of, lanes_in, relations_of}
+use Rattle.frame_table.specs.Seats.{frames_of}
 use Rattle.frame_table.specs.WordSteps.{DidWord, load_hand, view_of}
 use Rattle.clock_sweep.specs.Keeping.{SamePins}
-use Rattle.held_pins.specs.Rests.{SameLocks}
-use Rattle.held_pins.proofs.Keeping.{same_locks_on}
 use Rattle.buffer_frames.specs.Flushing.{WentToLane, log_syncs, met_flushing}
 use Rattle.buffer_frames.specs.Working.{IsFlushCall, KeepsNotes, Made}
 use Rattle.buffer_frames.proofs.Notes.{notes_on, notes_same}
@@ -31,8 +28,7 @@ use Rattle.backend_pass.specs.Managers.{Belongs}
 use Rattle.backend_pass.specs.Passes.{KeepsCallers, KeepsMark, PassState, SamePass}
 use Rattle.backend_pass.specs.Reading.{NothingFails}
 use Rattle.backend_pass.proofs.Seated.{same_on}
-use Rattle.bg_writer.specs.declared.reports.Round.{Round}
-use Rattle.bg_writer.specs.Rounds.{EndsRound, Looked, Rounds, StopsRound, next, none, pages_of, pages_of_all}
+use Rattle.bg_writer.specs.Rounds.{Looked, Rounds, next, none, pages_of, pages_of_all}
 
 -- calls of devices, one after another
 pages_both : (a b : List DeviceCall) → pages_written (a ++ b) ≡ pages_written a + pages_written b
@@ -91,7 +87,7 @@ pub callers_on : (p q r : PassState) → KeepsCallers p q → KeepsCallers q r �
 callers_on p q r a b x y = record {
   keeps = (same_on p q r x y).keeps;
   tokens = b.tokens ∙ a.tokens;
-  locks = same_locks_on p.view q.view r.view a.locks b.locks;
+  locks = λ f. b.locks f ∙ a.locks f;
   census = b.census ∙ a.census;
   calls = record { calls = b.calls.calls ∙ a.calls.calls; front = b.calls.front ∙ a.calls.front; place_loads = b.calls.place_loads ∙ a.calls.place_loads };
 }

@@ -1,5 +1,4 @@
-use Rattle.std.proofs.Common.{◌≡◌, ◌≢◌, ◌∙◌, ◌+◌, ◌%◌, ℕ, refl, sym, ap, subst, arith}
-use Rattle.frame_table.specs.Seats.{frames_of}
+use Rattle.std.proofs.Common.{◌∙◌, ◌+◌, ◌%◌, ℕ, sym, ap, subst, arith}
 use Rattle.pin_core.specs.State.{link}
 use Rattle.buffer_frames.proofs.Notes.{notes_on}
 use Rattle.backend_pass.proofs.Seated.{same_on}
