@@ -1,6 +1,7 @@
 -- What threads share: a manager over the devices of these tests, and plain values.
 use mathlib.Core.List.{[], ◌∷◌}
 use mir.Syntax.{Sym}
+use denote.RattleType.{RattleType}
 use denote.Struct.Tuple.{TupleAt}
 use denote.Param.Send.{IsSend, IsSync, sendable}
 use Rattle.std.proofs.Crossing.{crosses, frees}
@@ -13,6 +14,7 @@ use Rattle.table_tests.proofs.Crossing.{shared_sync, lease_sync}
 use Rattle.sync_tests.specs.contracts.devices.PageLane as lane
 use Rattle.sync_tests.specs.contracts.devices.ByteLog as log
 use Rattle.sync_tests.specs.contracts.sharing.Use as uses
+use Rattle.sync_tests.specs.contracts.sharing.Job as jobs
 
 lanes_cross : IsSend lane.the_row
 lanes_cross = search (sendable, crosses, over.crosses) depth 30 fits 20000
@@ -29,5 +31,9 @@ managers_shared a b = search (sendable, crosses, over.crosses, values_cross, sha
 pub uses_shared : IsSync uses.the_row
 uses_shared = search (sendable, crosses, over.crosses) depth 20
 
-pub two_uses_shared : (ν : Sym) → IsSync (TupleAt ν (uses.the_row ∷ uses.the_row ∷ []))
-two_uses_shared ν = search (sendable, crosses, uses_shared) depth 20
+pub jobs_shared : IsSync jobs.the_row
+jobs_shared = search (sendable, crosses, over.crosses) depth 20
+
+-- what captures four values may cross threads where they may
+pub four_sent : (ν : Sym) (A B C D : RattleType) → IsSend A → IsSend B → IsSend C → IsSend D → IsSend (TupleAt ν (A ∷ B ∷ C ∷ D ∷ []))
+four_sent ν A B C D a b c d = search (sendable, crosses) depth 20

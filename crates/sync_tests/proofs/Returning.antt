@@ -2,7 +2,6 @@
 use Rattle.std.proofs.Common.{◌≡◌, ◌<◌, ◌∙◌, ℕ, List, [], ◌∷◌, ◌++◌, length, Bool, true, false, if◌then◌else◌, nat_eq, Option, refl, sym, ap, subst, arith}
 use mathlib.Core.Option.{some}
 use lib.ListN.{get_elem?}
-use Rattle.block_tag.specs.declared.tag.Fork.{Fork}
 use Rattle.segment_store.specs.Contents.{Pages}
 use Rattle.pin_core.specs.declared.view.Link.{Link}
 use Rattle.pin_core.specs.declared.view.View.{View}

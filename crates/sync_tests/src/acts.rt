@@ -1,5 +1,4 @@
 //! What three passes do one after another, and what comes of it.
-ghost use Rattle.std.specs.Prelude.{◌≡◌};
 ghost use Rattle.manager_tests.specs.Bench.{IsFree};
 ghost use Rattle.sync_tests.specs.Idle.{IsIdle};
 

@@ -1,6 +1,4 @@
 //! Devices that tell which calls were made, and in which order.
-ghost use Rattle.std.specs.Prelude.{◌≡◌, ◌+◌};
-
 use block_tag::Tag;
 use log_device::{CallCount, Failed, FaultCount, LogDevice};
 use page_layout::Page;
