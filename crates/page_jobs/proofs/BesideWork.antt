@@ -12,11 +12,11 @@ use Rattle.backend_pass.specs.declared.errors.FlushError.TheVariants as flush
 use Rattle.backend_pass.specs.declared.manager.Manager.{Manager}
 use Rattle.backend_pass.specs.FrameFlushes.{RefusesFrame}
 use Rattle.backend_pass.specs.Managers.{Belongs}
-use Rattle.backend_pass.specs.Passes.{KeepsCallers, KeepsMark, PassState, SamePass}
+use Rattle.backend_pass.specs.Passes.{KeepsCallers, PassState}
 use Rattle.page_jobs.specs.declared.ending.JobError.{JobError}
 use Rattle.page_jobs.specs.declared.ending.JobError.TheVariants.{LogDown, Memory, OutFault}
 use Rattle.page_jobs.specs.declared.ending.Totals.{Totals}
-use Rattle.page_jobs.specs.Beside.{EndsBeside, LastIsRefused, StaysBeside, WorkIsRefused, WorksBeside, fault_of_flush}
+use Rattle.page_jobs.specs.Beside.{LastIsRefused, StaysBeside, WorkIsRefused, WorksBeside, fault_of_flush}
 use Rattle.page_jobs.specs.declared.printing.Lines.{Lines}
 use Rattle.page_jobs.specs.Jobs.{AnyMeets, EndsJob, ReadsAll, workers_in}
 use Rattle.page_jobs.specs.Relations.{MeetNothing}

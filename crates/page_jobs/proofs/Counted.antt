@@ -52,8 +52,18 @@ module _ {L G : Type 0} (d : Devices L G) (o : Opening L G) (ps : List PassState
         some_counted lanes c.state.lanes d.read_faults (λ q. (c.state.lane q).read_faults_at_start) (λ q. (c.state.lane q).read_faults) many
         (λ q l at. (c.lane q l at).reads) reads_start r.0 r.1 r.2
 
-  pub no_write_failed : sum_by d.write_faults o.lanes.value.items ≡ 0 → NothingWritten c.state ps → sum_by d.write_faults lanes ≡ 0
-  no_write_failed none w = none_counted lanes c.state.lanes d.write_faults (λ q. (c.state.lane q).write_faults_at_start) (λ q. (c.state.lane q).write_faults) many
-      (λ q l at. (c.lane q l at).writes)
-      (λ q below. let l = opened_at q below in c.opened.writes q l.0 l.1 ∙ none_at d.write_faults o.lanes.value.items q l.0 none l.1)
-      (λ q below more. let met = w.met in let some_met = c.writes_met q below more in omega arith)
+  module _ (none : sum_by d.write_faults o.lanes.value.items ≡ 0) where
+    writes_start : (q : ℕ) → q < c.state.lanes → (c.state.lane q).write_faults_at_start ≡ 0
+    writes_start q below = let l = opened_at q below in c.opened.writes q l.0 l.1 ∙ none_at d.write_faults o.lanes.value.items q l.0 none l.1
+
+    pub no_write_counted : (met_by_passes ps).writes ≡ 0 → sum_by d.write_faults lanes ≡ 0
+    no_write_counted met = none_counted lanes c.state.lanes d.write_faults (λ q. (c.state.lane q).write_faults_at_start) (λ q. (c.state.lane q).write_faults) many
+        (λ q l at. (c.lane q l at).writes) writes_start (λ q below more. let some_met = c.writes_met q below more in omega arith)
+
+    pub some_write_failed : 0 < (met_by_passes ps).writes → 0 < sum_by d.write_faults lanes
+    some_write_failed met = let r = c.writes_rose met in
+        some_counted lanes c.state.lanes d.write_faults (λ q. (c.state.lane q).write_faults_at_start) (λ q. (c.state.lane q).write_faults) many
+        (λ q l at. (c.lane q l at).writes) writes_start r.0 r.1 r.2
+
+    pub no_write_failed : NothingWritten c.state ps → sum_by d.write_faults lanes ≡ 0
+    no_write_failed w = no_write_counted w.met

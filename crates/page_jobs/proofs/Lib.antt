@@ -8,7 +8,7 @@ mod Texts
 mod Whole
 mod Origin
 mod Crossing
-mod Standing
+pub mod Standing
 pub mod ReadersLeave
 pub mod Backends
 pub mod Counted

@@ -15,7 +15,7 @@ use Rattle.page_jobs.proofs.Standing.{inside, there}
 
 module _ {L G : Type 0} (contents : L → Option Pages) (m : Manager L G) (fork : Fork) (n : ℕ) (ps qs : List PassState) (new : AreNewPasses contents m n ps) (several : 1 < n) where
   module _ (rel : ℕ) (parts : RewriteParts contents m rel fork (workers_in ps) (workers_in qs)) (last : StaysBeside contents m ps qs) where
-    each_given : (i : ℕ) (q : PassState) → get_elem? qs i ≡ some q → IsGiven contents m fork n i q
+    pub each_given : (i : ℕ) (q : PassState) → get_elem? qs i ≡ some q → IsGiven contents m fork n i q
     each_given i q at = let c = came_back contents m ps qs last i q at in
         let fresh = new.each i c.before c.at in ⊎_elim
         (λ (w : WorksBeside contents m c.before q). worked_given contents m fork n i c.before q (new_is_given contents m fork n i c.before fresh) w.same w.belongs.front (w.callers.tokens ∙ fresh.tokens))
