@@ -1,5 +1,5 @@
 -- Lanes and a log that no rewrite was made of.
-use Rattle.std.proofs.Common.{◌≡◌, ℕ, ◌+◌, ◌<◌, ◌≤◌, ◌++◌, append-nil, true, false, List, [], ◌∷◌, length, map, get_or, Option, Some, None, Err, refl, sym, ap, ◌∙◌, subst, inl, unwrap_or, arith}
+use Rattle.std.proofs.Common.{◌≡◌, ℕ, ◌+◌, append-nil, List, [], map, get_or, Option, Some, None, Err, refl, sym, ap, ◌∙◌, inl, unwrap_or, arith}
 use Rattle.std.specs.Prelude.{IsSomeAnd}
 use Rattle.std.specs.Option.{option_and_then}
 use mathlib.Core.Option.{some, some-injective, some-ne-none}

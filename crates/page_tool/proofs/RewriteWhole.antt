@@ -1,25 +1,24 @@
 -- What a whole rewrite leaves of the pages and of the log.
-use Rattle.std.proofs.Common.{◌≡◌, ◌≢◌, ℕ, zero, suc, ◌+◌, ◌-◌, ◌*◌, ◌<◌, ◌≤◌, ◌^◌, ◌⊎◌, Bool, true, false, List, [], ◌∷◌, length, map, if◌then◌else◌, Option, Some, None, refl, sym, ap, ◌∙◌, subst, ⊎_elim, unwrap_or, arith}
+use Rattle.std.proofs.Common.{◌≡◌, ◌≢◌, ℕ, zero, suc, ◌+◌, ◌*◌, ◌<◌, ◌^◌, Bool, true, false, List, [], ◌∷◌, length, map, if◌then◌else◌, Option, Some, None, refl, sym, ap, ◌∙◌, subst, ⊎_elim, unwrap_or, arith}
 use Rattle.std.proofs.lemmas.List.Sums.{sum_by-cons}
 use mathlib.Core.Logic.{dite}
 use mathlib.Core.Option.{some, some-injective}
 use native.Mathlib.Decide.{ℕ_discrete}
 use lib.ListN.{get_elem?}
-use Rattle.segment_store.specs.Contents.{Pages}
 use Rattle.segment_store.specs.Lanes.{page_in, tag_at}
 use Rattle.pin_core.specs.State.{Page}
 use Rattle.page_layout.specs.declared.outcomes.PageRewrite.{PageRewrite}
 use Rattle.page_layout.specs.declared.outcomes.PageRewrite.TheVariants.{Invalid, New, Used}
 use Rattle.page_layout.specs.Fields.{lsn_of}
-use Rattle.page_layout.specs.Outcomes.{is_changed_outcome, page_rewrite_of, rewrite_totals_of}
+use Rattle.page_layout.specs.Outcomes.{is_changed_outcome, page_rewrite_of}
 use Rattle.page_layout.specs.Rewritten.{rewrite_of}
 use Rattle.page_layout.specs.Soundness.{is_new_page, is_sound_page}
 use Rattle.history_core.specs.Device.{HasRisen}
-use Rattle.history_core.specs.Log.{end_of, log_bytes, log_end, record_size}
+use Rattle.history_core.specs.Log.{log_bytes, log_end, record_size}
 use Rattle.history_core.specs.State.{failed, last_count}
 use Rattle.table_rule.specs.Layout.{lane_of_tag}
 use Rattle.table_rule.specs.Shows.{Devices, IsLog, IsPlaced}
-use Rattle.frame_table.specs.Seats.{base_of, lanes_in, opened_of, relations_of}
+use Rattle.frame_table.specs.Seats.{lanes_in, opened_of, relations_of}
 use Rattle.backend_pass.specs.declared.manager.Manager.{Manager}
 use Rattle.backend_pass.specs.Closing.{ClosesAll, met_by_passes}
 use Rattle.backend_pass.specs.Passes.{PassState}
@@ -27,10 +26,8 @@ use Rattle.page_jobs.specs.Parts.{blocks_in}
 use Rattle.page_jobs.specs.RewriteCloses.{HoldEither, HoldRewritten}
 use Rattle.page_jobs.specs.RewriteEnds.{HasEntry, HasRewrites, change_weight, sum_below}
 use Rattle.page_jobs.specs.RewriteEnds as ends
-use Rattle.page_jobs.specs.Rewrites.{Rule, rule_of}
 use Rattle.page_jobs.proofs.Standing.{inside, there}
 use Rattle.page_tool.specs.declared.starting.RelationFork.{RelationFork}
-use Rattle.page_tool.specs.Limits.{largest_lsn}
 use Rattle.page_tool.specs.RewriteResults.{IsLogged, IsRewritten}
 use Rattle.page_tool.specs.RewriteTexts.{changed_pages}
 use Rattle.page_tool.specs.Rewriting.{ArePages, failed_after, pages_after}
