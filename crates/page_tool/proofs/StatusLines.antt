@@ -1,49 +1,86 @@
 -- The line of a refusal is the line of its status.
 use Rattle.std.proofs.Common.{◌≡◌, ℕ, List, [], ◌++◌, Result, Ok, Err, Option, Some, None, refl, sym, ◌∙◌, ap, subst, arith}
-use Rattle.std.specs.Prelude.{option_map}
+use Rattle.std.specs.Prelude.{IsSomeAnd, option_map}
 use Rattle.std.proofs.lemmas.List.{append-nil}
 use Rattle.log_device.specs.declared.device.Failed.{Failed}
 use Rattle.segment_store.specs.Paths.{Paths}
 use Rattle.page_tool.specs.declared.error.ToolError.{ToolError}
-use Rattle.page_tool.specs.declared.error.ToolError.TheVariants.{Usage, Crowded, Missing, ReadFault, OutFault, Memory}
-use Rattle.page_tool.specs.Answers.{Ends, Said, SaysAs, status_line}
-use Rattle.page_tool.specs.Request.{ListingRequest}
+use Rattle.page_tool.specs.declared.error.ToolError.TheVariants.{Usage, Crowded, Missing, ReadFault, WriteFault, LogFault, OutFault, Memory, OverLimit}
+use Rattle.page_tool.specs.declared.limits.PositionLimit.{PositionLimit}
+use Rattle.page_tool.specs.declared.limits.PositionLimit.TheVariants.{OfLog}
+use Rattle.page_tool.specs.Answers.{Ends, FaultCounts, IsOverLimit, Said, SaysAs, SaysStatus, pages_asked, status_line}
+use Rattle.page_tool.specs.Request.{Asked}
 use Rattle.page_tool.specs.Status.{crowded_text, error_line, missing_text, status_of_error, tool_line}
 
-pub line_is : (request : Option ListingRequest) (known : Option Paths) (reads reads_now outs outs_now : ℕ) (error : ToolError)
-    → Ends request known reads reads_now outs outs_now (Err error) → error_line error ≡ status_line request (status_of_error error)
-line_is None known reads reads_now outs outs_now Usage ends = refl
-line_is None known reads reads_now outs outs_now (Crowded crowding) ends = absurd ends
-line_is None known reads reads_now outs outs_now (Missing path) ends = absurd ends
-line_is None known reads reads_now outs outs_now ReadFault ends = absurd ends
-line_is None known reads reads_now outs outs_now OutFault ends = absurd ends
-line_is None known reads reads_now outs outs_now Memory ends = refl
-line_is (Some r) known reads reads_now outs outs_now Usage ends = absurd ends
-line_is (Some r) known reads reads_now outs outs_now (Crowded crowding) ends = ap (λ c. tool_line (crowded_text c)) ends.0
-line_is (Some r) known reads reads_now outs outs_now (Missing path) ends = ap (λ (p : List ℕ). tool_line (missing_text p)) ends.0
-line_is (Some r) known reads reads_now outs outs_now ReadFault ends = refl
-line_is (Some r) known reads reads_now outs outs_now OutFault ends = refl
-line_is (Some r) known reads reads_now outs outs_now Memory ends = refl
+-- the position limit that a refusal names; any where it names none
+abbrev pub limit_of : ToolError → PositionLimit
+limit_of (OverLimit limit) = limit
+limit_of _ = OfLog 0
 
--- the line of want of memory is that of status 8, whatever was asked for
-pub memory_line_is : (request : Option ListingRequest) → error_line Memory ≡ status_line request 8
-memory_line_is None = refl
-memory_line_is (Some r) = refl
+line_is : (request : Option Asked) (known : Option Paths) (old new : FaultCounts) (error : ToolError)
+    → Ends request known old new (Err error) → error_line error ≡ status_line request (limit_of error) (status_of_error error)
+line_is None known old new Usage ends = refl
+line_is None known old new (Crowded crowding) ends = absurd ends
+line_is None known old new (Missing path) ends = absurd ends
+line_is None known old new ReadFault ends = absurd ends
+line_is None known old new WriteFault ends = absurd ends
+line_is None known old new LogFault ends = absurd ends
+line_is None known old new OutFault ends = absurd ends
+line_is None known old new Memory ends = refl
+line_is None known old new (OverLimit limit) ends = absurd ends
+line_is (Some a) known old new Usage ends = absurd ends
+line_is (Some a) known old new (Crowded crowding) ends = ap (λ c. tool_line (crowded_text c)) ends.0
+line_is (Some a) known old new (Missing path) ends = ap (λ (p : List ℕ). tool_line (missing_text p)) ends.0
+line_is (Some a) known old new ReadFault ends = refl
+line_is (Some a) known old new WriteFault ends = refl
+line_is (Some a) known old new LogFault ends = refl
+line_is (Some a) known old new OutFault ends = refl
+line_is (Some a) known old new Memory ends = refl
+line_is (Some a) known old new (OverLimit limit) ends = refl
+
+passed_by : (request : Option Asked) (known : Option Paths) (old new : FaultCounts) (error : ToolError) → Ends request known old new (Err error)
+    → status_of_error error ≡ 9 → IsSomeAnd request (λ a. IsOverLimit (option_map (pages_asked a) known) (limit_of error))
+passed_by None known old new Usage ends nine = absurd (omega arith)
+passed_by None known old new Memory ends nine = absurd (omega arith)
+passed_by None known old new (Crowded crowding) ends nine = absurd ends
+passed_by None known old new (Missing path) ends nine = absurd ends
+passed_by None known old new ReadFault ends nine = absurd ends
+passed_by None known old new WriteFault ends nine = absurd ends
+passed_by None known old new LogFault ends nine = absurd ends
+passed_by None known old new OutFault ends nine = absurd ends
+passed_by None known old new (OverLimit limit) ends nine = absurd ends
+passed_by (Some a) known old new Usage ends nine = absurd ends
+passed_by (Some a) known old new (Crowded crowding) ends nine = absurd (omega arith)
+passed_by (Some a) known old new (Missing path) ends nine = absurd (omega arith)
+passed_by (Some a) known old new ReadFault ends nine = absurd (omega arith)
+passed_by (Some a) known old new WriteFault ends nine = absurd (omega arith)
+passed_by (Some a) known old new LogFault ends nine = absurd (omega arith)
+passed_by (Some a) known old new OutFault ends nine = absurd (omega arith)
+passed_by (Some a) known old new Memory ends nine = absurd (omega arith)
+passed_by (Some a) known old new (OverLimit limit) ends nine = ends.0
 
 -- what was said of a refusal is the line of the status
-pub said_as : (request : Option ListingRequest) (error : ToolError) (old new : Option (List ℕ)) (faults faults_now status : ℕ)
-    → error_line error ≡ status_line request (status_of_error error) → SaysAs error old new faults faults_now status
-    → Said (status_line request status) old new faults faults_now
-said_as request error old new faults faults_now status line says =
-    let same : error_line error ≡ status_line request status = line ∙ ap (λ (n : ℕ). status_line request n) (sym says.status_is) in
-    subst (λ (text : List ℕ). Said text old new faults faults_now) same says.said
+pub said_as : (request : Option Asked) (known : Option Paths) (old new : FaultCounts) (error : ToolError) (bytes bytes_now : Option (List ℕ)) (faults faults_now status : ℕ)
+    → Ends request known old new (Err error) → SaysAs error bytes bytes_now faults faults_now status
+    → SaysStatus request known bytes bytes_now faults faults_now status
+said_as request known old new error bytes bytes_now faults faults_now status ends says =
+    let same : error_line error ≡ status_line request (limit_of error) status =
+    line_is request known old new error ends ∙ ap (λ (n : ℕ). status_line request (limit_of error) n) (sym says.status_is) in
+    record {
+      limit = limit_of error;
+      passed = λ nine. passed_by request known old new error ends (sym says.status_is ∙ nine);
+      said = subst (λ (text : List ℕ). Said text bytes bytes_now faults faults_now) same says.said;
+    }
 
 nothing_more : (old : Option (List ℕ)) → old ≡ option_map (λ (bytes : List ℕ). bytes ++ []) old
 nothing_more None = refl
 nothing_more (Some bytes) = ap (λ (l : List ℕ). Some l) (sym (append-nil bytes))
 
--- nothing is said at status 0
-pub said_nothing : (old : Option (List ℕ)) (faults : ℕ) → Said [] old old faults faults
-said_nothing old faults =
+said_none : (old : Option (List ℕ)) (faults : ℕ) → Said [] old old faults faults
+said_none old faults =
     let all_well : Result Unit Failed = Ok tt in
     (all_well, record { ok = nothing_more old; failed = tt }, record { later = omega arith; ok = refl; failed = tt })
+
+-- nothing is said at status 0
+pub said_nothing : (request : Option Asked) (known : Option Paths) (old : Option (List ℕ)) (faults : ℕ) → SaysStatus request known old old faults faults 0
+said_nothing request known old faults = record { limit = OfLog 0; passed = λ nine. absurd (omega arith); said = said_none old faults }

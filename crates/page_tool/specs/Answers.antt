@@ -90,22 +90,36 @@ IsOverLimit known (OfPages largest blocks) = PassesLimit largest blocks × IfSom
 IsOverLimit known (OfPage lsn end) = (end < lsn) × IfSome known (λ pages. ⊥)
 IsOverLimit known (OfLog end) = (last_position < end + record_size) × IfSome known (λ pages. ⊥)
 
+-- the pages could pass the last log position
+abbrev pub ArePastLimit : List Page → Type 0
+ArePastLimit pages = PassesLimit (largest_lsn pages) (length pages)
+
+-- a rewrite's positions stay below the last one; a listing has none
+abbrev pub HasPositions : Asked → List Page → Type 0
+HasPositions (listing l) pages = Unit {0}
+HasPositions (rewriting r) pages = ¬ ArePastLimit pages
+
+-- the same of the relation that is asked for, where it is known
+abbrev pub HasPositionsAt : Asked → Option Paths → Type 0
+HasPositionsAt a known = IfSome known (λ paths. HasPositions a (pages_asked a paths))
+
 -- the cause of each refusal of a command that isn't crowded
 abbrev pub IsRefusal : Asked → Option Paths → FaultCounts → FaultCounts → ToolError → Type 0
 IsRefusal a known old new Usage = ⊥
 IsRefusal a known old new (Crowded crowding) = (crowding ≡ crowding_of (options_of a)) × IsCrowded (options_of a)
 IsRefusal a known old new (Missing path) = (path.now ≡ path_of a) × IsMissing known (path_of a) × ¬ IsCrowded (options_of a) × (new.reads ≡ old.reads)
 IsRefusal a known old new ReadFault = Rose old.reads new.reads × ¬ IsCrowded (options_of a)
-IsRefusal a known old new WriteFault = Rose old.writes new.writes × IsThere known (path_of a) × ¬ IsCrowded (options_of a) × (is_rewriting a ≡ true)
-IsRefusal a known old new LogFault = Rose old.logs new.logs × IsThere known (path_of a) × ¬ IsCrowded (options_of a) × (is_rewriting a ≡ true)
-IsRefusal a known old new OutFault = Rose old.outs new.outs × IsThere known (path_of a) × ¬ IsCrowded (options_of a)
+IsRefusal a known old new WriteFault = Rose old.writes new.writes × IsThere known (path_of a) × ¬ IsCrowded (options_of a) × (is_rewriting a ≡ true) × HasPositionsAt a known
+IsRefusal a known old new LogFault = Rose old.logs new.logs × IsThere known (path_of a) × ¬ IsCrowded (options_of a) × (is_rewriting a ≡ true) × HasPositionsAt a known
+IsRefusal a known old new OutFault = Rose old.outs new.outs × IsThere known (path_of a) × ¬ IsCrowded (options_of a) × HasPositionsAt a known
 IsRefusal a known old new Memory = Unit {0}
 IsRefusal a known old new (OverLimit limit) = IsOverLimit (option_map (pages_asked a) known) limit × IsThere known (path_of a) × ¬ IsCrowded (options_of a) × (is_rewriting a ≡ true)
 
--- A command that was done: it wasn't crowded, the relation was there, and no count rose
+-- A command that was done: it wasn't crowded, the relation was there, its positions stay below the last one, and no count rose
 pub record IsDone (a : Asked) (known : Option Paths) (old new : FaultCounts) : Type 0 where
   pub roomy : ¬ IsCrowded (options_of a)
   pub there : IsThere known (path_of a)
+  pub positions : HasPositionsAt a known
   pub quiet : new ≡ old
 
 -- how a command ends
@@ -134,10 +148,6 @@ pub record MissingIf (a : Asked) (known : Option Paths) (reads reads_now status 
   pub only : status ≡ 3 → IsMissing known (path_of a) × ¬ IsCrowded (options_of a) × (reads_now ≡ reads)
   pub always : ¬ IsCrowded (options_of a) → IfSome known (λ paths. paths (path_of a) ≡ [] → (status ≡ 3) ⊎ ((status ≡ 8) ⊎ ((status ≡ 4) × Rose reads reads_now)))
 
--- the pages could pass the last log position
-abbrev pub ArePastLimit : List Page → Type 0
-ArePastLimit pages = PassesLimit (largest_lsn pages) (length pages)
-
 -- status 9 comes only for a rewrite of a relation that is there and isn't crowded, whose pages, where they are known, could pass the last position; and always then unless a read failed or memory was short
 pub record LimitIf (a : Asked) (known : Option Paths) (reads reads_now status : ℕ) : Type 0 where
   pub only : status ≡ 9 → (is_rewriting a ≡ true) × ¬ IsCrowded (options_of a) × IfSome known (λ paths. (paths (path_of a) ≢ []) × ArePastLimit (pages_asked a paths))
@@ -162,11 +172,6 @@ pub record CountsBelowLast (old : FaultCounts) : Type 0 where
   pub writes : old.writes < 2 ^ 64 - 1
   pub logs : old.logs < 2 ^ 64 - 1
   pub outs : old.outs < 2 ^ 64 - 1
-
--- a rewrite's positions stay below the last one; a listing has none
-abbrev pub HasPositions : Asked → List Page → Type 0
-HasPositions (listing l) pages = Unit {0}
-HasPositions (rewriting r) pages = ¬ ArePastLimit pages
 
 -- what is owed where no count rose: a relation that is there and isn't crowded is listed, or rewritten where its positions stay below the last one, unless memory was short
 abbrev pub IsComplete : Asked → Option Paths → FaultCounts → FaultCounts → ℕ → Type 0

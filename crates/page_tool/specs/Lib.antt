@@ -10,3 +10,4 @@ pub mod RewriteFiles
 pub mod Causes
 pub mod Status
 pub mod Answers
+pub mod RewriteCommand

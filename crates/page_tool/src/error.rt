@@ -1,10 +1,13 @@
 //! Why a command isn't done: the status and the line of each refusal.
-ghost use Rattle.std.specs.Prelude.{◌≡◌, ◌++◌, [], IfOk, Some, string_bytes};
+ghost use Rattle.std.specs.Prelude.{◌≡◌, ◌++◌, [], IfOk, IfSome, None, Some, string_bytes};
+ghost use Rattle.page_tool.specs.Answers.{crowding_of};
+ghost use Rattle.page_tool.specs.Request.{IsCrowded};
 ghost use Rattle.page_tool.specs.Status.{crowding_text, error_line, error_text, host_error, listing_tool_error, rewrite_tool_error, status_of_error};
 
 use crate::limits::PositionLimit;
 use crate::listing::ListingError;
 use crate::rewriting::RewriteError;
+use command_line::Options;
 use segment_store::HostError;
 use std::alloc::{AllocError, Global};
 use std::fmt;
@@ -14,6 +17,23 @@ use std::fmt;
 pub struct Crowding {
     pub backends: u32,
     pub frames: u32,
+}
+
+/// How crowded the backends would be, if they need more frames: each pins one, and two are kept besides.
+pub(crate) fn crowding_in(options: &Options) -> Option<Crowding>
+    ensures crowded { IfSome result (λ crowding. (crowding ≡ crowding_of options.now) × IsCrowded options.now) }
+    ensures roomy { result ≡ None → ¬ IsCrowded options.now }
+{
+    let Options {
+        backends,
+        frames,
+        ..
+    } = *options;
+    if frames <= backends.saturating_add(2) {
+        Some(Crowding { backends, frames })
+    } else {
+        None
+    }
 }
 
 impl fmt::Display for Crowding {

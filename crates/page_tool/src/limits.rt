@@ -1,5 +1,5 @@
 //! The log positions of a rewrite: where its log begins, and the last one.
-ghost use Rattle.std.specs.Prelude.{◌≡◌, ◌≤◌, ◌<◌, ◌*◌, ◌+◌, ◌%◌, Some};
+ghost use Rattle.std.specs.Prelude.{◌≡◌, ◌≤◌, ◌*◌, ◌+◌, IfErr, IfOk, Some};
 ghost use Rattle.page_tool.specs.Limits.{PassesLimit, last_position, rounded_up};
 ghost use Rattle.page_tool.specs.Status.{position_limit_text};
 

@@ -6,6 +6,9 @@ mod error;
 mod limits;
 mod listing;
 mod request;
+mod rewrite_command;
+#[cfg(test)]
+mod rewrite_tests;
 mod rewriting;
 mod run;
 mod starting;

@@ -2,7 +2,7 @@
 ghost use Rattle.std.specs.Prelude.{◌≡◌, IfOk, IfSome, map, option_map, string_bytes};
 ghost use Rattle.command_line.specs.Numbers.{HasOptionsInRange};
 ghost use Rattle.command_line.specs.Spelled.{HasNumbersInRange, spelled};
-ghost use Rattle.page_tool.specs.Request.{asked, asked_by, options_of, request_of};
+ghost use Rattle.page_tool.specs.Request.{IsOfMainFork, asked, asked_by, options_of, request_of};
 
 use crate::listing::Listing;
 use command_line::{Command, Options, read_command};
@@ -61,6 +61,7 @@ fn request_by(command: Command<'_>) -> Option<Request<'_>>
 pub fn read_request(alloc: Global, words: &[String]) -> Result<Option<Request<'_>>, AllocError>
     ensures request { IfOk result (λ r. option_map asked r ≡ request_of (map string_bytes words.now)) }
     ensures range { IfOk result (λ r. IfSome r (λ r. HasOptionsInRange (options_of (asked r)))) }
+    ensures main { IfOk result (λ r. IfSome r (λ r. IsOfMainFork (asked r))) }
 {
     match read_command(alloc, words)? {
         Some(command) => Ok(request_by(command)),

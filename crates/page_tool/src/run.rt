@@ -1,20 +1,22 @@
 //! Runs a command line.
-ghost use Rattle.std.specs.Prelude.{◌≡◌, ◌≤◌, ◌<◌, ◌⊎◌, [], ◌↔◌, None, IsTrue, IfErr, IfSome, IsErrOf, map, string_bytes, sum_by};
+ghost use Rattle.std.specs.Prelude.{◌≡◌, ◌≤◌, ◌⊎◌, None, IfErr, IfSome, IsSome, map, string_bytes};
 ghost use Rattle.command_line.specs.Numbers.{HasOptionsInRange};
 ghost use Rattle.log_device.specs.Bytes.{Puts};
-ghost use Rattle.log_device.specs.Faults.{Rose};
 ghost use Rattle.segment_store.specs.Opening.{IsOpened};
 ghost use Rattle.segment_store.specs.Paths.{fork_of};
-ghost use Rattle.page_tool.specs.Answers.{CrowdedIf, Ends, EndsListing, FailsNone, IsComplete, IsStatus, MissingIf, Said, SaysAs, UsageIf, Wrote, crowding_of, status_line, text_asked};
+ghost use Rattle.page_tool.specs.Answers.{CountsLater, CrowdedIf, Ends, EndsCommand, FailsNone, FaultIf, IsComplete, IsNoRewrite, LeavesFiles, LimitIf, MissingIf, SaysAs, SaysStatus, UsageIf, Wrote, counts, text_asked};
 ghost use Rattle.page_tool.specs.Causes.{HasListingCause};
 ghost use Rattle.page_tool.specs.Listings.{NoneFails};
-ghost use Rattle.page_tool.specs.Status.{status_of_error};
-ghost use Rattle.page_tool.specs.Request.{IsCrowded, asked, request_of};
+ghost use Rattle.page_tool.specs.Request.{asked, options_of, request_of};
+ghost use Rattle.page_tool.specs.RewriteFiles.{BecomesOf, files_of};
+ghost use Rattle.page_tool.specs.Status.{status_of, status_of_error};
 
-use crate::error::{Crowding, ToolError};
+use crate::error::{ToolError, crowding_in};
 use crate::listing::{Listed, ListingEnd, ListingError, list};
-use crate::request::{Request, read_request};
-use command_line::{Options, relation_number};
+use crate::request::{ListRequest, Request, read_request};
+use crate::rewrite_command::rewrite_relation;
+use crate::starting::RelationFork;
+use command_line::relation_number;
 use log_device::Sink;
 use page_jobs::Gate;
 use segment_store::{Host, Opened, fork_of_path};
@@ -25,20 +27,11 @@ use std::thread::Threads;
 /// What is said where there is no memory for a line.
 pub const MEMORY_LINE: &[u8] = b"page_tool: out of memory\n";
 
-/// Whether the backends need more frames: each pins one, and two are kept besides.
-fn is_crowded(options: &Options) -> bool
-    ensures { IsTrue result ↔ IsCrowded options.now }
-{
-    let backends = options.backends;
-    let frames = options.frames;
-    frames <= backends.saturating_add(2)
-}
-
 /// Lists the blocks of a relation that is open, and gives its lanes back.
 fn list_opened<H: Host, R: Threads + Wait + Sync, O: Sink, G: Gate + Sync>(
     rt: &R,
     alloc: Global,
-    request: &Request,
+    request: &ListRequest,
     opened: Opened<H::Lane>,
     host: &mut H,
     out: &mut O,
@@ -53,14 +46,17 @@ fn list_opened<H: Host, R: Threads + Wait + Sync, O: Sink, G: Gate + Sync>(
     ensures logs { H.logs host.new ≡ H.logs host.old }
     ensures log_faults { H.log_faults host.new ≡ H.log_faults host.old }
     ensures cause { HasListingCause (H.read_faults host.old) (H.read_faults host.new) (O.faults out.old) (O.faults out.new) result }
-    ensures text { IfSome (H.contents host.old) (λ paths. Puts (text_asked (asked request.now) paths) (O.bytes out.old) (O.bytes out.new) result) }
+    ensures text { IfSome (H.contents host.old) (λ paths. Puts (text_asked (asked (Request.List request.now)) paths) (O.bytes out.old) (O.bytes out.new) result) }
 {
     let path = request.path;
-    let listed = Listed {
+    let relation = RelationFork {
         // The words were refused where the path has no number.
-        relation: relation_number(path).unwrap_or(0),
+        number: relation_number(path).unwrap_or(0),
         fork: fork_of_path(path),
         blocks: opened.blocks,
+    };
+    let listed = Listed {
+        relation,
         listing: request.listing,
     };
     let options = &request.options;
@@ -73,7 +69,7 @@ fn list_opened<H: Host, R: Threads + Wait + Sync, O: Sink, G: Gate + Sync>(
 fn list_relation<'a, H: Host, R: Threads + Wait + Sync, O: Sink, G: Gate + Sync>(
     rt: &R,
     alloc: Global,
-    request: &Request<'a>,
+    request: &ListRequest<'a>,
     host: &mut H,
     out: &mut O,
     gate: &G,
@@ -85,18 +81,15 @@ fn list_relation<'a, H: Host, R: Threads + Wait + Sync, O: Sink, G: Gate + Sync>
     ensures logs { H.logs host.new ≡ H.logs host.old }
     ensures log_faults { H.log_faults host.new ≡ H.log_faults host.old }
     ensures later { (H.read_faults host.old ≤ H.read_faults host.new) × (O.faults out.old ≤ O.faults out.new) }
-    ensures ends { EndsListing (asked request.now) (H.contents host.old) (H.read_faults host.old) (H.read_faults host.new) (O.faults out.old) (O.faults out.new) result }
-    ensures text { IfSome (H.contents host.old) (λ paths. Puts (text_asked (asked request.now) paths) (O.bytes out.old) (O.bytes out.new) result) }
+    ensures ends { EndsCommand (asked (Request.List request.now)) (H.contents host.old)
+        (counts (H.read_faults host.old) (H.write_faults host.old) (H.log_faults host.old) (O.faults out.old))
+        (counts (H.read_faults host.new) (H.write_faults host.new) (H.log_faults host.new) (O.faults out.new)) result }
+    ensures text { IfSome (H.contents host.old) (λ paths. Puts (text_asked (asked (Request.List request.now)) paths) (O.bytes out.old) (O.bytes out.new) result) }
     ensures silent { IfErr result (λ e. status_of_error e ≤ 3 → O.bytes out.new ≡ O.bytes out.old) }
 {
-    let Request { path, options, .. } = *request;
-    if is_crowded(&options) {
-        let Options {
-            backends,
-            frames,
-            ..
-        } = options;
-        return Err(ToolError::Crowded(Crowding { backends, frames }));
+    let ListRequest { path, options, .. } = *request;
+    if let Some(crowding) = crowding_in(&options) {
+        return Err(ToolError::Crowded(crowding));
     }
     match host.relation(alloc, path, options.seg_blocks, options.lanes) {
         Err(error) => Err(ToolError::from_host(error, path)),
@@ -129,20 +122,29 @@ fn perform<'a, H: Host, R: Threads + Wait + Sync, O: Sink, G: Gate + Sync>(
     out: &mut O,
     gate: &G,
 ) -> Result<(), ToolError<'a>>
-    ensures contents { H.contents host.new ≡ H.contents host.old }
-    ensures failed { IfSome (H.contents host.old) (λ paths. FailsNone (request_of (map string_bytes words.now)) paths (H.failed_writes host.old) (H.failed_writes host.new)) }
-    ensures writes { H.write_faults host.new ≡ H.write_faults host.old }
-    ensures logs { H.logs host.new ≡ H.logs host.old }
-    ensures log_faults { H.log_faults host.new ≡ H.log_faults host.old }
-    ensures later { (H.read_faults host.old ≤ H.read_faults host.new) × (O.faults out.old ≤ O.faults out.new) }
-    ensures ends { Ends (request_of (map string_bytes words.now)) (H.contents host.old) (H.read_faults host.old) (H.read_faults host.new) (O.faults out.old) (O.faults out.new) result }
-    ensures text { IfSome (request_of (map string_bytes words.now)) (λ r. IfSome (H.contents host.old) (λ paths.
-        Puts (text_asked r paths) (O.bytes out.old) (O.bytes out.new) result)) }
+    ensures later { CountsLater
+        (counts (H.read_faults host.old) (H.write_faults host.old) (H.log_faults host.old) (O.faults out.old))
+        (counts (H.read_faults host.new) (H.write_faults host.new) (H.log_faults host.new) (O.faults out.new)) }
+    ensures ends { Ends (request_of (map string_bytes words.now)) (H.contents host.old)
+        (counts (H.read_faults host.old) (H.write_faults host.old) (H.log_faults host.old) (O.faults out.old))
+        (counts (H.read_faults host.new) (H.write_faults host.new) (H.log_faults host.new) (O.faults out.new)) result }
+    ensures text { IfSome (request_of (map string_bytes words.now)) (λ a. IfSome (H.contents host.old) (λ paths.
+        Puts (text_asked a paths) (O.bytes out.old) (O.bytes out.new) result)) }
     ensures silent { IfErr result (λ e. status_of_error e ≤ 3 → O.bytes out.new ≡ O.bytes out.old) }
     ensures no_command { request_of (map string_bytes words.now) ≡ None → O.bytes out.new ≡ O.bytes out.old }
+    ensures files { BecomesOf (files_of (H.contents host.old) (H.failed_writes host.old) (H.logs host.old))
+        (files_of (H.contents host.new) (H.failed_writes host.new) (H.logs host.new))
+        (LeavesFiles (request_of (map string_bytes words.now)) (status_of result)) }
+    ensures listed { IsNoRewrite (request_of (map string_bytes words.now)) → (H.contents host.new ≡ H.contents host.old)
+        × (H.logs host.new ≡ H.logs host.old) × (H.write_faults host.new ≡ H.write_faults host.old) × (H.log_faults host.new ≡ H.log_faults host.old) }
+    ensures failed { IsNoRewrite (request_of (map string_bytes words.now)) → IfSome (H.contents host.old) (λ paths.
+        FailsNone (request_of (map string_bytes words.now)) paths (H.failed_writes host.old) (H.failed_writes host.new)) }
 {
     match read_request(alloc, words) {
-        Ok(Some(request)) => list_relation(rt, alloc, &request, host, out, gate),
+        Ok(Some(Request::List(request))) => list_relation(rt, alloc, &request, host, out, gate),
+        Ok(Some(Request::Rewrite(request))) => {
+            rewrite_relation(rt, alloc, &request, host, out, gate)
+        }
         Ok(None) => Err(ToolError::Usage),
         Err(_) => Err(ToolError::Memory),
     }

@@ -1,0 +1,129 @@
+-- What the end of a command tells of its status.
+use Rattle.std.proofs.Common.{◌≡◌, ◌≢◌, ◌⊎◌, ℕ, ◌≤◌, false, true, List, [], length, Option, Some, None, Err, refl, sym, subst, inl, inr, arith}
+use Rattle.std.specs.Prelude.{IfSome, option_map}
+use Rattle.log_device.specs.Faults.{Rose}
+use Rattle.segment_store.specs.Paths.{Paths}
+use Rattle.pin_core.specs.State.{Page}
+use Rattle.page_tool.specs.declared.error.ToolError.{ToolError}
+use Rattle.page_tool.specs.declared.error.ToolError.TheVariants.{Usage, Crowded, Missing, ReadFault, WriteFault, LogFault, OutFault, Memory, OverLimit}
+use Rattle.page_tool.specs.declared.limits.PositionLimit.{PositionLimit}
+use Rattle.page_tool.specs.declared.limits.PositionLimit.TheVariants.{OfPages, OfPage, OfLog}
+use Rattle.page_tool.specs.Answers.{ArePastLimit, Ends, FaultCounts, HasPositions, HasPositionsAt, IsOverLimit, IsRefusal, LeavesFiles, LimitIf, MissingIf, SaysAs, pages_asked}
+use Rattle.page_tool.specs.Limits.{PassesLimit, largest_lsn}
+use Rattle.page_tool.specs.Request.{Asked, is_rewriting, listing, path_of, rewriting}
+use Rattle.page_tool.specs.RewriteFiles.{BecomesOf, HostFiles}
+use Rattle.page_tool.specs.Status.{status_of_error}
+use Rattle.page_tool.proofs.Stepping.{becomes_also}
+
+any_some : {A : Type 0} (o : Option A) (P : A → Type 0) → ((x : A) → P x) → IfSome o P
+any_some None P all = tt
+any_some (Some x) P all = all x
+
+some_also : {A : Type 0} (o : Option A) (P Q : A → Type 0) → ((x : A) → P x → Q x) → IfSome o P → IfSome o Q
+some_also None P Q to all = tt
+some_also (Some x) P Q to all = to x all
+
+not_past : (a : Asked) (pages : List Page) → is_rewriting a ≡ true → HasPositions a pages → ArePastLimit pages → ⊥
+not_past (listing l) pages is has past = let no : false ≡ true = is in cc
+not_past (rewriting r) pages is has past = has past
+
+past_by : (known : Option Paths) (f : Paths → List Page) (limit : PositionLimit) → IsOverLimit (option_map f known) limit → IfSome known (λ paths. ArePastLimit (f paths))
+past_by None f limit over = tt
+past_by (Some paths) f (OfPages largest blocks) over =
+    subst (λ (n : ℕ). PassesLimit (largest_lsn (f paths)) n) over.1.1 (subst (λ (n : ℕ). PassesLimit n blocks) over.1.0 over.0)
+past_by (Some paths) f (OfPage lsn end) over = absurd over.1
+past_by (Some paths) f (OfLog end) over = absurd over.1
+
+module _ (a : Asked) (known : Option Paths) (old new : FaultCounts) where
+  abbrev MissingEnds : ℕ → Paths → Type 0
+  MissingEnds status paths = paths (path_of a) ≡ [] → (status ≡ 3) ⊎ ((status ≡ 8) ⊎ ((status ≡ 4) × Rose old.reads new.reads))
+
+  there_is : (status : ℕ) → IfSome known (λ paths. paths (path_of a) ≢ []) → IfSome known (MissingEnds status)
+  there_is status there = some_also known (λ paths. paths (path_of a) ≢ []) (MissingEnds status) (λ paths is gone. absurd (is gone)) there
+
+  missing_if : (e : ToolError) → IsRefusal a known old new e → MissingIf a known old.reads new.reads (status_of_error e)
+  missing_if Usage ends = absurd ends
+  missing_if (Crowded crowding) ends = record { only = λ three. absurd (omega arith); always = λ roomy. absurd (roomy ends.1) }
+  missing_if (Missing path) ends = record { only = λ three. (ends.1, ends.2, ends.3); always = λ roomy. any_some known (MissingEnds 3) (λ paths gone. inl refl) }
+  missing_if ReadFault ends = record { only = λ three. absurd (omega arith); always = λ roomy. any_some known (MissingEnds 4) (λ paths gone. inr (inr (refl, ends.0))) }
+  missing_if WriteFault ends = record { only = λ three. absurd (omega arith); always = λ roomy. there_is 5 ends.1 }
+  missing_if LogFault ends = record { only = λ three. absurd (omega arith); always = λ roomy. there_is 6 ends.1 }
+  missing_if OutFault ends = record { only = λ three. absurd (omega arith); always = λ roomy. there_is 7 ends.1 }
+  missing_if Memory ends = record { only = λ three. absurd (omega arith); always = λ roomy. any_some known (MissingEnds 8) (λ paths gone. inr (inl refl)) }
+  missing_if (OverLimit limit) ends = record { only = λ three. absurd (omega arith); always = λ roomy. there_is 9 ends.1 }
+
+  abbrev LimitEnds : ℕ → Paths → Type 0
+  LimitEnds status paths = paths (path_of a) ≢ [] → ArePastLimit (pages_asked a paths) → (status ≡ 9) ⊎ ((status ≡ 8) ⊎ ((status ≡ 4) × Rose old.reads new.reads))
+
+  below_limit : (status : ℕ) → HasPositionsAt a known → is_rewriting a ≡ true → IfSome known (LimitEnds status)
+  below_limit status has is = some_also known (λ paths. HasPositions a (pages_asked a paths)) (LimitEnds status) (λ paths h there past. absurd (not_past a (pages_asked a paths) is h past)) has
+
+  both : (k : Option Paths) → IfSome k (λ paths. paths (path_of a) ≢ []) → IfSome k (λ paths. ArePastLimit (pages_asked a paths)) → IfSome k (λ paths. (paths (path_of a) ≢ []) × ArePastLimit (pages_asked a paths))
+  both None there past = tt
+  both (Some paths) there past = (there, past)
+
+  limit_if : (e : ToolError) → IsRefusal a known old new e → LimitIf a known old.reads new.reads (status_of_error e)
+  limit_if Usage ends = absurd ends
+  limit_if (Crowded crowding) ends = record { only = λ nine. absurd (omega arith); always = λ is roomy. absurd (roomy ends.1) }
+  limit_if (Missing path) ends = record { only = λ nine. absurd (omega arith); always = λ is roomy. some_also known (λ paths. paths (path_of a) ≡ []) (LimitEnds 3) (λ paths gone there past. absurd (there gone)) ends.1 }
+  limit_if ReadFault ends = record { only = λ nine. absurd (omega arith); always = λ is roomy. any_some known (LimitEnds 4) (λ paths there past. inr (inr (refl, ends.0))) }
+  limit_if WriteFault ends = record { only = λ nine. absurd (omega arith); always = λ is roomy. below_limit 5 ends.4 is }
+  limit_if LogFault ends = record { only = λ nine. absurd (omega arith); always = λ is roomy. below_limit 6 ends.4 is }
+  limit_if OutFault ends = record { only = λ nine. absurd (omega arith); always = λ is roomy. below_limit 7 ends.3 is }
+  limit_if Memory ends = record { only = λ nine. absurd (omega arith); always = λ is roomy. any_some known (LimitEnds 8) (λ paths there past. inr (inl refl)) }
+  limit_if (OverLimit limit) ends = record {
+    only = λ nine. (ends.3, ends.2, both known ends.1 (past_by known (pages_asked a) limit ends.0));
+    always = λ is roomy. any_some known (LimitEnds 9) (λ paths there past. inl refl);
+  }
+
+-- A refusal was said with a status: that of the command, or want of memory for its line
+pub record Refused (request : Option Asked) (known : Option Paths) (old new : FaultCounts) (bytes bytes_now : Option (List ℕ)) (faults faults_now status : ℕ) : Type 0 where
+  pub error : ToolError
+  pub ends : Ends request known old new (Err error)
+  pub says : SaysAs error bytes bytes_now faults faults_now status
+
+memory_ends : (request : Option Asked) (known : Option Paths) (old new : FaultCounts) → Ends request known old new (Err Memory)
+memory_ends None known old new = tt
+memory_ends (Some a) known old new = tt
+
+module _ (request : Option Asked) (known : Option Paths) (old new : FaultCounts) (bytes bytes_now : Option (List ℕ)) (faults faults_now status : ℕ) where
+  pub refused_by : (error : ToolError) → Ends request known old new (Err error)
+      → SaysAs error bytes bytes_now faults faults_now status ⊎ SaysAs Memory bytes bytes_now faults faults_now status
+      → Refused request known old new bytes bytes_now faults faults_now status
+  refused_by error ends (inl says) = record { error = error; ends = ends; says = says }
+  refused_by error ends (inr says) = record { error = Memory; ends = memory_ends request known old new; says = says }
+
+  module _ (refused : Refused request known old new bytes bytes_now faults faults_now status) where
+    missing_by : (q : Option Asked) → Ends q known old new (Err refused.error) → IfSome q (λ a. MissingIf a known old.reads new.reads (status_of_error refused.error))
+    missing_by None ends = tt
+    missing_by (Some a) ends = missing_if a known old new refused.error ends
+
+    pub missing_ends : IfSome request (λ a. MissingIf a known old.reads new.reads status)
+    missing_ends = subst (λ (n : ℕ). IfSome request (λ a. MissingIf a known old.reads new.reads n)) (sym refused.says.status_is) (missing_by request refused.ends)
+
+    limit_by : (q : Option Asked) → Ends q known old new (Err refused.error) → IfSome q (λ a. LimitIf a known old.reads new.reads (status_of_error refused.error))
+    limit_by None ends = tt
+    limit_by (Some a) ends = limit_if a known old new refused.error ends
+
+    pub limit_ends : IfSome request (λ a. LimitIf a known old.reads new.reads status)
+    limit_ends = subst (λ (n : ℕ). IfSome request (λ a. LimitIf a known old.reads new.reads n)) (sym refused.says.status_is) (limit_by request refused.ends)
+
+-- what a refusal leaves of the files is left too where there is no memory for its line
+memory_files : (request : Option Asked) (status : ℕ) (old new : HostFiles) → LeavesFiles request status old new → LeavesFiles request 8 old new
+memory_files None status old new leaves = leaves
+memory_files (Some (listing l)) status old new leaves = leaves
+memory_files (Some (rewriting r)) status old new leaves = record {
+  any = leaves.any;
+  done = λ zero. absurd (omega arith);
+  refused = λ least most. absurd (omega arith);
+  over_limit = λ nine. absurd (omega arith);
+}
+
+pub refused_files : (request : Option Asked) (old new : Option HostFiles) (error : ToolError) (bytes bytes_now : Option (List ℕ)) (faults faults_now status : ℕ)
+    → SaysAs error bytes bytes_now faults faults_now status ⊎ SaysAs Memory bytes bytes_now faults faults_now status
+    → BecomesOf old new (LeavesFiles request (status_of_error error)) → BecomesOf old new (LeavesFiles request status)
+refused_files request old new error bytes bytes_now faults faults_now status (inl says) becomes =
+    subst (λ (n : ℕ). BecomesOf old new (LeavesFiles request n)) (sym says.status_is) becomes
+refused_files request old new error bytes bytes_now faults faults_now status (inr says) becomes =
+    subst (λ (n : ℕ). BecomesOf old new (LeavesFiles request n)) (sym says.status_is)
+    (becomes_also old new (LeavesFiles request (status_of_error error)) (LeavesFiles request 8) (λ o n leaves. memory_files request (status_of_error error) o n leaves) becomes)
