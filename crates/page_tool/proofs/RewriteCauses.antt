@@ -204,7 +204,7 @@ module _ {L G : Type 0} (d : Devices L G) (m : Manager L G) (r : RelationFork) (
       let p = there pages x.tag.block (let e = are.counted in omega arith) in
       let l = was_there d m r base ps zs started few lanes log c pages are x.tag.block p.0 p.1 in
       let is : l.2.0 x.tag ≡ Some x.page = x.was (lane_number x.tag (lanes_in m.table)) l.0 l.2.0 record { named = x.named; listed = x.listed; placed = refl }
-          (subst (λ (t : Tag). get_elem? (opened_of m.table) (lane_number t (lanes_in m.table)) ≡ some l.0) (sym tag_is) l.1) l.2.1 in
+      (subst (λ (t : Tag). get_elem? (opened_of m.table) (lane_number t (lanes_in m.table)) ≡ some l.0) (sym tag_is) l.1) l.2.1 in
       let same : x.page ≡ p.0 = same_Some x.page p.0 (sym is ∙ ap l.2.0 tag_is ∙ l.2.2) in
       let within = page_within pages x.tag.block p.0 p.1 (ap is_sound_page (sym same) ∙ x.sound) in
       let position = x.position ∙ ap lsn_of same in
@@ -258,16 +258,16 @@ module _ {L G : Type 0} (d : Devices L G) (m : Manager L G) (r : RelationFork) (
         no_read_failed d m.table.table.shared.key zs lanes log c started.counted reads (ap (λ (k : Met). k.reads) none),
         no_write_counted d m.table.table.shared.key zs lanes log c started.counted writes (ap (λ (k : Met). k.writes) none),
         dite (ℕ_discrete (d.log_faults log) (d.log_faults (log_of m)))
-        (λ (same : d.log_faults log ≡ d.log_faults (log_of m)). same)
-        (λ (other : d.log_faults log ≢ d.log_faults (log_of m)). absurd (
-          let later = logs_later in
-          let first = c.opened.log_faults in
-          let last = c.device.faults in
-          let less : d.log_faults (log_of m) < d.log_faults log = omega (arith, other) in
-          let more = c.logs_met (omega arith) in
-          let zero_ = ap (λ (k : Met). k.logs) none in
-          omega arith
-        )),
+            (λ (same : d.log_faults log ≡ d.log_faults (log_of m)). same)
+            (λ (other : d.log_faults log ≢ d.log_faults (log_of m)). absurd (
+            let later = logs_later in
+            let first = c.opened.log_faults in
+            let last = c.device.faults in
+            let less : d.log_faults (log_of m) < d.log_faults log = omega (arith, other) in
+            let more = c.logs_met (omega arith) in
+            let zero_ = ap (λ (k : Met). k.logs) none in
+            omega arith
+            )),
       );
     }
 

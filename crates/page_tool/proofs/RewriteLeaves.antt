@@ -218,10 +218,10 @@ module _ {L G : Type 0} (d : Devices L G) (m : Manager L G) (r : RelationFork) (
           → failed_after d.failed_writes r lanes block ≡ false → is_sound_page new ≡ true → base < lsn_of new → IsLogged (rule_at r) c.state.log (file_at d.synced log known) block new
       first block new at unfailed sound past = let b = both_at block new at in ⊎_elim
           (λ (same : new ≡ b.old). absurd (
-            let w = page_within pages block b.old b.at (ap is_sound_page (sym same) ∙ sound) in
-            let e = ap lsn_of same in
-            let l = are.within in
-            omega arith
+          let w = page_within pages block b.old b.at (ap is_sound_page (sym same) ∙ sound) in
+          let e = ap lsn_of same in
+          let l = are.within in
+          omega arith
           ))
           (λ (x : IsLogged (rule_at r) c.state.log (file_at d.synced log known) block new). x)
           (either_at block new b unfailed)
@@ -234,7 +234,7 @@ module _ {L G : Type 0} (d : Devices L G) (m : Manager L G) (r : RelationFork) (
           record { rest = left.rest; is_bytes = sym (device.bytes known told) ∙ left.is_bytes }
 
       pub leaves_either : HasRewrites (rule_at r) (blocks_in m 0 r.fork) c.state.known c.state.origin c.state.log
-        → LeavesEither (rule_at r) (names_of r) base pages (pages_after d.contents r lanes pages) (failed_after d.failed_writes r lanes) (file_at d.synced log known)
+          → LeavesEither (rule_at r) (names_of r) base pages (pages_after d.contents r lanes pages) (failed_after d.failed_writes r lanes) (file_at d.synced log known)
       leaves_either has = record {
         log = c.state.log;
         based = c.opened.base ∙ started.based;

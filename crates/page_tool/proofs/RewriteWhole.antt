@@ -42,10 +42,10 @@ changed_sound page changes = from (is_sound_page page) refl
     from : (sound : Bool) → is_sound_page page ≡ sound → is_sound_page page ≡ true
     from true e = e
     from false e = absurd (
-      let no : is_changed_outcome Invalid ≡ true = subst (λ (t : Bool). is_changed_outcome (if t then (if is_new_page page then New else Used (rewrite_of page)) else Invalid) ≡ true) e changes in
-      let none : false ≡ true = no in
-      cc
-    )
+        let no : is_changed_outcome Invalid ≡ true = subst (λ (t : Bool). is_changed_outcome (if t then (if is_new_page page then New else Used (rewrite_of page)) else Invalid) ≡ true) e changes in
+        let none : false ≡ true = no in
+        cc
+        )
 
 -- the sum over the numbers below n begins with that of 0
 sum_first : (n : ℕ) (g : ℕ → ℕ) → sum_below (suc n) g ≡ g 0 + sum_below n (λ i. g (suc i))
@@ -75,7 +75,7 @@ module _ {L G : Type 0} (d : Devices L G) (m : Manager L G) (r : RelationFork) (
       dite (ℕ_discrete c.state.device.faults last_count)
       (λ (last : c.state.device.faults ≡ last_count). let more = c.logs_met (omega arith) in omega arith)
       (λ (other : c.state.device.faults ≢ last_count). let more = c.logs_met (risen other) in omega arith)
-  )
+      )
 
   module _ (unmet : (met_by_passes zs).writes ≡ 0) (pages : List Page) (are : ArePages d.contents r base (opened_of m.table) pages) where
     -- no block's last write failed
@@ -132,9 +132,9 @@ module _ {L G : Type 0} (d : Devices L G) (m : Manager L G) (r : RelationFork) (
           let begins : c.state.log.base ≡ base = c.opened.base ∙ started.based in
           ⊎_elim
           (λ (same : new ≡ old). absurd (
-            let is : new ≡ y.0.entry.image = now block old new x was at ∙ ap (λ (p : Option Page). unwrap_or p old) image in
-            let position = ap lsn_of (sym same ∙ is) in
-            omega arith
+          let is : new ≡ y.0.entry.image = now block old new x was at ∙ ap (λ (p : Option Page). unwrap_or p old) image in
+          let position = ap lsn_of (sym same ∙ is) in
+          omega arith
           ))
           (λ (logged : IsLogged (rule_at r) c.state.log (file_at d.synced log known) block new). logged)
           (each_either d m r base ps zs started few lanes log c pages are either known told block old new was at ok)
@@ -153,11 +153,13 @@ module _ {L G : Type 0} (d : Devices L G) (m : Manager L G) (r : RelationFork) (
       same_at block old new was at changes =
           let low : block < r.blocks = let i = inside pages block old was in let e = are.counted in omega arith in
           let x = in_lanes d m r base ps zs started few lanes log c pages are block old was in
-          let no : HasEntry c.state.log ((rule_at r).tag block) → ⊥ = hold.same block (tag_at r.fork block) x.before x.after x.closed old (let e = started.catalog.counted in omega arith) x.is x.was changes in
-          (no, ⊎_elim
-          (λ (same : new ≡ old). same)
-          (λ (logged : IsLogged (rule_at r) c.state.log (file_at d.synced log known) block new). absurd (no logged.made))
-          (each_either d m r base ps zs started few lanes log c pages are either known told block old new was at (unfailed block low)))
+          let no : HasEntry c.state.log ((rule_at r).tag block) → ⊥ = hold.same block (tag_at r.fork block) x.before x.after x.closed old (let e = started.catalog.counted in omega arith) x.is x.was changes in (
+            no,
+            ⊎_elim
+                (λ (same : new ≡ old). same)
+                (λ (logged : IsLogged (rule_at r) c.state.log (file_at d.synced log known) block new). absurd (no logged.made))
+                (each_either d m r base ps zs started few lanes log c pages are either known told block old new was at (unfailed block low)),
+          )
 
       pub is_rewritten : IsRewritten (rule_at r) (names_of r) base pages (pages_after d.contents r lanes pages) (file_at d.synced log known)
       is_rewritten = record {
