@@ -231,8 +231,8 @@ module _ {L G : Type 0} (contents : L → Option Pages) (failed : L → Marks) (
         paths_are = given_paths a b c lanes (Some log) open_so same gives paths known there_so;
         logs_are = given_file a b c lanes logs logs_known log log opens (told log) gives;
         leaves = by_end r _ _ (Err e) (log_opened (record { bytes = file.0; synced = synced log })
-        (kept_paths lanes paths a.failed c.failed logs _ unmarked held_so (given_marks a b c lanes (Some log) open_so same gives paths known there_so)) refl)
-        tt (log_refusal logs_before logs_now faults e why);
+            (kept_paths lanes paths a.failed c.failed logs _ unmarked held_so (given_marks a b c lanes (Some log) open_so same gives paths known there_so)) refl)
+            tt (log_refusal logs_before logs_now faults e why);
       })
 
   module _ (relation : RelationFork) (base : ℕ) (lanes lanes' : List L) (log' : G) (end : Result RewriteTotals RewriteError) (leaves : LeavesRewritten contents failed bytes synced relation base lanes lanes' log' end)
@@ -314,5 +314,5 @@ module _ {L G : Type 0} (contents : L → Option Pages) (failed : L → Marks) (
         paths_are = given_paths a b c lanes' (Some log') open_so same gives paths known there_so;
         logs_are = given_file a b c lanes' logs logs_known log log' opens told gives;
         leaves = files_leave relation base lanes lanes' log' end leaves main paths a.failed c.failed logs x.0 x.1 relation_is base_is pages_so
-        (given_marks a b c lanes' (Some log') open_so same gives paths known there_so);
+            (given_marks a b c lanes' (Some log') open_so same gives paths known there_so);
       })

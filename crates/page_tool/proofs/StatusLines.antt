@@ -65,7 +65,7 @@ pub said_as : (request : Option Asked) (known : Option Paths) (old new : FaultCo
     → SaysStatus request known bytes bytes_now faults faults_now status
 said_as request known old new error bytes bytes_now faults faults_now status ends says =
     let same : error_line error ≡ status_line request (limit_of error) status =
-        line_is request known old new error ends ∙ ap (λ (n : ℕ). status_line request (limit_of error) n) (sym says.status_is) in
+    line_is request known old new error ends ∙ ap (λ (n : ℕ). status_line request (limit_of error) n) (sym says.status_is) in
     record {
       limit = limit_of error;
       passed = λ nine. passed_by request known old new error ends (sym says.status_is ∙ nine);

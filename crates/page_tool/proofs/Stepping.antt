@@ -92,7 +92,7 @@ module _ {L : Type 0} (contents : L → Option Pages) (failed unsynced : L → M
     relation_so None blocks = tt
     relation_so (Some paths) blocks =
         let named : fork_at r paths ≡ record { number = number; fork = Main; blocks = length (pages_at r paths) } =
-            ap (λ (n : ℕ). let f : RelationFork = record { number = n; fork = Main; blocks = length (pages_at r paths) } in f) (sym number_is) in
+        ap (λ (n : ℕ). let f : RelationFork = record { number = n; fork = Main; blocks = length (pages_at r paths) } in f) (sym number_is) in
         ap (λ (n : ℕ). let f : RelationFork = record { number = number; fork = Main; blocks = n } in f) blocks ∙ sym named
 
     have_so : (paths : Paths) → opened.blocks ≡ length (pages_at r paths) → HoldPages (fork_of r.path) (pages_at r paths) (map contents opened.lanes.items)
@@ -254,7 +254,7 @@ since_opened r status None known_now marks marks_now told told_now new known_sam
 since_opened r status (Some paths) known_now marks marks_now None told_now new known_same marks_are told_same becomes = tt
 since_opened r status (Some paths) known_now marks marks_now (Some logs) told_now new known_same marks_are told_same becomes =
     let same = subst (λ (m : PathMarks). BecomesOf (files_of (Some paths) m (Some logs)) new (RewritesFiles r status)) marks_are
-        (subst (λ (t : Option Logs). BecomesOf (files_of (Some paths) marks_now t) new (RewritesFiles r status)) told_same
-        (subst (λ (k : Option Paths). BecomesOf (files_of k marks_now told_now) new (RewritesFiles r status)) known_same becomes)) in
+    (subst (λ (t : Option Logs). BecomesOf (files_of (Some paths) marks_now t) new (RewritesFiles r status)) told_same
+    (subst (λ (k : Option Paths). BecomesOf (files_of k marks_now told_now) new (RewritesFiles r status)) known_same becomes)) in
     becomes_some new (RewritesFiles r status (record { paths = paths; failed = cleared r.path marks; logs = logs })) (RewritesFiles r status (record { paths = paths; failed = marks; logs = logs }))
     (λ n leaves. files_since r paths marks logs n status leaves) same

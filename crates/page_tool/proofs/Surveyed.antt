@@ -70,8 +70,8 @@ module _ (fork : Fork) (blocks : ℕ) (catalog : List RelEntry) (lanes : List (O
   of_block tag of =
       let own = all.alone tag of.listed in
       let within : tag.block < length pages =
-          (let n = all.counted in
-          let here = true_lt _ _ (subst (λ (t : Tag). IsListed catalog t) own of.listed) in omega (arith, n, here)) in
+      (let n = all.counted in
+      let here = true_lt _ _ (subst (λ (t : Tag). IsListed catalog t) own of.listed) in omega (arith, n, here)) in
       let has = subst (λ (t : Tag). HasPage t (get_or pages tag.block []) lanes) (sym own) (held tag.block within) in
       let sound = sound_there (lane_at lanes tag) tag (get_or pages tag.block []) largest has of.page in
       let position = sound_position (get_or pages tag.block []) sound.sound in

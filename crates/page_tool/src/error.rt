@@ -25,7 +25,9 @@ pub(crate) fn crowding_in(options: &Options) -> Option<Crowding>
     ensures roomy { result ≡ None → ¬ IsCrowded options.now }
 {
     let Options {
-        backends, frames, ..
+        backends,
+        frames,
+        ..
     } = *options;
     if frames <= backends.saturating_add(2) {
         Some(Crowding { backends, frames })

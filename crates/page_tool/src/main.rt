@@ -7,6 +7,8 @@ mod limits;
 mod listing;
 mod request;
 mod rewrite_command;
+#[cfg(test)]
+mod rewrite_tests;
 mod rewriting;
 mod run;
 mod starting;

@@ -164,8 +164,9 @@ fn rewrite_and_give_back<H: Host, R: Threads + Wait + Sync, T: Gate + Sync>(
     match open_log(alloc, request.log, base, host) {
         Ok(log) => {
             let options = &request.options;
-            let RewriteEnd { lanes, log, end } =
-                rewrite_lanes(rt, alloc, options, relation, lanes, log, base, gate);
+            let RewriteEnd { lanes, log, end } = rewrite_lanes(
+                rt, alloc, options, relation, lanes, log, base, gate,
+            );
             host.give_back(lanes, Some(log));
             end
         }

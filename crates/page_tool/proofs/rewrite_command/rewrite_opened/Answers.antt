@@ -37,8 +37,8 @@ rewrite_surveyed-requires-clause-surveyed g c κs within =
     let number_is = c.unwrap_or.ensures ∙ ap (λ (o : Option ℕ). unwrap_or o 0) c.relation_number.ensures in
     let begins = subst (λ (ls : List g.row.H-Lane.Denot). (pages : List Page) → HavePages g.H.Lane.BlockLane.contents (record { number = c.unwrap_or.result; fork = Main; blocks = c.args.opened.blocks }) ls pages → c.in-Ok.base ≡ log_base pages) was c.in-Ok.ensures.base in
     let so = surveyed g.H.Lane.BlockLane.contents g.H.Lane.BlockLane.failed_writes g.H.Lane.BlockLane.unsynced g.H.Lane.BlockLane.read_faults g.H.Lane.BlockLane.write_faults
-        r c.requires.main c.args.opened c.survey_base.new.lanes c.unwrap_or.result c.in-Ok.base number_is same begins known opened c.in-Ok.ensures.quiet
-        (sum_same g.H.Lane.BlockLane.write_faults c.args.opened.lanes.items c.survey_base.new.lanes same.writes_same ∙ opened.writes) c.in-Ok.ensures.within in
+    r c.requires.main c.args.opened c.survey_base.new.lanes c.unwrap_or.result c.in-Ok.base number_is same begins known opened c.in-Ok.ensures.quiet
+    (sum_same g.H.Lane.BlockLane.write_faults c.args.opened.lanes.items c.survey_base.new.lanes same.writes_same ∙ opened.writes) c.in-Ok.ensures.within in
     subst (λ (ls : List g.row.H-Lane.Denot). AreSurveyed g.H.Lane.BlockLane.contents g.H.Lane.BlockLane.failed_writes g.H.Lane.BlockLane.read_faults g.H.Lane.BlockLane.write_faults known r
     (record { number = c.unwrap_or.result; fork = Main; blocks = c.args.opened.blocks }) c.in-Ok.base ls)
     (sym (whole_again c.args.opened.lanes.len c.args.opened.lanes.items c.survey_base.new.lanes counted)) so
@@ -53,11 +53,11 @@ returns-in-Err-clause-files g c =
     let same = subst (λ (ls : List g.row.H-Lane.Denot). AreOnlyRead g.H.Lane.BlockLane.contents g.H.Lane.BlockLane.failed_writes g.H.Lane.BlockLane.unsynced g.H.Lane.BlockLane.write_faults ls c.survey_base.new.lanes) c.deref_mut.ensures.value c.in-Err.ensures.same in
     let whole = sym (whole_again c.args.opened.lanes.len c.args.opened.lanes.items c.survey_base.new.lanes counted) in
     let unmarked = subst (λ (ls : List g.row.H-Lane.Denot). All (λ lane. g.H.Lane.BlockLane.failed_writes lane ≡ no_marks) ls) whole
-        (still_unmarked g.H.Lane.BlockLane.contents g.H.Lane.BlockLane.failed_writes g.H.Lane.BlockLane.unsynced g.H.Lane.BlockLane.read_faults g.H.Lane.BlockLane.write_faults
-        r c.args.opened c.survey_base.new.lanes same opened.unmarked) in
+    (still_unmarked g.H.Lane.BlockLane.contents g.H.Lane.BlockLane.failed_writes g.H.Lane.BlockLane.unsynced g.H.Lane.BlockLane.read_faults g.H.Lane.BlockLane.write_faults
+    r c.args.opened c.survey_base.new.lanes same opened.unmarked) in
     let held = subst (λ (ls : List g.row.H-Lane.Denot). IfSome known (λ paths. HoldPages (fork_of r.path) (pages_at r paths) (map g.H.Lane.BlockLane.contents ls))) whole
-        (hold_so g.H.Lane.BlockLane.contents g.H.Lane.BlockLane.failed_writes g.H.Lane.BlockLane.unsynced g.H.Lane.BlockLane.read_faults g.H.Lane.BlockLane.write_faults
-        r c.args.opened c.survey_base.new.lanes same known opened.holds) in
+    (hold_so g.H.Lane.BlockLane.contents g.H.Lane.BlockLane.failed_writes g.H.Lane.BlockLane.unsynced g.H.Lane.BlockLane.read_faults g.H.Lane.BlockLane.write_faults
+    r c.args.opened c.survey_base.new.lanes same known opened.holds) in
     unlogged g.H.Lane.BlockLane.contents g.H.Lane.BlockLane.failed_writes g.H.Log.LogDevice.bytes g.H.Log.LogDevice.synced r
     (told g c.args.host.now) (told g c.give_back.new.self) _ c.in-Err.error c.requires.open_at unmarked opened.there held (record { paths = back.contents; marks = back.failed; logs = back.logs })
 
