@@ -1,5 +1,5 @@
 -- The larger of two positions.
-use Rattle.std.proofs.Common.{◌≡◌, ◌==◌, ◌≤◌, ◌<◌, ℕ, Bool, Less, Equal, Greater, true, false, cond, nat_lt, refl, sym, ap, ◌∙◌, subst, arith}
+use Rattle.std.proofs.Common.{◌≡◌, ◌==◌, ◌≤◌, ℕ, Bool, Less, Equal, Greater, true, false, cond, nat_lt, refl, sym, subst, arith}
 use Rattle.std.specs.Ordering.{is_lt, nat_cmp, ord_max}
 
 is_less : (x y : Bool) → is_lt (cond x Less (cond y Equal Greater)) ≡ x

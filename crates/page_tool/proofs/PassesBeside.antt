@@ -1,5 +1,5 @@
 -- What rounds beside a job leave of their pass.
-use Rattle.std.proofs.Common.{◌≡◌, ℕ, Option, refl, ap, ◌∙◌}
+use Rattle.std.proofs.Common.{◌≡◌, Option, refl, ap, ◌∙◌}
 use Rattle.segment_store.specs.Contents.{Pages}
 use Rattle.pin_core.specs.declared.view.Met.{Met}
 use Rattle.frame_table.specs.declared.table.FrameTable.{FrameTable}

@@ -1,6 +1,6 @@
 -- Why a rewrite ended before its end, by what its passes met, and what the devices show of that as the manager is closed.
-use Rattle.std.proofs.Common.{◌≡◌, ◌≢◌, ℕ, zero, suc, ◌+◌, ◌-◌, ◌*◌, ◌<◌, ◌≤◌, ◌^◌, ◌⊎◌, Bool, true, false, List, [], ◌∷◌, length, map, nat_lt, min, Option, Some, None, Result, Ok, Err, refl, sym, ap, ◌∙◌, subst, inl, inr, ⊎_elim, arith}
-use Rattle.std.specs.Prelude.{IfErr, IfOk, sum_by}
+use Rattle.std.proofs.Common.{◌≡◌, ◌≢◌, ℕ, zero, suc, ◌+◌, ◌-◌, ◌<◌, ◌≤◌, ◌^◌, ◌⊎◌, true, List, [], ◌∷◌, length, nat_lt, Option, Some, Ok, Err, refl, sym, ap, ◌∙◌, subst, inl, inr, ⊎_elim, arith}
+use Rattle.std.specs.Prelude.{sum_by}
 use Rattle.std.proofs.lemmas.Option.{same_Some}
 use mathlib.Core.Logic.{dite}
 use mathlib.Core.Option.{some, some-injective, some-ne-none}
@@ -9,22 +9,19 @@ use lib.ListN.{get_elem?}
 use Rattle.block_tag.specs.declared.tag.Fork.{Fork}
 use Rattle.block_tag.specs.declared.tag.Tag.{Tag}
 use Rattle.block_tag.specs.Catalogue.{blocks_at}
-use Rattle.block_tag.specs.Names.{lane_number, names_block, packed_tag, tag_of_parts}
+use Rattle.block_tag.specs.Names.{lane_number, names_block, tag_of_parts}
 use Rattle.log_device.specs.Faults.{Rose}
 use Rattle.page_layout.specs.declared.outcomes.RewriteTotals.{RewriteTotals}
 use Rattle.page_layout.specs.Fields.{lsn_of}
 use Rattle.page_layout.specs.Soundness.{is_sound_page}
 use Rattle.segment_store.specs.Contents.{Pages}
-use Rattle.segment_store.specs.Lanes.{tag_at}
 use Rattle.pin_core.specs.declared.view.Met.{Met}
 use Rattle.pin_core.specs.declared.view.View.{View}
 use Rattle.pin_core.specs.State.{Page, sum_of_met}
 use Rattle.history_core.specs.Device.{HasRisen}
-use Rattle.history_core.specs.Log.{record_size}
 use Rattle.history_core.specs.State.{last_count}
 use Rattle.table_rule.specs.Blocks.{has_block}
 use Rattle.table_rule.specs.Shows.{Devices}
-use Rattle.frame_table.specs.declared.table.FrameTable.{FrameTable}
 use Rattle.frame_table.specs.Seats.{OnlyRises, base_of, lanes_in, opened_of, relations_of}
 use Rattle.wal_flush.specs.declared.flushes.FlushLog.{FlushLog}
 use Rattle.wal_flush.specs.declared.flushes.FlushLog.TheVariants as log
@@ -43,25 +40,21 @@ use Rattle.backend_pass.specs.FrameFlushes.{RefusesFrame}
 use Rattle.backend_pass.specs.Passes.{PassState}
 use Rattle.backend_pass.specs.Reading.{ReadingRefused, met_read_refused}
 use Rattle.checkpointer.specs.declared.ending.CheckpointError.{CheckpointError}
-use Rattle.checkpointer.specs.declared.ending.CheckpointError.TheVariants as checkpoint
-use Rattle.checkpointer.specs.Refusals.{Stops, StopsAtFrame, StopsAtLane, StopsAtLog, at_frame, at_lane, at_log, met_stopping, refusal_of_flush, refusal_of_log}
+use Rattle.checkpointer.specs.Refusals.{Stops, StopsAtFrame, StopsAtLog, at_frame, at_lane, at_log, met_stopping, refusal_of_flush, refusal_of_log}
 use Rattle.page_jobs.specs.declared.ending.JobError.{JobError}
 use Rattle.page_jobs.specs.declared.ending.JobError.TheVariants as job
-use Rattle.page_jobs.specs.declared.ending.Totals.{Totals}
-use Rattle.page_jobs.specs.Beside.{LastIsRefused, fault_of_flush}
+use Rattle.page_jobs.specs.Beside.{fault_of_flush}
 use Rattle.page_jobs.specs.Jobs.{workers_in}
 use Rattle.page_jobs.specs.Reads.{fault_of_refusal}
-use Rattle.page_jobs.specs.Relations.{MeetNothing}
-use Rattle.page_jobs.specs.RewriteJobs.{EndsRewrite, FailsFirst, RewritesFork}
+use Rattle.page_jobs.specs.RewriteJobs.{EndsRewrite, FailsFirst}
 use Rattle.page_jobs.specs.Rewriting.{fault_of_put}
 use Rattle.page_jobs.proofs.Counted.{no_read_failed, no_write_counted, some_read_failed, some_write_failed}
-use Rattle.page_jobs.proofs.Standing.{inside, taken_from, there}
+use Rattle.page_jobs.proofs.Standing.{taken_from, there}
 use Rattle.page_tool.specs.declared.limits.PositionLimit.TheVariants.{OfPages, OfPage, OfLog}
 use Rattle.page_tool.specs.declared.rewriting.RewriteError.{RewriteError}
 use Rattle.page_tool.specs.declared.rewriting.RewriteError.TheVariants.{ReadFault, WriteFault, LogFault, OutFault, Memory, OverLimit}
 use Rattle.page_tool.specs.declared.starting.RelationFork.{RelationFork}
 use Rattle.page_tool.specs.Checkpointing.{EndsEarly, IsPastEnd, LastMeets, PassMeets}
-use Rattle.page_tool.specs.Limits.{largest_lsn, last_position}
 use Rattle.page_tool.specs.Rewriting.{ArePages, HasPositionsLeft, HasRewriteCause, IsRewriteCause, checkpoint_error, rewrite_error}
 use Rattle.page_tool.specs.Starting.{IsStarted, log_of}
 use Rattle.page_tool.proofs.RewriteLeaves.{page_within, was_there}
@@ -211,7 +204,7 @@ module _ {L G : Type 0} (d : Devices L G) (m : Manager L G) (r : RelationFork) (
       let p = there pages x.tag.block (let e = are.counted in omega arith) in
       let l = was_there d m r base ps zs started few lanes log c pages are x.tag.block p.0 p.1 in
       let is : l.2.0 x.tag ≡ Some x.page = x.was (lane_number x.tag (lanes_in m.table)) l.0 l.2.0 record { named = x.named; listed = x.listed; placed = refl }
-          (subst (λ (t : Tag). get_elem? (opened_of m.table) (lane_number t (lanes_in m.table)) ≡ some l.0) (sym tag_is) l.1) l.2.1 in
+      (subst (λ (t : Tag). get_elem? (opened_of m.table) (lane_number t (lanes_in m.table)) ≡ some l.0) (sym tag_is) l.1) l.2.1 in
       let same : x.page ≡ p.0 = same_Some x.page p.0 (sym is ∙ ap l.2.0 tag_is ∙ l.2.2) in
       let within = page_within pages x.tag.block p.0 p.1 (ap is_sound_page (sym same) ∙ x.sound) in
       let position = x.position ∙ ap lsn_of same in
@@ -265,16 +258,16 @@ module _ {L G : Type 0} (d : Devices L G) (m : Manager L G) (r : RelationFork) (
         no_read_failed d m.table.table.shared.key zs lanes log c started.counted reads (ap (λ (k : Met). k.reads) none),
         no_write_counted d m.table.table.shared.key zs lanes log c started.counted writes (ap (λ (k : Met). k.writes) none),
         dite (ℕ_discrete (d.log_faults log) (d.log_faults (log_of m)))
-        (λ (same : d.log_faults log ≡ d.log_faults (log_of m)). same)
-        (λ (other : d.log_faults log ≢ d.log_faults (log_of m)). absurd (
-          let later = logs_later in
-          let first = c.opened.log_faults in
-          let last = c.device.faults in
-          let less : d.log_faults (log_of m) < d.log_faults log = omega (arith, other) in
-          let more = c.logs_met (omega arith) in
-          let zero_ = ap (λ (k : Met). k.logs) none in
-          omega arith
-        )),
+            (λ (same : d.log_faults log ≡ d.log_faults (log_of m)). same)
+            (λ (other : d.log_faults log ≢ d.log_faults (log_of m)). absurd (
+            let later = logs_later in
+            let first = c.opened.log_faults in
+            let last = c.device.faults in
+            let less : d.log_faults (log_of m) < d.log_faults log = omega (arith, other) in
+            let more = c.logs_met (omega arith) in
+            let zero_ = ap (λ (k : Met). k.logs) none in
+            omega arith
+            )),
       );
     }
 

@@ -1,30 +1,26 @@
 -- What a rewrite leaves of the pages and of the log, by what the devices hold as the manager is closed.
-use Rattle.std.proofs.Common.{◌≡◌, ◌≢◌, ℕ, zero, suc, ◌+◌, ◌-◌, ◌*◌, ◌<◌, ◌≤◌, ◌^◌, ◌&&◌, ◌⊎◌, Bool, true, false, List, [], ◌∷◌, ◌++◌, append-nil, length, map, get_or, nat_lt, if◌then◌else◌, max, Option, Some, None, refl, sym, ap, ◌∙◌, subst, inl, inr, ⊎_elim, unwrap_or, arith}
+use Rattle.std.proofs.Common.{◌≡◌, ℕ, zero, suc, ◌+◌, ◌-◌, ◌<◌, ◌≤◌, ◌^◌, ◌&&◌, ◌⊎◌, Bool, true, false, List, [], ◌∷◌, append-nil, length, map, get_or, nat_lt, if◌then◌else◌, Option, Some, None, refl, sym, ap, ◌∙◌, subst, inl, inr, ⊎_elim, unwrap_or, arith}
 use Rattle.std.specs.Prelude.{IsSomeAnd, is_some}
 use Rattle.std.specs.Option.{option_and_then}
 use Rattle.std.proofs.lemmas.List.{length-map}
 use Rattle.std.proofs.lemmas.Option.{same_Some}
 use mathlib.Core.Option.{some, some-injective, some-ne-none}
 use lib.ListN.{get_elem?}
-use Rattle.block_tag.specs.declared.catalogue.RelEntry.{RelEntry}
 use Rattle.block_tag.specs.declared.tag.Fork.{Fork}
-use Rattle.block_tag.specs.declared.tag.Tag.{Tag}
-use Rattle.block_tag.specs.Names.{lane_number, names_block, packed_tag}
+use Rattle.block_tag.specs.Names.{lane_number, names_block}
 use Rattle.log_device.specs.MemoryLog.{StoredLog}
 use Rattle.page_layout.specs.Fields.{lsn_of}
 use Rattle.page_layout.specs.Soundness.{is_sound_page}
 use Rattle.segment_store.specs.Contents.{Marks, Pages, no_marks}
-use Rattle.segment_store.specs.Lanes.{mark_in, page_in, tag_at}
+use Rattle.segment_store.specs.Lanes.{page_in, tag_at}
 use Rattle.segment_store.specs.Restored.{pages_in}
 use Rattle.pin_core.specs.State.{Page}
-use Rattle.history_core.specs.Device.{IsLeft}
-use Rattle.history_core.specs.Invariant.{written_of}
 use Rattle.history_core.specs.Log.{Entry, end_of, head_size, log_bytes}
-use Rattle.table_rule.specs.Blocks.{has_block, log_name}
+use Rattle.table_rule.specs.Blocks.{log_name}
 use Rattle.table_rule.specs.Layout.{lane_of_tag, tag_lane}
 use Rattle.table_rule.specs.Shows.{Devices, IsLog, IsPlaced}
 use Rattle.table_rule.proofs.Tags.{packed_is}
-use Rattle.frame_table.specs.Seats.{base_of, lanes_in, opened_of, relations_of}
+use Rattle.frame_table.specs.Seats.{lanes_in, opened_of, relations_of}
 use Rattle.backend_pass.specs.declared.manager.Manager.{Manager}
 use Rattle.backend_pass.specs.Closing.{ClosesAll}
 use Rattle.backend_pass.specs.Passes.{PassState}
@@ -32,7 +28,7 @@ use Rattle.page_jobs.specs.Parts.{blocks_in}
 use Rattle.page_jobs.specs.RewriteCloses.{HasImage, HoldEither, IsInLanes}
 use Rattle.page_jobs.specs.RewriteEnds.{HasRewrites, IsRewrite}
 use Rattle.page_jobs.specs.Rewrites.{Rule, rule_of}
-use Rattle.page_jobs.proofs.Standing.{all_at, found, inside, mapped_or, standing_or, there}
+use Rattle.page_jobs.proofs.Standing.{found, inside, mapped_or, standing_or, there}
 use Rattle.page_tool.specs.declared.starting.RelationFork.{RelationFork}
 use Rattle.page_tool.specs.Limits.{largest_lsn, sound_lsn}
 use Rattle.page_tool.specs.RewriteResults.{BeginsWith, HasImages, IsImageOf, IsLogged, LeavesEither}
@@ -222,10 +218,10 @@ module _ {L G : Type 0} (d : Devices L G) (m : Manager L G) (r : RelationFork) (
           → failed_after d.failed_writes r lanes block ≡ false → is_sound_page new ≡ true → base < lsn_of new → IsLogged (rule_at r) c.state.log (file_at d.synced log known) block new
       first block new at unfailed sound past = let b = both_at block new at in ⊎_elim
           (λ (same : new ≡ b.old). absurd (
-            let w = page_within pages block b.old b.at (ap is_sound_page (sym same) ∙ sound) in
-            let e = ap lsn_of same in
-            let l = are.within in
-            omega arith
+          let w = page_within pages block b.old b.at (ap is_sound_page (sym same) ∙ sound) in
+          let e = ap lsn_of same in
+          let l = are.within in
+          omega arith
           ))
           (λ (x : IsLogged (rule_at r) c.state.log (file_at d.synced log known) block new). x)
           (either_at block new b unfailed)
@@ -238,7 +234,7 @@ module _ {L G : Type 0} (d : Devices L G) (m : Manager L G) (r : RelationFork) (
           record { rest = left.rest; is_bytes = sym (device.bytes known told) ∙ left.is_bytes }
 
       pub leaves_either : HasRewrites (rule_at r) (blocks_in m 0 r.fork) c.state.known c.state.origin c.state.log
-        → LeavesEither (rule_at r) (names_of r) base pages (pages_after d.contents r lanes pages) (failed_after d.failed_writes r lanes) (file_at d.synced log known)
+          → LeavesEither (rule_at r) (names_of r) base pages (pages_after d.contents r lanes pages) (failed_after d.failed_writes r lanes) (file_at d.synced log known)
       leaves_either has = record {
         log = c.state.log;
         based = c.opened.base ∙ started.based;

@@ -1,18 +1,15 @@
 -- What a rewrite leaves and why it ended, by what its passes did and what the close gives.
-use Rattle.std.proofs.Common.{◌≡◌, ℕ, ◌+◌, ◌-◌, ◌*◌, ◌<◌, ◌≤◌, ◌^◌, ◌⊎◌, true, List, length, Option, Result, Ok, Err, refl, sym, ap, ◌∙◌, subst, inl, inr, ⊎_elim, arith}
-use Rattle.std.specs.Prelude.{IfErr, IfOk, OnOk, is_some, sum_by}
-use mathlib.Core.Option.{some, some-injective}
+use Rattle.std.proofs.Common.{◌≡◌, ℕ, ◌+◌, ◌-◌, ◌*◌, ◌<◌, ◌≤◌, ◌^◌, ◌⊎◌, true, List, length, Result, Ok, Err, sym, ap, ◌∙◌, subst, ⊎_elim, arith}
+use Rattle.std.specs.Prelude.{is_some, sum_by}
+use mathlib.Core.Option.{some-injective}
 use lib.ListN.{get_elem?}
-use Rattle.log_device.specs.Faults.{Rose}
 use Rattle.page_layout.specs.declared.outcomes.RewriteTotals.{RewriteTotals}
 use Rattle.page_layout.specs.Outcomes.{rewrite_totals_of}
-use Rattle.segment_store.specs.Contents.{Pages}
 use Rattle.pin_core.specs.declared.view.Met.{Met}
 use Rattle.pin_core.specs.declared.view.View.{View}
 use Rattle.pin_core.specs.State.{Page}
-use Rattle.history_core.specs.Log.{record_size}
 use Rattle.table_rule.specs.Shows.{Devices}
-use Rattle.frame_table.specs.Seats.{OnlyRises, base_of, lanes_in, opened_of}
+use Rattle.frame_table.specs.Seats.{OnlyRises, base_of, opened_of}
 use Rattle.frame_table.proofs.Rising.{rises_none}
 use Rattle.backend_pass.specs.declared.manager.Manager.{Manager}
 use Rattle.backend_pass.specs.Closing.{ClosesAll, met_by_passes}
@@ -25,13 +22,12 @@ use Rattle.page_jobs.specs.RewriteCloses.{ClosesEither, ClosesFull, ClosesRewrit
 use Rattle.page_jobs.specs.RewriteJobs.{EndsRewrite}
 use Rattle.page_jobs.proofs.Standing.{all_at, inside, there}
 use Rattle.page_jobs.proofs.Starting.{is_origin}
-use Rattle.page_tool.specs.declared.limits.PositionLimit.{PositionLimit}
-use Rattle.page_tool.specs.declared.limits.PositionLimit.TheVariants.{OfPages, OfPage, OfLog}
+use Rattle.page_tool.specs.declared.limits.PositionLimit.TheVariants.{OfLog}
 use Rattle.page_tool.specs.declared.rewriting.RewriteError.{RewriteError}
-use Rattle.page_tool.specs.declared.rewriting.RewriteError.TheVariants.{ReadFault, WriteFault, LogFault, OutFault, Memory, OverLimit}
+use Rattle.page_tool.specs.declared.rewriting.RewriteError.TheVariants.{Memory, OverLimit}
 use Rattle.page_tool.specs.declared.starting.RelationFork.{RelationFork}
-use Rattle.page_tool.specs.Checkpointing.{EndsEarly, StoresRewrite, StoresWhole}
-use Rattle.page_tool.specs.Rewriting.{ArePages, HasPositionsLeft, HasRewriteCause, LeavesRewritten, checkpoint_error, failed_after, rewrite_error, rewrite_totals_in}
+use Rattle.page_tool.specs.Checkpointing.{StoresRewrite}
+use Rattle.page_tool.specs.Rewriting.{ArePages, HasPositionsLeft, HasRewriteCause, LeavesRewritten, checkpoint_error, rewrite_error, rewrite_totals_in}
 use Rattle.page_tool.specs.Starting.{IsStarted, log_of}
 use Rattle.page_tool.proofs.RewriteCauses.{AnyMeets, any_meets, err_cause, met_by_none, no_position, ok_cause}
 use Rattle.page_tool.proofs.RewriteLeaves.{leaves_either}

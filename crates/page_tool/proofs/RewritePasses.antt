@@ -1,6 +1,5 @@
 -- The passes of a rewrite, from their start to the close.
-use Rattle.std.proofs.Common.{◌≡◌, ◌≢◌, ℕ, zero, suc, ◌+◌, ◌-◌, ◌<◌, ◌≤◌, ◌⊎◌, ◌++◌, List, [], ◌∷◌, append-nil, length, Option, refl, sym, ap, ◌∙◌, subst, inl, inr, ⊎_elim, arith}
-use Rattle.std.proofs.lemmas.List.{length-append}
+use Rattle.std.proofs.Common.{◌≡◌, ℕ, zero, suc, ◌-◌, ◌<◌, ◌≤◌, ◌⊎◌, List, [], ◌∷◌, append-nil, length, Option, refl, sym, ap, ◌∙◌, subst, inl, inr, ⊎_elim, arith}
 use mathlib.Core.Logic.{dite}
 use mathlib.Core.Option.{some, some-injective, some-ne-none}
 use native.Mathlib.Decide.{dec_le}
@@ -8,17 +7,13 @@ use lib.ListN.{get_elem?}
 use Rattle.grid.specs.Shape.{total}
 use Rattle.block_tag.specs.declared.tag.Fork.{Fork}
 use Rattle.segment_store.specs.Contents.{Pages}
-use Rattle.pin_core.specs.declared.view.Call.{Call}
-use Rattle.pin_core.specs.declared.view.Met.{Met}
 use Rattle.pin_core.specs.declared.view.View.{View}
-use Rattle.pin_core.specs.declared.view.Content.TheVariants.{Unlocked}
 use Rattle.pin_core.specs.State.{link}
 use Rattle.history_core.specs.Log.{writes_in}
 use Rattle.frame_table.specs.Seats.{base_of, frames_of, lanes_in, opened_of}
 use Rattle.frame_table.proofs.Resting.{new_rests}
 use Rattle.backend_pass.specs.declared.manager.Manager.{Manager}
-use Rattle.backend_pass.specs.Managers.{AreAll, AreNewPasses, Belongs, IsNewPass}
-use Rattle.backend_pass.specs.Closing.{EachPass, HasSwept}
+use Rattle.backend_pass.specs.Managers.{AreAll, AreNewPasses, Belongs}
 use Rattle.backend_pass.specs.Passes.{KeepsCallers, PassState}
 use Rattle.checkpointer.specs.Stages.{HasNoLock}
 use Rattle.checkpointer.proofs.Keeping.{callers_none, no_lock_after}
@@ -31,9 +26,7 @@ use Rattle.page_jobs.specs.RewriteJobs.{RewriteParts}
 use Rattle.page_jobs.proofs.Backends.{IsGiven, all_of, came_back, new_put_nothing}
 use Rattle.page_jobs.proofs.RewriteBackends.{each_given}
 use Rattle.page_jobs.proofs.Standing.{inside, there}
-use Rattle.page_tool.specs.declared.starting.RelationFork.{RelationFork}
 use Rattle.page_tool.specs.Checkpointing.{ChecksByLast, StoresAll}
-use Rattle.page_tool.specs.Starting.{IsStarted}
 
 none_put : writes_in [] ≡ 0
 unfolding total

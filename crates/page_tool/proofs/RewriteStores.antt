@@ -1,9 +1,8 @@
 -- A rewrite and its checkpoint, put together.
-use Rattle.std.proofs.Common.{◌≡◌, ℕ, ◌<◌, ◌≤◌, List, length, Option, Ok, Err, refl, inl, inr, arith}
-use Rattle.block_tag.specs.declared.tag.Fork.{Fork}
+use Rattle.std.proofs.Common.{◌≡◌, ℕ, List, Option, Ok, Err, refl, inl, inr, arith}
 use Rattle.page_layout.specs.declared.outcomes.RewriteTotals.{RewriteTotals}
 use Rattle.segment_store.specs.Contents.{Pages}
-use Rattle.frame_table.specs.Seats.{base_of, lanes_in}
+use Rattle.frame_table.specs.Seats.{lanes_in}
 use Rattle.backend_pass.specs.declared.manager.Manager.{Manager}
 use Rattle.backend_pass.specs.Passes.{PassState}
 use Rattle.checkpointer.specs.declared.ending.CheckpointError.{CheckpointError}

@@ -1,5 +1,5 @@
 -- Lanes and a log that no rewrite was made of.
-use Rattle.std.proofs.Common.{◌≡◌, ℕ, ◌+◌, ◌<◌, ◌≤◌, ◌++◌, append-nil, true, false, List, [], ◌∷◌, length, map, get_or, Option, Some, None, Err, refl, sym, ap, ◌∙◌, subst, inl, unwrap_or, arith}
+use Rattle.std.proofs.Common.{◌≡◌, ℕ, ◌+◌, append-nil, List, [], map, get_or, Option, Some, None, Err, refl, sym, ap, ◌∙◌, inl, unwrap_or, arith}
 use Rattle.std.specs.Prelude.{IsSomeAnd}
 use Rattle.std.specs.Option.{option_and_then}
 use mathlib.Core.Option.{some, some-injective, some-ne-none}
@@ -37,8 +37,8 @@ module _ {L G : Type 0} (contents : L → Option Pages) (failed : L → Marks) (
         let here : 0 + block ≡ block = omega arith in
         let is : x.0 ≡ old = some-injective x.0 old (sym x.1 ∙ was) in
         let has : page_in (map contents lanes) (tag_at r.fork block) ≡ Some old =
-            page_of (lane_at (map contents lanes) (tag_at r.fork block)) (tag_at r.fork block) (get_or pages block []) (are.held block (inside pages block old was))
-            ∙ ap (λ (p : Page). Some p) (standing_or pages block old [] was) in
+        page_of (lane_at (map contents lanes) (tag_at r.fork block)) (tag_at r.fork block) (get_or pages block []) (are.held block (inside pages block old was))
+        ∙ ap (λ (p : Page). Some p) (standing_or pages block old [] was) in
         x.2 ∙ ap (λ (n : ℕ). unwrap_or (page_in (map contents lanes) (tag_at r.fork n)) x.0) here ∙ ap (λ (p : Option Page). unwrap_or p x.0) has
 
     either : (known : List ℕ) → bytes log ≡ Some known → LeavesEither (rule_at r) (names_of r) base pages (pages_after contents r lanes pages) (failed_after failed r lanes) (file_at synced log known)
@@ -50,13 +50,13 @@ module _ {L G : Type 0} (contents : L → Option Pages) (failed : L → Marks) (
       counted = pages_long r.fork (map contents lanes) 0 pages;
       each = λ block old new was at unfailed. inl (same block old new was at);
       log_first = λ block new at unfailed sound past. absurd (
-        let x = page_at r.fork (map contents lanes) 0 pages block new at in
-        let is = same block x.0 new x.1 at in
-        let within = page_within pages block x.0 x.1 (ap is_sound_page (sym is) ∙ sound) in
-        let position = ap lsn_of is in
-        let largest = are.within in
-        omega arith
-      );
+          let x = page_at r.fork (map contents lanes) 0 pages block new at in
+          let is = same block x.0 new x.1 at in
+          let within = page_within pages block x.0 x.1 (ap is_sound_page (sym is) ∙ sound) in
+          let position = ap lsn_of is in
+          let largest = are.within in
+          omega arith
+          );
     }
 
   pub untouched : LeavesRewritten contents failed bytes synced r base lanes lanes log (Err Memory)

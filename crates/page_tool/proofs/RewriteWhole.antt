@@ -1,25 +1,24 @@
 -- What a whole rewrite leaves of the pages and of the log.
-use Rattle.std.proofs.Common.{◌≡◌, ◌≢◌, ℕ, zero, suc, ◌+◌, ◌-◌, ◌*◌, ◌<◌, ◌≤◌, ◌^◌, ◌⊎◌, Bool, true, false, List, [], ◌∷◌, length, map, if◌then◌else◌, Option, Some, None, refl, sym, ap, ◌∙◌, subst, ⊎_elim, unwrap_or, arith}
+use Rattle.std.proofs.Common.{◌≡◌, ◌≢◌, ℕ, zero, suc, ◌+◌, ◌*◌, ◌<◌, ◌^◌, Bool, true, false, List, [], ◌∷◌, length, map, if◌then◌else◌, Option, Some, None, refl, sym, ap, ◌∙◌, subst, ⊎_elim, unwrap_or, arith}
 use Rattle.std.proofs.lemmas.List.Sums.{sum_by-cons}
 use mathlib.Core.Logic.{dite}
 use mathlib.Core.Option.{some, some-injective}
 use native.Mathlib.Decide.{ℕ_discrete}
 use lib.ListN.{get_elem?}
-use Rattle.segment_store.specs.Contents.{Pages}
 use Rattle.segment_store.specs.Lanes.{page_in, tag_at}
 use Rattle.pin_core.specs.State.{Page}
 use Rattle.page_layout.specs.declared.outcomes.PageRewrite.{PageRewrite}
 use Rattle.page_layout.specs.declared.outcomes.PageRewrite.TheVariants.{Invalid, New, Used}
 use Rattle.page_layout.specs.Fields.{lsn_of}
-use Rattle.page_layout.specs.Outcomes.{is_changed_outcome, page_rewrite_of, rewrite_totals_of}
+use Rattle.page_layout.specs.Outcomes.{is_changed_outcome, page_rewrite_of}
 use Rattle.page_layout.specs.Rewritten.{rewrite_of}
 use Rattle.page_layout.specs.Soundness.{is_new_page, is_sound_page}
 use Rattle.history_core.specs.Device.{HasRisen}
-use Rattle.history_core.specs.Log.{end_of, log_bytes, log_end, record_size}
+use Rattle.history_core.specs.Log.{log_bytes, log_end, record_size}
 use Rattle.history_core.specs.State.{failed, last_count}
 use Rattle.table_rule.specs.Layout.{lane_of_tag}
 use Rattle.table_rule.specs.Shows.{Devices, IsLog, IsPlaced}
-use Rattle.frame_table.specs.Seats.{base_of, lanes_in, opened_of, relations_of}
+use Rattle.frame_table.specs.Seats.{lanes_in, opened_of, relations_of}
 use Rattle.backend_pass.specs.declared.manager.Manager.{Manager}
 use Rattle.backend_pass.specs.Closing.{ClosesAll, met_by_passes}
 use Rattle.backend_pass.specs.Passes.{PassState}
@@ -27,10 +26,8 @@ use Rattle.page_jobs.specs.Parts.{blocks_in}
 use Rattle.page_jobs.specs.RewriteCloses.{HoldEither, HoldRewritten}
 use Rattle.page_jobs.specs.RewriteEnds.{HasEntry, HasRewrites, change_weight, sum_below}
 use Rattle.page_jobs.specs.RewriteEnds as ends
-use Rattle.page_jobs.specs.Rewrites.{Rule, rule_of}
 use Rattle.page_jobs.proofs.Standing.{inside, there}
 use Rattle.page_tool.specs.declared.starting.RelationFork.{RelationFork}
-use Rattle.page_tool.specs.Limits.{largest_lsn}
 use Rattle.page_tool.specs.RewriteResults.{IsLogged, IsRewritten}
 use Rattle.page_tool.specs.RewriteTexts.{changed_pages}
 use Rattle.page_tool.specs.Rewriting.{ArePages, failed_after, pages_after}
@@ -45,10 +42,10 @@ changed_sound page changes = from (is_sound_page page) refl
     from : (sound : Bool) → is_sound_page page ≡ sound → is_sound_page page ≡ true
     from true e = e
     from false e = absurd (
-      let no : is_changed_outcome Invalid ≡ true = subst (λ (t : Bool). is_changed_outcome (if t then (if is_new_page page then New else Used (rewrite_of page)) else Invalid) ≡ true) e changes in
-      let none : false ≡ true = no in
-      cc
-    )
+        let no : is_changed_outcome Invalid ≡ true = subst (λ (t : Bool). is_changed_outcome (if t then (if is_new_page page then New else Used (rewrite_of page)) else Invalid) ≡ true) e changes in
+        let none : false ≡ true = no in
+        cc
+        )
 
 -- the sum over the numbers below n begins with that of 0
 sum_first : (n : ℕ) (g : ℕ → ℕ) → sum_below (suc n) g ≡ g 0 + sum_below n (λ i. g (suc i))
@@ -78,7 +75,7 @@ module _ {L G : Type 0} (d : Devices L G) (m : Manager L G) (r : RelationFork) (
       dite (ℕ_discrete c.state.device.faults last_count)
       (λ (last : c.state.device.faults ≡ last_count). let more = c.logs_met (omega arith) in omega arith)
       (λ (other : c.state.device.faults ≢ last_count). let more = c.logs_met (risen other) in omega arith)
-  )
+      )
 
   module _ (unmet : (met_by_passes zs).writes ≡ 0) (pages : List Page) (are : ArePages d.contents r base (opened_of m.table) pages) where
     -- no block's last write failed
@@ -135,9 +132,9 @@ module _ {L G : Type 0} (d : Devices L G) (m : Manager L G) (r : RelationFork) (
           let begins : c.state.log.base ≡ base = c.opened.base ∙ started.based in
           ⊎_elim
           (λ (same : new ≡ old). absurd (
-            let is : new ≡ y.0.entry.image = now block old new x was at ∙ ap (λ (p : Option Page). unwrap_or p old) image in
-            let position = ap lsn_of (sym same ∙ is) in
-            omega arith
+          let is : new ≡ y.0.entry.image = now block old new x was at ∙ ap (λ (p : Option Page). unwrap_or p old) image in
+          let position = ap lsn_of (sym same ∙ is) in
+          omega arith
           ))
           (λ (logged : IsLogged (rule_at r) c.state.log (file_at d.synced log known) block new). logged)
           (each_either d m r base ps zs started few lanes log c pages are either known told block old new was at ok)
@@ -156,11 +153,13 @@ module _ {L G : Type 0} (d : Devices L G) (m : Manager L G) (r : RelationFork) (
       same_at block old new was at changes =
           let low : block < r.blocks = let i = inside pages block old was in let e = are.counted in omega arith in
           let x = in_lanes d m r base ps zs started few lanes log c pages are block old was in
-          let no : HasEntry c.state.log ((rule_at r).tag block) → ⊥ = hold.same block (tag_at r.fork block) x.before x.after x.closed old (let e = started.catalog.counted in omega arith) x.is x.was changes in
-          (no, ⊎_elim
-          (λ (same : new ≡ old). same)
-          (λ (logged : IsLogged (rule_at r) c.state.log (file_at d.synced log known) block new). absurd (no logged.made))
-          (each_either d m r base ps zs started few lanes log c pages are either known told block old new was at (unfailed block low)))
+          let no : HasEntry c.state.log ((rule_at r).tag block) → ⊥ = hold.same block (tag_at r.fork block) x.before x.after x.closed old (let e = started.catalog.counted in omega arith) x.is x.was changes in (
+            no,
+            ⊎_elim
+                (λ (same : new ≡ old). same)
+                (λ (logged : IsLogged (rule_at r) c.state.log (file_at d.synced log known) block new). absurd (no logged.made))
+                (each_either d m r base ps zs started few lanes log c pages are either known told block old new was at (unfailed block low)),
+          )
 
       pub is_rewritten : IsRewritten (rule_at r) (names_of r) base pages (pages_after d.contents r lanes pages) (file_at d.synced log known)
       is_rewritten = record {

@@ -1,5 +1,5 @@
 -- What a rewrite leaves of the lanes and the log that it is given, and why it ends before its end.
-use Rattle.std.specs.Prelude.{◌≡◌, ◌<◌, ◌≤◌, ℕ, ◌+◌, Bool, true, false, All, List, length, map, Option, Some, Result, Ok, Err, IfErr, IfOk, OnOk, MatchResult, is_some}
+use Rattle.std.specs.Prelude.{◌≡◌, ◌<◌, ◌≤◌, ℕ, ◌+◌, Bool, true, false, All, List, length, map, Option, Some, Result, IfErr, IfOk, OnOk, MatchResult, is_some}
 use Rattle.segment_store.specs.Contents.{Marks, Pages}
 use Rattle.segment_store.specs.Lanes.{HoldPages, mark_in, tag_at}
 use Rattle.segment_store.specs.Restored.{pages_in}

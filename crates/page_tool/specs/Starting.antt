@@ -1,7 +1,6 @@
 -- A manager of the blocks of one relation's fork.
 use Rattle.std.specs.Prelude.{◌≡◌, ℕ, ◌≤◌, List, [], ◌∷◌, length, replicate, slice_set, Option}
 use Rattle.block_tag.specs.declared.catalogue.RelEntry.{RelEntry}
-use Rattle.block_tag.specs.declared.tag.Fork.{Fork}
 use Rattle.block_tag.specs.Names.{fork_number}
 use Rattle.segment_store.specs.Contents.{Pages}
 use Rattle.table_rule.specs.Blocks.{log_name}

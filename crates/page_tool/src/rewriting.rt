@@ -192,7 +192,16 @@ fn rewrite_and_store<
 {
     let fork = relation.fork;
     let mut beside = Rounds::new(rounds);
-    let job = rewrite(manager, rt, alloc, passes, RelNo(0), fork, gate, &mut beside);
+    let job = rewrite(
+        manager,
+        rt,
+        alloc,
+        passes,
+        RelNo(0),
+        fork,
+        gate,
+        &mut beside,
+    );
     let JobEnd { mut passes, end } = job;
     let totals = match end {
         Ok(totals) => rewrite_totals(totals),
@@ -237,8 +246,9 @@ fn rewrite_and_close<
     ensures leaves { LeavesRewritten L.contents L.failed_writes G.bytes G.synced relation (base_of manager.table) (opened_of manager.table) result.lanes.items result.log result.end }
 {
     rewrite_closes(&manager);
-    let StoredRewrite { passes, end } =
-        rewrite_and_store(&manager, rt, alloc, passes, relation, rounds, gate);
+    let StoredRewrite { passes, end } = rewrite_and_store(
+        &manager, rt, alloc, passes, relation, rounds, gate,
+    );
     let (lanes, log) = manager.close(passes);
     RewriteEnd { lanes, log, end }
 }

@@ -1,4 +1,4 @@
-use Rattle.std.proofs.Common.{◌≡◌, ◌≤◌, subst}
+use Rattle.std.proofs.Common.{◌≤◌, subst}
 use Rattle.backend_pass.specs.Closing.{EachPass}
 use Rattle.page_tool.proofs.RewriteChecks.{checks_by_last, free_of_last, last_meets, swept_all, was_last}
 use Rattle.page_tool.proofs.rewriting.checkpoint_all.Goals as goal

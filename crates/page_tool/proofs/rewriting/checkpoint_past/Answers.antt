@@ -1,4 +1,4 @@
-use Rattle.std.proofs.Common.{◌≡◌, ◌∙◌}
+use Rattle.std.proofs.Common.{◌∙◌}
 use Rattle.checkpointer.proofs.Keeping.{callers_on, no_lock_after}
 use Rattle.page_tool.specs.Rewriting.{checkpoint_error}
 use Rattle.page_tool.proofs.RewriteCauses.{meets_since, stop_meets}

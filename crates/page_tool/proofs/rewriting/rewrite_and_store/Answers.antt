@@ -26,13 +26,13 @@ returns-in-Err g c =
     }
 
 pub checkpoint_all-requires-clause-free : goal.checkpoint_all-requires-clause-free
-checkpoint_all-requires-clause-free g c κs within =
+checkpoint_all-requires-clause-free g c =
     let job = c.rewrite-job in
     let started = c.requires.started in
     are_free {L = g.row.L.Denot} {G = g.row.G.Denot} g.L.BlockLane.contents c.args.manager.now c.args.relation.fork c.args.passes.items job.result.passes.items started.passes started.several.0 job.ensures.passes job.ensures.last
 
 pub checkpoint_all-requires-clause-unlocked : goal.checkpoint_all-requires-clause-unlocked
-checkpoint_all-requires-clause-unlocked g c κs within =
+checkpoint_all-requires-clause-unlocked g c =
     let job = c.rewrite-job in
     let started = c.requires.started in
     last_unlocked {L = g.row.L.Denot} {G = g.row.G.Denot} g.L.BlockLane.contents c.args.manager.now c.args.relation.fork c.args.passes.items job.result.passes.items started.passes started.several.0 job.ensures.passes job.ensures.last

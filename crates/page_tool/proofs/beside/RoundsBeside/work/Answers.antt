@@ -1,4 +1,4 @@
-use Rattle.std.proofs.Common.{◌≡◌, ◌∙◌}
+use Rattle.std.proofs.Common.{◌∙◌}
 use Rattle.checkpointer.proofs.Stopping.{fails_later}
 use Rattle.page_tool.proofs.PassesBeside.{refuses_since, works_on}
 use Rattle.page_tool.proofs.beside.RoundsBeside.work.Goals as goal
