@@ -179,7 +179,7 @@ module _ {L G : Type 0} (contents : L → Option Pages) (m : Manager L G) where
         (λ (short : why ≡ job.Memory). inl (is ∙ ap rewrite_error short))
         (λ (x : AnyMeets qs (rewrite_error why)). inr (subst (λ (l : List PassState). AnyMeets l e) (sym same) (subst (λ (y : RewriteError). AnyMeets qs y) (sym is) x)))
         (job_meets ps qs why seen_ps ends)
-    any_meets ps qs zs e some_ long seen_ps seen_qs (inr (why, is, meets)) = inr (subst (λ (y : RewriteError). AnyMeets zs y) (sym is) (last_meets qs zs (checkpoint_error why) some_ long seen_qs meets))
+    any_meets ps qs zs e some_ long seen_ps seen_qs (inr (why, is, meets, whole)) = inr (subst (λ (y : RewriteError). AnyMeets zs y) (sym is) (last_meets qs zs (checkpoint_error why) some_ long seen_qs meets))
 
 -- what one pass met is met by all in all, and where none met anything nothing is
 met_by_one : (f : Met → ℕ) → ((a b : Met) → f (sum_of_met a b) ≡ f a + f b) → (ps : List PassState) (i : ℕ) (p : PassState) → get_elem? ps i ≡ some p → 0 < f p.view.met → 0 < f (met_by_passes ps)

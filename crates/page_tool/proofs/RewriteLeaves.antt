@@ -1,6 +1,6 @@
 -- What a rewrite leaves of the pages and of the log, by what the devices hold as the manager is closed.
 use Rattle.std.proofs.Common.{◌≡◌, ℕ, zero, suc, ◌+◌, ◌-◌, ◌<◌, ◌≤◌, ◌^◌, ◌&&◌, ◌⊎◌, Bool, true, false, List, [], ◌∷◌, append-nil, length, map, get_or, nat_lt, if◌then◌else◌, Option, Some, None, refl, sym, ap, ◌∙◌, subst, inl, inr, ⊎_elim, unwrap_or, arith}
-use Rattle.std.specs.Prelude.{IsSomeAnd, is_some}
+use Rattle.std.specs.Prelude.{IfSome, IsSomeAnd, is_some}
 use Rattle.std.specs.Option.{option_and_then}
 use Rattle.std.proofs.lemmas.List.{length-map}
 use Rattle.std.proofs.lemmas.Option.{same_Some}
@@ -11,7 +11,7 @@ use Rattle.block_tag.specs.Names.{lane_number, names_block}
 use Rattle.log_device.specs.MemoryLog.{StoredLog}
 use Rattle.page_layout.specs.Fields.{lsn_of}
 use Rattle.page_layout.specs.Soundness.{is_sound_page}
-use Rattle.segment_store.specs.Contents.{Marks, Pages, no_marks}
+use Rattle.segment_store.specs.Contents.{AreWhole, Marks, Pages, no_marks}
 use Rattle.segment_store.specs.Lanes.{page_in, tag_at}
 use Rattle.segment_store.specs.Restored.{pages_in}
 use Rattle.pin_core.specs.State.{Page}
@@ -31,7 +31,7 @@ use Rattle.page_jobs.specs.Rewrites.{Rule, rule_of}
 use Rattle.page_jobs.proofs.Standing.{found, inside, mapped_or, standing_or, there}
 use Rattle.page_tool.specs.declared.starting.RelationFork.{RelationFork}
 use Rattle.page_tool.specs.Limits.{largest_lsn, sound_lsn}
-use Rattle.page_tool.specs.RewriteResults.{BeginsWith, HasImages, IsImageOf, IsLogged, LeavesEither}
+use Rattle.page_tool.specs.RewriteResults.{AreFull, BeginsWith, HasImages, IsImageOf, IsLogged, LeavesEither}
 use Rattle.page_tool.specs.Rewriting.{ArePages, failed_after, pages_after}
 use Rattle.page_tool.specs.Starting.{IsStarted, names_of}
 
@@ -67,6 +67,9 @@ rule_at r = rule_of 0 r.fork
 
 abbrev pub file_at : {G : Type 0} → (G → ℕ) → G → List ℕ → StoredLog
 file_at synced log known = record { bytes = known; synced = synced log }
+
+pub each_full : (pages : List Page) → ((i : ℕ) (page : Page) → get_elem? pages i ≡ some page → length page ≡ 8192) → AreFull pages
+each_full pages each i page low = let x = there pages i low in ap length (standing_or pages i x.0 page x.1) ∙ each i x.0 x.1
 
 below_test : (a b : ℕ) → a < b → nat_lt a b ≡ true
 below_test a b low = grind arith
@@ -174,6 +177,21 @@ module _ {L G : Type 0} (d : Devices L G) (m : Manager L G) (r : RelationFork) (
     pub was_old : (block : ℕ) (old new : Page) (b : Both block new) → get_elem? pages block ≡ some old → b.old ≡ old
     was_old block old new b at = some-injective b.old old (sym b.at ∙ at)
 
+    -- each page has 8192 bytes
+    full_at : ((lane : L) → IfSome (d.contents lane) AreWhole) → (block : ℕ) (new : Page) → get_elem? (pages_after d.contents r lanes pages) block ≡ some new → length new ≡ 8192
+    full_at whole block new at =
+        let b = both_at block new at in
+        let x = b.of.is in
+        let tag = tag_at r.fork block in
+        let lies = subst (λ (k : ℕ). IsPlaced (relations_of m.table) k x.lane ((rule_at r).tag block) tag) (sym c.opened.lanes) x.placed in
+        let has : b.of.after tag ≡ Some ((c.state.lane x.lane).stored ((rule_at r).tag block)) = (c.lane x.lane b.of.closed x.is).pages b.of.after ((rule_at r).tag block) tag x.holds lies in
+        let all : AreWhole b.of.after = subst (λ (p : Option Pages). IfSome p AreWhole) x.holds (whole b.of.closed) in
+        let long : length ((c.state.lane x.lane).stored ((rule_at r).tag block)) ≡ 8192 = subst (λ (p : Option Page). IfSome p (λ page. length page ≡ 8192)) has (all tag) in
+        ap length (b.new_is ∙ ap (λ (p : Option Page). unwrap_or p b.old) has) ∙ long
+
+    pub pages_full : ((lane : L) → IfSome (d.contents lane) AreWhole) → AreFull (pages_after d.contents r lanes pages)
+    pages_full whole = each_full (pages_after d.contents r lanes pages) (full_at whole)
+
     module _ (has : HasRewrites (rule_at r) (blocks_in m 0 r.fork) c.state.known c.state.origin c.state.log) where
       image_of : (e : Entry) → IsRewrite (rule_at r) (blocks_in m 0 r.fork) c.state.known c.state.origin e → IsImageOf (rule_at r) pages e
       image_of e x =
@@ -196,51 +214,54 @@ module _ {L G : Type 0} (d : Devices L G) (m : Manager L G) (r : RelationFork) (
       images = record { each = λ k e at. image_of e (has.each k e at); one = has.one }
 
     module _ (hold : HoldEither d m.table.table.shared.key lanes (rule_at r) c.state) (known : List ℕ) (told : d.bytes log ≡ Some known) where
-      logged : (block : ℕ) (new : Page) (b : Both block new) → HasImage (rule_at r) c.state ((rule_at r).tag block) b.old (b.of.after (tag_at r.fork block)) → IsLogged (rule_at r) c.state.log (file_at d.synced log known) block new
+      logged : (block : ℕ) (new : Page) (b : Both block new) → HasImage (rule_at r) c.state ((rule_at r).tag block) b.old (b.of.after (tag_at r.fork block)) → IsLogged (rule_at r) c.state.log (file_at d.synced log known) block b.old new
       logged block new b x = record {
         made = x.made;
         image = sym (b.new_is ∙ ap (λ (p : Option Page). unwrap_or p b.old) x.held);
+        rewritten = b.new_is ∙ ap (λ (p : Option Page). unwrap_or p b.old) x.held ∙ x.image;
         durable = subst (λ (n : ℕ). head_size + end_of x.made.entry ≤ c.state.log.base + n) (c.device.synced known told) x.durable;
       }
 
-      either_at : (block : ℕ) (new : Page) (b : Both block new) → failed_after d.failed_writes r lanes block ≡ false → (new ≡ b.old) ⊎ IsLogged (rule_at r) c.state.log (file_at d.synced log known) block new
+      either_at : (block : ℕ) (new : Page) (b : Both block new) → failed_after d.failed_writes r lanes block ≡ false → (new ≡ b.old) ⊎ IsLogged (rule_at r) c.state.log (file_at d.synced log known) block b.old new
       either_at block new b unfailed = ⊎_elim
           (λ (same : b.of.after (tag_at r.fork block) ≡ Some b.old). inl (b.new_is ∙ ap (λ (p : Option Page). unwrap_or p b.old) same))
           (λ (x : HasImage (rule_at r) c.state ((rule_at r).tag block) b.old (b.of.after (tag_at r.fork block))). inr (logged block new b x))
           (hold ((rule_at r).tag block) (tag_at r.fork block) b.of.before b.of.after b.of.closed b.old b.of.is b.of.was (sym b.of.marked ∙ unfailed))
 
       pub each_either : (block : ℕ) (old new : Page) → get_elem? pages block ≡ some old → get_elem? (pages_after d.contents r lanes pages) block ≡ some new
-          → failed_after d.failed_writes r lanes block ≡ false → (new ≡ old) ⊎ IsLogged (rule_at r) c.state.log (file_at d.synced log known) block new
+          → failed_after d.failed_writes r lanes block ≡ false → (new ≡ old) ⊎ IsLogged (rule_at r) c.state.log (file_at d.synced log known) block old new
       each_either block old new was at unfailed = let b = both_at block new at in
-          subst (λ (p : Page). (new ≡ p) ⊎ IsLogged (rule_at r) c.state.log (file_at d.synced log known) block new) (was_old block old new b was) (either_at block new b unfailed)
+          subst (λ (p : Page). (new ≡ p) ⊎ IsLogged (rule_at r) c.state.log (file_at d.synced log known) block p new) (was_old block old new b was) (either_at block new b unfailed)
 
-      first : (block : ℕ) (new : Page) → get_elem? (pages_after d.contents r lanes pages) block ≡ some new
-          → failed_after d.failed_writes r lanes block ≡ false → is_sound_page new ≡ true → base < lsn_of new → IsLogged (rule_at r) c.state.log (file_at d.synced log known) block new
-      first block new at unfailed sound past = let b = both_at block new at in ⊎_elim
-          (λ (same : new ≡ b.old). absurd (
-          let w = page_within pages block b.old b.at (ap is_sound_page (sym same) ∙ sound) in
+      first : (block : ℕ) (old new : Page) → get_elem? pages block ≡ some old → get_elem? (pages_after d.contents r lanes pages) block ≡ some new
+          → failed_after d.failed_writes r lanes block ≡ false → is_sound_page new ≡ true → base < lsn_of new → IsLogged (rule_at r) c.state.log (file_at d.synced log known) block old new
+      first block old new was at unfailed sound past = ⊎_elim
+          (λ (same : new ≡ old). absurd (
+          let w = page_within pages block old was (ap is_sound_page (sym same) ∙ sound) in
           let e = ap lsn_of same in
           let l = are.within in
           omega arith
           ))
-          (λ (x : IsLogged (rule_at r) c.state.log (file_at d.synced log known) block new). x)
-          (either_at block new b unfailed)
+          (λ (x : IsLogged (rule_at r) c.state.log (file_at d.synced log known) block old new). x)
+          (each_either block old new was at unfailed)
 
       -- behind the log's bytes stands only what a failure left
       begins_with : (mark : Option ℕ) → IsLog d log mark c.state.device → (mark ≡ None → c.state.device.bytes ≡ log_bytes c.state.names c.state.log) → BeginsWith c.state.names c.state.log (file_at d.synced log known)
-      begins_with None device whole = record { rest = []; is_bytes = sym (device.bytes known told) ∙ whole refl ∙ sym (append-nil (log_bytes c.state.names c.state.log)) }
+      begins_with None device whole = record { rest = []; short = omega arith; is_bytes = sym (device.bytes known told) ∙ whole refl ∙ sym (append-nil (log_bytes c.state.names c.state.log)) }
       begins_with (Some p) device whole =
           let left = (c.laws.invariant.device.columns 0 (omega arith)).left (λ none. let no = sym device.down ∙ none in absurd (cc)) in
-          record { rest = left.rest; is_bytes = sym (device.bytes known told) ∙ left.is_bytes }
+          record { rest = left.rest; short = left.short; is_bytes = sym (device.bytes known told) ∙ left.is_bytes }
 
-      pub leaves_either : HasRewrites (rule_at r) (blocks_in m 0 r.fork) c.state.known c.state.origin c.state.log
+      pub leaves_either : ((lane : L) → IfSome (d.contents lane) AreWhole) → HasRewrites (rule_at r) (blocks_in m 0 r.fork) c.state.known c.state.origin c.state.log
           → LeavesEither (rule_at r) (names_of r) base pages (pages_after d.contents r lanes pages) (failed_after d.failed_writes r lanes) (file_at d.synced log known)
-      leaves_either has = record {
+      leaves_either whole has = record {
+        law = c.laws.invariant.log;
         log = c.state.log;
         based = c.opened.base ∙ started.based;
         begins = subst (λ (names : ℕ → List ℕ). BeginsWith names c.state.log (file_at d.synced log known)) names_are (begins_with c.mark c.device c.bytes);
         images = images has;
         counted = pages_long r.fork (map d.contents lanes) 0 pages;
+        full = pages_full whole;
         each = each_either;
         log_first = first;
       }

@@ -1,10 +1,11 @@
 -- What a rewrite leaves and why it ended, by what its passes did and what the close gives.
 use Rattle.std.proofs.Common.{◌≡◌, ℕ, ◌+◌, ◌-◌, ◌*◌, ◌<◌, ◌≤◌, ◌^◌, ◌⊎◌, true, List, length, Result, Ok, Err, sym, ap, ◌∙◌, subst, ⊎_elim, arith}
-use Rattle.std.specs.Prelude.{is_some, sum_by}
+use Rattle.std.specs.Prelude.{IfSome, is_some, sum_by}
 use mathlib.Core.Option.{some-injective}
 use lib.ListN.{get_elem?}
 use Rattle.page_layout.specs.declared.outcomes.RewriteTotals.{RewriteTotals}
 use Rattle.page_layout.specs.Outcomes.{rewrite_totals_of}
+use Rattle.segment_store.specs.Contents.{AreWhole}
 use Rattle.pin_core.specs.declared.view.Met.{Met}
 use Rattle.pin_core.specs.declared.view.View.{View}
 use Rattle.pin_core.specs.State.{Page}
@@ -79,7 +80,7 @@ module _ {L G : Type 0} (d : Devices L G) (m : Manager L G) (r : RelationFork) (
   cause reads writes (Ok totals) s = ok_cause d m r base ps zs started few lanes log c reads writes totals (nothing totals s)
   cause reads writes (Err e) s = err_cause d m r base ps zs started few lanes log c reads writes e (why_early e s)
 
-  module _ (either : ClosesEither d m) (rewritten : ClosesRewritten d m) (full : ClosesFull d m) (room : base_of m.table + 8224 * r.blocks ≤ 2 ^ 62) (none : d.log_faults (log_of m) ≡ 0) where
+  module _ (either : ClosesEither d m) (rewritten : ClosesRewritten d m) (full : ClosesFull d m) (room : base_of m.table + 8224 * r.blocks ≤ 2 ^ 62) (none : d.log_faults (log_of m) ≡ 0) (full_pages : (lane : L) → IfSome (d.contents lane) AreWhole) where
     -- a whole rewrite, and its checkpoint
     stored : (pages : List Page) → ArePages d.contents r base (opened_of m.table) pages → (totals : RewriteTotals) (s : StoresRewrite d.contents m r.fork ps zs (Ok totals))
         → RewritesAndStores d.contents m 0 r.fork ps s.qs zs s.whole.counts s.whole.stores.upto
@@ -130,10 +131,10 @@ module _ {L G : Type 0} (d : Devices L G) (m : Manager L G) (r : RelationFork) (
         let x = either 0 r.fork ps s.qs zs lanes log s.alone c in
         let unmet = nothing totals s in
         record {
-          either = λ pages known are told. leaves_either d m r base ps zs started few lanes log c pages are x.1 known told x.0;
+          either = λ pages known are told. leaves_either d m r base ps zs started few lanes log c pages are x.1 known told full_pages x.0;
           whole = λ pages known are told.
               let y = rewritten 0 r.fork ps s.qs zs s.whole.counts s.whole.stores.upto lanes log (stored pages are totals s) c in
-              is_rewritten d m r base ps zs started few lanes log c (ap (λ (k : Met). k.writes) unmet) pages are y.0 x.1 y.2 none (ap (λ (k : Met). k.logs) unmet) known told;
+              is_rewritten d m r base ps zs started few lanes log c (ap (λ (k : Met). k.writes) unmet) pages are y.0 x.1 y.2 none (ap (λ (k : Met). k.logs) unmet) known told full_pages;
           totals = λ pages are. totals_are pages are totals s;
           unfailed = λ pages are. unfailed d m r base ps zs started few lanes log c (ap (λ (k : Met). k.writes) unmet) pages are;
           positions = tt;
@@ -141,7 +142,7 @@ module _ {L G : Type 0} (d : Devices L G) (m : Manager L G) (r : RelationFork) (
     leaves (Err e) s =
         let x = either 0 r.fork ps s.qs zs lanes log s.alone c in
         record {
-          either = λ pages known are told. leaves_either d m r base ps zs started few lanes log c pages are x.1 known told x.0;
+          either = λ pages known are told. leaves_either d m r base ps zs started few lanes log c pages are x.1 known told full_pages x.0;
           whole = tt;
           totals = tt;
           unfailed = tt;

@@ -48,12 +48,13 @@ module _ {L G : Type 0} (contents : L → Option Pages) (m : Manager L G) (r : R
     }
 
     -- the checkpoint was refused
-    pub stores_refused : (why : CheckpointError) (e : RewriteError) → e ≡ checkpoint_error why → LastMeets contents m.table qs zs (checkpoint_error why) → StoresRewrite contents m r.fork ps zs (Err e)
-    stores_refused why e is meets = record {
+    pub stores_refused : (why : CheckpointError) (e : RewriteError) → e ≡ checkpoint_error why → LastMeets contents m.table qs zs (checkpoint_error why)
+        → (counts : Totals) → RewritesFork contents m 0 r.fork (workers_in ps) (workers_in qs) counts → StoresRewrite contents m r.fork ps zs (Err e)
+    stores_refused why e is meets counts all = record {
       qs = qs;
       alone = alone contents m r.fork ps qs started.passes started.several.0 parts stays zs checked started.counted;
       given = all_given contents m r.fork ps qs started.passes started.several.0 parts stays zs checked;
       checked = checked;
       whole = tt;
-      early = inr (why, is, meets);
+      early = inr (why, is, meets, (counts, all));
     }

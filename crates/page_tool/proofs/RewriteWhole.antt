@@ -1,10 +1,12 @@
 -- What a whole rewrite leaves of the pages and of the log.
 use Rattle.std.proofs.Common.{◌≡◌, ◌≢◌, ℕ, zero, suc, ◌+◌, ◌*◌, ◌<◌, ◌^◌, Bool, true, false, List, [], ◌∷◌, length, map, if◌then◌else◌, Option, Some, None, refl, sym, ap, ◌∙◌, subst, ⊎_elim, unwrap_or, arith}
 use Rattle.std.proofs.lemmas.List.Sums.{sum_by-cons}
+use Rattle.std.specs.Prelude.{IfSome}
 use mathlib.Core.Logic.{dite}
 use mathlib.Core.Option.{some, some-injective}
 use native.Mathlib.Decide.{ℕ_discrete}
 use lib.ListN.{get_elem?}
+use Rattle.segment_store.specs.Contents.{AreWhole}
 use Rattle.segment_store.specs.Lanes.{page_in, tag_at}
 use Rattle.pin_core.specs.State.{Page}
 use Rattle.page_layout.specs.declared.outcomes.PageRewrite.{PageRewrite}
@@ -32,7 +34,7 @@ use Rattle.page_tool.specs.RewriteResults.{IsLogged, IsRewritten}
 use Rattle.page_tool.specs.RewriteTexts.{changed_pages}
 use Rattle.page_tool.specs.Rewriting.{ArePages, failed_after, pages_after}
 use Rattle.page_tool.specs.Starting.{IsStarted, log_of, names_of}
-use Rattle.page_tool.proofs.RewriteLeaves.{InLanes, each_either, file_at, images, in_lanes, names_are, origin_at, page_at, page_within, pages_long, rule_at}
+use Rattle.page_tool.proofs.RewriteLeaves.{InLanes, each_either, file_at, images, in_lanes, names_are, origin_at, page_at, page_within, pages_full, pages_long, rule_at}
 
 -- a page that the rule changes is sound
 changed_sound : (page : Page) → is_changed_outcome (page_rewrite_of page) ≡ true → is_sound_page page ≡ true
@@ -117,7 +119,7 @@ module _ {L G : Type 0} (d : Devices L G) (m : Manager L G) (r : RelationFork) (
 
       -- the page of a block that the rule changes is that of its entry
       changed_at : (block : ℕ) (old new : Page) → get_elem? pages block ≡ some old → get_elem? (pages_after d.contents r lanes pages) block ≡ some new → (rule_at r).changes old ≡ true
-          → IsLogged (rule_at r) c.state.log (file_at d.synced log known) block new
+          → IsLogged (rule_at r) c.state.log (file_at d.synced log known) block old new
       changed_at block old new was at changes =
           let low : block < r.blocks = let i = inside pages block old was in let e = are.counted in omega arith in
           let ok = unfailed block low in
@@ -136,7 +138,7 @@ module _ {L G : Type 0} (d : Devices L G) (m : Manager L G) (r : RelationFork) (
           let position = ap lsn_of (sym same ∙ is) in
           omega arith
           ))
-          (λ (logged : IsLogged (rule_at r) c.state.log (file_at d.synced log known) block new). logged)
+          (λ (logged : IsLogged (rule_at r) c.state.log (file_at d.synced log known) block old new). logged)
           (each_either d m r base ps zs started few lanes log c pages are either known told block old new was at ok)
         where
           now : (block : ℕ) (old new : Page) (x : InLanes d m r base ps zs started few lanes log c block old) → get_elem? pages block ≡ some old → get_elem? (pages_after d.contents r lanes pages) block ≡ some new
@@ -157,18 +159,20 @@ module _ {L G : Type 0} (d : Devices L G) (m : Manager L G) (r : RelationFork) (
             no,
             ⊎_elim
                 (λ (same : new ≡ old). same)
-                (λ (logged : IsLogged (rule_at r) c.state.log (file_at d.synced log known) block new). absurd (no logged.made))
+                (λ (logged : IsLogged (rule_at r) c.state.log (file_at d.synced log known) block old new). absurd (no logged.made))
                 (each_either d m r base ps zs started few lanes log c pages are either known told block old new was at (unfailed block low)),
           )
 
-      pub is_rewritten : IsRewritten (rule_at r) (names_of r) base pages (pages_after d.contents r lanes pages) (file_at d.synced log known)
-      is_rewritten = record {
+      pub is_rewritten : ((lane : L) → IfSome (d.contents lane) AreWhole) → IsRewritten (rule_at r) (names_of r) base pages (pages_after d.contents r lanes pages) (file_at d.synced log known)
+      is_rewritten full = record {
+        law = c.laws.invariant.log;
         log = c.state.log;
         based = c.opened.base ∙ started.based;
         is_bytes = sym (c.device.bytes known told) ∙ c.bytes (not_down none met c.mark c.device) ∙ ap (λ (names : ℕ → List ℕ). log_bytes names c.state.log) (names_are d m r base ps zs started few lanes log c);
         images = images d m r base ps zs started few lanes log c pages are has.rewrites;
         end = ended;
         counted = pages_long r.fork (map d.contents lanes) 0 pages;
+        full = pages_full d m r base ps zs started few lanes log c pages are full;
         changed = changed_at;
         same = same_at;
       }

@@ -80,7 +80,7 @@ abbrev pub LastMeets : {L G : Type 0} → (L → Option Pages) → FrameTable L 
 LastMeets contents t ps qs e = (p q : PassState) → get_elem? ps (length ps - 1) ≡ some p → get_elem? qs (length ps - 1) ≡ some q → PassMeets contents t p.view q.view e
 
 module _ {L G : Type 0} (contents : L → Option Pages) (m : Manager L G) (fork : Fork) where
-  -- The passes `ps`, which were `qs` after it, rewrote all blocks, and then, as `zs`, have stored what was logged; none met a fault
+  -- The passes `ps`, which were `qs` after the job, rewrote all blocks, and then, as `zs`, have stored what was logged; none met a fault
   pub record StoresWhole (ps qs zs : List PassState) (totals : RewriteTotals) : Type 0 where
     pub counts : Totals
     pub all : RewritesFork contents m 0 fork (workers_in ps) (workers_in qs) counts
@@ -88,11 +88,12 @@ module _ {L G : Type 0} (contents : L → Option Pages) (m : Manager L G) (fork 
     pub stores : StoresAll (lanes_in m.table) qs zs
     pub met : MeetNothing ps zs
 
-  -- The job ended early, for this reason, and nothing was done after it; or the checkpoint was refused
+  -- The job ended early, for this reason, and nothing was done after it; or it was whole, and the checkpoint was refused
   abbrev pub EndsEarly : List PassState → List PassState → List PassState → RewriteError → Type 0
   EndsEarly ps qs zs e =
       ((why : JobError) × (e ≡ rewrite_error why) × (zs ≡ qs) × EndsRewrite contents m 0 fork ps qs why)
-      ⊎ ((why : CheckpointError) × (e ≡ checkpoint_error why) × LastMeets contents m.table qs zs (checkpoint_error why))
+      ⊎ ((why : CheckpointError) × (e ≡ checkpoint_error why) × LastMeets contents m.table qs zs (checkpoint_error why)
+      × ((counts : Totals) × RewritesFork contents m 0 fork (workers_in ps) (workers_in qs) counts))
 
   -- The passes `ps` made a rewrite, and where that was whole the last of them a checkpoint. No other page was put, and all passes can be given back
   pub record StoresRewrite (ps zs : List PassState) (end : Result RewriteTotals RewriteError) : Type 0 where

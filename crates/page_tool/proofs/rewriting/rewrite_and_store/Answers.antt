@@ -57,5 +57,6 @@ returns-in-Err-checkpoint_all g c =
     let err = c.in-Err-checkpoint_all.ensures in
     record {
       stores = stores_refused {L = g.row.L.Denot} {G = g.row.G.Denot} g.L.BlockLane.contents c.args.manager.now r (base_of c.args.manager.now.table) c.args.passes.items job.result.passes.items c.requires.started job.ensures.passes job.ensures.last
-          c.checkpoint_all.new.passes.items err.passes c.in-Err-checkpoint_all.error c.from-in-Err-checkpoint_all.result c.from-in-Err-checkpoint_all.ensures err.cause;
+          c.checkpoint_all.new.passes.items err.passes c.in-Err-checkpoint_all.error c.from-in-Err-checkpoint_all.result c.from-in-Err-checkpoint_all.ensures err.cause c.in-Ok.totals
+          (subst (λ (e : Result Totals JobError). IfOk e (RewritesFork {L = g.row.L.Denot} {G = g.row.G.Denot} g.L.BlockLane.contents c.args.manager.now 0 r.fork (workers_in c.args.passes.items) (workers_in job.result.passes.items))) c.in-Ok.is job.ensures.done);
     }
