@@ -1,21 +1,23 @@
--- What threads share: a manager over the devices of these tests.
+-- What threads share: a manager over the devices of these tests, and plain values.
+use mathlib.Core.List.{[], ◌∷◌}
+use mir.Syntax.{Sym}
+use denote.RattleType.{RattleType}
+use denote.Struct.Tuple.{TupleAt}
 use denote.Param.Send.{IsSend, IsSync, sendable}
 use Rattle.std.proofs.Crossing.{crosses, frees}
 use Rattle.std.proofs.CrossingOver as over
 use Rattle.segment_store.specs.declared.device.BlockLane as block_lane
 use Rattle.log_device.specs.declared.device.LogDevice as log_device
-use Rattle.clock_sweep.specs.contracts.sweep.Sweep as sweep
 use Rattle.backend_pass.specs.contracts.manager.Manager as manager
 use Rattle.table_rule.specs.contracts.value.Value as value
 use Rattle.table_tests.proofs.Crossing.{shared_sync, lease_sync}
 use Rattle.sync_tests.specs.contracts.devices.PageLane as lane
 use Rattle.sync_tests.specs.contracts.devices.ByteLog as log
-
-sweeps_shared : IsSync sweep.the_row
-sweeps_shared = search (sendable, crosses, over.crosses, frees) depth 40 fits 20000
+use Rattle.sync_tests.specs.contracts.sharing.Use as uses
+use Rattle.sync_tests.specs.contracts.sharing.Job as jobs
 
 lanes_cross : IsSend lane.the_row
-lanes_cross = search (sendable, crosses, over.crosses) depth 30
+lanes_cross = search (sendable, crosses, over.crosses) depth 30 fits 20000
 
 logs_cross : IsSend log.the_row
 logs_cross = search (sendable, crosses, over.crosses) depth 30
@@ -24,4 +26,14 @@ values_cross : IsSend (value.the_row lane.the_row log.the_row)
 values_cross = search (sendable, crosses, over.crosses, lanes_cross, logs_cross) depth 30 fits 20000
 
 pub managers_shared : (a : block_lane.Ghosts lane.the_row.Denot) (b : log_device.Ghosts log.the_row.Denot) → IsSync (manager.the_row lane.the_row log.the_row a b)
-managers_shared a b = search (sendable, crosses, over.crosses, values_cross, shared_sync, lease_sync, sweeps_shared, frees) depth 50 fits 40000
+managers_shared a b = search (sendable, crosses, over.crosses, values_cross, shared_sync, lease_sync, frees) depth 50 fits 40000
+
+pub uses_shared : IsSync uses.the_row
+uses_shared = search (sendable, crosses, over.crosses) depth 20
+
+pub jobs_shared : IsSync jobs.the_row
+jobs_shared = search (sendable, crosses, over.crosses) depth 20
+
+-- what captures four values may cross threads where they may
+pub four_sent : (ν : Sym) (A B C D : RattleType) → IsSend A → IsSend B → IsSend C → IsSend D → IsSend (TupleAt ν (A ∷ B ∷ C ∷ D ∷ []))
+four_sent ν A B C D a b c d = search (sendable, crosses) depth 20

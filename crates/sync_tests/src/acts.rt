@@ -1,10 +1,9 @@
 //! What three passes do one after another, and what comes of it.
-ghost use Rattle.std.specs.Prelude.{◌≡◌};
 ghost use Rattle.manager_tests.specs.Bench.{IsFree};
 ghost use Rattle.sync_tests.specs.Idle.{IsIdle};
 
 use crate::bench::start;
-use crate::devices::{ByteLog, DeviceCall, PageLane, in_order};
+use crate::devices::{ByteLog, DeviceCall, PageLane, calls_of};
 use crate::syncing::{checkpoint_once, round_once};
 use backend_pass::{FlushError, Manager, Met, Pass, PutError, ReadError};
 use bg_writer::Round;
@@ -135,20 +134,6 @@ pub struct Played {
     pub met: Met,
     pub lanes: Vec<PageLane>,
     pub log: ByteLog,
-}
-
-/// The calls of devices, in the order in which they were made.
-fn calls_of(
-    lanes: &[PageLane],
-    log: &ByteLog,
-    alloc: Global,
-) -> Result<Vec<DeviceCall>, AllocError> {
-    let mut calls = Vec::new(alloc);
-    calls.extend_from_slice(&log.journal.calls)?;
-    for lane in lanes {
-        calls.extend_from_slice(&lane.journal.calls)?;
-    }
-    in_order(calls, alloc)
 }
 
 /// The passes of a manager of so many frames over these devices do acts in order, and the manager is closed.

@@ -36,11 +36,14 @@ pub fn start(
     let Ok(catalog) = catalog(alloc) else {
         return Err(AllocError);
     };
+    let Ok(count) = u32::try_from(lanes.len()) else {
+        return Err(AllocError);
+    };
     let room = Vec::with_capacity(alloc, 3)?;
     let config = Config {
         frames,
         passes: 3,
-        lanes: lanes.len() as u32,
+        lanes: count,
     };
     match Manager::start(alloc, config, catalog, lanes, log, 0) {
         Ok((manager, mut passes)) => {

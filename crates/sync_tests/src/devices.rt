@@ -1,6 +1,4 @@
 //! Devices that tell which calls were made, and in which order.
-ghost use Rattle.std.specs.Prelude.{◌≡◌, ◌+◌};
-
 use block_tag::Tag;
 use log_device::{CallCount, Failed, FaultCount, LogDevice};
 use page_layout::Page;
@@ -8,7 +6,6 @@ use segment_store::{BlockLane, LaneHistory};
 use std::alloc::{AllocError, Global};
 use std::sync::Arc;
 use std::sync::atomic::{AtomicU64, Ordering};
-use test_devices::one_item;
 
 /// A call of a device, which may have failed.
 #[derive(Clone, Copy, PartialEq, Eq, Debug)]
@@ -58,7 +55,7 @@ impl Journal {
 }
 
 /// Calls in the order in which they were made.
-pub fn in_order(mut numbered: Vec<Numbered>, alloc: Global) -> Result<Vec<DeviceCall>, AllocError> {
+fn in_order(mut numbered: Vec<Numbered>, alloc: Global) -> Result<Vec<DeviceCall>, AllocError> {
     numbered.sort_unstable_by_key(|n| n.number);
     let mut calls = Vec::new(alloc);
     for n in &numbered {
@@ -89,20 +86,9 @@ pub struct PageLane {
 }
 
 impl PageLane {
-    /// So many blocks, whose pages have one item, that tells the block's number.
-    pub fn new(
-        alloc: Global,
-        blocks: u32,
-        failing: Failing,
-        journal: Journal,
-    ) -> Result<PageLane, AllocError> {
-        let mut pages = Vec::new(alloc);
-        for block in 0..blocks {
-            let mut page = Page::zeroed(alloc)?;
-            page.fill(&one_item((block % 256) as u8));
-            pages.push(page)?;
-        }
-        Ok(PageLane {
+    /// Blocks with these pages.
+    pub fn new(pages: Vec<Page>, failing: Failing, journal: Journal) -> PageLane {
+        PageLane {
             pages,
             journal,
             failing,
@@ -110,7 +96,7 @@ impl PageLane {
             syncs: 0,
             faults: FaultCount::new(),
             history: LaneHistory::new(),
-        })
+        }
     }
 }
 
@@ -239,4 +225,18 @@ impl LogDevice for ByteLog {
     ghost faults_fit = { λ l. l.faults.fits };
 
     ghost synced_within = { λ _. tt };
+}
+
+/// The calls of devices, in the order in which they were made.
+pub fn calls_of(
+    lanes: &[PageLane],
+    log: &ByteLog,
+    alloc: Global,
+) -> Result<Vec<DeviceCall>, AllocError> {
+    let mut calls = Vec::new(alloc);
+    calls.extend_from_slice(&log.journal.calls)?;
+    for lane in lanes {
+        calls.extend_from_slice(&lane.journal.calls)?;
+    }
+    in_order(calls, alloc)
 }

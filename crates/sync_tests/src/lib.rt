@@ -4,6 +4,7 @@
 pub mod acts;
 pub mod bench;
 pub mod devices;
+pub mod rewriting;
 pub mod sharing;
 pub mod syncing;
 #[cfg(test)]

@@ -1,5 +1,4 @@
 //! Rounds and checkpoints by a pass beside two others, each in a thread of its own.
-ghost use Rattle.std.specs.Prelude.{◌≡◌, ◌<◌};
 ghost use Rattle.std.specs.Thread.{IsSync};
 ghost use Rattle.manager_tests.specs.Bench.{IsFreeIn};
 ghost use Rattle.sync_tests.specs.Idle.{IsIdleIn};

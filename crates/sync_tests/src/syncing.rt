@@ -3,10 +3,8 @@ ghost use Rattle.sync_tests.specs.Idle.{IsIdle};
 
 use backend_pass::{FlushError, Manager, Pass};
 use bg_writer::{Round, round};
-use block_tag::Tag;
 use checkpointer::{Checkpoint, CheckpointError, checkpoint};
 use log_device::LogDevice;
-use manager_tests::reading::{pin, unpin};
 use segment_store::BlockLane;
 use std::sync::Wait;
 

@@ -1,0 +1,89 @@
+//! A rewrite, and a checkpoint after it.
+use crate::devices::{ByteLog, DeviceCall, PageLane, calls_of};
+use backend_pass::{Config, Manager, Pinned, StartRefused};
+use block_tag::{Catalog, CatalogError, Fork, RelEntry, RelNo};
+use checkpointer::{Checkpoint, CheckpointError, checkpoint};
+use page_jobs::{Gate, JobEnd, JobError, NoBeside, Totals, rewrite};
+use page_layout::Lsn;
+use std::alloc::{AllocError, Global};
+use std::sync::Wait;
+use std::thread::Threads;
+
+/// Where the log begins.
+const BASE: Lsn = 0x16B3740;
+
+/// Hears of no block.
+#[derive(Drop)]
+struct Deaf;
+
+impl Gate for Deaf {
+    fn before(&self, _worker: u32, _block: u32) {}
+
+    fn seen(&self, _worker: u32, _pinned: &Pinned) {}
+}
+
+/// What came of them, and the calls of the devices.
+#[derive(Drop)]
+pub struct Rewritten {
+    pub end: Result<Totals, JobError>,
+    pub checkpoint: Result<Checkpoint, CheckpointError>,
+    pub calls: Vec<DeviceCall>,
+}
+
+/// A relation of four blocks.
+fn catalog(alloc: Global) -> Result<Catalog, CatalogError> {
+    let entry = RelEntry {
+        tablespace: 0,
+        database: 0,
+        relation: 16384,
+        blocks: [4, 0, 0, 0],
+    };
+    Catalog::build(alloc, &[entry])
+}
+
+/// One pass of a manager of 16 frames rewrites the relation, and the other one makes a checkpoint after that.
+pub fn rewrite_then_checkpoint<R: Threads + Wait + Sync>(
+    rt: &R,
+    alloc: Global,
+    lane: PageLane,
+    log: ByteLog,
+) -> Result<Rewritten, AllocError> {
+    let Ok(catalog) = catalog(alloc) else {
+        return Err(AllocError);
+    };
+    let mut lanes = Vec::new(alloc);
+    lanes.push(lane)?;
+    let config = Config {
+        frames: 16,
+        passes: 2,
+        lanes: 1,
+    };
+    match Manager::start(alloc, config, catalog, lanes, log, BASE) {
+        Ok((manager, passes)) => {
+            let JobEnd { mut passes, end } = rewrite(
+                &manager,
+                rt,
+                alloc,
+                passes,
+                RelNo(0),
+                Fork::Main,
+                &Deaf,
+                &mut NoBeside,
+            );
+            let mut last = passes.take_last();
+            let checkpoint = checkpoint(&manager, rt, &mut last);
+            passes.push_reserved(last);
+            let (lanes, log) = manager.close(passes);
+            Ok(Rewritten {
+                end,
+                checkpoint,
+                calls: calls_of(&lanes, &log, alloc)?,
+            })
+        }
+        Err(StartRefused { why: _, lanes, log }) => {
+            drop(lanes);
+            drop(log);
+            Err(AllocError)
+        }
+    }
+}
