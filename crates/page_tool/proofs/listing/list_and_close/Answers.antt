@@ -1,4 +1,4 @@
-use Rattle.std.proofs.Common.{length, sym, ap, subst, rules}
+use Rattle.std.proofs.Common.{length, rules}
 use Rattle.log_device.specs.declared.memory_log.MemLog.{MemLog}
 use Rattle.page_jobs.proofs.Backends.{all_given, new_are_free}
 use Rattle.page_jobs.proofs.Starting.{is_origin}

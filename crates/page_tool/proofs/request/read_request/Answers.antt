@@ -1,4 +1,4 @@
-use Rattle.std.proofs.Common.{map, Option, Some, sym, ◌∙◌, ap}
+use Rattle.std.proofs.Common.{map, Option, sym, ◌∙◌, ap}
 use Rattle.std.specs.Prelude.{option_map, string_bytes}
 use Rattle.command_line.specs.declared.commands.Command.{Command}
 use Rattle.command_line.specs.Spelled.{spelled}

@@ -1,4 +1,4 @@
-use Rattle.std.proofs.Common.{List, ℕ, map}
+use Rattle.std.proofs.Common.{map}
 use Rattle.log_device.specs.Bytes.{Puts}
 use Rattle.segment_store.specs.Lanes.{HoldPages}
 use Rattle.segment_store.specs.Paths.{OpenAt, fork_of}
