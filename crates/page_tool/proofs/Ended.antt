@@ -117,6 +117,7 @@ memory_files (Some (rewriting r)) status old new leaves = record {
   done = λ zero. absurd (omega arith);
   refused = λ least most. absurd (omega arith);
   over_limit = λ nine. absurd (omega arith);
+  out_fault = λ seven. absurd (omega arith);
 }
 
 pub refused_files : (request : Option Asked) (old new : Option HostFiles) (error : ToolError) (bytes bytes_now : Option (List ℕ)) (faults faults_now status : ℕ)

@@ -1,10 +1,11 @@
 -- What the steps of a rewrite leave of a host's files.
-use Rattle.std.proofs.Common.{◌≡◌, ◌≢◌, ℕ, ◌<◌, ◌≤◌, Bool, true, false, List, [], length, map, Option, Some, None, Result, Ok, Err, refl, sym, ap, ◌∙◌, subst, inl, inr, arith}
+use Rattle.std.proofs.Common.{◌≡◌, ◌≢◌, ℕ, ◌<◌, ◌≤◌, Bool, true, false, List, [], ◌++◌, length, map, Option, Some, None, Result, Ok, Err, refl, sym, ap, ◌∙◌, subst, inl, inr, arith}
 use Rattle.std.specs.Prelude.{All, IfErr, IfOk, IfSome, IsSome, IsSomeAnd, OnOk, option_map}
 use Rattle.std.specs.Str.{bytes_eq}
 use Rattle.std.proofs.lemmas.Bool.{cases_Bool}
 use Rattle.block_tag.specs.declared.tag.Fork.{Fork}
 use Rattle.block_tag.specs.declared.tag.Fork.TheVariants.{Main}
+use Rattle.log_device.specs.Bytes.{Puts}
 use Rattle.log_device.specs.MemoryLog.{StoredLog}
 use Rattle.page_layout.specs.declared.outcomes.RewriteTotals.{RewriteTotals}
 use Rattle.segment_store.specs.Contents.{Marks, Pages, no_marks}
@@ -15,6 +16,7 @@ use Rattle.segment_store.specs.Relation.{relation_of}
 use Rattle.segment_store.specs.Restored.{cleared, marks_after, pages_in, paths_after}
 use Rattle.segment_store.proofs.GivenBack.{paths_same}
 use Rattle.pin_core.specs.State.{Page}
+use Rattle.history_core.specs.Log.{head_bytes}
 use Rattle.page_jobs.specs.Rewrites.{rule_of}
 use Rattle.page_tool.specs.declared.rewriting.RewriteError.{RewriteError}
 use Rattle.page_tool.specs.declared.rewriting.RewriteError.TheVariants.{ReadFault, WriteFault, LogFault, OutFault, Memory, OverLimit}
@@ -22,10 +24,10 @@ use Rattle.page_tool.specs.declared.starting.RelationFork.{RelationFork}
 use Rattle.page_tool.specs.Limits.{log_base}
 use Rattle.page_tool.specs.Listings.{NoneFails}
 use Rattle.page_tool.specs.Request.{RewriteAsked}
-use Rattle.page_tool.specs.RewriteCommand.{AreSurveyed, IsLogRefusal, IsPutRefusal, LeavesByEnd, OpensLog, rewrite_status}
-use Rattle.page_tool.specs.RewriteFiles.{BecomesOf, Changes, HostFiles, IsRewrittenAt, KeepsFiles, KeepsPaths, RewriteLeaves, RewritesFiles, files_of, fork_at, log_opened, main_rule, opened_at, pages_at, rewrote, untouched, with_blocks}
+use Rattle.page_tool.specs.RewriteCommand.{AreSurveyed, IsLogRefusal, IsPutRefusal, IsSurveyRefusal, LeavesByEnd, OpensLog, rewrite_status}
+use Rattle.page_tool.specs.RewriteFiles.{BecomesOf, Changes, HostFiles, IsHeadBegun, IsRewrittenAt, KeepsFiles, KeepsPaths, RewriteLeaves, RewritesFiles, files_of, fork_at, log_opened, main_rule, opened_at, pages_at, rewrote, untouched, with_blocks}
 use Rattle.page_tool.specs.RewriteResults.{IsRewritten, LeavesEither}
-use Rattle.page_tool.specs.Rewriting.{ArePages, HasPositionsLeft, LeavesRewritten, failed_after, pages_after}
+use Rattle.page_tool.specs.Rewriting.{ArePages, HasPositionsLeft, HasRewriteCause, IsRewriteCause, LeavesRewritten, failed_after, pages_after}
 use Rattle.page_tool.specs.Starting.{names_of}
 use Rattle.page_tool.specs.Status.{rewrite_tool_error, status_of_error}
 use Rattle.page_tool.proofs.GivingBack.{given_known, log_stands, marks_elsewhere, marks_here, none_fails, with_lanes}
@@ -90,32 +92,87 @@ log_refusal logs logs_now faults OutFault why = tt
 log_refusal logs logs_now faults Memory why = tt
 log_refusal logs logs_now faults (OverLimit limit) why = why
 
+-- what an empty log has once a put of its head failed
+pub head_begun : {E : Type 0} (base : ℕ) (known known_now : Option (List ℕ)) (why : E) → IfSome known (λ b. b ≡ []) → (known ≡ None → known_now ≡ None)
+    → Puts (head_bytes base) known known_now (Err why) → IfSome known_now (IsHeadBegun base)
+head_begun base None known_now why empty unknown puts = subst (λ (o : Option (List ℕ)). IfSome o (IsHeadBegun base)) (sym (unknown refl)) tt
+head_begun base (Some old) None why empty unknown puts = tt
+head_begun base (Some old) (Some new) why empty unknown puts =
+    let gains = puts.failed in
+    record { more = gains.rest; whole = ap (λ (b : List ℕ). b ++ gains.rest) (gains.is ∙ ap (λ (b : List ℕ). b ++ gains.prefix) empty) ∙ sym gains.whole }
+
+-- the refusals that don't come of a put
+abbrev IsNoOutFault : RewriteError → Type 0
+IsNoOutFault OutFault = ⊥
+IsNoOutFault ReadFault = Unit {0}
+IsNoOutFault WriteFault = Unit {0}
+IsNoOutFault LogFault = Unit {0}
+IsNoOutFault Memory = Unit {0}
+IsNoOutFault (OverLimit limit) = Unit {0}
+
+status_seven : (e : RewriteError) → IsNoOutFault e → status_of_error (rewrite_tool_error e) ≡ 7 → ⊥
+status_seven ReadFault out seven = omega arith
+status_seven WriteFault out seven = omega arith
+status_seven LogFault out seven = omega arith
+status_seven OutFault out seven = out
+status_seven Memory out seven = omega arith
+status_seven (OverLimit limit) out seven = omega arith
+
+log_puts_nothing : (logs logs_now faults : ℕ) (e : RewriteError) → IsLogRefusal logs logs_now faults e → IsNoOutFault e
+log_puts_nothing logs logs_now faults ReadFault why = tt
+log_puts_nothing logs logs_now faults WriteFault why = tt
+log_puts_nothing logs logs_now faults LogFault why = tt
+log_puts_nothing logs logs_now faults OutFault why = why
+log_puts_nothing logs logs_now faults Memory why = tt
+log_puts_nothing logs logs_now faults (OverLimit limit) why = tt
+
+survey_puts_nothing : {L : Type 0} (contents : L → Option Pages) (relation : RelationFork) (lanes : List L) (faults : ℕ) (e : RewriteError) → IsSurveyRefusal contents relation lanes faults e → IsNoOutFault e
+survey_puts_nothing contents relation lanes faults ReadFault why = tt
+survey_puts_nothing contents relation lanes faults WriteFault why = tt
+survey_puts_nothing contents relation lanes faults LogFault why = tt
+survey_puts_nothing contents relation lanes faults OutFault why = why
+survey_puts_nothing contents relation lanes faults Memory why = tt
+survey_puts_nothing contents relation lanes faults (OverLimit limit) why = tt
+
+rewrite_cause : (reads writes logs logs_now : ℕ) (e : RewriteError) → IsRewriteCause reads writes logs logs_now e → IsNoOutFault e
+rewrite_cause reads writes logs logs_now ReadFault why = tt
+rewrite_cause reads writes logs logs_now WriteFault why = tt
+rewrite_cause reads writes logs logs_now LogFault why = tt
+rewrite_cause reads writes logs logs_now OutFault why = why
+rewrite_cause reads writes logs logs_now Memory why = tt
+rewrite_cause reads writes logs logs_now (OverLimit limit) why = tt
+
+rewrite_puts_nothing : (reads writes logs logs_now : ℕ) (end : Result RewriteTotals RewriteError) → HasRewriteCause reads writes logs logs_now end → IfErr end IsNoOutFault
+rewrite_puts_nothing reads writes logs logs_now (Ok totals) has = tt
+rewrite_puts_nothing reads writes logs logs_now (Err e) has = rewrite_cause reads writes logs logs_now e has.cause
+
 module _ (r : RewriteAsked) (old new : HostFiles) where
   -- nothing was written
-  pub keeps_all : (status : ℕ) → (status ≡ 0 → ⊥) → KeepsFiles r old new → RewritesFiles r status old new
-  keeps_all status some keeps = record {
+  pub keeps_all : (status : ℕ) → (status ≡ 0 → ⊥) → (status ≡ 7 → ⊥) → KeepsFiles r old new → RewritesFiles r status old new
+  keeps_all status some unput keeps = record {
     any = untouched keeps;
     done = λ zero. absurd (some zero);
     refused = λ least most. keeps;
     over_limit = λ nine. keeps;
+    out_fault = λ seven. absurd (unput seven);
   }
 
   -- by how it ended
-  by_end : (end : Result RewriteTotals RewriteError) → RewriteLeaves r old new → OnOk end (IsRewrittenAt r old new) → IfErr end HasPositionsLeft → LeavesByEnd r end old new
-  by_end (Ok totals) any done left = record { any = any; done = λ zero. done; refused = λ least most. absurd (omega arith); over_limit = λ nine. absurd (omega arith) }
-  by_end (Err ReadFault) any done left = record { any = any; done = λ zero. absurd (omega arith); refused = λ least most. absurd (omega arith); over_limit = λ nine. absurd (omega arith) }
-  by_end (Err WriteFault) any done left = record { any = any; done = λ zero. absurd (omega arith); refused = λ least most. absurd (omega arith); over_limit = λ nine. absurd (omega arith) }
-  by_end (Err LogFault) any done left = record { any = any; done = λ zero. absurd (omega arith); refused = λ least most. absurd (omega arith); over_limit = λ nine. absurd (omega arith) }
-  by_end (Err OutFault) any done left = record { any = any; done = λ zero. absurd (omega arith); refused = λ least most. absurd (omega arith); over_limit = λ nine. absurd (omega arith) }
-  by_end (Err Memory) any done left = record { any = any; done = λ zero. absurd (omega arith); refused = λ least most. absurd (omega arith); over_limit = λ nine. absurd (omega arith) }
-  by_end (Err (OverLimit limit)) any done left = absurd left
+  by_end : (end : Result RewriteTotals RewriteError) → RewriteLeaves r old new → OnOk end (IsRewrittenAt r old new) → IfErr end HasPositionsLeft → IfErr end IsNoOutFault → LeavesByEnd r end old new
+  by_end (Ok totals) any done left unput = record { any = any; done = λ zero. done; refused = λ least most. absurd (omega arith); over_limit = λ nine. absurd (omega arith); out_fault = λ seven. absurd (omega arith) }
+  by_end (Err ReadFault) any done left unput = record { any = any; done = λ zero. absurd (omega arith); refused = λ least most. absurd (omega arith); over_limit = λ nine. absurd (omega arith); out_fault = λ seven. absurd (omega arith) }
+  by_end (Err WriteFault) any done left unput = record { any = any; done = λ zero. absurd (omega arith); refused = λ least most. absurd (omega arith); over_limit = λ nine. absurd (omega arith); out_fault = λ seven. absurd (omega arith) }
+  by_end (Err LogFault) any done left unput = record { any = any; done = λ zero. absurd (omega arith); refused = λ least most. absurd (omega arith); over_limit = λ nine. absurd (omega arith); out_fault = λ seven. absurd (omega arith) }
+  by_end (Err OutFault) any done left unput = absurd unput
+  by_end (Err Memory) any done left unput = record { any = any; done = λ zero. absurd (omega arith); refused = λ least most. absurd (omega arith); over_limit = λ nine. absurd (omega arith); out_fault = λ seven. absurd (omega arith) }
+  by_end (Err (OverLimit limit)) any done left unput = absurd left
 
   -- what is printed changes no file
   pub after_put : (totals : RewriteTotals) (faults faults_now : ℕ) (result : Result Unit RewriteError) → IfErr result (IsPutRefusal faults faults_now)
       → LeavesByEnd {T = RewriteTotals} r (Ok totals) old new → LeavesByEnd r result old new
   after_put totals faults faults_now (Ok done) why leaves = leaves
-  after_put totals faults faults_now (Err OutFault) why leaves = record { any = leaves.any; done = λ zero. absurd (omega arith); refused = λ least most. absurd (omega arith); over_limit = λ nine. absurd (omega arith) }
-  after_put totals faults faults_now (Err Memory) why leaves = record { any = leaves.any; done = λ zero. absurd (omega arith); refused = λ least most. absurd (omega arith); over_limit = λ nine. absurd (omega arith) }
+  after_put totals faults faults_now (Err OutFault) why leaves = record { any = leaves.any; done = λ zero. absurd (omega arith); refused = λ least most. absurd (omega arith); over_limit = λ nine. absurd (omega arith); out_fault = λ seven. leaves.done refl }
+  after_put totals faults faults_now (Err Memory) why leaves = record { any = leaves.any; done = λ zero. absurd (omega arith); refused = λ least most. absurd (omega arith); over_limit = λ nine. absurd (omega arith); out_fault = λ seven. absurd (omega arith) }
   after_put totals faults faults_now (Err ReadFault) why leaves = absurd why
   after_put totals faults faults_now (Err WriteFault) why leaves = absurd why
   after_put totals faults faults_now (Err LogFault) why leaves = absurd why
@@ -175,10 +232,10 @@ module _ {L G : Type 0} (contents : L → Option Pages) (failed : L → Marks) (
     }
 
   -- nothing but the lanes was given back, which were not written
-  pub unlogged : (a c : Told) (lanes : List L) (e : RewriteError) → IsOpen a → All (λ lane. failed lane ≡ no_marks) lanes
+  pub unlogged : (a c : Told) (relation : RelationFork) (surveyed lanes : List L) (faults : ℕ) (e : RewriteError) → IsSurveyRefusal contents relation surveyed faults e → IsOpen a → All (λ lane. failed lane ≡ no_marks) lanes
       → IfSome a.contents (λ paths. paths r.path ≢ []) → IfSome a.contents (λ paths. HoldPages (fork_of r.path) (pages_at r paths) (map contents lanes)) → GivesBack a c lanes None
       → BecomesOf (files_of a.contents a.failed a.logs) (files_of c.contents c.failed c.logs) (LeavesByEnd {T = Unit} r (Err e))
-  unlogged a c lanes e open_so unmarked there held gives = becomes_by a.contents a.failed a.logs c (LeavesByEnd {T = Unit} r (Err e)) (λ paths logs known told.
+  unlogged a c relation surveyed lanes faults e why open_so unmarked there held gives = becomes_by a.contents a.failed a.logs c (LeavesByEnd {T = Unit} r (Err e)) (λ paths logs known told.
       let same : SamePaths a a = record { contents = refl; failed = of_none a.contents (λ _. a.failed ≡ a.failed) (λ _. refl); open_at = of_none a.contents (λ _. a.open_at ≡ a.open_at) (λ _. refl) } in
       let there_so = at_some a.contents (λ ps. ps r.path ≢ []) paths known there in
       let held_so = at_some a.contents (λ ps. HoldPages (fork_of r.path) (pages_at r ps) (map contents lanes)) paths known held in
@@ -187,7 +244,7 @@ module _ {L G : Type 0} (contents : L → Option Pages) (failed : L → Marks) (
         logs = logs;
         paths_are = given_paths a a c lanes None open_so same gives paths known there_so;
         logs_are = given_none a a c lanes logs told refl gives;
-        leaves = keeps_all r _ _ (status_of_error (rewrite_tool_error e)) (λ zero. status_some e zero) (record {
+        leaves = keeps_all r _ _ (status_of_error (rewrite_tool_error e)) (λ zero. status_some e zero) (λ seven. status_seven e (survey_puts_nothing contents relation surveyed faults e why) seven) (record {
           pages = kept_paths lanes paths a.failed c.failed logs logs unmarked held_so (given_marks a a c lanes None open_so same gives paths known there_so);
           logs = refl;
         });
@@ -202,11 +259,12 @@ module _ {L G : Type 0} (contents : L → Option Pages) (failed : L → Marks) (
       (subst (λ (rel : RelationFork). HoldPages rel.fork (pages_at r paths) (map contents lanes)) relation_is pages.held)
 
   -- A log that couldn't be begun was given back, if it was opened, with lanes that were not written
-  pub refused : (a b c : Told) (lanes : List L) (log : Option G) (logs_before logs_now faults : ℕ) (e : RewriteError) → IsOpen a → All (λ lane. failed lane ≡ no_marks) lanes
+  pub refused : (a b c : Told) (lanes : List L) (base : ℕ) (log : Option G) (logs_before logs_now faults : ℕ) (e : RewriteError) → IsOpen a → All (λ lane. failed lane ≡ no_marks) lanes
       → IfSome a.contents (λ paths. paths r.path ≢ []) → IfSome a.contents (λ paths. HoldPages (fork_of r.path) (pages_at r paths) (map contents lanes))
+      → IfSome a.contents (λ paths. base ≡ log_base (pages_at r paths)) → IfSome log (λ l. IfSome (bytes l) (IsHeadBegun base))
       → SamePaths a b → OpensLog log r.log a.logs b.logs b.log_at → ((l : G) → IfSome b.logs (λ _. IsSome (bytes l))) → IsLogRefusal logs_before logs_now faults e → GivesBack b c lanes log
       → BecomesOf (files_of a.contents a.failed a.logs) (files_of c.contents c.failed c.logs) (LeavesByEnd {T = RewriteTotals} r (Err e))
-  refused a b c lanes None logs_before logs_now faults e open_so unmarked there held same opens told why gives =
+  refused a b c lanes base None logs_before logs_now faults e open_so unmarked there held base_is begun same opens told why gives =
       becomes_by a.contents a.failed a.logs c (LeavesByEnd {T = RewriteTotals} r (Err e)) (λ paths logs known logs_known.
       let there_so = at_some a.contents (λ ps. ps r.path ≢ []) paths known there in
       let held_so = at_some a.contents (λ ps. HoldPages (fork_of r.path) (pages_at r ps) (map contents lanes)) paths known held in
@@ -215,12 +273,12 @@ module _ {L G : Type 0} (contents : L → Option Pages) (failed : L → Marks) (
         logs = logs;
         paths_are = given_paths a b c lanes None open_so same gives paths known there_so;
         logs_are = given_none a b c lanes logs logs_known opens gives;
-        leaves = keeps_all r _ _ (status_of_error (rewrite_tool_error e)) (λ zero. status_some e zero) (record {
+        leaves = keeps_all r _ _ (status_of_error (rewrite_tool_error e)) (λ zero. status_some e zero) (λ seven. status_seven e (log_puts_nothing logs_before logs_now faults e why) seven) (record {
           pages = kept_paths lanes paths a.failed c.failed logs logs unmarked held_so (given_marks a b c lanes None open_so same gives paths known there_so);
           logs = refl;
         });
       })
-  refused a b c lanes (Some log) logs_before logs_now faults e open_so unmarked there held same opens told why gives =
+  refused a b c lanes base (Some log) logs_before logs_now faults e open_so unmarked there held base_is begun same opens told why gives =
       becomes_by a.contents a.failed a.logs c (LeavesByEnd {T = RewriteTotals} r (Err e)) (λ paths logs known logs_known.
       let there_so = at_some a.contents (λ ps. ps r.path ≢ []) paths known there in
       let held_so = at_some a.contents (λ ps. HoldPages (fork_of r.path) (pages_at r ps) (map contents lanes)) paths known held in
@@ -231,8 +289,9 @@ module _ {L G : Type 0} (contents : L → Option Pages) (failed : L → Marks) (
         paths_are = given_paths a b c lanes (Some log) open_so same gives paths known there_so;
         logs_are = given_file a b c lanes logs logs_known log log opens (told log) gives;
         leaves = by_end r _ _ (Err e) (log_opened (record { bytes = file.0; synced = synced log })
+            (subst (λ (n : ℕ). IsHeadBegun n file.0) (at_some a.contents (λ ps. base ≡ log_base (pages_at r ps)) paths known base_is) (at_some (bytes log) (IsHeadBegun base) file.0 file.1 begun))
             (kept_paths lanes paths a.failed c.failed logs _ unmarked held_so (given_marks a b c lanes (Some log) open_so same gives paths known there_so)) refl)
-            tt (log_refusal logs_before logs_now faults e why);
+            tt (log_refusal logs_before logs_now faults e why) (log_puts_nothing logs_before logs_now faults e why);
       })
 
   module _ (relation : RelationFork) (base : ℕ) (lanes lanes' : List L) (log' : G) (end : Result RewriteTotals RewriteError) (leaves : LeavesRewritten contents failed bytes synced relation base lanes lanes' log' end)
@@ -293,15 +352,15 @@ module _ {L G : Type 0} (contents : L → Option Pages) (failed : L → Marks) (
     left_by (Ok totals) left = tt
     left_by (Err why) left = left before pages_so
 
-    files_leave : LeavesByEnd r end old new
-    files_leave = by_end r old new end (rewrote after (record { bytes = x; synced = synced log' }) changes either) (done_by end leaves.whole leaves.unfailed) (left_by end leaves.positions)
+    files_leave : IfErr end IsNoOutFault → LeavesByEnd r end old new
+    files_leave unput = by_end r old new end (rewrote after (record { bytes = x; synced = synced log' }) changes either) (done_by end leaves.whole leaves.unfailed) (left_by end leaves.positions) unput
 
   -- The relation was rewritten, and its lanes and its log were given back
   pub rewritten : (reads writes : L → ℕ) (relation : RelationFork) (base : ℕ) (lanes lanes' : List L) (log log' : G) (end : Result RewriteTotals RewriteError) (a b c : Told) → IsOpen a → fork_of r.path ≡ Main
       → AreSurveyed contents failed reads writes a.contents r relation base lanes → SamePaths a b → OpensLog (Some log) r.log a.logs b.logs b.log_at → IfSome b.logs (λ _. IsSome (bytes log'))
-      → GivesBack b c lanes' (Some log') → LeavesRewritten contents failed bytes synced relation base lanes lanes' log' end
+      → GivesBack b c lanes' (Some log') → LeavesRewritten contents failed bytes synced relation base lanes lanes' log' end → (reads_now writes_now faults faults_now : ℕ) → HasRewriteCause reads_now writes_now faults faults_now end
       → BecomesOf (files_of a.contents a.failed a.logs) (files_of c.contents c.failed c.logs) (LeavesByEnd r end)
-  rewritten reads writes relation base lanes lanes' log log' end a b c open_so main surveyed same opens told gives leaves =
+  rewritten reads writes relation base lanes lanes' log log' end a b c open_so main surveyed same opens told gives leaves reads_now writes_now faults faults_now cause =
       becomes_by a.contents a.failed a.logs c (LeavesByEnd r end) (λ paths logs known logs_known.
       let there_so = at_some a.contents (λ ps. ps r.path ≢ []) paths known surveyed.there in
       let relation_is = at_some a.contents (λ ps. relation ≡ fork_at r ps) paths known surveyed.relation_is in
@@ -314,5 +373,5 @@ module _ {L G : Type 0} (contents : L → Option Pages) (failed : L → Marks) (
         paths_are = given_paths a b c lanes' (Some log') open_so same gives paths known there_so;
         logs_are = given_file a b c lanes' logs logs_known log log' opens told gives;
         leaves = files_leave relation base lanes lanes' log' end leaves main paths a.failed c.failed logs x.0 x.1 relation_is base_is pages_so
-            (given_marks a b c lanes' (Some log') open_so same gives paths known there_so);
+            (given_marks a b c lanes' (Some log') open_so same gives paths known there_so) (rewrite_puts_nothing reads_now writes_now faults faults_now end cause);
       })

@@ -229,7 +229,7 @@ module _ (r : RewriteAsked) (paths : Paths) (marks : PathMarks) (logs : Logs) (n
 
   leaves_since : RewriteLeaves r opened_files new → RewriteLeaves r first_files new
   leaves_since (untouched keeps) = untouched (record { pages = keeps_since keeps.pages; logs = keeps.logs })
-  leaves_since (log_opened file keeps logs_are) = log_opened file (keeps_since keeps) logs_are
+  leaves_since (log_opened file begun keeps logs_are) = log_opened file begun (keeps_since keeps) logs_are
   leaves_since (rewrote after file changes either) = rewrote after file (changes_since after file changes) either
 
   rewritten_since : IsRewrittenAt r opened_files new → IsRewrittenAt r first_files new
@@ -244,6 +244,7 @@ module _ (r : RewriteAsked) (paths : Paths) (marks : PathMarks) (logs : Logs) (n
     done = λ zero. rewritten_since (leaves.done zero);
     refused = λ least most. all_kept (leaves.refused least most);
     over_limit = λ nine. all_kept (leaves.over_limit nine);
+    out_fault = λ seven. rewritten_since (leaves.out_fault seven);
   }
 
 -- what is left of the files since the relation was opened

@@ -1,5 +1,5 @@
 -- What a rewrite leaves of the paths and the logs of a host.
-use Rattle.std.specs.Prelude.{◌≡◌, ◌⊎◌, ℕ, ◌≤◌, ◌<◌, true, false, List, Option, Some, None, IfSome, IsSomeAnd, if◌then◌else◌, unwrap_or, length}
+use Rattle.std.specs.Prelude.{◌≡◌, ◌⊎◌, ℕ, ◌≤◌, ◌<◌, true, false, List, Option, Some, None, IfSome, IsSomeAnd, if◌then◌else◌, unwrap_or, length, ◌++◌}
 use Rattle.std.specs.Str.{bytes_eq}
 use Rattle.block_tag.specs.declared.tag.Fork.TheVariants.{Main}
 use Rattle.command_line.specs.RelationPath.{relation_number}
@@ -9,6 +9,7 @@ use Rattle.segment_store.specs.Paths.{OpenAt, PathMarks, Paths}
 use Rattle.segment_store.specs.Relation.{relation_of}
 use Rattle.segment_store.specs.Restored.{restored}
 use Rattle.pin_core.specs.State.{Page}
+use Rattle.history_core.specs.Log.{head_bytes}
 use Rattle.page_jobs.specs.Rewrites.{Rule, rule_of}
 use Rattle.page_tool.specs.declared.starting.RelationFork.{RelationFork}
 use Rattle.page_tool.specs.Limits.{log_base}
@@ -67,11 +68,17 @@ pub record Changes (r : RewriteAsked) (old new : HostFiles) (after : List Page) 
   pub logs : new.logs ≡ with_log r.log file old.logs
   pub failed : (other : List ℕ) → bytes_eq other r.path ≡ false → new.failed other ≡ old.failed other
 
+-- these are the first bytes of the head of a log that begins there, or all of them
+pub record IsHeadBegun (base : ℕ) (bytes : List ℕ) : Type 0 where
+  pub more : List ℕ
+  pub whole : bytes ++ more ≡ head_bytes base
+
 -- What a rewrite leaves with any end
 pub data RewriteLeaves (r : RewriteAsked) (old new : HostFiles) : Type 0 where
   untouched : KeepsFiles r old new → RewriteLeaves r old new
-  -- the log was emptied, and no page written
-  log_opened : (file : StoredLog) → KeepsPaths r old new → new.logs ≡ with_log r.log file old.logs → RewriteLeaves r old new
+  -- the log was emptied, a prefix of its head put, and no page written
+  log_opened : (file : StoredLog) → IsHeadBegun (log_base (pages_at r old.paths)) file.bytes → KeepsPaths r old new → new.logs ≡ with_log r.log file old.logs
+      → RewriteLeaves r old new
   -- each page is as before or that of its entry, or its last write failed
   rewrote : (after : List Page) (file : StoredLog) → Changes r old new after file
       → LeavesEither main_rule (names_of (fork_at r old.paths)) (log_base (pages_at r old.paths)) (pages_at r old.paths) after (new.failed r.path) file → RewriteLeaves r old new
@@ -90,3 +97,5 @@ pub record RewritesFiles (r : RewriteAsked) (status : ℕ) (old new : HostFiles)
   pub done : status ≡ 0 → IsRewrittenAt r old new
   pub refused : 1 ≤ status → status ≤ 3 → KeepsFiles r old new
   pub over_limit : status ≡ 9 → KeepsFiles r old new
+  -- the text is put last
+  pub out_fault : status ≡ 7 → IsRewrittenAt r old new

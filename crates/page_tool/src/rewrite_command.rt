@@ -13,7 +13,7 @@ ghost use Rattle.page_tool.specs.Answers.{CountsLater, EndsCommand, counts};
 ghost use Rattle.page_tool.specs.Limits.{largest_lsn, log_base};
 ghost use Rattle.page_tool.specs.Request.{asked, rewrite_asked};
 ghost use Rattle.page_tool.specs.RewriteCommand.{AreSurveyed, HasFaultOf, HavePages, IsLogRefusal, IsPutRefusal, IsSurveyRefusal, LeavesByEnd, MeetsLimit, OpensLog, StaysBelowLimit};
-ghost use Rattle.page_tool.specs.RewriteFiles.{BecomesOf, RewritesFiles, files_of, pages_at};
+ghost use Rattle.page_tool.specs.RewriteFiles.{BecomesOf, IsHeadBegun, RewritesFiles, files_of, pages_at};
 ghost use Rattle.page_tool.specs.RewriteTexts.{rewrite_lines, rewrite_text};
 ghost use Rattle.page_layout.specs.Outcomes.{rewrite_totals_of};
 ghost use Rattle.page_tool.specs.Status.{log_error, status_of, status_of_error};
@@ -112,6 +112,7 @@ fn open_log<H: Host>(
     ensures begun { IfOk result (IsNewLog (devices H.Lane.contents H.Lane.failed_writes H.Lane.unsynced H.Lane.read_faults H.Lane.write_faults H.Lane.calls H.Log.bytes H.Log.synced H.Log.faults H.Log.calls) base) }
     ensures quiet { IfOk result (λ log. H.Log.faults log ≡ 0) }
     ensures logs { MatchResult result (λ log. OpensLog (Some log) path.now (H.logs host.old) (H.logs host.new) (H.log_at host.new)) (λ refused. OpensLog refused.log path.now (H.logs host.old) (H.logs host.new) (H.log_at host.new)) }
+    ensures head { IfErr result (λ refused. IfSome refused.log (λ log. IfSome (H.Log.bytes log) (IsHeadBegun base))) }
     ensures counted { OnOk result (H.log_faults host.new ≡ H.log_faults host.old) }
     ensures later { H.log_faults host.old ≤ H.log_faults host.new }
     ensures cause { IfErr result (λ refused. IsLogRefusal (H.log_faults host.old) (H.log_faults host.new) (option_map_or H.Log.faults refused.log 0) refused.error) }

@@ -1,5 +1,5 @@
 //! Runs a command line.
-ghost use Rattle.std.specs.Prelude.{◌≡◌, ◌≤◌, ◌⊎◌, None, IfErr, IfSome, IsSome, map, string_bytes};
+ghost use Rattle.std.specs.Prelude.{◌≡◌, ◌≤◌, ◌⊎◌, None, IfErr, IfSome, map, string_bytes};
 ghost use Rattle.command_line.specs.Numbers.{HasOptionsInRange};
 ghost use Rattle.log_device.specs.Bytes.{Puts};
 ghost use Rattle.segment_store.specs.Opening.{IsOpened};
@@ -174,7 +174,6 @@ pub fn run<H: Host, R: Threads + Wait + Sync, O: Sink, E: Sink, G: Gate + Sync>(
     ensures crowded { IfSome (request_of (map string_bytes words.now)) (λ a. CrowdedIf (options_of a) result) }
     ensures missing { IfSome (request_of (map string_bytes words.now)) (λ a.
         MissingIf a (H.contents host.old) (H.read_faults host.old) (H.read_faults host.new) result) }
-    ensures limit { result ≡ 9 → IsSome (request_of (map string_bytes words.now)) }
     ensures over_limit { IfSome (request_of (map string_bytes words.now)) (λ a.
         LimitIf a (H.contents host.old) (H.read_faults host.old) (H.read_faults host.new) result) }
     ensures faults { FaultIf (request_of (map string_bytes words.now))

@@ -24,6 +24,7 @@ returns-in-Ok-clause-files g c =
     c.requires.open_at c.requires.main c.requires.surveyed (record { contents = opened.contents; failed = opened.failed; open_at = opened.open_at }) opened.logs
     (g.met.H.Host.logs_told c.open_log.new.host c.rewrite_lanes-lanes.result.log)
     (record { paths = back.contents; marks = back.failed; logs = back.logs }) c.rewrite_lanes-lanes.ensures.leaves
+    _ _ _ _ c.rewrite_lanes-lanes.ensures.cause
 
 pub returns-in-Err-clause-files : goal.returns-in-Err-clause-files
 returns-in-Err-clause-files g c =
@@ -31,9 +32,10 @@ returns-in-Err-clause-files g c =
     let back = c.give_back-in-Err.ensures in
     let surveyed = c.requires.surveyed in
     refused g.H.Lane.BlockLane.contents g.H.Lane.BlockLane.failed_writes g.H.Log.LogDevice.bytes g.H.Log.LogDevice.synced (rewrite_asked c.args.request.now)
-    (told g c.args.host.now) (told g c.open_log.new.host) (told g c.give_back-in-Err.new.self) c.args.lanes.items c.in-Err.field-0.log _ _ _ c.in-Err.field-0.error
+    (told g c.args.host.now) (told g c.open_log.new.host) (told g c.give_back-in-Err.new.self) c.args.lanes.items c.args.base c.in-Err.field-0.log _ _ _ c.in-Err.field-0.error
     c.requires.open_at surveyed.unmarked surveyed.there
     (held_by g.H.Lane.BlockLane.contents g.H.Lane.BlockLane.failed_writes g.H.Log.LogDevice.bytes g.H.Log.LogDevice.synced (rewrite_asked c.args.request.now)
     _ c.args.relation c.args.base c.args.lanes.items c.requires.main surveyed.relation_is surveyed.pages)
+    surveyed.base_is opened.head
     (record { contents = opened.contents; failed = opened.failed; open_at = opened.open_at }) opened.logs (g.met.H.Host.logs_told c.open_log.new.host) opened.cause
     (record { paths = back.contents; marks = back.failed; logs = back.logs })

@@ -59,7 +59,7 @@ returns-in-Err-clause-files g c =
     (hold_so g.H.Lane.BlockLane.contents g.H.Lane.BlockLane.failed_writes g.H.Lane.BlockLane.unsynced g.H.Lane.BlockLane.read_faults g.H.Lane.BlockLane.write_faults
     r c.args.opened c.survey_base.new.lanes same known opened.holds) in
     unlogged g.H.Lane.BlockLane.contents g.H.Lane.BlockLane.failed_writes g.H.Log.LogDevice.bytes g.H.Log.LogDevice.synced r
-    (told g c.args.host.now) (told g c.give_back.new.self) _ c.in-Err.error c.requires.open_at unmarked opened.there held (record { paths = back.contents; marks = back.failed; logs = back.logs })
+    (told g c.args.host.now) (told g c.give_back.new.self) _ _ _ _ c.in-Err.error c.in-Err.ensures.cause c.requires.open_at unmarked opened.there held (record { paths = back.contents; marks = back.failed; logs = back.logs })
 
 pub returns-in-Err-clause-text : goal.returns-in-Err-clause-text
 returns-in-Err-clause-text g c = refused_text (rewrite_asked c.args.request.now) (g.H.Host.contents c.args.host.now) (g.O.Sink.bytes c.args.out.now) c.in-Err.error
