@@ -15,12 +15,13 @@ ghost use Rattle.page_tool.specs.Causes.{HasListingCause, listing_end, listing_e
 ghost use Rattle.page_tool.specs.Listings.{LeavesLanes, text_of};
 ghost use Rattle.page_tool.specs.Starting.{IsStarted};
 
+use crate::beside::Rounds;
 use crate::starting::{RelationFork, start};
 use backend_pass::{Manager, Pass};
 use block_tag::RelNo;
 use command_line::Options;
 use log_device::{LogPlan, MemLog, Sink};
-use page_jobs::{Gate, JobEnd, JobError, NoBeside, Totals, dump, scan};
+use page_jobs::{Gate, JobEnd, JobError, Totals, dump, scan};
 use segment_store::BlockLane;
 use std::alloc::{AllocError, Global};
 use std::sync::Wait;
@@ -73,11 +74,12 @@ fn end_of_job(end: Result<Totals, JobError>) -> Result<(), ListingError>
     }
 }
 
-/// A fork of a relation, and how it is listed.
+/// A fork of a relation, how it is listed, and how many rounds the background writer makes meanwhile.
 #[derive(Clone, Copy)]
 pub(crate) struct Listed {
     pub(crate) relation: RelationFork,
     pub(crate) listing: Listing,
+    pub(crate) rounds: u32,
 }
 
 /// How a listing ended, with the lanes that it was given.
@@ -123,10 +125,10 @@ fn list_blocks<L: BlockLane + Send, R: Threads + Wait + Sync, O: Sink, T: Gate +
     ensures cause { IfErr result.end (EndsJob L.contents manager.now 0 listed.relation.fork passes.items result.passes.items (O.faults out.old) (O.faults out.new)) }
 {
     let (rel, fork) = (RelNo(0), listed.relation.fork);
-    let mut none = NoBeside;
+    let mut work = Rounds::new(listed.rounds);
     match listed.listing {
-        Listing::Scan => scan(manager, rt, alloc, passes, rel, fork, out, gate, &mut none),
-        Listing::Dump => dump(manager, rt, alloc, passes, rel, fork, out, gate, &mut none),
+        Listing::Scan => scan(manager, rt, alloc, passes, rel, fork, out, gate, &mut work),
+        Listing::Dump => dump(manager, rt, alloc, passes, rel, fork, out, gate, &mut work),
     }
 }
 

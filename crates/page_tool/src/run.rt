@@ -55,11 +55,12 @@ fn list_opened<H: Host, R: Threads + Wait + Sync, O: Sink, G: Gate + Sync>(
         fork: fork_of_path(path),
         blocks: opened.blocks,
     };
+    let options = &request.options;
     let listed = Listed {
         relation,
         listing: request.listing,
+        rounds: options.rounds,
     };
-    let options = &request.options;
     let ListingEnd { lanes, end } = list(rt, alloc, options, listed, opened.lanes, out, gate);
     host.give_back(lanes, None);
     end
