@@ -112,7 +112,7 @@ pub fn wait_beside<L: BlockLane, G: LogDevice, R: Wait>(
     Some(refused)
 }
 
-/// What a pass saw that asked beside a waiter: what it was refused, and how many pages another pass read meanwhile that weren't their blocks'.
+/// What a pass saw that asked while another waited: the refusal, and how many pages another pass read meanwhile that weren't their blocks'.
 #[derive(Clone, Copy, PartialEq, Debug)]
 pub struct Asked {
     pub refused: Option<CleanupError>,

@@ -2,12 +2,17 @@
 #![tactic(auto)]
 
 pub mod bench;
-pub mod cleaning;
-pub mod crowding;
-pub mod locking;
+#[cfg(test)]
+mod cleaning;
+#[cfg(test)]
+mod crowding;
+#[cfg(test)]
+mod locking;
 pub mod putting;
 pub mod reading;
-pub mod sharing;
+#[cfg(test)]
+mod sharing;
 #[cfg(test)]
 mod tests;
-pub mod waiting;
+#[cfg(test)]
+mod waiting;

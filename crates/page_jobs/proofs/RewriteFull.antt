@@ -133,7 +133,7 @@ shows_full (put.LogFull last) end v e shows = subst (λ (n : ℕ). (last_positio
 shows_full (put.LogDown at) end v e shows = absurd (cc e)
 shows_full put.LogFault end v e shows = absurd (cc e)
 
--- from what was seen to the end at the close, which is one record behind another
+-- from what was seen to the end at the close, which is one record after another
 below_all : (end seen now last base start entries writes outcomes blocks : ℕ) → end ≤ seen → seen ≤ now → now ≤ last → last ≡ base + 8224 * entries → base ≡ start → writes ≡ entries → writes < outcomes → outcomes ≤ blocks → end + 8224 ≤ start + 8224 * blocks
 below_all end seen now last base start entries writes outcomes blocks a b c d e f g h = omega (arith, a, b, c, d, e, f, g, h)
 

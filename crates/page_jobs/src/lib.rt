@@ -22,8 +22,3 @@ pub use laws::{rewrite_closes, rewrite_ends};
 pub use rewrites::rewrite;
 pub use scans::{dump, scan};
 pub use surveying::{ReadFault, survey};
-
-#[cfg(test)]
-mod rewrite_tests;
-#[cfg(test)]
-mod tests;

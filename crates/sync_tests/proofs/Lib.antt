@@ -1,3 +1,2 @@
 pub mod Idling
-pub mod Crossing
 pub mod Returning

@@ -10,8 +10,8 @@ use bg_writer::Round;
 use checkpointer::{Checkpoint, CheckpointError};
 use log_device::LogDevice;
 use manager_tests::bench::{Bench, block};
-use manager_tests::putting::put_once;
-use manager_tests::reading::{Access, pin, read_once, unpin};
+use manager_tests::putting::{flush_once, put_once};
+use manager_tests::reading::{Access, copy_once, pin, read_once, unpin};
 use page_layout::{Lsn, Page};
 use segment_store::BlockLane;
 use std::alloc::{AllocError, Global};
@@ -25,6 +25,10 @@ pub enum Act {
     Put(u32),
     /// The first pass reads this block.
     Read(u32),
+    /// The first pass copies the page of this block.
+    Copy(u32),
+    /// The first pass flushes this block.
+    Flush(u32),
     /// The second pass makes a round.
     Round,
     /// The second pass makes a round while the third one pins this block.
@@ -33,11 +37,21 @@ pub enum Act {
     Checkpoint,
 }
 
+/// The page of a block that was copied: its position, and the place of the read.
+#[derive(Clone, Copy, PartialEq, Debug)]
+pub struct Copied {
+    pub lsn: Lsn,
+    pub place: Lsn,
+}
+
 /// What came of it.
 #[derive(Clone, Copy, PartialEq, Debug)]
 pub enum Answer {
     Put(Option<Result<Lsn, PutError>>),
     Read(Result<Access, ReadError>),
+    Copy(Result<Copied, ReadError>),
+    /// None where the block isn't read.
+    Flush(Option<Result<bool, FlushError>>),
     /// None where the block beside isn't read.
     Round(Option<Result<Round, FlushError>>),
     Checkpoint(Result<Checkpoint, CheckpointError>),
@@ -64,6 +78,24 @@ fn round_beside<L: BlockLane, G: LogDevice, R: Wait>(
     Some(came)
 }
 
+/// Copies the page of a block.
+fn copy<L: BlockLane, G: LogDevice, R: Wait>(
+    manager: &Manager<L, G>,
+    rt: &R,
+    first: &mut Pass,
+    number: u32,
+    page: &mut Page,
+) -> Result<Copied, ReadError>
+    requires first { IsFree L.contents manager.now 0 first.old }
+    ensures first { IsFree L.contents manager.now 0 first.new }
+{
+    let place = copy_once(manager, rt, first, 0, block(number), page)?;
+    Ok(Copied {
+        lsn: page.lsn(),
+        place,
+    })
+}
+
 /// Does one act.
 fn perform<L: BlockLane, G: LogDevice, R: Wait>(
     manager: &Manager<L, G>,
@@ -73,6 +105,7 @@ fn perform<L: BlockLane, G: LogDevice, R: Wait>(
     third: &mut Pass,
     act: Act,
     page: &Page,
+    copied: &mut Page,
 ) -> Answer
     requires first { IsFree L.contents manager.now 0 first.old }
     requires second { IsIdle L.contents manager.now 1 second.old }
@@ -90,6 +123,8 @@ fn perform<L: BlockLane, G: LogDevice, R: Wait>(
             let tag = block(number);
             Answer::Read(read_once(manager, rt, first, 0, tag, &mut None))
         }
+        Act::Copy(number) => Answer::Copy(copy(manager, rt, first, number, copied)),
+        Act::Flush(number) => Answer::Flush(flush_once(manager, rt, first, 0, block(number))),
         Act::Round => Answer::Round(Some(round_once(manager, rt, second, 1))),
         Act::RoundBeside(number) => {
             Answer::Round(round_beside(manager, rt, second, third, number))
@@ -107,6 +142,7 @@ fn perform_all<L: BlockLane, G: LogDevice, R: Wait>(
     third: &mut Pass,
     acts: &[Act],
     page: &Page,
+    copied: &mut Page,
     alloc: Global,
 ) -> Result<Vec<Answer>, AllocError>
     requires first { IsFree L.contents manager.now 0 first.old }
@@ -118,7 +154,7 @@ fn perform_all<L: BlockLane, G: LogDevice, R: Wait>(
 {
     let mut answers = Vec::new(alloc);
     for next in acts {
-        let answer = perform(manager, rt, first, second, third, *next, page);
+        let answer = perform(manager, rt, first, second, third, *next, page, copied);
         answers.push(answer)?;
     }
     Ok(answers)
@@ -147,6 +183,7 @@ pub fn play<R: Wait>(
 ) -> Result<Played, AllocError> {
     let mut page = Page::zeroed(alloc)?;
     page.fill(&one_item(200));
+    let mut copied = Page::zeroed(alloc)?;
     let Bench {
         manager,
         mut first,
@@ -162,6 +199,7 @@ pub fn play<R: Wait>(
         &mut third,
         acts,
         &page,
+        &mut copied,
         alloc,
     );
     let met = second.met();

@@ -64,10 +64,11 @@ fn in_order(mut numbered: Vec<Numbered>, alloc: Global) -> Result<Vec<DeviceCall
     Ok(calls)
 }
 
-/// Which call of a device fails, counted from 1: a write of a lane, or an append to a log; or a sync.
+/// Which call of a device fails, counted from 1: a read of a lane; a write of a lane, or an append to a log; or a sync.
 #[derive(Clone, Copy, PartialEq, Eq)]
 pub enum Failing {
     None,
+    Read(u32),
     Write(u32),
     Sync(u32),
 }
@@ -79,9 +80,11 @@ pub struct PageLane {
     pub pages: Vec<Page>,
     pub journal: Journal,
     failing: Failing,
+    reads: u32,
     writes: u32,
     syncs: u32,
-    faults: FaultCount,
+    read_faults: FaultCount,
+    write_faults: FaultCount,
     history: LaneHistory,
 }
 
@@ -92,9 +95,11 @@ impl PageLane {
             pages,
             journal,
             failing,
+            reads: 0,
             writes: 0,
             syncs: 0,
-            faults: FaultCount::new(),
+            read_faults: FaultCount::new(),
+            write_faults: FaultCount::new(),
             history: LaneHistory::new(),
         }
     }
@@ -103,8 +108,6 @@ impl PageLane {
 impl BlockLane for PageLane {
     ghost use Rattle.std.specs.Prelude.{None, false};
     ghost use Rattle.segment_store.specs.History.{calls_in, unsynced_in};
-    ghost use Rattle.std.proofs.Common.{rules};
-    ghost use Prim.{search};
 
     ghost contents = { λ _. None };
 
@@ -112,15 +115,20 @@ impl BlockLane for PageLane {
 
     ghost unsynced = { λ l. unsynced_in l.history };
 
-    ghost read_faults = { λ _. 0 };
+    ghost read_faults = { λ l. l.read_faults.count };
 
-    ghost write_faults = { λ l. l.faults.count };
+    ghost write_faults = { λ l. l.write_faults.count };
 
     ghost calls = { λ l. calls_in l.history };
 
     fn read(&mut self, tag: Tag, page: &mut Page) -> Result<(), Failed> {
         self.history.count_call();
         self.journal.add(DeviceCall::ReadBlock(tag.block));
+        self.reads = self.reads.saturating_add(1);
+        if self.failing == Failing::Read(self.reads) {
+            self.read_faults.raise();
+            return Err(Failed);
+        }
         if let Some(kept) = self.pages.get(tag.block as usize) {
             page.copy_from(kept);
         }
@@ -133,7 +141,7 @@ impl BlockLane for PageLane {
         self.journal.add(DeviceCall::WriteBlock(tag.block));
         self.writes = self.writes.saturating_add(1);
         if self.failing == Failing::Write(self.writes) {
-            self.faults.raise();
+            self.write_faults.raise();
             return Err(Failed);
         }
         if let Some(kept) = self.pages.get_mut(tag.block as usize) {
@@ -147,16 +155,16 @@ impl BlockLane for PageLane {
         self.journal.add(DeviceCall::SyncLane);
         self.syncs = self.syncs.saturating_add(1);
         if self.failing == Failing::Sync(self.syncs) {
-            self.faults.raise();
+            self.write_faults.raise();
             return Err(Failed);
         }
         self.history.mark_synced();
         Ok(())
     }
 
-    ghost read_faults_fit = { λ _. search rules };
+    ghost read_faults_fit = { λ l. l.read_faults.fits };
 
-    ghost write_faults_fit = { λ l. l.faults.fits };
+    ghost write_faults_fit = { λ l. l.write_faults.fits };
 
     ghost whole = { λ _. tt };
 }

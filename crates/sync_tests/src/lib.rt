@@ -1,11 +1,23 @@
-//! The background writer and the checkpointer over a small manager, which tests run.
+//! Tests of the jobs, the background writer and the checkpointer over a small manager.
 #![tactic(auto)]
 
-pub mod acts;
-pub mod bench;
-pub mod devices;
-pub mod rewriting;
-pub mod sharing;
-pub mod syncing;
+#[cfg(test)]
+mod acts;
+#[cfg(test)]
+mod bench;
+#[cfg(test)]
+mod devices;
+#[cfg(test)]
+mod job_tests;
+#[cfg(test)]
+mod refusals;
+#[cfg(test)]
+mod rewrite_tests;
+#[cfg(test)]
+mod rewriting;
+#[cfg(test)]
+mod sharing;
+#[cfg(test)]
+mod syncing;
 #[cfg(test)]
 mod tests;

@@ -29,7 +29,7 @@ fn numbered_pages(alloc: Global) -> Result<Vec<Page>, AllocError> {
 }
 
 /// So many lanes, of which the last one may fail, and a log.
-fn devices(
+pub fn devices(
     alloc: Global,
     lanes: u32,
     lane_fails: Failing,
@@ -59,7 +59,7 @@ fn puts(alloc: Global, blocks: u32) -> Result<Vec<Act>, AllocError> {
 }
 
 /// A put that ends here.
-fn put(lsn: Lsn) -> Answer {
+pub fn put(lsn: Lsn) -> Answer {
     Answer::Put(Some(Ok(lsn)))
 }
 
@@ -69,12 +69,12 @@ fn round(looked: u32, written: u32) -> Answer {
 }
 
 /// A checkpoint that was made.
-fn checkpoint(upto: Lsn, written: u32) -> Answer {
+pub fn checkpoint(upto: Lsn, written: u32) -> Answer {
     Answer::Checkpoint(Ok(Checkpoint { upto, written }))
 }
 
 /// One that was refused.
-fn refused(why: CheckpointError) -> Answer {
+pub fn refused(why: CheckpointError) -> Answer {
     Answer::Checkpoint(Err(why))
 }
 

@@ -1,7 +1,7 @@
 use denote.Exit.{no}
 use denote.Param.Send.{IsSend, param_send, arg_send, mut_send, shr_send}
 use Rattle.manager_tests.proofs.Crossing.{passes_sent}
-use Rattle.sync_tests.proofs.Crossing.{four_sent, jobs_shared, managers_shared}
+use Rattle.sync_tests.proofs.sharing.Crossing.{four_sent, jobs_shared, managers_shared}
 use Rattle.sync_tests.proofs.sharing.sync_beside.Lts.{arg-0-1}
 use Rattle.sync_tests.proofs.sharing.sync_beside.Goals as goal
 

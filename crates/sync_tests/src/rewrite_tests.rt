@@ -1,11 +1,11 @@
 //! Rewrites that are run.
 ghost use Rattle.std.specs.Prelude.{◌≡◌, ◌≤◌, ◌%◌, ◌^◌, length};
 
-use crate::tests::Counts;
-use crate::{Beside, Gate, JobEnd, JobError, NoBeside, Totals, rewrite};
+use crate::job_tests::Counts;
 use backend_pass::{Config, FlushError, Manager, Pass, Pinned, StartRefused};
 use block_tag::{Catalog, Fork, RelEntry, RelNo, Tag};
 use log_device::{Failed, FaultCount, LogDevice};
+use page_jobs::{Beside, Gate, JobEnd, JobError, NoBeside, Totals, rewrite};
 use page_layout::{Lsn, Page};
 use segment_store::{BlockLane, LaneHistory};
 use std::alloc::{AllocError, Global};

@@ -1,10 +1,10 @@
 use Rattle.std.proofs.Common.{◌+◌, ◌<◌, None, arith}
 use Rattle.block_tag.specs.declared.tag.Fork.TheVariants.{Main}
 use Rattle.test_devices.specs.declared.log.TestLog.{TestLog}
-use Rattle.page_jobs.specs.declared.rewrite_tests.PageLane.{PageLane}
+use Rattle.sync_tests.specs.declared.rewrite_tests.PageLane.{PageLane}
 use Rattle.page_jobs.proofs.Backends.{new_are_free}
 use Rattle.page_jobs.proofs.RewriteBackends.{all_rewriters_given}
-use Rattle.page_jobs.proofs.rewrite_tests.run_rewrite.Goals as goal
+use Rattle.sync_tests.proofs.rewrite_tests.run_rewrite.Goals as goal
 
 pub rewrite-passes-requires-clause-free : goal.rewrite-passes-requires-clause-free
 rewrite-passes-requires-clause-free g c κs b = new_are_free {L = PageLane} {G = TestLog} (λ x. None) c.in-Ok-start.manager Main _ c.in-Ok-start.passes.items c.in-Ok-start.ensures.passes

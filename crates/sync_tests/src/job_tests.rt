@@ -1,10 +1,10 @@
 //! Scans and dumps that are run.
 ghost use Rattle.std.specs.Prelude.{◌≤◌};
 
-use crate::{Gate, JobEnd, JobError, NoBeside, ReadFault, Totals, dump, scan, survey};
 use backend_pass::{Config, Manager, Pinned, StartRefused};
 use block_tag::{Catalog, Fork, RelEntry, RelNo};
 use log_device::{FaultPlan, MemSink};
+use page_jobs::{Gate, JobEnd, JobError, NoBeside, ReadFault, Totals, dump, scan, survey};
 use page_layout::{Lsn, Page};
 use std::alloc::{AllocError, Global};
 use std::sync::Wait;

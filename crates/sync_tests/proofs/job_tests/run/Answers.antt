@@ -5,8 +5,8 @@ use Rattle.test_devices.specs.declared.log.TestLog.{TestLog}
 use Rattle.backend_pass.specs.Managers.{AreAll}
 use Rattle.page_jobs.specs.declared.ending.JobEnd.{JobEnd}
 use Rattle.page_jobs.proofs.Backends.{all_given, new_are_free}
-use Rattle.page_jobs.proofs.tests.run.Goals as goal
-use Rattle.page_jobs.proofs.tests.run.Goals.{then-dumps, else-dumps}
+use Rattle.sync_tests.proofs.job_tests.run.Goals as goal
+use Rattle.sync_tests.proofs.job_tests.run.Goals.{then-dumps, else-dumps}
 
 pub dump-requires-clause-free : goal.dump-requires-clause-free
 dump-requires-clause-free g c = λ κs b. new_are_free {L = TestLane} {G = TestLog} (λ x. None) c.in-Ok-start.manager Main _ c.in-Ok-start.passes.items c.in-Ok-start.ensures.passes
