@@ -1,5 +1,5 @@
 -- What is appended one after the other.
-use Rattle.std.proofs.Common.{◌≡◌, ◌∙◌, ◌++◌, ℕ, List, ap}
+use Rattle.std.proofs.Common.{◌∙◌, ◌++◌, ℕ, List, ap}
 use Rattle.std.proofs.lemmas.List.{append_assoc}
 use Rattle.sample_relation.specs.Samples.{Appends}
 

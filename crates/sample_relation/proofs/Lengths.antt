@@ -1,8 +1,8 @@
 -- How long a page of the relation is.
-use Rattle.std.proofs.Common.{◌≡◌, ◌∙◌, ℕ, zero, suc, ◌+◌, ◌-◌, ◌*◌, ◌≤◌, ◌++◌, List, length, replicate, refl, arith, add-one}
+use Rattle.std.proofs.Common.{◌≡◌, ℕ, zero, suc, ◌+◌, ◌*◌, ◌≤◌, length, refl, arith}
 use Rattle.std.proofs.Math.Nat.{add-mul, mul-add, mul-le-mul}
 use Rattle.std.proofs.lemmas.List.{length-append, length-replicate}
-use Rattle.sample_relation.specs.Samples.{header_bytes, pointers, items, item_offset, lower_end, used_page, unsound_page, page_of_kind}
+use Rattle.sample_relation.specs.Samples.{header_bytes, pointers, items, used_page, unsound_page, page_of_kind}
 
 pub length_pointers : (block n : ℕ) → length (pointers block n) ≡ 4 * n
 unfolding pointers

@@ -1,2 +1,4 @@
+pub mod HeldBlocks
 pub mod Joined
 pub mod Lengths
+pub mod SampleLanes

@@ -1,14 +1,18 @@
-//! A relation that is made from a number, to try a buffer manager on: new pages, pages that aren't sound, and pages with items, some of whose line pointers are dead.
+//! A relation that is made from a number, to try a buffer manager on: new pages, pages that aren't sound, and pages with items, some of whose line pointers are dead. Lanes in memory hold its first blocks.
 #![tactic(auto)]
 
 ghost use Rattle.std.specs.Prelude.{◌≡◌, ◌≤◌, OnOk, OnErr, length, replicate};
 ghost use Rattle.byteorder.specs.Endian.{little_bytes};
 ghost use Rattle.sample_relation.specs.Samples.{Appends, header_bytes, item_offset, items, page_of_kind, pointer_bits, pointers, sample_page, unsound_page, used_page};
 
+mod lane;
+mod lanes;
 #[cfg(test)]
 mod tests;
 
 use byteorder::{ByteOrder, LittleEndian};
+pub use lane::SampleLane;
+pub use lanes::sample_lanes;
 use page_layout::{Lsn, Memory, PAGE_SIZE, Page};
 use std::alloc::Global;
 

@@ -1,7 +1,10 @@
-//! The relation's totals, as they are known for two seeds.
-use super::sample_page;
+//! The relation's totals, as they are known for two seeds, and its blocks in lanes.
+use super::{SampleLane, sample_lanes, sample_page};
+use block_tag::{Fork, RelNo, Tag};
+use log_device::Failed;
 use page_layout::{Page, PageRewrite, RewriteTotals, ScanTotals, rewritten};
-use std::alloc::Global;
+use segment_store::BlockLane;
+use std::alloc::{AllocError, Global};
 use std::test::Fail;
 
 /// What a rewrite makes of a page.
@@ -67,5 +70,72 @@ fn the_totals_are_known(rt: HostRuntime) -> Result<(), Fail> {
         "blocks 4 changed 1 same 1 skipped 0 new 1 invalid 1 dead 2"
     );
     assert_eq!(rt; largest, 24);
+    Ok(())
+}
+
+fn tag(block: u32) -> Tag {
+    Tag {
+        rel: RelNo(0),
+        fork: Fork::Main,
+        block,
+    }
+}
+
+/// The page of a block of the relation with the seed 7.
+fn made_page(alloc: Global, block: u32) -> Result<Page, AllocError> {
+    let mut page = Page::zeroed(alloc)?;
+    sample_page(alloc, 7, block, &mut page)?;
+    Ok(page)
+}
+
+/// Reads a block, if the lane has it.
+fn read_own(lane: &mut SampleLane, tag: Tag, page: &mut Page) -> Option<Result<(), Failed>> {
+    if lane.page(&tag).is_none() {
+        return None;
+    }
+    Some(lane.read(tag, page))
+}
+
+/// Writes a block, if the lane has it.
+fn write_own(lane: &mut SampleLane, tag: Tag, page: &Page) -> Option<Result<(), Failed>> {
+    if lane.page(&tag).is_none() {
+        return None;
+    }
+    Some(lane.write(tag, page))
+}
+
+/// Syncs a lane, as a backend of any thread does.
+fn sync<L: BlockLane + Send>(lane: &mut L) -> Result<(), Failed> {
+    lane.sync()
+}
+
+/// Whether a lane has a block with the page that is made for it.
+fn has_block(alloc: Global, lane: &mut SampleLane, block: u32) -> Result<bool, AllocError> {
+    let made = made_page(alloc, block)?;
+    let mut page = Page::zeroed(alloc)?;
+    let read = read_own(lane, tag(block), &mut page);
+    Ok(read == Some(Ok(())) && page.bytes() == made.bytes())
+}
+
+#[test]
+fn each_block_is_in_its_lane(rt: HostRuntime) -> Result<(), Fail> {
+    let mut lanes = sample_lanes(rt.alloc(), 7, 4, 3)?;
+    assert!(rt; has_block(rt.alloc(), &mut lanes[0], 0)?);
+    assert!(rt; has_block(rt.alloc(), &mut lanes[1], 1)?);
+    assert!(rt; has_block(rt.alloc(), &mut lanes[2], 2)?);
+    assert!(rt; has_block(rt.alloc(), &mut lanes[0], 3)?);
+    assert!(rt; !has_block(rt.alloc(), &mut lanes[1], 0)?);
+    Ok(())
+}
+
+#[test]
+fn a_written_page_is_read_back(rt: HostRuntime) -> Result<(), Fail> {
+    let other = made_page(rt.alloc(), 3)?;
+    let mut page = Page::zeroed(rt.alloc())?;
+    let mut lanes = sample_lanes(rt.alloc(), 7, 1, 1)?;
+    assert_eq!(rt; write_own(&mut lanes[0], tag(0), &other), Some(Ok(())));
+    assert_eq!(rt; sync(&mut lanes[0]), Ok(()));
+    assert_eq!(rt; read_own(&mut lanes[0], tag(0), &mut page), Some(Ok(())));
+    assert_eq!(rt; page.bytes(), other.bytes());
     Ok(())
 }

@@ -1,6 +1,6 @@
 use Rattle.std.proofs.Common.{◌≡◌, ◌∙◌, ◌++◌, ◌-◌, ◌+◌, ◌*◌, ◌%◌, ℕ, suc, List, ap, sym, arith, replicate, add-one, subst}
 use Rattle.std.proofs.lemmas.List.{append-nil, append_assoc}
-use Rattle.sample_relation.specs.Samples.{items, item_length, Appends}
+use Rattle.sample_relation.specs.Samples.{items, Appends}
 use Rattle.sample_relation.proofs.put_items.Goals as goal
 
 -- one item more

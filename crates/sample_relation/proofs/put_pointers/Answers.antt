@@ -1,8 +1,6 @@
-use Rattle.std.proofs.Common.{◌≡◌, ◌++◌, add-one, sym, subst, ap, ◌∙◌, refl, List, ℕ}
+use Rattle.std.proofs.Common.{add-one}
 use Rattle.std.proofs.lemmas.List.{append-nil, append_assoc}
-use Rattle.byteorder.specs.Endian.{little_bytes}
-use Rattle.sample_relation.specs.Samples.{Appends, pointers, pointer_bits}
-use Rattle.sample_relation.proofs.Joined.{joined}
+use Rattle.sample_relation.specs.Samples.{pointers}
 use Rattle.sample_relation.proofs.put_pointers.Goals as goal
 
 pub loop-before-init : goal.loop-before-init

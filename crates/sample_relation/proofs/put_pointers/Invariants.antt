@@ -1,4 +1,3 @@
-use Rattle.std.proofs.Common.{◌≡◌, ◌++◌}
 use Rattle.sample_relation.specs.Samples.{Appends, pointers}
 use Rattle.sample_relation.proofs.put_pointers.Given as goal
 

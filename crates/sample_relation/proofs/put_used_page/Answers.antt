@@ -1,4 +1,4 @@
-use Rattle.std.proofs.Common.{ℕ, ◌+◌, ◌-◌, ◌*◌, ◌++◌, subst, replicate}
+use Rattle.std.proofs.Common.{ℕ, ◌+◌, ◌*◌, subst}
 use Rattle.std.proofs.lemmas.Result.{on_ok_weaker}
 use Rattle.sample_relation.specs.Samples.{Appends, header_bytes, items, used_page}
 use Rattle.sample_relation.proofs.Joined.{joined}

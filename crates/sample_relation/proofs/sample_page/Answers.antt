@@ -1,4 +1,4 @@
-use Rattle.std.proofs.Common.{◌≡◌, ◌+◌, ◌%◌, ◌<◌, ◌≤◌, ◌++◌, ℕ, ◌∙◌, List, [], ap, sym, subst, length, arith}
+use Rattle.std.proofs.Common.{◌≡◌, ◌+◌, ◌%◌, ◌++◌, ℕ, ◌∙◌, List, [], ap, length, arith}
 use Rattle.sample_relation.specs.Samples.{sample_page, page_of_kind, Appends}
 use Rattle.sample_relation.proofs.Lengths.{length_page}
 use Rattle.sample_relation.proofs.sample_page.Goals as goal

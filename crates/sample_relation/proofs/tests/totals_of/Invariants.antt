@@ -1,4 +1,3 @@
-use Rattle.std.proofs.Common.{◌≡◌, ◌≤◌}
 use Rattle.page_layout.specs.Scan.{IsWithin}
 use Rattle.page_layout.specs.Outcomes.{IsRewriteWithin}
 use Rattle.sample_relation.proofs.tests.totals_of.Given as goal
