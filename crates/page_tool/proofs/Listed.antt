@@ -1,6 +1,6 @@
 -- What a listing leaves of its lanes, and how it ends.
 use Rattle.std.proofs.Common.{◌≡◌, ℕ, zero, suc, ◌+◌, ◌<◌, ◌≤◌, ◌⊎◌, ◌^◌, false, List, [], ◌∷◌, length, map, get_or, Option, Result, Ok, Err, refl, sym, ap, ◌∙◌, inl, inr, ⊎_elim, arith}
-use Rattle.std.specs.Prelude.{All, IfErr, OnOk, sum_by}
+use Rattle.std.specs.Prelude.{All, IfErr, IfOk, IsOkAnd, MatchResult, OnOk, sum_by}
 use mathlib.Core.Option.{some}
 use lib.ListN.{get_elem?}
 use Rattle.block_tag.specs.declared.tag.Fork.{Fork}
@@ -8,6 +8,7 @@ use Rattle.block_tag.specs.declared.tag.Tag.{Tag}
 use Rattle.block_tag.specs.Names.{lane_number}
 use Rattle.log_device.specs.Bytes.{Puts}
 use Rattle.log_device.specs.Faults.{Rose}
+use Rattle.page_layout.specs.declared.scan.ScanTotals.{ScanTotals}
 use Rattle.segment_store.specs.Contents.{Marks, Pages, no_marks}
 use Rattle.segment_store.specs.Lanes.{HoldPages, mark_in, tag_at}
 use Rattle.pin_core.specs.State.{Page}
@@ -27,12 +28,22 @@ use Rattle.page_jobs.specs.Relations.{IsCatalogOf, MeetNothing}
 use Rattle.page_jobs.proofs.Backends as backends
 use Rattle.page_jobs.proofs.Counted.{no_read_failed, no_write_failed, some_read_failed}
 use Rattle.page_jobs.proofs.ReadersLeave.{pages_left, unfailed_left}
-use Rattle.page_tool.specs.Causes.{HasListingCause, IsCauseOf, listing_end, listing_error}
+use Rattle.page_tool.specs.Causes.{HasListingCause, IsCauseOf, listing_end, listing_error, scan_totals_in}
 use Rattle.page_tool.specs.Listings.{LeavesLanes}
 
-pub puts_as : (text : List ℕ) (old new : Option (List ℕ)) (end : Result Totals JobError) → Puts text old new (as_done end) → Puts text old new (listing_end end)
+pub puts_as : (text : List ℕ) (old new : Option (List ℕ)) (end : Result Totals JobError) → Puts text old new (as_done end) → Puts text old new (as_done (listing_end end))
 puts_as text old new (Ok totals) puts = record { ok = puts.ok; failed = puts.failed }
 puts_as text old new (Err e) puts = record { ok = puts.ok; failed = puts.failed }
+
+pub totals_as : (totals : ScanTotals) (end : Result Totals JobError) → IfOk end (λ t. scan_totals_in t ≡ totals) → IfOk (listing_end end) (λ t. t ≡ totals)
+totals_as totals (Ok t) is = is
+totals_as totals (Err e) is = tt
+
+-- an end without its totals
+pub done_as : {A E : Type 0} (F : A → Unit → Type 0) (end : Result A E) (r : Result Unit E) → MatchResult end (λ a. IsOkAnd r (F a)) (λ e. r ≡ Err e) → r ≡ as_done end
+done_as F (Ok a) (Ok tt) is = refl
+done_as F (Ok a) (Err e) is = absurd is
+done_as F (Err e) r is = is
 
 module _ {A B : Type 0} (f : A → B) (d : B) where
   -- where all are mapped to one value, it stands at each place

@@ -14,7 +14,7 @@ use Rattle.command_line.specs.Numbers.{blocks_range, number_in, options_in, seed
 use Rattle.command_line.specs.RelationPath.{is_file_of, is_main_fork}
 use Rattle.command_line.specs.Spelled.{Spelled, command_named, command_of, command_of_subcommand, dump, log_in, main_path_in, relation_path_in, rewrite, rewrite_in, sample, sample_in, scan, spelled}
 use Rattle.page_tool.specs.declared.request.Request.{Request}
-use Rattle.page_tool.specs.Request.{Asked, IsOfMainFork, asked, asked_by, listing, rewriting}
+use Rattle.page_tool.specs.Request.{IsOfMainFork, asked, asked_by}
 
 -- a command that is no rewrite, or one of a main fork
 abbrev IsOfMain : Spelled → Type 0
@@ -79,19 +79,15 @@ unfolding command_of
 commands_are words = by_test IsOfMain (is_empty (fault_of tool_app words)) _ _
     (by_then IsOfMain (λ (f : Text × List Row). Unit {0}) command_of_subcommand (subcommand_of tool_app words) (any (subcommand_of tool_app words)) (λ found _. of_subcommand found)) tt
 
-asked_of_main : (s : Spelled) → IsOfMain s → IfSome (asked_by s) IsOfMainFork
+asked_of_main : (s : Spelled) → IsOfMain s → IsOfMainFork (asked_by s)
 asked_of_main (scan path options) main = tt
 asked_of_main (dump path options) main = tt
 asked_of_main (rewrite path log options) main = main
 asked_of_main (sample seed blocks options) main = tt
 
-given_by : (r : Option Request) → IfSome (option_map asked r) IsOfMainFork → IfSome r (λ r. IsOfMainFork (asked r))
-given_by None main = tt
-given_by (Some r) main = main
-
 -- what words ask for is no rewrite, or one of a main fork
-pub request_of_main : (words : List Text) (command : Command) (r : Option Request) → Some (spelled command) ≡ command_of words
-    → option_map asked r ≡ asked_by (spelled command) → IfSome r (λ r. IsOfMainFork (asked r))
+pub request_of_main : (words : List Text) (command : Command) (r : Request) → Some (spelled command) ≡ command_of words
+    → asked r ≡ asked_by (spelled command) → IsOfMainFork (asked r)
 request_of_main words command r spelled_so asked_so =
     let main = subst (λ (o : Option Spelled). IfSome o IsOfMain) (sym spelled_so) (commands_are words) in
-    given_by r (subst (λ (o : Option Asked). IfSome o IsOfMainFork) (sym asked_so) (asked_of_main (spelled command) main))
+    subst IsOfMainFork (sym asked_so) (asked_of_main (spelled command) main)

@@ -7,12 +7,13 @@ use Rattle.std.proofs.lemmas.Option.{same_Some}
 use mathlib.Core.Option.{some, some-injective, some-ne-none}
 use lib.ListN.{get_elem?}
 use Rattle.block_tag.specs.declared.tag.Fork.{Fork}
+use Rattle.block_tag.specs.declared.tag.Tag.{Tag}
 use Rattle.block_tag.specs.Names.{lane_number, names_block}
 use Rattle.log_device.specs.MemoryLog.{StoredLog}
 use Rattle.page_layout.specs.Fields.{lsn_of}
 use Rattle.page_layout.specs.Soundness.{is_sound_page}
 use Rattle.segment_store.specs.Contents.{AreWhole, Marks, Pages, no_marks}
-use Rattle.segment_store.specs.Lanes.{page_in, tag_at}
+use Rattle.segment_store.specs.Lanes.{HoldPages, lane_at, page_in, tag_at}
 use Rattle.segment_store.specs.Restored.{pages_in}
 use Rattle.pin_core.specs.State.{Page}
 use Rattle.history_core.specs.Log.{Entry, end_of, head_size, log_bytes}
@@ -71,10 +72,15 @@ file_at synced log known = record { bytes = known; synced = synced log }
 pub each_full : (pages : List Page) → ((i : ℕ) (page : Page) → get_elem? pages i ≡ some page → length page ≡ 8192) → AreFull pages
 each_full pages each i page low = let x = there pages i low in ap length (standing_or pages i x.0 page x.1) ∙ each i x.0 x.1
 
-below_test : (a b : ℕ) → a < b → nat_lt a b ≡ true
+-- a page that a lane has
+has_page : (x : Option Pages) (tag : Tag) (page : Page) → option_and_then (λ (pages : Pages). pages tag) x ≡ Some page → IsSomeAnd x (λ pages. pages tag ≡ Some page)
+has_page None tag page is = absurd (cc)
+has_page (Some pages) tag page is = is
+
+pub below_test : (a b : ℕ) → a < b → nat_lt a b ≡ true
 below_test a b low = grind arith
 
-block_named : (block : ℕ) → block < 2 ^ 32 - 1 → nat_lt 0 1024 && nat_lt block (2 ^ 32 - 1) ≡ true
+pub block_named : (block : ℕ) → block < 2 ^ 32 - 1 → nat_lt 0 1024 && nat_lt block (2 ^ 32 - 1) ≡ true
 block_named block low = grind arith
 
 module _ {L G : Type 0} (d : Devices L G) (m : Manager L G) (r : RelationFork) (base : ℕ) (ps zs : List PassState) (started : IsStarted d.contents r base m ps) (few : r.blocks < 2 ^ 32)
@@ -177,17 +183,29 @@ module _ {L G : Type 0} (d : Devices L G) (m : Manager L G) (r : RelationFork) (
     pub was_old : (block : ℕ) (old new : Page) (b : Both block new) → get_elem? pages block ≡ some old → b.old ≡ old
     was_old block old new b at = some-injective b.old old (sym b.at ∙ at)
 
-    -- each page has 8192 bytes
-    full_at : ((lane : L) → IfSome (d.contents lane) AreWhole) → (block : ℕ) (new : Page) → get_elem? (pages_after d.contents r lanes pages) block ≡ some new → length new ≡ 8192
-    full_at whole block new at =
-        let b = both_at block new at in
+    -- a block's page is in its lane
+    lane_has : (block : ℕ) (new : Page) (b : Both block new) → b.of.after (tag_at r.fork block) ≡ Some new
+    lane_has block new b =
         let x = b.of.is in
         let tag = tag_at r.fork block in
         let lies = subst (λ (k : ℕ). IsPlaced (relations_of m.table) k x.lane ((rule_at r).tag block) tag) (sym c.opened.lanes) x.placed in
         let has : b.of.after tag ≡ Some ((c.state.lane x.lane).stored ((rule_at r).tag block)) = (c.lane x.lane b.of.closed x.is).pages b.of.after ((rule_at r).tag block) tag x.holds lies in
-        let all : AreWhole b.of.after = subst (λ (p : Option Pages). IfSome p AreWhole) x.holds (whole b.of.closed) in
-        let long : length ((c.state.lane x.lane).stored ((rule_at r).tag block)) ≡ 8192 = subst (λ (p : Option Page). IfSome p (λ page. length page ≡ 8192)) has (all tag) in
-        ap length (b.new_is ∙ ap (λ (p : Option Page). unwrap_or p b.old) has) ∙ long
+        has ∙ ap (λ (p : Page). Some p) (sym (b.new_is ∙ ap (λ (p : Option Page). unwrap_or p b.old) has))
+
+    pub pages_held : HoldPages r.fork (pages_after d.contents r lanes pages) (map d.contents lanes)
+    pages_held block below =
+        let tag = tag_at r.fork block in
+        let x = there (pages_after d.contents r lanes pages) block below in
+        let b = both_at block x.0 x.1 in
+        has_page (lane_at (map d.contents lanes) tag) tag (get_or (pages_after d.contents r lanes pages) block [])
+        (b.of.now ∙ lane_has block x.0 b ∙ ap (λ (p : Page). Some p) (sym (standing_or (pages_after d.contents r lanes pages) block x.0 [] x.1)))
+
+    -- each page has 8192 bytes
+    full_at : ((lane : L) → IfSome (d.contents lane) AreWhole) → (block : ℕ) (new : Page) → get_elem? (pages_after d.contents r lanes pages) block ≡ some new → length new ≡ 8192
+    full_at whole block new at =
+        let b = both_at block new at in
+        let all : AreWhole b.of.after = subst (λ (p : Option Pages). IfSome p AreWhole) b.of.is.holds (whole b.of.closed) in
+        subst (λ (p : Option Page). IfSome p (λ page. length page ≡ 8192)) (lane_has block new b) (all (tag_at r.fork block))
 
     pub pages_full : ((lane : L) → IfSome (d.contents lane) AreWhole) → AreFull (pages_after d.contents r lanes pages)
     pages_full whole = each_full (pages_after d.contents r lanes pages) (full_at whole)

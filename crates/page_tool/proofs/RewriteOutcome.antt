@@ -30,8 +30,9 @@ use Rattle.page_tool.specs.declared.starting.RelationFork.{RelationFork}
 use Rattle.page_tool.specs.Checkpointing.{StoresRewrite}
 use Rattle.page_tool.specs.Rewriting.{ArePages, HasPositionsLeft, HasRewriteCause, LeavesRewritten, checkpoint_error, rewrite_error, rewrite_totals_in}
 use Rattle.page_tool.specs.Starting.{IsStarted, log_of}
+use Rattle.page_tool.proofs.PagesAfter.{StaysUsed}
 use Rattle.page_tool.proofs.RewriteCauses.{AnyMeets, any_meets, err_cause, met_by_none, no_position, ok_cause}
-use Rattle.page_tool.proofs.RewriteLeaves.{leaves_either}
+use Rattle.page_tool.proofs.RewriteLeaves.{leaves_either, pages_held}
 use Rattle.page_tool.proofs.RewritePasses.{all_seen, all_seen_after}
 use Rattle.page_tool.proofs.RewriteWhole.{is_rewritten, unfailed}
 
@@ -80,7 +81,7 @@ module _ {L G : Type 0} (d : Devices L G) (m : Manager L G) (r : RelationFork) (
   cause reads writes (Ok totals) s = ok_cause d m r base ps zs started few lanes log c reads writes totals (nothing totals s)
   cause reads writes (Err e) s = err_cause d m r base ps zs started few lanes log c reads writes e (why_early e s)
 
-  module _ (either : ClosesEither d m) (rewritten : ClosesRewritten d m) (full : ClosesFull d m) (room : base_of m.table + 8224 * r.blocks ≤ 2 ^ 62) (none : d.log_faults (log_of m) ≡ 0) (full_pages : (lane : L) → IfSome (d.contents lane) AreWhole) where
+  module _ (either : ClosesEither d m) (rewritten : ClosesRewritten d m) (full : ClosesFull d m) (room : base_of m.table + 8224 * r.blocks ≤ 2 ^ 62) (none : d.log_faults (log_of m) ≡ 0) (full_pages : (lane : L) → IfSome (d.contents lane) AreWhole) (stays_used : StaysUsed) where
     -- a whole rewrite, and its checkpoint
     stored : (pages : List Page) → ArePages d.contents r base (opened_of m.table) pages → (totals : RewriteTotals) (s : StoresRewrite d.contents m r.fork ps zs (Ok totals))
         → RewritesAndStores d.contents m 0 r.fork ps s.qs zs s.whole.counts s.whole.stores.upto
@@ -134,8 +135,9 @@ module _ {L G : Type 0} (d : Devices L G) (m : Manager L G) (r : RelationFork) (
           either = λ pages known are told. leaves_either d m r base ps zs started few lanes log c pages are x.1 known told full_pages x.0;
           whole = λ pages known are told.
               let y = rewritten 0 r.fork ps s.qs zs s.whole.counts s.whole.stores.upto lanes log (stored pages are totals s) c in
-              is_rewritten d m r base ps zs started few lanes log c (ap (λ (k : Met). k.writes) unmet) pages are y.0 x.1 y.2 none (ap (λ (k : Met). k.logs) unmet) known told full_pages;
+              is_rewritten d m r base ps zs started few lanes log c (ap (λ (k : Met). k.writes) unmet) pages are y.0 x.1 y.2 none (ap (λ (k : Met). k.logs) unmet) known told full_pages stays_used;
           totals = λ pages are. totals_are pages are totals s;
+          held = λ pages are. pages_held d m r base ps zs started few lanes log c pages are;
           unfailed = λ pages are. unfailed d m r base ps zs started few lanes log c (ap (λ (k : Met). k.writes) unmet) pages are;
           positions = tt;
         }
@@ -145,6 +147,7 @@ module _ {L G : Type 0} (d : Devices L G) (m : Manager L G) (r : RelationFork) (
           either = λ pages known are told. leaves_either d m r base ps zs started few lanes log c pages are x.1 known told full_pages x.0;
           whole = tt;
           totals = tt;
+          held = tt;
           unfailed = tt;
           positions = positions_left e s;
         }

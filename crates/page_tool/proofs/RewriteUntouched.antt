@@ -75,6 +75,7 @@ module _ {L G : Type 0} (contents : L → Option Pages) (failed : L → Marks) (
     either = λ pages known are told. either pages are known told;
     whole = tt;
     totals = tt;
+    held = tt;
     unfailed = tt;
     positions = λ pages are. tt;
   }

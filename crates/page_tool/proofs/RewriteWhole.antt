@@ -16,7 +16,7 @@ use Rattle.page_layout.specs.Outcomes.{is_changed_outcome, page_rewrite_of}
 use Rattle.page_layout.specs.Rewritten.{rewrite_of}
 use Rattle.page_layout.specs.Soundness.{is_new_page, is_sound_page}
 use Rattle.history_core.specs.Device.{HasRisen}
-use Rattle.history_core.specs.Log.{log_bytes, log_end, record_size}
+use Rattle.history_core.specs.Log.{end_of, log_bytes, log_end, record_size}
 use Rattle.history_core.specs.State.{failed, last_count}
 use Rattle.table_rule.specs.Layout.{lane_of_tag}
 use Rattle.table_rule.specs.Shows.{Devices, IsLog, IsPlaced}
@@ -34,6 +34,7 @@ use Rattle.page_tool.specs.RewriteResults.{IsLogged, IsRewritten}
 use Rattle.page_tool.specs.RewriteTexts.{changed_pages}
 use Rattle.page_tool.specs.Rewriting.{ArePages, failed_after, pages_after}
 use Rattle.page_tool.specs.Starting.{IsStarted, log_of, names_of}
+use Rattle.page_tool.proofs.PagesAfter.{StaysUsed, differ}
 use Rattle.page_tool.proofs.RewriteLeaves.{InLanes, each_either, file_at, images, in_lanes, names_are, origin_at, page_at, page_within, pages_full, pages_long, rule_at}
 
 -- a page that the rule changes is sound
@@ -163,8 +164,8 @@ module _ {L G : Type 0} (d : Devices L G) (m : Manager L G) (r : RelationFork) (
                 (each_either d m r base ps zs started few lanes log c pages are either known told block old new was at (unfailed block low)),
           )
 
-      pub is_rewritten : ((lane : L) → IfSome (d.contents lane) AreWhole) → IsRewritten (rule_at r) (names_of r) base pages (pages_after d.contents r lanes pages) (file_at d.synced log known)
-      is_rewritten full = record {
+      pub is_rewritten : ((lane : L) → IfSome (d.contents lane) AreWhole) → StaysUsed → IsRewritten (rule_at r) (names_of r) base pages (pages_after d.contents r lanes pages) (file_at d.synced log known)
+      is_rewritten full stays_used = record {
         law = c.laws.invariant.log;
         log = c.state.log;
         based = c.opened.base ∙ started.based;
@@ -175,4 +176,7 @@ module _ {L G : Type 0} (d : Devices L G) (m : Manager L G) (r : RelationFork) (
         full = pages_full d m r base ps zs started few lanes log c pages are full;
         changed = changed_at;
         same = same_at;
+        alike = differ stays_used pages (pages_after d.contents r lanes pages) (pages_long r.fork (map d.contents lanes) 0 pages) (pages_full d m r base ps zs started few lanes log c pages are full)
+            (λ block old new was at changes. let logged = changed_at block old new was at changes in (end_of logged.made.entry, logged.rewritten))
+            (λ block old new was at kept. (same_at block old new was at kept).1);
       }

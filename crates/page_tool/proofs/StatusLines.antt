@@ -1,6 +1,6 @@
 -- The line of a refusal is the line of its status.
 use Rattle.std.proofs.Common.{◌≡◌, ℕ, List, [], ◌++◌, Result, Ok, Err, Option, Some, None, refl, sym, ◌∙◌, ap, subst, arith}
-use Rattle.std.specs.Prelude.{IsSomeAnd, option_map}
+use Rattle.std.specs.Prelude.{IsSomeAnd, option_map, unwrap_or}
 use Rattle.std.proofs.lemmas.List.{append-nil}
 use Rattle.log_device.specs.declared.device.Failed.{Failed}
 use Rattle.segment_store.specs.Paths.{Paths}
@@ -30,7 +30,7 @@ line_is None known old new Memory ends = refl
 line_is None known old new (OverLimit limit) ends = absurd ends
 line_is (Some a) known old new Usage ends = absurd ends
 line_is (Some a) known old new (Crowded crowding) ends = ap (λ c. tool_line (crowded_text c)) ends.0
-line_is (Some a) known old new (Missing path) ends = ap (λ (p : List ℕ). tool_line (missing_text p)) ends.0
+line_is (Some a) known old new (Missing path) ends = ap (λ (p : Option (List ℕ)). tool_line (missing_text (unwrap_or p []))) (sym ends.0)
 line_is (Some a) known old new ReadFault ends = refl
 line_is (Some a) known old new WriteFault ends = refl
 line_is (Some a) known old new LogFault ends = refl

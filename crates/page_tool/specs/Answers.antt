@@ -1,41 +1,53 @@
 -- What a run answers, and why.
-use Rattle.std.specs.Prelude.{◌≡◌, ◌≢◌, ◌<◌, ◌≤◌, ◌⊎◌, ℕ, ◌+◌, ◌-◌, ◌^◌, ◌==◌, false, true, List, [], ◌++◌, length, Option, Some, None, Result, Ok, Err, IfSome, IsSomeAnd, option_map, if◌then◌else◌, codes}
+use Rattle.std.specs.Prelude.{◌≡◌, ◌≢◌, ◌<◌, ◌≤◌, ◌⊎◌, ℕ, ◌+◌, ◌-◌, ◌^◌, ◌==◌, false, true, List, [], ◌++◌, length, Option, Some, None, Result, Ok, Err, IfSome, IsSome, IsSomeAnd, option_map, unwrap_or, if◌then◌else◌, codes}
 use Rattle.command_line.specs.declared.numbers.Options.{Options}
 use Rattle.log_device.specs.declared.device.Failed.{Failed}
 use Rattle.log_device.specs.Bytes.{GainsPrefix, Puts}
 use Rattle.log_device.specs.Faults.{HasCause, Rose}
+use Rattle.segment_store.specs.Logs.{Logs}
 use Rattle.segment_store.specs.Paths.{PathMarks, Paths}
 use Rattle.segment_store.specs.Relation.{relation_of}
 use Rattle.pin_core.specs.State.{Page}
 use Rattle.history_core.specs.Log.{record_size}
-use Rattle.page_tool.specs.declared.error.Crowding.{Crowding}
 use Rattle.page_tool.specs.declared.error.ToolError.{ToolError}
 use Rattle.page_tool.specs.declared.error.ToolError.TheVariants.{Usage, Crowded, Missing, ReadFault, WriteFault, LogFault, OutFault, Memory, OverLimit}
 use Rattle.page_tool.specs.declared.limits.PositionLimit.{PositionLimit}
 use Rattle.page_tool.specs.declared.limits.PositionLimit.TheVariants.{OfPages, OfPage, OfLog}
 use Rattle.page_tool.specs.Limits.{PassesLimit, largest_lsn, last_position}
 use Rattle.page_tool.specs.Listings.{NoneFails, text_of}
-use Rattle.page_tool.specs.Request.{Asked, IsCrowded, ListingAsked, RewriteAsked, is_rewriting, listing, rewriting, options_of, path_of}
-use Rattle.page_tool.specs.RewriteFiles.{HostFiles, RewritesFiles}
+use Rattle.page_tool.specs.Request.{Asked, IsCrowded, ListingAsked, is_rewriting, listing, rewriting, sampling, options_of, path_of}
+use Rattle.page_tool.specs.RewriteFiles.{HostFiles, RewritesFiles, files_of, pages_at}
 use Rattle.page_tool.specs.RewriteTexts.{rewrite_text}
+use Rattle.page_tool.specs.Samples.{crowding_of, sample_text}
+use Rattle.sample_relation.specs.Relations.{sample_relation}
 use Rattle.page_tool.specs.Status.{crowded_text, error_line, limit_text, missing_text, status_of_error, tool_line, usage_text}
 
--- where the paths are known, nothing is there at this one
-abbrev pub IsMissing : Option Paths → List ℕ → Type 0
-IsMissing known path = IfSome known (λ paths. paths path ≡ [])
+-- where the paths are known, nothing is there at the one that is asked for; a sample asks for none
+abbrev pub IsMissing : Option Paths → Option (List ℕ) → Type 0
+IsMissing known None = ⊥
+IsMissing known (Some path) = IfSome known (λ paths. paths path ≡ [])
 
--- where the paths are known, something is there at this one
-abbrev pub IsThere : Option Paths → List ℕ → Type 0
-IsThere known path = IfSome known (λ paths. paths path ≢ [])
+-- where the paths are known, something is there at it
+abbrev pub IsThere : Option Paths → Option (List ℕ) → Type 0
+IsThere known None = Unit {0}
+IsThere known (Some path) = IfSome known (λ paths. paths path ≢ [])
+
+-- the paths are known, and something is there at it
+abbrev pub IsKnownThere : Option Paths → Option (List ℕ) → Type 0
+IsKnownThere known None = Unit {0}
+IsKnownThere known (Some path) = IsSomeAnd known (λ paths. paths path ≢ [])
 
 -- the pages of the relation that is asked for
 abbrev pub pages_asked : Asked → Paths → List Page
-pages_asked a paths = relation_of (options_of a).seg_blocks (paths (path_of a))
+pages_asked (listing l) paths = relation_of l.options.seg_blocks (paths l.path)
+pages_asked (rewriting r) paths = pages_at r paths
+pages_asked (sampling s) paths = sample_relation s.seed s.blocks
 
--- the text that is asked for
-abbrev pub text_asked : Asked → Paths → List ℕ
-text_asked (listing l) paths = text_of l.listing (pages_asked (listing l) paths)
-text_asked (rewriting r) paths = rewrite_text (pages_asked (rewriting r) paths)
+-- the text that is asked for, where it is known: that of a sample is, and that of a relation where the paths are
+abbrev pub text_asked : Asked → Option Paths → Option (List ℕ)
+text_asked (listing l) known = option_map (λ paths. text_of l.listing (pages_asked (listing l) paths)) known
+text_asked (rewriting r) known = option_map (λ paths. rewrite_text (pages_at r paths)) known
+text_asked (sampling s) known = Some (sample_text s.seed s.blocks)
 
 -- The counts of faults, of the host and of the output
 pub record FaultCounts : Type 0 where
@@ -46,6 +58,14 @@ pub record FaultCounts : Type 0 where
 
 abbrev pub counts : ℕ → ℕ → ℕ → ℕ → FaultCounts
 counts reads writes logs outs = record { reads = reads; writes = writes; logs = logs; outs = outs }
+
+-- those of a host and of an output, each of which tells its own
+abbrev pub counts_of : {H O : Type 0} → (H → ℕ) → (H → ℕ) → (H → ℕ) → (O → ℕ) → H → O → FaultCounts
+counts_of reads writes logs outs host out = counts (reads host) (writes host) (logs host) (outs out)
+
+-- the files of a host, where it tells its paths and its logs
+abbrev pub files_in : {H : Type 0} → (H → Option Paths) → (H → PathMarks) → (H → Option Logs) → H → Option HostFiles
+files_in contents failed logs host = files_of (contents host) (failed host) (logs host)
 
 -- no count fell
 pub record CountsLater (old new : FaultCounts) : Type 0 where
@@ -64,25 +84,25 @@ pub record ListingKeeps (l : ListingAsked) (old new : HostFiles) : Type 0 where
 abbrev pub IsNoRewrite : Option Asked → Type 0
 IsNoRewrite request = IfSome request (λ a. is_rewriting a ≡ false)
 
--- no block's last write failed; where the words are no command, all is as it was
+-- no block's last write failed; where the words are no command, or ask for a sample, all is as it was
 abbrev pub FailsNone : Option Asked → Paths → PathMarks → PathMarks → Type 0
 FailsNone None paths old new = new ≡ old
-FailsNone (Some a) paths old new = NoneFails (options_of a).seg_blocks paths (path_of a) old new
+FailsNone (Some (listing l)) paths old new = NoneFails l.options.seg_blocks paths l.path old new
+FailsNone (Some (rewriting r)) paths old new = NoneFails r.options.seg_blocks paths r.path old new
+FailsNone (Some (sampling s)) paths old new = new ≡ old
 
 -- what a run leaves of the files
 abbrev pub LeavesFiles : Option Asked → ℕ → HostFiles → HostFiles → Type 0
 LeavesFiles None status old new = new ≡ old
 LeavesFiles (Some (listing l)) status old new = ListingKeeps l old new
 LeavesFiles (Some (rewriting r)) status old new = RewritesFiles r status old new
+LeavesFiles (Some (sampling s)) status old new = new ≡ old
 
 -- the refusals of words that are no command
 abbrev pub RefusesWords : ToolError → Type 0
 RefusesWords Usage = Unit {0}
 RefusesWords Memory = Unit {0}
 RefusesWords _ = ⊥
-
-abbrev pub crowding_of : Options → Crowding
-crowding_of o = record { backends = o.backends; frames = o.frames }
 
 -- A rewrite could pass the last log position: of pages of these positions, or of a page past the log's end, or of a log that is full; the last two don't come where the relation is known
 abbrev pub IsOverLimit : Option (List Page) → PositionLimit → Type 0
@@ -98,6 +118,7 @@ ArePastLimit pages = PassesLimit (largest_lsn pages) (length pages)
 abbrev pub HasPositions : Asked → List Page → Type 0
 HasPositions (listing l) pages = Unit {0}
 HasPositions (rewriting r) pages = ¬ ArePastLimit pages
+HasPositions (sampling s) pages = Unit {0}
 
 -- the same of the relation that is asked for, where it is known
 abbrev pub HasPositionsAt : Asked → Option Paths → Type 0
@@ -107,8 +128,8 @@ HasPositionsAt a known = IfSome known (λ paths. HasPositions a (pages_asked a p
 abbrev pub IsRefusal : Asked → Option Paths → FaultCounts → FaultCounts → ToolError → Type 0
 IsRefusal a known old new Usage = ⊥
 IsRefusal a known old new (Crowded crowding) = (crowding ≡ crowding_of (options_of a)) × IsCrowded (options_of a)
-IsRefusal a known old new (Missing path) = (path.now ≡ path_of a) × IsMissing known (path_of a) × ¬ IsCrowded (options_of a) × (new.reads ≡ old.reads)
-IsRefusal a known old new ReadFault = Rose old.reads new.reads × ¬ IsCrowded (options_of a)
+IsRefusal a known old new (Missing path) = (path_of a ≡ Some path.now) × IsMissing known (path_of a) × ¬ IsCrowded (options_of a) × (new.reads ≡ old.reads)
+IsRefusal a known old new ReadFault = Rose old.reads new.reads × ¬ IsCrowded (options_of a) × IsSome (path_of a)
 IsRefusal a known old new WriteFault = Rose old.writes new.writes × IsThere known (path_of a) × ¬ IsCrowded (options_of a) × (is_rewriting a ≡ true) × HasPositionsAt a known
 IsRefusal a known old new LogFault = Rose old.logs new.logs × IsThere known (path_of a) × ¬ IsCrowded (options_of a) × (is_rewriting a ≡ true) × HasPositionsAt a known
 IsRefusal a known old new OutFault = Rose old.outs new.outs × IsThere known (path_of a) × ¬ IsCrowded (options_of a) × HasPositionsAt a known
@@ -146,17 +167,17 @@ pub record CrowdedIf (options : Options) (status : ℕ) : Type 0 where
 -- status 3 comes only where it isn't crowded, nothing is there and no opening failed, and always then unless an opening failed or memory was short
 pub record MissingIf (a : Asked) (known : Option Paths) (reads reads_now status : ℕ) : Type 0 where
   pub only : status ≡ 3 → IsMissing known (path_of a) × ¬ IsCrowded (options_of a) × (reads_now ≡ reads)
-  pub always : ¬ IsCrowded (options_of a) → IfSome known (λ paths. paths (path_of a) ≡ [] → (status ≡ 3) ⊎ ((status ≡ 8) ⊎ ((status ≡ 4) × Rose reads reads_now)))
+  pub always : ¬ IsCrowded (options_of a) → IfSome known (λ paths. IsMissing (Some paths) (path_of a) → (status ≡ 3) ⊎ ((status ≡ 8) ⊎ ((status ≡ 4) × Rose reads reads_now)))
 
 -- status 9 comes only for a rewrite of a relation that is there and isn't crowded, whose pages, where they are known, could pass the last position; and always then unless a read failed or memory was short
 pub record LimitIf (a : Asked) (known : Option Paths) (reads reads_now status : ℕ) : Type 0 where
-  pub only : status ≡ 9 → (is_rewriting a ≡ true) × ¬ IsCrowded (options_of a) × IfSome known (λ paths. (paths (path_of a) ≢ []) × ArePastLimit (pages_asked a paths))
+  pub only : status ≡ 9 → (is_rewriting a ≡ true) × ¬ IsCrowded (options_of a) × IfSome known (λ paths. IsThere (Some paths) (path_of a) × ArePastLimit (pages_asked a paths))
   pub always : is_rewriting a ≡ true → ¬ IsCrowded (options_of a)
-      → IfSome known (λ paths. paths (path_of a) ≢ [] → ArePastLimit (pages_asked a paths) → (status ≡ 9) ⊎ ((status ≡ 8) ⊎ ((status ≡ 4) × Rose reads reads_now)))
+      → IfSome known (λ paths. IsThere (Some paths) (path_of a) → ArePastLimit (pages_asked a paths) → (status ≡ 9) ⊎ ((status ≡ 8) ⊎ ((status ≡ 4) × Rose reads reads_now)))
 
--- the faults of writing and of the log are those of a rewrite alone
+-- the faults of writing and of the log are those of a rewrite alone, and those of reading of a relation at a path
 pub record FaultIf (request : Option Asked) (old new : FaultCounts) (status : ℕ) : Type 0 where
-  pub reads : status ≡ 4 → Rose old.reads new.reads
+  pub reads : status ≡ 4 → Rose old.reads new.reads × IsSomeAnd request (λ a. IsSome (path_of a))
   pub writes : status ≡ 5 → Rose old.writes new.writes × IsSomeAnd request (λ a. is_rewriting a ≡ true)
   pub logs : status ≡ 6 → Rose old.logs new.logs × IsSomeAnd request (λ a. is_rewriting a ≡ true)
   pub outs : status ≡ 7 → Rose old.outs new.outs
@@ -173,17 +194,17 @@ pub record CountsBelowLast (old : FaultCounts) : Type 0 where
   pub logs : old.logs < 2 ^ 64 - 1
   pub outs : old.outs < 2 ^ 64 - 1
 
--- what is owed where no count rose: a relation that is there and isn't crowded is listed, or rewritten where its positions stay below the last one, unless memory was short
+-- what is owed where no count rose: a relation that is known to be there is listed, or rewritten where its positions stay below the last one, and a sample is done, unless it is crowded or memory was short
 abbrev pub IsComplete : Asked → Option Paths → FaultCounts → FaultCounts → ℕ → Type 0
-IsComplete a known old new status = IfSome known (λ paths. ¬ IsCrowded (options_of a) → paths (path_of a) ≢ [] → HasPositions a (pages_asked a paths)
-    → new ≡ old → CountsBelowLast old → (status ≡ 0) ⊎ (status ≡ 8))
+IsComplete a known old new status = ¬ IsCrowded (options_of a) → IsKnownThere known (path_of a) → HasPositionsAt a known
+    → new ≡ old → CountsBelowLast old → (status ≡ 0) ⊎ (status ≡ 8)
 
 -- the text of a status, which the request and the position limit make whole
 abbrev pub status_text : Option Asked → PositionLimit → ℕ → List ℕ
 status_text None limit status = if status == 1 then usage_text else codes "out of memory"
 status_text (Some a) limit status =
     if status == 2 then crowded_text (crowding_of (options_of a))
-    else (if status == 3 then missing_text (path_of a)
+    else (if status == 3 then missing_text (unwrap_or (path_of a) [])
     else (if status == 4 then codes "read fault"
     else (if status == 5 then codes "write fault"
     else (if status == 6 then codes "log fault"

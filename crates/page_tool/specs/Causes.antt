@@ -4,6 +4,7 @@ use Rattle.log_device.specs.Faults.{Rose}
 use Rattle.page_jobs.specs.declared.ending.JobError.{JobError}
 use Rattle.page_jobs.specs.declared.ending.JobError.TheVariants as job
 use Rattle.page_jobs.specs.declared.ending.Totals.{Totals}
+use Rattle.page_layout.specs.declared.scan.ScanTotals.{ScanTotals}
 use Rattle.page_tool.specs.declared.listing.ListingError.{ListingError}
 use Rattle.page_tool.specs.declared.listing.ListingError.TheVariants.{ReadFault, OutFault, Memory}
 
@@ -18,8 +19,12 @@ listing_error (job.LogFull end) = Memory
 listing_error job.OutFault = OutFault
 listing_error job.Memory = Memory
 
-abbrev pub listing_end : Result Totals JobError → Result Unit ListingError
-listing_end (Ok totals) = Ok tt
+-- the totals of a scan among those of a job
+abbrev pub scan_totals_in : Totals → ScanTotals
+scan_totals_in t = record { blocks = t.blocks; used = t.used; new = t.new; invalid = t.invalid; normal = t.normal; redirect = t.redirect; dead = t.dead; unused = t.unused }
+
+abbrev pub listing_end : Result Totals JobError → Result ScanTotals ListingError
+listing_end (Ok totals) = Ok (scan_totals_in totals)
 listing_end (Err e) = Err (listing_error e)
 
 -- a fault is one of the count that rose

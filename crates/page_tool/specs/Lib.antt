@@ -3,6 +3,7 @@ pub mod Listings
 pub mod Starting
 pub mod Request
 pub mod RewriteTexts
+pub mod Samples
 pub mod RewriteResults
 pub mod Rewriting
 pub mod Checkpointing
@@ -11,3 +12,4 @@ pub mod Causes
 pub mod Status
 pub mod Answers
 pub mod RewriteCommand
+pub mod SampleSteps

@@ -1,9 +1,12 @@
 -- What a rewrite makes of the pages of a relation and of its log.
-use Rattle.std.specs.Prelude.{◌≡◌, ◌⊎◌, ℕ, ◌+◌, ◌*◌, ◌<◌, ◌≤◌, Bool, true, false, All, List, ◌++◌, length}
+use Rattle.std.specs.Prelude.{◌≡◌, ◌⊎◌, ℕ, ◌+◌, ◌*◌, ◌<◌, ◌≤◌, Bool, true, false, All, List, ◌++◌, length, map, if◌then◌else◌}
 use mathlib.Core.Option.{some}
 use lib.ListN.{get_elem?}
 use Rattle.log_device.specs.MemoryLog.{StoredLog}
 use Rattle.page_layout.specs.Fields.{lsn_of}
+use Rattle.page_layout.specs.Outcomes.{is_changed_outcome, page_rewrite_of}
+use Rattle.page_layout.specs.Positions.{DifferInPositions}
+use Rattle.page_layout.specs.Rewritten.{rewritten_page}
 use Rattle.page_layout.specs.Soundness.{is_sound_page}
 use Rattle.pin_core.specs.State.{Page}
 use Rattle.history_core.specs.Log.{Entry, Log, LogLaw, end_of, head_size, log_bytes, log_end, record_size}
@@ -61,6 +64,10 @@ pub record LeavesEither (r : Rule) (names : ℕ → List ℕ) (base : ℕ) (befo
   pub log_first : (block : ℕ) (old new : Page) → get_elem? before block ≡ some old → get_elem? after block ≡ some new → failed block ≡ false
       → is_sound_page new ≡ true → base < lsn_of new → IsLogged r log file block old new
 
+-- what a rewrite makes of a page, its log position aside
+abbrev pub page_after : Page → Page
+page_after page = if is_changed_outcome (page_rewrite_of page) then rewritten_page page else page
+
 -- What a whole rewrite leaves: the file is that of the log, which has exactly one entry of each block that the rule changes; such a block has the page of its entry, which is durable, and any other block its page as before
 pub record IsRewritten (r : Rule) (names : ℕ → List ℕ) (base : ℕ) (before after : List Page) (file : StoredLog) : Type 0 where
   pub log : Log
@@ -75,3 +82,5 @@ pub record IsRewritten (r : Rule) (names : ℕ → List ℕ) (base : ℕ) (befor
       → IsLogged r log file block old new
   pub same : (block : ℕ) (old new : Page) → get_elem? before block ≡ some old → get_elem? after block ≡ some new → r.changes old ≡ false
       → (HasEntry log (r.tag block) → ⊥) × (new ≡ old)
+  -- so but for their log positions the pages are a function of those before, whatever the backends did
+  pub alike : DifferInPositions (map page_after before) after

@@ -93,6 +93,8 @@ module _ {L G : Type 0} (contents : L → Option Pages) (failed : L → Marks) (
     pub whole : IfOk end (λ totals. (pages : List Page) (known : List ℕ) → ArePages contents r base lanes pages → bytes log' ≡ Some known
         → IsRewritten (rule_of 0 r.fork) (names_of r) base pages (pages_after contents r lanes' pages) (record { bytes = known; synced = synced log' }))
     pub totals : IfOk end (λ totals. (pages : List Page) → ArePages contents r base lanes pages → totals ≡ rewrite_totals_of pages)
+    -- each block of the relation is still in its lane
+    pub held : OnOk end ((pages : List Page) → ArePages contents r base lanes pages → HoldPages r.fork (pages_after contents r lanes' pages) (map contents lanes'))
     pub unfailed : OnOk end ((pages : List Page) → ArePages contents r base lanes pages → (block : ℕ) → block < r.blocks → failed_after failed r lanes' block ≡ false)
     -- no position is past the last one, or past the log's end
     pub positions : IfErr end (λ e. (pages : List Page) → ArePages contents r base lanes pages → HasPositionsLeft e)

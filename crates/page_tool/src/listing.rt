@@ -1,35 +1,32 @@
 //! The blocks of a relation that is open are listed by the backends of a buffer manager.
-ghost use Rattle.std.specs.Prelude.{◌≡◌, ◌≤◌, List, IfOk, IfErr, OnOk, All, length, map, sum_by, vec_len};
+ghost use Rattle.std.specs.Prelude.{◌≡◌, ◌≤◌, ◌%◌, ◌^◌, List, IfOk, IfErr, OnOk, All, length, map, sum_by, vec_len};
 ghost use Rattle.log_device.specs.Bytes.{Puts};
 ghost use Rattle.segment_store.specs.Contents.{no_marks};
 ghost use Rattle.segment_store.specs.Lanes.{HasBlocks, HoldPages};
 ghost use Rattle.pin_core.specs.State.{Page};
-ghost use Rattle.history_core.specs.Log.{head_bytes};
 ghost use Rattle.command_line.specs.Numbers.{HasOptionsInRange};
-ghost use Rattle.frame_table.specs.Seats.{base_of, frames_of, opened_of};
+ghost use Rattle.frame_table.specs.Seats.{base_of, frames_of, opened_of, relations_of};
 ghost use Rattle.page_jobs.specs.Beside.{StaysBeside};
 ghost use Rattle.page_jobs.specs.Ending.{as_done};
 ghost use Rattle.page_jobs.specs.Jobs.{AllAtBase, AreFree, EndsJob, IsOrigin, ReadParts, workers_in};
-ghost use Rattle.page_jobs.specs.Relations.{MeetNothing};
-ghost use Rattle.page_tool.specs.Causes.{HasListingCause, listing_end, listing_error};
+ghost use Rattle.page_jobs.specs.Relations.{IsCatalogOf, MeetNothing};
+ghost use Rattle.page_layout.specs.Scan.{totals_of};
+ghost use Rattle.page_tool.specs.Causes.{HasListingCause, listing_end, listing_error, scan_totals_in};
 ghost use Rattle.page_tool.specs.Listings.{LeavesLanes, text_of};
 ghost use Rattle.page_tool.specs.Starting.{IsStarted};
 
 use crate::beside::Rounds;
-use crate::starting::{RelationFork, start};
+use crate::starting::{RelationFork, new_log, start};
 use backend_pass::{Manager, Pass};
 use block_tag::RelNo;
 use command_line::Options;
-use log_device::{LogPlan, MemLog, Sink};
+use log_device::{MemLog, Sink};
 use page_jobs::{Gate, JobEnd, JobError, Totals, dump, scan};
+use page_layout::{Lsn, ScanTotals};
 use segment_store::BlockLane;
-use std::alloc::{AllocError, Global};
+use std::alloc::Global;
 use std::sync::Wait;
 use std::thread::Threads;
-use wal_flush::begin_log;
-
-/// How many bytes a log's head has.
-const HEAD_SIZE: usize = 16;
 
 /// What is printed of each block: a line, or also one of each of its line pointers.
 #[derive(Clone, Copy, PartialEq, Eq, Debug)]
@@ -64,20 +61,37 @@ impl ListingError {
     }
 }
 
+/// The totals of a scan among those of a job.
+fn scan_totals(totals: Totals) -> ScanTotals
+    ensures { result ≡ scan_totals_in totals }
+{
+    ScanTotals {
+        blocks: totals.blocks,
+        used: totals.used,
+        new: totals.new,
+        invalid: totals.invalid,
+        normal: totals.normal,
+        redirect: totals.redirect,
+        dead: totals.dead,
+        unused: totals.unused,
+    }
+}
+
 /// The end of a listing, by that of its job.
-fn end_of_job(end: Result<Totals, JobError>) -> Result<(), ListingError>
+fn end_of_job(end: Result<Totals, JobError>) -> Result<ScanTotals, ListingError>
     ensures { result ≡ listing_end end }
 {
     match end {
-        Ok(_) => Ok(()),
+        Ok(totals) => Ok(scan_totals(totals)),
         Err(error) => Err(ListingError::from_job(error)),
     }
 }
 
-/// A fork of a relation, how it is listed, and how many rounds the background writer makes meanwhile.
+/// A fork of a relation, how it is listed, where the log begins meanwhile, and how many rounds the background writer makes.
 #[derive(Clone, Copy)]
 pub(crate) struct Listed {
     pub(crate) relation: RelationFork,
+    pub(crate) base: Lsn,
     pub(crate) listing: Listing,
     pub(crate) rounds: u32,
 }
@@ -86,19 +100,7 @@ pub(crate) struct Listed {
 #[derive(Drop)]
 pub(crate) struct ListingEnd<L> {
     pub(crate) lanes: Vec<L>,
-    pub(crate) end: Result<(), ListingError>,
-}
-
-/// A log with room for its head alone, since a listing appends no record.
-fn empty_log(alloc: Global) -> Result<MemLog, AllocError>
-    ensures bytes { IfOk result (λ log. log.sink.bytes ≡ head_bytes 0) }
-    ensures synced { IfOk result (λ log. log.synced ≡ 0) }
-{
-    let mut log = MemLog::new(alloc, HEAD_SIZE, LogPlan::none(alloc))?;
-    match begin_log(&mut log, 0) {
-        Ok(()) => Ok(log),
-        Err(_) => Err(AllocError),
-    }
+    pub(crate) end: Result<ScanTotals, ListingError>,
 }
 
 /// The backends read the blocks, and what is printed of them is put.
@@ -111,6 +113,8 @@ fn list_blocks<L: BlockLane + Send, R: Threads + Wait + Sync, O: Sink, T: Gate +
     out: &mut O,
     gate: &T,
 ) -> JobEnd
+    requires catalog { IsCatalogOf listed.relation.fork listed.relation.blocks
+        (relations_of manager.now.table) }
     requires several { 2 ≤ vec_len passes }
     requires few { vec_len passes ≤ 64 }
     requires free { AreFree L.contents manager.now passes.items }
@@ -120,6 +124,8 @@ fn list_blocks<L: BlockLane + Send, R: Threads + Wait + Sync, O: Sink, T: Gate +
     ensures met { OnOk result.end (MeetNothing passes.items result.passes.items) }
     ensures text { (pages : List Page) → IsOrigin L.contents manager.now 0 listed.relation.fork pages → AllAtBase (base_of manager.now.table) (workers_in result.passes.items)
         → Puts (text_of listed.listing pages) (O.bytes out.old) (O.bytes out.new) (as_done result.end) }
+    ensures totals { (pages : List Page) → IsOrigin L.contents manager.now 0 listed.relation.fork pages → AllAtBase (base_of manager.now.table) (workers_in result.passes.items)
+        → IfOk result.end (λ totals. scan_totals_in totals ≡ totals_of pages) }
     ensures quiet { OnOk result.end (O.faults out.new ≡ O.faults out.old) }
     ensures later { O.faults out.old ≤ O.faults out.new }
     ensures cause { IfErr result.end (EndsJob L.contents manager.now 0 listed.relation.fork passes.items result.passes.items (O.faults out.old) (O.faults out.new)) }
@@ -142,13 +148,16 @@ fn list_and_close<L: BlockLane + Send, R: Threads + Wait + Sync, O: Sink, T: Gat
     out: &mut O,
     gate: &T,
 ) -> ListingEnd<L>
-    requires started { IsStarted L.contents listed.relation 0 manager passes.items }
+    requires started { IsStarted L.contents listed.relation listed.base manager passes.items }
     requires reads { sum_by L.read_faults (opened_of manager.table) ≡ 0 }
     requires writes { sum_by L.write_faults (opened_of manager.table) ≡ 0 }
+    ensures count { length result.lanes.items ≡ length (opened_of manager.table) }
     ensures leaves { LeavesLanes L.contents L.failed_writes L.write_faults listed.relation.fork listed.relation.blocks (opened_of manager.table) result.lanes.items }
     ensures cause { HasListingCause 0 (sum_by L.read_faults result.lanes.items) (O.faults out.old) (O.faults out.new) result.end }
     ensures text { (pages : List Page) → HoldPages listed.relation.fork pages (map L.contents (opened_of manager.table)) → listed.relation.blocks ≡ length pages
-        → Puts (text_of listed.listing pages) (O.bytes out.old) (O.bytes out.new) result.end }
+        → Puts (text_of listed.listing pages) (O.bytes out.old) (O.bytes out.new) (as_done result.end) }
+    ensures totals { (pages : List Page) → HoldPages listed.relation.fork pages (map L.contents (opened_of manager.table)) → listed.relation.blocks ≡ length pages
+        → IfOk result.end (λ totals. totals ≡ totals_of pages) }
 {
     let JobEnd { passes, end } = list_blocks(&manager, rt, alloc, passes, listed, out, gate);
     let (lanes, _log) = manager.close(passes);
@@ -174,18 +183,23 @@ pub(crate) fn list<L: BlockLane + Send, R: Threads + Wait + Sync, O: Sink, T: Ga
     requires writes { sum_by L.write_faults lanes.items ≡ 0 }
     requires unmarked { All (λ lane. L.failed_writes lane ≡ no_marks) lanes.items }
     requires has { HasBlocks listed.relation.fork listed.relation.blocks (map L.contents lanes.items) }
+    requires base { (listed.base % 8 ≡ 0) × (listed.base ≤ 2 ^ 62) }
+    ensures count { length result.lanes.items ≡ length lanes.items }
     ensures leaves { LeavesLanes L.contents L.failed_writes L.write_faults listed.relation.fork listed.relation.blocks lanes.items result.lanes.items }
     ensures cause { HasListingCause 0 (sum_by L.read_faults result.lanes.items) (O.faults out.old) (O.faults out.new) result.end }
     ensures text { (pages : List Page) → HoldPages listed.relation.fork pages (map L.contents lanes.items) → listed.relation.blocks ≡ length pages
-        → Puts (text_of listed.listing pages) (O.bytes out.old) (O.bytes out.new) result.end }
+        → Puts (text_of listed.listing pages) (O.bytes out.old) (O.bytes out.new) (as_done result.end) }
+    ensures totals { (pages : List Page) → HoldPages listed.relation.fork pages (map L.contents lanes.items) → listed.relation.blocks ≡ length pages
+        → IfOk result.end (λ totals. totals ≡ totals_of pages) }
 {
-    let Ok(log) = empty_log(alloc) else {
+    // A listing appends no record.
+    let Ok(log) = new_log(alloc, listed.base, 0) else {
         return ListingEnd {
             lanes,
             end: Err(ListingError::Memory),
         };
     };
-    match start(alloc, options, listed.relation, lanes, log, 0) {
+    match start(alloc, options, listed.relation, lanes, log, listed.base) {
         Ok((manager, passes)) => list_and_close(manager, rt, alloc, passes, listed, out, gate),
         Err((lanes, _log)) => ListingEnd {
             lanes,

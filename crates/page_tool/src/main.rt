@@ -1,17 +1,30 @@
-//! `page_tool`: scans the pages of a PostgreSQL relation. `docs/page_tool.1.md` is its manual page.
+//! `page_tool`: lists and rewrites the pages of a PostgreSQL relation, at a path or made from a number.
+//! `docs/page_tool.1.md` is its manual page.
 #![tactic(auto)]
 
 mod beside;
+mod discard;
 mod error;
+#[cfg(test)]
+mod hostile_tests;
 mod limits;
 mod listing;
 mod request;
 mod rewrite_command;
 #[cfg(test)]
+mod rewrite_fault_tests;
+#[cfg(test)]
 mod rewrite_tests;
 mod rewriting;
 mod run;
+#[cfg(test)]
+mod sample_tests;
+mod sampling;
 mod starting;
+#[cfg(test)]
+mod test_hosts;
+#[cfg(test)]
+mod test_pages;
 #[cfg(test)]
 mod tests;
 

@@ -62,7 +62,7 @@ fn survey_lanes<L: BlockLane>(
 }
 
 /// Where the log of a rewrite of the relation begins, by the pages that the lanes have of it.
-fn survey_base<L: BlockLane>(
+pub(crate) fn survey_base<L: BlockLane>(
     alloc: Global,
     relation: RelationFork,
     lanes: &mut [L],

@@ -1,215 +1,277 @@
 //! Rewrites on hosts in memory.
-use crate::OpenGate;
-use crate::run::run;
-use log_device::{FaultPlan, LogPlan, MemSink};
-use segment_store::{LanePlan, MemFile, MemHost, MemLogs};
+use crate::test_hosts::{Failing, NONE_FAIL, RELATION, answer_of, has_log, has_relation, host_of};
+use crate::test_pages::{dead_items_page, one_item_page, rewrite_log, rewritten_page, with_bytes};
+use segment_store::MemHost;
 use std::alloc::Global;
+use std::process::Abort;
 use std::sync::Wait;
 use std::test::Fail;
 use std::thread::Threads;
 
-/// A page with three line pointers, of which the first and the third are dead: log position 0/16B3740, lower 36, upper 8176.
-const DEAD_FRONT: [u8; 36] = [
-    0x00, 0x00, 0x00, 0x00, 0x40, 0x37, 0x6b, 0x01, 0x00, 0x00, 0x00, 0x00, 0x24, 0x00, 0xf0, 0x1f,
-    0x00, 0x20, 0x04, 0x20, 0x00, 0x00, 0x00, 0x00, 0x00, 0x80, 0x01, 0x00, 0xf0, 0x9f, 0x08, 0x00,
-    0x00, 0x80, 0x01, 0x00,
+const REWRITE: &str = "rewrite base/5/16384 --log w";
+
+const REWRITTEN_TEXT: &str =
+    "blocks 1 changed 1 same 0 skipped 0 new 0 invalid 0 dead 2\nlog 0/16B3740 0/16B5760\n";
+
+#[test]
+fn rewrites_a_page(rt: HostRuntime) -> Result<(), Fail> {
+    let alloc = rt.alloc();
+    let mut host = host_of(alloc, &[(RELATION, &dead_items_page())], NONE_FAIL)?;
+    let answer = answer_of(&rt, alloc, REWRITE, &mut host, &[])?;
+    answer.check(&rt, 0, REWRITTEN_TEXT, "");
+    assert!(rt; has_relation(&host, RELATION, &rewritten_page()));
+    assert!(rt; has_log(&host, "w", Some(&rewrite_log())));
+    Ok(())
+}
+
+/// Fails the test unless a rewrite leaves the page as it is, logs no record and prints this text.
+fn check_kept<R: Abort + Threads + Wait + Sync>(
+    rt: &R,
+    alloc: Global,
+    page: &[u8; 8192],
+    text: &str,
+) -> Result<(), Fail> {
+    let mut host = host_of(alloc, &[(RELATION, page)], NONE_FAIL)?;
+    let answer = answer_of(rt, alloc, REWRITE, &mut host, &[])?;
+    answer.check(rt, 0, text, "");
+    assert!(rt; has_relation(&host, RELATION, page), "{text}");
+    assert!(rt; has_log(&host, "w", rewrite_log().get(..16)), "{text}");
+    Ok(())
+}
+
+#[test]
+fn keeps_a_page_without_dead_line_pointers(rt: HostRuntime) -> Result<(), Fail> {
+    check_kept(
+        &rt,
+        rt.alloc(),
+        &one_item_page(),
+        "blocks 1 changed 0 same 1 skipped 0 new 0 invalid 0 dead 0\nlog 0/16B3740 0/16B3740\n",
+    )
+}
+
+/// Its item of 16 bytes begins 8 bytes before the page's end.
+#[test]
+fn skips_a_page_whose_item_reaches_out_of_it(rt: HostRuntime) -> Result<(), Fail> {
+    check_kept(
+        &rt,
+        rt.alloc(),
+        &with_bytes(one_item_page(), 26, &[0x20]),
+        "blocks 1 changed 0 same 0 skipped 1 new 0 invalid 0 dead 0\nlog 0/16B3740 0/16B3740\n",
+    )
+}
+
+/// The last record ends at the last log position.
+#[test]
+fn reaches_the_last_position(rt: HostRuntime) -> Result<(), Fail> {
+    let alloc = rt.alloc();
+    let page = with_bytes(
+        dead_items_page(),
+        0,
+        &[0xff, 0xff, 0xff, 0x3f, 0xe0, 0xdf, 0xff, 0xff],
+    );
+    let mut host = host_of(alloc, &[(RELATION, &page)], NONE_FAIL)?;
+    let answer = answer_of(&rt, alloc, REWRITE, &mut host, &[])?;
+    let text =
+        "blocks 1 changed 1 same 0 skipped 0 new 0 invalid 0 dead 2\nlog 3FFFFFFF/FFFFDFE0 40000000/0\n";
+    answer.check(&rt, 0, text, "");
+    Ok(())
+}
+
+/// Words that are refused, and the status and the line of each.
+const REFUSED_WORDS: [(&str, u8, &str); 8] = [
+    ("rewrite base/5/16384", 1, USAGE),
+    ("rewrite base/5/16384 --log", 1, USAGE),
+    ("rewrite base/5/16384 --log base/5/16384", 1, USAGE),
+    ("rewrite base/5/16384 --log base/5/16384.1", 1, USAGE),
+    ("rewrite base/5/16384_vm --log w", 1, USAGE),
+    ("scan base/5/16384 --log w", 1, USAGE),
+    (
+        "rewrite base/5/16384 --log w --backends 14 --frames 16",
+        2,
+        "page_tool: crowded: 14 backends, 16 frames\n",
+    ),
+    (
+        "rewrite base/5/16385 --log w",
+        3,
+        "page_tool: missing: base/5/16385\n",
+    ),
 ];
 
-const DEAD_BACK: [u8; 16] = [
-    0x0a, 0x0b, 0x0c, 0x0d, 0x00, 0x00, 0x00, 0x00, 0x01, 0x02, 0x03, 0x04, 0x00, 0x00, 0x00, 0x00,
-];
+const USAGE: &str =
+    "page_tool: usage: scan PATH, dump PATH, rewrite PATH --log FILE, sample SEED BLOCKS\n";
 
-/// What a rewrite makes of it: log position 0/16B5760, free lines, lower 32, upper 8184.
-const REWRITTEN_FRONT: [u8; 36] = [
-    0x00, 0x00, 0x00, 0x00, 0x60, 0x57, 0x6b, 0x01, 0x00, 0x00, 0x01, 0x00, 0x20, 0x00, 0xf8, 0x1f,
-    0x00, 0x20, 0x04, 0x20, 0x00, 0x00, 0x00, 0x00, 0x00, 0x00, 0x00, 0x00, 0xf8, 0x9f, 0x08, 0x00,
-    0x00, 0x00, 0x00, 0x00,
-];
-
-const REWRITTEN_BACK: [u8; 16] = [
-    0x00, 0x00, 0x00, 0x00, 0x00, 0x00, 0x00, 0x00, 0x0a, 0x0b, 0x0c, 0x0d, 0x00, 0x00, 0x00, 0x00,
-];
-
-/// A page that begins and ends with these bytes, with zeros between.
-fn page_of(front: &[u8; 36], back: &[u8; 16]) -> [u8; 8192] {
-    let mut page = [0; 8192];
-    page[..36].copy_from_slice(front);
-    page[8176..].copy_from_slice(back);
-    page
-}
-
-fn dead_page() -> [u8; 8192] {
-    page_of(&DEAD_FRONT, &DEAD_BACK)
-}
-
-fn rewritten_page() -> [u8; 8192] {
-    page_of(&REWRITTEN_FRONT, &REWRITTEN_BACK)
-}
-
-/// The calls of a host that are to fail, by their numbers from 1: those of a lane and of a log are numbered anew at each opening.
-#[derive(Clone, Copy)]
-struct Failing<'a> {
-    openings: &'a [u64],
-    reads: &'a [u64],
-    writes: &'a [u64],
-    syncs: &'a [u64],
-    log_openings: &'a [u64],
-    appends: &'a [u64],
-    log_syncs: &'a [u64],
-}
-
-const NONE_FAIL: Failing<'static> = Failing {
-    openings: &[],
-    reads: &[],
-    writes: &[],
-    syncs: &[],
-    log_openings: &[],
-    appends: &[],
-    log_syncs: &[],
-};
-
-/// How many bytes each log has room for: its head and 64 records.
-const LOG_ROOM: usize = 16 + 64 * 8224;
-
-fn plan(alloc: Global, failing: &[u64]) -> Result<FaultPlan, Fail> {
-    Ok(FaultPlan::new(failing.to_vec(alloc)?))
-}
-
-/// A host with these relations, each of one segment.
-fn host_of(alloc: Global, relations: &[(&str, &[u8])], failing: Failing) -> Result<MemHost, Fail> {
-    let mut files = Vec::new(alloc);
-    for (path, bytes) in relations {
-        let mut segments = Vec::new(alloc);
-        segments.push(bytes.to_vec(alloc)?)?;
-        files.push(MemFile::new(alloc, String::from_str(alloc, path)?, segments))?;
-    }
-    let lanes = LanePlan {
-        reads: plan(alloc, failing.reads)?,
-        writes: plan(alloc, failing.writes)?,
-        syncs: plan(alloc, failing.syncs)?,
-    };
-    let calls = LogPlan {
-        appends: plan(alloc, failing.appends)?,
-        syncs: plan(alloc, failing.log_syncs)?,
-    };
-    let logs = MemLogs::new(alloc, LOG_ROOM, plan(alloc, failing.log_openings)?, calls);
-    let openings = plan(alloc, failing.openings)?;
-    Ok(MemHost::new(alloc, files, openings, lanes, logs))
-}
-
-/// What a run answered, and what it wrote.
-#[derive(Drop)]
-struct Answer {
-    status: u8,
-    out: MemSink,
-    err: MemSink,
-}
-
-/// Runs a command line, whose words stand apart by blanks; these puts of its output are to fail.
-fn answer_of<R: Threads + Wait + Sync>(
+/// Fails the test unless the words are refused so, and no file changes.
+fn check_refused<R: Abort + Threads + Wait + Sync>(
     rt: &R,
     alloc: Global,
     line: &str,
-    host: &mut MemHost,
-    puts: &[u64],
-) -> Result<Answer, Fail> {
-    let mut out = MemSink::new(alloc, 1 << 16, plan(alloc, puts)?)?;
-    let mut err = MemSink::new(alloc, 1 << 16, plan(alloc, &[])?)?;
-    let mut words = Vec::new(alloc);
-    for word in line.split_whitespace() {
-        words.push(String::from_str(alloc, word)?)?;
-    }
-    let status = run(rt, alloc, &words, host, &mut out, &mut err, &OpenGate);
-    Ok(Answer { status, out, err })
+    status: u8,
+    err: &str,
+) -> Result<(), Fail> {
+    let mut host = host_of(alloc, &[(RELATION, &dead_items_page())], NONE_FAIL)?;
+    let answer = answer_of(rt, alloc, line, &mut host, &[])?;
+    answer.check(rt, status, "", err);
+    assert!(rt; has_relation(&host, RELATION, &dead_items_page()), "{line}");
+    assert!(rt; has_log(&host, "w", None), "{line}");
+    Ok(())
 }
 
-/// The bytes of a relation's first segment.
-fn relation_bytes(alloc: Global, host: &MemHost, path: &str) -> Result<Vec<u8>, Fail> {
-    let Some(segment) = host.segments(path).first() else {
-        return Ok(Vec::new(alloc));
-    };
-    Ok(segment.to_vec(alloc)?)
-}
-
-/// After a fault of a read or of the log the page is as it was.
 #[test]
-fn stops_at_a_fault(rt: HostRuntime) -> Result<(), Fail> {
-    let alloc = rt.alloc();
-    let rows: [(Failing, u8, &str); 6] = [
-        (
-            Failing {
-                openings: &[1],
-                ..NONE_FAIL
-            },
-            4,
-            "page_tool: read fault\n",
-        ),
-        (
-            Failing {
-                log_openings: &[1],
-                ..NONE_FAIL
-            },
-            6,
-            "page_tool: log fault\n",
-        ),
-        (
-            Failing {
-                appends: &[1],
-                ..NONE_FAIL
-            },
-            6,
-            "page_tool: log fault\n",
-        ),
-        (
-            Failing {
-                appends: &[2],
-                ..NONE_FAIL
-            },
-            6,
-            "page_tool: log fault\n",
-        ),
-        (
-            Failing {
-                log_syncs: &[1],
-                ..NONE_FAIL
-            },
-            6,
-            "page_tool: log fault\n",
-        ),
-        (
-            // The first read is the survey's, the second the backend's.
-            Failing {
-                reads: &[2],
-                ..NONE_FAIL
-            },
-            4,
-            "page_tool: read fault\n",
-        ),
-    ];
-    for (failing, status, want) in rows {
-        let mut host = host_of(alloc, &[("base/5/16384", &dead_page())], failing)?;
-        let line = "rewrite base/5/16384 --log w --lanes 1";
-        let answer = answer_of(&rt, alloc, line, &mut host, &[])?;
-        assert_eq!(rt; answer.status, status, "{want}");
-        assert_eq!(rt; answer.out.bytes().len(), 0);
-        assert_eq!(rt; answer.err.bytes(), want.as_bytes());
-        let page = relation_bytes(alloc, &host, "base/5/16384")?;
-        let same = page.as_slice() == dead_page().as_slice();
-        assert!(rt; same, "{want}");
+fn refuses_words(rt: HostRuntime) -> Result<(), Fail> {
+    for (line, status, err) in REFUSED_WORDS {
+        check_refused(&rt, rt.alloc(), line, status, err)?;
     }
     Ok(())
 }
 
-/// An output fault comes after all is stored.
+/// Commands that are refused before the log is opened: the relation base/5/16385 has three blocks,
+/// base/5/16386 a page past the last log position, and base/5/16387 isn't there.
+const REFUSED_BEFORE_THE_LOG: [(&str, u8, &str); 5] = [
+    ("rewrite base/5/16384_vm --log w", 1, USAGE),
+    (
+        "rewrite base/5/16384 --log w --backends 14 --frames 16",
+        2,
+        "page_tool: crowded: 14 backends, 16 frames\n",
+    ),
+    (
+        "rewrite base/5/16387 --log w",
+        3,
+        "page_tool: missing: base/5/16387\n",
+    ),
+    (
+        "rewrite base/5/16385 --log w --lanes 1",
+        4,
+        "page_tool: read fault\n",
+    ),
+    (
+        "rewrite base/5/16386 --log w",
+        9,
+        "page_tool: log position limit: page 40000000/0, blocks 1\n",
+    ),
+];
+
+/// A host with those relations, in which the third read of each lane fails.
+fn host_of_three(alloc: Global) -> Result<MemHost, Fail> {
+    let past = with_bytes(dead_items_page(), 0, &[0, 0, 0, 0x40, 0, 0, 0, 0]);
+    let failing = Failing {
+        reads: &[3],
+        ..NONE_FAIL
+    };
+    host_of(
+        alloc,
+        &[
+            (RELATION, &dead_items_page()),
+            ("base/5/16385", &[0; 3 * 8192]),
+            ("base/5/16386", &past),
+        ],
+        failing,
+    )
+}
+
+/// Fails the test unless a command after a rewrite is refused so, and leaves the log of the rewrite.
+fn check_keeps_log<R: Abort + Threads + Wait + Sync>(
+    rt: &R,
+    alloc: Global,
+    line: &str,
+    status: u8,
+    err: &str,
+) -> Result<(), Fail> {
+    let mut host = host_of_three(alloc)?;
+    let first = answer_of(rt, alloc, REWRITE, &mut host, &[])?;
+    first.check(rt, 0, REWRITTEN_TEXT, "");
+    let second = answer_of(rt, alloc, line, &mut host, &[])?;
+    second.check(rt, status, "", err);
+    assert!(rt; has_log(&host, "w", Some(&rewrite_log())), "{line}");
+    Ok(())
+}
+
 #[test]
-fn an_output_fault_leaves_the_new_page(rt: HostRuntime) -> Result<(), Fail> {
+fn keeps_an_old_log(rt: HostRuntime) -> Result<(), Fail> {
+    for (line, status, err) in REFUSED_BEFORE_THE_LOG {
+        check_keeps_log(&rt, rt.alloc(), line, status, err)?;
+    }
+    Ok(())
+}
+
+fn add_pages(bytes: &mut Vec<u8>, pages: &[[u8; 8192]; 4]) -> Result<(), Fail> {
+    for page in pages {
+        bytes.extend_from_slice(page)?;
+    }
+    Ok(())
+}
+
+/// Ten times four pages: this one, a new one, one that stays as it is, and an unsound one.
+fn mixed_relation(alloc: Global, page: &[u8; 8192]) -> Result<Vec<u8>, Fail> {
+    let pages = [*page, [0; 8192], one_item_page(), [1; 8192]];
+    let mut bytes = Vec::new(alloc);
+    for _number in 0..10 {
+        add_pages(&mut bytes, &pages)?;
+    }
+    Ok(bytes)
+}
+
+/// Whether two relations have the same pages, log positions aside.
+fn have_same_pages(left: &[u8], right: &[u8]) -> bool {
+    for (one, other) in left.chunks_exact(8192).zip(right.chunks_exact(8192)) {
+        if one.get(8..) != other.get(8..) {
+            return false;
+        }
+    }
+    left.len() == right.len()
+}
+
+/// Whether the relation has the pages of these bytes, log positions aside.
+fn has_pages(host: &MemHost, bytes: &[u8]) -> bool {
+    match host.segments(RELATION) {
+        [segment] => have_same_pages(segment, bytes),
+        _ => false,
+    }
+}
+
+/// The length of the log at a path, 0 where there is none.
+fn log_length(host: &MemHost, path: &str) -> usize {
+    match host.stored_log(path) {
+        Some(log) => log.bytes().len(),
+        None => 0,
+    }
+}
+
+const MIXED_TEXT: &str =
+    "blocks 40 changed 10 same 10 skipped 0 new 10 invalid 10 dead 20\nlog 0/16B3740 0/16C7880\n";
+
+/// Fails the test unless this command rewrites the relation of four kinds of pages to these bytes, log
+/// positions aside.
+fn check_mixed<R: Abort + Threads + Wait + Sync>(
+    rt: &R,
+    alloc: Global,
+    line: &str,
+    want: &[u8],
+) -> Result<(), Fail> {
+    let bytes = mixed_relation(alloc, &dead_items_page())?;
+    let mut host = host_of(alloc, &[(RELATION, &bytes)], NONE_FAIL)?;
+    let answer = answer_of(rt, alloc, line, &mut host, &[])?;
+    answer.check(rt, 0, MIXED_TEXT, "");
+    assert_eq!(rt; log_length(&host, "w"), 16 + 10 * 8224, "{line}");
+    assert!(rt; has_pages(&host, want), "{line}");
+    Ok(())
+}
+
+/// The same rewrite with several numbers of backends, frames and lanes, and with a background writer.
+const SAME_REWRITES: [&str; 6] = [
+    "rewrite base/5/16384 --log w",
+    "rewrite base/5/16384 --log w --frames 16 --lanes 1",
+    "rewrite base/5/16384 --log w --backends 2 --frames 16",
+    "rewrite base/5/16384 --log w --backends 7 --frames 16 --lanes 16",
+    "rewrite base/5/16384 --log w --backends 13 --frames 16 --bgwriter 10",
+    "rewrite base/5/16384 --log w --backends 32 --bgwriter 1000",
+];
+
+#[test]
+fn options_leave_the_result(rt: HostRuntime) -> Result<(), Fail> {
     let alloc = rt.alloc();
-    let mut host = host_of(alloc, &[("base/5/16384", &dead_page())], NONE_FAIL)?;
-    let line = "rewrite base/5/16384 --log w --lanes 1";
-    let answer = answer_of(&rt, alloc, line, &mut host, &[1])?;
-    assert_eq!(rt; answer.status, 7);
-    let page = relation_bytes(alloc, &host, "base/5/16384")?;
-    let same = page.as_slice() == rewritten_page().as_slice();
-    assert!(rt; same);
+    let want = mixed_relation(alloc, &rewritten_page())?;
+    for line in SAME_REWRITES {
+        check_mixed(&rt, alloc, line, &want)?;
+    }
     Ok(())
 }

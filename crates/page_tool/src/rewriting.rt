@@ -26,7 +26,7 @@ use checkpointer::{CheckpointError, checkpoint};
 use command_line::Options;
 use log_device::LogDevice;
 use page_jobs::{Gate, JobEnd, JobError, Totals, rewrite, rewrite_closes};
-use page_layout::{Lsn, RewriteTotals};
+use page_layout::{Lsn, RewriteTotals, all_positions};
 use segment_store::BlockLane;
 use std::alloc::Global;
 use std::sync::Wait;
@@ -242,9 +242,11 @@ fn rewrite_and_close<
     requires reads { sum_by L.read_faults (opened_of manager.table) ≡ 0 }
     requires writes { sum_by L.write_faults (opened_of manager.table) ≡ 0 }
     requires logs { G.faults (log_of manager) ≡ 0 }
+    ensures count { length result.lanes.items ≡ length (opened_of manager.table) }
     ensures cause { HasRewriteCause (sum_by L.read_faults result.lanes.items) (sum_by L.write_faults result.lanes.items) (G.faults (log_of manager)) (G.faults result.log) result.end }
     ensures leaves { LeavesRewritten L.contents L.failed_writes G.bytes G.synced relation (base_of manager.table) (opened_of manager.table) result.lanes.items result.log result.end }
 {
+    all_positions();
     rewrite_closes(&manager);
     let StoredRewrite { passes, end } = rewrite_and_store(
         &manager, rt, alloc, passes, relation, rounds, gate,
@@ -278,6 +280,7 @@ pub(crate) fn rewrite_lanes<
     requires base { (base % 8 ≡ 0) × (base + 8224 * relation.blocks ≤ 2 ^ 62) }
     requires log { IsNewLog (devices L.contents L.failed_writes L.unsynced L.read_faults L.write_faults L.calls G.bytes G.synced G.faults G.calls) base log }
     requires log_faults { G.faults log ≡ 0 }
+    ensures count { length result.lanes.items ≡ length lanes.items }
     ensures cause { HasRewriteCause (sum_by L.read_faults result.lanes.items) (sum_by L.write_faults result.lanes.items) (G.faults log) (G.faults result.log) result.end }
     ensures leaves { LeavesRewritten L.contents L.failed_writes G.bytes G.synced relation base lanes.items result.lanes.items result.log result.end }
 {

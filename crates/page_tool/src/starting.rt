@@ -5,16 +5,22 @@ ghost use Rattle.segment_store.specs.Lanes.{HasBlocks};
 ghost use Rattle.table_rule.specs.Shows.{IsNewLog, devices};
 ghost use Rattle.command_line.specs.Numbers.{HasOptionsInRange};
 ghost use Rattle.frame_table.specs.Seats.{opened_of};
+ghost use Rattle.history_core.specs.Log.{head_bytes};
 ghost use Rattle.page_jobs.specs.Relations.{IsCatalogOf};
 ghost use Rattle.page_tool.specs.Starting.{IsStarted, entry_of, log_of};
 
+use crate::limits::RECORD_SIZE;
 use backend_pass::{Config, Manager, Pass, StartRefused};
 use block_tag::{Catalog, Fork, RelEntry};
 use command_line::Options;
-use log_device::LogDevice;
+use log_device::{LogDevice, LogPlan, MemLog};
 use page_layout::Lsn;
 use segment_store::BlockLane;
 use std::alloc::{AllocError, Global};
+use wal_flush::begin_log;
+
+/// How many bytes a log's head has.
+const HEAD_SIZE: usize = 16;
 
 /// A fork of a relation: the relation's number, and how many blocks the fork has.
 #[derive(Clone, Copy)]
@@ -45,6 +51,20 @@ impl RelationFork {
         ensures catalog { IfOk result (IsCatalogOf self.fork self.blocks) }
     {
         Catalog::build(alloc, &[self.entry()]).map_err(|_| AllocError)
+    }
+}
+
+/// A log in memory that begins at `base`, with room for so many records.
+pub(crate) fn new_log(alloc: Global, base: Lsn, records: u32) -> Result<MemLog, AllocError>
+    ensures bytes { IfOk result (λ log. log.sink.bytes ≡ head_bytes base) }
+    ensures synced { IfOk result (λ log. log.synced ≡ 0) }
+    ensures faults { IfOk result (λ log. log.faults.count ≡ 0) }
+{
+    let room = HEAD_SIZE + RECORD_SIZE as usize * records as usize;
+    let mut log = MemLog::new(alloc, room, LogPlan::none(alloc))?;
+    match begin_log(&mut log, base) {
+        Ok(()) => Ok(log),
+        Err(_) => Err(AllocError),
     }
 }
 

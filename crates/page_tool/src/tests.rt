@@ -1,5 +1,6 @@
 //! The tool on hosts in memory.
 use crate::run::run;
+use crate::test_pages::one_item_page;
 use backend_pass::Pinned;
 use log_device::{FaultPlan, LogPlan, MemSink};
 use page_jobs::Gate;
@@ -88,25 +89,11 @@ impl Gate for HoldingGate {
     }
 }
 
-/// The header and the line pointer of a page with one item of four bytes: log position 0/16B3740,
-/// lower 28, upper 8184, special 8192.
-const FRONT: [u8; 28] = [
-    0x00, 0x00, 0x00, 0x00, 0x40, 0x37, 0x6b, 0x01, 0x00, 0x00, 0x00, 0x00, 0x1c, 0x00, 0xf8, 0x1f,
-    0x00, 0x20, 0x04, 0x20, 0x00, 0x00, 0x00, 0x00, 0xf8, 0x9f, 0x08, 0x00,
-];
-
 const ONE_ITEM: &str =
     "0 lsn 0/16B3740 flags 0 lower 28 upper 8184 special 8192 items 1 normal 1 redirect 0 dead 0 unused 0\nblocks 1 used 1 new 0 invalid 0 normal 1 redirect 0 dead 0 unused 0\n";
 
 const INVALID: &str =
     "0 invalid\nblocks 1 used 0 new 0 invalid 1 normal 0 redirect 0 dead 0 unused 0\n";
-
-fn one_item() -> [u8; 8192] {
-    let mut page = [0; 8192];
-    page[..28].copy_from_slice(&FRONT);
-    page[8184..8188].copy_from_slice(&[1, 2, 3, 4]);
-    page
-}
 
 /// The calls of a run that are to fail, by their numbers from 1.
 #[derive(Clone, Copy)]
@@ -195,7 +182,7 @@ fn answer_of<R: Threads + Wait + Sync>(
 #[test]
 fn scans_relations(rt: HostRuntime) -> Result<(), Fail> {
     let alloc = rt.alloc();
-    let page = one_item();
+    let page = one_item_page();
     let mut flagged = page;
     flagged[10] = 8;
     let mut uneven = page;
@@ -268,7 +255,7 @@ fn scans_another_fork(rt: HostRuntime) -> Result<(), Fail> {
 fn refuses_words(rt: HostRuntime) -> Result<(), Fail> {
     let usage =
         "page_tool: usage: scan PATH, dump PATH, rewrite PATH --log FILE, sample SEED BLOCKS\n";
-    let rows: [(&str, u8, &str); 11] = [
+    let rows: [(&str, u8, &str); 10] = [
         ("scan base/5/16385", 3, "page_tool: missing: base/5/16385\n"),
         ("scan 16384_vm", 3, "page_tool: missing: 16384_vm\n"),
         ("scan base/5/abc", 1, usage),
@@ -277,7 +264,6 @@ fn refuses_words(rt: HostRuntime) -> Result<(), Fail> {
         ("scan", 1, usage),
         ("", 1, usage),
         ("scan --help", 1, usage),
-        ("sample 7 4", 1, usage),
         (
             "scan base/5/16384 --backends 32 --frames 16",
             2,
@@ -301,7 +287,7 @@ fn refuses_words(rt: HostRuntime) -> Result<(), Fail> {
 
 /// A page with a number in its item, and the log position 0/0.
 fn numbered_page(number: u8) -> [u8; 8192] {
-    let mut page = one_item();
+    let mut page = one_item_page();
     page[..8].copy_from_slice(&[0; 8]);
     page[8184..8188].copy_from_slice(&[number, 0, 0, 0]);
     page
@@ -350,7 +336,7 @@ fn later_pieces_may_fail(rt: HostRuntime) -> Result<(), Fail> {
     let alloc = rt.alloc();
     let mut bytes = Vec::new(alloc);
     for _number in 0..800 {
-        bytes.extend_from_slice(&one_item())?;
+        bytes.extend_from_slice(&one_item_page())?;
     }
     let second = Failing {
         puts: &[2],
@@ -430,7 +416,7 @@ fn stops_at_a_fault(rt: HostRuntime) -> Result<(), Fail> {
 
 #[test]
 fn dumps_line_pointers(rt: HostRuntime) -> Result<(), Fail> {
-    let page = one_item();
+    let page = one_item_page();
     let (answer, _) = answer_of(&rt, rt.alloc(), "dump base/5/16384", &[&page], NONE_FAIL)?;
     assert_eq!(rt; answer.status, 0);
     let lines = ONE_ITEM.split_once('\n').ok_or("no line ends")?;

@@ -2,7 +2,7 @@ use Rattle.std.proofs.Common.{length, rules}
 use Rattle.log_device.specs.declared.memory_log.MemLog.{MemLog}
 use Rattle.page_jobs.proofs.Backends.{all_given, new_are_free}
 use Rattle.page_jobs.proofs.Starting.{is_origin}
-use Rattle.page_tool.proofs.Listed.{all_at_base, cause, leaves, puts_as}
+use Rattle.page_tool.proofs.Listed.{all_at_base, cause, leaves, puts_as, totals_as}
 use Rattle.page_tool.proofs.listing.list_and_close.Goals as goal
 
 pub list_blocks-passes-requires-clause-free : goal.list_blocks-passes-requires-clause-free
@@ -41,3 +41,14 @@ returns-clause-text g c pages held all =
     c.close-lanes.result.0.items c.close-lanes.result.1 started.catalog started.counted started.several.0 started.passes job.passes job.last c.close-lanes.ensures in
     rw c.end_of_job.ensures
     (puts_as _ _ _ _ (job.text pages (is_origin g.L.BlockLane.contents m fork c.args.listed.relation.blocks started.catalog started.counted pages held all) base))
+
+pub returns-clause-totals : goal.returns-clause-totals
+returns-clause-totals g c pages held all =
+    let started = c.requires.started in
+    let job = c.list_blocks-passes.ensures in
+    let m = c.args.manager in
+    let fork = c.args.listed.relation.fork in
+    let base = all_at_base {L = g.row.L.Denot} {G = MemLog} _ m fork c.args.listed.relation.blocks c.args.passes.items c.list_blocks-passes.result.passes.items
+    c.close-lanes.result.0.items c.close-lanes.result.1 started.catalog started.counted started.several.0 started.passes job.passes job.last c.close-lanes.ensures in
+    rw c.end_of_job.ensures
+    (totals_as _ c.list_blocks-passes.result.end (job.totals pages (is_origin g.L.BlockLane.contents m fork c.args.listed.relation.blocks started.catalog started.counted pages held all) base))

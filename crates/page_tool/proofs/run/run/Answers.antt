@@ -1,4 +1,4 @@
-use Rattle.page_tool.proofs.Ended.{limit_ends, missing_ends, refused_by, refused_files}
+use Rattle.page_tool.proofs.Ended.{complete_ends, limit_ends, missing_ends, refused_by, refused_files}
 use Rattle.page_tool.proofs.StatusLines.{said_as, said_nothing}
 use Rattle.page_tool.proofs.run.run.Goals as goal
 
@@ -18,3 +18,6 @@ returns-in-Err-clause-over_limit g c = limit_ends _ _ _ _ _ _ _ _ _ (refused_by 
 
 pub returns-in-Err-clause-files : goal.returns-in-Err-clause-files
 returns-in-Err-clause-files g c = refused_files _ _ _ c.in-Err.error _ _ _ _ _ c.say.ensures c.in-Err.ensures.files
+
+pub returns-in-Err-clause-complete : goal.returns-in-Err-clause-complete
+returns-in-Err-clause-complete g c = complete_ends _ _ _ _ _ _ _ _ _ (refused_by _ _ _ _ _ _ _ _ _ c.in-Err.error c.in-Err.ensures.ends c.say.ensures)
