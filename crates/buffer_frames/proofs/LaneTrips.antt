@@ -100,7 +100,7 @@ module _ {L : Type 0} (d : LaneDevices L) (q : ℕ) (after : L) (call : LaneCall
   pub trip_met : w.met ≡ sum_of_met v.met (met_of call)
   trip_met = ap (λ (z : View). z.met) left ∙ ap (λ (z : View). z.met) back ∙ ap (λ (m : Met). sum_of_met m (met_of call)) (ap (λ (z : View). z.met) out ∙ ap (λ (z : View). z.met) took)
 
--- who has no lane may take one out once it has the latch
+-- a view without a lane may take one out once it has the latch
 pub lane_free : (q : ℕ) (v u : View) → HasNoDevice v → IsTurned true (Lane q) v u → ((lane_hold u q).held ≡ true) × ((lane_hold u q).out ≡ None)
 lane_free q v u n taken = (ap (λ (h : LaneHold). h.held) taken.0, ap (λ (h : LaneHold). h.out) taken.0 ∙ n.home q)
 

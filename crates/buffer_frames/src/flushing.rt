@@ -41,7 +41,7 @@ pub enum FlushError {
     WriteFault { tag: Tag },
 }
 
-/// Clears BM_JUST_DIRTIED under the header, so that who dirties the frame from now on is seen as the write ends.
+/// Clears BM_JUST_DIRTIED under the header, so that a change of the page from now on shows when the write ends.
 fn clear_just<L: BlockLane, G: LogDevice, R: Wait>(
     table: &FrameTable<L, G>,
     rt: &R,

@@ -33,7 +33,7 @@ use Rattle.buffer_sync.specs.declared.syncing.SyncOnly.TheVariants.{NotRecentlyU
 use Rattle.buffer_sync.specs.declared.syncing.Synced.{Synced}
 use Rattle.buffer_sync.specs.declared.syncing.Synced.TheVariants.{Skipped, Clean, Written}
 
--- whether a frame with this state word is passed over: the background writer writes a dirty frame that nobody pins and whose usage count is 0, and a checkpoint one that has BM_CHECKPOINT_NEEDED
+-- whether a frame with this state word is passed over: the background writer writes a dirty frame that no backend pins and whose usage count is 0, and a checkpoint one that has BM_CHECKPOINT_NEEDED
 abbrev pub is_skipped : SyncOnly → StateWord → Bool
 is_skipped NotRecentlyUsed w = not w.valid || not w.dirty || nat_lt 0 w.pins || nat_lt 0 w.usage
 is_skipped Needed w = not w.checkpoint_needed

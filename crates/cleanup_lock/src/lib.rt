@@ -1,4 +1,4 @@
-//! The cleanup lock of a frame (`LockBufferForCleanup`), over `content_locks`: the exclusive content lock, got while no other backend pins the frame. Who gives a pin up wakes the backend that waits for it.
+//! The cleanup lock of a frame (`LockBufferForCleanup`), over `content_locks`: the exclusive content lock, got while no other backend pins the frame. A backend that gives up a pin wakes the one that waits for that.
 #![tactic(auto)]
 
 ghost use Rattle.std.specs.Prelude.{◌<◌, ℕ};

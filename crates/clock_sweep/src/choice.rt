@@ -89,7 +89,7 @@ fn from_free_list<L: BlockLane, G: LogDevice, R: Wait>(
 
 /// Chooses a frame that no backend pins, and holds its header (`StrategyGetBuffer`).
 ///
-/// The ring, if there is one, goes on by a place, and its frame there is taken where it is one of the pool, not pinned, and of a usage count of at most 1. Else the frames of the free list are tried in order, and then those that the clock comes to. A frame from elsewhere is kept at the ring's place.
+/// The ring, if there is one, goes on by a place, and its frame there is taken if it is one of the pool, not pinned, and its usage count is at most 1. Otherwise the frames of the free list are tried in order, and then those that the clock comes to. A frame from elsewhere is kept at the ring's place.
 ///
 /// The clock has as many tries as there are frames. A pinned frame takes one; a frame that isn't pinned and has been used loses 1 of its usage count and gives all tries back. Where none is left a census loads all frames in order: the first that isn't pinned is next, with all tries again, and the hand stays. Where each is pinned that is the answer, and `census` has their words.
 pub fn victim<L: BlockLane, G: LogDevice, R: Wait>(

@@ -1,4 +1,4 @@
-//! The free list behind its lock.
+//! The free list, in its lock.
 
 use crate::free_list::FreeList;
 use access_rings::Memory;

@@ -1,4 +1,4 @@
-//! The free list alone: no contract says what stands behind its lock.
+//! The free list alone: no contract says what is in its lock.
 ghost use Rattle.std.specs.Prelude.{◌≤◌};
 
 use crate::sweep::Sweep;

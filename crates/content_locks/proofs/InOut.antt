@@ -162,7 +162,7 @@ saw_still Bad saw sees h e = h e
 pub finished_back : (end : IoEnd) (word : ℕ) (l m o : Link) → Looked (locked_link word l) m → o ≡ finished_link end m → Looked (finished_link end l) o
 finished_back end word l m o a e = subst (Looked (finished_link end l)) (sym e) record { role = a.role; tag = a.tag; ring = a.ring; header = refl; pending = a.pending; content = a.content; copying = a.copying; dirtied = a.dirtied; unapplied = a.unapplied; copied = a.copied; io = refl; read = refl; read_is_home = refl; last_write = refl; out = a.out; overwritten = a.overwritten; image = a.image; seen_valid = saw_still end l.seen_valid m.seen_valid a.seen_valid; waits = a.waits; passed = a.passed; listed = a.listed }
 
--- who ended a good read has seen BM_VALID
+-- a backend that ended a good read has seen BM_VALID
 pub finished_sees : (end : IoEnd) (l m : Link) → Looked (finished_link end l) m → end ≡ ReadOk → m.seen_valid ≡ true
 finished_sees end l m a e = a.seen_valid (ap (λ (x : IoEnd). saw_valid x l.seen_valid) e)
 

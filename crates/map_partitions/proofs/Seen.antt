@@ -27,7 +27,7 @@ seen_was was entries p v w d seen = d.allowed.entries_are ∙ (d.laws.invariant.
 pub seen_after : (was made entries : List MapEntry) (p : ℕ) (v u w : View) (change : (ℕ → Option ℕ) → ℕ → Option ℕ) → DidMap (map_out was) p v u → MapStep p (back_hold made (hold u p)) u w → found made ≡ change (found was) → (hold v p).seen ≡ Some entries → found (entries_seen w p) ≡ change (found entries)
 seen_after was made entries p v u w change d back made_is seen = ap (λ (x : PartitionHold). found (unwrap_or x.seen [])) back.here ∙ made_is ∙ ap change (seen_was was entries p v u d seen)
 
--- who takes a latch has nothing of it before
+-- a view that takes a latch had nothing of it before
 pub holds_free : (p : ℕ) (v w : View) → DidTurn true (Partition p) v w → IsTurned true (Partition p) v w → HoldsLatch Settled w p
 holds_free p v w d turned = record {
   held = ap (λ (h : PartitionHold). h.held) turned.0;

@@ -50,7 +50,7 @@ settled k f found v w d none = of_pending (link v f).pending refl
     of_pending false e = refl
     of_pending true e = absurd (((d.laws.invariant.pool.core.grid.cells d.seat v f d.there d.inside).pending e).held none)
 
--- who holds no header and locks one has stored no tag word under it
+-- a view that held no header and locks one has stored no tag word under it
 pub holds_locked : (f word : ℕ) (v w : View) → (link v f).header ≡ None → Looked (locked_link word (link v f)) (link w f) → (u : View) (was : ℕ) → Looks f v u → Did (pins lock_header) f u w was → HoldsHeader (link w f)
 holds_locked f word v w none locked u was looks did = let before = looks_link f v u looks in record {
   held = λ gone. let no : Some (fields word) ≡ None = sym locked.header ∙ gone in absurd (cc);

@@ -71,7 +71,7 @@ calm_looked l m a c = record { no_header = a.header ∙ c.no_header; no_content 
 pub may_unpin : (l : Link) → IsCalm l → l.role ≡ HandedOut → MayUnpin l
 may_unpin l c out = record { pinned = λ none. (let no : HandedOut ≡ Absent = sym out ∙ none in absurd (cc)); no_content = c.no_content; no_io = c.no_io; no_wait = c.no_wait }
 
--- who doesn't hold a latch names no pair there
+-- a view without a latch names no pair there
 pub settled_free : (s : State) → Laws s → (i : ℕ) (v : View) → get_elem? s.pool.core.views i ≡ some v → v.emptied ≡ false → (q : ℕ) → (hold v q).held ≡ false → (hold v q).change ≡ Settled
 settled_free s laws i v there live q free = dite (dec_lt q s.pool.core.partitions)
     (λ low. ((laws.invariant.pool.core.turns.cells i v q there low).resting free).1)
@@ -230,7 +230,7 @@ pins_idle t s r links = (
   λ f. (r.free.frames f).no_pin,
 )
 
--- who pins nothing, and holds pins alone, holds nothing
+-- a view that pins nothing, and holds nothing but pins, holds nothing
 pub rests_pins : {L G : Type 0} (t : FrameTable L G) (s : Seat (Value L G) View) → OnlyPins t s → PinsNone s → Rests t s
 rests_pins t s p none = record {
   fits = p.quiet.fits;

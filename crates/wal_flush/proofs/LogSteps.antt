@@ -113,7 +113,7 @@ free_log v w d free = let law = d.laws.invariant.device.cells d.seat v 0 d.there
 pub opened_hold : (end : ℕ) (v w : View) → Opens end v w → v.log.held ≡ false → w.log ≡ opened_log end
 opened_hold end v w o free = ap (λ (x : View). x.log) (opens_view end v w o) ∙ ap (λ (h : LogHold). record h { held = true; end = Some end }) (free_log v o.held o.takes free)
 
--- the log's end never falls, so one that is loaded is at or behind all that the view had seen
+-- the log's end never falls, so one that is loaded is at or past all that the view had seen
 pub end_later : (found : ℕ) (v w : View) → DidWord load_end v w found → v.end_seen ≤ found
 end_later found v w d = let seen = d.laws.ends d.seat v d.there in let is = d.says in omega arith
 

@@ -14,7 +14,7 @@ use Rattle.wal_flush.specs.declared.flushes.FlushLog.{FlushLog}
 use Rattle.wal_flush.specs.declared.flushes.FlushLog.TheVariants.{LogShort, LogDown, LogFault}
 use Rattle.wal_flush.specs.Latched.{FindsDown, GoesOutUp, UnderLatch, downed, faulted}
 
--- The flushed position was loaded, and it is at `lsn` or behind it
+-- The flushed position was loaded, and it is at `lsn` or past it
 pub record SeesFlushed (lsn : ℕ) (v w : View) : Type 0 where
   pub found : ℕ
   pub did : DidWord load_flushed v w found
@@ -31,7 +31,7 @@ pub data LoadsBelow (lsn : ℕ) : View → View → Type 0 where
   still : {v : View} → LoadsBelow lsn v v
   again : {v u w : View} → LoadsBelow lsn v u → SeesUnflushed lsn u w → LoadsBelow lsn v w
 
--- It was loaded until it was at `lsn` or behind it
+-- It was loaded until it was at `lsn` or past it
 pub record Awaits (lsn : ℕ) (v w : View) : Type 0 where
   pub last : View
   pub waits : LoadsBelow lsn v last
@@ -53,7 +53,7 @@ pub record FailsToSync (v w : View) : Type 0 where
   pub went : GoesOutUp v out
   pub fails : DidTwo (fail_sync went.taken.synced faults) (log_back true) out w
 
--- Under the log's latch, where the log ends at `end`, the flushed position was loaded once more, and was at `lsn` or behind it by then
+-- Under the log's latch, where the log ends at `end`, the flushed position was loaded once more, and was at `lsn` or past it by then
 pub record FindsFlushed (lsn end : ℕ) (v w : View) : Type 0 where
   pub within : lsn ≤ end
   pub sees : SeesFlushed lsn v w
@@ -90,7 +90,7 @@ pub record Tries (lsn end : ℕ) (Work : View → View → Type 0) (v w : View) 
 abbrev pub FlushRefused : ℕ → View → View → FlushLog → Type 0
 FlushRefused lsn v w why = (end : ℕ) × Tries lsn end (HolderRefused lsn end why) v w
 
--- The log, which ends at `lsn` or behind it, was not flushed so far at first, and was once its latch was taken
+-- The log, which ends at `lsn` or past it, was not flushed that far at first, and was when its latch was taken
 pub record WasFlushed (lsn : ℕ) (v w : View) : Type 0 where
   pub end : ℕ
   pub tried : Tries lsn end (FindsFlushed lsn end) v w
@@ -106,7 +106,7 @@ pub record Flushes (lsn : ℕ) (v w : View) : Type 0 where
 abbrev pub as_looked : View → View → View
 as_looked v w = record v { steps = w.steps; loads = w.loads; end_seen = w.end_seen; flushed = w.flushed; raised_to = w.raised_to }
 
--- The log end that a refusal names was seen, and is at or behind all that the view had seen of it
+-- The log end that a refusal names was seen, and is at or past all that the view had seen of it
 abbrev pub FlushSeesEnd : FlushLog → View → View → Type 0
 FlushSeesEnd (LogShort lsn end) v w = (v.end_seen ≤ end) × (end ≤ w.end_seen)
 FlushSeesEnd (LogDown at) v w = (v.end_seen ≤ at) × (at ≤ w.end_seen)

@@ -51,7 +51,7 @@ pub record Enters (relations : List RelEntry) (f : ℕ) (tag : Tag) (start : ℕ
   pub did : DidEnter f p home w
   pub after : w ≡ view_entered f (packed_tag tag) p (start + record_size) home
 
--- The one call of the log was the append of such a record, and it failed: a part, the first bytes of the record, is behind the log; where the log's contents aren't known it is []
+-- The one call of the log was the append of such a record, and it failed: a part, the first bytes of the record, follows the log; where the log's contents aren't known it is []
 pub record FailsToAppend (relations : List RelEntry) (f : ℕ) (tag : Tag) (start : ℕ) (p : Page) (v w : View) : Type 0 where
   pub out : View
   pub bytes : List ℕ
@@ -74,16 +74,16 @@ EnterRefused relations f tag p end LogFault v w = (end + record_size ≤ last_po
 abbrev pub InsertRefused : List RelEntry → ℕ → Tag → Page → View → View → InsertError → Type 0
 InsertRefused relations f tag p v w why = (end : ℕ) × UnderLatch end (EnterRefused relations f tag p end why) v w
 
--- The page p was entered, under the log's latch, behind the end as it was loaded there, and the entry ends at `lsn`
+-- The page p was entered, under the log's latch, at the end as it was loaded there, and the entry ends at `lsn`
 pub record Inserts (relations : List RelEntry) (f : ℕ) (tag : Tag) (p : Page) (lsn : ℕ) (v w : View) : Type 0 where
   pub start : ℕ
-  -- at or behind all that the view had seen
+  -- at or past all that the view had seen
   pub later : v.front ≤ start
   pub ends : lsn ≡ start + record_size
   pub room : lsn ≤ last_position
   pub work : UnderLatch start (Enters relations f tag start p) v w
 
--- the log end that a refusal names was seen, and is at or behind all that the view had seen of it
+-- the log end that a refusal names was seen, and is at or past all that the view had seen of it
 abbrev pub InsertSeesEnd : InsertError → View → View → Type 0
 InsertSeesEnd (LogFull end) v w = (v.end_seen ≤ end) × (end ≤ w.end_seen)
 InsertSeesEnd (LogDown at) v w = (v.end_seen ≤ at) × (at ≤ w.end_seen)

@@ -21,7 +21,7 @@ use thiserror::Error;
 /// Why the log was not flushed.
 #[derive(Clone, Copy, PartialEq, Eq, Debug, Error)]
 pub enum FlushLog {
-    /// The position asked for is behind the log's end.
+    /// The position asked for is past the log's end.
     #[error("the log ends at {end}, before {lsn}")]
     LogShort { lsn: Lsn, end: Lsn },
     /// A call of the log failed before, where the log ended here.
@@ -99,7 +99,7 @@ fn flush_held<L: BlockLane, G: LogDevice>(
     }
 }
 
-/// Loads the flushed position until it is at `lsn` or behind it. Once it was raised so far the first load shows it, since it never falls; but what this backend knows of it is what it loads.
+/// Loads the flushed position until it is `lsn` or more. Once it was raised that far the first load shows it, since it never falls; but a backend knows of it only what it has loaded.
 fn await_flushed<L: BlockLane, G: LogDevice, R: Wait>(
     table: &FrameTable<L, G>,
     rt: &R,
@@ -120,7 +120,7 @@ fn await_flushed<L: BlockLane, G: LogDevice, R: Wait>(
     unreachable!()
 }
 
-/// Makes the log durable up to the position `lsn`, and the backend has seen the flushed position at `lsn` or behind it then (`XLogFlush`).
+/// Makes the log durable up to the position `lsn` (`XLogFlush`). The backend has then seen a flushed position of `lsn` or more.
 ///
 /// Where the flushed position is so far already no device is called. Else it waits for the log's latch and looks once more: where another backend has flushed the log so far meanwhile no device is called either, whether the log is down by then or not. Else it makes one sync at most. It refuses where the log ends before `lsn`, as for the position of a page that was on disk before the log began; then, where it isn't flushed so far under the latch, where it is down, and where the sync fails.
 pub fn flush_to<L: BlockLane, G: LogDevice, R: Wait>(

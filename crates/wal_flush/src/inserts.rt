@@ -33,7 +33,7 @@ const RECORD_SIZE: Lsn = 8224;
 /// Why a page was not inserted.
 #[derive(Clone, Copy, PartialEq, Eq, Debug, Error)]
 pub enum InsertError {
-    /// A record behind the log's end, which is here, would pass the last position.
+    /// A record at the log's end, which is here, would pass the last position.
     #[error("the log is full at {end}")]
     LogFull { end: Lsn },
     /// A call of the log failed before, where the log ended here.
@@ -69,7 +69,7 @@ fn position_of(page: &Page) -> Lsn
     page.lsn()
 }
 
-/// Appends the record of the page behind the log's end, and gives the page its position. The page stays as it was where that fails.
+/// Appends the record of the page at the log's end, and gives the page its position. If that fails the page is as it was.
 fn append_record<L: BlockLane, G: LogDevice>(
     table: &FrameTable<L, G>,
     seat: &mut Seat<Value<L, G>, View>,
@@ -109,7 +109,7 @@ fn append_record<L: BlockLane, G: LogDevice>(
     }
 }
 
-/// Enters the page behind the log's end, as it was loaded under the latch.
+/// Enters the page at the log's end, as it was loaded under the latch.
 fn enter<L: BlockLane, G: LogDevice>(
     table: &FrameTable<L, G>,
     seat: &mut Seat<Value<L, G>, View>,

@@ -42,7 +42,7 @@ pub(crate) fn take_end<L: BlockLane, G: LogDevice, R: Wait>(
     table.load_log_end(seat, EndLoad::Plain)
 }
 
-/// The log goes out to the holder of its latch, who may make one call of it. Where it is down it comes back at once, and this is the mark of its failure.
+/// The log goes out to the holder of its latch, for one call. If it is down it comes back at once, and this is the mark of its failure.
 pub(crate) fn take_log<L: BlockLane, G: LogDevice>(
     table: &FrameTable<L, G>,
     seat: &mut Seat<Value<L, G>, View>,
