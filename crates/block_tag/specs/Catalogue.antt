@@ -40,7 +40,7 @@ pub record IsRefusedTwice (entries : List RelEntry) (first second : ℕ) : Type 
   pub few : length entries ≤ 1024
   pub first_twin : IsFirstTwin entries first second
 
--- why a list of relations is no catalogue; want of memory comes only for one that would be a catalogue
+-- why a list of relations is no catalogue; out of memory comes only for one that would be a catalogue
 abbrev pub IsRefusalOf : List RelEntry → CatalogError → Type 0
 IsRefusalOf entries (TooMany count) = (count ≡ length entries) × (1024 < count)
 IsRefusalOf entries (Twice first second) = IsRefusedTwice entries first second

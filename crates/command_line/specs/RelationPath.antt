@@ -17,7 +17,7 @@ unfoldable pub is_relation_number : List ℕ → Bool
 is_relation_number digits = list_all is_digit digits && (not (slice_index digits 0 == 48)
     && (nat_lt 0 (number_value digits) && nat_lt (number_value digits) (2 ^ 32)))
 
--- what stands behind the last slash of a path
+-- what follows the last slash of a path
 abbrev pub file_name : List ℕ → List ℕ
 file_name path = after_last (λ byte. byte == 47) path
 

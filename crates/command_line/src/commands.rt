@@ -114,7 +114,7 @@ fn command_of_subcommand<'a>(matches: &ArgMatches<'a>) -> Option<Command<'a>>
     command_named(name, found, options)
 }
 
-/// No command, or want of memory.
+/// No command, or out of memory.
 fn refused<'a>(error: &Error) -> Result<Option<Command<'a>>, AllocError>
     ensures { IfOk result (λ c. (c ≡ None) × (kind_of error.now ≢ ErrorKind.OutOfMemory)) }
 {
@@ -126,7 +126,7 @@ fn refused<'a>(error: &Error) -> Result<Option<Command<'a>>, AllocError>
 
 /// The command that the words spell, or none: the words are those after the program's name.
 ///
-/// It fails only for want of memory.
+/// It fails only if memory runs out.
 pub fn read_command<'a>(
     alloc: Global,
     words: &'a [String],

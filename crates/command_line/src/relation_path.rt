@@ -19,7 +19,7 @@ fn fork_length(fork: Fork) -> usize
     }
 }
 
-/// What stands behind the last slash.
+/// What follows the last slash.
 fn file_name(path: &[u8]) -> &[u8]
     ensures { result.now ≡ file_name path.now }
 {

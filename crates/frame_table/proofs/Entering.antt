@@ -38,7 +38,7 @@ use Rattle.frame_table.specs.Entering.{MayBecomeEntry, IsRecord, MayStoreEnd, Di
 use Rattle.frame_table.proofs.Frames.{frame_else, lane_none, device_none, same_at, home_before, gives_same}
 use Rattle.frame_table.proofs.LogNames.{record_is}
 
--- who has the content lock of a frame has a link there
+-- a view with the content lock of a frame has a link there
 inside_of : (s : State) (id f : ℕ) (v : View) → Laws s → get_elem? s.pool.core.views id ≡ some v → v.emptied ≡ false → (link v f).content ≡ Exclusive → f < s.pool.core.frames
 inside_of s id f v laws there live right = ⊎_elim (λ (low : f < length v.links). let wide = (laws.invariant.pool.core.views.wide id v there live).0 in omega arith)
     (λ (past : length v.links ≤ f). let no : Unlocked ≡ Exclusive = sym (ap (λ (l : Link). l.content) (get_or_past v.links f idle past)) ∙ right in absurd (cc)) (cases_lt f (length v.links))

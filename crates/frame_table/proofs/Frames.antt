@@ -48,7 +48,7 @@ frame_else words i n g fr a b c h = let e0 : get_or (set words i n) (3 * g) 0 �
       small = subst (λ (x : ℕ). x < 2 ^ 20) (sym e2) h.small;
     }
 
--- A step leaves what is behind the words of the frames
+-- A step leaves the words after those of the frames
 pub latches_else : (n lanes : ℕ) (words : List ℕ) (i m : ℕ) (s s' : State) → i < 3 * n → ((x : Turn) → is_taken x s' ≡ is_taken x s) → s'.end ≡ s.end → s'.flushed ≡ s.flushed → s'.hand ≡ s.hand → ShowsLatches n lanes words s → ShowsLatches n lanes (set words i m) s'
 latches_else n lanes words i m s s' low same end flushed hand h = record {
   latch = λ x has. get_or-set_other words i (latch_place n x) m 0 (behind x) ∙ h.latch x has ∙ ap flag_weight (sym (same x));

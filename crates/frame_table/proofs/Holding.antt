@@ -148,7 +148,7 @@ module _ {L G : Type 0} (d : Devices L G) (o : Opening L G) where
     out = refl;
   })
 
-  -- who is alone at a frame is so in the state
+  -- a view that is alone at a frame is so in the state
   alone_there : (s : State) (id f : ℕ) (v : View) → Laws s → get_elem? s.pool.core.views id ≡ some v → f < s.pool.core.frames → HasOnlyPin (link v f) → pin.IsAlone (s.pool.core.frame f) (link v f)
   alone_there s id f v laws there inside a = let held = held_word s id f v laws there inside a.word.held in record { held = held; settled = a.settled; single = a.word.knows (s.pool.core.frame f).word held; victim = a.victim; no_content = a.no_content; no_io = a.no_io }
 

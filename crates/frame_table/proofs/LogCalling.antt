@@ -1,4 +1,4 @@
--- What holds of the log for who called it while it was out, and gives it back.
+-- What holds of the log for a backend that called it while it was out, and gives it back.
 use Rattle.std.proofs.Common.{◌≡◌, ℕ, ◌+◌, get_or, true, false, Result, Ok, Err, Option, Some, None, List, sym, refl, ap, ◌∙◌, subst}
 use Rattle.std.specs.Prelude.{MatchResult}
 use Rattle.log_device.specs.declared.device.Failed.{Failed}

@@ -120,7 +120,7 @@ down_view taken end v down = let more : v.steps + 1 + 1 ≡ v.steps + 2 = omega 
     let count = more ∙ ap (λ (x : Option ℕ). v.steps + out_steps x) (sym down) in
     λ i. record v { log = record v.log { out = Some taken }; device_calls = calls i; met = met i; saw_down = seen i; steps = count i }
 
--- who holds the latch has the log out alone
+-- only the holder of the latch has the log out
 log_home : (s : State) (id : ℕ) (v : View) → Laws s → get_elem? s.pool.core.views id ≡ some v → v.log.held ≡ true → v.log.out ≡ None → IsHome (place.Of turn.Log) s.pool.core.views
 log_home s id v laws there held out i u at = dite (ℕ_discrete i id)
     (λ e. let same : v ≡ u = some-injective v u (sym there ∙ ap (get_elem? s.pool.core.views) (sym e) ∙ at) in ap (λ (x : View). is_some x.log.out) (sym same) ∙ ap (λ (x : Option TakenLog). is_some x) out)

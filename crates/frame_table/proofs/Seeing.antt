@@ -96,7 +96,7 @@ pub sees_valid : (f found : ℕ) (v w : View) → Did looking f v w found → (l
 sees_valid f found v w d settled pinned on = ap (λ (l : Link). l.seen_valid) (link_is looking f found v w d)
     ∙ seen_after (link v f).pending (link v f).seen_valid (d.state.pool.core.frame f).word.valid (link v f).role settled pinned (ap (λ (x : StateWord). x.valid) d.says ∙ on)
 
--- a wait is over where nobody's number is in the word
+-- a wait is over if no number is in the word
 over_after : (w : StateWord) (waits : Option ℕ) → w.awaited ≡ false → wait_after w waits ≡ None
 over_after w None off = refl
 over_after w (Some number) off = ap (λ (b : Bool). if b && nat_eq w.waiter number then Some number else None) off
@@ -144,7 +144,7 @@ zero_bits n small low free home = let a = clear (n / 2 ^ 18 % 2) free (omega ari
     clear : (x : ℕ) → (x == 1) ≡ false → x < 2 → x ≡ 0
     clear x e h = grind arith
 
--- a content word that isn't 0 shows who has the lock: one has it exclusively, or some share it
+-- a content word that isn't 0 shows that the lock is held: one has it exclusively, or some share it
 pub shows_holder : (f found : ℕ) (v w : View) → Did looking_content f v w found → found ≢ 0 → has_exclusive found ≡ false → 0 < found % 2 ^ 18
 shows_holder f found v w d nonzero free = dite (ℕ_discrete (found % 2 ^ 18) 0)
     (λ none. absurd (nonzero (zero_bits found d.says.3 none free (sym d.says.2 ∙ no_copies d.state d.laws f d.inside (d.says.0 ∙ none)))))

@@ -65,7 +65,7 @@ module _ {L G : Type 0} (d : Devices L G) (o : Opening L G) where
         laws = laws_kept (pools (page_steps.cores (pin_steps.splits v here (let e = h.shows.fixed.backends in omega arith))) tt) h.laws;
       }
 
--- who holds nothing has nothing out
+-- a view that holds nothing has nothing out
 pub free_home : {L G : Type 0} (d : Devices L G) (o : Opening L G) (s : State) (j : ℕ) (u : View) → KeepsOpening d o s → Laws s → get_elem? s.pool.core.views j ≡ some u → HoldsNothing u → (x : Place) → IsPlaceIn o x → is_out x u ≡ false
 free_home d o s j u h laws there free (place.Page f) has = ap (λ (z : Option (List ℕ)). is_some z) (free.frames f).page_home
 free_home d o s j u h laws there free (place.Of (turn.Partition p)) has = ap (λ (z : Option (List MapEntry)). is_some z) ((laws.invariant.pool.core.turns.cells j u p there (let e = h.partitions in omega arith)).resting (free.partitions p)).0

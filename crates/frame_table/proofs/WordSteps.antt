@@ -1,4 +1,4 @@
--- An operation on a word behind those of the frames is a step of the state.
+-- An operation on a word after those of the frames is a step of the state.
 use Rattle.std.proofs.Common.{◌≡◌, ◌≢◌, ℕ, ◌+◌, ◌*◌, ◌<◌, ◌≤◌, ◌%◌, ◌^◌, cond, eq-eqb, ne_eqb, lit<, Bool, true, false, List, Option, Some, None, set, get_or, length, length-set, get_or-set_same, get_or-set_other, sym, refl, ap, ◌∙◌, subst, arith}
 use Rattle.std.specs.Option.{is_some}
 use Rattle.std.specs.Prelude.{max, unwrap_or}
@@ -52,7 +52,7 @@ word_step (read_end f) s i v there live (inside, a) = by_note (link v f).tag (li
         view_by : Option ℕ × Option Page → View
         view_by x = looked (seen.LogEnd s.end) (read_of x.0 x.1 s.end v)
 
--- the words behind those of the frames
+-- the words after those of the frames
 word_behind : (k : WordKind) (n : ℕ) → 3 * n + 145 ≤ word_place k n
 word_behind load_end n = omega arith
 word_behind (read_end f) n = omega arith
@@ -206,7 +206,7 @@ module _ {L G : Type 0} (d : Devices L G) (o : Opening L G) (slots id : ℕ) (me
   pub adds_hand_there : Allows (Held d o) slots id me (hand_place o.config.frames) (λ n. (n + 1) % 2 ^ 64) (tells_word add_hand (step slots (hand_place o.config.frames) 1 0 none) me)
   adds_hand_there = acts_behind d o add_hand slots id 1 0 (λ n. (n + 1) % 2 ^ 64) me live (λ s l f there small. (tt, hand_moves s.hand small))
 
--- the flushed position never falls behind what a view has loaded of it
+-- the flushed position is never below what a view has loaded of it
 pub flushed_below : (v w : View) (found : ℕ) → DidWord load_flushed v w found → v.flushed ≤ found
 flushed_below v w found d = let a = (d.laws.invariant.history.calls d.seat v d.there).loaded in let e = d.says in omega arith
 
@@ -219,7 +219,7 @@ end_words Plain s = refl
 end_words (Read f) s = refl
 end_words Checkpoint s = refl
 
--- the log's end that is loaded is at the last one that the backend has seen, or behind it
+-- the log's end that is loaded is the last one that the backend has seen, or past it
 pub end_later : (what : EndLoad) (v w : View) (found : ℕ) → DidWord (end_kind what) v w found → v.end_seen ≤ found
 end_later Plain v w found d = let e : d.state.end ≡ found = d.says in let a = d.laws.ends d.seat v d.there in omega arith
 end_later (Read f) v w found d = let e : d.state.end ≡ found = d.says in let a = d.laws.ends d.seat v d.there in omega arith

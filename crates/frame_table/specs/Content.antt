@@ -107,7 +107,7 @@ pub record CanAwait (word : ℕ) (l : Link) : Type 0 where
   pub right : l.content ≡ Exclusive
   pub free : (fields word).awaited ≡ false
 
--- and where it wakes the one who waits
+-- and where it wakes the waiter
 pub record CanWake (word : ℕ) (l : Link) : Type 0 where
   pub held : l.header ≡ Some (fields word)
   pub settled : l.pending ≡ false

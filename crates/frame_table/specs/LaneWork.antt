@@ -87,7 +87,7 @@ module _ {L : Type 0} (d : LaneDevices L) (q : ℕ) (after : L) where
   back_events Synced i = steps.lane i q sync_lane ∷ steps.lane i q (lane_back false) ∷ []
   back_events SyncFailed i = steps.lane i q (fail_sync (d.write_faults after)) ∷ steps.lane i q (lane_back true) ∷ []
 
-  -- the device call that it was; after a write that failed the lane holds any page for the block
+  -- the device call that it was; after a write that failed the lane's page of the block is unspecified
   abbrev pub device_calls_of : LaneCall → List DeviceCall
   device_calls_of Untouched = []
   device_calls_of (Read f tag page) = device.LaneRead q (packed_tag tag) true ∷ []

@@ -1,4 +1,4 @@
--- Steps at the words behind those of the frames: the log's end, the flushed position, and the clock's hand.
+-- Steps at the words after those of the frames: the log's end, the flushed position, and the clock's hand.
 use Rattle.std.specs.Prelude.{◌≡◌, ◌≢◌, ℕ, ◌<◌, false, true, max, Option, Some, None, unwrap_or}
 use mathlib.Core.Option.{some}
 use lib.ListN.{get_elem?}
@@ -81,7 +81,7 @@ abbrev pub read_of : Option ℕ → Option Page → ℕ → View → View
 read_of (Some tag) (Some page) end v = has_read end tag page v
 read_of _ _ end v = v
 
--- the log's end, as who holds its latch has loaded or stored it
+-- the log's end, as the holder of its latch has loaded or stored it
 abbrev pub end_known : View → ℕ
 end_known v = unwrap_or v.log.end 0
 

@@ -50,7 +50,7 @@ impl<L, G, D: AtLog> Play<Value<L, G>, View> for LogBack<D> {
     ghost then = { log_came D.bytes D.faults D.call };
 }
 
-/// The relations, the frame whose page is entered, and the log's end behind that entry. Each call picks it.
+/// The relations, the frame whose page is entered, and the log's end after that entry. Each call picks it.
 pub(crate) trait AtEnd {
     ghost relations: { List RelEntry };
 

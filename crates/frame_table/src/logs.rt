@@ -121,7 +121,7 @@ impl<L: BlockLane, G: LogDevice> FrameTable<L, G> {
         self.table.shared.store::<StoreEnd<D>>(seat, at, end);
     }
 
-    /// Stores the log's end behind the record that the backend has appended: the page in it is an entry of the log now, and the backend's to apply (`XLogInsert`).
+    /// Stores the log's end, after the record that the backend has appended (`XLogInsert`). The page in it is an entry of the log now, which the backend has to apply.
     pub fn store_log_end(&self, seat: &mut Seat<Value<L, G>, View>, frame: u32, end: u64)
         requires seat { IsSeat self.now seat.old }
         requires may { (tag : Tag) × (page : Page) × MayStoreEnd (relations_of self.now) frame tag page end seat.old.me.0 }

@@ -1,4 +1,4 @@
-//! What a step at a word behind those of the frames tells its seat.
+//! What a step at a word after those of the frames tells its seat.
 ghost use Rattle.std.specs.Prelude.{ℕ, List, [], Option};
 ghost use Rattle.block_tag.specs.declared.catalogue.RelEntry.{RelEntry};
 ghost use Rattle.segment_store.specs.Contents.{Pages};

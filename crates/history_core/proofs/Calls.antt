@@ -18,7 +18,7 @@ use Rattle.grid.proofs.Lists.{at_set, at_end, at_longer, set_else, set_here}
 use Rattle.grid.proofs.Sums.{total-set, total-snoc, total-none}
 use Rattle.history_core.proofs.Logs.{cut_longer, cut_all, ends_below, end_longer}
 
--- what is at a place of two lists, one behind the other
+-- what is at a place of two lists, one after the other
 pub at_both : {A : Type 0} (l m : List A) (k : ℕ) (a : A) → get_elem? (l ++ m) k ≡ some a → (get_elem? l k ≡ some a) ⊎ ((j : ℕ) × (get_elem? m j ≡ some a))
 at_both [] m k a e = inr (k, e)
 at_both (x ∷ l) m zero a e = inl e
@@ -98,7 +98,7 @@ own_joined v u n has other = dite (ℕ_discrete n u.number)
     kept_right [] m k c at = (k, at)
     kept_right (y ∷ l) m k c at = let z = kept_right l m k c at in (suc z.0, z.1)
 
--- two lists of calls one behind the other, of backends that differ
+-- two lists of calls, one after the other, of backends that differ
 order_both : (l m : List Call) → AreInOrder l → AreInOrder m → ((j k : ℕ) (c d : Call) → get_elem? l j ≡ some c → get_elem? m k ≡ some d → backend_of c ≢ backend_of d) → AreInOrder (l ++ m)
 order_both [] m a b other j k c d lt ec ed same = b j k c d lt ec ed same
 order_both (y ∷ l) m a b other zero zero c d lt ec ed same = absurd (omega arith)

@@ -62,7 +62,7 @@ risen_later start now later r h = grind (arith, r, h)
 still_bad : (failed : ℕ → Bool) (tag t : ℕ) → put failed tag false t ≡ true → failed t ≡ true
 still_bad failed tag t e = dite (ℕ_discrete t tag) (λ same. let x = sym (put_at failed tag false t same) ∙ e in absurd (cc)) (λ o. sym (put_else failed tag false t o) ∙ e)
 
--- who doesn't hold the latch has no call out
+-- a view without the latch has no call out
 abbrev IsSane : LaneHold → Type 0
 IsSane h = h.held ≡ false → h.change ≡ change.Untouched
 

@@ -28,7 +28,7 @@ module _ (w : Written) (d : Device) (saw : Bool) (h : LogHold) where
   holds : LogLink w d saw h → h.out ≢ None → h.held ≡ true
   holds c out = grind (arith, c, out)
 
-  -- what stands behind the log's bytes, where the log isn't down
+  -- what follows the log's bytes, if the log isn't down
   left_now : (t : LogTally → ℕ) → DeviceLaw w d t → LogLink w d saw h → ((k : LogTally) → log_weigh k h ≤ t k) → h.held ≡ true → d.down ≡ None → IsLeft w d
   left_now t q c le held up = by_record h.appended refl
     where

@@ -40,7 +40,7 @@ flag_cond : (b : Bool) → flag_weight b ≡ cond b 1 0
 flag_cond true = refl
 flag_cond false = refl
 
--- who has a record appended holds the latch
+-- a view with a record appended holds the latch
 weigh_split : (a : Option (List ℕ)) (b : Bool) → (b ≡ false → a ≡ None) → flag_weight b ≡ resting_weight a b + some_weight a
 weigh_split None b rests = omega arith
 weigh_split (Some x) true rests = refl

@@ -88,7 +88,7 @@ module _ (start : ℕ) (d d' : Device) (views : List View) (m : LogCounted start
     taken = λ j u t e is lt. let x = by_view views i v w there (λ (x : View). (taken : TakenLog) → x.log.out ≡ Some taken → start < taken.faults → 0 < (all_met views).logs) (λ y z. absurd (none_out home z)) (λ k x o at y z. m.taken k x y at z) j u e t is lt in omega arith;
   }
 
--- who holds the log's latch is the only one that has its device out
+-- only the holder of the log's latch has its device out
 held_alone : (w : Written) (d : Device) (t : LogTally → ℕ) (a b : Bool) (h m : LogHold) → DeviceLaw w d t → LogLink w d a h → LogLink w d b m → ((k : LogTally) → log_weigh k h + log_weigh k m ≤ t k) → h.held ≡ true → m.out ≡ None
 held_alone w d t a b h m q c e le held = grind (arith, q, c, e, le holders, le appenders, held)
 

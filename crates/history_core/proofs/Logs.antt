@@ -38,11 +38,11 @@ pub cut_out : (p : ℕ) (e : Entry) (es : List Entry) → p < end_of e → cut p
 unfolding cut
 cut_out p e es h = ap (λ (b : Bool). cond b (e ∷ cut p es) (cut p es)) (lt-leb (end_of e) p h)
 
--- an entry ends at the position or before it, or behind it
+-- an entry ends at the position or before it, or past it
 pub in_or_out : {A : Type 0} (p : ℕ) (e : Entry) → (end_of e ≤ p → A) → (p < end_of e → A) → A
 in_or_out p e x y = ⊎_elim y x (cases_lt p (end_of e))
 
--- an entry that ends behind the position is cut away
+-- an entry that ends past the position is cut away
 pub cut_longer : (p : ℕ) (es : List Entry) (e : Entry) → p < end_of e → cut p (es ++ e ∷ []) ≡ cut p es
 unfolding cut
 cut_longer p [] e h = cut_out p e [] h
@@ -56,7 +56,7 @@ unfolding cut
 cut_all p [] h = refl
 cut_all p (e ∷ es) h = cut_in p e es (h zero e refl) ∙ ap (λ (l : List Entry). e ∷ l) (cut_all p es (λ k x t. h (suc k) x t))
 
--- where each entry ends behind the position all are cut away
+-- if each entry ends past the position all are cut away
 pub cut_none_below : (p : ℕ) (es : List Entry) → ((k : ℕ) (e : Entry) → get_elem? es k ≡ some e → p < end_of e) → cut p es ≡ []
 unfolding cut
 cut_none_below p [] h = refl

@@ -1,4 +1,4 @@
--- Each step keeps the law of the bytes behind the log's, and so does each list of steps.
+-- Each step keeps the law of the bytes after the log's, and so does each list of steps.
 use Rattle.std.proofs.Common.{◌≡◌, ◌≢◌, ℕ, ◌+◌, ◌≤◌, true, List, [], ◌∷◌, ◌++◌, length, length-append, append-nil, None, sym, refl, ap, ◌∙◌, arith, lit<}
 use mathlib.Core.Option.{some}
 use lib.ListN.{get_elem?}
@@ -31,7 +31,7 @@ whole s h none up = (h.device.columns 0 (lit< tt)).bytes (total-none (λ (v : Vi
 law_of : (s : State) → Invariant s → HasRest s → RestLaw s
 law_of s h x = record { behind = x; none = λ none up. none_behind (log_bytes s.names s.log) x.rest (sym (whole s h none up) ∙ x.is_bytes) }
 
--- nothing stands behind the log's bytes
+-- nothing follows the log's bytes
 nothing : (s : State) → s.device.bytes ≡ log_bytes s.names s.log → HasRest s
 nothing s e = record { rest = []; is_bytes = e ∙ sym (append-nil (log_bytes s.names s.log)); begins = λ some. absurd (some refl); short = omega arith }
 

@@ -626,7 +626,7 @@ module _ (s : State) (h : Invariant s) (i f : ℕ) (p : Page) (v : View) (there 
         };
       }
 
--- who holds the log's latch keeps the log's end that it loads
+-- the holder of the log's latch keeps the log end that it loads
 loads_end_step : (s : State) → Invariant s → (i : ℕ) (v : View) → get_elem? s.pool.core.views i ≡ some v → Invariant (record s { pool = aside s.pool i (has_loaded s.end v) })
 loads_end_step s h i v there = let w : View = has_loaded s.end v in let same : SameHere v w = record { backend = record { emptied = refl; number = refl; next = refl; links = refl; partitions = refl }; joined = refl; links = refl; partitions = refl } in
     assemble_same s h (aside s.pool i w) s.lane (pool_aside s.pool i v w h.pool there same) refl h.known refl

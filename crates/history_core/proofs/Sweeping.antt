@@ -57,7 +57,7 @@ ended_at (x ∷ l) e (suc f) low = ended_at l (third x.passed x.listed (all_ende
     third false false c e = absurd (cc)
     third false true c e = absurd (cc)
 
--- What a step does to what is covered: nothing goes, and a new entry ends behind the log's end
+-- What a step does to what is covered: nothing goes, and a new entry ends past the log's end
 record Later (s t : State) : Type 0 where
   lane_of : t.lane_of ≡ s.lane_of
   end : s.end ≤ t.end

@@ -32,7 +32,7 @@ use Rattle.grid.specs.Shape.{put, total}
 use Rattle.grid.proofs.Lists.{at_set, at_end, at_only, at_longer, put_at, put_else, set_here, set_else}
 use Rattle.grid.proofs.Sums.{total-set, total-snoc}
 
--- sums over two lists, one behind the other
+-- sums over two lists, one after the other
 found_both : (g : StateWord → ℕ) (f : ℕ) (a b : List WordChange) → sum_found g f (a ++ b) ≡ sum_found g f a + sum_found g f b
 unfolding sum_found
 found_both g f [] b = omega arith

@@ -1,4 +1,4 @@
--- A checkpoint from its begin to its end, for the definitions to be seen at work: a backend has put a page into a frame and made the log durable; the checkpoint of a second one passes the frame and lists it, writes the page to the block's lane, and syncs the lane; then the second backend is joined into the first, which keeps the checkpoint.
+-- A checkpoint from beginning to end, as an example of the definitions: a backend has put a page into a frame and made the log durable; the checkpoint of a second one passes the frame and lists it, writes the page to the block's lane, and syncs the lane; then the second backend is joined into the first, which keeps the checkpoint.
 use Rattle.std.specs.Prelude.{◌≡◌, true, false, List, [], ◌∷◌, ◌++◌}
 use mathlib.Core.Option.{some}
 use lib.ListN.{get_elem?}

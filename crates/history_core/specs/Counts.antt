@@ -57,7 +57,7 @@ pub record CountLaw (start now out met : ℕ) : Type 0 where
 pub record LaneCounts (m : Met) (ln : Lane) (t : CountTally → ℕ) : Type 0 where
   pub reads : CountLaw ln.read_faults_at_start ln.read_faults (t failed_reads) m.reads
   pub writes : CountLaw ln.write_faults_at_start ln.write_faults (t failed_writes) m.writes
-  -- who has a failed call out holds the latch
+  -- a view with a failed call out holds the latch
   pub split : t holders ≡ t unfailed + t failed_reads + t failed_writes
   -- where a block's last write failed, the count of failed writes rose
   pub failed_rose : (tag : ℕ) → ln.failed tag ≡ true → HasRisen ln.write_faults_at_start ln.write_faults

@@ -56,7 +56,7 @@ pub record Debts (t : Taken) (frames : ℕ) (frame : ℕ → Frame) (end : ℕ) 
   -- all entries of a block whose frame isn't dirty are in its lane, and of one that has no frame
   pub clean : (f : ℕ) → f < frames → (frame f).tag ≢ no_tag → (frame f).word.dirty ≡ false → IsCurrent t (frame f).tag
   pub unframed : (tag : ℕ) → tag ≢ no_tag → IsUnframed frames frame tag → IsCurrent t tag
-  -- the position of a block's page after the log is at the ends of its entries or behind them
+  -- the position of a block's page after the log is not before the end of any of its entries
   pub positioned : (tag k : ℕ) (p : Page) (e : Entry) → logged tag ≡ Some p → get_elem? t.entries k ≡ some e → e.tag ≡ tag → end_of e ≤ lsn_of p
   -- where that page isn't known all entries are in the lane
   pub unknown : (tag : ℕ) → logged tag ≡ None → IsCurrent t tag

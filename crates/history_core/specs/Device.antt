@@ -170,7 +170,7 @@ pub data LogTally : Type 0 where
   -- the others that hold the latch
   holders : LogTally
 
--- the weight of who holds the latch, where it has no such record
+-- the weight of the latch's holder, if it has no such record
 abbrev pub resting_weight : Option (List ℕ) → Bool → ℕ
 resting_weight None held = flag_weight held
 resting_weight (Some bytes) held = 0
@@ -183,7 +183,7 @@ log_weigh appenders h = some_weight h.appended
 abbrev pub log_shape : Shape
 log_shape = record { Column = Device; Link = LogHold; View = View; Tally = LogTally; Block = Written; Own = Bool; weigh = log_weigh; link = λ v _. v.log; own = λ v. v.saw_down; spot = λ _. 0 }
 
--- behind the log's bytes the device has nothing, or at most a record
+-- after the log's bytes the device has nothing, or at most a record
 pub record IsLeft (w : Written) (d : Device) : Type 0 where
   pub rest : List ℕ
   pub is_bytes : d.bytes ≡ w.bytes ++ rest
@@ -211,7 +211,7 @@ pub record AppendedLog (w : Written) (d : Device) (bytes : List ℕ) : Type 0 wh
 
 -- What holds of the device and of what a view has of its latch
 pub record LogLink (w : Written) (d : Device) (saw_down : Bool) (h : LogHold) : Type 0 where
-  -- who doesn't hold the latch has neither the device nor a record nor a sync
+  -- a view without the latch has neither the device nor a record nor a sync
   pub resting : h.held ≡ false → (h.out ≡ None) × (h.appended ≡ None) × (h.synced ≡ false)
   -- the log's end that the holder has loaded or stored under the latch is the log's end
   pub end : (e : ℕ) → h.end ≡ Some e → (h.held ≡ true) × (e ≡ w.end)

@@ -210,7 +210,7 @@ EntriesAreDurable s = (k : ℕ) (e : Entry) → get_elem? s.log.entries k ≡ so
 pub record DeviceHoldsLog (s : State) : Type 0 where
   -- the log's bytes, while it isn't down and no record is appended that is not part of it yet
   pub whole : s.device.down ≡ None → NoneAppended s → s.device.bytes ≡ log_bytes s.names s.log
-  -- once a call failed, these and behind them the first bytes of one record, that of an entry which starts at the log's end, or all of them, or none
+  -- once a call failed, these and after them the first bytes of one record, that of an entry which starts at the log's end, or all of them, or none
   pub left : s.device.down ≢ None → HasRest s
   -- the log is down at its end
   pub down : (p : ℕ) → s.device.down ≡ Some p → p ≡ s.end

@@ -10,7 +10,7 @@ use Rattle.history_core.specs.State.{State}
 
 -- The calls of backends are one history of a log, where `origin` is what the lanes held at the start
 pub record IsHistory (known : ℕ → Bool) (origin : ℕ → Page) (log : Log) (calls : List Call) : Type 0 where
-  -- the entries lie one behind the other, from the base on, and are images
+  -- the entries follow one another, from the base on, and are images
   pub law : LogLaw log
   -- each call is legal: a write is an entry of its backend, at its end; a read's page is the block's page after the entries up to its place, where the contents of the block's lane are known
   pub legal : (k : ℕ) (c : Call) → get_elem? calls k ≡ some c → IsLegal known origin log c

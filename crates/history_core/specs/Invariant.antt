@@ -67,7 +67,7 @@ pub record Invariant (s : State) : Type 0 where
   pub log : LogLaw s.log
   -- new views begin where the log does
   pub based : s.pool.core.base ≡ s.log.base
-  -- the log's end is behind its last entry, and at most the last position
+  -- the log's end is where its last entry ends, and at most the last position
   pub ends : s.end ≡ log_end s.log
   pub limit : s.end ≤ last_position
   -- the flushed position is between the base and the log's end

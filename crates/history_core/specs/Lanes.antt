@@ -29,7 +29,7 @@ pub data LaneKind : Type 0 where
   -- the holder reads the page of the block of a tag (`smgrread`), or fails to
   read_block : ℕ → Page → LaneKind
   fail_read : ℕ → ℕ → LaneKind
-  -- it writes the page of a frame to the block of the frame's tag (`smgrwrite`), or fails to: then the lane holds any page for the block
+  -- it writes the page of a frame to the block of the frame's tag (`smgrwrite`), or fails to: then the lane's page of the block is unspecified
   write_block : ℕ → ℕ → Page → LaneKind
   fail_write : ℕ → ℕ → Page → ℕ → LaneKind
   -- it makes the lane's writes durable (`smgrimmedsync`), or fails to
@@ -206,7 +206,7 @@ pub record CountsOut (taken : TakenLane) (ln : Lane) (change : LaneChange) : Typ
 
 -- What holds of a lane's pages and of what a view has of its latch, where the log is flushed up to `flushed`
 pub record HoldLaw (flushed : ℕ) (ln : Lane) (h : LaneHold) : Type 0 where
-  -- who doesn't hold the latch hasn't the lane
+  -- a view without the latch doesn't have the lane
   pub resting : h.held ≡ false → h.out ≡ None
   -- a call is noted only while the lane is out
   pub home : h.out ≡ None → h.change ≡ Untouched

@@ -21,12 +21,12 @@ pub record IsSameOpening (s t : State) : Type 0 where
 
 -- The log and its device have grown
 pub record HasGrown (s t : State) : Type 0 where
-  -- entries come behind those that are there
+  -- entries are added at the end
   pub added : List Entry
   pub entries : t.log.entries ≡ s.log.entries ++ added
   pub end : s.end ≤ t.end
   pub flushed : s.flushed ≤ t.flushed
-  -- and bytes behind those that are there; durable bytes stay durable
+  -- and so are bytes; durable bytes stay durable
   pub rest : List ℕ
   pub bytes : t.device.bytes ≡ s.device.bytes ++ rest
   pub synced : s.device.synced ≤ t.device.synced

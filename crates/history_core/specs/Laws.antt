@@ -24,7 +24,7 @@ pub record Laws (s : State) : Type 0 where
   pub counts : CountsLaw s
   -- of what checkpoints have still to write
   pub debts : DebtsLaw s
-  -- of what stands behind the log on its device
+  -- of what follows the log on its device
   pub rest : RestLaw s
   -- of the log's device while it is out
   pub outings : OutingsLaw s

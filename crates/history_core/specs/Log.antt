@@ -24,7 +24,7 @@ pub record Entry : Type 0 where
 abbrev pub record_size : ℕ
 record_size = 8224
 
--- the position behind an entry
+-- the position where an entry ends
 abbrev pub end_of : Entry → ℕ
 end_of e = e.start + record_size
 
@@ -33,7 +33,7 @@ pub record Log : Type 0 where
   pub base : ℕ
   pub entries : List Entry
 
--- the position behind the last entry
+-- the position where the last entry ends, or the base
 abbrev pub log_end : Log → ℕ
 log_end log = log.base + record_size * length log.entries
 
@@ -44,7 +44,7 @@ pub record IsImage (e : Entry) : Type 0 where
   pub full : length e.image ≡ 8192
   pub ends : lsn_of e.image ≡ end_of e
 
--- The entries lie one behind the other, from the base on
+-- The entries follow one another, from the base on
 pub record LogLaw (log : Log) : Type 0 where
   pub chained : (k : ℕ) (e : Entry) → get_elem? log.entries k ≡ some e → e.start ≡ log.base + record_size * k
   pub images : (k : ℕ) (e : Entry) → get_elem? log.entries k ≡ some e → IsImage e

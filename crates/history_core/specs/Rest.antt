@@ -1,4 +1,4 @@
--- What stands behind the log's bytes on its device: the first bytes of a record that is not part of the log, or nothing.
+-- What follows the log's bytes on its device: the first bytes of a record that is not part of the log, or nothing.
 use Rattle.std.specs.Prelude.{◌≡◌, ◌≢◌, ℕ, ◌≤◌, List, [], ◌++◌, length, None}
 use mathlib.Core.Option.{some}
 use lib.ListN.{get_elem?}
@@ -28,5 +28,5 @@ pub record HasRest (s : State) : Type 0 where
 -- The law of the device's bytes
 pub record RestLaw (s : State) : Type 0 where
   pub behind : HasRest s
-  -- while no record is appended that is not part of the log, and the log isn't down, nothing stands behind the log's bytes
+  -- while no record is appended that is not part of the log, and the log isn't down, nothing follows the log's bytes
   pub none : NoneAppended s → s.device.down ≡ None → behind.rest ≡ []

@@ -118,7 +118,7 @@ pub record CanWrite (s : State) (n f tag : ℕ) (p : Page) (h : LaneHold) (l : L
   pub right : pages.Allowed begin_write (block_of s.pool.logged tag) (s.pool.core.frame f) l
   pub log_first : lsn_of p ≤ h.flushed
 
--- a write that fails leaves any page in the lane
+-- after a write that failed the lane's page is unspecified
 abbrev pub Writes : LaneKind → State → ℕ → ℕ → LaneHold → Link → Type 0
 Writes (write_block g tag p) s n f h l = (g ≡ f) × CanWrite s n f tag p h l
 Writes (fail_write g tag p m) s n f h l = (g ≡ f) × CanWrite s n f tag (s.pool.core.frame f).page h l
@@ -199,7 +199,7 @@ pub record CanRead (tag : ℕ) (p : Page) (l : Link) : Type 0 where
   pub settled : l.unapplied ≡ false
   pub remembered : l.tag ≡ Some tag
 
--- who holds the log's latch keeps the log's end that it loads
+-- the holder of the log's latch keeps the log end that it loads
 abbrev pub end_loaded : ℕ → LogHold → LogHold
 end_loaded end h = record h { end = if h.held then Some end else h.end }
 

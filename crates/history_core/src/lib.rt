@@ -1,6 +1,6 @@
 //! Lanes, the log, and the history of reads and writes, as plain data: what a step may be, and what every list of steps keeps.
 //!
-//! Nothing here runs. The types are those of `pin_core`; the kinds of step, the law that they keep and the lists of steps are in `specs/`, and docs/PROTOCOL.md tells them in words.
+//! Nothing here runs. The types are those of `pin_core`; the kinds of step, the law that they keep and the lists of steps are in `specs/`, and docs/PROTOCOL.md and docs/INVARIANT.md tell them in words.
 #![tactic(auto)]
 
 ghost use Rattle.std.specs.Prelude.{◌≡◌, ℕ, ◌<◌, List};
@@ -138,7 +138,7 @@ pub fn failed_read_and_syncs()
     ensures { FaultRuns }
 {}
 
-/// An example: after a backend has put a page into a frame, the checkpoint of a second one, from its begin to the sync of the lane, and the join of the second backend into the first.
+/// An example: after a backend has put a page into a frame, the checkpoint of a second one, from its beginning to the sync of the lane, and the join of the second backend into the first.
 pub fn checkpoint_and_join()
     ensures { CheckpointRuns }
 {}

@@ -90,6 +90,6 @@ waits_by : (number : ℕ) (o : Option ℕ) → 0 < wait_weight number o → o �
 waits_by number None e = absurd (omega arith)
 waits_by number (Some own) e = dite (ℕ_discrete number own) (λ same. ap (λ (z : ℕ). Some z) (sym same)) (λ o. let none = ap flag_weight (ne_eqb number own o) in absurd (omega arith))
 
--- who is counted as waiting under a number
+-- a view that is counted as waiting under a number
 pub waiter : (number f : ℕ) (views : List View) → 0 < tallies page_shape views f (waits_as number) → (j : ℕ) × (u : View) × (get_elem? views j ≡ some u) × ((link u f).waits ≡ Some number)
 waiter number f views e = let r = some_term (λ (u : View). weigh (waits_as number) (link u f)) views e in (r.0, r.1, r.2, waits_by number (link r.1 f).waits r.3)

@@ -117,7 +117,7 @@ pub record PageLink (b : Block) (fr : Frame) (l : Link) : Type 0 where
   pub taken : (p : Page) → l.out ≡ Some p → l.overwritten ≡ None → fr.page ≡ p
   -- a page that was overwritten is out, and is what it was overwritten with; under an input right that is the page noted as read
   pub overwritten : (q : Page) → l.overwritten ≡ Some q → OverwrittenLink fr l q
-  -- who waits has a pin
+  -- a waiter has a pin
   pub waits : l.waits ≢ None → l.role ≢ Absent
 
 abbrev pub page_part : Part page_shape

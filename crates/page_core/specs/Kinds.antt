@@ -185,7 +185,7 @@ pub record CanEndIo (end : IoEnd) (fr : Frame) (l : Link) : Type 0 where
   pub page_home : l.io ≡ Input → l.out ≡ None
   pub ends : EndsAs end l
 
--- nobody waits there; the number is the view's own, and the view waits nowhere (`AllowedAround`)
+-- no backend waits there; the number is the view's own, and the view waits nowhere (`AllowedAround`)
 pub record CanSetWaiter (fr : Frame) (l : Link) : Type 0 where
   pub held : l.header ≡ Some fr.word
   pub settled : l.pending ≡ false
@@ -277,7 +277,7 @@ abbrev pub write_noted : Bool → LastWrite
 write_noted true = Done
 write_noted false = Failed
 
--- who ends a good read has set BM_VALID, so its pin has seen it
+-- a backend that ends a good read has set BM_VALID, so its pin has seen it
 abbrev pub saw_valid : IoEnd → Bool → Bool
 saw_valid ReadOk saw = true
 saw_valid WriteOk saw = saw

@@ -104,7 +104,7 @@ pub record Waiting (t : State) : Type 0 where
 
 -- With the cleanup lock
 pub record Granted (t : State) : Type 0 where
-  -- its pin is the only one, and nobody waits
+  -- its pin is the only one, and no backend waits
   pub word : (t.core.frame 0).word ≡ record zero_word { pins = 1; usage = 2; valid = true; tag_valid = true; permanent = true }
   pub locked : (v : View) × (get_elem? t.core.views 1 ≡ some v) × ((link v 0).role ≡ HandedOut) × ((link v 0).content ≡ Exclusive) × ((link v 0).waits ≡ None)
 

@@ -138,7 +138,7 @@ impl Page {
         self.bytes.copy_from_slice(bytes);
     }
 
-    /// Reads the page from a file, from this byte on. After an error its bytes are any, as where the
+    /// Reads the page from a file, from this byte on. After an error its bytes are unspecified, as if the
     /// file ends first.
     pub fn read_at<F: FileExt>(&mut self, file: &F, offset: u64) -> io::Result<()> {
         file.read_exact_at(self.bytes.as_mut_slice(), offset)

@@ -129,7 +129,7 @@ module _ (a : Asked) (known : Option Paths) (old new : FaultCounts) where
   complete_if Memory ends = λ roomy there has same below. inr refl
   complete_if (OverLimit limit) ends = λ roomy there has same below. absurd (not_over a known limit ends.3 there has ends.0)
 
--- A refusal was said with a status: that of the command, or want of memory for its line
+-- A refusal was said with a status: that of the command, or out of memory for its line
 pub record Refused (request : Option Asked) (known : Option Paths) (old new : FaultCounts) (bytes bytes_now : Option (List ℕ)) (faults faults_now status : ℕ) : Type 0 where
   pub error : ToolError
   pub ends : Ends request known old new (Err error)

@@ -263,7 +263,7 @@ module _ {L G : Type 0} (d : Devices L G) (m : Manager L G) (r : RelationFork) (
           (λ (x : IsLogged (rule_at r) c.state.log (file_at d.synced log known) block old new). x)
           (each_either block old new was at unfailed)
 
-      -- behind the log's bytes stands only what a failure left
+      -- after the log's bytes there is only what a failure left
       begins_with : (mark : Option ℕ) → IsLog d log mark c.state.device → (mark ≡ None → c.state.device.bytes ≡ log_bytes c.state.names c.state.log) → BeginsWith c.state.names c.state.log (file_at d.synced log known)
       begins_with None device whole = record { rest = []; short = omega arith; is_bytes = sym (device.bytes known told) ∙ whole refl ∙ sym (append-nil (log_bytes c.state.names c.state.log)) }
       begins_with (Some p) device whole =

@@ -50,7 +50,7 @@ impl Gate for OpenGate {
     fn seen(&self, _worker: u32, _pinned: &Pinned) {}
 }
 
-/// The words behind the program's name; none where they are no UTF-8 text.
+/// The words after the program's name; none if they aren't UTF-8 text.
 fn words(rt: &HostRuntime) -> Result<Vec<String>, AllocError> {
     match env::args(rt) {
         Ok(args) => args.skip(1).collect(rt.alloc()),

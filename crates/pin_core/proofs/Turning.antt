@@ -45,7 +45,7 @@ naming_keeps pt h new a b e = record {
   others = λ t n m q c le d. grind (arith, q, c, d, a, b, e, le holders);
 }
 
--- who doesn't hold a latch may be forgotten there
+-- a view without a latch may be left out of the sum there
 pub turn_forgets : (pt : Partition) (h h' : PartitionHold) → h.held ≡ false → h'.held ≡ false → h'.out ≡ None → h'.change ≡ Settled → h'.changed ≡ false → h'.seen ≡ None → TurnKeeps pt h pt h'
 turn_forgets pt h h' a b out settled unchanged unseen = record {
   column = λ t t' q c sums le _. grind (arith, q, c, a, b, sums holders, le holders);

@@ -122,6 +122,6 @@ TurnsAreHeld s = (p : ℕ) → p < s.partitions → (count_by (holds_turn p) s.v
 abbrev pub MapsAreAsSeen : State → Type 0
 MapsAreAsSeen s = (i p : ℕ) (v : View) (entries : List MapEntry) → get_elem? s.views i ≡ some v → p < s.partitions → (hold v p).seen ≡ Some entries → (hold v p).out ≡ None → (s.partition p).map ≡ found entries
 
--- where a view holds the latch of a partition, and hasn't its map out, no view has it out
+-- if a view holds the latch of a partition and doesn't have its map out, no view has it out
 abbrev pub MapsAreHome : State → Type 0
 MapsAreHome s = (i j p : ℕ) (v u : View) → get_elem? s.views i ≡ some v → get_elem? s.views j ≡ some u → p < s.partitions → (hold v p).held ≡ true → (hold v p).out ≡ None → (hold u p).out ≡ None

@@ -111,7 +111,7 @@ pub record TurnLaw (pt : Partition) (t : TurnTally → ℕ) : Type 0 where
 pub record HoldLaw (pt : Partition) (h : PartitionHold) : Type 0 where
   -- the pair in change is the one that the holder of the latch has named, and not yet entered or left out
   pub owed : h.held ≡ true → owed_by h.changed h.change ≡ pt.owed
-  -- who doesn't hold the latch has neither the map nor a pair
+  -- a view without the latch has neither the map nor a pair
   pub resting : h.held ≡ false → (h.out ≡ None) × (h.change ≡ Settled) × (h.changed ≡ false)
   -- the map that is out is the map as it went out, with the change that was made
   pub out : (entries : List MapEntry) → h.out ≡ Some entries → pt.map ≡ map_now h.changed h.change (found entries)
@@ -119,7 +119,7 @@ pub record HoldLaw (pt : Partition) (h : PartitionHold) : Type 0 where
   pub made : h.changed ≡ true → h.out ≡ None → h.change ≡ Settled
   -- a map that isn't out is as the holder saw it last
   pub seen : (entries : List MapEntry) → h.seen ≡ Some entries → h.out ≡ None → pt.map ≡ found entries
-  -- who doesn't hold the latch knows nothing of the map
+  -- a view without the latch knows nothing of the map
   pub unseen : h.held ≡ false → h.seen ≡ None
 
 abbrev pub turn_part : Part turn_shape

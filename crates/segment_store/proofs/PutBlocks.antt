@@ -34,7 +34,7 @@ module _ (fork : Fork) (lanes : List (Option Pages)) (first : ℕ) (bytes : List
   length-pages_at : (count : ℕ) → length (pages_in fork lanes first (first_blocks bytes count)) ≡ count
   length-pages_at count = length-pages_in fork lanes first (first_blocks bytes count) ∙ length-first bytes count
 
-  -- the bytes are what was put and what was there behind it
+  -- the bytes are what was put and what was there after it
   pub bytes_are : (count : ℕ) → bytes_at count ≡ prefix_at count ++ drop (8192 * count) bytes
   bytes_are count = ap (λ (n : ℕ). prefix_at count ++ drop (8192 * n) bytes) (length-pages_at count)
 

@@ -11,7 +11,7 @@ use Rattle.segment_store.specs.Relation.{block_at, segment_pages, first_blocks}
 use Rattle.segment_store.specs.Restored.{restored, with_pages}
 use Rattle.segment_store.specs.ReadBack.{ReadsBack}
 
--- the block after so many is that of the bytes behind the first block
+-- the block after so many is that of the bytes after the first block
 block_after : (bytes : List ℕ) (place : ℕ) → block_at bytes (place + 1) ≡ block_at (drop 8192 bytes) place
 unfolding block_at
 block_after bytes place =
@@ -24,7 +24,7 @@ blocks_after : (bytes : List ℕ) (place count : ℕ) → map (block_at bytes) (
 blocks_after bytes place zero = refl
 blocks_after bytes place (suc count) = ap₂ (λ (page : List ℕ) (pages : List (List ℕ)). page ∷ pages) (block_after bytes place) (blocks_after bytes (place + 1) count)
 
--- the first block, and those of the bytes behind it
+-- the first block, and those of the bytes after it
 first_then : (bytes : List ℕ) (count : ℕ) → first_blocks bytes (suc count) ≡ block_at bytes 0 ∷ first_blocks (drop 8192 bytes) count
 first_then bytes count = ap (λ (pages : List (List ℕ)). block_at bytes 0 ∷ pages) (blocks_after bytes 0 count)
 
@@ -72,7 +72,7 @@ size_same pages bytes whole fits =
     let both = length-append (concat pages) (drop (8192 * length pages) bytes) in
     omega arith
 
--- pages in the place of the first of two lists, and behind that of the other
+-- pages in the place of the first of two lists, and after that, of the other
 joined : {X : Type 0} (n : ℕ) (pages firsts others : List X) → length firsts ≡ n
     → (take n pages ++ drop (length (take n pages)) firsts) ++ (drop n pages ++ drop (length (drop n pages)) others) ≡ pages ++ drop (length pages) (firsts ++ others)
 joined zero pages [] others size = refl

@@ -32,7 +32,7 @@ block_then bytes place =
     let at : 8192 * (place + 1) ≡ 8192 * place + 8192 = omega arith in
     ap (λ (n : ℕ). block_at bytes place ++ drop n bytes) at ∙ sym (drop_split bytes (8192 * place) (8192 * place + 8192) (omega arith))
 
--- the first blocks and the bytes behind them are all the bytes
+-- the first blocks and the bytes after them are all the bytes
 pub concat-first : (bytes : List ℕ) (count : ℕ) → concat (first_blocks bytes count) ++ drop (8192 * count) bytes ≡ bytes
 concat-first bytes zero = refl
 concat-first bytes (suc count) = subst (λ (n : ℕ). concat (first_blocks bytes n) ++ drop (8192 * n) bytes ≡ bytes) (add-one count)

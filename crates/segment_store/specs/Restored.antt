@@ -13,7 +13,7 @@ abbrev pub pages_in : Fork → List (Option Pages) → ℕ → List (List ℕ) �
 pages_in fork lanes block [] = []
 pages_in fork lanes block (page ∷ pages) = unwrap_or (page_in lanes (tag_at fork block)) page ∷ pages_in fork lanes (block + 1) pages
 
--- a segment that begins with these pages, the bytes behind them being as they were
+-- a segment that begins with these pages, the bytes after them being as they were
 abbrev pub with_pages : List (List ℕ) → List ℕ → List ℕ
 with_pages pages bytes = concat pages ++ drop (8192 * length pages) bytes
 

@@ -30,7 +30,7 @@ pub trait BlockLane {
     /// How many calls were made.
     ghost calls: { Self → ℕ };
 
-    /// Reads a block of the lane into the page. After a failed read the page is any.
+    /// Reads a block of the lane into the page. After a failed read its contents are unspecified.
     fn read(&mut self, tag: Tag, page: &mut Page) -> Result<(), Failed>
         requires { ForSome (contents self.old) (λ pages. IsSome (pages tag)) }
         ensures page { OnOk result (IfSome (contents self.old) (λ pages. pages tag ≡ Some page.new)) }

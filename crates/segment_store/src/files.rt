@@ -147,7 +147,7 @@ struct OpenedFiles<F: Drop> {
     identities: Vec<FileIdentity>,
 }
 
-/// The path of a segment: the plain one, or with the segment's number behind a point.
+/// The path of a segment: the plain one, or with a dot and the segment's number.
 fn segment_path(alloc: Global, path: &str, segment: u32) -> Result<String, AllocError> {
     if segment == 0 {
         return String::from_str(alloc, path);

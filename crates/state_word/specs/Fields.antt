@@ -89,8 +89,8 @@ dirtied_fields s = record s { dirty = true; just_dirtied = true }
 abbrev pub assigned_fields : StateWord → StateWord
 assigned_fields s = record s { tag_valid = true; permanent = true; usage = 1 }
 
--- the frame has no block any more (`InvalidateVictimBuffer`): what is left is who pins it, who has its
--- header locked and who waits for it
+-- the frame has no block any more (`InvalidateVictimBuffer`): what is left is its pins, its header
+-- lock and its waiter
 abbrev pub cleared_fields : StateWord → StateWord
 cleared_fields s = record {
   pins = s.pins;

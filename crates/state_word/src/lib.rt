@@ -98,7 +98,7 @@ pub fn pinned(word: u64, ring: bool) -> u64
     }
 }
 
-/// The word with one more pin, by the holder of the header, who unlocks it so; the usage count stays
+/// The word with one more pin, by the holder of the header, which unlocks it; the usage count stays
 /// (`PinBuffer_Locked`).
 pub fn pinned_by_holder(word: u64) -> u64
     requires { (fields word).pins < MAX_PINS }

@@ -50,7 +50,7 @@ length_set (x ∷ l) zero b = refl
 length_set (x ∷ l) (suc i) b = ap suc (length_set l i b)
 
 module _ {L G : Type 0} where
-  -- The first i values are left, and the lanes behind them were taken
+  -- The first i values are left, and the lanes after them were taken
   pub record Left (xs : List (Value L G)) (filled : List Bool) (i : ℕ) (lanes : List L) : Type 0 where
     pub wide : length filled ≡ length xs
     pub within : i ≤ length xs
@@ -93,7 +93,7 @@ module _ {L G : Type 0} where
     unfolding HasNoDevices
     left_list v is = plain_right (take i xs) (value.Lanes v ∷ []) (subst HasNoDevices (take_more xs i (i + 1) y refl at ∙ ap (λ (z : Value L G). take i xs ++ z ∷ []) is) h.plain)
 
-  -- a slot behind the others
+  -- a slot after the others
   module _ (xs : List (Value L G)) (g : NotedLog G) (list : Vec L Global) (ends : EndsWith g list xs) where
     abbrev m : ℕ
     m = length ends.others
@@ -235,7 +235,7 @@ module _ {L G : Type 0} where
   lane_of v (value.Lane w) = w
   lane_of v _ = v
 
-  -- one more value before them, one more of them, and one more behind them
+  -- one more value before them, one more of them, and one more after them
   those_before : (y : Value L G) (l : List (Value L G)) (a k : ℕ) → lanes_among (y ∷ []) ≡ [] → AreThose a k l → AreThose (suc a) k (y ∷ l)
   those_before y l a k none h = record { counted = ap (λ (z : List L). length z) (no_lane y l none) ∙ h.counted; each = λ q i v is low e. ap (λ (z : List L). get_elem? z q) (no_lane y l none) ∙ moved q i v is low e }
     where

@@ -132,7 +132,7 @@ lane_numbered L G q k n [] l e at = absurd (some-ne-none l (sym at))
 lane_numbered L G q zero n (x ∷ ls) l e at = ap (λ (y : L). some (home_lane {L = L} {G = G} q y)) (some-injective x l at) ∙ ap (λ (m : ℕ). some (home_lane {L = L} {G = G} m l)) {x = q} {y = n} (omega (arith, e))
 lane_numbered L G q (suc k) n (x ∷ ls) l e at = lane_numbered L G (q + 1) k n ls l (omega (arith, e)) at
 
--- one more lane was put behind the values, by the number of its place
+-- one more lane was put after the values, by the number of its place
 pub laid_lane : {L G : Type 0} (slots slots' : List (Value L G)) (lanes rest : List L) (l : L) (n m : ℕ) (all : List (Value L G)) → lanes ≡ rest ++ l ∷ [] → slots' ≡ slots ++ home_lane n l ∷ [] → m ≡ n + 1 → slots ++ home_lanes n (reverse lanes) ≡ all → slots' ++ home_lanes m (reverse rest) ≡ all
 laid_lane slots slots' lanes rest l n m all popped put next done = ap (λ (s : List (Value _ _)). s ++ home_lanes m (reverse rest)) put ∙ append_assoc slots (home_lane n l ∷ []) (home_lanes m (reverse rest))
     ∙ ap (λ (k : ℕ). slots ++ home_lane n l ∷ home_lanes k (reverse rest)) next ∙ ap (λ (ls : List _). slots ++ home_lanes n ls) (sym (ap (λ (ls : List _). reverse ls) popped ∙ reverse-append rest (l ∷ []))) ∙ done

@@ -51,7 +51,7 @@ lane_low lanes low None = low
 lane_low lanes low (Some t) = mod-lt (hash_of t) low
 
 module _ {A : Type 0} where
-  -- what stands in two lists, one behind the other
+  -- what is in two lists, one after the other
   pub left_at : (l m : List A) (i : ℕ) → i < length l → get_elem? (l ++ m) i ≡ get_elem? l i
   left_at [] m i h = absurd (omega arith)
   left_at (x ∷ l) m zero h = refl

@@ -22,7 +22,7 @@ pub record AreBlank (words : List ℕ) (n : ℕ) : Type 0 where
   pub tags : (f : ℕ) → f < n → slice_index words (tag_place f) ≡ no_tag
   pub contents : (f : ℕ) → f < n → slice_index words (content_place f) ≡ 0
 
--- and behind them free latches, and a log that begins and ends at `base` and is flushed
+-- and after them free latches, and a log that begins and ends at `base` and is flushed
 pub record AreOpening (words : List ℕ) (n base : ℕ) : Type 0 where
   pub blank : List ℕ
   pub frames : AreBlank blank n
@@ -62,7 +62,7 @@ module _ {L G : Type 0} where
   abbrev pub AreMaps : ℕ → List (Value L G) → Type 0
   AreMaps n ys = (k : ℕ) (y : Value L G) → get_elem? ys k ≡ some y → GivesMap n y (λ _. None)
 
-  -- as many empty maps were put behind the values
+  -- as many empty maps were put after the values
   pub record AddsMaps (n count : ℕ) (before after : List (Value L G)) : Type 0 where
     pub maps : List (Value L G)
     pub counted : length maps ≡ count
@@ -89,7 +89,7 @@ module _ {L G : Type 0} where
   HasNoDevices (value.Lanes l ∷ ys) = ⊥
   HasNoDevices (value.Away ∷ ys) = HasNoDevices ys
 
-  -- the log and the list stand behind the other values
+  -- the log and the list stand after the other values
   pub record EndsWith (g : NotedLog G) (list : Vec L Global) (ys : List (Value L G)) : Type 0 where
     pub others : List (Value L G)
     pub is : ys ≡ (others ++ value.Log g ∷ []) ++ value.Lanes list ∷ []

@@ -64,7 +64,7 @@ module _ {L : Type 0} (d : LaneDevices L) where
     pub pages : (known : Pages) → d.contents before ≡ Some known → d.contents after ≡ Some (with_page tag page known)
     pub failed : (known : Pages) → d.contents before ≡ Some known → d.failed_writes after ≡ with_mark tag false (d.failed_writes before)
 
-  -- The block of the tag has any page now, and its last write failed
+  -- The page of the tag's block is unspecified now, and its last write failed
   pub record TorePage (tag : Tag) (before after : L) : Type 0 where
     pub unknown : d.contents before ≡ None → d.contents after ≡ None
     pub pages : (known : Pages) → d.contents before ≡ Some known → IsSomeAnd (d.contents after) (IsTorn tag known)

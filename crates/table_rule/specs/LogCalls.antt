@@ -33,7 +33,7 @@ has_failed _ = false
 
 -- A log tells its bytes, where they are known, how many of them are durable, how many calls failed, and how many were made
 module _ {G : Type 0} (bytes : G → Option (List ℕ)) (synced faults calls : G → ℕ) where
-  -- the piece stands behind the bytes that were there
+  -- the piece follows the bytes that were there
   pub record HasAppended (piece : List ℕ) (g g' : G) : Type 0 where
     pub added : bytes g' ≡ option_map (λ old. old ++ piece) (bytes g)
     pub durable : IfSome (bytes g) (λ _. synced g' ≡ synced g)

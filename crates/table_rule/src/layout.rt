@@ -7,10 +7,10 @@ use block_tag::PARTITIONS;
 /// The most lanes of a table.
 pub const MOST_LANES: usize = 16;
 
-/// Where the first lane's latch and slot lie after those of the frames: behind the partitions.
+/// Where the first lane's latch and slot lie after those of the frames: after the partitions'.
 pub const FIRST_LANE: usize = PARTITIONS as usize;
 
-/// Where the log's latch and slot lie after those of the frames: behind the lanes.
+/// Where the log's latch and slot lie after those of the frames: after the lanes'.
 pub const LOG_PLACE: usize = FIRST_LANE + MOST_LANES;
 
 /// How many words follow those of the frames: the latches, the log's end, the flushed position and the clock's hand.

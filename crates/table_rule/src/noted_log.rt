@@ -46,7 +46,7 @@ pub struct NotedLog<G> {
     call: LogCall,
 }
 
-/// Puts bytes behind those in a buffer that has room.
+/// Appends bytes to a buffer that has room.
 fn put_bytes(buffer: &mut Vec<u8>, bytes: &[u8])
     requires { vec_len buffer.old + length bytes.now ≤ vec_capacity buffer.old }
     ensures items { buffer.new.items ≡ buffer.old.items ++ bytes.now }
