@@ -7,7 +7,7 @@ use Rattle.block_tag.specs.declared.catalogue.RelEntry.{RelEntry}
 use Rattle.block_tag.specs.declared.tag.Tag.{Tag}
 use Rattle.block_tag.specs.Names.{lane_number, names_block, packed_tag, unpacked_tag}
 use Rattle.segment_store.specs.Contents.{Pages}
-use Rattle.pin_core.specs.declared.view.Met.{Met}
+use Rattle.pin_core.specs.declared.view.FailedCalls.{FailedCalls}
 use Rattle.pin_core.specs.declared.view.View.{View}
 use Rattle.pin_core.specs.declared.view.Content.TheVariants.{Unlocked}
 use Rattle.pin_core.specs.State.{link}
@@ -51,9 +51,9 @@ numbered_kept number id v w e n = record { number_is = ap (λ (x : View). x.numb
 pub shown_met : (v w : View) (s : Shown) → w.front ≡ v.front → w.met ≡ v.met → IsShown v s → IsShown w s
 shown_met v w s front met n = record {
   front = n.front ∙ sym front;
-  reads = n.reads ∙ ap (λ (m : Met). shown_count m.reads) (sym met);
-  writes = n.writes ∙ ap (λ (m : Met). shown_count m.writes) (sym met);
-  logs = n.logs ∙ ap (λ (m : Met). shown_count m.logs) (sym met);
+  reads = n.reads ∙ ap (λ (m : FailedCalls). shown_count m.reads) (sym met);
+  writes = n.writes ∙ ap (λ (m : FailedCalls). shown_count m.writes) (sym met);
+  logs = n.logs ∙ ap (λ (m : FailedCalls). shown_count m.logs) (sym met);
 }
 
 -- one fault more
@@ -66,28 +66,28 @@ shown_refused v w s PinsFull front met n = shown_met v w s front met n
 shown_refused v w s (NoUnpinned frames) front met n = shown_met v w s front met n
 shown_refused v w s (ReadFault tag) front met n = record {
   front = n.front ∙ sym front;
-  reads = count_on v.met.reads s.met.reads n.reads ∙ ap (λ (m : Met). shown_count m.reads) (sym met);
-  writes = n.writes ∙ ap (λ (m : Met). shown_count m.writes) (sym met);
-  logs = n.logs ∙ ap (λ (m : Met). shown_count m.logs) (sym met);
+  reads = count_on v.met.reads s.met.reads n.reads ∙ ap (λ (m : FailedCalls). shown_count m.reads) (sym met);
+  writes = n.writes ∙ ap (λ (m : FailedCalls). shown_count m.writes) (sym met);
+  logs = n.logs ∙ ap (λ (m : FailedCalls). shown_count m.logs) (sym met);
 }
 shown_refused v w s (WriteFault tag) front met n = record {
   front = n.front ∙ sym front;
-  reads = n.reads ∙ ap (λ (m : Met). shown_count m.reads) (sym met);
-  writes = count_on v.met.writes s.met.writes n.writes ∙ ap (λ (m : Met). shown_count m.writes) (sym met);
-  logs = n.logs ∙ ap (λ (m : Met). shown_count m.logs) (sym met);
+  reads = n.reads ∙ ap (λ (m : FailedCalls). shown_count m.reads) (sym met);
+  writes = count_on v.met.writes s.met.writes n.writes ∙ ap (λ (m : FailedCalls). shown_count m.writes) (sym met);
+  logs = n.logs ∙ ap (λ (m : FailedCalls). shown_count m.logs) (sym met);
 }
 shown_refused v w s LogFault front met n = record {
   front = n.front ∙ sym front;
-  reads = n.reads ∙ ap (λ (m : Met). shown_count m.reads) (sym met);
-  writes = n.writes ∙ ap (λ (m : Met). shown_count m.writes) (sym met);
-  logs = count_on v.met.logs s.met.logs n.logs ∙ ap (λ (m : Met). shown_count m.logs) (sym met);
+  reads = n.reads ∙ ap (λ (m : FailedCalls). shown_count m.reads) (sym met);
+  writes = n.writes ∙ ap (λ (m : FailedCalls). shown_count m.writes) (sym met);
+  logs = count_on v.met.logs s.met.logs n.logs ∙ ap (λ (m : FailedCalls). shown_count m.logs) (sym met);
 }
 shown_refused v w s (LogDown at) front met n = shown_met v w s front met n
 shown_refused v w s (LogShort lsn end) front met n = shown_met v w s front met n
 shown_refused v w s (Unsound tag) front met n = shown_met v w s front met n
 
 -- the faults of the frames' refusal are those of the pass's
-pub met_of_refusal : (why : BlockError) (m : Met) → met_read_block (Err why) m ≡ met_read_refused (read_refusal why) m
+pub met_of_refusal : (why : BlockError) (m : FailedCalls) → met_read_block (Err why) m ≡ met_read_refused (read_refusal why) m
 met_of_refusal (block.NoFrame (victim.NoUnpinned frames)) m = refl
 met_of_refusal (block.NoFrame (victim.Flush (flush.WriteFault tag))) m = refl
 met_of_refusal (block.NoFrame (victim.Flush (flush.Log log.LogFault))) m = refl

@@ -5,7 +5,7 @@ use Rattle.block_tag.specs.declared.catalogue.RelEntry.{RelEntry}
 use Rattle.block_tag.specs.declared.tag.Tag.{Tag}
 use Rattle.block_tag.specs.Catalogue.{blocks_at}
 use Rattle.segment_store.specs.Contents.{Pages}
-use Rattle.pin_core.specs.declared.view.Met.{Met}
+use Rattle.pin_core.specs.declared.view.FailedCalls.{FailedCalls}
 use Rattle.pin_core.specs.declared.view.View.{View}
 use Rattle.frame_table.specs.declared.table.FrameTable.{FrameTable}
 use Rattle.wal_flush.specs.declared.flushes.FlushLog.TheVariants as log
@@ -43,9 +43,9 @@ module _ {L G : Type 0} (contents : L → Option Pages) (t : FrameTable L G) whe
   refused_none tag p q (PastEnd block blocks) met n r = r
   refused_none tag p q PinsFull met n r = r
   refused_none tag p q (NoUnpinned frames) met n r = tt
-  refused_none tag p q (ReadFault failed) met n r = one_more p.view.met.reads q.view.met.reads (ap (λ (m : Met). m.reads) met) (ap (λ (m : Met). m.reads) n.met)
-  refused_none tag p q (WriteFault failed) met n r = one_more p.view.met.writes q.view.met.writes (ap (λ (m : Met). m.writes) met) (ap (λ (m : Met). m.writes) n.met)
-  refused_none tag p q LogFault met n r = one_more p.view.met.logs q.view.met.logs (ap (λ (m : Met). m.logs) met) (ap (λ (m : Met). m.logs) n.met)
+  refused_none tag p q (ReadFault failed) met n r = one_more p.view.met.reads q.view.met.reads (ap (λ (m : FailedCalls). m.reads) met) (ap (λ (m : FailedCalls). m.reads) n.met)
+  refused_none tag p q (WriteFault failed) met n r = one_more p.view.met.writes q.view.met.writes (ap (λ (m : FailedCalls). m.writes) met) (ap (λ (m : FailedCalls). m.writes) n.met)
+  refused_none tag p q LogFault met n r = one_more p.view.met.logs q.view.met.logs (ap (λ (m : FailedCalls). m.logs) met) (ap (λ (m : FailedCalls). m.logs) n.met)
   refused_none tag p q (LogDown at) met n r = not_up q.view r.after r.answer.work.shows.2 (ap (λ (x : View). x.saw_down) r.until) n.up
   refused_none tag p q (LogShort lsn end) met n r = logged_none p q lsn end n r
   refused_none tag p q (Unsound failed) met n r = tt

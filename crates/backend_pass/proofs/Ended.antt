@@ -11,7 +11,7 @@ use Rattle.grid.proofs.Sums.{total-alone, total-none}
 use Rattle.pin_core.specs.declared.view.Call.{Call}
 use Rattle.pin_core.specs.declared.view.LaneHold.{LaneHold}
 use Rattle.pin_core.specs.declared.view.LogHold.{LogHold}
-use Rattle.pin_core.specs.declared.view.Met.{Met}
+use Rattle.pin_core.specs.declared.view.FailedCalls.{FailedCalls}
 use Rattle.pin_core.specs.declared.view.View.{View}
 use Rattle.pin_core.specs.State.{emptied_view, joined_view, kept_checkpoint, lane_hold, no_lane, sum_of_met}
 use Rattle.pin_core.specs.Steps.{HoldsNothing}
@@ -77,10 +77,10 @@ met_split (x ∷ xs) (suc k) s = ap (sum_of_met x.view.met) (met_split xs k (at_
     ∙ ap (λ (v : View). sum_of_met v.met (sum_of_met x.view.met (met_by_passes (others_in xs)))) (sym (first_past x xs s.before.0))
     ∙ ap (λ (l : List PassState). sum_of_met (first_in (x ∷ xs)).met (met_by_passes l)) (sym (others_past x xs s.before.0))
   where
-    same : (a b : Met) → a.reads ≡ b.reads → a.writes ≡ b.writes → a.logs ≡ b.logs → a ≡ b
+    same : (a b : FailedCalls) → a.reads ≡ b.reads → a.writes ≡ b.writes → a.logs ≡ b.logs → a ≡ b
     same a b p q r k = record { reads = p k; writes = q k; logs = r k }
 
-    swap : (a b c : Met) → sum_of_met a (sum_of_met b c) ≡ sum_of_met b (sum_of_met a c)
+    swap : (a b c : FailedCalls) → sum_of_met a (sum_of_met b c) ≡ sum_of_met b (sum_of_met a c)
     swap a b c = same (sum_of_met a (sum_of_met b c)) (sum_of_met b (sum_of_met a c)) (omega arith) (omega arith) (omega arith)
 
 -- A view that took in the view u
@@ -245,7 +245,7 @@ module _ (s : State) (h : Laws s) (w : View) (there : get_elem? s.pool.core.view
   unmarked ps met output e = let q = quiet_where_unmarked e in record {
     clean = q.frames;
     unfailed = q.blocks;
-    met = ap (λ (m : Met). m.writes) met ∙ (q.views 0 w there).met;
+    met = ap (λ (m : FailedCalls). m.writes) met ∙ (q.views 0 w there).met;
     output = λ i p at. none_so p.view.had_output w.had_output (output i p at) (q.views 0 w there).output;
   }
 
@@ -284,13 +284,13 @@ module _ {L G : Type 0} where
     bytes = λ up. holds_bytes s h w c.first c.others (ap (λ (l : LogHold). l.appended) (j.log ∙ r.quiet.log)) (c.device.down ∙ up);
     history = subst (IsHistory s.known s.origin s.log) (j.calls ∙ ap (λ (u : View). u.calls ++ calls_of_passes (others_in ps)) (sym first)) (history s h w c.first c.others);
     each = each;
-    reads_rose = λ more. reads_rose s h w c.first c.others (subst (λ (m : Met). 0 < m.reads) met more);
-    writes_rose = λ more. writes_rose s h w c.first c.others (subst (λ (m : Met). 0 < m.writes) met more);
-    logs_rose = λ more. logs_rose s h w c.first c.others (subst (λ (m : Met). 0 < m.logs) met more);
-    reads_met = λ q inside more. subst (λ (m : Met). 0 < m.reads) (sym met) (reads_met s h w c.first c.others free quiet q inside more);
-    writes_met = λ q inside more. subst (λ (m : Met). 0 < m.writes) (sym met) (writes_met s h w c.first c.others free quiet q inside more);
-    logs_met = λ more. subst (λ (m : Met). 0 < m.logs) (sym met) (logs_met s h w c.first c.others free quiet more);
-    failed_met = λ tag e. subst (λ (m : Met). 0 < m.writes) (sym met) (failed_met s h w c.first c.others free quiet tag e);
+    reads_rose = λ more. reads_rose s h w c.first c.others (subst (λ (m : FailedCalls). 0 < m.reads) met more);
+    writes_rose = λ more. writes_rose s h w c.first c.others (subst (λ (m : FailedCalls). 0 < m.writes) met more);
+    logs_rose = λ more. logs_rose s h w c.first c.others (subst (λ (m : FailedCalls). 0 < m.logs) met more);
+    reads_met = λ q inside more. subst (λ (m : FailedCalls). 0 < m.reads) (sym met) (reads_met s h w c.first c.others free quiet q inside more);
+    writes_met = λ q inside more. subst (λ (m : FailedCalls). 0 < m.writes) (sym met) (writes_met s h w c.first c.others free quiet q inside more);
+    logs_met = λ more. subst (λ (m : FailedCalls). 0 < m.logs) (sym met) (logs_met s h w c.first c.others free quiet more);
+    failed_met = λ tag e. subst (λ (m : FailedCalls). 0 < m.writes) (sym met) (failed_met s h w c.first c.others free quiet tag e);
     unmarked = λ none. unmarked s h w c.first c.others ps met output (no_mark none);
     without_puts = λ none. without_puts s h w c.first c.others ps (no_write none) each;
   }

@@ -7,7 +7,7 @@ use Rattle.block_tag.specs.declared.tag.Tag.{Tag}
 use Rattle.block_tag.specs.Names.{names_block, packed_tag, tag_if_named, unpacked_tag}
 use Rattle.segment_store.specs.Contents.{Pages}
 use Rattle.pin_core.specs.declared.view.Content.TheVariants.{Unlocked}
-use Rattle.pin_core.specs.declared.view.Met.{Met}
+use Rattle.pin_core.specs.declared.view.FailedCalls.{FailedCalls}
 use Rattle.pin_core.specs.declared.view.View.{View}
 use Rattle.pin_core.specs.State.{link}
 use Rattle.table_rule.specs.Blocks.{has_block, has_named, is_block}
@@ -48,30 +48,30 @@ locks_worked f v w work before after = same_locks_at f v w work.others (after �
 pub shown_logged : (v w : View) (s : Shown) → w.front ≡ v.front → w.met ≡ met_log v.met → IsShown v s → IsShown w (shown_log s)
 shown_logged v w s front met n = record {
   front = n.front ∙ sym front;
-  reads = n.reads ∙ ap (λ (m : Met). shown_count m.reads) (sym met);
-  writes = n.writes ∙ ap (λ (m : Met). shown_count m.writes) (sym met);
-  logs = count_on v.met.logs s.met.logs n.logs ∙ ap (λ (m : Met). shown_count m.logs) (sym met);
+  reads = n.reads ∙ ap (λ (m : FailedCalls). shown_count m.reads) (sym met);
+  writes = n.writes ∙ ap (λ (m : FailedCalls). shown_count m.writes) (sym met);
+  logs = count_on v.met.logs s.met.logs n.logs ∙ ap (λ (m : FailedCalls). shown_count m.logs) (sym met);
 }
 
 pub shown_not_flushed : (v w : View) (s : Shown) (why : FlushError) → w.front ≡ v.front → w.met ≡ met_flushing {A = Bool} (Err (frame_refusal why)) v.met → IsShown v s → IsShown w (shown_unflushed why s)
 shown_not_flushed v w s (WriteFault tag) front met n = record {
   front = n.front ∙ sym front;
-  reads = n.reads ∙ ap (λ (m : Met). shown_count m.reads) (sym met);
-  writes = count_on v.met.writes s.met.writes n.writes ∙ ap (λ (m : Met). shown_count m.writes) (sym met);
-  logs = n.logs ∙ ap (λ (m : Met). shown_count m.logs) (sym met);
+  reads = n.reads ∙ ap (λ (m : FailedCalls). shown_count m.reads) (sym met);
+  writes = count_on v.met.writes s.met.writes n.writes ∙ ap (λ (m : FailedCalls). shown_count m.writes) (sym met);
+  logs = n.logs ∙ ap (λ (m : FailedCalls). shown_count m.logs) (sym met);
 }
 shown_not_flushed v w s LogFault front met n = shown_logged v w s front met n
 shown_not_flushed v w s (LogDown at) front met n = shown_met v w s front met n
 shown_not_flushed v w s (LogShort lsn end) front met n = shown_met v w s front met n
 
-one_more : (m : Met) → m.writes + 1 ≢ m.writes
+one_more : (m : FailedCalls) → m.writes + 1 ≢ m.writes
 one_more m e = omega arith
 
 module _ {L G : Type 0} (contents : L → Option Pages) (t : FrameTable L G) where
   pub flush_complete : (lane : ℕ) (tag : Tag) (f : ℕ) (v w : View) (r : Result Bool FlushError) → FlushAnswer contents t lane tag f v w (frame_answer r) → w.met ≡ met_flushing (frame_answer r) v.met
       → WasWithin contents t tag v.end_seen → w.saw_down ≡ false → w.met ≡ v.met → IsOk r
   flush_complete lane tag f v w (Ok wrote) a met within up none = refl
-  flush_complete lane tag f v w (Err (WriteFault failed)) a met within up none = absurd (one_more v.met (ap (λ (m : Met). m.writes) (sym met ∙ none)))
+  flush_complete lane tag f v w (Err (WriteFault failed)) a met within up none = absurd (one_more v.met (ap (λ (m : FailedCalls). m.writes) (sym met ∙ none)))
   flush_complete lane tag f v w (Err LogFault) a met within up none = absurd (let e = a.work.shows in cc)
   flush_complete lane tag f v w (Err (LogDown at)) a met within up none = absurd (let e = a.work.shows.2 in cc)
   flush_complete lane tag f v w (Err (LogShort lsn end)) a met within up none = absurd (

@@ -4,7 +4,7 @@ use Rattle.std.specs.Prelude.{◌||◌}
 use mathlib.Core.Option.{some}
 use lib.ListN.{get_elem?}
 use Rattle.atomic_table.specs.Seated.{TableId}
-use Rattle.pin_core.specs.declared.view.Met.{Met}
+use Rattle.pin_core.specs.declared.view.FailedCalls.{FailedCalls}
 use Rattle.pin_core.specs.declared.view.View.{View}
 use Rattle.pin_core.specs.declared.view.LaneHold.{LaneHold}
 use Rattle.pin_core.specs.declared.view.LogHold.{LogHold}
@@ -100,16 +100,16 @@ or_true : (a b : Bool) → a ≡ true → (a || b) ≡ true
 or_true true b e = refl
 or_true false b e = cc
 
-met_sum : (a b c : Met) → sum_of_met (sum_of_met a b) c ≡ sum_of_met a (sum_of_met b c)
+met_sum : (a b c : FailedCalls) → sum_of_met (sum_of_met a b) c ≡ sum_of_met a (sum_of_met b c)
 met_sum a b c = met_same (sum_of_met (sum_of_met a b) c) (sum_of_met a (sum_of_met b c)) (omega arith) (omega arith) (omega arith)
   where
-    met_same : (x y : Met) → x.reads ≡ y.reads → x.writes ≡ y.writes → x.logs ≡ y.logs → x ≡ y
+    met_same : (x y : FailedCalls) → x.reads ≡ y.reads → x.writes ≡ y.writes → x.logs ≡ y.logs → x ≡ y
     met_same x y p q r k = record { reads = p k; writes = q k; logs = r k }
 
-met_none : (a : Met) → a ≡ sum_of_met a (record { reads = 0; writes = 0; logs = 0 })
+met_none : (a : FailedCalls) → a ≡ sum_of_met a (record { reads = 0; writes = 0; logs = 0 })
 met_none a = met_same a (sum_of_met a (record { reads = 0; writes = 0; logs = 0 })) (omega arith) (omega arith) (omega arith)
   where
-    met_same : (x y : Met) → x.reads ≡ y.reads → x.writes ≡ y.writes → x.logs ≡ y.logs → x ≡ y
+    met_same : (x y : FailedCalls) → x.reads ≡ y.reads → x.writes ≡ y.writes → x.logs ≡ y.logs → x ≡ y
     met_same x y p q r k = record { reads = p k; writes = q k; logs = r k }
 
 pub joins : (v : View) (ps : List PassState) → Joins v (joined_views v ps) ps

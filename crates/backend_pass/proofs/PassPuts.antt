@@ -7,7 +7,7 @@ use Rattle.page_layout.specs.Fields.{with_lsn}
 use Rattle.segment_store.specs.Contents.{Pages}
 use Rattle.pin_core.specs.declared.view.Call.TheVariants.{Write}
 use Rattle.pin_core.specs.declared.view.Content.TheVariants.{Exclusive}
-use Rattle.pin_core.specs.declared.view.Met.{Met}
+use Rattle.pin_core.specs.declared.view.FailedCalls.{FailedCalls}
 use Rattle.pin_core.specs.declared.view.View.{View}
 use Rattle.pin_core.specs.State.{Page, link}
 use Rattle.history_core.specs.Log.{IsFront}
@@ -46,9 +46,9 @@ numbered_put f number id v w p n = record { number_is = ap (λ (x : View). x.num
 pub shown_put : (v w : View) (s : Shown) (lsn : ℕ) → w.front ≡ lsn → w.met ≡ v.met → IsShown v s → IsShown w (record s { front = lsn })
 shown_put v w s lsn front met n = record {
   front = sym front;
-  reads = n.reads ∙ ap (λ (m : Met). shown_count m.reads) (sym met);
-  writes = n.writes ∙ ap (λ (m : Met). shown_count m.writes) (sym met);
-  logs = n.logs ∙ ap (λ (m : Met). shown_count m.logs) (sym met);
+  reads = n.reads ∙ ap (λ (m : FailedCalls). shown_count m.reads) (sym met);
+  writes = n.writes ∙ ap (λ (m : FailedCalls). shown_count m.writes) (sym met);
+  logs = n.logs ∙ ap (λ (m : FailedCalls). shown_count m.logs) (sym met);
 }
 
 pub shown_not_put : (v w : View) (s : Shown) (why : InsertError) → w.front ≡ v.front → w.met ≡ met_put (Err why) v.met → IsShown v s → IsShown w (shown_unput why s)

@@ -7,7 +7,7 @@ use Rattle.block_tag.specs.Names.{lane_number}
 use Rattle.log_device.specs.declared.device.Failed.{Failed}
 use Rattle.segment_store.specs.Contents.{Pages}
 use Rattle.pin_core.specs.declared.view.Load.{Load}
-use Rattle.pin_core.specs.declared.view.Met.{Met}
+use Rattle.pin_core.specs.declared.view.FailedCalls.{FailedCalls}
 use Rattle.pin_core.specs.declared.view.View.{View}
 use Rattle.pin_core.specs.Kinds.{load_of}
 use Rattle.pin_core.specs.State.{link}
@@ -112,9 +112,9 @@ pub shown_lane : (lane : ℕ) (v w : View) (s : Shown) (r : Result Unit Failed) 
 shown_lane lane v w s (Ok done) e n = shown_met v w s (ap (λ (x : View). x.front) e) (ap (λ (x : View). x.met) e) n
 shown_lane lane v w s (Err failed) e n = let met = ap (λ (x : View). x.met) e in record {
   front = n.front ∙ sym (ap (λ (x : View). x.front) e);
-  reads = n.reads ∙ ap (λ (m : Met). shown_count m.reads) (sym met);
-  writes = count_on v.met.writes s.met.writes n.writes ∙ ap (λ (m : Met). shown_count m.writes) (sym met);
-  logs = n.logs ∙ ap (λ (m : Met). shown_count m.logs) (sym met);
+  reads = n.reads ∙ ap (λ (m : FailedCalls). shown_count m.reads) (sym met);
+  writes = count_on v.met.writes s.met.writes n.writes ∙ ap (λ (m : FailedCalls). shown_count m.writes) (sym met);
+  logs = n.logs ∙ ap (λ (m : FailedCalls). shown_count m.logs) (sym met);
 }
 
 pub kept_synced : (lane : ℕ) (done : Bool) (v w : View) → work_of w ≡ synced_work lane done v → kept_by_calls w ≡ record (kept_by_calls v) { dirtied_or_synced = true }

@@ -3,7 +3,7 @@ use Rattle.std.specs.Prelude.{◌≡◌, ◌≢◌, ◌<◌, ◌≤◌, ℕ, tru
 use mathlib.Core.Option.{some}
 use lib.ListN.{get_elem?}
 use Rattle.pin_core.specs.declared.view.Call.{Call}
-use Rattle.pin_core.specs.declared.view.Met.{Met}
+use Rattle.pin_core.specs.declared.view.FailedCalls.{FailedCalls}
 use Rattle.pin_core.specs.declared.view.View.{View}
 use Rattle.pin_core.specs.State.{emptied_view, joined_view, lane_hold, sum_of_met}
 use Rattle.pin_core.specs.Steps.{HoldsNothing}
@@ -27,7 +27,7 @@ abbrev pub calls_in_order : List PassState → List Call
 calls_in_order ps = (first_in ps).calls ++ calls_of_passes (others_in ps)
 
 -- the faults that they met, in all
-abbrev pub met_by_passes : List PassState → Met
+abbrev pub met_by_passes : List PassState → FailedCalls
 met_by_passes [] = record { reads = 0; writes = 0; logs = 0 }
 met_by_passes (p ∷ ps) = sum_of_met p.view.met (met_by_passes ps)
 

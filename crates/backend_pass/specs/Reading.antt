@@ -7,7 +7,7 @@ use Rattle.block_tag.specs.Names.{lane_number, names_block, packed_tag}
 use Rattle.segment_store.specs.Contents.{Pages}
 use Rattle.pin_core.specs.declared.view.Content.TheVariants.{Unlocked}
 use Rattle.pin_core.specs.declared.view.DeviceCall.TheVariants.{LaneRead}
-use Rattle.pin_core.specs.declared.view.Met.{Met}
+use Rattle.pin_core.specs.declared.view.FailedCalls.{FailedCalls}
 use Rattle.pin_core.specs.declared.view.View.{View}
 use Rattle.pin_core.specs.State.{link}
 use Rattle.table_rule.specs.Blocks.{has_block}
@@ -56,7 +56,7 @@ read_refusal (block.ReadFault tag) = ReadFault tag
 read_refusal (block.Unsound tag) = Unsound tag
 
 -- the faults that were met, by the refusal, and by the answer
-abbrev pub met_read_refused : ReadError → Met → Met
+abbrev pub met_read_refused : ReadError → FailedCalls → FailedCalls
 met_read_refused (PastEnd block blocks) m = m
 met_read_refused PinsFull m = m
 met_read_refused (NoUnpinned frames) m = m
@@ -67,7 +67,7 @@ met_read_refused (LogDown at) m = m
 met_read_refused (LogShort lsn end) m = m
 met_read_refused (Unsound tag) m = m
 
-abbrev pub met_reading : Result Pinned ReadError → Met → Met
+abbrev pub met_reading : Result Pinned ReadError → FailedCalls → FailedCalls
 met_reading (Ok pinned) m = m
 met_reading (Err why) m = met_read_refused why m
 

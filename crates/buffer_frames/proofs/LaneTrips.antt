@@ -13,7 +13,7 @@ use Rattle.pin_core.specs.declared.view.DeviceCall.{DeviceCall}
 use Rattle.pin_core.specs.declared.view.DeviceCall.TheVariants.{LaneRead, LaneWrite}
 use Rattle.pin_core.specs.declared.view.LaneHold.{LaneHold}
 use Rattle.pin_core.specs.declared.view.Link.{Link}
-use Rattle.pin_core.specs.declared.view.Met.{Met}
+use Rattle.pin_core.specs.declared.view.FailedCalls.{FailedCalls}
 use Rattle.pin_core.specs.declared.view.TakenLane.{TakenLane}
 use Rattle.pin_core.specs.declared.view.View.{View}
 use Rattle.pin_core.specs.State.{Page, idle, lane_hold, link, sum_of_met}
@@ -98,7 +98,7 @@ module _ {L : Type 0} (d : LaneDevices L) (q : ℕ) (after : L) (call : LaneCall
   trip_calls = ap (λ (z : View). z.device_calls) left ∙ ap (λ (z : View). z.device_calls) back ∙ ap (λ (l : List DeviceCall). l ++ device_calls_of d q after call) (ap (λ (z : View). z.device_calls) out ∙ ap (λ (z : View). z.device_calls) took)
 
   pub trip_met : w.met ≡ sum_of_met v.met (met_of call)
-  trip_met = ap (λ (z : View). z.met) left ∙ ap (λ (z : View). z.met) back ∙ ap (λ (m : Met). sum_of_met m (met_of call)) (ap (λ (z : View). z.met) out ∙ ap (λ (z : View). z.met) took)
+  trip_met = ap (λ (z : View). z.met) left ∙ ap (λ (z : View). z.met) back ∙ ap (λ (m : FailedCalls). sum_of_met m (met_of call)) (ap (λ (z : View). z.met) out ∙ ap (λ (z : View). z.met) took)
 
 -- a view without a lane may take one out once it has the latch
 pub lane_free : (q : ℕ) (v u : View) → HasNoDevice v → IsTurned true (Lane q) v u → ((lane_hold u q).held ≡ true) × ((lane_hold u q).out ≡ None)
@@ -108,16 +108,16 @@ lane_free q v u n taken = (ap (λ (h : LaneHold). h.held) taken.0, ap (λ (h : L
 pub may_return : {L : Type 0} (d : LaneDevices L) (known : Bool) (relations : List RelEntry) (lanes q flushed : ℕ) (v : View) (h : LaneHold) (before : L) (l : NotedLane L) → l.number ≡ q → lane_hold v q ≡ out_lane (taken_lane d relations lanes q before) flushed h → IsTakenLane d known relations lanes q before → LaneDid d before l.device l.call → MayNote relations lanes q l.call v → MayReturn d known relations lanes q v l
 may_return d known relations lanes q flushed v h before l number out taken did may = record { before = before; number = number; out = ap (λ (k : LaneHold). k.out) out; once = ap (λ (k : LaneHold). k.change) out; taken = taken; did = did; may = may }
 
-no_fault : (m : Met) → sum_of_met m (record { reads = 0; writes = 0; logs = 0 }) ≡ m
-no_fault m = let at : ℕ → ℕ → ℕ → Met = λ a b c. record { reads = a; writes = b; logs = c } in
+no_fault : (m : FailedCalls) → sum_of_met m (record { reads = 0; writes = 0; logs = 0 }) ≡ m
+no_fault m = let at : ℕ → ℕ → ℕ → FailedCalls = λ a b c. record { reads = a; writes = b; logs = c } in
     ap (λ (n : ℕ). at n (m.writes + 0) (m.logs + 0)) (add-zero m.reads) ∙ ap (λ (n : ℕ). at m.reads n (m.logs + 0)) (add-zero m.writes) ∙ ap (λ (n : ℕ). at m.reads m.writes n) (add-zero m.logs)
 
-read_fault : (m : Met) → sum_of_met m (record { reads = 1; writes = 0; logs = 0 }) ≡ met_read m
-read_fault m = let at : ℕ → ℕ → ℕ → Met = λ a b c. record { reads = a; writes = b; logs = c } in
+read_fault : (m : FailedCalls) → sum_of_met m (record { reads = 1; writes = 0; logs = 0 }) ≡ met_read m
+read_fault m = let at : ℕ → ℕ → ℕ → FailedCalls = λ a b c. record { reads = a; writes = b; logs = c } in
     ap (λ (n : ℕ). at (m.reads + 1) n (m.logs + 0)) (add-zero m.writes) ∙ ap (λ (n : ℕ). at (m.reads + 1) m.writes n) (add-zero m.logs)
 
-write_fault : (m : Met) → sum_of_met m (record { reads = 0; writes = 1; logs = 0 }) ≡ met_write m
-write_fault m = let at : ℕ → ℕ → ℕ → Met = λ a b c. record { reads = a; writes = b; logs = c } in
+write_fault : (m : FailedCalls) → sum_of_met m (record { reads = 0; writes = 1; logs = 0 }) ≡ met_write m
+write_fault m = let at : ℕ → ℕ → ℕ → FailedCalls = λ a b c. record { reads = a; writes = b; logs = c } in
     ap (λ (n : ℕ). at n (m.writes + 1) (m.logs + 0)) (add-zero m.reads) ∙ ap (λ (n : ℕ). at m.reads (m.writes + 1) n) (add-zero m.logs)
 
 -- a read of the lane for the frame f and the tag, done or failed
@@ -174,7 +174,7 @@ read_made d q after f tag true (lane_call.Read g t p) v w e m = subst (λ (x : T
 read_made d q after f tag false (lane_call.ReadFailed t) v w e m = subst (λ (x : Tag). Made (LaneRead q (packed_tag x) false ∷ []) v w) e m
 read_made d q after f tag done call v w e m = absurd e
 
-pub read_met : (f : ℕ) (tag : Tag) (done : Bool) (call : LaneCall) (m n : Met) → IsReadCall f tag done call → n ≡ sum_of_met m (met_of call) → n ≡ met_lane_read done m
+pub read_met : (f : ℕ) (tag : Tag) (done : Bool) (call : LaneCall) (m n : FailedCalls) → IsReadCall f tag done call → n ≡ sum_of_met m (met_of call) → n ≡ met_lane_read done m
 read_met f tag true (lane_call.Read g t p) m n e s = s ∙ no_fault m
 read_met f tag false (lane_call.ReadFailed t) m n e s = s ∙ read_fault m
 read_met f tag done call m n e s = absurd e
@@ -232,7 +232,7 @@ write_made d q after f tag page true (lane_call.Written g t p) v w e m = record 
 write_made d q after f tag page false (lane_call.WriteFailed g t p) v w e m = record { left = page_held (d.contents after) t p.value; whole = λ done. (let no : false ≡ true = done in absurd (cc)); calls = subst (λ (x : Tag). Made (LaneWrite q (packed_tag x) (page_held (d.contents after) t p.value) false ∷ []) v w) e.1 m }
 write_made d q after f tag page done call v w e m = absurd e
 
-pub write_met : (f : ℕ) (tag : Tag) (page : Page) (done : Bool) (call : LaneCall) (m n : Met) → IsWriteCall f tag page done call → n ≡ sum_of_met m (met_of call) → n ≡ met_lane_write done m
+pub write_met : (f : ℕ) (tag : Tag) (page : Page) (done : Bool) (call : LaneCall) (m n : FailedCalls) → IsWriteCall f tag page done call → n ≡ sum_of_met m (met_of call) → n ≡ met_lane_write done m
 write_met f tag page true (lane_call.Written g t p) m n e s = s ∙ no_fault m
 write_met f tag page false (lane_call.WriteFailed g t p) m n e s = s ∙ write_fault m
 write_met f tag page done call m n e s = absurd e

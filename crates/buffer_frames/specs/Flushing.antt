@@ -13,7 +13,7 @@ use Rattle.state_word.specs.Fields.{fields}
 use Rattle.pin_core.specs.declared.view.DeviceCall.{DeviceCall}
 use Rattle.pin_core.specs.declared.view.DeviceCall.TheVariants.{LaneWrite, LogSync}
 use Rattle.pin_core.specs.declared.view.Io.TheVariants.{Output}
-use Rattle.pin_core.specs.declared.view.Met.{Met}
+use Rattle.pin_core.specs.declared.view.FailedCalls.{FailedCalls}
 use Rattle.pin_core.specs.declared.view.View.{View}
 use Rattle.pin_core.specs.State.{Page, link}
 use Rattle.frame_table.specs.declared.table.FrameTable.{FrameTable}
@@ -34,7 +34,7 @@ use Rattle.buffer_frames.specs.declared.flushing.FlushError.TheVariants.{Log, Wr
 use Rattle.buffer_frames.specs.Working.{Made, Within, met_log, met_write}
 
 -- the faults that were met by a write of a lane that was done, or wasn't
-abbrev pub met_lane_write : Bool → Met → Met
+abbrev pub met_lane_write : Bool → FailedCalls → FailedCalls
 met_lane_write true m = m
 met_lane_write false m = met_write m
 
@@ -105,13 +105,13 @@ abbrev pub ClearsJust : ℕ → View → View → Type 0
 ClearsJust f v w = (word : ℕ) × Did (pages clear_just_dirtied) f v w word
 
 -- the faults that were met, by the refusal, and by the answer
-abbrev pub met_refused : FlushError → Met → Met
+abbrev pub met_refused : FlushError → FailedCalls → FailedCalls
 met_refused (WriteFault tag) m = met_write m
 met_refused (Log LogFault) m = met_log m
 met_refused (Log (LogDown at)) m = m
 met_refused (Log (LogShort lsn end)) m = m
 
-abbrev pub met_flushing : {A : Type 0} → Result A FlushError → Met → Met
+abbrev pub met_flushing : {A : Type 0} → Result A FlushError → FailedCalls → FailedCalls
 met_flushing (Ok done) m = m
 met_flushing (Err why) m = met_refused why m
 

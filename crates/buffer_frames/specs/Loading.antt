@@ -5,7 +5,7 @@ use Rattle.page_layout.specs.Soundness.{is_sound_page}
 use Rattle.segment_store.specs.Contents.{Pages}
 use Rattle.pin_core.specs.declared.view.DeviceCall.{DeviceCall}
 use Rattle.pin_core.specs.declared.view.DeviceCall.TheVariants.{LaneRead}
-use Rattle.pin_core.specs.declared.view.Met.{Met}
+use Rattle.pin_core.specs.declared.view.FailedCalls.{FailedCalls}
 use Rattle.pin_core.specs.State.{Page}
 use Rattle.frame_table.specs.declared.table.FrameTable.{FrameTable}
 use Rattle.frame_table.specs.Opened.{WasAtOpening, WasSoundAtOpening}
@@ -14,7 +14,7 @@ use Rattle.buffer_frames.specs.declared.loading.LoadError.TheVariants.{ReadFault
 use Rattle.buffer_frames.specs.Working.{met_read}
 
 -- the faults that were met by a read of a lane that was done, or wasn't
-abbrev pub met_lane_read : Bool → Met → Met
+abbrev pub met_lane_read : Bool → FailedCalls → FailedCalls
 met_lane_read true m = m
 met_lane_read false m = met_read m
 
@@ -32,7 +32,7 @@ loading_calls q tag (Err Unsound) = LaneRead q tag true ∷ []
 loading_calls q tag (Err ReadFault) = LaneRead q tag false ∷ []
 
 -- the faults that were met, by the answer
-abbrev pub met_loading : {A : Type 0} → Result A LoadError → Met → Met
+abbrev pub met_loading : {A : Type 0} → Result A LoadError → FailedCalls → FailedCalls
 met_loading (Ok done) m = m
 met_loading (Err Unsound) m = m
 met_loading (Err ReadFault) m = met_read m

@@ -7,7 +7,7 @@ use Rattle.page_layout.specs.Fields.{with_lsn}
 use Rattle.pin_core.specs.declared.view.Call.TheVariants.{Write}
 use Rattle.pin_core.specs.declared.view.DeviceCall.{DeviceCall}
 use Rattle.pin_core.specs.declared.view.DeviceCall.TheVariants.{LogAppend}
-use Rattle.pin_core.specs.declared.view.Met.{Met}
+use Rattle.pin_core.specs.declared.view.FailedCalls.{FailedCalls}
 use Rattle.pin_core.specs.declared.view.View.{View}
 use Rattle.pin_core.specs.State.{Page, link}
 use Rattle.page_core.specs.Kinds as kinds
@@ -87,7 +87,7 @@ put_calls (Err (LogFull end)) = []
 put_calls (Err (LogDown at)) = []
 put_calls (Err LogFault) = LogAppend false ∷ []
 
-abbrev pub met_put : Result ℕ InsertError → Met → Met
+abbrev pub met_put : Result ℕ InsertError → FailedCalls → FailedCalls
 met_put (Ok lsn) m = m
 met_put (Err (LogFull end)) m = m
 met_put (Err (LogDown at)) m = m

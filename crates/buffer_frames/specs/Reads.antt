@@ -5,7 +5,7 @@ use Rattle.block_tag.specs.declared.tag.Tag.{Tag}
 use Rattle.block_tag.specs.Names.{packed_tag}
 use Rattle.segment_store.specs.Contents.{Pages}
 use Rattle.pin_core.specs.declared.view.DeviceCall.{DeviceCall}
-use Rattle.pin_core.specs.declared.view.Met.{Met}
+use Rattle.pin_core.specs.declared.view.FailedCalls.{FailedCalls}
 use Rattle.pin_core.specs.declared.view.View.{View}
 use Rattle.pin_core.specs.State.{link}
 use Rattle.clock_sweep.specs.CensusList.{CensusList, new_census}
@@ -57,7 +57,7 @@ ReadCalls q tag ring v w (Err (ReadFault failed)) = (f : ℕ) × Locates tag f r
 ReadCalls q tag ring v w (Err (Unsound failed)) = (f : ℕ) × Locates tag f ring (loading_calls q (packed_tag tag) (Err load.Unsound)) v w
 
 -- the faults that were met, by the answer
-abbrev pub met_read_block : Result PinnedBlock BlockError → Met → Met
+abbrev pub met_read_block : Result PinnedBlock BlockError → FailedCalls → FailedCalls
 met_read_block (Ok block) m = m
 met_read_block (Err (NoFrame why)) m = met_victim why m
 met_read_block (Err (ReadFault tag)) m = met_read m

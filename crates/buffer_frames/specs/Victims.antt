@@ -5,7 +5,7 @@ use Rattle.state_word.specs.Fields.{fields}
 use Rattle.block_tag.specs.declared.tag.Tag.{Tag}
 use Rattle.block_tag.specs.Names.{lane_number, names_block}
 use Rattle.segment_store.specs.Contents.{Pages}
-use Rattle.pin_core.specs.declared.view.Met.{Met}
+use Rattle.pin_core.specs.declared.view.FailedCalls.{FailedCalls}
 use Rattle.pin_core.specs.declared.view.View.{View}
 use Rattle.table_rule.specs.Blocks.{has_block}
 use Rattle.frame_table.specs.declared.pin.Pin.{Pin}
@@ -70,16 +70,16 @@ module _ {L G : Type 0} (contents : L → Option Pages) (t : FrameTable L G) whe
   ClaimAnswer tag held words v w (Err why) = LinksRest held w × VictimRefused words v w why
 
 -- the faults that were met, by the refusal, and by the answers
-abbrev pub met_victim : VictimError → Met → Met
+abbrev pub met_victim : VictimError → FailedCalls → FailedCalls
 met_victim (NoUnpinned frames) m = m
 met_victim (Flush why) m = met_refused why m
 
-abbrev pub met_freed : Freed → Met → Met
+abbrev pub met_freed : Freed → FailedCalls → FailedCalls
 met_freed (Ready pin) m = m
 met_freed Again m = m
 met_freed (Refused why) m = met_victim why m
 
-abbrev pub met_claimed : Result Pin VictimError → Met → Met
+abbrev pub met_claimed : Result Pin VictimError → FailedCalls → FailedCalls
 met_claimed (Ok pin) m = m
 met_claimed (Err why) m = met_victim why m
 

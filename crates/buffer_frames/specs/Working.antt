@@ -4,7 +4,7 @@ use Rattle.std.specs.List.{All}
 use Rattle.pin_core.specs.declared.view.DeviceCall.{DeviceCall}
 use Rattle.pin_core.specs.declared.view.DeviceCall.TheVariants.{LaneWrite, LogSync}
 use Rattle.pin_core.specs.declared.view.Link.{Link}
-use Rattle.pin_core.specs.declared.view.Met.{Met}
+use Rattle.pin_core.specs.declared.view.FailedCalls.{FailedCalls}
 use Rattle.pin_core.specs.declared.view.View.{View}
 use Rattle.pin_core.specs.State.{link}
 use Rattle.frame_table.specs.Seats.{OnlyRises}
@@ -47,11 +47,11 @@ IsFlushCall (LaneWrite lane tag page done) = Unit {0}
 IsFlushCall _ = ⊥
 
 -- one more fault was met
-abbrev pub met_read : Met → Met
+abbrev pub met_read : FailedCalls → FailedCalls
 met_read m = record m { reads = m.reads + 1 }
 
-abbrev pub met_write : Met → Met
+abbrev pub met_write : FailedCalls → FailedCalls
 met_write m = record m { writes = m.writes + 1 }
 
-abbrev pub met_log : Met → Met
+abbrev pub met_log : FailedCalls → FailedCalls
 met_log m = record m { logs = m.logs + 1 }

@@ -2,7 +2,7 @@
 use Rattle.std.proofs.Common.{◌≡◌, ℕ, ◌+◌, ◌≤◌, true, [], refl, sym, ap, ◌∙◌, subst, arith}
 use Rattle.std.specs.Prelude.{Option, min}
 use Rattle.segment_store.specs.Contents.{Pages}
-use Rattle.pin_core.specs.declared.view.Met.{Met}
+use Rattle.pin_core.specs.declared.view.FailedCalls.{FailedCalls}
 use Rattle.pin_core.specs.declared.view.View.{View}
 use Rattle.frame_table.specs.Seats.{OnlyRises, frames_of, lanes_in}
 use Rattle.frame_table.specs.WordSteps.{DidWord, begin_checkpoint, view_of}
@@ -112,7 +112,7 @@ log_shows upto (LogDown at) v w seen refused sees left = (tt, ap (λ (x : View).
 log_shows upto LogFault v w seen refused sees left = (tt, ap (λ (x : View). x.saw_down) left, ap (λ (x : View). x.device_calls) left, ap (λ (x : View). x.dirtied_or_synced) left, ap (λ (x : View). x.met) left)
 
 -- the faults of a refused write
-pub met_of_flush : (why : FlushError) (m : Met) → met_refused (frame_refusal why) m ≡ met_stopping (refusal_of_flush why) m
+pub met_of_flush : (why : FlushError) (m : FailedCalls) → met_refused (frame_refusal why) m ≡ met_stopping (refusal_of_flush why) m
 met_of_flush (flush.WriteFault tag) m = refl
 met_of_flush flush.LogFault m = refl
 met_of_flush (flush.LogDown at) m = refl

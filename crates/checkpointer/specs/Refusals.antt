@@ -2,7 +2,7 @@
 use Rattle.std.specs.Prelude.{◌≡◌, ℕ, ◌<◌, ◌≤◌, true, false, [], ◌∷◌, ◌++◌, Option, Result, Ok, Err}
 use Rattle.segment_store.specs.Contents.{Pages}
 use Rattle.pin_core.specs.declared.view.DeviceCall.TheVariants.{LaneSync}
-use Rattle.pin_core.specs.declared.view.Met.{Met}
+use Rattle.pin_core.specs.declared.view.FailedCalls.{FailedCalls}
 use Rattle.pin_core.specs.declared.view.View.{View}
 use Rattle.frame_table.specs.Seats.{OnlyRises, frames_of, lanes_in}
 use Rattle.wal_flush.specs.declared.flushes.FlushLog.{FlushLog}
@@ -35,14 +35,14 @@ refusal_of_log (log.LogDown at) = LogDown at
 refusal_of_log (log.LogShort lsn end) = LogShort lsn end
 
 -- the faults that were met, by the refusal, and by the answer
-abbrev pub met_stopping : CheckpointError → Met → Met
+abbrev pub met_stopping : CheckpointError → FailedCalls → FailedCalls
 met_stopping (WriteFault tag) m = met_write m
 met_stopping LogFault m = met_log m
 met_stopping (LogDown at) m = m
 met_stopping (LogShort lsn end) m = m
 met_stopping (SyncFault lane) m = met_write m
 
-abbrev pub met_checkpointing : Result Checkpoint CheckpointError → Met → Met
+abbrev pub met_checkpointing : Result Checkpoint CheckpointError → FailedCalls → FailedCalls
 met_checkpointing (Ok done) m = m
 met_checkpointing (Err why) m = met_stopping why m
 

@@ -9,7 +9,7 @@ use Rattle.pin_core.specs.declared.view.Io.TheVariants.{Input}
 use Rattle.pin_core.specs.declared.view.LastWrite.TheVariants.{Unwritten}
 use Rattle.pin_core.specs.declared.view.LaneHold.{LaneHold}
 use Rattle.pin_core.specs.declared.view.Link.{Link}
-use Rattle.pin_core.specs.declared.view.Met.{Met}
+use Rattle.pin_core.specs.declared.view.FailedCalls.{FailedCalls}
 use Rattle.pin_core.specs.declared.view.View.{View}
 use Rattle.pin_core.specs.State.{Frame, Page, link, lane_hold, no_lane, idle, sum_of_met}
 use Rattle.page_core.specs.State.{Block, block_of}
@@ -170,7 +170,7 @@ module _ {L G : Type 0} (d : Devices L G) (o : Opening L G) where
   written_hold_is k s id q f v h = get_or-set_same v.lanes q (lane_hold_after k v.flushed (swept_by v) (lane_hold v q)) no_lane (in_lanes s id q v h)
 
 -- Views after two steps
-met_after_none : (m x : Met) → sum_of_met (sum_of_met m (record { reads = 0; writes = 0; logs = 0 })) x ≡ sum_of_met m x
+met_after_none : (m x : FailedCalls) → sum_of_met (sum_of_met m (record { reads = 0; writes = 0; logs = 0 })) x ≡ sum_of_met m x
 met_after_none m x = λ j. record { reads = none_added m.reads x.reads j; writes = none_added m.writes x.writes j; logs = none_added m.logs x.logs j }
   where
     none_added : (a b : ℕ) → (a + 0) + b ≡ a + b
@@ -194,7 +194,7 @@ module _ (k : LaneKind) (a : LaneHold) (c : LaneChange) (noted : Bool) (q : ℕ)
 
   fault_noted : met_by k (lane_hold v q) ≡ record { reads = 0; writes = 0; logs = 0 } → sum_of_met (sum_of_met v.met (met_by k (lane_hold v q))) (fault_of noted (get_or (set v.lanes q (lane_hold_after k v.flushed (swept_by v) (lane_hold v q))) q no_lane).change) ≡ sum_of_met v.met (fault_of noted c)
   fault_noted none = let change : LaneChange = (get_or (set v.lanes q (lane_hold_after k v.flushed (swept_by v) (lane_hold v q))) q no_lane).change in
-      ap (λ (m : Met). sum_of_met (sum_of_met v.met m) (fault_of noted change)) none ∙ met_after_none v.met (fault_of noted change) ∙ ap (λ (h : LaneHold). sum_of_met v.met (fault_of noted h.change)) (get_or-set_same v.lanes q (lane_hold_after k v.flushed (swept_by v) (lane_hold v q)) no_lane low ∙ hold)
+      ap (λ (m : FailedCalls). sum_of_met (sum_of_met v.met m) (fault_of noted change)) none ∙ met_after_none v.met (fault_of noted change) ∙ ap (λ (h : LaneHold). sum_of_met v.met (fault_of noted h.change)) (get_or-set_same v.lanes q (lane_hold_after k v.flushed (swept_by v) (lane_hold v q)) no_lane low ∙ hold)
 
 pub view_alone : (k : LaneKind) (a : LaneHold) (c : LaneChange) (noted : Bool) (q : ℕ) (v : View) → q < length v.lanes → lane_hold_after k v.flushed (swept_by v) (lane_hold v q) ≡ record a { change = c } → met_by k (lane_hold v q) ≡ record { reads = 0; writes = 0; logs = 0 }
     → alone_view (lane_back noted) q (alone_view k q v) ≡ record v { lanes = set v.lanes q (back_lane a); steps = v.steps + 2; device_calls = v.device_calls ++ calls_by k q; met = sum_of_met v.met (fault_of noted c); dirtied_or_synced = v.dirtied_or_synced || syncs k }

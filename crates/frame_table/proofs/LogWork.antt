@@ -14,7 +14,7 @@ use Rattle.block_tag.specs.Names.{packed_tag}
 use Rattle.pin_core.specs.declared.view.DeviceCall.{DeviceCall}
 use Rattle.pin_core.specs.declared.view.LogChange.TheVariants as change
 use Rattle.pin_core.specs.declared.view.LogHold.{LogHold}
-use Rattle.pin_core.specs.declared.view.Met.{Met}
+use Rattle.pin_core.specs.declared.view.FailedCalls.{FailedCalls}
 use Rattle.pin_core.specs.declared.view.TakenLog.{TakenLog}
 use Rattle.pin_core.specs.declared.view.View.{View}
 use Rattle.pin_core.specs.State.{idle, hold, no_partition, no_lane, sum_of_met}
@@ -106,7 +106,7 @@ module _ {L G : Type 0} (d : Devices L G) (o : Opening L G) where
 twice : (s : State) (id : ℕ) (j k : LogKind) (v : View) → set (set s.pool.core.views id (view_logged j v)) id (view_logged k (view_logged j v)) ≡ set s.pool.core.views id (view_logged k (view_logged j v))
 twice s id j k v = set_twice s.pool.core.views id (view_logged j v) (view_logged k (view_logged j v))
 
-met_none : (m : Met) → sum_of_met m (record { reads = 0; writes = 0; logs = 0 }) ≡ m
+met_none : (m : FailedCalls) → sum_of_met m (record { reads = 0; writes = 0; logs = 0 }) ≡ m
 met_none m = let a : m.reads + 0 ≡ m.reads = omega arith in let b : m.writes + 0 ≡ m.writes = omega arith in let c : m.logs + 0 ≡ m.logs = omega arith in λ i. record { reads = a i; writes = b i; logs = c i }
 
 -- the view while the log is out
@@ -115,7 +115,7 @@ out_view taken v down = λ i. record v { log = record v.log { out = Some taken }
 
 down_view : (taken : TakenLog) (end : ℕ) (v : View) → taken.down ≡ Some end → view_logged see_down (view_logged (log_out taken) v) ≡ view_out taken v
 down_view taken end v down = let more : v.steps + 1 + 1 ≡ v.steps + 2 = omega arith in let calls : (v.device_calls ++ []) ++ [] ≡ v.device_calls = append-nil (v.device_calls ++ []) ∙ append-nil v.device_calls in
-    let met = ap (λ (m : Met). sum_of_met m (record { reads = 0; writes = 0; logs = 0 })) (met_none v.met) ∙ met_none v.met in
+    let met = ap (λ (m : FailedCalls). sum_of_met m (record { reads = 0; writes = 0; logs = 0 })) (met_none v.met) ∙ met_none v.met in
     let seen = ap (λ (b : Bool). b || true) (or-false v.saw_down) ∙ ap (λ (x : Option ℕ). v.saw_down || is_some x) (sym down) in
     let count = more ∙ ap (λ (x : Option ℕ). v.steps + out_steps x) (sym down) in
     λ i. record v { log = record v.log { out = Some taken }; device_calls = calls i; met = met i; saw_down = seen i; steps = count i }

@@ -14,7 +14,7 @@ use Rattle.pin_core.specs.declared.view.LastWrite.TheVariants.{Done, Failed}
 use Rattle.pin_core.specs.declared.view.LaneChange.TheVariants as lane_change
 use Rattle.pin_core.specs.declared.view.DeviceCall.{DeviceCall}
 use Rattle.pin_core.specs.declared.view.DeviceCall.TheVariants as device
-use Rattle.pin_core.specs.declared.view.Met.{Met}
+use Rattle.pin_core.specs.declared.view.FailedCalls.{FailedCalls}
 use Rattle.pin_core.specs.declared.view.TakenLane.{TakenLane}
 use Rattle.pin_core.specs.declared.view.LaneHold.{LaneHold}
 use Rattle.pin_core.specs.declared.view.Link.{Link}
@@ -114,7 +114,7 @@ links_of (WriteFailed f tag page) v = slice_set v.links f (unwritten_link (link 
 links_of _ v = v.links
 
 -- the fault that is counted
-abbrev pub met_of : LaneCall → Met
+abbrev pub met_of : LaneCall → FailedCalls
 met_of (ReadFailed tag) = record { reads = 1; writes = 0; logs = 0 }
 met_of (WriteFailed f tag page) = record { reads = 0; writes = 1; logs = 0 }
 met_of SyncFailed = record { reads = 0; writes = 1; logs = 0 }

@@ -5,7 +5,7 @@ use mathlib.Core.Option.{some}
 use native.Mathlib.Decide.{ℕ_discrete}
 use lib.ListN.{get_elem?}
 use Rattle.pin_core.specs.declared.view.LaneHold.{LaneHold}
-use Rattle.pin_core.specs.declared.view.Met.{Met}
+use Rattle.pin_core.specs.declared.view.FailedCalls.{FailedCalls}
 use Rattle.pin_core.specs.declared.view.View.{View}
 use Rattle.pin_core.specs.State.{Config, Page, link, hold, no_lane, lane_hold, new_view, emptied_view, joined_view, sum_of_met, first_view}
 use Rattle.pin_core.specs.Tallies.{flag_weight}
@@ -42,23 +42,23 @@ abbrev LanesCounted : State → Type 0
 LanesCounted s = Counted s.lanes s.lane s.flushed s.pool.core.views
 
 -- what all views count, where one of them counts d besides
-met_set : (views : List View) (i : ℕ) (v w : View) (d : Met) → get_elem? views i ≡ some v → w.met ≡ sum_of_met v.met d → all_met (set views i w) ≡ sum_of_met (all_met views) d
-met_set views i v w d there e = let a : total (λ (x : View). x.met.reads) (set views i w) ≡ total (λ (x : View). x.met.reads) views + d.reads = (let z = ap (λ (m : Met). m.reads) e in omega (arith, total-set (λ (x : View). x.met.reads) views i v w there)) in
-    let b : total (λ (x : View). x.met.writes) (set views i w) ≡ total (λ (x : View). x.met.writes) views + d.writes = (let z = ap (λ (m : Met). m.writes) e in omega (arith, total-set (λ (x : View). x.met.writes) views i v w there)) in
-    let c : total (λ (x : View). x.met.logs) (set views i w) ≡ total (λ (x : View). x.met.logs) views + d.logs = (let z = ap (λ (m : Met). m.logs) e in omega (arith, total-set (λ (x : View). x.met.logs) views i v w there)) in
+met_set : (views : List View) (i : ℕ) (v w : View) (d : FailedCalls) → get_elem? views i ≡ some v → w.met ≡ sum_of_met v.met d → all_met (set views i w) ≡ sum_of_met (all_met views) d
+met_set views i v w d there e = let a : total (λ (x : View). x.met.reads) (set views i w) ≡ total (λ (x : View). x.met.reads) views + d.reads = (let z = ap (λ (m : FailedCalls). m.reads) e in omega (arith, total-set (λ (x : View). x.met.reads) views i v w there)) in
+    let b : total (λ (x : View). x.met.writes) (set views i w) ≡ total (λ (x : View). x.met.writes) views + d.writes = (let z = ap (λ (m : FailedCalls). m.writes) e in omega (arith, total-set (λ (x : View). x.met.writes) views i v w there)) in
+    let c : total (λ (x : View). x.met.logs) (set views i w) ≡ total (λ (x : View). x.met.logs) views + d.logs = (let z = ap (λ (m : FailedCalls). m.logs) e in omega (arith, total-set (λ (x : View). x.met.logs) views i v w there)) in
     λ j. record { reads = a j; writes = b j; logs = c j }
 
-abbrev none : Met
+abbrev none : FailedCalls
 none = record { reads = 0; writes = 0; logs = 0 }
 
-plus_none : (m : Met) → sum_of_met m none ≡ m
+plus_none : (m : FailedCalls) → sum_of_met m none ≡ m
 plus_none m = let a : m.reads + 0 ≡ m.reads = omega arith in let b : m.writes + 0 ≡ m.writes = omega arith in let c : m.logs + 0 ≡ m.logs = omega arith in λ j. record { reads = a j; writes = b j; logs = c j }
 
 no_counts : (k : Known) (ln : Lane) → HoldCounts k.met ln no_lane
 no_counts k ln = record { read_rose = λ e. absurd (cc); write_rose = λ e. absurd (cc); taken_reads = λ taken e. absurd (cc); taken_writes = λ taken e. absurd (cc) }
 
 -- a lane that nothing happens to
-stays_more : (k : Known) (d : Met) (ln : Lane) (h : LaneHold) → Keeps count_shape known count_part k (more k d) tt tt ln h ln h
+stays_more : (k : Known) (d : FailedCalls) (ln : Lane) (h : LaneHold) → Keeps count_shape known count_part k (more k d) tt tt ln h ln h
 stays_more k d ln h = record {
   column = λ t t' q c sums le _. let a = sums failed_reads in let b = sums failed_writes in let e = sums holders in let f = sums unfailed in let g = q.1.split in record {
     reads = count_stays ln.read_faults_at_start ln.read_faults (t failed_reads) k.met.reads d.reads (t' failed_reads) (omega arith) q.1.reads;
@@ -81,8 +81,8 @@ module _ (s : State) (h : Invariant s) (m : LanesCounted s) where
   -- one lane and one view change
   laned_grid : (i q : ℕ) (k : LaneKind) (v w : View) → get_elem? views i ≡ some v → v.emptied ≡ false → q < s.lanes → LaneAllowed k (s.lane q) (lane_hold v q) → w.lanes ≡ set v.lanes q (lane_hold_after k v.flushed (swept_by v) (lane_hold v q)) → w.met ≡ sum_of_met v.met (met_by k (lane_hold v q))
       → Grid count_shape count_part s.lanes (put s.lane q (lane_after k (s.lane q))) (λ _. record { flushed = s.flushed; met = all_met (set views i w) }) (set views i w)
-  laned_grid i q k v w there live inside a holds met = let d : Met = met_by k (lane_hold v q) in let ln : Lane = lane_after k (s.lane q) in let l : LaneHold = lane_hold_after k v.flushed (swept_by v) (lane_hold v q) in
-      subst (λ (x : Met). Grid count_shape count_part s.lanes (put s.lane q ln) (λ _. record { flushed = s.flushed; met = x }) (set views i w)) (sym (met_set views i v w d there met))
+  laned_grid i q k v w there live inside a holds met = let d : FailedCalls = met_by k (lane_hold v q) in let ln : Lane = lane_after k (s.lane q) in let l : LaneHold = lane_hold_after k v.flushed (swept_by v) (lane_hold v q) in
+      subst (λ (x : FailedCalls). Grid count_shape count_part s.lanes (put s.lane q ln) (λ _. record { flushed = s.flushed; met = x }) (set views i w)) (sym (met_set views i v w d there met))
       (sweep count_shape known count_part s.lanes s.lane (put s.lane q ln) (λ _. known_of s) (λ _. more (known_of s) d) views i v w all_known there (λ g below. dite (ℕ_discrete g q)
       (λ (e : g ≡ q). subst (λ (x : Lane × LaneHold). Keeps count_shape known count_part (known_of s) (more (known_of s) d) tt tt (s.lane g) (lane_hold v g) x.0 x.1)
       (λ j. (sym (put_at s.lane q ln g e) j, sym (subst (λ (z : ℕ). lane_hold w z ≡ l) (sym e) here) j))
@@ -98,7 +98,7 @@ module _ (s : State) (h : Invariant s) (m : LanesCounted s) where
 
   -- a view changes elsewhere
   unlaned : (i : ℕ) (v w : View) → get_elem? views i ≡ some v → w.lanes ≡ v.lanes → w.met ≡ v.met → Grid count_shape count_part s.lanes s.lane (λ _. record { flushed = s.flushed; met = all_met (set views i w) }) (set views i w)
-  unlaned i v w there holds met = subst (λ (x : Met). Grid count_shape count_part s.lanes s.lane (λ _. record { flushed = s.flushed; met = x }) (set views i w)) (sym same_met)
+  unlaned i v w there holds met = subst (λ (x : FailedCalls). Grid count_shape count_part s.lanes s.lane (λ _. record { flushed = s.flushed; met = x }) (set views i w)) (sym same_met)
       (steady count_shape count_part s.lanes s.lane (λ _. known_of s) views m.lanes i v w there refl (λ g. ap (λ (x : List LaneHold). lane_hold (record w { lanes = x }) g) holds))
     where
       same_met : all_met (set views i w) ≡ all_met views
@@ -157,16 +157,16 @@ zero_or_more (suc n) = inr (omega arith)
 -- the law after a step at the lane q, where the view becomes w
 laned_counts : (s : State) (h : Invariant s) (m : LanesCounted s) (i q : ℕ) (k : LaneKind) (v w : View) → get_elem? s.pool.core.views i ≡ some v → v.emptied ≡ false → q < s.lanes → LaneAllowed k (s.lane q) (lane_hold v q) → w.lanes ≡ set v.lanes q (lane_hold_after k v.flushed (swept_by v) (lane_hold v q)) → w.met ≡ sum_of_met v.met (met_by k (lane_hold v q))
     → Counted s.lanes (put s.lane q (lane_after k (s.lane q))) s.flushed (set s.pool.core.views i w)
-laned_counts s h m i q k v w there live low a holds met = let lane' : ℕ → Lane = put s.lane q (lane_after k (s.lane q)) in let d : Met = met_by k (lane_hold v q) in let vs' : List View = set s.pool.core.views i w in
+laned_counts s h m i q k v w there live low a holds met = let lane' : ℕ → Lane = put s.lane q (lane_after k (s.lane q)) in let d : FailedCalls = met_by k (lane_hold v q) in let vs' : List View = set s.pool.core.views i w in
     let sums : all_met vs' ≡ sum_of_met (all_met s.pool.core.views) d = met_set s.pool.core.views i v w d there met in let cells = m.lanes.cells i v q there low in
     record {
       lanes = laned_grid s h m i q k v w there live low a holds met;
       reads_rose = λ e. ⊎_elim
-          (λ (z : d.reads ≡ 0). let x = m.reads_rose (let y = ap (λ (n : Met). n.reads) sums in omega arith) in (x.0, x.1, put_rose ReadRose s.lane q (lane_after k (s.lane q)) (rose_later k (s.lane q) (lane_hold v q) a).0 x.0 x.2))
+          (λ (z : d.reads ≡ 0). let x = m.reads_rose (let y = ap (λ (n : FailedCalls). n.reads) sums in omega arith) in (x.0, x.1, put_rose ReadRose s.lane q (lane_after k (s.lane q)) (rose_later k (s.lane q) (lane_hold v q) a).0 x.0 x.2))
           (λ (z : 0 < d.reads). (q, low, put_rose ReadRose s.lane q (lane_after k (s.lane q)) (rose_later k (s.lane q) (lane_hold v q) a).0 q (cells.read_rose ((counts_by k (lane_hold v q)).0 z))))
           (zero_or_more d.reads);
       writes_rose = λ e. ⊎_elim
-          (λ (z : d.writes ≡ 0). let x = m.writes_rose (let y = ap (λ (n : Met). n.writes) sums in omega arith) in (x.0, x.1, put_rose WriteRose s.lane q (lane_after k (s.lane q)) (rose_later k (s.lane q) (lane_hold v q) a).1 x.0 x.2))
+          (λ (z : d.writes ≡ 0). let x = m.writes_rose (let y = ap (λ (n : FailedCalls). n.writes) sums in omega arith) in (x.0, x.1, put_rose WriteRose s.lane q (lane_after k (s.lane q)) (rose_later k (s.lane q) (lane_hold v q) a).1 x.0 x.2))
           (λ (z : 0 < d.writes). (q, low, put_rose WriteRose s.lane q (lane_after k (s.lane q)) (rose_later k (s.lane q) (lane_hold v q) a).1 q (cells.write_rose ((counts_by k (lane_hold v q)).1 z))))
           (zero_or_more d.writes);
     }
@@ -175,8 +175,8 @@ laned_counts s h m i q k v w there live low a holds met = let lane' : ℕ → La
 unlaned_counts : (s : State) (h : Invariant s) (m : LanesCounted s) (i : ℕ) (v w : View) → get_elem? s.pool.core.views i ≡ some v → w.lanes ≡ v.lanes → w.met.reads ≡ v.met.reads → w.met.writes ≡ v.met.writes → w.met.logs ≡ v.met.logs → Counted s.lanes s.lane s.flushed (set s.pool.core.views i w)
 unlaned_counts s h m i v w there holds a b c = let met : w.met ≡ v.met = λ j. record { reads = a j; writes = b j; logs = c j } in let same = met_set s.pool.core.views i v w none there (met ∙ sym (plus_none v.met)) in record {
   lanes = unlaned s h m i v w there holds met;
-  reads_rose = λ e. m.reads_rose (let y = ap (λ (n : Met). n.reads) same in omega arith);
-  writes_rose = λ e. m.writes_rose (let y = ap (λ (n : Met). n.writes) same in omega arith);
+  reads_rose = λ e. m.reads_rose (let y = ap (λ (n : FailedCalls). n.reads) same in omega arith);
+  writes_rose = λ e. m.writes_rose (let y = ap (λ (n : FailedCalls). n.writes) same in omega arith);
 }
 
 -- a lane whose holder is another view may be forgotten, where the counts stay
@@ -201,7 +201,7 @@ pools_counts s h m (pin_steps.splits v there room) = let w : View = record v { n
     let r = total-snoc (λ (y : View). y.met.reads) vs b in let u = total-snoc (λ (y : View). y.met.writes) vs b in let l = total-snoc (λ (y : View). y.met.logs) vs b in
     let er : (all_met (vs ++ b ∷ [])).reads ≡ (all_met vs).reads = omega arith in let eu : (all_met (vs ++ b ∷ [])).writes ≡ (all_met vs).writes = omega arith in let el : (all_met (vs ++ b ∷ [])).logs ≡ (all_met vs).logs = omega arith in
     let same : all_met (vs ++ b ∷ []) ≡ all_met vs = λ j. record { reads = er j; writes = eu j; logs = el j } in record {
-      lanes = subst (λ (y : Met). Grid count_shape count_part s.lanes s.lane (λ _. record { flushed = s.flushed; met = y }) (vs ++ b ∷ [])) (sym same)
+      lanes = subst (λ (y : FailedCalls). Grid count_shape count_part s.lanes s.lane (λ _. record { flushed = s.flushed; met = y }) (vs ++ b ∷ [])) (sym same)
           (grows count_shape count_part s.lanes s.lane (λ _. record { flushed = s.flushed; met = all_met vs }) vs x.lanes b (λ g k. new_none k v.next s.pool.core.base (length v.links) (length v.partitions) (length v.lanes) g) (λ g below. subst (HoldCounts (all_met vs) (s.lane g)) (sym (lane_new (length v.links) (length v.partitions) (length v.lanes) v.next s.pool.core.base g)) (no_counts (record { flushed = s.flushed; met = all_met vs }) (s.lane g))));
       reads_rose = λ e. x.reads_rose (omega arith);
       writes_rose = λ e. x.writes_rose (omega arith);
@@ -221,7 +221,7 @@ pools_counts s h m (pin_steps.joins j v u there other here live free) = let w : 
     let el : (all_met us).logs ≡ (all_met s.pool.core.views).logs = omega (arith, total-set (λ (y : View). y.met.logs) s.pool.core.views 0 v w there, total-set (λ (y : View). y.met.logs) vs j u emptied_view also) in
     let same : all_met us ≡ all_met s.pool.core.views = λ z. record { reads = er z; writes = eu z; logs = el z } in
     let first = steady count_shape known s.lanes s.lane (λ _. known_of s) s.pool.core.views (all_known s h m) 0 v w there refl (λ q. refl) in record {
-      lanes = subst (λ (y : Met). Grid count_shape count_part s.lanes s.lane (λ _. record { flushed = s.flushed; met = y }) us) (sym same)
+      lanes = subst (λ (y : FailedCalls). Grid count_shape count_part s.lanes s.lane (λ _. record { flushed = s.flushed; met = y }) us) (sym same)
           (sweep count_shape known count_part s.lanes s.lane s.lane (λ _. known_of s) (λ _. known_of s) vs j u emptied_view first also (λ q inside. forgets (known_of s) (s.lane q) (lane_hold u q) (free.lanes q)));
       reads_rose = λ e. m.reads_rose (omega arith);
       writes_rose = λ e. m.writes_rose (omega arith);
@@ -241,11 +241,11 @@ log_reads log_kinds.see_down = (refl, refl)
 
 -- a step at the log
 logged_counts : (s : State) (h : Invariant s) (m : LanesCounted s) (i : ℕ) (k : LogKind) (v : View) → get_elem? s.pool.core.views i ≡ some v → Counted s.lanes s.lane s.flushed (set s.pool.core.views i (view_logged k v))
-logged_counts s h m i k v there = let w : View = view_logged k v in let d : Met = log_kinds.met_by k in let same = met_set s.pool.core.views i v w d there refl in let zero_d = log_reads k in record {
-  lanes = subst (λ (x : Met). Grid count_shape count_part s.lanes s.lane (λ _. record { flushed = s.flushed; met = x }) (set s.pool.core.views i w)) (sym same)
+logged_counts s h m i k v there = let w : View = view_logged k v in let d : FailedCalls = log_kinds.met_by k in let same = met_set s.pool.core.views i v w d there refl in let zero_d = log_reads k in record {
+  lanes = subst (λ (x : FailedCalls). Grid count_shape count_part s.lanes s.lane (λ _. record { flushed = s.flushed; met = x }) (set s.pool.core.views i w)) (sym same)
       (sweep count_shape known count_part s.lanes s.lane s.lane (λ _. known_of s) (λ _. more (known_of s) d) s.pool.core.views i v w (all_known s h m) there (λ g below. stays_more (known_of s) d (s.lane g) (lane_hold v g)));
-  reads_rose = λ e. m.reads_rose (let y = ap (λ (n : Met). n.reads) same in let z = zero_d.0 in omega arith);
-  writes_rose = λ e. m.writes_rose (let y = ap (λ (n : Met). n.writes) same in let z = zero_d.1 in omega arith);
+  reads_rose = λ e. m.reads_rose (let y = ap (λ (n : FailedCalls). n.reads) same in let z = zero_d.0 in omega arith);
+  writes_rose = λ e. m.writes_rose (let y = ap (λ (n : FailedCalls). n.writes) same in let z = zero_d.1 in omega arith);
 }
 
 lane_counting : {e : Event} {s t : State} → Step e s t → Invariant s → LanesCounted s → LanesCounted t

@@ -7,7 +7,7 @@ use Rattle.pin_core.specs.declared.view.LaneChange.{LaneChange}
 use Rattle.pin_core.specs.declared.view.LaneChange.TheVariants as change
 use Rattle.pin_core.specs.declared.view.TakenLane.{TakenLane}
 use Rattle.pin_core.specs.declared.view.LaneHold.{LaneHold}
-use Rattle.pin_core.specs.declared.view.Met.{Met}
+use Rattle.pin_core.specs.declared.view.FailedCalls.{FailedCalls}
 use Rattle.pin_core.specs.Tallies.{flag_weight, unless_flag}
 use Rattle.pin_core.specs.State.{Page, sum_of_met}
 use Rattle.history_core.specs.State.{Lane}
@@ -24,10 +24,10 @@ abbrev pub known : Part count_shape
 known = both lane_part count_part
 
 -- what is known after the views counted d besides
-abbrev pub more : Known → Met → Known
+abbrev pub more : Known → FailedCalls → Known
 more k d = record k { met = sum_of_met k.met d }
 
-abbrev pub Keeps_by : LaneKind → Known → Met → ℕ → ℕ → Lane → LaneHold → Type 0
+abbrev pub Keeps_by : LaneKind → Known → FailedCalls → ℕ → ℕ → Lane → LaneHold → Type 0
 Keeps_by kind k d loaded swept ln h = Keeps count_shape known count_part k (more k d) tt tt ln h (lane_after kind ln) (lane_hold_after kind loaded swept h)
 
 -- a count that a failed call makes rise
@@ -47,7 +47,7 @@ count_back start now out met taken d out' failed c same was rose sums = record {
     met_now lt (inr x) = let y = was (omega arith) in omega arith
 
 -- no other view's link changes what it is, but for more faults counted, and a count that rises
-pub other_link : (k : Known) (d : Met) (ln ln' : Lane) (m : LaneHold) → ln'.read_faults_at_start ≡ ln.read_faults_at_start → ln'.write_faults_at_start ≡ ln.write_faults_at_start → (HasRisen ln.read_faults_at_start ln.read_faults → HasRisen ln'.read_faults_at_start ln'.read_faults) → (HasRisen ln.write_faults_at_start ln.write_faults → HasRisen ln'.write_faults_at_start ln'.write_faults) → HoldCounts k.met ln m → HoldCounts (more k d).met ln' m
+pub other_link : (k : Known) (d : FailedCalls) (ln ln' : Lane) (m : LaneHold) → ln'.read_faults_at_start ≡ ln.read_faults_at_start → ln'.write_faults_at_start ≡ ln.write_faults_at_start → (HasRisen ln.read_faults_at_start ln.read_faults → HasRisen ln'.read_faults_at_start ln'.read_faults) → (HasRisen ln.write_faults_at_start ln.write_faults → HasRisen ln'.write_faults_at_start ln'.write_faults) → HoldCounts k.met ln m → HoldCounts (more k d).met ln' m
 other_link k d ln ln' m r0 w0 r w c = record {
   read_rose = λ e. r (c.read_rose e);
   write_rose = λ e. w (c.write_rose e);
@@ -89,7 +89,7 @@ split_kept : (t t' : CountTally → ℕ) (h h' : LaneHold) → t holders ≡ t u
 split_kept t t' h h' was sums a b = omega (arith, sums holders, sums unfailed, sums failed_reads, sums failed_writes, split_at h.held h.change a, split_at h'.held h'.change b)
 
 -- the holder that has no failed call out is the only one that may
-none_failed : (m : Met) (ln : Lane) (t : CountTally → ℕ) (h : LaneHold) → LaneColumn ln (λ _. t holders) → LaneCounts m ln t → ((k : CountTally) → count_weigh k h ≤ t k) → h.held ≡ true → is_failed_read h.change ≡ false → is_failed_write h.change ≡ false → (t failed_reads ≡ 0) × (t failed_writes ≡ 0)
+none_failed : (m : FailedCalls) (ln : Lane) (t : CountTally → ℕ) (h : LaneHold) → LaneColumn ln (λ _. t holders) → LaneCounts m ln t → ((k : CountTally) → count_weigh k h ≤ t k) → h.held ≡ true → is_failed_read h.change ≡ false → is_failed_write h.change ≡ false → (t failed_reads ≡ 0) × (t failed_writes ≡ 0)
 none_failed m ln t h one c le held a b = let w : count_weigh unfailed h ≡ 1 = grind (arith, held, a, b) in let x = le unfailed in let y = c.split in let z = one.taken in let few = flag_few ln.taken in (omega arith, omega arith)
   where
     flag_few : (b : Bool) → flag_weight b ≤ 1
@@ -125,7 +125,7 @@ write_counted true change.SyncFailed e f = omega arith
 write_counted false c e f = absurd (cc)
 
 module _ (k : Known) (loaded swept : ℕ) (ln : Lane) (h : LaneHold) where
-  abbrev none : Met
+  abbrev none : FailedCalls
   none = record { reads = 0; writes = 0; logs = 0 }
 
   -- a kind that leaves the counts, and what failed of the view

@@ -6,7 +6,7 @@ use Rattle.pin_core.specs.declared.view.TakenLane.{TakenLane}
 use Rattle.pin_core.specs.declared.view.LogChange.{LogChange}
 use Rattle.pin_core.specs.declared.view.TakenLog.{TakenLog}
 use Rattle.pin_core.specs.declared.view.LaneHold.{LaneHold}
-use Rattle.pin_core.specs.declared.view.Met.{Met}
+use Rattle.pin_core.specs.declared.view.FailedCalls.{FailedCalls}
 use Rattle.pin_core.specs.declared.view.View.{View}
 use Rattle.pin_core.specs.State.{lane_hold}
 use Rattle.pin_core.specs.Tallies.{flag_weight, unless_flag}
@@ -16,13 +16,13 @@ use Rattle.history_core.specs.Device.{is_failed, HasRisen}
 use Rattle.grid.specs.Shape.{Shape, Part, Grid, total}
 
 -- what all views have counted
-abbrev pub all_met : List View → Met
+abbrev pub all_met : List View → FailedCalls
 all_met views = record { reads = total (λ (v : View). v.met.reads) views; writes = total (λ (v : View). v.met.writes) views; logs = total (λ (v : View). v.met.logs) views }
 
 -- What is known of every lane: the flushed position, and what all views have counted
 pub record Known : Type 0 where
   pub flushed : ℕ
-  pub met : Met
+  pub met : FailedCalls
 
 pub data CountTally : Type 0 where
   -- the views that hold the latch
@@ -54,7 +54,7 @@ pub record CountLaw (start now out met : ℕ) : Type 0 where
   pub is_met : out ≡ 0 → start < now → 0 < met
 
 -- What holds of a lane's counts
-pub record LaneCounts (m : Met) (ln : Lane) (t : CountTally → ℕ) : Type 0 where
+pub record LaneCounts (m : FailedCalls) (ln : Lane) (t : CountTally → ℕ) : Type 0 where
   pub reads : CountLaw ln.read_faults_at_start ln.read_faults (t failed_reads) m.reads
   pub writes : CountLaw ln.write_faults_at_start ln.write_faults (t failed_writes) m.writes
   -- a view with a failed call out holds the latch
@@ -65,7 +65,7 @@ pub record LaneCounts (m : Met) (ln : Lane) (t : CountTally → ℕ) : Type 0 wh
   pub failed_met : (tag : ℕ) → ln.failed tag ≡ true → t failed_writes ≡ 0 → 0 < m.writes
 
 -- and of what a view has out
-pub record HoldCounts (m : Met) (ln : Lane) (h : LaneHold) : Type 0 where
+pub record HoldCounts (m : FailedCalls) (ln : Lane) (h : LaneHold) : Type 0 where
   -- a failed call that is out made the count rise
   pub read_rose : is_failed_read h.change ≡ true → HasRisen ln.read_faults_at_start ln.read_faults
   pub write_rose : is_failed_write h.change ≡ true → HasRisen ln.write_faults_at_start ln.write_faults

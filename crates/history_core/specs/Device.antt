@@ -6,7 +6,7 @@ use Rattle.pin_core.specs.declared.view.TakenLog.{TakenLog}
 use Rattle.pin_core.specs.declared.view.LogHold.{LogHold}
 use Rattle.pin_core.specs.declared.view.DeviceCall.{DeviceCall}
 use Rattle.pin_core.specs.declared.view.DeviceCall.TheVariants.{LogAppend, LogSync}
-use Rattle.pin_core.specs.declared.view.Met.{Met}
+use Rattle.pin_core.specs.declared.view.FailedCalls.{FailedCalls}
 use Rattle.pin_core.specs.declared.view.View.{View}
 use Rattle.pin_core.specs.State.{Page, sum_of_met}
 use Rattle.pin_core.specs.Tallies.{flag_weight, some_weight}
@@ -133,7 +133,7 @@ calls_by sync_log = LogSync true ∷ []
 calls_by (fail_sync synced n) = LogSync false ∷ []
 calls_by _ = []
 
-abbrev pub met_by : LogKind → Met
+abbrev pub met_by : LogKind → FailedCalls
 met_by (log_back true) = record { reads = 0; writes = 0; logs = 1 }
 met_by _ = record { reads = 0; writes = 0; logs = 0 }
 

@@ -11,7 +11,7 @@ use Rattle.pin_core.specs.declared.view.LaneHold.{LaneHold}
 use Rattle.pin_core.specs.declared.view.DeviceCall.{DeviceCall}
 use Rattle.pin_core.specs.declared.view.DeviceCall.TheVariants as device
 use Rattle.pin_core.specs.declared.view.Link.{Link}
-use Rattle.pin_core.specs.declared.view.Met.{Met}
+use Rattle.pin_core.specs.declared.view.FailedCalls.{FailedCalls}
 use Rattle.pin_core.specs.declared.view.View.{View}
 use Rattle.pin_core.specs.State.{Page, lane_hold, sum_of_met}
 use Rattle.pin_core.specs.Tallies.{flag_weight}
@@ -152,13 +152,13 @@ calls_by (fail_sync m) n = device.LaneSync n false ∷ []
 calls_by _ n = []
 
 -- the fault that a backend counts as the lane comes back
-abbrev pub fault_of : Bool → LaneChange → Met
+abbrev pub fault_of : Bool → LaneChange → FailedCalls
 fault_of true (ReadFailed tag) = record { reads = 1; writes = 0; logs = 0 }
 fault_of true (WriteFailed f tag) = record { reads = 0; writes = 1; logs = 0 }
 fault_of true SyncFailed = record { reads = 0; writes = 1; logs = 0 }
 fault_of _ _ = record { reads = 0; writes = 0; logs = 0 }
 
-abbrev pub met_by : LaneKind → LaneHold → Met
+abbrev pub met_by : LaneKind → LaneHold → FailedCalls
 met_by (lane_back noted) h = fault_of noted h.change
 met_by _ h = record { reads = 0; writes = 0; logs = 0 }
 

@@ -9,7 +9,7 @@ use Rattle.block_tag.specs.declared.tag.Fork.{Fork}
 use Rattle.block_tag.specs.declared.tag.Tag.{Tag}
 use Rattle.segment_store.specs.Contents.{Pages}
 use Rattle.pin_core.specs.declared.view.Call.{Call}
-use Rattle.pin_core.specs.declared.view.Met.{Met}
+use Rattle.pin_core.specs.declared.view.FailedCalls.{FailedCalls}
 use Rattle.pin_core.specs.declared.view.View.{View}
 use Rattle.history_core.specs.Log.{IsFront, writes_in}
 use Rattle.frame_table.specs.Seats.{base_of}
@@ -63,7 +63,7 @@ met_by_none : (ps : List PassState) → ((i : ℕ) (p : PassState) → get_elem?
 met_by_none [] each = refl
 met_by_none (p ∷ ps) each = let here = each 0 p refl in let later = met_by_none ps (λ i. each (suc i)) in omega arith
 
-met_reads : (why : ReadError) (tag : Tag) (met : Met) → fault_of_refusal why ≡ Some (ReadFault tag) → 0 < (met_read_refused why met).reads
+met_reads : (why : ReadError) (tag : Tag) (met : FailedCalls) → fault_of_refusal why ≡ Some (ReadFault tag) → 0 < (met_read_refused why met).reads
 met_reads (read.PastEnd block blocks) tag met e = absurd (cc)
 met_reads read.PinsFull tag met e = absurd (cc)
 met_reads (read.NoUnpinned frames) tag met e = absurd (cc)
@@ -151,7 +151,7 @@ module _ {L G : Type 0} (contents : L → Option Pages) (m : Manager L G) (fork 
   read_fault_met [] qs tag any = absurd any
   read_fault_met (p ∷ ps) [] tag any = absurd any
   read_fault_met (p ∷ ps) (q ∷ qs) tag any = ⊎_elim
-      (λ (h : MeetsFault contents m 0 fork p q (ReadFault tag)). (0, q, refl, subst (λ (x : Met). 0 < x.reads) (sym h.met) (met_reads h.why tag p.view.met h.fault)))
+      (λ (h : MeetsFault contents m 0 fork p q (ReadFault tag)). (0, q, refl, subst (λ (x : FailedCalls). 0 < x.reads) (sym h.met) (met_reads h.why tag p.view.met h.fault)))
       (λ later. let f = read_fault_met ps qs tag later in (suc f.0, f.1, f.2, f.3))
       any
 
@@ -258,7 +258,7 @@ module _ {L G : Type 0} (contents : L → Option Pages) (m : Manager L G) (fork 
     -- where the passes met no more faults of reading than before, none was met
     pub none_met : MeetNothing ps qs → (met_by_passes qs).reads ≡ 0
     none_met met = met_by_none qs (λ i q at. let c = came_from i q at in
-        ap (λ (x : Met). x.reads) (met i c.before q c.at at) ∙ ap (λ (v : View). v.met.reads) (new.each i c.before c.at).view)
+        ap (λ (x : FailedCalls). x.reads) (met i c.before q c.at at) ∙ ap (λ (v : View). v.met.reads) (new.each i c.before c.at).view)
 
     pub fault_met : (tag : Tag) → AnyMeets contents m 0 fork (workers_in ps) (workers_in qs) (ReadFault tag) → 0 < (met_by_passes qs).reads
     fault_met tag any = let f = read_fault_met (workers_in ps) (workers_in qs) tag any in met_by_one qs f.0 f.1 (taken_from (length qs - 1) f.0 qs f.1 f.2) f.3

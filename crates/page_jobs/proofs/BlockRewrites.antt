@@ -18,7 +18,7 @@ use Rattle.segment_store.specs.Contents.{Pages}
 use Rattle.pin_core.specs.declared.view.Call.{Call}
 use Rattle.pin_core.specs.declared.view.Call.TheVariants.{Read, Write}
 use Rattle.pin_core.specs.declared.view.Content.TheVariants as content
-use Rattle.pin_core.specs.declared.view.Met.{Met}
+use Rattle.pin_core.specs.declared.view.FailedCalls.{FailedCalls}
 use Rattle.pin_core.specs.declared.view.Link.{Link}
 use Rattle.pin_core.specs.declared.view.View.{View}
 use Rattle.pin_core.specs.State.{Page, link}
@@ -133,7 +133,7 @@ module _ {L G : Type 0} (contents : L → Option Pages) (m : Manager L G) where
     before = x.before;
     since = rises_on p.view q.view x.before.view s.same.keeps.advances x.since;
     refused = x.refused;
-    met = x.met ∙ ap (λ (n : Met). met_read_refused why n) met;
+    met = x.met ∙ ap (λ (n : FailedCalls). met_read_refused why n) met;
   }
 
   pub locks_one : (tag : Tag) (pinned : Pinned) (e : Exclusive) (p q r s : PassState) → Stays contents m p q → KeepsCalls p q → q.view.met ≡ p.view.met → PinsOne contents m tag q r pinned → Quiet r s → KeepsMark r s → s.tokens ≡ r.tokens → e.pinned ≡ pinned
@@ -225,7 +225,7 @@ module _ {L G : Type 0} (contents : L → Option Pages) (m : Manager L G) where
         after = r;
         since = same.keeps.advances;
         refuses = unput;
-        met = met' ∙ ap (λ (n : Met). met_put (Err why) n) met;
+        met = met' ∙ ap (λ (n : FailedCalls). met_put (Err why) n) met;
         shows = unput.shows;
         was = page;
         changes = ap is_changed_outcome told ∙ is_changed;
@@ -330,7 +330,7 @@ module _ {L G : Type 0} (contents : L → Option Pages) (m : Manager L G) where
           after = f.after;
           since = rises_on p.view q.view f.before.view one.goes.same.keeps.advances f.since;
           refuses = f.refuses;
-          met = f.met ∙ ap (λ (n : Met). met_put (Err why) n) one.met;
+          met = f.met ∙ ap (λ (n : FailedCalls). met_put (Err why) n) one.met;
           shows = f.shows;
           was = f.was;
           changes = f.changes;

@@ -9,7 +9,7 @@ use Rattle.page_layout.specs.declared.summary.PageSummary.{PageSummary}
 use Rattle.page_layout.specs.Scan.{IsWithin, counted, sum_of_totals, totals_of_summaries}
 use Rattle.segment_store.specs.Contents.{Pages}
 use Rattle.pin_core.specs.declared.view.Call.{Call}
-use Rattle.pin_core.specs.declared.view.Met.{Met}
+use Rattle.pin_core.specs.declared.view.FailedCalls.{FailedCalls}
 use Rattle.pin_core.specs.State.{Page}
 use Rattle.frame_table.proofs.Rising.{rises_on}
 use Rattle.held_pins.specs.Tokens.{no_tokens}
@@ -142,7 +142,7 @@ module _ {L G : Type 0} (contents : L → Option Pages) (m : Manager L G) (rel :
     before = x.before;
     since = rises_on p.view q.view x.before.view s.same.keeps.advances x.since;
     refused = x.refused;
-    met = x.met ∙ ap (λ (n : Met). met_read_refused x.why n) met;
+    met = x.met ∙ ap (λ (n : FailedCalls). met_read_refused x.why n) met;
   }
 
   -- one part after the other

@@ -5,7 +5,7 @@ use Rattle.block_tag.specs.declared.tag.Tag.{Tag}
 use Rattle.block_tag.specs.Catalogue.{blocks_at}
 use Rattle.block_tag.specs.Names.{packed_tag}
 use Rattle.segment_store.specs.Contents.{Pages}
-use Rattle.pin_core.specs.declared.view.Met.{Met}
+use Rattle.pin_core.specs.declared.view.FailedCalls.{FailedCalls}
 use Rattle.pin_core.specs.declared.view.Call.{Call}
 use Rattle.pin_core.specs.declared.view.Call.TheVariants.{Read}
 use Rattle.pin_core.specs.State.{Page}
@@ -43,7 +43,7 @@ once (read.LogShort lsn end) a c = refl
 once (read.Unsound tag) a c = refl
 
 -- a fault is met nowhere where each frame was pinned
-pub met_crowded : (why : ReadError) (m : Met) → is_crowding why ≡ true → met_read_refused why m ≡ m
+pub met_crowded : (why : ReadError) (m : FailedCalls) → is_crowding why ≡ true → met_read_refused why m ≡ m
 met_crowded (read.PastEnd block blocks) m c = refl
 met_crowded read.PinsFull m c = refl
 met_crowded (read.NoUnpinned frames) m c = refl

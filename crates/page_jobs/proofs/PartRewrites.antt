@@ -9,7 +9,7 @@ use Rattle.page_layout.specs.declared.outcomes.RewriteTotals.{RewriteTotals}
 use Rattle.page_layout.specs.Outcomes.{IsRewriteWithin, sum_of_rewrite_totals, totals_of_outcomes, with_outcome}
 use Rattle.segment_store.specs.Contents.{Pages}
 use Rattle.pin_core.specs.declared.view.Call.{Call}
-use Rattle.pin_core.specs.declared.view.Met.{Met}
+use Rattle.pin_core.specs.declared.view.FailedCalls.{FailedCalls}
 use Rattle.pin_core.specs.declared.view.View.{View}
 use Rattle.frame_table.specs.Seats.{OnlyRises}
 use Rattle.frame_table.proofs.Rising.{rises_none, rises_on}
@@ -120,7 +120,7 @@ module _ {L G : Type 0} (contents : L → Option Pages) (m : Manager L G) (rel :
     before = x.before;
     since = rises_on p.view q.view x.before.view goes.same.keeps.advances x.since;
     refused = x.refused;
-    met = x.met ∙ ap (λ (n : Met). met_read_refused x.why n) met;
+    met = x.met ∙ ap (λ (n : FailedCalls). met_read_refused x.why n) met;
   })
   ends_since p q r e made goes calls (inr (inr x)) met = inr (inr record {
     block = x.block;
@@ -134,7 +134,7 @@ module _ {L G : Type 0} (contents : L → Option Pages) (m : Manager L G) (rel :
       after = f.after;
       since = rises_on p.view q.view f.before.view goes.same.keeps.advances f.since;
       refuses = f.refuses;
-      met = f.met ∙ ap (λ (n : Met). met_put (Err x.why) n) met;
+      met = f.met ∙ ap (λ (n : FailedCalls). met_put (Err x.why) n) met;
       shows = f.shows;
       was = f.was;
       changes = f.changes;

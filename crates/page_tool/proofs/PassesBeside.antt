@@ -1,7 +1,7 @@
 -- What rounds beside a job leave of their pass.
 use Rattle.std.proofs.Common.{◌≡◌, Option, refl, ap, ◌∙◌}
 use Rattle.segment_store.specs.Contents.{Pages}
-use Rattle.pin_core.specs.declared.view.Met.{Met}
+use Rattle.pin_core.specs.declared.view.FailedCalls.{FailedCalls}
 use Rattle.frame_table.specs.declared.table.FrameTable.{FrameTable}
 use Rattle.frame_table.specs.Seats.{OnlyRises}
 use Rattle.frame_table.proofs.Rising.{rises_on}
@@ -36,5 +36,5 @@ refuses_since contents t p q r why since met x = record {
   frame = x.frame;
   refused = x.refused;
   ended = x.ended;
-  met = x.met ∙ ap (λ (k : Met). met_refused (frame_refusal why) k) met;
+  met = x.met ∙ ap (λ (k : FailedCalls). met_refused (frame_refusal why) k) met;
 }

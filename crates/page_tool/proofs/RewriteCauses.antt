@@ -15,7 +15,7 @@ use Rattle.page_layout.specs.declared.outcomes.RewriteTotals.{RewriteTotals}
 use Rattle.page_layout.specs.Fields.{lsn_of}
 use Rattle.page_layout.specs.Soundness.{is_sound_page}
 use Rattle.segment_store.specs.Contents.{Pages}
-use Rattle.pin_core.specs.declared.view.Met.{Met}
+use Rattle.pin_core.specs.declared.view.FailedCalls.{FailedCalls}
 use Rattle.pin_core.specs.declared.view.View.{View}
 use Rattle.pin_core.specs.State.{Page, sum_of_met}
 use Rattle.history_core.specs.Device.{HasRisen}
@@ -87,8 +87,8 @@ module _ {L G : Type 0} (contents : L → Option Pages) (m : Manager L G) where
   read_meets tag p b q (read.PastEnd block blocks) e since is x met = absurd (cc)
   read_meets tag p b q read.PinsFull e since is x met = absurd (cc)
   read_meets tag p b q (read.NoUnpinned count) e since is x met = absurd (cc)
-  read_meets tag p b q (read.ReadFault failed) e since is x met = subst (λ (y : JobError). PassMeets contents m.table p.view q.view (rewrite_error y)) (same_Some (job.ReadFault failed) e is) (let n = ap (λ (k : Met). k.reads) met in omega arith)
-  read_meets tag p b q (read.WriteFault failed) e since is x met = subst (λ (y : JobError). PassMeets contents m.table p.view q.view (rewrite_error y)) (same_Some (job.WriteFault failed) e is) (let n = ap (λ (k : Met). k.writes) met in omega arith)
+  read_meets tag p b q (read.ReadFault failed) e since is x met = subst (λ (y : JobError). PassMeets contents m.table p.view q.view (rewrite_error y)) (same_Some (job.ReadFault failed) e is) (let n = ap (λ (k : FailedCalls). k.reads) met in omega arith)
+  read_meets tag p b q (read.WriteFault failed) e since is x met = subst (λ (y : JobError). PassMeets contents m.table p.view q.view (rewrite_error y)) (same_Some (job.WriteFault failed) e is) (let n = ap (λ (k : FailedCalls). k.writes) met in omega arith)
   read_meets tag p b q read.LogFault e since is x met = subst (λ (y : JobError). PassMeets contents m.table p.view q.view (rewrite_error y)) (same_Some job.LogFault e is) (ap (λ (v : View). v.saw_down) x.until ∙ x.answer.work.shows)
   read_meets tag p b q (read.LogDown at) e since is x met = subst (λ (y : JobError). PassMeets contents m.table p.view q.view (rewrite_error y)) (same_Some (job.LogDown at) e is) (ap (λ (v : View). v.saw_down) x.until ∙ x.answer.work.shows.2)
   read_meets tag p b q (read.LogShort lsn end) e since is x met = subst (λ (y : JobError). PassMeets contents m.table p.view q.view (rewrite_error y)) (same_Some (job.LogShort lsn end) e is)
@@ -103,7 +103,7 @@ module _ {L G : Type 0} (contents : L → Option Pages) (m : Manager L G) where
 
   -- the work of the last pass was
   frame_meets : (p q : PassState) (why : FlushError) (e : JobError) → fault_of_flush why ≡ e → RefusesFrame contents m.table p q why → PassMeets contents m.table p.view q.view (rewrite_error e)
-  frame_meets p q (flush.WriteFault tag) e is x = subst (λ (y : JobError). PassMeets contents m.table p.view q.view (rewrite_error y)) is (let n = ap (λ (k : Met). k.writes) x.met in omega arith)
+  frame_meets p q (flush.WriteFault tag) e is x = subst (λ (y : JobError). PassMeets contents m.table p.view q.view (rewrite_error y)) is (let n = ap (λ (k : FailedCalls). k.writes) x.met in omega arith)
   frame_meets p q flush.LogFault e is x = subst (λ (y : JobError). PassMeets contents m.table p.view q.view (rewrite_error y)) is x.refused.answer.work.shows
   frame_meets p q (flush.LogDown at) e is x = subst (λ (y : JobError). PassMeets contents m.table p.view q.view (rewrite_error y)) is x.refused.answer.work.shows.2
   frame_meets p q (flush.LogShort lsn end) e is x = subst (λ (y : JobError). PassMeets contents m.table p.view q.view (rewrite_error y)) is
@@ -111,7 +111,7 @@ module _ {L G : Type 0} (contents : L → Option Pages) (m : Manager L G) where
 
   -- and a checkpoint stopped
   stop_at_frame : (v w : View) (cause : FlushError) (why : CheckpointError) → why ≡ refusal_of_flush cause → StopsAtFrame contents m v w cause → w.met ≡ met_stopping why v.met → PassMeets contents m.table v w (checkpoint_error why)
-  stop_at_frame v w (flush.WriteFault tag) why is x met = subst (λ (y : CheckpointError). PassMeets contents m.table v w (checkpoint_error y)) (sym is) (let n = ap (λ (k : Met). k.writes) (met ∙ ap (λ (y : CheckpointError). met_stopping y v.met) is) in omega arith)
+  stop_at_frame v w (flush.WriteFault tag) why is x met = subst (λ (y : CheckpointError). PassMeets contents m.table v w (checkpoint_error y)) (sym is) (let n = ap (λ (k : FailedCalls). k.writes) (met ∙ ap (λ (y : CheckpointError). met_stopping y v.met) is) in omega arith)
   stop_at_frame v w flush.LogFault why is x met = subst (λ (y : CheckpointError). PassMeets contents m.table v w (checkpoint_error y)) (sym is) x.refused.answer.work.shows
   stop_at_frame v w (flush.LogDown at) why is x met = subst (λ (y : CheckpointError). PassMeets contents m.table v w (checkpoint_error y)) (sym is) x.refused.answer.work.shows.2
   stop_at_frame v w (flush.LogShort lsn end) why is x met = subst (λ (y : CheckpointError). PassMeets contents m.table v w (checkpoint_error y)) (sym is)
@@ -125,7 +125,7 @@ module _ {L G : Type 0} (contents : L → Option Pages) (m : Manager L G) where
   pub stop_meets : (upto : ℕ) (v w : View) (why : CheckpointError) → Stops contents m upto v w why → w.met ≡ met_stopping why v.met → PassMeets contents m.table v w (checkpoint_error why)
   stop_meets upto v w why (at_frame cause is x) met = stop_at_frame v w cause why is x met
   stop_meets upto v w why (at_log cause is x) met = stop_at_log _ upto v w cause why is x
-  stop_meets upto v w why (at_lane lane is low x) met = subst (λ (y : CheckpointError). PassMeets contents m.table v w (checkpoint_error y)) (sym is) (let n = ap (λ (k : Met). k.writes) (met ∙ ap (λ (y : CheckpointError). met_stopping y v.met) is) in omega arith)
+  stop_meets upto v w why (at_lane lane is low x) met = subst (λ (y : CheckpointError). PassMeets contents m.table v w (checkpoint_error y)) (sym is) (let n = ap (λ (k : FailedCalls). k.writes) (met ∙ ap (λ (y : CheckpointError). met_stopping y v.met) is) in omega arith)
 
   -- so it is since an earlier view
   pub meets_since : (u v w : View) (e : RewriteError) → u.end_seen ≤ v.end_seen → PassMeets contents m.table v w e → PassMeets contents m.table u w e
@@ -182,17 +182,17 @@ module _ {L G : Type 0} (contents : L → Option Pages) (m : Manager L G) where
     any_meets ps qs zs e some_ long seen_ps seen_qs (inr (why, is, meets, whole)) = inr (subst (λ (y : RewriteError). AnyMeets zs y) (sym is) (last_meets qs zs (checkpoint_error why) some_ long seen_qs meets))
 
 -- what one pass met is met by all in all, and where none met anything nothing is
-met_by_one : (f : Met → ℕ) → ((a b : Met) → f (sum_of_met a b) ≡ f a + f b) → (ps : List PassState) (i : ℕ) (p : PassState) → get_elem? ps i ≡ some p → 0 < f p.view.met → 0 < f (met_by_passes ps)
+met_by_one : (f : FailedCalls → ℕ) → ((a b : FailedCalls) → f (sum_of_met a b) ≡ f a + f b) → (ps : List PassState) (i : ℕ) (p : PassState) → get_elem? ps i ≡ some p → 0 < f p.view.met → 0 < f (met_by_passes ps)
 met_by_one f adds [] i p at more = absurd (some-ne-none p (sym at))
 met_by_one f adds (q ∷ ps) zero p at more = let same = ap (λ (x : PassState). f x.view.met) (some-injective q p at) in let both = adds q.view.met (met_by_passes ps) in omega arith
 met_by_one f adds (q ∷ ps) (suc i) p at more = let later = met_by_one f adds ps i p at more in let both = adds q.view.met (met_by_passes ps) in omega arith
 
-abbrev nothing_met : Met
+abbrev nothing_met : FailedCalls
 nothing_met = record { reads = 0; writes = 0; logs = 0 }
 
 pub met_by_none : (ps : List PassState) → ((i : ℕ) (p : PassState) → get_elem? ps i ≡ some p → p.view.met ≡ nothing_met) → met_by_passes ps ≡ nothing_met
 met_by_none [] each = refl
-met_by_none (p ∷ ps) each = ap (λ (k : Met). sum_of_met k (met_by_passes ps)) (each 0 p refl) ∙ ap (sum_of_met nothing_met) (met_by_none ps (λ i. each (suc i)))
+met_by_none (p ∷ ps) each = ap (λ (k : FailedCalls). sum_of_met k (met_by_passes ps)) (each 0 p refl) ∙ ap (sum_of_met nothing_met) (met_by_none ps (λ i. each (suc i)))
 
 module _ {L G : Type 0} (d : Devices L G) (m : Manager L G) (r : RelationFork) (base : ℕ) (ps zs : List PassState) (started : IsStarted d.contents r base m ps) (few : r.blocks < 2 ^ 32)
     (lanes : List L) (log : G) (c : ClosesAll d m.table.table.shared.key zs lanes log) where
@@ -236,8 +236,8 @@ module _ {L G : Type 0} (d : Devices L G) (m : Manager L G) (r : RelationFork) (
         omega arith
 
     cause_at : (e : RewriteError) → AnyMeets d.contents m zs e → IsRewriteCause (sum_by d.read_faults lanes) (sum_by d.write_faults lanes) (d.log_faults (log_of m)) (d.log_faults log) e
-    cause_at ReadFault x = some_read_failed d m.table.table.shared.key zs lanes log c started.counted reads (met_by_one (λ (k : Met). k.reads) (λ a b. refl) zs x.place x.pass x.at x.meets)
-    cause_at WriteFault x = some_write_failed d m.table.table.shared.key zs lanes log c started.counted writes (met_by_one (λ (k : Met). k.writes) (λ a b. refl) zs x.place x.pass x.at x.meets)
+    cause_at ReadFault x = some_read_failed d m.table.table.shared.key zs lanes log c started.counted reads (met_by_one (λ (k : FailedCalls). k.reads) (λ a b. refl) zs x.place x.pass x.at x.meets)
+    cause_at WriteFault x = some_write_failed d m.table.table.shared.key zs lanes log c started.counted writes (met_by_one (λ (k : FailedCalls). k.writes) (λ a b. refl) zs x.place x.pass x.at x.meets)
     cause_at LogFault x = risen_rose (d.log_faults (log_of m)) (d.log_faults log)
         (subst (λ (n : ℕ). HasRisen (d.log_faults (log_of m)) n) c.device.faults
         (subst (λ (n : ℕ). HasRisen n c.state.device.faults) c.opened.log_faults ((c.each x.place x.pass x.at).down x.meets)))
@@ -255,8 +255,8 @@ module _ {L G : Type 0} (d : Devices L G) (m : Manager L G) (r : RelationFork) (
     ok_cause totals none = record {
       logs_later = logs_later;
       cause = (
-        no_read_failed d m.table.table.shared.key zs lanes log c started.counted reads (ap (λ (k : Met). k.reads) none),
-        no_write_counted d m.table.table.shared.key zs lanes log c started.counted writes (ap (λ (k : Met). k.writes) none),
+        no_read_failed d m.table.table.shared.key zs lanes log c started.counted reads (ap (λ (k : FailedCalls). k.reads) none),
+        no_write_counted d m.table.table.shared.key zs lanes log c started.counted writes (ap (λ (k : FailedCalls). k.writes) none),
         dite (ℕ_discrete (d.log_faults log) (d.log_faults (log_of m)))
             (λ (same : d.log_faults log ≡ d.log_faults (log_of m)). same)
             (λ (other : d.log_faults log ≢ d.log_faults (log_of m)). absurd (
@@ -265,7 +265,7 @@ module _ {L G : Type 0} (d : Devices L G) (m : Manager L G) (r : RelationFork) (
             let last = c.device.faults in
             let less : d.log_faults (log_of m) < d.log_faults log = omega (arith, other) in
             let more = c.logs_met (omega arith) in
-            let zero_ = ap (λ (k : Met). k.logs) none in
+            let zero_ = ap (λ (k : FailedCalls). k.logs) none in
             omega arith
             )),
       );

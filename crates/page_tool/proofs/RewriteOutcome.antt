@@ -6,7 +6,7 @@ use lib.ListN.{get_elem?}
 use Rattle.page_layout.specs.declared.outcomes.RewriteTotals.{RewriteTotals}
 use Rattle.page_layout.specs.Outcomes.{rewrite_totals_of}
 use Rattle.segment_store.specs.Contents.{AreWhole}
-use Rattle.pin_core.specs.declared.view.Met.{Met}
+use Rattle.pin_core.specs.declared.view.FailedCalls.{FailedCalls}
 use Rattle.pin_core.specs.declared.view.View.{View}
 use Rattle.pin_core.specs.State.{Page}
 use Rattle.table_rule.specs.Shows.{Devices}
@@ -135,10 +135,10 @@ module _ {L G : Type 0} (d : Devices L G) (m : Manager L G) (r : RelationFork) (
           either = λ pages known are told. leaves_either d m r base ps zs started few lanes log c pages are x.1 known told full_pages x.0;
           whole = λ pages known are told.
               let y = rewritten 0 r.fork ps s.qs zs s.whole.counts s.whole.stores.upto lanes log (stored pages are totals s) c in
-              is_rewritten d m r base ps zs started few lanes log c (ap (λ (k : Met). k.writes) unmet) pages are y.0 x.1 y.2 none (ap (λ (k : Met). k.logs) unmet) known told full_pages stays_used;
+              is_rewritten d m r base ps zs started few lanes log c (ap (λ (k : FailedCalls). k.writes) unmet) pages are y.0 x.1 y.2 none (ap (λ (k : FailedCalls). k.logs) unmet) known told full_pages stays_used;
           totals = λ pages are. totals_are pages are totals s;
           held = λ pages are. pages_held d m r base ps zs started few lanes log c pages are;
-          unfailed = λ pages are. unfailed d m r base ps zs started few lanes log c (ap (λ (k : Met). k.writes) unmet) pages are;
+          unfailed = λ pages are. unfailed d m r base ps zs started few lanes log c (ap (λ (k : FailedCalls). k.writes) unmet) pages are;
           positions = tt;
         }
     leaves (Err e) s =

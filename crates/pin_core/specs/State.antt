@@ -14,7 +14,7 @@ use Rattle.pin_core.specs.declared.view.Link.{Link}
 use Rattle.pin_core.specs.declared.view.PartitionHold.{PartitionHold}
 use Rattle.pin_core.specs.declared.view.LaneHold.{LaneHold}
 use Rattle.pin_core.specs.declared.view.LogHold.{LogHold}
-use Rattle.pin_core.specs.declared.view.Met.{Met}
+use Rattle.pin_core.specs.declared.view.FailedCalls.{FailedCalls}
 use Rattle.pin_core.specs.declared.view.Checkpoint.{Checkpoint}
 use Rattle.pin_core.specs.declared.view.View.{View}
 use Rattle.std.specs.Option.{is_some}
@@ -166,7 +166,7 @@ first_view base frames partitions lanes = record (new_view 0 base frames partiti
 abbrev pub emptied_view : View
 emptied_view = record (new_view 0 0 0 0 0) { emptied = true }
 
-abbrev pub sum_of_met : Met → Met → Met
+abbrev pub sum_of_met : FailedCalls → FailedCalls → FailedCalls
 sum_of_met a b = record { reads = a.reads + b.reads; writes = a.writes + b.writes; logs = a.logs + b.logs }
 
 -- the checkpoint of a view, as it is kept when the view is joined into the first

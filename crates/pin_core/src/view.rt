@@ -263,7 +263,7 @@ pub enum DeviceCall {
 }
 
 /// How many device calls failed, by the part that failed.
-pub struct Met {
+pub struct FailedCalls {
     pub reads: u64,
     pub writes: u64,
     pub logs: u64,
@@ -323,7 +323,7 @@ pub struct View {
     /// The checkpoints of the backends that were joined into this one.
     pub kept: [Checkpoint; 0],
     pub device_calls: [DeviceCall; 0],
-    pub met: Met,
+    pub met: FailedCalls,
     /// Under the log's latch the backend saw the log down, or saw its own call fail.
     pub saw_down: bool,
     /// The backend has marked a frame dirty, or called a lane's sync.

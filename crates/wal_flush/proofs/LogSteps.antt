@@ -4,7 +4,7 @@ use Rattle.pin_core.specs.declared.view.DeviceCall.{DeviceCall}
 use Rattle.pin_core.specs.declared.view.DeviceCall.TheVariants.{LogAppend, LogSync}
 use Rattle.pin_core.specs.declared.view.LogChange.TheVariants.{Untouched}
 use Rattle.pin_core.specs.declared.view.LogHold.{LogHold}
-use Rattle.pin_core.specs.declared.view.Met.{Met}
+use Rattle.pin_core.specs.declared.view.FailedCalls.{FailedCalls}
 use Rattle.pin_core.specs.declared.view.TakenLog.{TakenLog}
 use Rattle.pin_core.specs.declared.view.View.{View}
 use Rattle.pin_core.specs.State.{Page, no_log, sum_of_met}
@@ -20,16 +20,16 @@ use Rattle.wal_flush.specs.Latched.{FindsDown, GoesOutUp, Opens, downed, faulted
 abbrev pub quiet : LogKind → View → View
 quiet k v = record v { log = log_hold_after k v.log; steps = v.steps + 1 }
 
-abbrev pub counting : LogKind → List DeviceCall → Met → Bool → View → View
+abbrev pub counting : LogKind → List DeviceCall → FailedCalls → Bool → View → View
 counting k calls met down v = record v { log = log_hold_after k v.log; device_calls = calls; met = met; saw_down = down; steps = v.steps + 1 }
 
-counts : (k : LogKind) (v : View) (calls : List DeviceCall) (met : Met) (down : Bool) → v.device_calls ++ calls_by k ≡ calls → sum_of_met v.met (met_by k) ≡ met → (v.saw_down || sees_down k) ≡ down → view_logged k v ≡ counting k calls met down v
+counts : (k : LogKind) (v : View) (calls : List DeviceCall) (met : FailedCalls) (down : Bool) → v.device_calls ++ calls_by k ≡ calls → sum_of_met v.met (met_by k) ≡ met → (v.saw_down || sees_down k) ≡ down → view_logged k v ≡ counting k calls met down v
 counts k v calls met down c m d = λ i. record (quiet k v) { device_calls = c i; met = m i; saw_down = d i }
 
-none_met : (m : Met) → sum_of_met m (record { reads = 0; writes = 0; logs = 0 }) ≡ m
+none_met : (m : FailedCalls) → sum_of_met m (record { reads = 0; writes = 0; logs = 0 }) ≡ m
 none_met m = let r : m.reads + 0 ≡ m.reads = omega arith in let w : m.writes + 0 ≡ m.writes = omega arith in let l : m.logs + 0 ≡ m.logs = omega arith in λ i. record { reads = r i; writes = w i; logs = l i }
 
-one_met : (m : Met) → sum_of_met m (record { reads = 0; writes = 0; logs = 1 }) ≡ record m { logs = m.logs + 1 }
+one_met : (m : FailedCalls) → sum_of_met m (record { reads = 0; writes = 0; logs = 1 }) ≡ record m { logs = m.logs + 1 }
 one_met m = let r : m.reads + 0 ≡ m.reads = omega arith in let w : m.writes + 0 ≡ m.writes = omega arith in λ i. record { reads = r i; writes = w i; logs = m.logs + 1 }
 
 or_false : (b : Bool) → (b || false) ≡ b

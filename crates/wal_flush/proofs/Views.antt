@@ -9,7 +9,7 @@ use Rattle.pin_core.specs.declared.view.DeviceCall.TheVariants.{LogAppend, LogSy
 use Rattle.pin_core.specs.declared.view.Link.{Link}
 use Rattle.pin_core.specs.declared.view.LogChange.TheVariants.{Untouched}
 use Rattle.pin_core.specs.declared.view.LogHold.{LogHold}
-use Rattle.pin_core.specs.declared.view.Met.{Met}
+use Rattle.pin_core.specs.declared.view.FailedCalls.{FailedCalls}
 use Rattle.pin_core.specs.declared.view.View.{View}
 use Rattle.pin_core.specs.State.{Page, idle, link, no_log}
 use Rattle.history_core.specs.Device.{take_log, leave_log, log_out, append, sync_log, log_back}
@@ -172,7 +172,7 @@ holder_refused lsn end (flush_log.LogDown at) v u w within s down = record { wit
 holder_refused lsn end flush_log.LogFault v u w within s failed = record { within = within; looked = u; second = s; work = failed }
 
 -- what is as it was where but for looks only calls of devices and faults are counted
-counted_work : (v w : View) (calls : List DeviceCall) (met : Met) (down : Bool) → w ≡ as_looked (record v { device_calls = calls; met = met; saw_down = down }) w → KeepsWork v w
+counted_work : (v w : View) (calls : List DeviceCall) (met : FailedCalls) (down : Bool) → w ≡ as_looked (record v { device_calls = calls; met = met; saw_down = down }) w → KeepsWork v w
 counted_work v w calls met down e = ap kept_of e
 
 pub flushed_work : (by : FlushedBy) (v w : View) → w ≡ as_looked (flushed_view by v) w → KeepsWork v w

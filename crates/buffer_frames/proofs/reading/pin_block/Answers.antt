@@ -1,6 +1,6 @@
 use Rattle.std.proofs.Common.{Bool, [], refl, inl, subst, ap, ◌∙◌}
 use Rattle.block_tag.specs.Names.{packed_tag}
-use Rattle.pin_core.specs.declared.view.Met.{Met}
+use Rattle.pin_core.specs.declared.view.FailedCalls.{FailedCalls}
 use Rattle.frame_table.specs.Seats.{frames_of}
 use Rattle.frame_table.proofs.Rising.{rises_on}
 use Rattle.buffer_frames.specs.Reads.{Locates}
@@ -24,7 +24,7 @@ pub returns-clause-answer : goal.returns-clause-answer
 returns-clause-answer g c = claim_from _ _ (packed_tag c.args.tag) c.args.held.now _ c.args.seat.now.me.0 c.look_up.new.seat.me.0 c.claim.new.seat.me.0 c.claim.result c.requires.rests c.in_default.ensures.rests (grows_outside c.args.seat.now.me.0 c.look_up.new.seat.me.0 c.look_up.ensures.grows c.look_up.ensures.same) c.claim.ensures.answer
 
 pub returns-clause-met : goal.returns-clause-met
-returns-clause-met g c = c.claim.ensures.met ∙ ap (λ (m : Met). met_claimed c.claim.result m) (met_outside c.args.seat.now.me.0 c.look_up.new.seat.me.0 c.look_up.ensures.same)
+returns-clause-met g c = c.claim.ensures.met ∙ ap (λ (m : FailedCalls). met_claimed c.claim.result m) (met_outside c.args.seat.now.me.0 c.look_up.new.seat.me.0 c.look_up.ensures.same)
 
 pub returns-clause-calls : goal.returns-clause-calls
 returns-clause-calls g c = answers_missed c.args.tag _ c.args.seat.now.me.0 c.claim.new.seat.me.0 c.claim.result (misses_then c.args.tag c.args.seat.now.me.0 c.look_up.new.seat.me.0 c.claim.new.seat.me.0 c.in_default.ensures.did c.look_up.ensures.same c.claim.ensures.advances c.claim.ensures.calls)

@@ -1,7 +1,7 @@
 use Rattle.std.proofs.Common.{◌≡◌, ◌≢◌, ℕ, [], ◌∷◌, refl, sym, ap, ◌∙◌, subst, true, false, arith}
 use Rattle.pin_core.specs.declared.view.View.{View}
 use Rattle.pin_core.specs.declared.view.DeviceCall.TheVariants.{LaneSync}
-use Rattle.pin_core.specs.declared.view.Met.{Met}
+use Rattle.pin_core.specs.declared.view.FailedCalls.{FailedCalls}
 use Rattle.frame_table.specs.Seats.{frames_of, lanes_in}
 use Rattle.buffer_frames.specs.Working.{Made, met_write}
 use Rattle.checkpointer.specs.Stages.{syncs_below}
@@ -10,8 +10,8 @@ use Rattle.checkpointer.proofs.Keeping.{keeps_none, keeps_on}
 use Rattle.checkpointer.proofs.Syncing.{calls_more, swept_more, synced_calls, synced_links, written_same}
 use Rattle.checkpointer.proofs.lanes.sync_lanes.Goals as goal
 
-one_more : (m : Met) → met_write m ≢ m
-one_more m e = let w = ap (λ (x : Met). x.writes) e in omega arith
+one_more : (m : FailedCalls) → met_write m ≢ m
+one_more m e = let w = ap (λ (x : FailedCalls). x.writes) e in omega arith
 
 pub loop-lane-init : goal.loop-lane-init
 loop-lane-init g c = record {
