@@ -22,7 +22,7 @@ use Rattle.held_pins.specs.Tokens.{HeldFrame, IsNew, IsPinnedFor, Tokens, held_a
 use Rattle.held_pins.specs.Rests.{HasNoDevice, HasNoLatch, LinksRest, Rests, kept_by_calls}
 use Rattle.held_pins.proofs.HeldLists.{more_tags, with_here, with_past}
 use Rattle.held_pins.proofs.Keeping.{rests_more, rests_more_pinned}
-use Rattle.buffer_frames.specs.declared.flushing.FlushError.TheVariants as flush
+use Rattle.buffer_frames.specs.declared.flushing.FrameFlushError.TheVariants as flush
 use Rattle.buffer_frames.specs.declared.victims.VictimError.TheVariants as victim
 use Rattle.buffer_frames.specs.declared.reading.BlockError.{BlockError}
 use Rattle.buffer_frames.specs.declared.reading.BlockError.TheVariants as block

@@ -10,7 +10,7 @@ use Rattle.pin_core.specs.declared.view.View.{View}
 use Rattle.frame_table.specs.declared.table.FrameTable.{FrameTable}
 use Rattle.wal_flush.specs.declared.flushes.FlushLog.TheVariants as log
 use Rattle.held_pins.specs.Tokens.{Tokens, count_of}
-use Rattle.buffer_frames.specs.declared.flushing.FlushError.TheVariants as flush
+use Rattle.buffer_frames.specs.declared.flushing.FrameFlushError.TheVariants as flush
 use Rattle.buffer_frames.specs.Loading.{WasUnsoundAtOpening}
 use Rattle.buffer_frames.specs.Victims.{LeavesDirty}
 use Rattle.backend_pass.specs.declared.errors.ReadError.{ReadError}

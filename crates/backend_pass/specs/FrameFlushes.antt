@@ -10,8 +10,8 @@ use Rattle.frame_table.specs.declared.table.FrameTable.{FrameTable}
 use Rattle.frame_table.specs.Seats.{OnlyRises}
 use Rattle.frame_table.specs.Opened.{WasAtOpening}
 use Rattle.wal_flush.specs.declared.flushes.FlushLog.TheVariants as log
-use Rattle.buffer_frames.specs.declared.flushing.FlushError as frames
-use Rattle.buffer_frames.specs.declared.flushing.FlushError.TheVariants as flush
+use Rattle.buffer_frames.specs.declared.flushing.FrameFlushError as frames
+use Rattle.buffer_frames.specs.declared.flushing.FrameFlushError.TheVariants as flush
 use Rattle.buffer_frames.specs.Flushing.{EndedInError, met_refused}
 use Rattle.buffer_sync.specs.Syncs.{WritesBlock}
 use Rattle.backend_pass.specs.declared.errors.FlushError.{FlushError}
@@ -20,13 +20,13 @@ use Rattle.backend_pass.specs.declared.met.Shown.{Shown}
 use Rattle.backend_pass.specs.Passes.{PassState, shown_log, shown_write}
 
 -- the refusal of a pass's frames that it tells of, and their answer
-abbrev pub frame_refusal : FlushError → frames.FlushError
+abbrev pub frame_refusal : FlushError → frames.FrameFlushError
 frame_refusal (WriteFault tag) = flush.WriteFault tag
 frame_refusal LogFault = flush.Log log.LogFault
 frame_refusal (LogDown at) = flush.Log (log.LogDown at)
 frame_refusal (LogShort lsn end) = flush.Log (log.LogShort lsn end)
 
-abbrev pub frame_answer : {A : Type 0} → Result A FlushError → Result A frames.FlushError
+abbrev pub frame_answer : {A : Type 0} → Result A FlushError → Result A frames.FrameFlushError
 frame_answer (Ok done) = Ok done
 frame_answer (Err why) = Err (frame_refusal why)
 

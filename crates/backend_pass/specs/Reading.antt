@@ -17,7 +17,7 @@ use Rattle.frame_table.specs.Opened.{WasSoundAtOpening}
 use Rattle.frame_table.specs.Seats.{frames_of, lanes_in, relations_of}
 use Rattle.wal_flush.specs.declared.flushes.FlushLog.TheVariants as log
 use Rattle.held_pins.specs.Tokens.{Tokens, count_of, held_at, tokens_with}
-use Rattle.buffer_frames.specs.declared.flushing.FlushError.TheVariants as flush
+use Rattle.buffer_frames.specs.declared.flushing.FrameFlushError.TheVariants as flush
 use Rattle.buffer_frames.specs.declared.victims.VictimError.TheVariants as victim
 use Rattle.buffer_frames.specs.declared.reading.BlockError.{BlockError}
 use Rattle.buffer_frames.specs.declared.reading.BlockError.TheVariants as block

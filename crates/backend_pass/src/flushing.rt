@@ -31,14 +31,14 @@ use std::sync::Wait;
 use wal_flush::FlushLog;
 
 /// The refusal of a pass whose frames refuse a flush.
-pub(crate) fn refused(why: buffer_frames::FlushError) -> FlushError
+pub(crate) fn refused(why: buffer_frames::FrameFlushError) -> FlushError
     ensures { frame_refusal result ≡ why }
 {
     match why {
-        buffer_frames::FlushError::WriteFault { tag } => FlushError::WriteFault { tag },
-        buffer_frames::FlushError::Log(FlushLog::LogFault) => FlushError::LogFault,
-        buffer_frames::FlushError::Log(FlushLog::LogDown { at }) => FlushError::LogDown { at },
-        buffer_frames::FlushError::Log(FlushLog::LogShort { lsn, end }) => {
+        buffer_frames::FrameFlushError::WriteFault { tag } => FlushError::WriteFault { tag },
+        buffer_frames::FrameFlushError::Log(FlushLog::LogFault) => FlushError::LogFault,
+        buffer_frames::FrameFlushError::Log(FlushLog::LogDown { at }) => FlushError::LogDown { at },
+        buffer_frames::FrameFlushError::Log(FlushLog::LogShort { lsn, end }) => {
             FlushError::LogShort { lsn, end }
         }
     }
@@ -97,7 +97,7 @@ fn flush_seated<L: BlockLane, G: LogDevice, R: Wait>(
     page: &mut Page,
     frame: u32,
     tag: Tag,
-) -> Result<bool, buffer_frames::FlushError>
+) -> Result<bool, buffer_frames::FrameFlushError>
     requires table { badge.old.table_id ≡ table.now.table.shared.table_id }
     requires view { badge.old.views ≡ view_in badge.old.views ∷ [] }
     requires rests { Rests held.now (view_in badge.old.views) }

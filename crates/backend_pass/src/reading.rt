@@ -18,7 +18,7 @@ use crate::pinned::Pinned;
 use access_rings::Ring;
 use atomic_table::Badge;
 use block_tag::Tag;
-use buffer_frames::{BlockError, FlushError, PinnedBlock, VictimError, read_block};
+use buffer_frames::{BlockError, FrameFlushError, PinnedBlock, VictimError, read_block};
 use clock_sweep::Census;
 use crossbeam_utils::CachePadded;
 use frame_table::Value;
@@ -37,16 +37,16 @@ fn refused(why: BlockError) -> ReadError
 {
     match why {
         BlockError::NoFrame(VictimError::NoUnpinned { frames }) => ReadError::NoUnpinned { frames },
-        BlockError::NoFrame(VictimError::Flush(FlushError::WriteFault { tag })) => {
+        BlockError::NoFrame(VictimError::Flush(FrameFlushError::WriteFault { tag })) => {
             ReadError::WriteFault { tag }
         }
-        BlockError::NoFrame(VictimError::Flush(FlushError::Log(FlushLog::LogFault))) => {
+        BlockError::NoFrame(VictimError::Flush(FrameFlushError::Log(FlushLog::LogFault))) => {
             ReadError::LogFault
         }
-        BlockError::NoFrame(VictimError::Flush(FlushError::Log(FlushLog::LogDown { at }))) => {
+        BlockError::NoFrame(VictimError::Flush(FrameFlushError::Log(FlushLog::LogDown { at }))) => {
             ReadError::LogDown { at }
         }
-        BlockError::NoFrame(VictimError::Flush(FlushError::Log(FlushLog::LogShort { lsn, end }))) =>
+        BlockError::NoFrame(VictimError::Flush(FrameFlushError::Log(FlushLog::LogShort { lsn, end }))) =>
             { ReadError::LogShort { lsn, end } }
         BlockError::ReadFault { tag } => ReadError::ReadFault { tag },
         BlockError::Unsound { tag } => ReadError::Unsound { tag },

@@ -39,7 +39,7 @@ fn sync_seated<L: BlockLane, G: LogDevice, R: Wait>(
     page: &mut Page,
     frame: u32,
     only: SyncOnly,
-) -> Result<Synced, buffer_frames::FlushError>
+) -> Result<Synced, buffer_frames::FrameFlushError>
     requires table { badge.old.table_id ≡ table.now.table.shared.table_id }
     requires view { badge.old.views ≡ view_in badge.old.views ∷ [] }
     requires rests { Rests held.now (view_in badge.old.views) }
@@ -172,7 +172,7 @@ fn sync_lane_seated<L: BlockLane, G: LogDevice, R: Wait>(
 }
 
 /// The refusal of a pass, by that of its frames.
-fn told(answer: Result<Synced, buffer_frames::FlushError>) -> Result<Synced, FlushError>
+fn told(answer: Result<Synced, buffer_frames::FrameFlushError>) -> Result<Synced, FlushError>
     ensures { frame_answer result ≡ answer }
 {
     match answer {

@@ -32,8 +32,8 @@ use Rattle.held_pins.specs.Rests.{LinkRests}
 use Rattle.held_pins.specs.Tokens.{HeldFrame, IsPinnedFor, Tokens, held_at}
 use Rattle.frame_table.proofs.Rising.{rises_none, rises_on}
 use Rattle.held_pins.proofs.Keeping.{beside_kept}
-use Rattle.buffer_frames.specs.declared.flushing.FlushError.{FlushError}
-use Rattle.buffer_frames.specs.declared.flushing.FlushError.TheVariants.{Log, WriteFault}
+use Rattle.buffer_frames.specs.declared.flushing.FrameFlushError.{FrameFlushError}
+use Rattle.buffer_frames.specs.declared.flushing.FrameFlushError.TheVariants.{Log, WriteFault}
 use Rattle.buffer_frames.specs.Flushing.{ClearsJust, CopiesAnd, EndedInError, EndedWritten, EndsWrite, FlushAnswer, LogRefuses, LogShows, RejectsVictim, WriteAnswer, WentToLane, log_syncs, syncs_refused}
 use Rattle.buffer_frames.specs.Stages.{HasVictim, IsPinned}
 use Rattle.buffer_frames.specs.Working.{Calls, IsFlushCall, Made, WorksAt}
@@ -94,11 +94,11 @@ written_between f v u x w before e m after = record {
 }
 
 -- so it is with an answer
-pub error_after : (f : ℕ) (v u w : View) (r : Result Bool FlushError) → OnlyRises v u → IfErr r (λ _. EndedInError f u w) → IfErr r (λ _. EndedInError f v w)
+pub error_after : (f : ℕ) (v u w : View) (r : Result Bool FrameFlushError) → OnlyRises v u → IfErr r (λ _. EndedInError f u w) → IfErr r (λ _. EndedInError f v w)
 error_after f v u w (Ok wrote) before e = tt
 error_after f v u w (Err why) before e = error_between f v u w w before e refl (rises_none w)
 
-pub written_after : (f : ℕ) (v u w : View) (r : Result Bool FlushError) → OnlyRises v u → IfOk r (λ wrote. wrote ≡ true → EndedWritten f u w) → IfOk r (λ wrote. wrote ≡ true → EndedWritten f v w)
+pub written_after : (f : ℕ) (v u w : View) (r : Result Bool FrameFlushError) → OnlyRises v u → IfOk r (λ wrote. wrote ≡ true → EndedWritten f u w) → IfOk r (λ wrote. wrote ≡ true → EndedWritten f v w)
 written_after f v u w (Ok wrote) before e = λ same. written_between f v u w w before (e same) refl (rises_none w)
 written_after f v u w (Err why) before e = tt
 
@@ -129,12 +129,12 @@ module _ {L G : Type 0} (contents : L → Option Pages) (t : FrameTable L G) whe
     shows = shows_between why tag page v u x w a.end_seen b.end_seen (ap (λ (y : View). y.saw_down) self) r.shows;
   }
 
-  pub write_between : (q : ℕ) (tag : Tag) (page : Page) (v u x w : View) (r : Result Unit FlushError) → u.device_calls ≡ v.device_calls → OnlyRises v u → WriteAnswer contents t q tag page u x r → SameSelf x w → OnlyRises x w → WriteAnswer contents t q tag page v w r
+  pub write_between : (q : ℕ) (tag : Tag) (page : Page) (v u x w : View) (r : Result Unit FrameFlushError) → u.device_calls ≡ v.device_calls → OnlyRises v u → WriteAnswer contents t q tag page u x r → SameSelf x w → OnlyRises x w → WriteAnswer contents t q tag page v w r
   write_between q tag page v u x w (Ok done) before a e self b = wrote_between true q (packed_tag tag) page v u x w before a e (ap (λ (y : View). y.device_calls) self) b
   write_between q tag page v u x w (Err (Log why)) before a e self b = refuses_between why tag page v u x w before a e self b
   write_between q tag page v u x w (Err (WriteFault failed)) before a e self b = (e.0, wrote_between false q (packed_tag tag) page v u x w before a e.1 (ap (λ (y : View). y.device_calls) self) b)
 
-  pub copies_between : (q : ℕ) (tag : Tag) (f : ℕ) (v u x w : View) (r : Result Unit FlushError) → u.device_calls ≡ v.device_calls → OnlyRises v u → CopiesAnd (λ p a b. WriteAnswer contents t q tag p a b r) f u x → SameSelf x w → OnlyRises x w → CopiesAnd (λ p a b. WriteAnswer contents t q tag p a b r) f v w
+  pub copies_between : (q : ℕ) (tag : Tag) (f : ℕ) (v u x w : View) (r : Result Unit FrameFlushError) → u.device_calls ≡ v.device_calls → OnlyRises v u → CopiesAnd (λ p a b. WriteAnswer contents t q tag p a b r) f u x → SameSelf x w → OnlyRises x w → CopiesAnd (λ p a b. WriteAnswer contents t q tag p a b r) f v w
   copies_between q tag f v u x w r before a c self b = record {
     page = c.page;
     sound = c.sound;
@@ -145,7 +145,7 @@ module _ {L G : Type 0} (contents : L → Option Pages) (t : FrameTable L G) whe
   }
 
   -- and of a flush
-  pub flush_between : (q : ℕ) (tag : Tag) (f : ℕ) (v u x w : View) (r : Result Bool FlushError) → u.device_calls ≡ v.device_calls → OnlyRises v u → FlushAnswer contents t q tag f u x r → SameSelf x w → OnlyRises x w → FlushAnswer contents t q tag f v w r
+  pub flush_between : (q : ℕ) (tag : Tag) (f : ℕ) (v u x w : View) (r : Result Bool FrameFlushError) → u.device_calls ≡ v.device_calls → OnlyRises v u → FlushAnswer contents t q tag f u x r → SameSelf x w → OnlyRises x w → FlushAnswer contents t q tag f v w r
   flush_between q tag f v u x w (Ok true) before a c self b = copies_between q tag f v u x w (Ok tt) before a c self b
   flush_between q tag f v u x w (Ok false) before a c self b = record { finds = within_on (FindsNothing false f) v u x w a c.finds b; calls = ap (λ (y : View). y.device_calls) self ∙ c.calls ∙ before }
   flush_between q tag f v u x w (Err why) before a c self b = copies_between q tag f v u x w (Err why) before a c self b
@@ -185,12 +185,12 @@ wrote_makes_flush_calls : (done : Bool) (q tag : ℕ) (page : Page) (v w : View)
 wrote_makes_flush_calls done q tag page v w e = record { made = log_syncs e.synced ++ LaneWrite q tag e.left done ∷ []; calls = made_on (log_syncs e.synced) (LaneWrite q tag e.left done ∷ []) v e.ready w e.log_calls e.lane_call; each = wrote_by_flush_calls e.synced q tag e.left done }
 
 module _ {L G : Type 0} (contents : L → Option Pages) (t : FrameTable L G) where
-  write_makes_flush_calls : (q : ℕ) (tag : Tag) (page : Page) (v w : View) (r : Result Unit FlushError) → WriteAnswer contents t q tag page v w r → Calls IsFlushCall v w
+  write_makes_flush_calls : (q : ℕ) (tag : Tag) (page : Page) (v w : View) (r : Result Unit FrameFlushError) → WriteAnswer contents t q tag page v w r → Calls IsFlushCall v w
   write_makes_flush_calls q tag page v w (Ok done) e = wrote_makes_flush_calls true q (packed_tag tag) page v w e
   write_makes_flush_calls q tag page v w (Err (Log why)) e = record { made = syncs_refused why; calls = e.calls; each = refused_by_flush_calls why }
   write_makes_flush_calls q tag page v w (Err (WriteFault failed)) e = wrote_makes_flush_calls false q (packed_tag tag) page v w e.1
 
-  pub flush_makes_flush_calls : (q : ℕ) (tag : Tag) (f : ℕ) (v w : View) (r : Result Bool FlushError) → FlushAnswer contents t q tag f v w r → Calls IsFlushCall v w
+  pub flush_makes_flush_calls : (q : ℕ) (tag : Tag) (f : ℕ) (v w : View) (r : Result Bool FrameFlushError) → FlushAnswer contents t q tag f v w r → Calls IsFlushCall v w
   flush_makes_flush_calls q tag f v w (Ok true) c = write_makes_flush_calls q tag c.page v w (Ok tt) c.work
   flush_makes_flush_calls q tag f v w (Ok false) c = none_made v w (made_none v w c.calls)
   flush_makes_flush_calls q tag f v w (Err why) c = write_makes_flush_calls q tag c.page v w (Err why) c.work

@@ -15,7 +15,7 @@ use Rattle.frame_table.specs.Seats.{OnlyRises}
 use Rattle.held_pins.specs.Rests.{LinksRest}
 use Rattle.held_pins.specs.Tokens.{Tokens}
 use Rattle.frame_table.proofs.Rising.{rises_none, rises_on}
-use Rattle.buffer_frames.specs.declared.flushing.FlushError.{FlushError}
+use Rattle.buffer_frames.specs.declared.flushing.FrameFlushError.{FrameFlushError}
 use Rattle.buffer_frames.specs.declared.victims.VictimError.{VictimError}
 use Rattle.buffer_frames.specs.declared.victims.VictimError.TheVariants.{Flush, NoUnpinned}
 use Rattle.buffer_frames.specs.Flushing.{VictimAnswer, locked, rejected}
@@ -39,7 +39,7 @@ pub calls_through : (P : DeviceCall → Type 0) (v u x w : View) → outside_of 
 calls_through P v u x w before a after = record { made = a.made; calls = calls_outside x w after ∙ a.calls ∙ ap (λ (l : List DeviceCall). l ++ a.made) (calls_outside v u before); each = a.each }
 
 -- a ring that a flush of a victim leaves
-pub shape_answered : {L G : Type 0} (contents : L → Option Pages) (t : FrameTable L G) (q : ℕ) (tag : Tag) (f : ℕ) (from_ring : Bool) (before after : Option RingState) (v w : View) (r : Result Bool FlushError) → VictimAnswer contents t q tag f from_ring before after v w r → ring_shape after ≡ ring_shape before
+pub shape_answered : {L G : Type 0} (contents : L → Option Pages) (t : FrameTable L G) (q : ℕ) (tag : Tag) (f : ℕ) (from_ring : Bool) (before after : Option RingState) (v w : View) (r : Result Bool FrameFlushError) → VictimAnswer contents t q tag f from_ring before after v w r → ring_shape after ≡ ring_shape before
 shape_answered contents t q tag f from_ring before after v w (Ok true) a = ap ring_shape a.0
 shape_answered contents t q tag f from_ring before after v w (Ok false) (locked why refuses same calls) = ap ring_shape same
 shape_answered contents t q tag f from_ring before after v w (Ok false) (rejected r calls) = shape_rejected before after r.ring r.was r.empty
@@ -59,7 +59,7 @@ pub all_pinned_from : (t : Tokens) (n : ℕ) (v u w : View) (words : List ℕ) �
 all_pinned_from t n v u w words a b since x = record { start = x.start; since = rises_on v u x.start since x.since; pins = λ f. x.pins f ∙ (b f).role ∙ sym (a f).role; place = x.place; all = x.all }
 
 module _ {L G : Type 0} (contents : L → Option Pages) (t : FrameTable L G) where
-  pub dirty_from : (why : FlushError) (v u w : View) → OnlyRises v u → LeavesDirty contents t why u w → LeavesDirty contents t why v w
+  pub dirty_from : (why : FrameFlushError) (v u w : View) → OnlyRises v u → LeavesDirty contents t why u w → LeavesDirty contents t why v w
   dirty_from why v u w since x = record { frame = x.frame; tag = x.tag; named = x.named; listed = x.listed; before = x.before; after = x.after; since = rises_on v u x.before since x.since; answer = x.answer; until = x.until; ended = x.ended }
 
   pub refused_from : (held : Tokens) (words : List ℕ) (v u w : View) (why : VictimError) → LinksRest held v → LinksRest held u → OnlyRises v u → VictimRefused contents t words u w why → VictimRefused contents t words v w why

@@ -22,7 +22,7 @@ use Rattle.wal_flush.proofs.Rising.{flushed_rises}
 use Rattle.held_pins.specs.Rests.{Stands, kept_by_calls}
 use Rattle.held_pins.proofs.Keeping.{devices_same, stands_on}
 use Rattle.buffer_frames.specs.Flushing.{CallsLane, LogRefuses, LogShows, WentToLane, met_refused, log_syncs, syncs_refused}
-use Rattle.buffer_frames.specs.declared.flushing.FlushError.TheVariants.{Log}
+use Rattle.buffer_frames.specs.declared.flushing.FrameFlushError.TheVariants.{Log}
 use Rattle.buffer_frames.specs.Working.{Made, WorksAt}
 use Rattle.buffer_frames.proofs.WorkSteps.{made_none, within_all}
 

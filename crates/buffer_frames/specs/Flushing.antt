@@ -29,8 +29,8 @@ use Rattle.wal_flush.specs.declared.flushes.FlushLog.{FlushLog}
 use Rattle.wal_flush.specs.declared.flushes.FlushLog.TheVariants.{LogShort, LogDown, LogFault}
 use Rattle.wal_flush.specs.Flushes.{FlushRefused}
 use Rattle.frame_table.specs.Seats.{OnlyRises}
-use Rattle.buffer_frames.specs.declared.flushing.FlushError.{FlushError}
-use Rattle.buffer_frames.specs.declared.flushing.FlushError.TheVariants.{Log, WriteFault}
+use Rattle.buffer_frames.specs.declared.flushing.FrameFlushError.{FrameFlushError}
+use Rattle.buffer_frames.specs.declared.flushing.FrameFlushError.TheVariants.{Log, WriteFault}
 use Rattle.buffer_frames.specs.Working.{Made, Within, met_log, met_write}
 
 -- the faults that were met by a write of a lane that was done, or wasn't
@@ -105,13 +105,13 @@ abbrev pub ClearsJust : ℕ → View → View → Type 0
 ClearsJust f v w = (word : ℕ) × Did (pages clear_just_dirtied) f v w word
 
 -- the faults that were met, by the refusal, and by the answer
-abbrev pub met_refused : FlushError → FailedCalls → FailedCalls
+abbrev pub met_refused : FrameFlushError → FailedCalls → FailedCalls
 met_refused (WriteFault tag) m = met_write m
 met_refused (Log LogFault) m = met_log m
 met_refused (Log (LogDown at)) m = m
 met_refused (Log (LogShort lsn end)) m = m
 
-abbrev pub met_flushing : {A : Type 0} → Result A FlushError → FailedCalls → FailedCalls
+abbrev pub met_flushing : {A : Type 0} → Result A FrameFlushError → FailedCalls → FailedCalls
 met_flushing (Ok done) m = m
 met_flushing (Err why) m = met_refused why m
 
@@ -152,13 +152,13 @@ module _ {L G : Type 0} (contents : L → Option Pages) (t : FrameTable L G) whe
     pub shows : LogShows why tag page v w
 
   -- what came of a write of a page that was copied
-  abbrev pub WriteAnswer : ℕ → Tag → Page → View → View → Result Unit FlushError → Type 0
+  abbrev pub WriteAnswer : ℕ → Tag → Page → View → View → Result Unit FrameFlushError → Type 0
   WriteAnswer q tag page v w (Ok done) = WentToLane true q (packed_tag tag) page v w
   WriteAnswer q tag page v w (Err (Log why)) = LogRefuses why tag page v w
   WriteAnswer q tag page v w (Err (WriteFault failed)) = (failed ≡ tag) × WentToLane false q (packed_tag tag) page v w
 
   -- what came of a flush of the frame f
-  abbrev pub FlushAnswer : ℕ → Tag → ℕ → View → View → Result Bool FlushError → Type 0
+  abbrev pub FlushAnswer : ℕ → Tag → ℕ → View → View → Result Bool FrameFlushError → Type 0
   FlushAnswer q tag f v w (Ok true) = CopiesAnd (λ page a b. WriteAnswer q tag page a b (Ok tt)) f v w
   FlushAnswer q tag f v w (Ok false) = FindsClean f v w
   FlushAnswer q tag f v w (Err why) = CopiesAnd (λ page a b. WriteAnswer q tag page a b (Err why)) f v w
@@ -174,7 +174,7 @@ module _ {L G : Type 0} (contents : L → Option Pages) (t : FrameTable L G) whe
     rejected : RejectsVictim f from_ring before after v w → Made [] v w → SparesVictim f from_ring before after v w
 
   -- what came of a dirty victim
-  abbrev pub VictimAnswer : ℕ → Tag → ℕ → Bool → Option RingState → Option RingState → View → View → Result Bool FlushError → Type 0
+  abbrev pub VictimAnswer : ℕ → Tag → ℕ → Bool → Option RingState → Option RingState → View → View → Result Bool FrameFlushError → Type 0
   VictimAnswer q tag f from_ring before after v w (Ok true) = (after ≡ before) × FreesVictim q tag f v w
   VictimAnswer q tag f from_ring before after v w (Ok false) = SparesVictim f from_ring before after v w
   VictimAnswer q tag f from_ring before after v w (Err why) = (after ≡ before) × FlushAnswer q tag f v w (Err why)

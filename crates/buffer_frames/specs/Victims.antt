@@ -16,7 +16,7 @@ use Rattle.clock_sweep.specs.Choosing.{FindsNone}
 use Rattle.clock_sweep.specs.Keeping.{SamePins}
 use Rattle.held_pins.specs.Rests.{LinksRest}
 use Rattle.held_pins.specs.Tokens.{Tokens}
-use Rattle.buffer_frames.specs.declared.flushing.FlushError.{FlushError}
+use Rattle.buffer_frames.specs.declared.flushing.FrameFlushError.{FrameFlushError}
 use Rattle.buffer_frames.specs.declared.victims.Freed.{Freed}
 use Rattle.buffer_frames.specs.declared.victims.Freed.TheVariants.{Again, Ready, Refused}
 use Rattle.buffer_frames.specs.declared.victims.VictimError.{VictimError}
@@ -41,7 +41,7 @@ pub record FindsAllPinned (n : ℕ) (v w : View) (words : List ℕ) : Type 0 whe
 
 module _ {L G : Type 0} (contents : L → Option Pages) (t : FrameTable L G) where
   -- A victim's page was not written, for this reason, and no device was called after that
-  pub record LeavesDirty (why : FlushError) (v w : View) : Type 0 where
+  pub record LeavesDirty (why : FrameFlushError) (v w : View) : Type 0 where
     pub frame : ℕ
     pub tag : Tag
     pub named : names_block tag ≡ true

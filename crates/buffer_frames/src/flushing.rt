@@ -32,7 +32,7 @@ use wal_flush::{FlushLog, flush_to};
 
 /// Why a frame was not written.
 #[derive(Clone, Copy, PartialEq, Eq, Debug, Error)]
-pub enum FlushError {
+pub enum FrameFlushError {
     /// The log was not flushed up to the page's position.
     #[error("{0}")]
     Log(FlushLog),
@@ -113,7 +113,7 @@ fn write_logged<L: BlockLane, G: LogDevice, R: Wait>(
     frame: u32,
     tag: Tag,
     page: &Page,
-) -> Result<(), FlushError>
+) -> Result<(), FrameFlushError>
     requires stands { Stands table.now seat.old }
     requires inside { frame < frames_of table.now }
     requires tag { names_block tag ≡ true }
@@ -132,12 +132,12 @@ fn write_logged<L: BlockLane, G: LogDevice, R: Wait>(
     ensures met { seat.new.me.0.met ≡ met_flushing result seat.old.me.0.met }
 {
     if let Err(why) = flush_to(table, rt, seat, page.lsn()) {
-        return Err(FlushError::Log(why));
+        return Err(FrameFlushError::Log(why));
     }
     if write_lane(table, rt, seat, frame, tag, page) {
         Ok(())
     } else {
-        Err(FlushError::WriteFault { tag })
+        Err(FrameFlushError::WriteFault { tag })
     }
 }
 
@@ -150,7 +150,7 @@ fn write_out<L: BlockLane, G: LogDevice, R: Wait>(
     right: IoRight,
     tag: Tag,
     page: &mut Page,
-) -> Result<(), FlushError>
+) -> Result<(), FrameFlushError>
     requires stands { Stands table.now seat.old }
     requires others { LinksRestBeside right.frame held.now seat.old.me.0 }
     requires inside { right.frame < frames_of table.now }
@@ -193,7 +193,7 @@ fn flush_shared<L: BlockLane, G: LogDevice, R: Wait>(
     frame: u32,
     tag: Tag,
     page: &mut Page,
-) -> Result<bool, FlushError>
+) -> Result<bool, FrameFlushError>
     requires stands { Stands table.now seat.old }
     requires others { LinksRestBeside frame held.now seat.old.me.0 }
     requires inside { frame < frames_of table.now }
@@ -233,7 +233,7 @@ pub fn flush_pinned<L: BlockLane, G: LogDevice, R: Wait>(
     frame: u32,
     tag: Tag,
     page: &mut Page,
-) -> Result<bool, FlushError>
+) -> Result<bool, FrameFlushError>
     requires stands { Stands table.now seat.old }
     requires others { LinksRestBeside frame held.now seat.old.me.0 }
     requires inside { frame < frames_of table.now }
@@ -266,7 +266,7 @@ pub fn flush_frame<L: BlockLane, G: LogDevice, R: Wait>(
     frame: u32,
     tag: Tag,
     page: &mut Page,
-) -> Result<bool, FlushError>
+) -> Result<bool, FrameFlushError>
     requires stands { Stands table.now seat.old }
     requires latches { HasNoLatch seat.old.me.0 }
     requires rests { LinksRest held.now seat.old.me.0 }
@@ -338,7 +338,7 @@ pub fn flush_victim<L: BlockLane, G: LogDevice, R: Wait>(
     page: &mut Page,
     ring: &mut Option<Ring>,
     from_ring: bool,
-) -> Result<bool, FlushError>
+) -> Result<bool, FrameFlushError>
     requires stands { Stands table.now seat.old }
     requires latches { HasNoLatch seat.old.me.0 }
     requires victim { HasVictim frame held.now seat.old.me.0 }

@@ -12,7 +12,7 @@ mod puts;
 mod reading;
 mod victims;
 
-pub use flushing::{FlushError, flush_frame, flush_pinned, flush_victim};
+pub use flushing::{FrameFlushError, flush_frame, flush_pinned, flush_victim};
 pub use loading::{LoadError, load};
 pub use page_reads::{read_copy, share_to_read};
 pub use puts::put_locked;

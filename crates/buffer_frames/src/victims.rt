@@ -14,7 +14,7 @@ ghost use Rattle.buffer_frames.specs.Working.{Calls, IsFlushCall};
 use crate::choosing::{Chosen, choose};
 use crate::entering::{enter_or_pin, give_up};
 use crate::erasing::erase;
-use crate::flushing::{FlushError, flush_victim};
+use crate::flushing::{FrameFlushError, flush_victim};
 use access_rings::Ring;
 use atomic_table::Seat;
 use block_tag::Tag;
@@ -36,7 +36,7 @@ pub enum VictimError {
     NoUnpinned { frames: u32 },
     /// The page of a dirty frame was not written.
     #[error("{0}")]
-    Flush(FlushError),
+    Flush(FrameFlushError),
 }
 
 /// What came of one try to free a frame.

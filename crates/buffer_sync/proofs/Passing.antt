@@ -29,7 +29,7 @@ use Rattle.clock_sweep.specs.Keeping.{SamePins}
 use Rattle.held_pins.specs.Rests.{IsCalm, LinkRests, LinksRest, LinksRestBeside, role_of}
 use Rattle.held_pins.specs.Tokens.{HeldFrame, IsPinnedFor, Tokens, held_at}
 use Rattle.held_pins.proofs.Keeping.{beside_kept, calm_looked, rests_with}
-use Rattle.buffer_frames.specs.declared.flushing.FlushError.{FlushError}
+use Rattle.buffer_frames.specs.declared.flushing.FrameFlushError.{FrameFlushError}
 use Rattle.buffer_frames.specs.Flushing.{EndedInError, EndedWritten, FlushAnswer, met_flushing}
 use Rattle.buffer_frames.specs.Stages.{HasVictim, IsPinned}
 use Rattle.buffer_frames.specs.Working.{KeepsNotes, Made, Within, WorksAt}
@@ -205,10 +205,10 @@ clean_between f v u x w before a (by_load s made) self b = by_load
 clean_between f v u x w before a (by_word s) self b = by_word record { finds = within_on (FindsNothing false f) v u x w a s.finds b; calls = ap (λ (y : View). y.device_calls) self ∙ s.calls ∙ before }
 
 module _ {L G : Type 0} (contents : L → Option Pages) (t : FrameTable L G) where
-  block_between : (f : ℕ) (v u x w : View) (r : Result Bool FlushError) → u.device_calls ≡ v.device_calls → OnlyRises v u → WritesBlock contents t f u x r → SameSelf x w → OnlyRises x w → WritesBlock contents t f v w r
+  block_between : (f : ℕ) (v u x w : View) (r : Result Bool FrameFlushError) → u.device_calls ≡ v.device_calls → OnlyRises v u → WritesBlock contents t f u x r → SameSelf x w → OnlyRises x w → WritesBlock contents t f v w r
   block_between f v u x w r before a s self b = record { tag = s.tag; named = s.named; listed = s.listed; answer = flush_between contents t (lane_number s.tag (lanes_in t)) s.tag f v u x w r before a s.answer self b }
 
-  pub pinned_between : (f : ℕ) (v u x w : View) (r : Result Synced FlushError) → u.device_calls ≡ v.device_calls → OnlyRises v u → PinnedAnswer contents t f u x r → SameSelf x w → OnlyRises x w → PinnedAnswer contents t f v w r
+  pub pinned_between : (f : ℕ) (v u x w : View) (r : Result Synced FrameFlushError) → u.device_calls ≡ v.device_calls → OnlyRises v u → PinnedAnswer contents t f u x r → SameSelf x w → OnlyRises x w → PinnedAnswer contents t f v w r
   pinned_between f v u x w (Ok Skipped) before a s self b = absurd s
   pinned_between f v u x w (Ok Clean) before a s self b = clean_between f v u x w before a s self b
   pinned_between f v u x w (Ok Written) before a s self b = block_between f v u x w (Ok true) before a s self b
@@ -218,27 +218,27 @@ module _ {L G : Type 0} (contents : L → Option Pages) (t : FrameTable L G) whe
   clean_made f v w (by_load s made) = made
   clean_made f v w (by_word s) = made_none v w s.calls
 
-  pub synced_answer : (only : SyncOnly) (word f : ℕ) (v looked w : View) (r : Result Synced FlushError) → is_skipped only (fields word) ≡ false → PinsUnder f word looked w → looked.device_calls ≡ v.device_calls → PinnedAnswer contents t f looked w r → PinnedAnswer contents t f v w r → SyncAnswer contents t only word f v looked w r
+  pub synced_answer : (only : SyncOnly) (word f : ℕ) (v looked w : View) (r : Result Synced FrameFlushError) → is_skipped only (fields word) ≡ false → PinsUnder f word looked w → looked.device_calls ≡ v.device_calls → PinnedAnswer contents t f looked w r → PinnedAnswer contents t f v w r → SyncAnswer contents t only word f v looked w r
   synced_answer only word f v looked w (Ok Skipped) is under same s all = absurd s
   synced_answer only word f v looked w (Ok Clean) is under same s all = (is, inr s, made_before [] v looked w same (clean_made f looked w s))
   synced_answer only word f v looked w (Ok Written) is under same s all = (is, under, all)
   synced_answer only word f v looked w (Err why) is under same s all = (is, under, all)
 
-pub ends_between : (f : ℕ) (v u x w : View) (r : Result Synced FlushError) → OnlyRises v u → EndsSync f u x r → SameMarks x w → OnlyRises x w → EndsSync f v w r
+pub ends_between : (f : ℕ) (v u x w : View) (r : Result Synced FrameFlushError) → OnlyRises v u → EndsSync f u x r → SameMarks x w → OnlyRises x w → EndsSync f v w r
 ends_between f v u x w (Ok Skipped) a e m b = tt
 ends_between f v u x w (Ok Clean) a e m b = tt
 ends_between f v u x w (Ok Written) a e m b = written_between f v u x w a e m b
 ends_between f v u x w (Err why) a e m b = error_between f v u x w a e m b
 
 -- nothing is passed over that is written
-pub not_skipped : {A : Type 0} {L G : Type 0} (contents : L → Option Pages) (t : FrameTable L G) (f : ℕ) (v w : View) (r : Result Synced FlushError) → PinnedAnswer contents t f v w r → r ≡ Ok Skipped → A
+pub not_skipped : {A : Type 0} {L G : Type 0} (contents : L → Option Pages) (t : FrameTable L G) (f : ℕ) (v w : View) (r : Result Synced FrameFlushError) → PinnedAnswer contents t f v w r → r ≡ Ok Skipped → A
 not_skipped contents t f v w (Ok Skipped) s e = absurd s
 not_skipped contents t f v w (Ok Clean) s e = absurd (cc e)
 not_skipped contents t f v w (Ok Written) s e = absurd (cc e)
 not_skipped contents t f v w (Err why) s e = absurd (cc e)
 
 module _ {L G : Type 0} (contents : L → Option Pages) (t : FrameTable L G) where
-  pub flushes_on : (f : ℕ) (v u x : View) (r : Result Synced FlushError) → Touches f v u → SameMarks v u → KeepsNotes (link v f) (link u f) → FlushesPinned contents t f u x r → FlushesPinned contents t f v x r
+  pub flushes_on : (f : ℕ) (v u x : View) (r : Result Synced FrameFlushError) → Touches f v u → SameMarks v u → KeepsNotes (link v f) (link u f) → FlushesPinned contents t f u x r → FlushesPinned contents t f v x r
   flushes_on f v u x r k m n s = record {
     works = works_on f v u x (works_marked f v u k m) s.works;
     notes = notes_on (link v f) (link u f) (link x f) n s.notes;
@@ -247,7 +247,7 @@ module _ {L G : Type 0} (contents : L → Option Pages) (t : FrameTable L G) whe
     ended = ends_between f v u x x r (rises_touched f v u k) s.ended refl (rises_none x);
   }
 
-  pub flushes_then : (f : ℕ) (v x w : View) (r : Result Synced FlushError) → FlushesPinned contents t f v x r → Touches f x w → SameMarks x w → KeepsNotes (link x f) (link w f) → FlushesPinned contents t f v w r
+  pub flushes_then : (f : ℕ) (v x w : View) (r : Result Synced FrameFlushError) → FlushesPinned contents t f v x r → Touches f x w → SameMarks x w → KeepsNotes (link x f) (link w f) → FlushesPinned contents t f v w r
   flushes_then f v x w r s k m n = record {
     works = works_on f v x w s.works (works_marked f x w k m);
     notes = notes_on (link v f) (link x f) (link w f) s.notes n;
@@ -267,26 +267,26 @@ module _ {L G : Type 0} (contents : L → Option Pages) (t : FrameTable L G) whe
   }
 
   -- and one that was flushed
-  flushed_answer : (f : ℕ) (tag : Tag) (v w : View) (r : Result Bool FlushError) → names_block tag ≡ true → has_block (relations_of t) tag ≡ true → FlushAnswer contents t (lane_number tag (lanes_in t)) tag f v w r → PinnedAnswer contents t f v w (synced_of r)
+  flushed_answer : (f : ℕ) (tag : Tag) (v w : View) (r : Result Bool FrameFlushError) → names_block tag ≡ true → has_block (relations_of t) tag ≡ true → FlushAnswer contents t (lane_number tag (lanes_in t)) tag f v w r → PinnedAnswer contents t f v w (synced_of r)
   flushed_answer f tag v w (Ok true) named listed a = record { tag = tag; named = named; listed = listed; answer = a }
   flushed_answer f tag v w (Ok false) named listed a = by_word a
   flushed_answer f tag v w (Err why) named listed a = record { tag = tag; named = named; listed = listed; answer = a }
 
-  flushed_met : (v w : View) (r : Result Bool FlushError) → w.met ≡ met_flushing r v.met → w.met ≡ met_flushing (synced_of r) v.met
+  flushed_met : (v w : View) (r : Result Bool FrameFlushError) → w.met ≡ met_flushing r v.met → w.met ≡ met_flushing (synced_of r) v.met
   flushed_met v w (Ok true) e = e
   flushed_met v w (Ok false) e = e
   flushed_met v w (Err why) e = e
 
-  flushed_ended : (f : ℕ) (v w : View) (r : Result Bool FlushError) → IfErr r (λ _. EndedInError f v w) → IfOk r (λ wrote. wrote ≡ true → EndedWritten f v w) → EndsSync f v w (synced_of r)
+  flushed_ended : (f : ℕ) (v w : View) (r : Result Bool FrameFlushError) → IfErr r (λ _. EndedInError f v w) → IfOk r (λ wrote. wrote ≡ true → EndedWritten f v w) → EndsSync f v w (synced_of r)
   flushed_ended f v w (Ok true) error written = written refl
   flushed_ended f v w (Ok false) error written = tt
   flushed_ended f v w (Err why) error written = error
 
-  pub flushes_flushed : (f : ℕ) (tag : Tag) (v w : View) (r : Result Bool FlushError) → names_block tag ≡ true → has_block (relations_of t) tag ≡ true → WorksAt f v w → KeepsNotes (link v f) (link w f) → FlushAnswer contents t (lane_number tag (lanes_in t)) tag f v w r → w.met ≡ met_flushing r v.met → IfErr r (λ _. EndedInError f v w) → IfOk r (λ wrote. wrote ≡ true → EndedWritten f v w) → FlushesPinned contents t f v w (synced_of r)
+  pub flushes_flushed : (f : ℕ) (tag : Tag) (v w : View) (r : Result Bool FrameFlushError) → names_block tag ≡ true → has_block (relations_of t) tag ≡ true → WorksAt f v w → KeepsNotes (link v f) (link w f) → FlushAnswer contents t (lane_number tag (lanes_in t)) tag f v w r → w.met ≡ met_flushing r v.met → IfErr r (λ _. EndedInError f v w) → IfOk r (λ wrote. wrote ≡ true → EndedWritten f v w) → FlushesPinned contents t f v w (synced_of r)
   flushes_flushed f tag v w r named listed works notes a met error written = record { works = works; notes = notes; answer = flushed_answer f tag v w r named listed a; met = flushed_met v w r met; ended = flushed_ended f v w r error written }
 
   -- what came of it, with the look before
-  pub syncs_flushed : (only : SyncOnly) (word f : ℕ) (v looked w : View) (r : Result Synced FlushError) → LooksUnder f word v looked → Touches f v looked → SameMarks v looked → KeepsNotes (link v f) (link looked f) → is_skipped only (fields word) ≡ false → PinsUnder f word looked w → FlushesPinned contents t f looked w r → (link w f).content ≡ (link v f).content → SyncsOne contents t only f v w r
+  pub syncs_flushed : (only : SyncOnly) (word f : ℕ) (v looked w : View) (r : Result Synced FrameFlushError) → LooksUnder f word v looked → Touches f v looked → SameMarks v looked → KeepsNotes (link v f) (link looked f) → is_skipped only (fields word) ≡ false → PinsUnder f word looked w → FlushesPinned contents t f looked w r → (link w f).content ≡ (link v f).content → SyncsOne contents t only f v w r
   syncs_flushed only word f v looked w r looks k m n is under s lock = let all = flushes_on f v looked w r k m n s in record {
     works = all.works;
     notes = all.notes;
@@ -307,7 +307,7 @@ module _ {L G : Type 0} (contents : L → Option Pages) (t : FrameTable L G) whe
   at_once_came Clean only word f v looked w a made = (a.0, inl a.1, made)
   at_once_came Written only word f v looked w a made = absurd a
 
-  same_came : (a b : Synced) (r : Result Synced FlushError) → r ≡ Ok a → r ≡ Ok b → a ≡ b
+  same_came : (a b : Synced) (r : Result Synced FrameFlushError) → r ≡ Ok a → r ≡ Ok b → a ≡ b
   same_came a b r d e = cc (d, e)
 
   lacks_flag : (b : Bool) → not b ≡ true → b ≡ false

@@ -25,7 +25,7 @@ use Rattle.content_locks.specs.Io.{LocksHeader}
 use Rattle.clock_sweep.specs.Keeping.{SamePins}
 use Rattle.held_pins.specs.Rests.{IsCalm}
 use Rattle.held_pins.specs.Tokens.{HeldFrame, Tokens, held_at}
-use Rattle.buffer_frames.specs.declared.flushing.FlushError.{FlushError}
+use Rattle.buffer_frames.specs.declared.flushing.FrameFlushError.{FrameFlushError}
 use Rattle.buffer_frames.specs.Flushing.{EndedInError, EndedWritten, FindsClean, FlushAnswer, met_flushing, met_lane_write}
 use Rattle.buffer_frames.specs.Working.{IsFlushCall, KeepsNotes, Made, Within, WorksAt}
 use Rattle.buffer_sync.specs.declared.syncing.SyncOnly.{SyncOnly}
@@ -58,7 +58,7 @@ pub data SeesClean (f : ℕ) (v w : View) : Type 0 where
   by_word : FindsClean f v w → SeesClean f v w
 
 -- what came of a frame, by what came of its flush
-abbrev pub synced_of : Result Bool FlushError → Result Synced FlushError
+abbrev pub synced_of : Result Bool FrameFlushError → Result Synced FrameFlushError
 synced_of (Ok true) = Ok Written
 synced_of (Ok false) = Ok Clean
 synced_of (Err why) = Err why
@@ -94,7 +94,7 @@ pub record LeavesPinned (l m : Link) : Type 0 where
   pub seen : l.seen_valid ≡ true → m.seen_valid ≡ true
 
 -- how the write of a frame ended, if one began
-abbrev pub EndsSync : ℕ → View → View → Result Synced FlushError → Type 0
+abbrev pub EndsSync : ℕ → View → View → Result Synced FrameFlushError → Type 0
 EndsSync f v w (Ok Written) = EndedWritten f v w
 EndsSync f v w (Ok Clean) = Unit {0}
 EndsSync f v w (Ok Skipped) = Unit {0}
@@ -107,28 +107,28 @@ pub data ShowsTag (l : Link) : Type 0 where
 
 module _ {L G : Type 0} (contents : L → Option Pages) (t : FrameTable L G) where
   -- The page of the frame f, of a block of the relations, went to the block's lane, or this is why not
-  pub record WritesBlock (f : ℕ) (v w : View) (r : Result Bool FlushError) : Type 0 where
+  pub record WritesBlock (f : ℕ) (v w : View) (r : Result Bool FrameFlushError) : Type 0 where
     pub tag : Tag
     pub named : names_block tag ≡ true
     pub listed : has_block (relations_of t) tag ≡ true
     pub answer : FlushAnswer contents t (lane_number tag (lanes_in t)) tag f v w r
 
   -- what came of a frame that was pinned to be written
-  abbrev pub PinnedAnswer : ℕ → View → View → Result Synced FlushError → Type 0
+  abbrev pub PinnedAnswer : ℕ → View → View → Result Synced FrameFlushError → Type 0
   PinnedAnswer f v w (Ok Skipped) = ⊥
   PinnedAnswer f v w (Ok Clean) = SeesClean f v w
   PinnedAnswer f v w (Ok Written) = WritesBlock f v w (Ok true)
   PinnedAnswer f v w (Err why) = WritesBlock f v w (Err why)
 
   -- what came of the frame f, whose state word was `word` at the look that led to the view `looked`
-  abbrev pub SyncAnswer : SyncOnly → ℕ → ℕ → View → View → View → Result Synced FlushError → Type 0
+  abbrev pub SyncAnswer : SyncOnly → ℕ → ℕ → View → View → View → Result Synced FrameFlushError → Type 0
   SyncAnswer only word f v looked w (Ok Skipped) = (is_skipped only (fields word) ≡ true) × Made [] v w
   SyncAnswer only word f v looked w (Ok Clean) = (is_skipped only (fields word) ≡ false) × (((fields word).dirty ≡ false) ⊎ SeesClean f looked w) × Made [] v w
   SyncAnswer only word f v looked w (Ok Written) = (is_skipped only (fields word) ≡ false) × PinsUnder f word looked w × WritesBlock f v w (Ok true)
   SyncAnswer only word f v looked w (Err why) = (is_skipped only (fields word) ≡ false) × PinsUnder f word looked w × WritesBlock f v w (Err why)
 
   -- The state word of the frame f was looked at under its header, and by that the frame was passed over or written (`SyncOneBuffer`)
-  pub record SyncsFrame (only : SyncOnly) (f : ℕ) (v w : View) (r : Result Synced FlushError) : Type 0 where
+  pub record SyncsFrame (only : SyncOnly) (f : ℕ) (v w : View) (r : Result Synced FrameFlushError) : Type 0 where
     pub word : ℕ
     pub looked : View
     pub looks : LooksUnder f word v looked
@@ -136,7 +136,7 @@ module _ {L G : Type 0} (contents : L → Option Pages) (t : FrameTable L G) whe
     pub came : SyncAnswer only word f v looked w r
 
   -- What a frame that was pinned to be written, or was not written, makes of the view
-  pub record FlushesPinned (f : ℕ) (v w : View) (r : Result Synced FlushError) : Type 0 where
+  pub record FlushesPinned (f : ℕ) (v w : View) (r : Result Synced FrameFlushError) : Type 0 where
     pub works : WorksAt f v w
     pub notes : KeepsNotes (link v f) (link w f)
     pub answer : PinnedAnswer f v w r
@@ -144,7 +144,7 @@ module _ {L G : Type 0} (contents : L → Option Pages) (t : FrameTable L G) whe
     pub ended : EndsSync f v w r
 
   -- And one that was looked at
-  pub record SyncsOne (only : SyncOnly) (f : ℕ) (v w : View) (r : Result Synced FlushError) : Type 0 where
+  pub record SyncsOne (only : SyncOnly) (f : ℕ) (v w : View) (r : Result Synced FrameFlushError) : Type 0 where
     pub works : WorksAt f v w
     pub notes : KeepsNotes (link v f) (link w f)
     pub lock : (link w f).content ≡ (link v f).content

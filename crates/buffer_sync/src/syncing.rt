@@ -14,7 +14,7 @@ ghost use Rattle.buffer_sync.specs.Syncs.{AreAlone, ComesAtOnce, FlushesPinned, 
 use crate::tags::tag_shown;
 use atomic_table::Seat;
 use block_tag::Tag;
-use buffer_frames::{FlushError, flush_pinned};
+use buffer_frames::{FrameFlushError, flush_pinned};
 use cleanup_lock::unpin_and_wake;
 use frame_table::{FrameTable, Value};
 use held_pins::HeldPins;
@@ -95,7 +95,7 @@ fn look_under<L: BlockLane, G: LogDevice, R: Wait>(
 }
 
 /// What came of a frame, by what came of its flush.
-fn synced_by(flushed: Result<bool, FlushError>) -> Result<Synced, FlushError>
+fn synced_by(flushed: Result<bool, FrameFlushError>) -> Result<Synced, FrameFlushError>
     ensures { result ≡ synced_of flushed }
 {
     match flushed {
@@ -113,7 +113,7 @@ fn flush_seen<L: BlockLane, G: LogDevice, R: Wait>(
     held: &HeldPins,
     frame: u32,
     page: &mut Page,
-) -> Result<Synced, FlushError>
+) -> Result<Synced, FrameFlushError>
     requires stands { Stands table.now seat.old }
     requires others { LinksRestBeside frame held.now seat.old.me.0 }
     requires inside { frame < frames_of table.now }
@@ -142,7 +142,7 @@ fn flush_anew<L: BlockLane, G: LogDevice, R: Wait>(
     frame: u32,
     word: u64,
     page: &mut Page,
-) -> Result<Synced, FlushError>
+) -> Result<Synced, FrameFlushError>
     requires stands { Stands table.now seat.old }
     requires others { LinksRestBeside frame held.now seat.old.me.0 }
     requires inside { frame < frames_of table.now }
@@ -183,7 +183,7 @@ fn flush_under<L: BlockLane, G: LogDevice, R: Wait>(
     frame: u32,
     word: u64,
     page: &mut Page,
-) -> Result<Synced, FlushError>
+) -> Result<Synced, FrameFlushError>
     requires stands { Stands table.now seat.old }
     requires others { LinksRestBeside frame held.now seat.old.me.0 }
     requires inside { frame < frames_of table.now }
@@ -215,7 +215,7 @@ pub fn sync_one<L: BlockLane, G: LogDevice, R: Wait>(
     frame: u32,
     only: SyncOnly,
     page: &mut Page,
-) -> Result<Synced, FlushError>
+) -> Result<Synced, FrameFlushError>
     requires stands { Stands table.now seat.old }
     requires rests { LinksRest held.now seat.old.me.0 }
     requires alone { AreAlone held.now }

@@ -27,7 +27,7 @@ use Rattle.wal_flush.specs.declared.flushes.FlushLog.{FlushLog}
 use Rattle.wal_flush.specs.declared.flushes.FlushLog.TheVariants as log
 use Rattle.wal_flush.specs.declared.inserts.InsertError.{InsertError}
 use Rattle.wal_flush.specs.declared.inserts.InsertError.TheVariants as put
-use Rattle.buffer_frames.specs.declared.flushing.FlushError.TheVariants as frames
+use Rattle.buffer_frames.specs.declared.flushing.FrameFlushError.TheVariants as frames
 use Rattle.buffer_frames.specs.Flushing.{FlushAnswer}
 use Rattle.buffer_frames.specs.Puts.{RefusalShows}
 use Rattle.backend_pass.specs.declared.errors.FlushError.{FlushError}

@@ -8,7 +8,7 @@ use Rattle.frame_table.proofs.Seeing.{sees_valid}
 use Rattle.frame_table.proofs.Told.{touches_on}
 use Rattle.held_pins.proofs.Keeping.{beside_kept, stands_self}
 use Rattle.buffer_frames.proofs.Notes.{notes_by, notes_looked, notes_on}
-use Rattle.buffer_frames.specs.declared.flushing.FlushError.{FlushError}
+use Rattle.buffer_frames.specs.declared.flushing.FrameFlushError.{FrameFlushError}
 use Rattle.buffer_sync.specs.declared.syncing.Synced.{Synced}
 use Rattle.buffer_sync.specs.Syncs.{FlushesPinned, by_pin}
 use Rattle.buffer_sync.proofs.Passing.{flushes_clean, flushes_flushed, flushes_on, left_flushed, left_looked, pinned_read}
@@ -59,5 +59,5 @@ returns-clause-flushes g c =
     let k = touches_on c.args.frame v u x c.look.ensures.touches e.touches in
     let n = notes_on (link v c.args.frame) (link u c.args.frame) (link x c.args.frame) (notes_looked (link v c.args.frame) (link u c.args.frame) c.look.ensures.link) (notes_by (link u c.args.frame) (link x c.args.frame) (ap (λ (l : Link). l.passed) e.read) (ap (λ (l : Link). l.listed) e.read)) in
     let one = flushes_flushed {L = g.row.L.Denot} {G = g.row.G.Denot} g.L.BlockLane.contents c.args.table.now c.args.frame c.tag_shown-tag.result x w c.flush_pinned-flushed.result e.named e.listed f.works f.notes f.answer f.met f.ended f.written in
-    subst (λ (r : Result Synced FlushError). FlushesPinned {L = g.row.L.Denot} {G = g.row.G.Denot} g.L.BlockLane.contents c.args.table.now c.args.frame v w r) (sym c.synced_by.ensures)
+    subst (λ (r : Result Synced FrameFlushError). FlushesPinned {L = g.row.L.Denot} {G = g.row.G.Denot} g.L.BlockLane.contents c.args.table.now c.args.frame v w r) (sym c.synced_by.ensures)
     (flushes_on {L = g.row.L.Denot} {G = g.row.G.Denot} g.L.BlockLane.contents c.args.table.now c.args.frame v x w _ k (e.marks ∙ c.look.ensures.marks) n one)

@@ -6,7 +6,7 @@ use Rattle.pin_core.specs.declared.view.View.{View}
 use Rattle.pin_core.specs.State.{link}
 use Rattle.frame_table.specs.Seats.{lanes_in}
 use Rattle.held_pins.specs.Rests.{SameLocks}
-use Rattle.buffer_frames.specs.declared.flushing.FlushError as frames
+use Rattle.buffer_frames.specs.declared.flushing.FrameFlushError as frames
 use Rattle.buffer_frames.specs.Flushing.{EndedInError, EndedWritten, FlushAnswer, met_flushing}
 use Rattle.backend_pass.specs.Managers.{Belongs}
 use Rattle.backend_pass.specs.Passes.{IsNumbered, IsShown, PassState, SamePass, view_in}
@@ -41,12 +41,12 @@ returns-in-Err-clause-locks g c =
 pub returns-in-Err-clause-answer : goal.returns-in-Err-clause-answer
 returns-in-Err-clause-answer g c =
     let e = c.in-Err.ensures in
-    subst (λ (y : frames.FlushError). FlushAnswer {L = g.row.L.Denot} {G = g.row.G.Denot} g.L.BlockLane.contents c.args.manager.now.table (lane_number c.args.pinned.now.tag (lanes_in c.args.manager.now.table)) c.args.pinned.now.tag c.args.pinned.now.frame c.args.self.now.view (view_in c.flush_seated.new.badge.views) (Err y)) (sym c.refused-why.ensures) (subst (λ (p : PassState). FlushAnswer {L = g.row.L.Denot} {G = g.row.G.Denot} g.L.BlockLane.contents c.args.manager.now.table (lane_number c.args.pinned.now.tag (lanes_in c.args.manager.now.table)) c.args.pinned.now.tag c.args.pinned.now.frame p.view (view_in c.flush_seated.new.badge.views) (Err c.in-Err.cause)) c.self.view_is e.answer)
+    subst (λ (y : frames.FrameFlushError). FlushAnswer {L = g.row.L.Denot} {G = g.row.G.Denot} g.L.BlockLane.contents c.args.manager.now.table (lane_number c.args.pinned.now.tag (lanes_in c.args.manager.now.table)) c.args.pinned.now.tag c.args.pinned.now.frame c.args.self.now.view (view_in c.flush_seated.new.badge.views) (Err y)) (sym c.refused-why.ensures) (subst (λ (p : PassState). FlushAnswer {L = g.row.L.Denot} {G = g.row.G.Denot} g.L.BlockLane.contents c.args.manager.now.table (lane_number c.args.pinned.now.tag (lanes_in c.args.manager.now.table)) c.args.pinned.now.tag c.args.pinned.now.frame p.view (view_in c.flush_seated.new.badge.views) (Err c.in-Err.cause)) c.self.view_is e.answer)
 
 pub returns-in-Err-clause-met : goal.returns-in-Err-clause-met
 returns-in-Err-clause-met g c =
     let e = c.in-Err.ensures in
-    e.met ∙ ap (λ (y : frames.FlushError). met_flushing {A = Bool} (Err y) (view_in c.self.inside.seat.views).met) (sym c.refused-why.ensures) ∙ ap (λ (p : PassState). met_flushing {A = Bool} (Err (frame_refusal c.refused-why.result)) p.view.met) c.self.view_is
+    e.met ∙ ap (λ (y : frames.FrameFlushError). met_flushing {A = Bool} (Err y) (view_in c.self.inside.seat.views).met) (sym c.refused-why.ensures) ∙ ap (λ (p : PassState). met_flushing {A = Bool} (Err (frame_refusal c.refused-why.result)) p.view.met) c.self.view_is
 
 pub returns-in-Err-clause-complete : goal.returns-in-Err-clause-complete
 returns-in-Err-clause-complete g c =
@@ -59,7 +59,7 @@ invariant_of-self-in-Err g c =
     let e = c.in-Err.ensures in
     let v = view_in c.self.inside.seat.views in
     let w = view_in c.flush_seated.new.badge.views in
-    let met : w.met ≡ met_flushing {A = Bool} (Err (frame_refusal c.refused-why.result)) v.met = e.met ∙ ap (λ (y : frames.FlushError). met_flushing {A = Bool} (Err y) v.met) (sym c.refused-why.ensures) in
+    let met : w.met ≡ met_flushing {A = Bool} (Err (frame_refusal c.refused-why.result)) v.met = e.met ∙ ap (λ (y : frames.FrameFlushError). met_flushing {A = Bool} (Err y) v.met) (sym c.refused-why.ensures) in
     let shown : padded_value c.new-self-inside.result ≡ shown_unflushed c.refused-why.result (padded_value c.self.inside.shown) = c.new-self-inside.ensures ∙ c.after_flush-shown.ensures ∙ ap (shown_unflushed c.refused-why.result) c.deref.ensures in (
       e.view,
       e.rests,

@@ -10,7 +10,7 @@ use Rattle.backend_pass.proofs.BlockReads.{numbered_kept, same_kept}
 use Rattle.backend_pass.proofs.Releasing.{belongs_held}
 use Rattle.backend_pass.proofs.Seated.{same_from}
 use Rattle.std.proofs.Common.{Result}
-use Rattle.buffer_frames.specs.declared.flushing.FlushError as frames
+use Rattle.buffer_frames.specs.declared.flushing.FrameFlushError as frames
 use Rattle.buffer_frames.specs.Flushing.{met_flushing}
 use Rattle.buffer_frames.specs.Working.{KeepsNotes}
 use Rattle.clock_sweep.specs.Keeping.{SamePins}
@@ -35,7 +35,7 @@ invariant_of-self g c =
       e.view,
       e.rests,
       subst (λ (id : ℕ). IsNumbered c.self.inside.number id w) (sym e.id) (numbered_kept c.self.inside.number c.self.inside.seat.id v w e.did.works.kept i.2),
-      subst (IsShown w) (sym (c.new-self-inside.ensures ∙ c.after_sync-shown.ensures ∙ ap (shown_synced c.told-answer.result) c.deref.ensures)) (shown_sync v w (padded_value c.self.inside.shown) c.told-answer.result (ap (λ (x : View). x.front) e.did.works.kept) (subst (λ (r : Result Synced frames.FlushError). w.met ≡ met_flushing r v.met) (sym c.told-answer.ensures) (e.did.met)) i.3),
+      subst (IsShown w) (sym (c.new-self-inside.ensures ∙ c.after_sync-shown.ensures ∙ ap (shown_synced c.told-answer.result) c.deref.ensures)) (shown_sync v w (padded_value c.self.inside.shown) c.told-answer.result (ap (λ (x : View). x.front) e.did.works.kept) (subst (λ (r : Result Synced frames.FrameFlushError). w.met ≡ met_flushing r v.met) (sym c.told-answer.ensures) (e.did.met)) i.3),
       i.4,
     )
 
@@ -67,15 +67,15 @@ returns-clause-notes g c =
 
 pub returns-clause-syncs : goal.returns-clause-syncs
 returns-clause-syncs g c =
-    subst (λ (r : Result Synced frames.FlushError). SyncsFrame {L = g.row.L.Denot} {G = g.row.G.Denot} g.L.BlockLane.contents c.args.manager.now.table c.args.only c.args.frame c.args.self.now.view (view_in c.sync_seated-frames_answer.new.badge.views) r) (sym c.told-answer.ensures) (subst (λ (p : PassState). SyncsFrame {L = g.row.L.Denot} {G = g.row.G.Denot} g.L.BlockLane.contents c.args.manager.now.table c.args.only c.args.frame p.view (view_in c.sync_seated-frames_answer.new.badge.views) c.sync_seated-frames_answer.result) c.self.view_is (c.sync_seated-frames_answer.ensures.did.syncs))
+    subst (λ (r : Result Synced frames.FrameFlushError). SyncsFrame {L = g.row.L.Denot} {G = g.row.G.Denot} g.L.BlockLane.contents c.args.manager.now.table c.args.only c.args.frame c.args.self.now.view (view_in c.sync_seated-frames_answer.new.badge.views) r) (sym c.told-answer.ensures) (subst (λ (p : PassState). SyncsFrame {L = g.row.L.Denot} {G = g.row.G.Denot} g.L.BlockLane.contents c.args.manager.now.table c.args.only c.args.frame p.view (view_in c.sync_seated-frames_answer.new.badge.views) c.sync_seated-frames_answer.result) c.self.view_is (c.sync_seated-frames_answer.ensures.did.syncs))
 
 pub returns-clause-met : goal.returns-clause-met
 returns-clause-met g c =
-    subst (λ (r : Result Synced frames.FlushError). (view_in c.sync_seated-frames_answer.new.badge.views).met ≡ met_flushing r c.args.self.now.view.met) (sym c.told-answer.ensures) (subst (λ (p : PassState). (view_in c.sync_seated-frames_answer.new.badge.views).met ≡ met_flushing c.sync_seated-frames_answer.result p.view.met) c.self.view_is (c.sync_seated-frames_answer.ensures.did.met))
+    subst (λ (r : Result Synced frames.FrameFlushError). (view_in c.sync_seated-frames_answer.new.badge.views).met ≡ met_flushing r c.args.self.now.view.met) (sym c.told-answer.ensures) (subst (λ (p : PassState). (view_in c.sync_seated-frames_answer.new.badge.views).met ≡ met_flushing c.sync_seated-frames_answer.result p.view.met) c.self.view_is (c.sync_seated-frames_answer.ensures.did.met))
 
 pub returns-clause-ended : goal.returns-clause-ended
 returns-clause-ended g c =
-    subst (λ (r : Result Synced frames.FlushError). EndsSync c.args.frame c.args.self.now.view (view_in c.sync_seated-frames_answer.new.badge.views) r) (sym c.told-answer.ensures) (subst (λ (p : PassState). EndsSync c.args.frame p.view (view_in c.sync_seated-frames_answer.new.badge.views) c.sync_seated-frames_answer.result) c.self.view_is (c.sync_seated-frames_answer.ensures.did.ended))
+    subst (λ (r : Result Synced frames.FrameFlushError). EndsSync c.args.frame c.args.self.now.view (view_in c.sync_seated-frames_answer.new.badge.views) r) (sym c.told-answer.ensures) (subst (λ (p : PassState). EndsSync c.args.frame p.view (view_in c.sync_seated-frames_answer.new.badge.views) c.sync_seated-frames_answer.result) c.self.view_is (c.sync_seated-frames_answer.ensures.did.ended))
 
 pub returns-clause-unlisted : goal.returns-clause-unlisted
 returns-clause-unlisted g c =
