@@ -61,7 +61,7 @@ pub record NeedsOne (f : ℕ) (v w : View) (r : Option Tag) : Type 0 where
   pub lock : (link w f).content ≡ (link v f).content
   pub passed : (link w f).passed ≡ true
   pub clean : IfNone r (SeesNotDirty f v w)
-  pub unlisted : IfNone r ((link v f).listed ≡ false → (link w f).listed ≡ false)
+  pub not_left_to_write : IfNone r ((link v f).left_to_write ≡ false → (link w f).left_to_write ≡ false)
   pub needed : IfSome r (λ _. Within (λ a b. (word : ℕ) × Did (pages need_checkpoint) f a b word) v w)
   pub named : IfSome r (λ tag. names_block tag ≡ true)
 

@@ -266,7 +266,7 @@ impl Pass {
         ensures ended { EndsSync frame self.old.view self.new.view (frame_answer result) }
 
         // A frame without BM_CHECKPOINT_NEEDED is none that the pass's checkpoint has still to write.
-        ensures unlisted { result ≡ Ok Skipped → only ≡ Needed → (link self.new.view frame).listed ≡ false }
+        ensures not_left_to_write { result ≡ Ok Skipped → only ≡ Needed → (link self.new.view frame).left_to_write ≡ false }
 
         // It is done where the log isn't down, no call fails, and no page has a position past the log's end.
         ensures complete { NothingFails L.contents manager.now.table self.old self.new → IsOk result }
@@ -327,7 +327,7 @@ impl Pass {
         ensures touches { Touches frame self.old.view self.new.view }
         ensures passed { (link self.new.view frame).passed ≡ true }
         ensures clean { IfNone result (SeesNotDirty frame self.old.view self.new.view) }
-        ensures unlisted { IfNone result ((link self.old.view frame).listed ≡ false → (link self.new.view frame).listed ≡ false) }
+        ensures not_left_to_write { IfNone result ((link self.old.view frame).left_to_write ≡ false → (link self.new.view frame).left_to_write ≡ false) }
         ensures needed { IfSome result (λ _. Within (λ a b. (word : ℕ) × Did (pages kinds.need_checkpoint) frame a b word) self.old.view self.new.view) }
         ensures named { IfSome result (λ tag. names_block tag ≡ true) }
     {

@@ -20,7 +20,7 @@ pub record WorksAt (f : ℕ) (v w : View) : Type 0 where
 -- What the checkpoint of the view has noted of a frame is kept: one that it has passed stays passed, and none becomes one that it has to write
 pub record KeepsNotes (l m : Link) : Type 0 where
   pub passed : l.passed ≡ true → m.passed ≡ true
-  pub listed : l.listed ≡ false → m.listed ≡ false
+  pub left_to_write : l.left_to_write ≡ false → m.left_to_write ≡ false
 
 -- This was done between v and w
 pub record Within (Work : View → View → Type 0) (v w : View) : Type 0 where

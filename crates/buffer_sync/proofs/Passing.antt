@@ -19,7 +19,7 @@ use Rattle.pin_core.specs.Steps.{HasNoVictim}
 use Rattle.content_locks.specs.Io.{FindsNothing, LocksHeader}
 use Rattle.table_rule.specs.Blocks.{has_block}
 use Rattle.frame_table.specs.declared.table.FrameTable.{FrameTable}
-use Rattle.frame_table.specs.Content.{listed_link}
+use Rattle.frame_table.specs.Content.{left_to_write_link}
 use Rattle.frame_table.specs.FrameSteps.{Did, Looks, looking}
 use Rattle.frame_table.specs.Kinds.{pins}
 use Rattle.frame_table.specs.Seats.{IsWordOf, Looked, OnlyRises, SameMarks, SameSelf, Touches, HasFlag, HasRoom, HoldsHeader, HoldsNumber, HoldsWord, MayUnpin, unpinned_link, lanes_in, locked_link, read_link, relations_of, unlocked_link, victim_link}
@@ -111,10 +111,10 @@ pub may_unpin : (l m : Link) → l.role ≡ Victim → LeavesPinned l m → MayU
 may_unpin l m victim left = record { pinned = λ absent. (let no : Victim ≡ Absent = sym (left.role ∙ victim) ∙ absent in absurd (cc)); no_content = left.unlocked; no_io = left.calm.no_io; no_wait = left.calm.no_wait }
 
 pub notes_locked : (word : ℕ) (l m : Link) → Looked (locked_link word l) m → KeepsNotes l m
-notes_locked word l m a = record { passed = a.passed; listed = a.listed }
+notes_locked word l m a = record { passed = a.passed; left_to_write = a.left_to_write }
 
 pub notes_unpinned : (l m : Link) → Looked (unpinned_link l) m → KeepsNotes l m
-notes_unpinned l m a = record { passed = a.passed; listed = a.listed }
+notes_unpinned l m a = record { passed = a.passed; left_to_write = a.left_to_write }
 
 -- what is known under the header, before and after the tag was loaded
 some_word : (a b : StateWord) → Some a ≡ Some b → a ≡ b
@@ -148,8 +148,8 @@ rests_read o tag l m e same remembered r = let c = r.calm in record {
   unlocked = λ none. ap (λ (x : Link). x.content) e ∙ r.unlocked none;
 }
 
-pub rests_listed : (o : Option HeldFrame) (l m : Link) → m ≡ listed_link l → LinkRests o (unlocked_link l) → LinkRests o m
-rests_listed o l m e r = let c = r.calm in subst (LinkRests o) (sym e) record {
+pub rests_left_to_write : (o : Option HeldFrame) (l m : Link) → m ≡ left_to_write_link l → LinkRests o (unlocked_link l) → LinkRests o m
+rests_left_to_write o l m e r = let c = r.calm in subst (LinkRests o) (sym e) record {
   calm = record { no_header = refl; assigned = c.assigned; no_copy = c.no_copy; applied = c.applied; no_io = c.no_io; page_home = c.page_home; no_wait = c.no_wait };
   role = r.role;
   tag = r.tag;
@@ -292,7 +292,7 @@ module _ {L G : Type 0} (contents : L → Option Pages) (t : FrameTable L G) whe
     notes = all.notes;
     lock = lock;
     syncs = record { word = word; looked = looked; looks = looks; until = s.works.advances; came = synced_answer contents t only word f v looked w r is under (ap (λ (y : View). y.device_calls) k.self) s.answer all.answer };
-    unlisted = λ e o. not_skipped contents t f v w r all.answer e;
+    not_left_to_write = λ e o. not_skipped contents t f v w r all.answer e;
     met = all.met;
     ended = all.ended;
   }
@@ -321,8 +321,8 @@ module _ {L G : Type 0} (contents : L → Option Pages) (t : FrameTable L G) whe
   at_once_lacks Written only word a e o = absurd a
 
   -- the header is unlocked at once
-  pub syncs_at_once : (synced : Synced) (only : SyncOnly) (word f : ℕ) (v looked w : View) → LooksUnder f word v looked → Touches f v looked → SameMarks v looked → Looked (locked_link word (link v f)) (link looked f) → ((fields word).checkpoint_needed ≡ false → (link looked f).listed ≡ false) → Touches f looked w → SameMarks looked w → link w f ≡ unlocked_link (link looked f) → ComesAtOnce only (fields word) (Some synced) → SyncsOne contents t only f v w (Ok synced)
-  syncs_at_once synced only word f v looked w looks k m a unlisted l n e once = record {
+  pub syncs_at_once : (synced : Synced) (only : SyncOnly) (word f : ℕ) (v looked w : View) → LooksUnder f word v looked → Touches f v looked → SameMarks v looked → Looked (locked_link word (link v f)) (link looked f) → ((fields word).checkpoint_needed ≡ false → (link looked f).left_to_write ≡ false) → Touches f looked w → SameMarks looked w → link w f ≡ unlocked_link (link looked f) → ComesAtOnce only (fields word) (Some synced) → SyncsOne contents t only f v w (Ok synced)
+  syncs_at_once synced only word f v looked w looks k m a not_left_to_write l n e once = record {
     works = works_on f v looked w (works_marked f v looked k m) (works_marked f looked w l n);
     notes = notes_unlocked word (link v f) (link looked f) (link w f) a e;
     lock = ap (λ (x : Link). x.content) e ∙ a.content;
@@ -334,7 +334,7 @@ module _ {L G : Type 0} (contents : L → Option Pages) (t : FrameTable L G) whe
       came = at_once_came synced only word f v looked w once
           (made_none v w (ap (λ (y : View). y.device_calls) l.self ∙ ap (λ (y : View). y.device_calls) k.self));
     };
-    unlisted = λ s o. ap (λ (x : Link). x.listed) e ∙ unlisted (at_once_lacks synced only (fields word) once (same_came synced Skipped (Ok synced) refl s) o);
+    not_left_to_write = λ s o. ap (λ (x : Link). x.left_to_write) e ∙ not_left_to_write (at_once_lacks synced only (fields word) once (same_came synced Skipped (Ok synced) refl s) o);
     met = ap (λ (y : View). y.met) l.self ∙ ap (λ (y : View). y.met) k.self;
     ended = at_once_met synced only f v w (fields word) once;
   }

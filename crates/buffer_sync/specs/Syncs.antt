@@ -150,7 +150,7 @@ module _ {L G : Type 0} (contents : L → Option Pages) (t : FrameTable L G) whe
     pub lock : (link w f).content ≡ (link v f).content
     pub syncs : SyncsFrame only f v w r
     -- the view's checkpoint has not to write a frame that was passed over for the lack of BM_CHECKPOINT_NEEDED
-    pub unlisted : r ≡ Ok Skipped → only ≡ Needed → (link w f).listed ≡ false
+    pub not_left_to_write : r ≡ Ok Skipped → only ≡ Needed → (link w f).left_to_write ≡ false
     pub met : w.met ≡ met_flushing r v.met
     pub ended : EndsSync f v w r
 
@@ -161,7 +161,7 @@ pages_written (LaneWrite lane tag page true ∷ calls) = 1 + pages_written calls
 pages_written (call ∷ calls) = pages_written calls
 
 -- The calls of devices are syncs of the log and writes of lanes, and so many pages were written
-pub record Writes (n : ℕ) (v w : View) : Type 0 where
+pub record WritesPages (n : ℕ) (v w : View) : Type 0 where
   pub made : List DeviceCall
   pub calls : Made made v w
   pub each : All IsFlushCall made

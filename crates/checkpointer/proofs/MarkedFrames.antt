@@ -12,18 +12,18 @@ use Rattle.pin_core.specs.State.{link}
 use Rattle.buffer_frames.specs.Working.{KeepsNotes}
 use Rattle.backend_pass.specs.declared.marked.MarkedFrame.{MarkedFrame}
 use Rattle.backend_pass.specs.Passes.{PassState}
-use Rattle.checkpointer.specs.Marked.{AreInside, AreMarked, HasPassed, HasNoneLeft, IsMarked, IsUnlisted, KeepsEachNote}
+use Rattle.checkpointer.specs.Marked.{AreInside, AreMarked, HasPassed, HasNoneLeft, IsMarked, HasNoneToWrite, KeepsEachNote}
 
 not_both : {b : Bool} → b ≡ true → b ≡ false → ⊥
 not_both e n = absurd (cc)
 
-by_listed : (b : Bool) {A : Type 0} → (b ≡ true → A) → (b ≡ false → A) → A
-by_listed true is isnt = is refl
-by_listed false is isnt = isnt refl
+by_left_to_write : (b : Bool) {A : Type 0} → (b ≡ true → A) → (b ≡ false → A) → A
+by_left_to_write true is isnt = is refl
+by_left_to_write false is isnt = isnt refl
 
 -- a list before the first frame is marked
-pub marked_none : (v : View) → IsUnlisted v → AreMarked [] v
-marked_none v none f listed = absurd (not_both listed (none f))
+pub marked_none : (v : View) → HasNoneToWrite v → AreMarked [] v
+marked_none v none f left_to_write = absurd (not_both left_to_write (none f))
 
 pub passed_none : (v : View) → HasPassed 0 v
 passed_none v f low = absurd (omega arith)
@@ -41,16 +41,16 @@ inside_more frames marked m low inside = All-append (λ (x : MarkedFrame). x.fra
 -- the list, where the checkpoint looked at the frame f, and left the notes of the others
 module _ (f : ℕ) (v w : View) (others : (g : ℕ) → g ≢ f → link w g ≡ link v g) where
   -- and the frame isn't one to write
-  pub marked_clean : (marked : List MarkedFrame) → ((link v f).listed ≡ false → (link w f).listed ≡ false) → AreMarked marked v → AreMarked marked w
-  marked_clean marked clean are g listed = dite (ℕ_discrete g f)
-      (λ (e : g ≡ f). by_listed (link v g).listed (are g) (λ none. absurd (not_both listed (subst (λ (x : ℕ). (link w x).listed ≡ false) (sym e) (clean (subst (λ (x : ℕ). (link v x).listed ≡ false) e none))))))
-      (λ (n : g ≢ f). are g (sym (ap (λ (l : Link). l.listed) (others g n)) ∙ listed))
+  pub marked_clean : (marked : List MarkedFrame) → ((link v f).left_to_write ≡ false → (link w f).left_to_write ≡ false) → AreMarked marked v → AreMarked marked w
+  marked_clean marked clean are g left_to_write = dite (ℕ_discrete g f)
+      (λ (e : g ≡ f). by_left_to_write (link v g).left_to_write (are g) (λ none. absurd (not_both left_to_write (subst (λ (x : ℕ). (link w x).left_to_write ≡ false) (sym e) (clean (subst (λ (x : ℕ). (link v x).left_to_write ≡ false) e none))))))
+      (λ (n : g ≢ f). are g (sym (ap (λ (l : Link). l.left_to_write) (others g n)) ∙ left_to_write))
 
-  -- and listed it
+  -- and it is left to write
   pub marked_dirty : (marked : List MarkedFrame) (m : MarkedFrame) → m.frame ≡ f → AreMarked marked v → AreMarked (marked ++ m ∷ []) w
-  marked_dirty marked m is are g listed = dite (ℕ_discrete g f)
+  marked_dirty marked m is are g left_to_write = dite (ℕ_discrete g f)
       (λ (e : g ≡ f). record { entry = m; there = Contains-push marked m; same = is ∙ sym e })
-      (λ (n : g ≢ f). with_more marked m g (are g (sym (ap (λ (l : Link). l.listed) (others g n)) ∙ listed)))
+      (λ (n : g ≢ f). with_more marked m g (are g (sym (ap (λ (l : Link). l.left_to_write) (others g n)) ∙ left_to_write)))
 
   pub passed_more : HasPassed f v → (link w f).passed ≡ true → HasPassed (f + 1) w
   passed_more before here g low = dite (ℕ_discrete g f)
@@ -61,9 +61,9 @@ module _ (f : ℕ) (v w : View) (others : (g : ℕ) → g ≢ f → link w g ≡
   pub notes_at : KeepsNotes (link v f) (link w f) → KeepsEachNote v w
   notes_at here g = dite (ℕ_discrete g f)
       (λ (e : g ≡ f). subst (λ (x : ℕ). KeepsNotes (link v x) (link w x)) (sym e) here)
-      (λ (n : g ≢ f). subst (λ (l : Link). KeepsNotes (link v g) l) (sym (others g n)) (record { passed = λ x. x; listed = λ x. x }))
+      (λ (n : g ≢ f). subst (λ (l : Link). KeepsNotes (link v g) l) (sym (others g n)) (record { passed = λ x. x; left_to_write = λ x. x }))
 
--- A frame was looked at, and then listed
+-- A frame was looked at, and then marked as left to write
 module _ (f : ℕ) (p q r : PassState) (m : MarkedFrame) (others : (g : ℕ) → g ≢ f → link q.view g ≡ link p.view g) (kept : q.marked ≡ p.marked) (is : r ≡ record q { marked = q.marked ++ m ∷ [] }) (same : m.frame ≡ f) where
   list_is : r.marked ≡ p.marked ++ m ∷ []
   list_is = ap (λ (x : PassState). x.marked) is ∙ ap (λ (l : List MarkedFrame). l ++ m ∷ []) kept
@@ -88,27 +88,27 @@ module _ (f : ℕ) (p q r : PassState) (m : MarkedFrame) (others : (g : ℕ) →
 
 -- the list in another order
 pub marked_moved : (xs ys : List MarkedFrame) (v : View) → IsPermutation xs ys → AreMarked xs v → AreMarked ys v
-marked_moved xs ys v moved are f listed = let is = are f listed in record { entry = is.entry; there = Contains-permutation xs ys is.entry moved is.there; same = is.same }
+marked_moved xs ys v moved are f left_to_write = let is = are f left_to_write in record { entry = is.entry; there = Contains-permutation xs ys is.entry moved is.there; same = is.same }
 
 pub inside_moved : (frames : ℕ) (xs ys : List MarkedFrame) → IsPermutation xs ys → AreInside frames xs → AreInside frames ys
 inside_moved frames xs ys moved inside = All-permutation (λ (m : MarkedFrame). m.frame < frames) xs ys moved inside
 
 pub notes_none : (v : View) → KeepsEachNote v v
-notes_none v f = record { passed = λ x. x; listed = λ x. x }
+notes_none v f = record { passed = λ x. x; left_to_write = λ x. x }
 
 pub notes_on : (v u w : View) → KeepsEachNote v u → KeepsEachNote u w → KeepsEachNote v w
-notes_on v u w a b f = record { passed = λ x. (b f).passed ((a f).passed x); listed = λ x. (b f).listed ((a f).listed x) }
+notes_on v u w a b f = record { passed = λ x. (b f).passed ((a f).passed x); left_to_write = λ x. (b f).left_to_write ((a f).left_to_write x) }
 
 -- each marked frame is written
-pub all_written : (frames : ℕ) (marked : List MarkedFrame) (v w : View) → HasPassed frames v → AreMarked marked v → KeepsEachNote v w → ((k : ℕ) (d : MarkedFrame) → k < length marked → (link w (slice_index_or marked k d).frame).listed ≡ false) → HasNoneLeft frames w
-all_written frames marked v w passed are notes done f low = ((notes f).passed (passed f low), by_listed (link v f).listed listed (notes f).listed)
+pub all_written : (frames : ℕ) (marked : List MarkedFrame) (v w : View) → HasPassed frames v → AreMarked marked v → KeepsEachNote v w → ((k : ℕ) (d : MarkedFrame) → k < length marked → (link w (slice_index_or marked k d).frame).left_to_write ≡ false) → HasNoneLeft frames w
+all_written frames marked v w passed are notes done f low = ((notes f).passed (passed f low), by_left_to_write (link v f).left_to_write left_to_write (notes f).left_to_write)
   where
-    listed : (link v f).listed ≡ true → (link w f).listed ≡ false
-    listed e = let is = are f e in subst (λ (x : ℕ). (link w x).listed ≡ false) (ap (λ (m : MarkedFrame). m.frame) is.there.2 ∙ is.same) (done is.there.0 is.entry is.there.1)
+    left_to_write : (link v f).left_to_write ≡ true → (link w f).left_to_write ≡ false
+    left_to_write e = let is = are f e in subst (λ (x : ℕ). (link w x).left_to_write ≡ false) (ap (λ (m : MarkedFrame). m.frame) is.there.2 ∙ is.same) (done is.there.0 is.entry is.there.1)
 
 -- one more is written
-pub one_written : (place : ℕ) (marked list : List MarkedFrame) (first : MarkedFrame) (v w : View) → list ≡ marked → place < length marked → KeepsEachNote v w → (link w (slice_index_or list place first).frame).listed ≡ false
-    → ((k : ℕ) (d : MarkedFrame) → k < place → (link v (slice_index_or marked k d).frame).listed ≡ false) → (k : ℕ) (d : MarkedFrame) → k < place + 1 → (link w (slice_index_or marked k d).frame).listed ≡ false
+pub one_written : (place : ℕ) (marked list : List MarkedFrame) (first : MarkedFrame) (v w : View) → list ≡ marked → place < length marked → KeepsEachNote v w → (link w (slice_index_or list place first).frame).left_to_write ≡ false
+    → ((k : ℕ) (d : MarkedFrame) → k < place → (link v (slice_index_or marked k d).frame).left_to_write ≡ false) → (k : ℕ) (d : MarkedFrame) → k < place + 1 → (link w (slice_index_or marked k d).frame).left_to_write ≡ false
 one_written place marked list first v w is inside notes here before k d low = dite (ℕ_discrete k place)
-    (λ (e : k ≡ place). subst (λ (x : MarkedFrame). (link w x.frame).listed ≡ false) (ap (λ (l : List MarkedFrame). slice_index_or l place first) is ∙ get_or_default marked place first d inside ∙ ap (λ (j : ℕ). slice_index_or marked j d) (sym e)) here)
-    (λ (n : k ≢ place). (notes (slice_index_or marked k d).frame).listed (before k d (omega arith)))
+    (λ (e : k ≡ place). subst (λ (x : MarkedFrame). (link w x.frame).left_to_write ≡ false) (ap (λ (l : List MarkedFrame). slice_index_or l place first) is ∙ get_or_default marked place first d inside ∙ ap (λ (j : ℕ). slice_index_or marked j d) (sym e)) here)
+    (λ (n : k ≢ place). (notes (slice_index_or marked k d).frame).left_to_write (before k d (omega arith)))

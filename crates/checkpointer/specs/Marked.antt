@@ -6,9 +6,9 @@ use Rattle.pin_core.specs.State.{link}
 use Rattle.buffer_frames.specs.Working.{KeepsNotes}
 use Rattle.backend_pass.specs.declared.marked.MarkedFrame.{MarkedFrame}
 
--- the view's checkpoint has listed no frame
-abbrev pub IsUnlisted : View → Type 0
-IsUnlisted v = (f : ℕ) → (link v f).listed ≡ false
+-- no frame is left for the view's checkpoint to write
+abbrev pub HasNoneToWrite : View → Type 0
+HasNoneToWrite v = (f : ℕ) → (link v f).left_to_write ≡ false
 
 -- it has passed each of so many frames
 abbrev pub HasPassed : ℕ → View → Type 0
@@ -16,7 +16,7 @@ HasPassed frames v = (f : ℕ) → f < frames → (link v f).passed ≡ true
 
 -- and has none of them left to write
 abbrev pub HasNoneLeft : ℕ → View → Type 0
-HasNoneLeft frames v = (f : ℕ) → f < frames → ((link v f).passed ≡ true) × ((link v f).listed ≡ false)
+HasNoneLeft frames v = (f : ℕ) → f < frames → ((link v f).passed ≡ true) × ((link v f).left_to_write ≡ false)
 
 -- The frame stands in the list
 pub record IsMarked (marked : List MarkedFrame) (f : ℕ) : Type 0 where
@@ -26,7 +26,7 @@ pub record IsMarked (marked : List MarkedFrame) (f : ℕ) : Type 0 where
 
 -- each frame that it has to write stands in the list
 abbrev pub AreMarked : List MarkedFrame → View → Type 0
-AreMarked marked v = (f : ℕ) → (link v f).listed ≡ true → IsMarked marked f
+AreMarked marked v = (f : ℕ) → (link v f).left_to_write ≡ true → IsMarked marked f
 
 -- the list is of frames of a pool of so many
 abbrev pub AreInside : ℕ → List MarkedFrame → Type 0

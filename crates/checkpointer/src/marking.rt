@@ -3,7 +3,7 @@ ghost use Rattle.std.specs.Prelude.{◌≡◌, ◌≢◌, ◌+◌, ◌<◌, ◌�
 ghost use Rattle.frame_table.specs.Seats.{frames_of};
 ghost use Rattle.pin_core.specs.State.{link};
 ghost use Rattle.backend_pass.specs.Managers.{Belongs};
-ghost use Rattle.checkpointer.specs.Marked.{AreInside, AreMarked, HasPassed, IsUnlisted};
+ghost use Rattle.checkpointer.specs.Marked.{AreInside, AreMarked, HasPassed, HasNoneToWrite};
 ghost use Rattle.checkpointer.specs.Stages.{MarksFrames};
 
 use backend_pass::{Manager, MarkedFrame, Pass};
@@ -44,7 +44,7 @@ pub(crate) fn mark_frames<L: BlockLane, G: LogDevice, R: Wait>(
     pass: &mut Pass,
 )
     requires belongs { Belongs L.contents manager.now pass.old }
-    requires unlisted { IsUnlisted pass.old.view }
+    requires not_left_to_write { HasNoneToWrite pass.old.view }
     requires none { pass.old.marked ≡ [] }
     ensures marks { MarksFrames L.contents manager.now pass.old pass.new }
     ensures passed { HasPassed (frames_of manager.now.table) pass.new.view }

@@ -36,7 +36,7 @@ fn write_frame<L: BlockLane, G: LogDevice, R: Wait>(
     requires inside { frame < frames_of manager.now.table }
     requires unlocked { HasLock Unlocked frame pass.old }
     ensures writes { IfOk result (λ written. WritesMarked L.contents manager.now written pass.old pass.new) }
-    ensures unlisted { OnOk result ((link pass.new.view frame).listed ≡ false) }
+    ensures not_left_to_write { OnOk result ((link pass.new.view frame).left_to_write ≡ false) }
     ensures notes { OnOk result (KeepsEachNote pass.old.view pass.new.view) }
     ensures marked { pass.new.marked ≡ pass.old.marked }
     ensures stops { IfErr result (StopsWriting L.contents manager.now pass.old pass.new) }

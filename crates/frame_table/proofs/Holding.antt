@@ -319,7 +319,7 @@ finds_on f tag g v w t h = let same : hold w (tag_partition tag) ≡ hold v (tag
 }
 
 mapped_looked : (tag : ℕ) (ring : Bool) (l m : Link) → Looked l m → Looked (mapped_link tag ring l) (mapped_link tag ring m)
-mapped_looked tag ring l m a = record { role = refl; tag = refl; ring = refl; header = a.header; pending = a.pending; content = a.content; copying = a.copying; dirtied = a.dirtied; unapplied = a.unapplied; copied = a.copied; io = a.io; read = a.read; read_is_home = a.read_is_home; last_write = a.last_write; out = a.out; overwritten = a.overwritten; image = a.image; seen_valid = a.seen_valid; waits = a.waits; passed = a.passed; listed = a.listed }
+mapped_looked tag ring l m a = record { role = refl; tag = refl; ring = refl; header = a.header; pending = a.pending; content = a.content; copying = a.copying; dirtied = a.dirtied; unapplied = a.unapplied; copied = a.copied; io = a.io; read = a.read; read_is_home = a.read_is_home; last_write = a.last_write; out = a.out; overwritten = a.overwritten; image = a.image; seen_valid = a.seen_valid; waits = a.waits; passed = a.passed; left_to_write = a.left_to_write }
 
 pub mapped_after : (tag : ℕ) (ring : Bool) (f : ℕ) (v w : View) → Tried (pins (pin.pin_mapped tag ring)) f v w true → Looked (mapped_link tag ring (link v f)) (link w f)
 mapped_after tag ring f v w t = subst (Looked (mapped_link tag ring (link v f))) (sym (link_is (pins (pin.pin_mapped tag ring)) f t.1 t.0 w t.3)) (mapped_looked tag ring (link v f) (link t.0 f) (looks_link f v t.0 t.2))

@@ -108,8 +108,8 @@ sees_over f found v w d off = ap (λ (l : Link). l.waits) (loads_link f found v 
 pub passes_clean : (f found : ℕ) (v w : View) → Did looking f v w found → (fields found).dirty ≡ false → (link w f).passed ≡ true
 passes_clean f found v w d clean = ap (λ (l : Link). l.passed) (loads_link f found v w d) ∙ ap (λ (b : Bool). (link v f).passed || not b) clean ∙ or-true (link v f).passed
 
-pub need_not_write : (f found : ℕ) (v w : View) → Did looking f v w found → (fields found).checkpoint_needed ≡ false → (link w f).listed ≡ false
-need_not_write f found v w d none = ap (λ (l : Link). l.listed) (loads_link f found v w d) ∙ ap (λ (b : Bool). (link v f).listed && b) none ∙ and-false (link v f).listed
+pub need_not_write : (f found : ℕ) (v w : View) → Did looking f v w found → (fields found).checkpoint_needed ≡ false → (link w f).left_to_write ≡ false
+need_not_write f found v w d none = ap (λ (l : Link). l.left_to_write) (loads_link f found v w d) ∙ ap (λ (b : Bool). (link v f).left_to_write && b) none ∙ and-false (link v f).left_to_write
 
 -- a pin that is handed out sees BM_VALID too
 pub handed_sees : (f found : ℕ) (v w : View) → Did looking f v w found → (link v f).role ≡ HandedOut → (fields found).valid ≡ true → (link w f).seen_valid ≡ true

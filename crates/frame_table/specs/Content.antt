@@ -128,9 +128,9 @@ begun_link false l = record l { header = None; io = Output }
 abbrev pub finished_link : IoEnd → Link → Link
 finished_link end l = record l { seen_valid = saw_valid end l.seen_valid; header = None; io = Quiet; read = None; read_is_home = false; last_write = Unwritten }
 
--- at a frame that the checkpoint has passed and listed
-abbrev pub listed_link : Link → Link
-listed_link l = record l { header = None; passed = true; listed = true }
+-- at a frame that the checkpoint has visited and that is left for it to write
+abbrev pub left_to_write_link : Link → Link
+left_to_write_link l = record l { header = None; passed = true; left_to_write = true }
 
 -- with a wait under the number
 abbrev pub waiting_link : ℕ → Link → Link

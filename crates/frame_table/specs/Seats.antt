@@ -75,7 +75,7 @@ loaded_link w l = record l {
   seen_valid = seen_valid_after l.pending l.role w.valid l.seen_valid;
   waits = wait_after w l.waits;
   passed = l.passed || not w.dirty;
-  listed = l.listed && w.checkpoint_needed;
+  left_to_write = l.left_to_write && w.checkpoint_needed;
 }
 
 -- What a state word shows of a frame at which a view has the link l
@@ -121,7 +121,7 @@ pub record Looked (l m : Link) : Type 0 where
   pub waits : l.waits ≡ None → m.waits ≡ None
   -- a frame that the checkpoint has passed stays passed, and none becomes one that it has to write
   pub passed : l.passed ≡ true → m.passed ≡ true
-  pub listed : l.listed ≡ false → m.listed ≡ false
+  pub left_to_write : l.left_to_write ≡ false → m.left_to_write ≡ false
 
 -- the link after a pin by the caller, for a ring or not
 abbrev pub pinned_link : Bool → Link → Link

@@ -8,7 +8,7 @@ ghost use Rattle.page_core.specs.Steps.{HasNoIo, HasNoWriteOut, MayWait};
 ghost use Rattle.frame_table.specs.Kinds.{pages};
 ghost use Rattle.frame_table.specs.Seats.{CanStep, Looked, MarksBegun, MarksDirty, MarksEnded, SameMarks, SameSeat, Touches, unlocked_link};
 ghost use Rattle.frame_table.specs.FrameSteps.{Did, Tried, always, chosen, has_locked, if_found};
-ghost use Rattle.frame_table.specs.Content.{CanAwait, CanBeginIo, CanClearJust, CanFinishIo, CanNeed, CanWake, begun_link, dirtied_link, finished_link, listed_link, start_of, waiting_link};
+ghost use Rattle.frame_table.specs.Content.{CanAwait, CanBeginIo, CanClearJust, CanFinishIo, CanNeed, CanWake, begun_link, dirtied_link, finished_link, left_to_write_link, start_of, waiting_link};
 
 use crate::content_plays::{ClearJustDirtied, ClearWaiter, MarkDirty, NeedCheckpoint};
 use crate::io_right::IoRight;
@@ -181,7 +181,7 @@ impl<L: BlockLane, G: LogDevice> FrameTable<L, G> {
         ensures seat { SameSeat seat.old seat.new }
         ensures touches { Touches frame seat.old.me.0 seat.new.me.0 }
         ensures marks { SameMarks seat.old.me.0 seat.new.me.0 }
-        ensures listed { link seat.new.me.0 frame ≡ listed_link (link seat.old.me.0 frame) }
+        ensures left_to_write { link seat.new.me.0 frame ≡ left_to_write_link (link seat.old.me.0 frame) }
         ensures did { Did (pages kinds.need_checkpoint) frame seat.old.me.0 seat.new.me.0 word }
     {
         self.table.shared.swap::<Step<NeedCheckpoint>>(

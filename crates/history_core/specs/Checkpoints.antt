@@ -13,7 +13,7 @@ use Rattle.history_core.specs.Log.{record_size}
 use Rattle.history_core.specs.State.{State, stored, synced_upto}
 use Rattle.history_core.specs.Lanes.{take_lane, leave_lane, lane_out, sync_lane, lane_back}
 use Rattle.history_core.specs.Swept.{has_swept}
-use Rattle.history_core.specs.Debts.{has_passed, has_listed}
+use Rattle.history_core.specs.Debts.{has_passed, has_left_to_write}
 use Rattle.history_core.specs.Steps as steps
 use Rattle.history_core.specs.Steps.{Event, lane, load_flushed, begin_checkpoint, Run}
 use Rattle.history_core.specs.Sample.{sample_lane}
@@ -21,7 +21,7 @@ use Rattle.history_core.specs.Miss.{miss_start, miss, fill}
 use Rattle.history_core.specs.Put.{IsPut, change, flush, write_out}
 use Rattle.history_core.specs.Evictions.{second_pool, second_page}
 
--- the checkpoint of a second backend begins, and the dirty frame is flagged and listed
+-- the checkpoint of a second backend begins, and the dirty frame is flagged and left to write
 abbrev pub begin : List Event
 begin = steps.pool (page_steps.pins_and_maps pin_steps.split) ∷ begin_checkpoint 1 ∷ second_pool pins.lock_header ∷ second_page need_checkpoint ∷ []
 
@@ -49,8 +49,8 @@ pub record HasStored (p : Page) (t : State) : Type 0 where
   pub clean : (t.pool.core.frame 0).word.dirty ≡ false
   -- nothing is left of the second backend
   pub joined : get_elem? t.pool.core.views 1 ≡ some emptied_view
-  -- but its checkpoint, the only one that the first keeps: it began at the entry's end, has passed the frame, which is no longer listed, and has swept the lane up to there
-  pub ended : (v : View) × (c : Checkpoint) × (get_elem? t.pool.core.views 0 ≡ some v) × (v.kept ≡ c ∷ []) × (c.upto ≡ record_size) × (has_passed c 0 ≡ true) × (has_listed c 0 ≡ false) × (has_swept c 0 ≡ record_size)
+  -- but its checkpoint, the only one that the first keeps: it began at the entry's end, has visited the frame, which is no longer left to write, and has swept the lane up to there
+  pub ended : (v : View) × (c : Checkpoint) × (get_elem? t.pool.core.views 0 ≡ some v) × (v.kept ≡ c ∷ []) × (c.upto ≡ record_size) × (has_passed c 0 ≡ true) × (has_left_to_write c 0 ≡ false) × (has_swept c 0 ≡ record_size)
 
 abbrev pub CheckpointRuns : Type 0
 CheckpointRuns = (p : Page) → IsPut p → (t : State) × Run (miss ++ fill ++ change p ++ flush p ++ begin ++ write p ++ drop ++ sync ++ join) miss_start t × HasStored p t

@@ -119,10 +119,10 @@ pub record CanWrite (s : State) (n f tag : ℕ) (p : Page) (h : LaneHold) (l : L
   pub log_first : lsn_of p ≤ h.flushed
 
 -- after a write that failed the lane's page is unspecified
-abbrev pub Writes : LaneKind → State → ℕ → ℕ → LaneHold → Link → Type 0
-Writes (write_block g tag p) s n f h l = (g ≡ f) × CanWrite s n f tag p h l
-Writes (fail_write g tag p m) s n f h l = (g ≡ f) × CanWrite s n f tag (s.pool.core.frame f).page h l
-Writes _ s n f h l = ⊥
+abbrev pub MayWriteLane : LaneKind → State → ℕ → ℕ → LaneHold → Link → Type 0
+MayWriteLane (write_block g tag p) s n f h l = (g ≡ f) × CanWrite s n f tag p h l
+MayWriteLane (fail_write g tag p m) s n f h l = (g ≡ f) × CanWrite s n f tag (s.pool.core.frame f).page h l
+MayWriteLane _ s n f h l = ⊥
 
 -- the page that was read is of the frame's block; the backend has the input right there, and isn't just putting an earlier read into the frame
 pub record CanNoteLaneRead (s : State) (n f : ℕ) (p : Page) (h : LaneHold) (l : Link) : Type 0 where
@@ -210,9 +210,9 @@ has_loaded end v = looked (seen.LogEnd end) (record v { log = end_loaded end v.l
 abbrev pub has_written : ℕ → ℕ → Page → View → View
 has_written end tag p v = record v { calls = v.calls ++ Write v.number tag p end ∷ []; front = end; end_seen = max v.end_seen end; log = record v.log { appended = None; end = Some end } }
 
--- a checkpoint that begins has passed no frame, and listed none
+-- a checkpoint that begins has visited no frame, and none is left for it to write
 abbrev pub unmarked : Link → Link
-unmarked l = record l { passed = false; listed = false }
+unmarked l = record l { passed = false; left_to_write = false }
 
 -- a view whose checkpoint begins where the log ends at `end`
 abbrev pub has_begun : ℕ → View → View
@@ -233,7 +233,7 @@ pub data Step : Event → State → State → Type 0 where
   lanes : {s : State} (i n : ℕ) (k : LaneKind) (v : View) → get_elem? s.pool.core.views i ≡ some v → v.emptied ≡ false → n < s.lanes → LaneAllowed k (s.lane n) (lane_hold v n) → LaneAlone k s n (lane_hold v n)
       → Step (lane i n k) s (record s { pool = aside s.pool i (stepped (laned k n v v)); lane = put s.lane n (lane_after k (s.lane n)) })
   -- a write of the page of the frame f to the lane n, likewise
-  writes : {s : State} (i n f : ℕ) (k : LaneKind) (v : View) → get_elem? s.pool.core.views i ≡ some v → v.emptied ≡ false → n < s.lanes → f < s.pool.core.frames → LaneAllowed k (s.lane n) (lane_hold v n) → Writes k s n f (lane_hold v n) (link v f)
+  writes : {s : State} (i n f : ℕ) (k : LaneKind) (v : View) → get_elem? s.pool.core.views i ≡ some v → v.emptied ≡ false → n < s.lanes → f < s.pool.core.frames → LaneAllowed k (s.lane n) (lane_hold v n) → MayWriteLane k s n f (lane_hold v n) (link v f)
       → Step (write i n f k) s (record s { pool = pool_after begin_write s.pool i f (laned k n v (paged begin_write s.pool f v)); lane = put s.lane n (lane_after k (s.lane n)) })
   -- the lane n comes back, and what was read or written is noted at the frame f
   notes : {s : State} (i n f : ℕ) (noted : Bool) (k : Kind) (v : View) → get_elem? s.pool.core.views i ≡ some v → v.emptied ≡ false → n < s.lanes → f < s.pool.core.frames → LaneAllowed (lane_back noted) (s.lane n) (lane_hold v n) → Notes k s n f (lane_hold v n) (link v f)

@@ -307,7 +307,7 @@ link_after clear_just_dirtied b fr l = record l { header = None }
 link_after (end_io end) b fr l = record l { seen_valid = saw_valid end l.seen_valid; header = None; io = Quiet; read = None; read_is_home = false; last_write = Unwritten }
 link_after (set_waiter number) b fr l = record l { header = None; waits = Some number }
 link_after clear_waiter b fr l = record l { header = None }
-link_after need_checkpoint b fr l = record l { header = None; passed = true; listed = true }
+link_after need_checkpoint b fr l = record l { header = None; passed = true; left_to_write = true }
 
 -- whether a kind marks the frame dirty: a page may have to be written
 abbrev pub dirties : Kind → Bool

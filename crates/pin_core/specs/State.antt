@@ -93,7 +93,7 @@ idle = record {
   overwritten = None;
   waits = None;
   passed = false;
-  listed = false;
+  left_to_write = false;
 }
 
 abbrev pub no_partition : PartitionHold
@@ -171,7 +171,7 @@ sum_of_met a b = record { reads = a.reads + b.reads; writes = a.writes + b.write
 
 -- the checkpoint of a view, as it is kept when the view is joined into the first
 abbrev pub kept_checkpoint : View → Checkpoint
-kept_checkpoint u = record { number = u.number; upto = u.upto; passed = map (λ (l : Link). l.passed) u.links; listed = map (λ (l : Link). l.listed) u.links; swept = map (λ (h : LaneHold). h.swept) u.lanes }
+kept_checkpoint u = record { number = u.number; upto = u.upto; passed = map (λ (l : Link). l.passed) u.links; left_to_write = map (λ (l : Link). l.left_to_write) u.links; swept = map (λ (h : LaneHold). h.swept) u.lanes }
 
 -- the first view v with what it keeps of the view u
 abbrev pub joined_view : View → View → View

@@ -71,7 +71,7 @@ pub struct Link {
     /// The backend's checkpoint has passed the frame.
     pub passed: bool,
     /// The frame is one that the backend's checkpoint has still to write.
-    pub listed: bool,
+    pub left_to_write: bool,
 }
 
 /// A tag and the frame that has it.
@@ -276,7 +276,7 @@ pub struct Checkpoint {
     /// For each frame, whether it was passed.
     pub passed: [bool; 0],
     /// For each frame, whether it is one that has still to be written.
-    pub listed: [bool; 0],
+    pub left_to_write: [bool; 0],
     /// For each lane, the largest position where a checkpoint began that had nothing left to write as the lane was synced, or 0.
     pub swept: [u64; 0],
 }

@@ -10,7 +10,7 @@ use Rattle.held_pins.specs.Rests.{LinkRests}
 use Rattle.held_pins.specs.Tokens.{held_at}
 use Rattle.held_pins.proofs.Keeping.{rests_touched, stands_self}
 use Rattle.buffer_frames.proofs.WorkSteps.{within_all, within_on}
-use Rattle.buffer_sync.proofs.Passing.{rests_listed, rests_read, rests_under}
+use Rattle.buffer_sync.proofs.Passing.{rests_left_to_write, rests_read, rests_under}
 use Rattle.buffer_sync.proofs.marking.need_checkpoint.Goals as goal
 
 pub returns-then-not-has-clause-stands : goal.returns-then-not-has-clause-stands
@@ -56,7 +56,7 @@ returns-clause-rests g c =
     let x = c.tag_shown-tag.new.seat.me.0 in
     let e = c.tag_shown-tag.ensures in
     rests_touched f t v c.need_checkpoint.new.seat.me.0 (returns-clause-touches g c)
-    (rests_listed (held_at t f) (link x f) (link c.need_checkpoint.new.seat.me.0 f) c.need_checkpoint.ensures.listed (rests_read (held_at t f) c.tag_shown-tag.result (link u f) (link x f) e.read e.same e.remembered (rests_under (held_at t f) c.lock_header-word.result (link v f) (link u f) c.lock_header-word.ensures.locked (c.requires.rests f))))
+    (rests_left_to_write (held_at t f) (link x f) (link c.need_checkpoint.new.seat.me.0 f) c.need_checkpoint.ensures.left_to_write (rests_read (held_at t f) c.tag_shown-tag.result (link u f) (link x f) e.read e.same e.remembered (rests_under (held_at t f) c.lock_header-word.result (link v f) (link u f) c.lock_header-word.ensures.locked (c.requires.rests f))))
     c.requires.rests
 
 pub returns-clause-needed : goal.returns-clause-needed

@@ -27,7 +27,7 @@ returns-in-Some-clause-rests g c =
 
 pub returns-in-Some-clause-one : goal.returns-in-Some-clause-one
 returns-in-Some-clause-one g c = let l = c.look_under-word.ensures in let h = c.unlock_header.ensures in
-    syncs_at_once {L = g.row.L.Denot} {G = g.row.G.Denot} g.L.BlockLane.contents c.args.table.now c.in-Some.synced c.args.only c.look_under-word.result c.args.frame c.args.seat.now.me.0 c.look_under-word.new.seat.me.0 c.unlock_header.new.seat.me.0 l.looks l.touches l.marks l.locked l.unlisted h.touches h.marks h.unlocked c.in-Some.ensures
+    syncs_at_once {L = g.row.L.Denot} {G = g.row.G.Denot} g.L.BlockLane.contents c.args.table.now c.in-Some.synced c.args.only c.look_under-word.result c.args.frame c.args.seat.now.me.0 c.look_under-word.new.seat.me.0 c.unlock_header.new.seat.me.0 l.looks l.touches l.marks l.locked l.not_left_to_write h.touches h.marks h.unlocked c.in-Some.ensures
 
 pub flush_under-requires-clause-stands : goal.flush_under-requires-clause-stands
 flush_under-requires-clause-stands g c = stands_self _ c.args.seat.now c.look_under-word.new.seat c.look_under-word.ensures.seat c.look_under-word.ensures.touches.self c.requires.stands

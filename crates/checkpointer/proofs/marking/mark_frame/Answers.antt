@@ -13,7 +13,7 @@ returns-in_default-clause-marks g c =
 pub returns-in_default-clause-marked : goal.returns-in_default-clause-marked
 returns-in_default-clause-marked g c are =
     let n = c.need_checkpoint.ensures in
-    subst (λ l. AreMarked l c.need_checkpoint.new.self.view) (sym n.marked) (marked_clean c.args.frame c.args.pass.now.view c.need_checkpoint.new.self.view n.touches.others c.args.pass.now.marked c.in_default.ensures.unlisted are)
+    subst (λ l. AreMarked l c.need_checkpoint.new.self.view) (sym n.marked) (marked_clean c.args.frame c.args.pass.now.view c.need_checkpoint.new.self.view n.touches.others c.args.pass.now.marked c.in_default.ensures.not_left_to_write are)
 
 pub returns-clause-marks : goal.returns-clause-marks
 returns-clause-marks g c =

@@ -22,5 +22,5 @@ loop-place-preserved g c =
       writes = writes_on {L = g.row.L.Denot} {G = g.row.G.Denot} g.L.BlockLane.contents c.args.manager.now c.loop-place.written c.in-Ok.more _ c.args.pass.now c.loop-place.pass c.write_frame.new.pass (let sum = c.saturating_add-written.ensures in omega arith) i.writes ok.writes;
       notes = notes_on c.args.pass.now.view c.loop-place.pass.view c.write_frame.new.pass.view i.notes ok.notes;
       marked = e.marked ∙ i.marked;
-      done = one_written c.loop-place.place c.args.pass.now.marked c.marked.result.now _ c.loop-place.pass.view c.write_frame.new.pass.view (c.marked.ensures ∙ i.marked) (let long = ap length c.marked-place-end.ensures in omega arith) ok.notes ok.unlisted i.done;
+      done = one_written c.loop-place.place c.args.pass.now.marked c.marked.result.now _ c.loop-place.pass.view c.write_frame.new.pass.view (c.marked.ensures ∙ i.marked) (let long = ap length c.marked-place-end.ensures in omega arith) ok.notes ok.not_left_to_write i.done;
     }

@@ -10,5 +10,5 @@ invariant-loop-place g l = record {
   writes : WritesMarked {L = g.row.L.Denot} {G = g.row.G.Denot} g.L.BlockLane.contents l.manager l.written l.fn.pass l.pass;
   notes : KeepsEachNote l.fn.pass.view l.pass.view;
   marked : l.pass.marked ≡ l.fn.pass.marked;
-  done : (k : ℕ) (d : MarkedFrame) → k < l.place → (link l.pass.view (slice_index_or l.fn.pass.marked k d).frame).listed ≡ false;
+  done : (k : ℕ) (d : MarkedFrame) → k < l.place → (link l.pass.view (slice_index_or l.fn.pass.marked k d).frame).left_to_write ≡ false;
 }

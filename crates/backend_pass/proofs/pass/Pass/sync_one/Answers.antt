@@ -77,9 +77,9 @@ pub returns-clause-ended : goal.returns-clause-ended
 returns-clause-ended g c =
     subst (λ (r : Result Synced frames.FrameFlushError). EndsSync c.args.frame c.args.self.now.view (view_in c.sync_seated-frames_answer.new.badge.views) r) (sym c.told-answer.ensures) (subst (λ (p : PassState). EndsSync c.args.frame p.view (view_in c.sync_seated-frames_answer.new.badge.views) c.sync_seated-frames_answer.result) c.self.view_is (c.sync_seated-frames_answer.ensures.did.ended))
 
-pub returns-clause-unlisted : goal.returns-clause-unlisted
-returns-clause-unlisted g c =
-    λ skipped needed. c.sync_seated-frames_answer.ensures.did.unlisted (sym c.told-answer.ensures ∙ ap frame_answer skipped) needed
+pub returns-clause-not_left_to_write : goal.returns-clause-not_left_to_write
+returns-clause-not_left_to_write g c =
+    λ skipped needed. c.sync_seated-frames_answer.ensures.did.not_left_to_write (sym c.told-answer.ensures ∙ ap frame_answer skipped) needed
 
 pub returns-clause-complete : goal.returns-clause-complete
 returns-clause-complete g c =

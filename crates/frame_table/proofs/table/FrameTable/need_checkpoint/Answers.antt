@@ -17,8 +17,8 @@ swap-requires g c = (
 pub returns-clause-touches : goal.returns-clause-touches
 returns-clause-touches g c = touches (pages need_checkpoint) (λ s f v. refl) _ _ _ _ (c.swap.ensures.2.1 c.args.frame c.state_place.ensures)
 
-pub returns-clause-listed : goal.returns-clause-listed
-returns-clause-listed g c = link_is (pages need_checkpoint) _ _ _ _ (c.swap.ensures.2.1 c.args.frame c.state_place.ensures)
+pub returns-clause-left_to_write : goal.returns-clause-left_to_write
+returns-clause-left_to_write g c = link_is (pages need_checkpoint) _ _ _ _ (c.swap.ensures.2.1 c.args.frame c.state_place.ensures)
 
 pub returns-clause-did : goal.returns-clause-did
 returns-clause-did g c = as_held (pages need_checkpoint) refl _ _ _ _ _ c.requires.view.held (c.swap.ensures.2.1 c.args.frame c.state_place.ensures)
