@@ -20,7 +20,7 @@ use Rattle.buffer_frames.proofs.WorkSteps.{made_none, made_on}
 use Rattle.buffer_sync.specs.declared.syncing.SyncOnly.TheVariants.{NotRecentlyUsed}
 use Rattle.buffer_sync.specs.declared.syncing.Synced.{Synced}
 use Rattle.buffer_sync.specs.declared.syncing.Synced.TheVariants.{Skipped, Clean, Written}
-use Rattle.buffer_sync.specs.Syncs.{EndsSync, SyncsFrame, Writes, pages_written}
+use Rattle.buffer_sync.specs.Syncs.{EndsSync, SyncsFrame, WritesPages, pages_written}
 use Rattle.backend_pass.specs.declared.errors.FlushError.{FlushError}
 use Rattle.backend_pass.specs.declared.manager.Manager.{Manager}
 use Rattle.backend_pass.specs.FrameFlushes.{RefusesFrame, frame_answer, frame_refusal}
@@ -44,10 +44,10 @@ all_append : (P : DeviceCall → Type 0) (a b : List DeviceCall) → All P a →
 all_append P [] b x y = y
 all_append P (c ∷ a) b x y = All-cons P c (a ++ b) (All-head P c a x) (all_append P a b (All-tail P c a x) y)
 
-writes_none : (v w : View) → Made [] v w → Writes 0 v w
+writes_none : (v w : View) → Made [] v w → WritesPages 0 v w
 writes_none v w m = record { made = []; calls = m; each = All-nil IsFlushCall; counted = refl }
 
-pub writes_on : (m n : ℕ) (v u w : View) → Writes m v u → Writes n u w → Writes (m + n) v w
+pub writes_on : (m n : ℕ) (v u w : View) → WritesPages m v u → WritesPages n u w → WritesPages (m + n) v w
 writes_on m n v u w a b = record {
   made = a.made ++ b.made;
   calls = made_on a.made b.made v u w a.calls b.calls;
@@ -64,7 +64,7 @@ went_pages : (synced : Bool) (q tag : ℕ) (left : Page) → pages_written (log_
 went_pages true q tag left = refl
 went_pages false q tag left = refl
 
-went_writes : (q tag : ℕ) (page : Page) (v w : View) → WentToLane true q tag page v w → Writes 1 v w
+went_writes : (q tag : ℕ) (page : Page) (v w : View) → WentToLane true q tag page v w → WritesPages 1 v w
 went_writes q tag page v w e = record {
   made = log_syncs e.synced ++ LaneWrite q tag e.left true ∷ [];
   calls = made_on (log_syncs e.synced) (LaneWrite q tag e.left true ∷ []) v e.ready w e.log_calls e.lane_call;
@@ -73,7 +73,7 @@ went_writes q tag page v w e = record {
 }
 
 module _ {L G : Type 0} (contents : L → Option Pages) (t : FrameTable L G) where
-  pub sync_writes : (f : ℕ) (v w : View) (synced : Synced) → SyncsFrame contents t NotRecentlyUsed f v w (Ok synced) → Writes (pages_of synced) v w
+  pub sync_writes : (f : ℕ) (v w : View) (synced : Synced) → SyncsFrame contents t NotRecentlyUsed f v w (Ok synced) → WritesPages (pages_of synced) v w
   sync_writes f v w Skipped s = writes_none v w s.came.1
   sync_writes f v w Clean s = writes_none v w s.came.2
   sync_writes f v w Written s = let b = s.came.2 in went_writes _ _ b.answer.page v w b.answer.work
@@ -107,7 +107,7 @@ module _ {L G : Type 0} (contents : L → Option Pages) (m : Manager L G) where
     pub looks : Looked contents m.table hand p.view loaded came q.view
     pub counted : length came ≡ places
     pub pages : pages_of_all came ≡ written
-    pub writes : Writes written p.view q.view
+    pub writes : WritesPages written p.view q.view
     pub met : q.view.met ≡ p.view.met
 
   -- one frame more

@@ -5,7 +5,7 @@ ghost use Rattle.frame_table.specs.Seats.{frames_of};
 ghost use Rattle.clock_sweep.specs.Keeping.{SamePins};
 ghost use Rattle.buffer_frames.specs.Flushing.{met_flushing};
 ghost use Rattle.buffer_frames.specs.Working.{KeepsNotes};
-ghost use Rattle.buffer_sync.specs.Syncs.{Writes};
+ghost use Rattle.buffer_sync.specs.Syncs.{WritesPages};
 ghost use Rattle.backend_pass.specs.FrameFlushes.{RefusesFrame, frame_answer};
 ghost use Rattle.backend_pass.specs.Managers.{Belongs};
 ghost use Rattle.backend_pass.specs.Passes.{KeepsCallers, KeepsMark, SamePass};
@@ -60,7 +60,7 @@ pub fn round<L: BlockLane, G: LogDevice, R: Wait>(
     ensures cause { IfErr result (RefusesFrame L.contents manager.now.table pass.old pass.new) }
 
     // So many pages went to lanes.
-    ensures written { IfOk result (λ round. Writes round.written pass.old.view pass.new.view) }
+    ensures written { IfOk result (λ round. WritesPages round.written pass.old.view pass.new.view) }
     ensures met { pass.new.view.met ≡ met_flushing (frame_answer result) pass.old.view.met }
 
     // It ends where the log isn't down, no call fails, and no page has a position past the log's end.

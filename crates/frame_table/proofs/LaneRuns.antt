@@ -17,7 +17,7 @@ use Rattle.page_core.specs.Kinds.{Kind, note_read, begin_write, note_write}
 use Rattle.page_core.specs.Kinds as pages
 use Rattle.history_core.specs.State.{State, Lane}
 use Rattle.history_core.specs.Lanes.{swept_by, LaneKind, read_block, lane_back, LaneAllowed, lane_after, lane_hold_after, CanReturnLane, met_by, calls_by, syncs, fault_of}
-use Rattle.history_core.specs.Steps.{Event, Step, Run, rests, goes, NoWrite, LaneAlone, Writes, aside, stepped, laned, paged, pool_after, pool_noting}
+use Rattle.history_core.specs.Steps.{Event, Step, Run, rests, goes, NoWrite, LaneAlone, MayWriteLane, aside, stepped, laned, paged, pool_after, pool_noting}
 use Rattle.history_core.specs.Steps as steps
 use Rattle.history_core.specs.Laws.{Laws}
 use Rattle.history_core.proofs.Laws.{laws_kept}
@@ -149,7 +149,7 @@ module _ {L G : Type 0} (d : Devices L G) (o : Opening L G) where
       (record { was_read = ap (λ (x : LaneHold). x.change) hold ∙ ap (λ (n : ℕ). lane_change.Read n p) (sym tagged); lane = ap s.lane_of tagged ∙ lane; right = right; fresh = fresh }))
 
   -- A write, and the return with its note
-  pub writes_noted : (k : LaneKind) (noted : Bool) (s : State) (id q f : ℕ) (v : View) → Stands s id q v → f < s.pool.core.frames → LaneAllowed k (s.lane q) (lane_hold v q) → Writes k s q f (lane_hold v q) (link v f) → Leaves (s.lane q) (lane_after k (s.lane q))
+  pub writes_noted : (k : LaneKind) (noted : Bool) (s : State) (id q f : ℕ) (v : View) → Stands s id q v → f < s.pool.core.frames → LaneAllowed k (s.lane q) (lane_hold v q) → MayWriteLane k s q f (lane_hold v q) (link v f) → Leaves (s.lane q) (lane_after k (s.lane q))
       → CanReturnLane noted (lane_after k (s.lane q)) (lane_hold_after k v.flushed (swept_by v) (lane_hold v q)) → (done : Bool)
       → (steps.Notes (note_write done) (written_state k s id q f v) q f (lane_hold (written_view k s q f v) q) (link (written_view k s q f v) f))
       → Comes s id q v (steps.write id q f k ∷ steps.note id q f (lane_back noted) (note_write done) ∷ []) (noted_view noted (note_write done) (written_state k s id q f v) q f (written_view k s q f v)) (lane_after k (s.lane q))

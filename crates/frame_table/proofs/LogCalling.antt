@@ -14,7 +14,7 @@ use Rattle.table_rule.specs.declared.noted_log.LogCall.TheVariants as log_call
 use Rattle.table_rule.specs.declared.noted_log.NotedLog.{NotedLog}
 use Rattle.table_rule.specs.LogCalls.{LogDid, IsAppended, IsFailedAppend, has_failed}
 use Rattle.frame_table.specs.Entering.{MayBecomeEntry, IsRecord, MayStoreEnd}
-use Rattle.frame_table.specs.LogWork.{LogWent, MayAppend, MayCall, MayComeHome, IsMarked, view_home}
+use Rattle.frame_table.specs.LogWork.{LogWent, MayAppend, MayCall, MayComeHome, MarksLogDown, view_home}
 
 -- an append that is asked for may have been made
 by_fields : (relations : List RelEntry) (f g : ℕ) (tag named : Tag) (p q : Page) (piece bytes : List ℕ) (v : View) → (g ≡ f) × (named ≡ tag) × (q ≡ p) × (bytes ≡ piece) → MayAppend relations f tag p piece v → MayAppend relations g named q bytes v
@@ -42,10 +42,10 @@ done_append f tag p piece log_call.Synced e = absurd e
 done_append f tag p piece log_call.SyncFailed e = absurd e
 
 -- the mark after a call that was done, and after one that failed
-marked_done : (call : LogCall) (taken end now : Option ℕ) → has_failed call ≡ false → taken ≡ None → now ≡ None → IsMarked call taken end now
+marked_done : (call : LogCall) (taken end now : Option ℕ) → has_failed call ≡ false → taken ≡ None → now ≡ None → MarksLogDown call taken end now
 marked_done call taken end now done up down = record { up = λ _. up; kept = λ _. down ∙ sym up; loaded = λ bad. absurd (let z = sym done ∙ bad in cc); marked = λ bad. absurd (let z = sym done ∙ bad in cc) }
 
-marked_failed : (call : LogCall) (taken end now : Option ℕ) (n : ℕ) → has_failed call ≡ true → taken ≡ None → end ≡ Some n → now ≡ Some n → IsMarked call taken end now
+marked_failed : (call : LogCall) (taken end now : Option ℕ) (n : ℕ) → has_failed call ≡ true → taken ≡ None → end ≡ Some n → now ≡ Some n → MarksLogDown call taken end now
 marked_failed call taken end now n failed up loaded down = record { up = λ _. up; kept = λ good. absurd (let z = sym failed ∙ good in cc); loaded = λ bad z. absurd (let y = sym loaded ∙ z in cc); marked = λ _. down ∙ sym loaded }
 
 failed_call : (f : ℕ) (tag : Tag) (p : Page) (piece : List ℕ) (call : LogCall) → IsFailedAppend f tag p piece call → has_failed call ≡ true
@@ -57,7 +57,7 @@ failed_call f tag p piece log_call.SyncFailed e = absurd e
 
 -- The log x went out with the view v, which was u before, and it is y now
 module _ {G : Type 0} (bytes : G → Option (List ℕ)) (synced faults calls : G → ℕ) (relations : List RelEntry) (x y : NotedLog G) (u v : View) (went : LogWent bytes synced faults calls x u v) (unnoted : v.log.change ≡ change.Untouched) (did : LogDid bytes synced faults calls x.device y.device y.call) where
-  came : IsMarked y.call went.taken.down v.log.end y.down → MayCall relations y.call v → MayComeHome bytes synced faults calls relations y v
+  came : MarksLogDown y.call went.taken.down v.log.end y.down → MayCall relations y.call v → MayComeHome bytes synced faults calls relations y v
   came marked may = record { taken = went.taken; before = x.device; out = ap (λ (w : View). w.log.out) went.after; unnoted = unnoted; was = went.is_taken; did = did; marked = marked; may = may }
 
   -- after an append

@@ -44,7 +44,7 @@ use Rattle.table_rule.specs.declared.value.Value.TheVariants as value
 use Rattle.table_rule.specs.Layout.{latch_place, slot_of}
 use Rattle.table_rule.specs.LogCalls.{LogDid}
 use Rattle.table_rule.specs.Shows.{is_out, is_taken, IsHome, Devices, Gives, GivesLog, IsLog, HasValue, Held, KeepsOpening}
-use Rattle.frame_table.specs.LogWork.{DidLog, DidTwo, GoesOut, out_steps, view_out, IsPart, ComesHome, home_hold, device_calls_of, view_home, MayCall, IsMarked, IsLogOut, IsTakenLog, MayComeHome, log_went, log_came}
+use Rattle.frame_table.specs.LogWork.{DidLog, DidTwo, GoesOut, out_steps, view_out, IsPart, ComesHome, home_hold, device_calls_of, view_home, MayCall, MarksLogDown, IsLogOut, IsTakenLog, MayComeHome, log_went, log_came}
 use Rattle.frame_table.proofs.LogDevices.{rises, log_before, log_appended, log_torn, log_synced, log_unsynced, log_marked, Torn}
 use Rattle.frame_table.proofs.Entering.{end_is, can_log, is_entry}
 use Rattle.frame_table.proofs.Frames.{set_twice}
@@ -247,7 +247,7 @@ module _ {L G : Type 0} (d : Devices L G) (o : Opening L G) (slots id : ℕ) (me
           home call w (set (set h.state.pool.core.views id u) id w) (device_after k h.state.end h.state.device) (twice h.state id k (log_back noted) me.0) latch (record { links = refl; partitions = refl; lanes = refl }) is (laws_logged (log_back noted) between id u laws here_now live back tt)
           (did w (record { between = u; first = did_log k h.state id me.0 h.laws here live a r; second = did_log (log_back noted) between id u laws here_now live back tt }))
 
-      of_call : (c : LogCall) → LogDid d.bytes d.synced d.log_faults d.log_calls may.before x.device c → IsMarked c may.taken.down me.0.log.end x.down → MayCall o.catalog.value c me.0 → Acts d o slots id me live t (log_came (d.bytes x.device) (d.log_faults x.device) c (at_latch d o slots id me live) me)
+      of_call : (c : LogCall) → LogDid d.bytes d.synced d.log_faults d.log_calls may.before x.device c → MarksLogDown c may.taken.down me.0.log.end x.down → MayCall o.catalog.value c me.0 → Acts d o slots id me live t (log_came (d.bytes x.device) (d.log_faults x.device) c (at_latch d o slots id me live) me)
       of_call log_call.Untouched did mark asks = let w : View = view_logged (log_back false) me.0 in let a = returns false h.state.device me.0.log refl (λ e. absurd (cc)) (stands h.state.device refl) in
           home log_call.Untouched w (set h.state.pool.core.views id w) h.state.device refl refl (record { links = refl; partitions = refl; lanes = refl }) (log_marked d x.device may.taken.down x.down h.state.device (sym (mark.kept refl)) (subst (λ (g : G). IsLog d g may.taken.down h.state.device) (sym did) was))
           (laws_logged (log_back false) h.state id me.0 h.laws here live a tt) (did_log (log_back false) h.state id me.0 h.laws here live a tt)

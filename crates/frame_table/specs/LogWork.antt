@@ -122,7 +122,7 @@ is_called log_call.Untouched = false
 is_called _ = true
 
 -- The mark of a failure, where the log had the mark `taken` and the view has loaded the log's end as `end`: a log that is down isn't called, and the first call that fails marks it with the end
-pub record IsMarked (call : LogCall) (taken end now : Option ℕ) : Type 0 where
+pub record MarksLogDown (call : LogCall) (taken end now : Option ℕ) : Type 0 where
   pub up : is_called call ≡ true → taken ≡ None
   pub kept : has_failed call ≡ false → now ≡ taken
   pub loaded : has_failed call ≡ true → end ≢ None
@@ -157,7 +157,7 @@ module _ {G : Type 0} (bytes : G → Option (List ℕ)) (synced faults calls : G
     pub unnoted : v.log.change ≡ change.Untouched
     pub was : IsTakenLog before taken
     pub did : LogDid bytes synced faults calls before x.device x.call
-    pub marked : IsMarked x.call taken.down v.log.end x.down
+    pub marked : MarksLogDown x.call taken.down v.log.end x.down
     pub may : MayCall relations x.call v
 
   -- The log x came back, and the view v became w

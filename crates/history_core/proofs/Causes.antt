@@ -24,7 +24,7 @@ use Rattle.page_core.specs.Steps as page_steps
 use Rattle.history_core.specs.State.{Lane, State, Store, failed, opening}
 use Rattle.history_core.specs.Lanes as lane_kinds
 use Rattle.history_core.specs.Lanes.{swept_by, LaneKind, lane_after, lane_hold_after, met_by, fault_of, syncs, is_failed_write}
-use Rattle.history_core.specs.Steps.{LaneAlone, Writes, Notes, Step, pools, lanes, writes, notes, logs, enters, reads, loads_end, begins, loads_flushed, raises, adds_hand, loads_hand, Event, Run, rests, goes, stepped, ticked, looked, aside, pool_after, logged_noting, pool_noting, paged, laned, has_loaded, has_read, has_begun, has_written, has_raised}
+use Rattle.history_core.specs.Steps.{LaneAlone, MayWriteLane, Notes, Step, pools, lanes, writes, notes, logs, enters, reads, loads_end, begins, loads_flushed, raises, adds_hand, loads_hand, Event, Run, rests, goes, stepped, ticked, looked, aside, pool_after, logged_noting, pool_noting, paged, laned, has_loaded, has_read, has_begun, has_written, has_raised}
 use Rattle.history_core.specs.Log.{record_size}
 use Rattle.history_core.specs.Device as log_kinds
 use Rattle.history_core.specs.Device.{LogKind, view_logged}
@@ -231,11 +231,11 @@ module _ (s : State) (h : Invariant s) (m : MarksLaw s) where
       }
 
   -- a write needs a dirty frame
-  writes_marks : (i q f : ℕ) (k : LaneKind) (v : View) → get_elem? views i ≡ some v → f < s.pool.core.frames → Writes k s q f (lane_hold v q) (link v f) → MarksLaw (record s { pool = pool_after begin_write s.pool i f (laned k q v (paged begin_write s.pool f v)); lane = put s.lane q (lane_after k (s.lane q)) })
+  writes_marks : (i q f : ℕ) (k : LaneKind) (v : View) → get_elem? views i ≡ some v → f < s.pool.core.frames → MayWriteLane k s q f (lane_hold v q) (link v f) → MarksLaw (record s { pool = pool_after begin_write s.pool i f (laned k q v (paged begin_write s.pool f v)); lane = put s.lane q (lane_after k (s.lane q)) })
   writes_marks i q f k v there inside x none = let w : View = laned k q v (paged begin_write s.pool f v) in let quiet = m (none_before views i v w there (more_of k x) none) in
       absurd (dirty_now ((h.pool.pages.cells i v f there inside).output (output_of k x)).0 (quiet.frames f inside))
     where
-      output_of : (k : LaneKind) → Writes k s q f (lane_hold v q) (link v f) → (link v f).io ≡ Output
+      output_of : (k : LaneKind) → MayWriteLane k s q f (lane_hold v q) (link v f) → (link v f).io ≡ Output
       output_of (lane_kinds.write_block g tag p) (at, x) = x.right.right
       output_of (lane_kinds.fail_write g tag p faults) (at, x) = x.right.right
       output_of lane_kinds.take_lane x = absurd x
@@ -250,7 +250,7 @@ module _ (s : State) (h : Invariant s) (m : MarksLaw s) where
       dirty_now : {b : Bool} → b ≡ true → b ≡ false → ⊥
       dirty_now a e = cc
 
-      more_of : (k : LaneKind) → Writes k s q f (lane_hold v q) (link v f) → mark_weight v ≤ mark_weight (laned k q v (paged begin_write s.pool f v))
+      more_of : (k : LaneKind) → MayWriteLane k s q f (lane_hold v q) (link v f) → mark_weight v ≤ mark_weight (laned k q v (paged begin_write s.pool f v))
       more_of k x = let a = or_more v.dirtied_or_synced false in let b = or_more (v.dirtied_or_synced || false) (syncs k) in omega arith
 
   notes_marks : (i q f : ℕ) (noted : Bool) (k : Kind) (v : View) → get_elem? views i ≡ some v → f < s.pool.core.frames → Notes k s q f (lane_hold v q) (link v f)

@@ -24,7 +24,7 @@ use Rattle.history_core.specs.Device.{appenders, log_weigh, resting_weight}
 use Rattle.history_core.specs.Device as log
 use Rattle.history_core.specs.Homes.{IsUnframed}
 use Rattle.history_core.specs.Invariant.{Invariant}
-use Rattle.history_core.specs.Steps.{looked, stepped, laned, lanes, paged, has_read, has_written, new_entry, Writes, writes, enters, reads}
+use Rattle.history_core.specs.Steps.{looked, stepped, laned, lanes, paged, has_read, has_written, new_entry, MayWriteLane, writes, enters, reads}
 use Rattle.history_core.specs.Histories.{IsReached, CallsAreLegal, ReadsAtBase, SyncsMakeDurable, JoinedAreApart, CallsAreOwn, FrontsAreReached, CallsAreInOrder, LoadedIsFlushed, LanesGoOutFlushed, NotedWritesAreDone, holds_log, LogIsHeld, WritesAreEntries, ReadsStand, WritesStand, LogBeforeData, LanesHoldFlushedPages, IsStored, CleanBlocksAreStored, FramesAreSound, FramesHoldCells, LogWords, holds_lane, LanesAreHeld, EntriesAreDurable, DeviceHoldsLog}
 use Rattle.history_core.specs.Rest.{RestLaw}
 use Rattle.history_core.proofs.Logs.{cut_none_below, end_longer, cell_longer}
@@ -59,7 +59,7 @@ at_last [] a = refl
 at_last (x ∷ l) a = at_last l a
 
 -- a write of a frame's page asks for the log to be flushed, and is made while the lane is out
-loaded : (k : LaneKind) (s : State) (n f : ℕ) (h : LaneHold) (l : Link) → Writes k s n f h l → lsn_of (s.pool.core.frame f).page ≤ h.flushed
+loaded : (k : LaneKind) (s : State) (n f : ℕ) (h : LaneHold) (l : Link) → MayWriteLane k s n f h l → lsn_of (s.pool.core.frame f).page ≤ h.flushed
 loaded (lane_kinds.write_block g tag p) s n f h l (at, x) = subst (λ (z : Page). lsn_of z ≤ h.flushed) (sym x.page) x.log_first
 loaded (lane_kinds.fail_write g tag p faults) s n f h l (at, x) = x.log_first
 loaded lane_kinds.take_lane s n f h l x = absurd x
@@ -71,7 +71,7 @@ loaded lane_kinds.sync_lane s n f h l x = absurd x
 loaded (lane_kinds.fail_sync faults) s n f h l x = absurd x
 loaded (lane_kinds.lane_back noted) s n f h l x = absurd x
 
-is_out : (k : LaneKind) (s : State) (n f : ℕ) (h : LaneHold) (l : Link) → Writes k s n f h l → LaneAllowed k (s.lane n) h → h.out ≢ None
+is_out : (k : LaneKind) (s : State) (n f : ℕ) (h : LaneHold) (l : Link) → MayWriteLane k s n f h l → LaneAllowed k (s.lane n) h → h.out ≢ None
 is_out (lane_kinds.write_block g tag p) s n f h l x a = a.out
 is_out (lane_kinds.fail_write g tag p faults) s n f h l x a = a.call.out
 is_out lane_kinds.take_lane s n f h l x a = absurd x

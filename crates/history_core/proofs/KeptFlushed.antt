@@ -20,7 +20,7 @@ use Rattle.history_core.specs.State.{State}
 use Rattle.history_core.specs.Lanes as lane_kinds
 use Rattle.history_core.specs.Lanes.{swept_by, LaneKind, lane_back, lane_hold_after}
 use Rattle.history_core.specs.Device.{view_logged}
-use Rattle.history_core.specs.Steps.{Event, pool, lane, stepped, ticked, looked, pool_noting, paged, laned, has_loaded, has_read, has_begun, has_written, Writes, Step, pools, lanes, writes, notes, enters, reads, loads_end, begins, loads_flushed, raises, adds_hand, loads_hand, logs, has_raised}
+use Rattle.history_core.specs.Steps.{Event, pool, lane, stepped, ticked, looked, pool_noting, paged, laned, has_loaded, has_read, has_begun, has_written, MayWriteLane, Step, pools, lanes, writes, notes, enters, reads, loads_end, begins, loads_flushed, raises, adds_hand, loads_hand, logs, has_raised}
 use Rattle.history_core.specs.Histories.{LeavesHold, HasKeptFlushed, HoldsKeepFlushed}
 use Rattle.grid.proofs.Lists.{set_here, set_else, at_longer}
 
@@ -71,7 +71,7 @@ lane_keeps (lane_kinds.fail_sync faults) i m j n u leaves e = set_keeps u.lanes 
 lane_keeps (lane_kinds.lane_back noted) i m j n u leaves e = set_keeps u.lanes m n (lane_hold_after (lane_kinds.lane_back noted) u.flushed (swept_by u) (lane_hold u m)) refl
 
 -- a write of a frame's page takes no lane out
-write_leaves : (k : LaneKind) (s : State) (i m f j n : ℕ) (h : LaneHold) (l : _) → Writes k s m f h l → LeavesHold (lane i m k) j n
+write_leaves : (k : LaneKind) (s : State) (i m f j n : ℕ) (h : LaneHold) (l : _) → MayWriteLane k s m f h l → LeavesHold (lane i m k) j n
 write_leaves (lane_kinds.lane_out taken) s i m f j n h l x = absurd x
 write_leaves lane_kinds.take_lane s i m f j n h l x = tt
 write_leaves lane_kinds.leave_lane s i m f j n h l x = tt

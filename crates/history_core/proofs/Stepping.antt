@@ -43,7 +43,7 @@ use Rattle.history_core.specs.Lanes as lane_kinds
 use Rattle.history_core.specs.Lanes.{swept_by, LaneKind, LaneAllowed, lane_after, lane_hold_after, lane_shape, lane_part}
 use Rattle.history_core.specs.Homes.{Home, home_of, IsClean, HomeLink, home_shape, home_part, IsUnframed, IsFlushedCell}
 use Rattle.history_core.specs.Invariant.{HistoryLaw, written_of, Invariant}
-use Rattle.history_core.specs.Steps.{Event, IsPlain, PoolAllowed, stepped, ticked, looked, aside, pool_after, pool_noting, CanNoteLaneRead, paged, laned, LaneAlone, CanWrite, Writes, Notes, new_entry, CanEnter, CanRead, has_loaded, has_read, has_begun, has_written, Step, pools, lanes, writes, notes, enters, reads, loads_end, begins, loads_flushed, raises, adds_hand, loads_hand, logs, Run, rests, goes, has_raised}
+use Rattle.history_core.specs.Steps.{Event, IsPlain, PoolAllowed, stepped, ticked, looked, aside, pool_after, pool_noting, CanNoteLaneRead, paged, laned, LaneAlone, CanWrite, MayWriteLane, Notes, new_entry, CanEnter, CanRead, has_loaded, has_read, has_begun, has_written, Step, pools, lanes, writes, notes, enters, reads, loads_end, begins, loads_flushed, raises, adds_hand, loads_hand, logs, Run, rests, goes, has_raised}
 use Rattle.history_core.specs.Device.{LogKind, take_log, leave_log, log_out, append, fail_append, sync_log, fail_sync, log_back, see_down, LogAllowed, device_after, view_logged, log_weigh, log_shape, log_part}
 use Rattle.history_core.proofs.Device.{log_keeps, enter_keeps, end_keeps, synced_all}
 use Rattle.history_core.proofs.Calls.{SameCalls, history_same, history_read, history_written, history_loaded, history_raised}
@@ -452,7 +452,7 @@ module _ (s : State) (h : Invariant s) (i q f : ℕ) (v : View) (there : get_ele
               (λ (o : t ≢ tag). subst (IsFlushedCell s.origin s.log s.flushed t) (sym (else t o)) (h.flushed_cells t));
         })
 
-writes_step : (s : State) → Invariant s → (i q f : ℕ) (k : LaneKind) (v : View) → get_elem? s.pool.core.views i ≡ some v → v.emptied ≡ false → q < s.lanes → f < s.pool.core.frames → LaneAllowed k (s.lane q) (lane_hold v q) → Writes k s q f (lane_hold v q) (link v f)
+writes_step : (s : State) → Invariant s → (i q f : ℕ) (k : LaneKind) (v : View) → get_elem? s.pool.core.views i ≡ some v → v.emptied ≡ false → q < s.lanes → f < s.pool.core.frames → LaneAllowed k (s.lane q) (lane_hold v q) → MayWriteLane k s q f (lane_hold v q) (link v f)
     → Invariant (record s { pool = pool_after begin_write s.pool i f (laned k q v (paged begin_write s.pool f v)); lane = put s.lane q (lane_after k (s.lane q)) })
 writes_step s h i q f (lane_kinds.write_block g tag p) v there live low inside back (at, x) = let page = (s.pool.core.frame f).page in let upto_of = (λ (z : Page). max ((s.lane q).stored_upto tag) (lsn_of z)) in
     let y : CanWrite s q f tag page (lane_hold v q) (link v f) = record { tagged = x.tagged; lane = x.lane; page = refl; right = x.right; log_first = subst (λ (z : Page). lsn_of z ≤ (lane_hold v q).flushed) (sym x.page) x.log_first } in

@@ -145,14 +145,14 @@ abbrev pub WritesStand : State → Type 0
 WritesStand s = (i f : ℕ) (p : Page) (t : State) → Step (enter i f p) s t → (v : View) × (w : View) × (get_elem? s.pool.core.views i ≡ some v) × (get_elem? t.pool.core.views i ≡ some w) × WriteStands s t f p v w
 
 -- Log before data: the page of a frame that goes to a lane, or was to go there when the write failed, has its position in the log at most at the flushed position as the backend had loaded it before the lane went out, and so at the flushed position
-pub record IsLogged (s : State) (n f : ℕ) (v : View) : Type 0 where
+pub record IsFlushed (s : State) (n f : ℕ) (v : View) : Type 0 where
   pub loaded : lsn_of (s.pool.core.frame f).page ≤ (lane_hold v n).flushed
   pub flushed : (lane_hold v n).flushed ≤ s.flushed
   -- so each entry up to the page's position is durable
   pub durable : (k : ℕ) (e : Entry) → get_elem? s.log.entries k ≡ some e → end_of e ≤ lsn_of (s.pool.core.frame f).page → head_size + end_of e ≤ s.log.base + s.device.synced
 
 abbrev pub LogBeforeData : State → Type 0
-LogBeforeData s = (i n f : ℕ) (k : LaneKind) (t : State) → Step (write i n f k) s t → (v : View) × (get_elem? s.pool.core.views i ≡ some v) × IsLogged s n f v
+LogBeforeData s = (i n f : ℕ) (k : LaneKind) (t : State) → Step (write i n f k) s t → (v : View) × (get_elem? s.pool.core.views i ≡ some v) × IsFlushed s n f v
 
 -- as a lane goes out, its holder's flushed position is kept with it as the backend had loaded it
 abbrev pub LanesGoOutFlushed : State → Type 0

@@ -13,7 +13,7 @@ use Rattle.grid.specs.Shape.{total}
 use Rattle.grid.proofs.Lists.{at_longer}
 use Rattle.grid.proofs.Sums.{terms_le, total-same}
 use Rattle.page_jobs.specs.Rewrites.{Rule, Outcome, unsound, kept, refused, changed, block_of, calls_by, calls_for}
-use Rattle.page_jobs.specs.RewriteEnds.{BackendCalls, calls_of, all_done, OnlyReads, block_weight, times, sum_below}
+use Rattle.page_jobs.specs.RewriteEnds.{BackendCalls, calls_of, all_done, WroteNothing, block_weight, times, sum_below}
 
 -- where a sum is above 0 some term is
 pub total_some : {A : Type 0} (g : A → ℕ) (l : List A) → 0 < total g l → (j : ℕ) × (a : A) × (get_elem? l j ≡ some a) × (0 < g a)
@@ -70,7 +70,7 @@ module _ (r : Rule) where
     total_made [] = refl
     total_made (o ∷ os) = omega (arith, total-both g (calls_by r o) (calls_for r os), total_made os)
 
-    pub total_calls : (ps : List BackendCalls) → OnlyReads ps → total g (calls_of r ps) ≡ total weight (all_done ps)
+    pub total_calls : (ps : List BackendCalls) → WroteNothing ps → total g (calls_of r ps) ≡ total weight (all_done ps)
     unfolding total
     total_calls [] h = refl
     total_calls (p ∷ ps) h = let x = h zero p refl in let rest = p.after ++ calls_of r ps in
@@ -117,7 +117,7 @@ same_weight r (kept b i q n) = refl
 same_weight r (refused b i q n) = refl
 same_weight r (changed b i q n m) = refl
 
-module _ (r : Rule) (ps : List BackendCalls) (h : OnlyReads ps) where
+module _ (r : Rule) (ps : List BackendCalls) (h : WroteNothing ps) where
   pub writes_at_are : (p : ℕ) → writes_at p (calls_of r ps) ≡ total (outcome_at p) (all_done ps)
   writes_at_are p = total_calls r (weight_at p) (few_at p) ps h ∙ total-same (λ (o : Outcome). total (weight_at p) (calls_by r o)) (outcome_at p) (all_done ps) (λ j o t. same_at r p o)
 

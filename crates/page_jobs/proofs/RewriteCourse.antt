@@ -16,7 +16,7 @@ use Rattle.page_jobs.specs.Parts.{blocks_in, part_start}
 use Rattle.page_jobs.specs.Rewrites.{EachOutcome, IsEnded, Outcome, calls_for, is_ended, rule_of}
 use Rattle.page_jobs.specs.Rewriting.{FollowsRule, RewritesBlocks}
 use Rattle.page_jobs.specs.RewriteCloses.{PutsNoMore, RewritesAlone}
-use Rattle.page_jobs.specs.RewriteEnds.{AreParts, AreWhole, OnlyReads, BackendCalls, all_done}
+use Rattle.page_jobs.specs.RewriteEnds.{AreParts, AreWhole, WroteNothing, BackendCalls, all_done}
 use Rattle.page_jobs.specs.RewriteJobs.{outcomes_in_all}
 use Rattle.page_jobs.proofs.Deals.{start_first, start_last}
 use Rattle.page_jobs.proofs.RewriteOrder.{HaveParts}
@@ -40,17 +40,17 @@ module _ {L G : Type 0} (contents : L → Option Pages) (m : Manager L G) (rel :
     pub parts : List BackendCalls
     pub dones : all_done parts ≡ outcomes_in_all oss
     pub have : HaveParts (rule_of rel fork) zs parts
-    pub reads : OnlyReads parts
+    pub reads : WroteNothing parts
     pub fit : AreParts from parts (blocks_in m rel fork)
     pub follow : (k : ℕ) (o : Outcome) → get_elem? (all_done parts) k ≡ some o → (number : ℕ) × FollowsRule contents m rel fork number o
     pub whole : W → AreWhole from parts (blocks_in m rel fork)
     pub ended : W → (k : ℕ) (o : Outcome) → get_elem? (all_done parts) k ≡ some o → is_ended o ≡ true
 
-  only_reads : (p : BackendCalls) (ps : List BackendCalls) → writes_in p.before ≡ 0 → writes_in p.after ≡ 0 → OnlyReads ps → OnlyReads (p ∷ ps)
+  only_reads : (p : BackendCalls) (ps : List BackendCalls) → writes_in p.before ≡ 0 → writes_in p.after ≡ 0 → WroteNothing ps → WroteNothing (p ∷ ps)
   only_reads p ps before after rest zero x at = subst (λ (y : BackendCalls). (writes_in y.before ≡ 0) × (writes_in y.after ≡ 0)) (some-injective p x at) (before, after)
   only_reads p ps before after rest (suc k) x at = rest k x at
 
-  none_read : OnlyReads []
+  none_read : WroteNothing []
   none_read k x at = absurd (some-ne-none x (sym at))
 
   -- the pass that doesn't work

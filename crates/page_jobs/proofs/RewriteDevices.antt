@@ -35,7 +35,7 @@ use Rattle.page_jobs.specs.Jobs.{IsOrigin}
 use Rattle.page_jobs.specs.Parts.{blocks_in}
 use Rattle.page_jobs.specs.Rewrites.{Outcome, Rule, unsound, kept, refused, changed, block_of, outcome_totals, rule_of, result_of}
 use Rattle.page_jobs.specs.RewriteCloses.{ClosesEither, ClosesRewritten, HasImage, HoldEither, HoldRewritten, IsInLanes, RewritesAlone, RewritesAndStores}
-use Rattle.page_jobs.specs.RewriteEnds.{HasRewrites, IsAfter, IsFair, IsResult, OnlyReads, BackendCalls, Rewrites, RewritesAll, all_done, block_weight, times}
+use Rattle.page_jobs.specs.RewriteEnds.{HasRewrites, IsAfter, IsFair, IsResult, WroteNothing, BackendCalls, Rewrites, RewritesAll, all_done, block_weight, times}
 use Rattle.page_jobs.specs.Rewriting.{FollowsRule}
 use Rattle.page_jobs.proofs.RewriteClosed.{changed_read, has_rewrites, kept_read}
 use Rattle.page_jobs.proofs.RewriteCounts.{Each}
@@ -206,7 +206,7 @@ module _ {L G : Type 0} (d : Devices L G) (m : Manager L G) (rel : ℕ) (fork : 
       apart = λ a b low high same. numbers_apart rel fork a b same;
     }
       where
-        only_reads : OnlyReads in_turn
+        only_reads : WroteNothing in_turn
         only_reads zero p at = subst (λ (q : BackendCalls). (writes_in q.before ≡ 0) × (writes_in q.after ≡ 0)) (some-injective ordered.first p at) ordered.first_reads
         only_reads (suc k) p at = ordered.other_reads k p at
 

@@ -11,7 +11,7 @@ use Rattle.backend_pass.specs.Managers.{first_in, is_first, others_in}
 use Rattle.backend_pass.specs.Passes.{PassState}
 use Rattle.backend_pass.proofs.Joining.{first_here, first_past, others_here, others_past}
 use Rattle.page_jobs.specs.Rewrites.{Outcome, Rule, calls_for}
-use Rattle.page_jobs.specs.RewriteEnds.{OnlyReads, BackendCalls, all_done, block_weight, calls_of, times}
+use Rattle.page_jobs.specs.RewriteEnds.{WroteNothing, BackendCalls, all_done, block_weight, calls_of, times}
 use Rattle.grid.proofs.Lists.{at_longer}
 use Rattle.page_jobs.proofs.RewriteCounts.{at_right}
 
@@ -36,7 +36,7 @@ pub record InOrder (r : Rule) (zs : List PassState) (ps : List BackendCalls) : T
   pub among : (k : ℕ) (o : Outcome) → get_elem? (all_done (first ∷ others)) k ≡ some o → (j : ℕ) × (get_elem? (all_done ps) j ≡ some o)
   pub onto : (j : ℕ) (o : Outcome) → get_elem? (all_done ps) j ≡ some o → (k : ℕ) × (get_elem? (all_done (first ∷ others)) k ≡ some o)
   pub first_reads : (writes_in first.before ≡ 0) × (writes_in first.after ≡ 0)
-  pub other_reads : OnlyReads others
+  pub other_reads : WroteNothing others
 
 pub all_calls : (r : Rule) (zs : List PassState) (ps : List BackendCalls) → HaveParts r zs ps → calls_of_passes zs ≡ calls_of r ps
 all_calls r [] [] h = refl
@@ -54,7 +54,7 @@ left_of os us k o at = (k, at_longer os us k o at)
 right_of : (os us : List Outcome) (k : ℕ) (o : Outcome) → get_elem? us k ≡ some o → (j : ℕ) × (get_elem? (os ++ us) j ≡ some o)
 right_of os us k o at = (length os + k, at_right os us k o at)
 
-first_comes : (r : Rule) (z : PassState) (zs : List PassState) (p : BackendCalls) (ps : List BackendCalls) → is_first z ≡ true → HaveParts r (z ∷ zs) (p ∷ ps) → OnlyReads (p ∷ ps) → InOrder r (z ∷ zs) (p ∷ ps)
+first_comes : (r : Rule) (z : PassState) (zs : List PassState) (p : BackendCalls) (ps : List BackendCalls) → is_first z ≡ true → HaveParts r (z ∷ zs) (p ∷ ps) → WroteNothing (p ∷ ps) → InOrder r (z ∷ zs) (p ∷ ps)
 first_comes r z zs p ps is h reads = record {
   first = p;
   others = ps;
@@ -67,7 +67,7 @@ first_comes r z zs p ps is h reads = record {
   other_reads = λ k q at. reads (suc k) q at;
 }
 
-first_later : (r : Rule) (z : PassState) (zs : List PassState) (p : BackendCalls) (ps : List BackendCalls) → is_first z ≡ false → z.view.calls ≡ p.before ++ (calls_for r p.done ++ p.after) → OnlyReads (p ∷ ps) → InOrder r zs ps → InOrder r (z ∷ zs) (p ∷ ps)
+first_later : (r : Rule) (z : PassState) (zs : List PassState) (p : BackendCalls) (ps : List BackendCalls) → is_first z ≡ false → z.view.calls ≡ p.before ++ (calls_for r p.done ++ p.after) → WroteNothing (p ∷ ps) → InOrder r zs ps → InOrder r (z ∷ zs) (p ∷ ps)
 first_later r z zs p ps later calls reads x = record {
   first = x.first;
   others = p ∷ x.others;
@@ -94,15 +94,15 @@ first_later r z zs p ps later calls reads x = record {
   other_reads = others;
 }
   where
-    others : OnlyReads (p ∷ x.others)
+    others : WroteNothing (p ∷ x.others)
     others zero q at = reads zero q at
     others (suc k) q at = x.other_reads k q at
 
-by_first : (r : Rule) (b : Bool) (z : PassState) (zs : List PassState) (p : BackendCalls) (ps : List BackendCalls) → is_first z ≡ b → HaveParts r (z ∷ zs) (p ∷ ps) → OnlyReads (p ∷ ps) → InOrder r zs ps → InOrder r (z ∷ zs) (p ∷ ps)
+by_first : (r : Rule) (b : Bool) (z : PassState) (zs : List PassState) (p : BackendCalls) (ps : List BackendCalls) → is_first z ≡ b → HaveParts r (z ∷ zs) (p ∷ ps) → WroteNothing (p ∷ ps) → InOrder r zs ps → InOrder r (z ∷ zs) (p ∷ ps)
 by_first r true z zs p ps is h reads x = first_comes r z zs p ps is h reads
 by_first r false z zs p ps is h reads x = first_later r z zs p ps is h.0 reads x
 
-pub in_order : (r : Rule) (zs : List PassState) (ps : List BackendCalls) → HaveParts r zs ps → OnlyReads ps → InOrder r zs ps
+pub in_order : (r : Rule) (zs : List PassState) (ps : List BackendCalls) → HaveParts r zs ps → WroteNothing ps → InOrder r zs ps
 unfolding total
 in_order r [] [] h reads = record {
   first = record { before = []; done = []; after = [] };

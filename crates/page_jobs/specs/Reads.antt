@@ -110,9 +110,9 @@ module _ {L G : Type 0} (contents : L → Option Pages) (m : Manager L G) where
     pub unsound : WasUnsoundAtOpening contents m.table tag
 
   -- The block was read, with no fault: its page was copied, or isn't sound
-  abbrev pub ReadsBlock : Tag → Page → PassState → PassState → BlockPage → Type 0
-  ReadsBlock tag page p q Sound = CopiesBlock tag page p q
-  ReadsBlock tag page p q Unsound = FindsUnsound tag p q
+  abbrev pub CopiesOrFindsUnsound : Tag → Page → PassState → PassState → BlockPage → Type 0
+  CopiesOrFindsUnsound tag page p q Sound = CopiesBlock tag page p q
+  CopiesOrFindsUnsound tag page p q Unsound = FindsUnsound tag p q
 
   -- The read of a block was refused, which is why the job ends
   pub record StopsAt (tag : Tag) (p q : PassState) (e : JobError) : Type 0 where

@@ -34,8 +34,8 @@ all_done [] = []
 all_done (p ∷ ps) = p.done ++ all_done ps
 
 -- no backend had a write before, or made one after
-abbrev pub OnlyReads : List BackendCalls → Type 0
-OnlyReads ps = (k : ℕ) (p : BackendCalls) → get_elem? ps k ≡ some p → (writes_in p.before ≡ 0) × (writes_in p.after ≡ 0)
+abbrev pub WroteNothing : List BackendCalls → Type 0
+WroteNothing ps = (k : ℕ) (p : BackendCalls) → get_elem? ps k ≡ some p → (writes_in p.before ≡ 0) × (writes_in p.after ≡ 0)
 
 -- how often a block is among the outcomes
 abbrev pub block_weight : ℕ → Outcome → ℕ
@@ -47,7 +47,7 @@ times b os = total (block_weight b) os
 -- A rewrite of blocks below n, with any end
 pub record Rewrites (r : Rule) (n : ℕ) (known : ℕ → Bool) (origin : ℕ → Page) (calls : List Call) (ps : List BackendCalls) : Type 0 where
   pub calls_are : calls ≡ calls_of r ps
-  pub reads : OnlyReads ps
+  pub reads : WroteNothing ps
   -- each is fair, and of a block below n, which is done once at most
   pub fair : (k : ℕ) (o : Outcome) → get_elem? (all_done ps) k ≡ some o → IsFair r known origin o
   pub below : (k : ℕ) (o : Outcome) → get_elem? (all_done ps) k ≡ some o → block_of o < n

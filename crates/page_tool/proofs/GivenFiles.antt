@@ -26,7 +26,7 @@ use Rattle.page_tool.specs.Listings.{NoneFails}
 use Rattle.page_tool.specs.Request.{RewriteAsked}
 use Rattle.page_tool.specs.RewriteCommand.{AreSurveyed, IsLogRefusal, IsPutRefusal, IsSurveyRefusal, LeavesByEnd, OpensLog, rewrite_status}
 use Rattle.page_tool.specs.RewriteFiles.{BecomesOf, Changes, HostFiles, IsHeadBegun, IsRewrittenAt, KeepsFiles, KeepsPaths, RewriteLeaves, RewritesFiles, files_of, fork_at, log_opened, main_rule, opened_at, pages_at, rewrote, untouched, with_blocks}
-use Rattle.page_tool.specs.RewriteResults.{IsRewritten, LeavesEither}
+use Rattle.page_tool.specs.RewriteResults.{IsRewrittenFile, LeavesEither}
 use Rattle.page_tool.specs.Rewriting.{ArePages, HasPositionsLeft, HasRewriteCause, IsRewriteCause, LeavesRewritten, failed_after, pages_after}
 use Rattle.page_tool.specs.Starting.{names_of}
 use Rattle.page_tool.specs.Status.{rewrite_tool_error, status_of_error}
@@ -328,21 +328,21 @@ module _ {L G : Type 0} (contents : L → Option Pages) (failed : L → Marks) (
         let of_base = subst (λ (n : ℕ). LeavesEither main_rule (names_of (fork_at r paths)) n before after (failed_after failed (fork_at r paths) lanes') (record { bytes = x; synced = synced log' })) base_is of_fork in
         subst (λ (f : ℕ → Bool). LeavesEither main_rule (names_of (fork_at r paths)) (log_base before) before after f (record { bytes = x; synced = synced log' })) (sym marks_so) of_base
 
-    rewritten_at : IsRewritten (rule_of 0 relation.fork) (names_of relation) base before (pages_after contents relation lanes' before) (record { bytes = x; synced = synced log' })
+    rewritten_at : IsRewrittenFile (rule_of 0 relation.fork) (names_of relation) base before (pages_after contents relation lanes' before) (record { bytes = x; synced = synced log' })
         → ((block : ℕ) → block < relation.blocks → failed_after failed relation lanes' block ≡ false) → IsRewrittenAt r old new
     rewritten_at found unfailed = record {
       after = after;
       file = record { bytes = x; synced = synced log' };
       changes = changes;
       rewritten =
-          (let of_fork = subst (λ (rel : RelationFork). IsRewritten (rule_of 0 rel.fork) (names_of rel) base before (pages_after contents rel lanes' before) (record { bytes = x; synced = synced log' })) relation_is found in
-          subst (λ (n : ℕ). IsRewritten main_rule (names_of (fork_at r paths)) n before after (record { bytes = x; synced = synced log' })) base_is of_fork);
+          (let of_fork = subst (λ (rel : RelationFork). IsRewrittenFile (rule_of 0 rel.fork) (names_of rel) base before (pages_after contents rel lanes' before) (record { bytes = x; synced = synced log' })) relation_is found in
+          subst (λ (n : ℕ). IsRewrittenFile main_rule (names_of (fork_at r paths)) n before after (record { bytes = x; synced = synced log' })) base_is of_fork);
       unfailed = λ block below. ap (λ (f : ℕ → Bool). f block) marks_so
           ∙ subst (λ (rel : RelationFork). (b : ℕ) → b < rel.blocks → failed_after failed rel lanes' b ≡ false) relation_is unfailed block below;
     }
 
     done_by : (e : Result RewriteTotals RewriteError) → IfOk e (λ totals. (pages : List Page) (known : List ℕ) → ArePages contents relation base lanes pages → bytes log' ≡ Some known
-        → IsRewritten (rule_of 0 relation.fork) (names_of relation) base pages (pages_after contents relation lanes' pages) (record { bytes = known; synced = synced log' }))
+        → IsRewrittenFile (rule_of 0 relation.fork) (names_of relation) base pages (pages_after contents relation lanes' pages) (record { bytes = known; synced = synced log' }))
         → OnOk e ((pages : List Page) → ArePages contents relation base lanes pages → (block : ℕ) → block < relation.blocks → failed_after failed relation lanes' block ≡ false)
         → OnOk e (IsRewrittenAt r old new)
     done_by (Ok totals) whole unfailed = rewritten_at (whole before x pages_so bytes_are) (unfailed before pages_so)

@@ -32,7 +32,7 @@ use Rattle.page_jobs.specs.Rewrites.{Rule, rule_of}
 use Rattle.page_jobs.proofs.Standing.{found, inside, mapped_or, standing_or, there}
 use Rattle.page_tool.specs.declared.starting.RelationFork.{RelationFork}
 use Rattle.page_tool.specs.Limits.{largest_lsn, sound_lsn}
-use Rattle.page_tool.specs.RewriteResults.{AreFull, BeginsWith, HasImages, IsImageOf, IsLogged, LeavesEither}
+use Rattle.page_tool.specs.RewriteResults.{AreFull, BeginsWith, HasDurableEntry, HasImages, IsImageOf, LeavesEither}
 use Rattle.page_tool.specs.Rewriting.{ArePages, failed_after, pages_after}
 use Rattle.page_tool.specs.Starting.{IsStarted, names_of}
 
@@ -232,7 +232,7 @@ module _ {L G : Type 0} (d : Devices L G) (m : Manager L G) (r : RelationFork) (
       images = record { each = λ k e at. image_of e (has.each k e at); one = has.one }
 
     module _ (hold : HoldEither d m.table.table.shared.key lanes (rule_at r) c.state) (known : List ℕ) (told : d.bytes log ≡ Some known) where
-      logged : (block : ℕ) (new : Page) (b : Both block new) → HasImage (rule_at r) c.state ((rule_at r).tag block) b.old (b.of.after (tag_at r.fork block)) → IsLogged (rule_at r) c.state.log (file_at d.synced log known) block b.old new
+      logged : (block : ℕ) (new : Page) (b : Both block new) → HasImage (rule_at r) c.state ((rule_at r).tag block) b.old (b.of.after (tag_at r.fork block)) → HasDurableEntry (rule_at r) c.state.log (file_at d.synced log known) block b.old new
       logged block new b x = record {
         made = x.made;
         image = sym (b.new_is ∙ ap (λ (p : Option Page). unwrap_or p b.old) x.held);
@@ -240,19 +240,19 @@ module _ {L G : Type 0} (d : Devices L G) (m : Manager L G) (r : RelationFork) (
         durable = subst (λ (n : ℕ). head_size + end_of x.made.entry ≤ c.state.log.base + n) (c.device.synced known told) x.durable;
       }
 
-      either_at : (block : ℕ) (new : Page) (b : Both block new) → failed_after d.failed_writes r lanes block ≡ false → (new ≡ b.old) ⊎ IsLogged (rule_at r) c.state.log (file_at d.synced log known) block b.old new
+      either_at : (block : ℕ) (new : Page) (b : Both block new) → failed_after d.failed_writes r lanes block ≡ false → (new ≡ b.old) ⊎ HasDurableEntry (rule_at r) c.state.log (file_at d.synced log known) block b.old new
       either_at block new b unfailed = ⊎_elim
           (λ (same : b.of.after (tag_at r.fork block) ≡ Some b.old). inl (b.new_is ∙ ap (λ (p : Option Page). unwrap_or p b.old) same))
           (λ (x : HasImage (rule_at r) c.state ((rule_at r).tag block) b.old (b.of.after (tag_at r.fork block))). inr (logged block new b x))
           (hold ((rule_at r).tag block) (tag_at r.fork block) b.of.before b.of.after b.of.closed b.old b.of.is b.of.was (sym b.of.marked ∙ unfailed))
 
       pub each_either : (block : ℕ) (old new : Page) → get_elem? pages block ≡ some old → get_elem? (pages_after d.contents r lanes pages) block ≡ some new
-          → failed_after d.failed_writes r lanes block ≡ false → (new ≡ old) ⊎ IsLogged (rule_at r) c.state.log (file_at d.synced log known) block old new
+          → failed_after d.failed_writes r lanes block ≡ false → (new ≡ old) ⊎ HasDurableEntry (rule_at r) c.state.log (file_at d.synced log known) block old new
       each_either block old new was at unfailed = let b = both_at block new at in
-          subst (λ (p : Page). (new ≡ p) ⊎ IsLogged (rule_at r) c.state.log (file_at d.synced log known) block p new) (was_old block old new b was) (either_at block new b unfailed)
+          subst (λ (p : Page). (new ≡ p) ⊎ HasDurableEntry (rule_at r) c.state.log (file_at d.synced log known) block p new) (was_old block old new b was) (either_at block new b unfailed)
 
       first : (block : ℕ) (old new : Page) → get_elem? pages block ≡ some old → get_elem? (pages_after d.contents r lanes pages) block ≡ some new
-          → failed_after d.failed_writes r lanes block ≡ false → is_sound_page new ≡ true → base < lsn_of new → IsLogged (rule_at r) c.state.log (file_at d.synced log known) block old new
+          → failed_after d.failed_writes r lanes block ≡ false → is_sound_page new ≡ true → base < lsn_of new → HasDurableEntry (rule_at r) c.state.log (file_at d.synced log known) block old new
       first block old new was at unfailed sound past = ⊎_elim
           (λ (same : new ≡ old). absurd (
           let w = page_within pages block old was (ap is_sound_page (sym same) ∙ sound) in
@@ -260,7 +260,7 @@ module _ {L G : Type 0} (d : Devices L G) (m : Manager L G) (r : RelationFork) (
           let l = are.within in
           omega arith
           ))
-          (λ (x : IsLogged (rule_at r) c.state.log (file_at d.synced log known) block old new). x)
+          (λ (x : HasDurableEntry (rule_at r) c.state.log (file_at d.synced log known) block old new). x)
           (each_either block old new was at unfailed)
 
       -- after the log's bytes there is only what a failure left

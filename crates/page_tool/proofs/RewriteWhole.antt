@@ -30,7 +30,7 @@ use Rattle.page_jobs.specs.RewriteEnds.{HasEntry, HasRewrites, change_weight, su
 use Rattle.page_jobs.specs.RewriteEnds as ends
 use Rattle.page_jobs.proofs.Standing.{inside, there}
 use Rattle.page_tool.specs.declared.starting.RelationFork.{RelationFork}
-use Rattle.page_tool.specs.RewriteResults.{IsLogged, IsRewritten}
+use Rattle.page_tool.specs.RewriteResults.{HasDurableEntry, IsRewrittenFile}
 use Rattle.page_tool.specs.RewriteTexts.{changed_pages}
 use Rattle.page_tool.specs.Rewriting.{ArePages, failed_after, pages_after}
 use Rattle.page_tool.specs.Starting.{IsStarted, log_of, names_of}
@@ -120,7 +120,7 @@ module _ {L G : Type 0} (d : Devices L G) (m : Manager L G) (r : RelationFork) (
 
       -- the page of a block that the rule changes is that of its entry
       changed_at : (block : ℕ) (old new : Page) → get_elem? pages block ≡ some old → get_elem? (pages_after d.contents r lanes pages) block ≡ some new → (rule_at r).changes old ≡ true
-          → IsLogged (rule_at r) c.state.log (file_at d.synced log known) block old new
+          → HasDurableEntry (rule_at r) c.state.log (file_at d.synced log known) block old new
       changed_at block old new was at changes =
           let low : block < r.blocks = let i = inside pages block old was in let e = are.counted in omega arith in
           let ok = unfailed block low in
@@ -139,7 +139,7 @@ module _ {L G : Type 0} (d : Devices L G) (m : Manager L G) (r : RelationFork) (
           let position = ap lsn_of (sym same ∙ is) in
           omega arith
           ))
-          (λ (logged : IsLogged (rule_at r) c.state.log (file_at d.synced log known) block old new). logged)
+          (λ (logged : HasDurableEntry (rule_at r) c.state.log (file_at d.synced log known) block old new). logged)
           (each_either d m r base ps zs started few lanes log c pages are either known told block old new was at ok)
         where
           now : (block : ℕ) (old new : Page) (x : InLanes d m r base ps zs started few lanes log c block old) → get_elem? pages block ≡ some old → get_elem? (pages_after d.contents r lanes pages) block ≡ some new
@@ -160,11 +160,11 @@ module _ {L G : Type 0} (d : Devices L G) (m : Manager L G) (r : RelationFork) (
             no,
             ⊎_elim
                 (λ (same : new ≡ old). same)
-                (λ (logged : IsLogged (rule_at r) c.state.log (file_at d.synced log known) block old new). absurd (no logged.made))
+                (λ (logged : HasDurableEntry (rule_at r) c.state.log (file_at d.synced log known) block old new). absurd (no logged.made))
                 (each_either d m r base ps zs started few lanes log c pages are either known told block old new was at (unfailed block low)),
           )
 
-      pub is_rewritten : ((lane : L) → IfSome (d.contents lane) AreWhole) → StaysUsed → IsRewritten (rule_at r) (names_of r) base pages (pages_after d.contents r lanes pages) (file_at d.synced log known)
+      pub is_rewritten : ((lane : L) → IfSome (d.contents lane) AreWhole) → StaysUsed → IsRewrittenFile (rule_at r) (names_of r) base pages (pages_after d.contents r lanes pages) (file_at d.synced log known)
       is_rewritten full stays_used = record {
         law = c.laws.invariant.log;
         log = c.state.log;

@@ -15,7 +15,7 @@ use Rattle.page_tool.specs.declared.starting.RelationFork.{RelationFork}
 use Rattle.page_tool.specs.Limits.{log_base}
 use Rattle.page_tool.specs.Listings.{NoneFails}
 use Rattle.page_tool.specs.Request.{RewriteAsked}
-use Rattle.page_tool.specs.RewriteResults.{IsRewritten, LeavesEither}
+use Rattle.page_tool.specs.RewriteResults.{IsRewrittenFile, LeavesEither}
 use Rattle.page_tool.specs.Starting.{names_of}
 
 -- The files of a host: the segments at each path, the blocks whose last write failed, and the logs
@@ -88,7 +88,7 @@ pub record IsRewrittenAt (r : RewriteAsked) (old new : HostFiles) : Type 0 where
   pub after : List Page
   pub file : StoredLog
   pub changes : Changes r old new after file
-  pub rewritten : IsRewritten main_rule (names_of (fork_at r old.paths)) (log_base (pages_at r old.paths)) (pages_at r old.paths) after file
+  pub rewritten : IsRewrittenFile main_rule (names_of (fork_at r old.paths)) (log_base (pages_at r old.paths)) (pages_at r old.paths) after file
   pub unfailed : (block : ℕ) → block < length (pages_at r old.paths) → new.failed r.path block ≡ false
 
 -- What a rewrite leaves by its status: nothing is written before the log is opened, which no refusal of the words, the path or the positions is

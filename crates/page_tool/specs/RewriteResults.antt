@@ -39,7 +39,7 @@ abbrev pub IsDurable : Log → StoredLog → Entry → Type 0
 IsDurable log file e = head_size + end_of e ≤ log.base + file.synced
 
 -- The log has an entry of the block, durable in its file, whose image is the new page: what the rule makes of the old one
-pub record IsLogged (r : Rule) (log : Log) (file : StoredLog) (block : ℕ) (old new : Page) : Type 0 where
+pub record HasDurableEntry (r : Rule) (log : Log) (file : StoredLog) (block : ℕ) (old new : Page) : Type 0 where
   pub made : HasEntry log (r.tag block)
   pub image : made.entry.image ≡ new
   pub rewritten : new ≡ r.rewritten old (end_of made.entry)
@@ -59,17 +59,17 @@ pub record LeavesEither (r : Rule) (names : ℕ → List ℕ) (base : ℕ) (befo
   pub counted : length after ≡ length before
   pub full : AreFull after
   pub each : (block : ℕ) (old new : Page) → get_elem? before block ≡ some old → get_elem? after block ≡ some new → failed block ≡ false
-      → (new ≡ old) ⊎ IsLogged r log file block old new
+      → (new ≡ old) ⊎ HasDurableEntry r log file block old new
   -- so no page past the log's beginning is ahead of the durable log
   pub log_first : (block : ℕ) (old new : Page) → get_elem? before block ≡ some old → get_elem? after block ≡ some new → failed block ≡ false
-      → is_sound_page new ≡ true → base < lsn_of new → IsLogged r log file block old new
+      → is_sound_page new ≡ true → base < lsn_of new → HasDurableEntry r log file block old new
 
 -- what a rewrite makes of a page, its log position aside
 abbrev pub page_after : Page → Page
 page_after page = if is_changed_outcome (page_rewrite_of page) then rewritten_page page else page
 
 -- What a whole rewrite leaves: the file is that of the log, which has exactly one entry of each block that the rule changes; such a block has the page of its entry, which is durable, and any other block its page as before
-pub record IsRewritten (r : Rule) (names : ℕ → List ℕ) (base : ℕ) (before after : List Page) (file : StoredLog) : Type 0 where
+pub record IsRewrittenFile (r : Rule) (names : ℕ → List ℕ) (base : ℕ) (before after : List Page) (file : StoredLog) : Type 0 where
   pub log : Log
   pub law : LogLaw log
   pub based : log.base ≡ base
@@ -79,7 +79,7 @@ pub record IsRewritten (r : Rule) (names : ℕ → List ℕ) (base : ℕ) (befor
   pub counted : length after ≡ length before
   pub full : AreFull after
   pub changed : (block : ℕ) (old new : Page) → get_elem? before block ≡ some old → get_elem? after block ≡ some new → r.changes old ≡ true
-      → IsLogged r log file block old new
+      → HasDurableEntry r log file block old new
   pub same : (block : ℕ) (old new : Page) → get_elem? before block ≡ some old → get_elem? after block ≡ some new → r.changes old ≡ false
       → (HasEntry log (r.tag block) → ⊥) × (new ≡ old)
   -- so but for their log positions the pages are a function of those before, whatever the backends did

@@ -19,7 +19,7 @@ use Rattle.page_tool.specs.declared.rewriting.RewriteError.{RewriteError}
 use Rattle.page_tool.specs.declared.rewriting.RewriteError.TheVariants.{ReadFault, WriteFault, LogFault, OutFault, Memory, OverLimit}
 use Rattle.page_tool.specs.declared.starting.RelationFork.{RelationFork}
 use Rattle.page_tool.specs.Limits.{largest_lsn, last_position}
-use Rattle.page_tool.specs.RewriteResults.{IsRewritten, LeavesEither}
+use Rattle.page_tool.specs.RewriteResults.{IsRewrittenFile, LeavesEither}
 use Rattle.page_tool.specs.Starting.{names_of}
 
 -- what the end of a job means to a rewrite, and that of a checkpoint
@@ -91,7 +91,7 @@ module _ {L G : Type 0} (contents : L → Option Pages) (failed : L → Marks) (
     pub either : (pages : List Page) (known : List ℕ) → ArePages contents r base lanes pages → bytes log' ≡ Some known
         → LeavesEither (rule_of 0 r.fork) (names_of r) base pages (pages_after contents r lanes' pages) (failed_after failed r lanes') (record { bytes = known; synced = synced log' })
     pub whole : IfOk end (λ totals. (pages : List Page) (known : List ℕ) → ArePages contents r base lanes pages → bytes log' ≡ Some known
-        → IsRewritten (rule_of 0 r.fork) (names_of r) base pages (pages_after contents r lanes' pages) (record { bytes = known; synced = synced log' }))
+        → IsRewrittenFile (rule_of 0 r.fork) (names_of r) base pages (pages_after contents r lanes' pages) (record { bytes = known; synced = synced log' }))
     pub totals : IfOk end (λ totals. (pages : List Page) → ArePages contents r base lanes pages → totals ≡ rewrite_totals_of pages)
     -- each block of the relation is still in its lane
     pub held : OnOk end ((pages : List Page) → ArePages contents r base lanes pages → HoldPages r.fork (pages_after contents r lanes' pages) (map contents lanes'))

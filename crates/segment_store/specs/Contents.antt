@@ -38,6 +38,6 @@ pub record IsTorn (tag : Tag) (pages after : Pages) : Type 0 where
   pub is : after ≡ with_page tag left pages
 
 -- after a write: this page stands at the tag, or after a failed one some page; all others are as they were
-abbrev pub Writes : {E : Type 0} → Tag → List ℕ → Option Pages → Option Pages → Result Unit E → Type 0
-Writes tag page None new result = new ≡ None
-Writes tag page (Some pages) new result = MatchResult result (λ _. new ≡ Some (with_page tag page pages)) (λ _. IsSomeAnd new (IsTorn tag pages))
+abbrev pub AfterWrite : {E : Type 0} → Tag → List ℕ → Option Pages → Option Pages → Result Unit E → Type 0
+AfterWrite tag page None new result = new ≡ None
+AfterWrite tag page (Some pages) new result = MatchResult result (λ _. new ≡ Some (with_page tag page pages)) (λ _. IsSomeAnd new (IsTorn tag pages))

@@ -2,7 +2,7 @@
 ghost use Rattle.std.specs.Prelude.{◌≡◌, ◌+◌, ◌<◌, ◌^◌, ℕ, Option, Some, OnOk, IfSome, IsSome, MatchResult, true, false};
 ghost use Rattle.std.specs.Option.{ForSome};
 ghost use Rattle.log_device.specs.Faults.{HasCause};
-ghost use Rattle.segment_store.specs.Contents.{AreWhole, Marks, Pages, Writes, no_marks, with_mark};
+ghost use Rattle.segment_store.specs.Contents.{AfterWrite, AreWhole, Marks, Pages, no_marks, with_mark};
 
 use block_tag::Tag;
 use log_device::Failed;
@@ -44,7 +44,7 @@ pub trait BlockLane {
     /// Writes the page to a block of the lane. A failed write leaves that one block any.
     fn write(&mut self, tag: Tag, page: &Page) -> Result<(), Failed>
         requires { ForSome (contents self.old) (λ pages. IsSome (pages tag)) }
-        ensures contents { Writes tag page.now (contents self.old) (contents self.new) result }
+        ensures contents { AfterWrite tag page.now (contents self.old) (contents self.new) result }
         ensures failed { IfSome (contents self.old) (λ _. MatchResult result (λ _. failed_writes self.new ≡ with_mark tag false (failed_writes self.old)) (λ _. failed_writes self.new ≡ with_mark tag true (failed_writes self.old))) }
         ensures unsynced { unsynced self.new ≡ with_mark tag true (unsynced self.old) }
         ensures writes { HasCause (write_faults self.old) (write_faults self.new) result }

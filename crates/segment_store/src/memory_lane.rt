@@ -2,7 +2,7 @@
 ghost use Rattle.std.specs.Prelude.{IsSome, MatchResult, option_map, length, ◌≡◌, ◌+◌, Some, IfOk, OnOk, OnErr, is_ok, not, true, false};
 ghost use Rattle.std.specs.Option.{ForSome};
 ghost use Rattle.log_device.specs.Faults.{CountsOne, HasCause};
-ghost use Rattle.segment_store.specs.Contents.{Writes, no_marks, no_pages, with_mark, with_page};
+ghost use Rattle.segment_store.specs.Contents.{AfterWrite, no_marks, no_pages, with_mark, with_page};
 ghost use Rattle.segment_store.specs.MemoryLane.{calls_of, fresh_lane_plan, marks_of, pages_of, plan_of, torn_page, unsynced_of, whole_page};
 ghost use Rattle.log_device.specs.Plan.{after_call, fails_next};
 ghost use Rattle.std.specs.BTreeMap as tree;
@@ -154,7 +154,7 @@ impl BlockLane for MemLane {
     /// Fails where the plan says so; a failed write leaves a torn page.
     fn write(&mut self, tag: Tag, page: &Page) -> Result<(), Failed>
         requires { ForSome (Some (pages_of self.old)) (λ pages. IsSome (pages tag)) }
-        ensures contents { Writes tag page.now (Some (pages_of self.old)) (Some (pages_of self.new)) result }
+        ensures contents { AfterWrite tag page.now (Some (pages_of self.old)) (Some (pages_of self.new)) result }
         ensures torn { OnErr result (pages_of self.new tag ≡ option_map (λ old. torn_page old page.now) (pages_of self.old tag)) }
         ensures failed { marks_of self.new ≡ with_mark tag (not (is_ok result)) (marks_of self.old) }
         ensures unsynced { unsynced_of self.new ≡ with_mark tag true (unsynced_of self.old) }
