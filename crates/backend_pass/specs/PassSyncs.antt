@@ -54,12 +54,12 @@ pub record BeginsCheckpoint (v w : View) (upto : ℕ) : Type 0 where
   pub seen : (v.end_seen ≤ upto) × (upto ≤ w.end_seen)
   pub did : DidWord begin_checkpoint v w upto
 
--- The checkpoint of the view passed the frame f, which was noted for it where it was dirty
+-- The checkpoint of the view visited the frame f, which was noted for it where it was dirty
 pub record NeedsOne (f : ℕ) (v w : View) (r : Option Tag) : Type 0 where
   pub touches : Touches f v w
   pub marks : SameMarks v w
   pub lock : (link w f).content ≡ (link v f).content
-  pub passed : (link w f).passed ≡ true
+  pub visited : (link w f).visited ≡ true
   pub clean : IfNone r (SeesNotDirty f v w)
   pub not_left_to_write : IfNone r ((link v f).left_to_write ≡ false → (link w f).left_to_write ≡ false)
   pub needed : IfSome r (λ _. Within (λ a b. (word : ℕ) × Did (pages need_checkpoint) f a b word) v w)

@@ -297,7 +297,7 @@ impl Pass {
         load_hand_seated(&manager.table, &mut self.seat, &self.held)
     }
 
-    /// A checkpoint of the pass begins, at the log's end: it has passed no frame, and has none to write.
+    /// A checkpoint of the pass begins, at the log's end: it has visited no frame, and has none to write.
     pub fn begin_checkpoint<L: BlockLane, G: LogDevice>(&mut self, manager: &Manager<L, G>) -> Lsn
         requires belongs { Belongs L.contents manager.now self.old }
         ensures belongs { Belongs L.contents manager.now self.new }
@@ -325,7 +325,7 @@ impl Pass {
         ensures marked { self.new.marked ≡ self.old.marked }
         ensures mark { KeepsMark self.old self.new }
         ensures touches { Touches frame self.old.view self.new.view }
-        ensures passed { (link self.new.view frame).passed ≡ true }
+        ensures visited { (link self.new.view frame).visited ≡ true }
         ensures clean { IfNone result (SeesNotDirty frame self.old.view self.new.view) }
         ensures not_left_to_write { IfNone result ((link self.old.view frame).left_to_write ≡ false → (link self.new.view frame).left_to_write ≡ false) }
         ensures needed { IfSome result (λ _. Within (λ a b. (word : ℕ) × Did (pages kinds.need_checkpoint) frame a b word) self.old.view self.new.view) }
@@ -361,7 +361,7 @@ impl Pass {
         answer
     }
 
-    /// Syncs a lane. Where the pass's checkpoint has passed all frames and has none left to write, the lane is swept up to where it began.
+    /// Syncs a lane. Where the pass's checkpoint has visited all frames and has none left to write, the lane is swept up to where it began.
     pub fn sync_lane<L: BlockLane, G: LogDevice, R: Wait>(
         &mut self,
         manager: &Manager<L, G>,

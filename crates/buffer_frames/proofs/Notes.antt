@@ -7,29 +7,29 @@ use Rattle.frame_table.specs.Seats.{Looked, locked_link, unlocked_link}
 use Rattle.buffer_frames.proofs.LaneTrips.{write_noted_link}
 use Rattle.buffer_frames.specs.Working.{KeepsNotes}
 
-pub notes_by : (l m : Link) → m.passed ≡ l.passed → m.left_to_write ≡ l.left_to_write → KeepsNotes l m
-notes_by l m passed left_to_write = record { passed = λ p. passed ∙ p; left_to_write = λ n. left_to_write ∙ n }
+pub notes_by : (l m : Link) → m.visited ≡ l.visited → m.left_to_write ≡ l.left_to_write → KeepsNotes l m
+notes_by l m visited left_to_write = record { visited = λ p. visited ∙ p; left_to_write = λ n. left_to_write ∙ n }
 
 pub notes_same : (l m : Link) → m ≡ l → KeepsNotes l m
-notes_same l m e = notes_by l m (ap (λ (x : Link). x.passed) e) (ap (λ (x : Link). x.left_to_write) e)
+notes_same l m e = notes_by l m (ap (λ (x : Link). x.visited) e) (ap (λ (x : Link). x.left_to_write) e)
 
 pub notes_on : (l m n : Link) → KeepsNotes l m → KeepsNotes m n → KeepsNotes l n
-notes_on l m n a b = record { passed = λ p. b.passed (a.passed p); left_to_write = λ p. b.left_to_write (a.left_to_write p) }
+notes_on l m n a b = record { visited = λ p. b.visited (a.visited p); left_to_write = λ p. b.left_to_write (a.left_to_write p) }
 
 pub notes_looked : (l m : Link) → Looked l m → KeepsNotes l m
-notes_looked l m a = record { passed = a.passed; left_to_write = a.left_to_write }
+notes_looked l m a = record { visited = a.visited; left_to_write = a.left_to_write }
 
 -- the header is locked and unlocked
 pub notes_unlocked : (word : ℕ) (l m n : Link) → Looked (locked_link word l) m → n ≡ unlocked_link m → KeepsNotes l n
-notes_unlocked word l m n a e = notes_on l m n record { passed = a.passed; left_to_write = a.left_to_write } (notes_by m n (ap (λ (x : Link). x.passed) e) (ap (λ (x : Link). x.left_to_write) e))
+notes_unlocked word l m n a e = notes_on l m n record { visited = a.visited; left_to_write = a.left_to_write } (notes_by m n (ap (λ (x : Link). x.visited) e) (ap (λ (x : Link). x.left_to_write) e))
 
 -- a write begins, is noted, and ends
 pub notes_begun : (l m : Link) → Looked (begun_link false l) m → KeepsNotes l m
-notes_begun l m a = record { passed = a.passed; left_to_write = a.left_to_write }
+notes_begun l m a = record { visited = a.visited; left_to_write = a.left_to_write }
 
 pub notes_noted : (done : Bool) (l m : Link) → m ≡ write_noted_link done l → KeepsNotes l m
-notes_noted true l m e = notes_by l m (ap (λ (x : Link). x.passed) e) (ap (λ (x : Link). x.left_to_write) e)
-notes_noted false l m e = notes_by l m (ap (λ (x : Link). x.passed) e) (ap (λ (x : Link). x.left_to_write) e)
+notes_noted true l m e = notes_by l m (ap (λ (x : Link). x.visited) e) (ap (λ (x : Link). x.left_to_write) e)
+notes_noted false l m e = notes_by l m (ap (λ (x : Link). x.visited) e) (ap (λ (x : Link). x.left_to_write) e)
 
 pub notes_ended : (end : IoEnd) (l m : Link) → Looked (finished_link end l) m → KeepsNotes l m
-notes_ended end l m a = record { passed = a.passed; left_to_write = a.left_to_write }
+notes_ended end l m a = record { visited = a.visited; left_to_write = a.left_to_write }

@@ -17,9 +17,9 @@ pub record WorksAt (f : ℕ) (v w : View) : Type 0 where
   pub partitions : w.partitions ≡ v.partitions
   pub others : (g : ℕ) → g ≢ f → link w g ≡ link v g
 
--- What the checkpoint of the view has noted of a frame is kept: one that it has passed stays passed, and none becomes one that it has to write
+-- What the checkpoint of the view has noted of a frame is kept: one that it has visited stays visited, and none becomes one that it has to write
 pub record KeepsNotes (l m : Link) : Type 0 where
-  pub passed : l.passed ≡ true → m.passed ≡ true
+  pub visited : l.visited ≡ true → m.visited ≡ true
   pub left_to_write : l.left_to_write ≡ false → m.left_to_write ≡ false
 
 -- This was done between v and w

@@ -41,7 +41,7 @@ use Rattle.buffer_sync.specs.declared.syncing.SyncOnly.{SyncOnly}
 use Rattle.buffer_sync.specs.declared.syncing.SyncOnly.TheVariants.{NotRecentlyUsed, Needed}
 use Rattle.buffer_sync.specs.declared.syncing.Synced.{Synced}
 use Rattle.buffer_sync.specs.declared.syncing.Synced.TheVariants.{Skipped, Clean, Written}
-use Rattle.buffer_sync.specs.Syncs.{ComesAtOnce, EndsSync, IsDirty, FlushesPinned, LeavesPinned, LooksUnder, PinnedAnswer, PinsUnder, SeesClean, SyncAnswer, SyncsOne, WritesBlock, by_load, by_word, is_skipped, pinned_anew, pinned_before, synced_of}
+use Rattle.buffer_sync.specs.Syncs.{ComesAtOnce, EndsSync, IsDirty, FlushesPinned, LeavesPinned, LooksUnderHeader, PinnedAnswer, PinsUnder, SeesClean, SyncAnswer, SyncsOne, WritesBlock, by_load, by_word, is_skipped, pinned_anew, pinned_before, synced_of}
 
 -- the header is locked, and the word loaded under it is the one that is held
 pub locked_as : (was word : ℕ) (l m n : Link) → Looked (locked_link was l) m → Looked m n → fields word ≡ fields was → Looked (locked_link word l) n
@@ -111,10 +111,10 @@ pub may_unpin : (l m : Link) → l.role ≡ Victim → LeavesPinned l m → MayU
 may_unpin l m victim left = record { pinned = λ absent. (let no : Victim ≡ Absent = sym (left.role ∙ victim) ∙ absent in absurd (cc)); no_content = left.unlocked; no_io = left.calm.no_io; no_wait = left.calm.no_wait }
 
 pub notes_locked : (word : ℕ) (l m : Link) → Looked (locked_link word l) m → KeepsNotes l m
-notes_locked word l m a = record { passed = a.passed; left_to_write = a.left_to_write }
+notes_locked word l m a = record { visited = a.visited; left_to_write = a.left_to_write }
 
 pub notes_unpinned : (l m : Link) → Looked (unpinned_link l) m → KeepsNotes l m
-notes_unpinned l m a = record { passed = a.passed; left_to_write = a.left_to_write }
+notes_unpinned l m a = record { visited = a.visited; left_to_write = a.left_to_write }
 
 -- what is known under the header, before and after the tag was loaded
 some_word : (a b : StateWord) → Some a ≡ Some b → a ≡ b
@@ -286,7 +286,7 @@ module _ {L G : Type 0} (contents : L → Option Pages) (t : FrameTable L G) whe
   flushes_flushed f tag v w r named listed works notes a met error written = record { works = works; notes = notes; answer = flushed_answer f tag v w r named listed a; met = flushed_met v w r met; ended = flushed_ended f v w r error written }
 
   -- what came of it, with the look before
-  pub syncs_flushed : (only : SyncOnly) (word f : ℕ) (v looked w : View) (r : Result Synced FrameFlushError) → LooksUnder f word v looked → Touches f v looked → SameMarks v looked → KeepsNotes (link v f) (link looked f) → is_skipped only (fields word) ≡ false → PinsUnder f word looked w → FlushesPinned contents t f looked w r → (link w f).content ≡ (link v f).content → SyncsOne contents t only f v w r
+  pub syncs_flushed : (only : SyncOnly) (word f : ℕ) (v looked w : View) (r : Result Synced FrameFlushError) → LooksUnderHeader f word v looked → Touches f v looked → SameMarks v looked → KeepsNotes (link v f) (link looked f) → is_skipped only (fields word) ≡ false → PinsUnder f word looked w → FlushesPinned contents t f looked w r → (link w f).content ≡ (link v f).content → SyncsOne contents t only f v w r
   syncs_flushed only word f v looked w r looks k m n is under s lock = let all = flushes_on f v looked w r k m n s in record {
     works = all.works;
     notes = all.notes;
@@ -321,7 +321,7 @@ module _ {L G : Type 0} (contents : L → Option Pages) (t : FrameTable L G) whe
   at_once_lacks Written only word a e o = absurd a
 
   -- the header is unlocked at once
-  pub syncs_at_once : (synced : Synced) (only : SyncOnly) (word f : ℕ) (v looked w : View) → LooksUnder f word v looked → Touches f v looked → SameMarks v looked → Looked (locked_link word (link v f)) (link looked f) → ((fields word).checkpoint_needed ≡ false → (link looked f).left_to_write ≡ false) → Touches f looked w → SameMarks looked w → link w f ≡ unlocked_link (link looked f) → ComesAtOnce only (fields word) (Some synced) → SyncsOne contents t only f v w (Ok synced)
+  pub syncs_at_once : (synced : Synced) (only : SyncOnly) (word f : ℕ) (v looked w : View) → LooksUnderHeader f word v looked → Touches f v looked → SameMarks v looked → Looked (locked_link word (link v f)) (link looked f) → ((fields word).checkpoint_needed ≡ false → (link looked f).left_to_write ≡ false) → Touches f looked w → SameMarks looked w → link w f ≡ unlocked_link (link looked f) → ComesAtOnce only (fields word) (Some synced) → SyncsOne contents t only f v w (Ok synced)
   syncs_at_once synced only word f v looked w looks k m a not_left_to_write l n e once = record {
     works = works_on f v looked w (works_marked f v looked k m) (works_marked f looked w l n);
     notes = notes_unlocked word (link v f) (link looked f) (link w f) a e;

@@ -39,7 +39,7 @@ pub fn need_checkpoint<L: BlockLane, G: LogDevice, R: Wait>(
     ensures touches { Touches frame seat.old.me.0 seat.new.me.0 }
     ensures marks { SameMarks seat.old.me.0 seat.new.me.0 }
     ensures lock { (link seat.new.me.0 frame).content ≡ (link seat.old.me.0 frame).content }
-    ensures passed { (link seat.new.me.0 frame).passed ≡ true }
+    ensures visited { (link seat.new.me.0 frame).visited ≡ true }
     ensures clean { IfNone result (SeesNotDirty frame seat.old.me.0 seat.new.me.0) }
     ensures not_left_to_write { IfNone result ((link seat.old.me.0 frame).left_to_write ≡ false → (link seat.new.me.0 frame).left_to_write ≡ false) }
     ensures needed { IfSome result (λ _. Within (λ a b. (word : ℕ) × Did (pages kinds.need_checkpoint) frame a b word) seat.old.me.0 seat.new.me.0) }

@@ -13,9 +13,9 @@ all_three false b c x y z = absurd (cc)
 all_three true true c x y z = absurd (cc)
 all_three true false false x y z = absurd (cc)
 
-ended_all : (ls : List Link) → ((f : ℕ) → f < length ls → ((slice_index_or ls f idle).passed ≡ true) × ((slice_index_or ls f idle).left_to_write ≡ false)) → all_ended ls ≡ true
+ended_all : (ls : List Link) → ((f : ℕ) → f < length ls → ((slice_index_or ls f idle).visited ≡ true) × ((slice_index_or ls f idle).left_to_write ≡ false)) → all_ended ls ≡ true
 ended_all [] h = refl
-ended_all (l ∷ ls) h = let here = h zero (omega arith) in all_three l.passed l.left_to_write (all_ended ls) here.0 here.1 (ended_all ls (λ f low. h (suc f) (omega arith)))
+ended_all (l ∷ ls) h = let here = h zero (omega arith) in all_three l.visited l.left_to_write (all_ended ls) here.0 here.1 (ended_all ls (λ f low. h (suc f) (omega arith)))
 
 when_ended : (b : Bool) (n : ℕ) → b ≡ true → (if b then n else 0) ≡ n
 when_ended true n e = refl

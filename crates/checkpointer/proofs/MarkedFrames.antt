@@ -12,7 +12,7 @@ use Rattle.pin_core.specs.State.{link}
 use Rattle.buffer_frames.specs.Working.{KeepsNotes}
 use Rattle.backend_pass.specs.declared.marked.MarkedFrame.{MarkedFrame}
 use Rattle.backend_pass.specs.Passes.{PassState}
-use Rattle.checkpointer.specs.Marked.{AreInside, AreMarked, HasPassed, HasNoneLeft, IsMarked, HasNoneToWrite, KeepsEachNote}
+use Rattle.checkpointer.specs.Marked.{AreInside, AreMarked, HasVisited, HasNoneLeft, IsMarked, HasNoneToWrite, KeepsEachNote}
 
 not_both : {b : Bool} → b ≡ true → b ≡ false → ⊥
 not_both e n = absurd (cc)
@@ -25,8 +25,8 @@ by_left_to_write false is isnt = isnt refl
 pub marked_none : (v : View) → HasNoneToWrite v → AreMarked [] v
 marked_none v none f left_to_write = absurd (not_both left_to_write (none f))
 
-pub passed_none : (v : View) → HasPassed 0 v
-passed_none v f low = absurd (omega arith)
+pub visited_none : (v : View) → HasVisited 0 v
+visited_none v f low = absurd (omega arith)
 
 pub inside_none : (frames : ℕ) → AreInside frames []
 inside_none frames = All-nil (λ (m : MarkedFrame). m.frame < frames)
@@ -52,16 +52,16 @@ module _ (f : ℕ) (v w : View) (others : (g : ℕ) → g ≢ f → link w g ≡
       (λ (e : g ≡ f). record { entry = m; there = Contains-push marked m; same = is ∙ sym e })
       (λ (n : g ≢ f). with_more marked m g (are g (sym (ap (λ (l : Link). l.left_to_write) (others g n)) ∙ left_to_write)))
 
-  pub passed_more : HasPassed f v → (link w f).passed ≡ true → HasPassed (f + 1) w
-  passed_more before here g low = dite (ℕ_discrete g f)
-      (λ (e : g ≡ f). subst (λ (x : ℕ). (link w x).passed ≡ true) (sym e) here)
-      (λ (n : g ≢ f). ap (λ (l : Link). l.passed) (others g n) ∙ before g (omega arith))
+  pub visited_more : HasVisited f v → (link w f).visited ≡ true → HasVisited (f + 1) w
+  visited_more before here g low = dite (ℕ_discrete g f)
+      (λ (e : g ≡ f). subst (λ (x : ℕ). (link w x).visited ≡ true) (sym e) here)
+      (λ (n : g ≢ f). ap (λ (l : Link). l.visited) (others g n) ∙ before g (omega arith))
 
   -- what was noted of the others is kept, and of the frame f
   pub notes_at : KeepsNotes (link v f) (link w f) → KeepsEachNote v w
   notes_at here g = dite (ℕ_discrete g f)
       (λ (e : g ≡ f). subst (λ (x : ℕ). KeepsNotes (link v x) (link w x)) (sym e) here)
-      (λ (n : g ≢ f). subst (λ (l : Link). KeepsNotes (link v g) l) (sym (others g n)) (record { passed = λ x. x; left_to_write = λ x. x }))
+      (λ (n : g ≢ f). subst (λ (l : Link). KeepsNotes (link v g) l) (sym (others g n)) (record { visited = λ x. x; left_to_write = λ x. x }))
 
 -- A frame was looked at, and then marked as left to write
 module _ (f : ℕ) (p q r : PassState) (m : MarkedFrame) (others : (g : ℕ) → g ≢ f → link q.view g ≡ link p.view g) (kept : q.marked ≡ p.marked) (is : r ≡ record q { marked = q.marked ++ m ∷ [] }) (same : m.frame ≡ f) where
@@ -71,8 +71,8 @@ module _ (f : ℕ) (p q r : PassState) (m : MarkedFrame) (others : (g : ℕ) →
   view_is : r.view ≡ q.view
   view_is = ap (λ (x : PassState). x.view) is
 
-  pub noted_passed : (link q.view f).passed ≡ true → (link r.view f).passed ≡ true
-  noted_passed here = subst (λ (v : View). (link v f).passed ≡ true) (sym view_is) here
+  pub noted_visited : (link q.view f).visited ≡ true → (link r.view f).visited ≡ true
+  noted_visited here = subst (λ (v : View). (link v f).visited ≡ true) (sym view_is) here
 
   pub noted_others : (g : ℕ) → g ≢ f → link r.view g ≡ link p.view g
   noted_others g n = subst (λ (v : View). link v g ≡ link p.view g) (sym view_is) (others g n)
@@ -94,14 +94,14 @@ pub inside_moved : (frames : ℕ) (xs ys : List MarkedFrame) → IsPermutation x
 inside_moved frames xs ys moved inside = All-permutation (λ (m : MarkedFrame). m.frame < frames) xs ys moved inside
 
 pub notes_none : (v : View) → KeepsEachNote v v
-notes_none v f = record { passed = λ x. x; left_to_write = λ x. x }
+notes_none v f = record { visited = λ x. x; left_to_write = λ x. x }
 
 pub notes_on : (v u w : View) → KeepsEachNote v u → KeepsEachNote u w → KeepsEachNote v w
-notes_on v u w a b f = record { passed = λ x. (b f).passed ((a f).passed x); left_to_write = λ x. (b f).left_to_write ((a f).left_to_write x) }
+notes_on v u w a b f = record { visited = λ x. (b f).visited ((a f).visited x); left_to_write = λ x. (b f).left_to_write ((a f).left_to_write x) }
 
 -- each marked frame is written
-pub all_written : (frames : ℕ) (marked : List MarkedFrame) (v w : View) → HasPassed frames v → AreMarked marked v → KeepsEachNote v w → ((k : ℕ) (d : MarkedFrame) → k < length marked → (link w (slice_index_or marked k d).frame).left_to_write ≡ false) → HasNoneLeft frames w
-all_written frames marked v w passed are notes done f low = ((notes f).passed (passed f low), by_left_to_write (link v f).left_to_write left_to_write (notes f).left_to_write)
+pub all_written : (frames : ℕ) (marked : List MarkedFrame) (v w : View) → HasVisited frames v → AreMarked marked v → KeepsEachNote v w → ((k : ℕ) (d : MarkedFrame) → k < length marked → (link w (slice_index_or marked k d).frame).left_to_write ≡ false) → HasNoneLeft frames w
+all_written frames marked v w visited are notes done f low = ((notes f).visited (visited f low), by_left_to_write (link v f).left_to_write left_to_write (notes f).left_to_write)
   where
     left_to_write : (link v f).left_to_write ≡ true → (link w f).left_to_write ≡ false
     left_to_write e = let is = are f e in subst (λ (x : ℕ). (link w x).left_to_write ≡ false) (ap (λ (m : MarkedFrame). m.frame) is.there.2 ∙ is.same) (done is.there.0 is.entry is.there.1)

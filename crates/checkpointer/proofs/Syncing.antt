@@ -18,7 +18,7 @@ use Rattle.checkpointer.proofs.Flushing.{made_on}
 
 -- a view with the same links
 pub written_same : (frames : ℕ) (v w : View) → w.links ≡ v.links → HasNoneLeft frames v → HasNoneLeft frames w
-written_same frames v w same h f low = let e : link w f ≡ link v f = ap (λ (l : List Link). get_or l f idle) same in (ap (λ (l : Link). l.passed) e ∙ (h f low).0, ap (λ (l : Link). l.left_to_write) e ∙ (h f low).1)
+written_same frames v w same h f low = let e : link w f ≡ link v f = ap (λ (l : List Link). get_or l f idle) same in (ap (λ (l : Link). l.visited) e ∙ (h f low).0, ap (λ (l : Link). l.left_to_write) e ∙ (h f low).1)
 
 -- what the sync of a lane makes of a view
 pub synced_links : (lane : ℕ) (done : Bool) (v w : View) → work_of w ≡ synced_work lane done v → w.links ≡ v.links

@@ -10,13 +10,13 @@ use Rattle.backend_pass.specs.declared.marked.MarkedFrame.{MarkedFrame}
 abbrev pub HasNoneToWrite : View → Type 0
 HasNoneToWrite v = (f : ℕ) → (link v f).left_to_write ≡ false
 
--- it has passed each of so many frames
-abbrev pub HasPassed : ℕ → View → Type 0
-HasPassed frames v = (f : ℕ) → f < frames → (link v f).passed ≡ true
+-- it has visited each of so many frames
+abbrev pub HasVisited : ℕ → View → Type 0
+HasVisited frames v = (f : ℕ) → f < frames → (link v f).visited ≡ true
 
 -- and has none of them left to write
 abbrev pub HasNoneLeft : ℕ → View → Type 0
-HasNoneLeft frames v = (f : ℕ) → f < frames → ((link v f).passed ≡ true) × ((link v f).left_to_write ≡ false)
+HasNoneLeft frames v = (f : ℕ) → f < frames → ((link v f).visited ≡ true) × ((link v f).left_to_write ≡ false)
 
 -- The frame stands in the list
 pub record IsMarked (marked : List MarkedFrame) (f : ℕ) : Type 0 where

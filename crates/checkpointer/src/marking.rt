@@ -3,7 +3,7 @@ ghost use Rattle.std.specs.Prelude.{◌≡◌, ◌≢◌, ◌+◌, ◌<◌, ◌�
 ghost use Rattle.frame_table.specs.Seats.{frames_of};
 ghost use Rattle.pin_core.specs.State.{link};
 ghost use Rattle.backend_pass.specs.Managers.{Belongs};
-ghost use Rattle.checkpointer.specs.Marked.{AreInside, AreMarked, HasPassed, HasNoneToWrite};
+ghost use Rattle.checkpointer.specs.Marked.{AreInside, AreMarked, HasVisited, HasNoneToWrite};
 ghost use Rattle.checkpointer.specs.Stages.{MarksFrames};
 
 use backend_pass::{Manager, MarkedFrame, Pass};
@@ -22,7 +22,7 @@ fn mark_frame<L: BlockLane, G: LogDevice, R: Wait>(
     requires inside { frame < frames_of manager.now.table }
     requires room { length pass.old.marked ≤ frame }
     ensures marks { MarksFrames L.contents manager.now pass.old pass.new }
-    ensures passed { (link pass.new.view frame).passed ≡ true }
+    ensures visited { (link pass.new.view frame).visited ≡ true }
     ensures others { (g : ℕ) → g ≢ frame → link pass.new.view g ≡ link pass.old.view g }
     ensures marked { AreMarked pass.old.marked pass.old.view → AreMarked pass.new.marked pass.new.view }
     ensures inside { AreInside (frames_of manager.now.table) pass.old.marked → AreInside (frames_of manager.now.table) pass.new.marked }
@@ -47,7 +47,7 @@ pub(crate) fn mark_frames<L: BlockLane, G: LogDevice, R: Wait>(
     requires not_left_to_write { HasNoneToWrite pass.old.view }
     requires none { pass.old.marked ≡ [] }
     ensures marks { MarksFrames L.contents manager.now pass.old pass.new }
-    ensures passed { HasPassed (frames_of manager.now.table) pass.new.view }
+    ensures visited { HasVisited (frames_of manager.now.table) pass.new.view }
     ensures marked { AreMarked pass.new.marked pass.new.view }
     ensures inside { AreInside (frames_of manager.now.table) pass.new.marked }
 {

@@ -6,7 +6,7 @@ ghost use Rattle.pin_core.specs.State.{link};
 ghost use Rattle.backend_pass.specs.Locks.{HasLock};
 ghost use Rattle.backend_pass.specs.Managers.{Belongs};
 ghost use Rattle.backend_pass.specs.Reading.{NothingFails};
-ghost use Rattle.checkpointer.specs.Marked.{AreInside, AreMarked, HasPassed, HasNoneLeft, KeepsEachNote};
+ghost use Rattle.checkpointer.specs.Marked.{AreInside, AreMarked, HasVisited, HasNoneLeft, KeepsEachNote};
 ghost use Rattle.checkpointer.specs.Refusals.{StopsWriting};
 ghost use Rattle.checkpointer.specs.Stages.{HasNoLock, WritesMarked, pages_by};
 
@@ -64,7 +64,7 @@ pub(crate) fn write_marked<L: BlockLane, G: LogDevice, R: Wait>(
 ) -> Result<u32, FlushError>
     requires belongs { Belongs L.contents manager.now pass.old }
     requires unlocked { HasNoLock pass.old }
-    requires passed { HasPassed (frames_of manager.now.table) pass.old.view }
+    requires visited { HasVisited (frames_of manager.now.table) pass.old.view }
     requires marked { AreMarked pass.old.marked pass.old.view }
     requires inside { AreInside (frames_of manager.now.table) pass.old.marked }
     ensures writes { IfOk result (λ written. WritesMarked L.contents manager.now written pass.old pass.new) }

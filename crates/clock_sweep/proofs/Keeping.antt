@@ -136,7 +136,7 @@ unlocked_back word l m o a b none = record {
   image = b.image ∙ a.image;
   seen_valid = λ saw. b.seen_valid (a.seen_valid saw);
   waits = λ w. b.waits (a.waits w);
-  passed = λ p. b.passed (a.passed p);
+  visited = λ p. b.visited (a.visited p);
   left_to_write = λ l. b.left_to_write (a.left_to_write l);
 }
 
@@ -157,7 +157,7 @@ unlocks_keep f word found v u w locks none d = gives_up f word v u w (gets f wor
     (looked_same (unlocked_link (link u f)) (link w f) (link_is (pins pin.unlock_header) f found u w d))
 
 unlocked_looked : (l m : Link) → Looked l m → Looked (unlocked_link l) (unlocked_link m)
-unlocked_looked l m a = record { role = a.role; tag = a.tag; ring = a.ring; header = refl; pending = a.pending; content = a.content; copying = a.copying; dirtied = a.dirtied; unapplied = a.unapplied; copied = a.copied; io = a.io; read = a.read; read_is_home = a.read_is_home; last_write = a.last_write; out = a.out; overwritten = a.overwritten; image = a.image; seen_valid = a.seen_valid; waits = a.waits; passed = a.passed; left_to_write = a.left_to_write }
+unlocked_looked l m a = record { role = a.role; tag = a.tag; ring = a.ring; header = refl; pending = a.pending; content = a.content; copying = a.copying; dirtied = a.dirtied; unapplied = a.unapplied; copied = a.copied; io = a.io; read = a.read; read_is_home = a.read_is_home; last_write = a.last_write; out = a.out; overwritten = a.overwritten; image = a.image; seen_valid = a.seen_valid; waits = a.waits; visited = a.visited; left_to_write = a.left_to_write }
 
 pub lowers_keep : (f word : ℕ) (v u w : View) → TakesHeader f v u word → HoldsNoHeader v → Did (pins pin.lower_usage) f u w word → KeepsFrames v w
 lowers_keep f word v u w locks none d = gives_up f word v u w (gets f word v u locks) none
@@ -229,7 +229,7 @@ gets_on f word v u w a b = record {
 }
   where
     relocked : (l m : Link) → Looked l m → Looked (locked_link word l) (locked_link word m)
-    relocked l m c = record { role = c.role; tag = c.tag; ring = c.ring; header = refl; pending = c.pending; content = c.content; copying = c.copying; dirtied = c.dirtied; unapplied = c.unapplied; copied = c.copied; io = c.io; read = c.read; read_is_home = c.read_is_home; last_write = c.last_write; out = c.out; overwritten = c.overwritten; image = c.image; seen_valid = c.seen_valid; waits = c.waits; passed = c.passed; left_to_write = c.left_to_write }
+    relocked l m c = record { role = c.role; tag = c.tag; ring = c.ring; header = refl; pending = c.pending; content = c.content; copying = c.copying; dirtied = c.dirtied; unapplied = c.unapplied; copied = c.copied; io = c.io; read = c.read; read_is_home = c.read_is_home; last_write = c.last_write; out = c.out; overwritten = c.overwritten; image = c.image; seen_valid = c.seen_valid; waits = c.waits; visited = c.visited; left_to_write = c.left_to_write }
 
 pub takes_gets : (limit : ℕ) (held : Held) (v u w : View) → KeepsFrames v u → Takes limit held u w → GetsHeader held.frame held.word v w
 takes_gets limit held v u w a t = gets_on held.frame held.word v u w a (gets held.frame held.word u w t.locks)

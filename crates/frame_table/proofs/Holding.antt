@@ -40,7 +40,7 @@ use Rattle.table_rule.specs.Layout.{state_place, tag_place, tag_partition, parti
 use Rattle.history_core.specs.Laws.{Laws}
 use Rattle.frame_table.specs.Kinds.{FrameKind, pins, part_of, link_after}
 use Rattle.table_rule.specs.Shows.{ShowsFrame, Devices, Shows, Held}
-use Rattle.frame_table.specs.Seats.{Finds, mapped_link, SameSelf, Looked, Touches, Stores, HoldsWord, HasRoom, IsUsed, HasFlag, HasOnlyPin, MayChange, Lacks, NamesIn, NamesStored, CanStoreTag, CanErase, CanStoreAs, partitions_erased, partitions_stored, stored_link, assigned_link, tag_word, read_link}
+use Rattle.frame_table.specs.Seats.{Finds, mapped_link, SameSelf, Looked, Touches, Stores, HoldsWord, HasRoom, IsUsed, HasFlag, HasOnlyPin, MayChange, Lacks, NamesIn, NamesStored, MayStoreTag, CanErase, CanStoreAs, partitions_erased, partitions_stored, stored_link, assigned_link, tag_word, read_link}
 use Rattle.frame_table.specs.FrameSteps.{Tried, if_found, Did, always, looking, storing, tells}
 use Rattle.frame_table.proofs.Frames.{Asks}
 use Rattle.frame_table.proofs.Acting.{acts}
@@ -303,7 +303,7 @@ victimless f v w t l h g = dite (ℕ_discrete g f)
     (λ n r. h g (sym (ap (λ (x : Link). x.role) (t.others g n)) ∙ r))
 
 module _ {L G : Type 0} (d : Devices L G) (o : Opening L G) where
-  pub stores_as : (slots id f : ℕ) (tag : Tag) (me : Me (Value L G) View) → f < o.config.frames → me.0.emptied ≡ false → HasOnlyPin (link me.0 f) → unpacked_tag (packed_tag tag) ≡ Some tag → CanStoreTag o.catalog.value tag me.0 f
+  pub stores_as : (slots id f : ℕ) (tag : Tag) (me : Me (Value L G) View) → f < o.config.frames → me.0.emptied ≡ false → HasOnlyPin (link me.0 f) → unpacked_tag (packed_tag tag) ≡ Some tag → MayStoreTag o.catalog.value tag me.0 f
       → Allows (Held d o) slots id me (tag_place f) (λ _. packed_tag tag) (tells (always (storing (Some tag))) (step slots (tag_place f) (packed_tag tag) 0 none) me)
   stores_as slots id f tag me below live alone packed can =
       stores_there d o slots id f (packed_tag tag) tag me below live packed can.listed alone can.word (subst (MayChange me.0) (ap partition_of_tag (sym packed)) can.latch) can.map
@@ -319,7 +319,7 @@ finds_on f tag g v w t h = let same : hold w (tag_partition tag) ≡ hold v (tag
 }
 
 mapped_looked : (tag : ℕ) (ring : Bool) (l m : Link) → Looked l m → Looked (mapped_link tag ring l) (mapped_link tag ring m)
-mapped_looked tag ring l m a = record { role = refl; tag = refl; ring = refl; header = a.header; pending = a.pending; content = a.content; copying = a.copying; dirtied = a.dirtied; unapplied = a.unapplied; copied = a.copied; io = a.io; read = a.read; read_is_home = a.read_is_home; last_write = a.last_write; out = a.out; overwritten = a.overwritten; image = a.image; seen_valid = a.seen_valid; waits = a.waits; passed = a.passed; left_to_write = a.left_to_write }
+mapped_looked tag ring l m a = record { role = refl; tag = refl; ring = refl; header = a.header; pending = a.pending; content = a.content; copying = a.copying; dirtied = a.dirtied; unapplied = a.unapplied; copied = a.copied; io = a.io; read = a.read; read_is_home = a.read_is_home; last_write = a.last_write; out = a.out; overwritten = a.overwritten; image = a.image; seen_valid = a.seen_valid; waits = a.waits; visited = a.visited; left_to_write = a.left_to_write }
 
 pub mapped_after : (tag : ℕ) (ring : Bool) (f : ℕ) (v w : View) → Tried (pins (pin.pin_mapped tag ring)) f v w true → Looked (mapped_link tag ring (link v f)) (link w f)
 mapped_after tag ring f v w t = subst (Looked (mapped_link tag ring (link v f))) (sym (link_is (pins (pin.pin_mapped tag ring)) f t.1 t.0 w t.3)) (mapped_looked tag ring (link v f) (link t.0 f) (looks_link f v t.0 t.2))

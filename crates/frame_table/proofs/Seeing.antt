@@ -105,8 +105,8 @@ pub sees_over : (f found : ℕ) (v w : View) → Did looking f v w found → (fi
 sees_over f found v w d off = ap (λ (l : Link). l.waits) (loads_link f found v w d) ∙ over_after (fields found) (link v f).waits off
 
 -- the checkpoint passes a frame that isn't dirty, and need not write one that has not to be written
-pub passes_clean : (f found : ℕ) (v w : View) → Did looking f v w found → (fields found).dirty ≡ false → (link w f).passed ≡ true
-passes_clean f found v w d clean = ap (λ (l : Link). l.passed) (loads_link f found v w d) ∙ ap (λ (b : Bool). (link v f).passed || not b) clean ∙ or-true (link v f).passed
+pub passes_clean : (f found : ℕ) (v w : View) → Did looking f v w found → (fields found).dirty ≡ false → (link w f).visited ≡ true
+passes_clean f found v w d clean = ap (λ (l : Link). l.visited) (loads_link f found v w d) ∙ ap (λ (b : Bool). (link v f).visited || not b) clean ∙ or-true (link v f).visited
 
 pub need_not_write : (f found : ℕ) (v w : View) → Did looking f v w found → (fields found).checkpoint_needed ≡ false → (link w f).left_to_write ≡ false
 need_not_write f found v w d none = ap (λ (l : Link). l.left_to_write) (loads_link f found v w d) ∙ ap (λ (b : Bool). (link v f).left_to_write && b) none ∙ and-false (link v f).left_to_write

@@ -102,12 +102,12 @@ looked_on l m n a b = record {
   image = b.image ∙ a.image;
   seen_valid = λ saw. b.seen_valid (a.seen_valid saw);
   waits = λ none. b.waits (a.waits none);
-  passed = λ was. b.passed (a.passed was);
+  visited = λ was. b.visited (a.visited was);
   left_to_write = λ none. b.left_to_write (a.left_to_write none);
 }
 
 pub looked_same : (l m : Link) → m ≡ l → Looked l m
-looked_same l m e = subst (Looked l) (sym e) record { role = refl; tag = refl; ring = refl; header = refl; pending = refl; content = refl; copying = refl; dirtied = refl; unapplied = refl; copied = refl; io = refl; read = refl; read_is_home = refl; last_write = refl; out = refl; overwritten = refl; image = refl; seen_valid = λ saw. saw; waits = λ none. none; passed = λ was. was; left_to_write = λ none. none }
+looked_same l m e = subst (Looked l) (sym e) record { role = refl; tag = refl; ring = refl; header = refl; pending = refl; content = refl; copying = refl; dirtied = refl; unapplied = refl; copied = refl; io = refl; read = refl; read_is_home = refl; last_write = refl; out = refl; overwritten = refl; image = refl; seen_valid = λ saw. saw; waits = λ none. none; visited = λ was. was; left_to_write = λ none. none }
 
 -- a pin has seen BM_VALID for good
 pub seen_still : (pending valid : Bool) (r : Role) → seen_valid_after pending r valid true ≡ true
@@ -119,7 +119,7 @@ seen_still false true Victim = refl
 seen_still false false Victim = refl
 
 load_looked : (s : State) (f : ℕ) (v : View) → Looked (link v f) (link_after looking s f v)
-load_looked s f v = record { role = refl; tag = refl; ring = refl; header = refl; pending = refl; content = refl; copying = refl; dirtied = refl; unapplied = refl; copied = refl; io = refl; read = refl; read_is_home = refl; last_write = refl; out = refl; overwritten = refl; image = refl; seen_valid = λ saw. ap (seen_valid_after (link v f).pending (link v f).role (s.pool.core.frame f).word.valid) saw ∙ seen_still (link v f).pending (s.pool.core.frame f).word.valid (link v f).role; waits = λ none. ap (wait_after (s.pool.core.frame f).word) none; passed = λ was. ap (λ (b : Bool). b || not (s.pool.core.frame f).word.dirty) was; left_to_write = λ none. ap (λ (b : Bool). b && (s.pool.core.frame f).word.checkpoint_needed) none }
+load_looked s f v = record { role = refl; tag = refl; ring = refl; header = refl; pending = refl; content = refl; copying = refl; dirtied = refl; unapplied = refl; copied = refl; io = refl; read = refl; read_is_home = refl; last_write = refl; out = refl; overwritten = refl; image = refl; seen_valid = λ saw. ap (seen_valid_after (link v f).pending (link v f).role (s.pool.core.frame f).word.valid) saw ∙ seen_still (link v f).pending (s.pool.core.frame f).word.valid (link v f).role; waits = λ none. ap (wait_after (s.pool.core.frame f).word) none; visited = λ was. ap (λ (b : Bool). b || not (s.pool.core.frame f).word.dirty) was; left_to_write = λ none. ap (λ (b : Bool). b && (s.pool.core.frame f).word.checkpoint_needed) none }
 
 pub looked : (f found : ℕ) (v w : View) → Did looking f v w found → Looked (link v f) (link w f)
 looked f found v w d = subst (Looked (link v f)) (sym (link_is looking f found v w d)) (load_looked d.state f v)
@@ -130,13 +130,13 @@ loads_link f found v w d = link_is looking f found v w d ∙ ap (λ (word : Stat
 
 -- changes of a link after a load
 pub pinned_looked : (ring : Bool) (l m : Link) → Looked l m → Looked (pinned_link ring l) (pinned_link ring m)
-pinned_looked ring l m a = record { role = refl; tag = a.tag; ring = refl; header = a.header; pending = a.pending; content = a.content; copying = a.copying; dirtied = a.dirtied; unapplied = a.unapplied; copied = a.copied; io = a.io; read = a.read; read_is_home = a.read_is_home; last_write = a.last_write; out = a.out; overwritten = a.overwritten; image = a.image; seen_valid = a.seen_valid; waits = a.waits; passed = a.passed; left_to_write = a.left_to_write }
+pinned_looked ring l m a = record { role = refl; tag = a.tag; ring = refl; header = a.header; pending = a.pending; content = a.content; copying = a.copying; dirtied = a.dirtied; unapplied = a.unapplied; copied = a.copied; io = a.io; read = a.read; read_is_home = a.read_is_home; last_write = a.last_write; out = a.out; overwritten = a.overwritten; image = a.image; seen_valid = a.seen_valid; waits = a.waits; visited = a.visited; left_to_write = a.left_to_write }
 
 pub unpinned_looked : (l m : Link) → Looked l m → Looked (unpinned_link l) (unpinned_link m)
-unpinned_looked l m a = record { role = refl; tag = refl; ring = refl; header = a.header; pending = a.pending; content = a.content; copying = a.copying; dirtied = a.dirtied; unapplied = a.unapplied; copied = a.copied; io = a.io; read = a.read; read_is_home = a.read_is_home; last_write = a.last_write; out = a.out; overwritten = a.overwritten; image = a.image; seen_valid = λ saw. saw; waits = a.waits; passed = a.passed; left_to_write = a.left_to_write }
+unpinned_looked l m a = record { role = refl; tag = refl; ring = refl; header = a.header; pending = a.pending; content = a.content; copying = a.copying; dirtied = a.dirtied; unapplied = a.unapplied; copied = a.copied; io = a.io; read = a.read; read_is_home = a.read_is_home; last_write = a.last_write; out = a.out; overwritten = a.overwritten; image = a.image; seen_valid = λ saw. saw; waits = a.waits; visited = a.visited; left_to_write = a.left_to_write }
 
 pub locked_looked : (word : ℕ) (l m : Link) → Looked l m → Looked (locked_link word l) (locked_link word m)
-locked_looked word l m a = record { role = a.role; tag = a.tag; ring = a.ring; header = refl; pending = a.pending; content = a.content; copying = a.copying; dirtied = a.dirtied; unapplied = a.unapplied; copied = a.copied; io = a.io; read = a.read; read_is_home = a.read_is_home; last_write = a.last_write; out = a.out; overwritten = a.overwritten; image = a.image; seen_valid = a.seen_valid; waits = a.waits; passed = a.passed; left_to_write = a.left_to_write }
+locked_looked word l m a = record { role = a.role; tag = a.tag; ring = a.ring; header = refl; pending = a.pending; content = a.content; copying = a.copying; dirtied = a.dirtied; unapplied = a.unapplied; copied = a.copied; io = a.io; read = a.read; read_is_home = a.read_is_home; last_write = a.last_write; out = a.out; overwritten = a.overwritten; image = a.image; seen_valid = a.seen_valid; waits = a.waits; visited = a.visited; left_to_write = a.left_to_write }
 
 -- what was loaded has few pins
 pub few_pins : (f found : ℕ) (v w : View) → Did looking f v w found → (fields found).pins < 262143

@@ -130,7 +130,7 @@ finished_link end l = record l { seen_valid = saw_valid end l.seen_valid; header
 
 -- at a frame that the checkpoint has visited and that is left for it to write
 abbrev pub left_to_write_link : Link → Link
-left_to_write_link l = record l { header = None; passed = true; left_to_write = true }
+left_to_write_link l = record l { header = None; visited = true; left_to_write = true }
 
 -- with a wait under the number
 abbrev pub waiting_link : ℕ → Link → Link

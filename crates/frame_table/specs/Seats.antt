@@ -74,7 +74,7 @@ abbrev pub loaded_link : StateWord → Link → Link
 loaded_link w l = record l {
   seen_valid = seen_valid_after l.pending l.role w.valid l.seen_valid;
   waits = wait_after w l.waits;
-  passed = l.passed || not w.dirty;
+  visited = l.visited || not w.dirty;
   left_to_write = l.left_to_write && w.checkpoint_needed;
 }
 
@@ -119,8 +119,8 @@ pub record Looked (l m : Link) : Type 0 where
   pub seen_valid : l.seen_valid ≡ true → m.seen_valid ≡ true
   -- where no wait was there, none is
   pub waits : l.waits ≡ None → m.waits ≡ None
-  -- a frame that the checkpoint has passed stays passed, and none becomes one that it has to write
-  pub passed : l.passed ≡ true → m.passed ≡ true
+  -- a frame that the checkpoint has visited stays visited, and none becomes one that it has to write
+  pub visited : l.visited ≡ true → m.visited ≡ true
   pub left_to_write : l.left_to_write ≡ false → m.left_to_write ≡ false
 
 -- the link after a pin by the caller, for a ring or not
@@ -219,7 +219,7 @@ pub record Finds (v : View) (tag f : ℕ) : Type 0 where
   pub finds : (entries : List MapEntry) → (hold v (tag_partition tag)).seen ≡ Some entries → found entries tag ≡ Some f
 
 -- A tag may be stored: it is of a block of the relations, the frame has none, and the map of its partition lacks it
-pub record CanStoreTag (relations : List RelEntry) (tag : Tag) (v : View) (f : ℕ) : Type 0 where
+pub record MayStoreTag (relations : List RelEntry) (tag : Tag) (v : View) (f : ℕ) : Type 0 where
   pub named : names_block tag ≡ true
   pub listed : has_block relations tag ≡ true
   pub word : HoldsWord (HasFlag false) (link v f)
@@ -234,7 +234,7 @@ pub record CanErase (v : View) (f : ℕ) : Type 0 where
 
 abbrev pub CanStoreAs : List RelEntry → Option Tag → View → ℕ → Type 0
 CanStoreAs relations None v f = CanErase v f
-CanStoreAs relations (Some tag) v f = CanStoreTag relations tag v f
+CanStoreAs relations (Some tag) v f = MayStoreTag relations tag v f
 
 -- the links after the steps under a header
 abbrev pub victim_link : Link → Link

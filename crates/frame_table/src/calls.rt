@@ -48,7 +48,7 @@ impl<L: BlockLane, G: LogDevice> FrameTable<L, G> {
         ensures opening { FitsOpening L.contents self.now (link seat.old.me.0 frame) (fields result) }
         ensures seen { (link seat.old.me.0 frame).role ≡ HandedOut → (fields result).valid ≡ true → (link seat.new.me.0 frame).seen_valid ≡ true }
         ensures over { (fields result).awaited ≡ false → (link seat.new.me.0 frame).waits ≡ None }
-        ensures passed { (fields result).dirty ≡ false → (link seat.new.me.0 frame).passed ≡ true }
+        ensures visited { (fields result).dirty ≡ false → (link seat.new.me.0 frame).visited ≡ true }
         ensures written { (fields result).checkpoint_needed ≡ false → (link seat.new.me.0 frame).left_to_write ≡ false }
         ensures did { Did looking frame seat.old.me.0 seat.new.me.0 result }
     {

@@ -36,7 +36,7 @@ use Rattle.history_core.specs.Lanes as lane_kinds
 use Rattle.history_core.specs.Lanes.{LaneKind, lane_after}
 use Rattle.history_core.specs.Device.{view_logged}
 use Rattle.history_core.specs.Invariant.{Invariant}
-use Rattle.history_core.specs.Debts.{Taken, IsCurrent, IsSettled, LinkDebt, ViewDebts, Debts, has_passed, has_left_to_write, taken_of, DebtsLaw}
+use Rattle.history_core.specs.Debts.{Taken, IsCurrent, IsSettled, LinkDebt, ViewDebts, Debts, has_visited, has_left_to_write, taken_of, DebtsLaw}
 use Rattle.history_core.specs.Steps.{Event, IsPlain, MayWriteLane, Notes, CanEnter, has_loaded, has_begun, new_entry, logged_noting, pool_noting, stepped, ticked, looked, paged, laned, has_read, has_written, Step, pools, lanes, writes, notes, logs, enters, reads, loads_end, begins, loads_flushed, raises, adds_hand, loads_hand, Run, rests, goes, has_raised}
 use Rattle.history_core.proofs.Beginning.{BegunHere, link_begun}
 use Rattle.history_core.proofs.Blocks.{plain_block, tag_goes, written_is_logged}
@@ -112,9 +112,9 @@ module _ (s : State) (h : Invariant s) (d : DebtsLaw s) where
       taken_begun zero c at = let z = (d.each j u here).begun in let e = ap (λ (y : Checkpoint). y.upto) (some-injective (kept_checkpoint u) c at) in omega arith
       taken_begun (suc m) c at = (d.each j u here).kept_begun m c at
 
-      taken_settled : (m f : ℕ) (c : Checkpoint) → get_elem? (kept_checkpoint u ∷ u.kept) m ≡ some c → f < n → IsSettled t (frame f) c.upto (has_passed c f) (has_left_to_write c f)
-      taken_settled zero f c at below = subst (λ (y : Checkpoint). IsSettled t (frame f) y.upto (has_passed y f) (has_left_to_write y f)) (some-injective (kept_checkpoint u) c at)
-          (subst (λ (y : Bool). IsSettled t (frame f) u.upto y (has_left_to_write (kept_checkpoint u) f)) (sym (map_at (λ (x : Link). x.passed) idle false refl u.links f)) (subst (λ (y : Bool). IsSettled t (frame f) u.upto (link u f).passed y) (sym (map_at (λ (x : Link). x.left_to_write) idle false refl u.links f)) ((d.each j u here).own f below).settled))
+      taken_settled : (m f : ℕ) (c : Checkpoint) → get_elem? (kept_checkpoint u ∷ u.kept) m ≡ some c → f < n → IsSettled t (frame f) c.upto (has_visited c f) (has_left_to_write c f)
+      taken_settled zero f c at below = subst (λ (y : Checkpoint). IsSettled t (frame f) y.upto (has_visited y f) (has_left_to_write y f)) (some-injective (kept_checkpoint u) c at)
+          (subst (λ (y : Bool). IsSettled t (frame f) u.upto y (has_left_to_write (kept_checkpoint u) f)) (sym (map_at (λ (x : Link). x.visited) idle false refl u.links f)) (subst (λ (y : Bool). IsSettled t (frame f) u.upto (link u f).visited y) (sym (map_at (λ (x : Link). x.left_to_write) idle false refl u.links f)) ((d.each j u here).own f below).settled))
       taken_settled (suc m) f c at below = (d.each j u here).kept m f c at below
 
   pages_owe : (i f : ℕ) (k : Kind) (v : View) → get_elem? views i ≡ some v → v.emptied ≡ false → f < n → kinds.Allowed k (block_of s.pool.logged (frame f).tag) (frame f) (link v f) → IsPlain k → DebtsLaw (record s { pool = page_steps.state_after k s.pool i f v })
@@ -142,9 +142,9 @@ module _ (s : State) (h : Invariant s) (d : DebtsLaw s) where
           inl (subst (λ (y : Page). end_of e ≤ lsn_of y) same (d.positioned (frame f).tag k p e is at tagged))
 
   -- a frame where only what a view notes of its lane changes
-  noted_owe : (i f : ℕ) (v w : View) (l : Link) → get_elem? views i ≡ some v → v.emptied ≡ false → f < n → w.links ≡ set v.links f l → w.upto ≡ v.upto → w.kept ≡ v.kept → l.passed ≡ (link v f).passed → l.left_to_write ≡ (link v f).left_to_write → (l.last_write ≡ Done → (frame f).tag ≢ no_tag → IsCurrent t (frame f).tag) → Debts t n (put frame f (frame f)) s.end s.pool.logged (set views i w)
-  noted_owe i f v w l there live inside links upto kept passed left_to_write done = debts_touched t n frame s.end f (frame f) (stays refl (λ e. e) (λ e. e)) s.pool.logged views d inside (λ goes. absurd (goes refl)) i v w l there (touches_at i f v w l there live inside links upto kept)
-      (record { settled = subst (λ (x : Bool). IsSettled t (frame f) v.upto x l.left_to_write) (sym passed) (subst (λ (x : Bool). IsSettled t (frame f) v.upto (link v f).passed x) (sym left_to_write) ((d.each i v there).own f inside).settled); done = done })
+  noted_owe : (i f : ℕ) (v w : View) (l : Link) → get_elem? views i ≡ some v → v.emptied ≡ false → f < n → w.links ≡ set v.links f l → w.upto ≡ v.upto → w.kept ≡ v.kept → l.visited ≡ (link v f).visited → l.left_to_write ≡ (link v f).left_to_write → (l.last_write ≡ Done → (frame f).tag ≢ no_tag → IsCurrent t (frame f).tag) → Debts t n (put frame f (frame f)) s.end s.pool.logged (set views i w)
+  noted_owe i f v w l there live inside links upto kept visited left_to_write done = debts_touched t n frame s.end f (frame f) (stays refl (λ e. e) (λ e. e)) s.pool.logged views d inside (λ goes. absurd (goes refl)) i v w l there (touches_at i f v w l there live inside links upto kept)
+      (record { settled = subst (λ (x : Bool). IsSettled t (frame f) v.upto x l.left_to_write) (sym visited) (subst (λ (x : Bool). IsSettled t (frame f) v.upto (link v f).visited x) (sym left_to_write) ((d.each i v there).own f inside).settled); done = done })
 
   -- The page p of the frame f goes to its lane q, or fails to
   writes_owe : (i q f : ℕ) (k : LaneKind) (v : View) → get_elem? views i ≡ some v → v.emptied ≡ false → f < n → MayWriteLane k s q f (lane_hold v q) (link v f)
@@ -262,8 +262,8 @@ module _ (s : State) (h : Invariant s) (d : DebtsLaw s) (i f : ℕ) (p : Page) (
   current_longer : (z : ℕ) → z ≢ tag_of → IsCurrent (taken_of s) z → IsCurrent longer z
   current_longer z other c k e at tagged = ⊎_elim (λ (y : get_elem? s.log.entries k ≡ some e). c k e y tagged) (λ (y : (entry ≡ e) × (k ≡ length s.log.entries)). absurd (other (sym tagged ∙ ap (λ (w : Entry). w.tag) (sym y.0)))) (at_end s.log.entries entry e k at)
 
-  settled_longer : (fr : Frame) (upto : ℕ) (passed left_to_write : Bool) → upto ≤ s.end → IsSettled (taken_of s) fr upto passed left_to_write → IsSettled longer fr upto passed left_to_write
-  settled_longer fr upto passed left_to_write begun c been given k e at tagged le lt = ⊎_elim (λ (y : get_elem? s.log.entries k ≡ some e). c been given k e y tagged le lt)
+  settled_longer : (fr : Frame) (upto : ℕ) (visited left_to_write : Bool) → upto ≤ s.end → IsSettled (taken_of s) fr upto visited left_to_write → IsSettled longer fr upto visited left_to_write
+  settled_longer fr upto visited left_to_write begun c been given k e at tagged le lt = ⊎_elim (λ (y : get_elem? s.log.entries k ≡ some e). c been given k e y tagged le lt)
       (λ (y : (entry ≡ e) × (k ≡ length s.log.entries)). let z : s.end + record_size ≡ end_of e = ap end_of y.0 in absurd (omega arith)) (at_end s.log.entries entry e k at)
 
   -- no output of the block is under way
@@ -287,8 +287,8 @@ module _ (s : State) (h : Invariant s) (d : DebtsLaw s) (i f : ℕ) (p : Page) (
     each = λ j u at. let y = d.each j u at in record {
       begun = (let z = y.begun in omega arith);
       kept_begun = λ k c t. let z = y.kept_begun k c t in omega arith;
-      own = λ g below. let z = y.own g below in record { settled = settled_longer (s.pool.core.frame g) u.upto (link u g).passed (link u g).left_to_write y.begun z.settled; done = λ e given. current_longer (s.pool.core.frame g).tag (no_done j u g at below e) (z.done e given) };
-      kept = λ k g c t below. settled_longer (s.pool.core.frame g) c.upto (has_passed c g) (has_left_to_write c g) (y.kept_begun k c t) (y.kept k g c t below);
+      own = λ g below. let z = y.own g below in record { settled = settled_longer (s.pool.core.frame g) u.upto (link u g).visited (link u g).left_to_write y.begun z.settled; done = λ e given. current_longer (s.pool.core.frame g).tag (no_done j u g at below e) (z.done e given) };
+      kept = λ k g c t below. settled_longer (s.pool.core.frame g) c.upto (has_visited c g) (has_left_to_write c g) (y.kept_begun k c t) (y.kept k g c t below);
     };
   }
     where

@@ -37,9 +37,9 @@ use Rattle.grid.specs.Shape.{put}
 use Rattle.grid.proofs.Lists.{at_set, at_end, at_only, put_at, put_else}
 
 -- a checkpoint that has nothing left to write
-ended_at : (l : List Link) → all_ended l ≡ true → (f : ℕ) → f < length l → ((slice_index_or l f idle).passed ≡ true) × ((slice_index_or l f idle).left_to_write ≡ false)
+ended_at : (l : List Link) → all_ended l ≡ true → (f : ℕ) → f < length l → ((slice_index_or l f idle).visited ≡ true) × ((slice_index_or l f idle).left_to_write ≡ false)
 ended_at [] e f low = absurd (omega arith)
-ended_at (x ∷ l) e zero low = (first x.passed x.left_to_write (all_ended l) e, second x.passed x.left_to_write (all_ended l) e)
+ended_at (x ∷ l) e zero low = (first x.visited x.left_to_write (all_ended l) e, second x.visited x.left_to_write (all_ended l) e)
   where
     first : (a b c : Bool) → (a && not b && c) ≡ true → a ≡ true
     first true b c e = refl
@@ -49,7 +49,7 @@ ended_at (x ∷ l) e zero low = (first x.passed x.left_to_write (all_ended l) e,
     second a false c e = refl
     second true true c e = absurd (cc)
     second false true c e = absurd (cc)
-ended_at (x ∷ l) e (suc f) low = ended_at l (third x.passed x.left_to_write (all_ended l) e) f (omega arith)
+ended_at (x ∷ l) e (suc f) low = ended_at l (third x.visited x.left_to_write (all_ended l) e) f (omega arith)
   where
     third : (a b c : Bool) → (a && not b && c) ≡ true → c ≡ true
     third true false c e = e

@@ -13,7 +13,7 @@ use Rattle.history_core.specs.Log.{record_size}
 use Rattle.history_core.specs.State.{State, stored, synced_upto}
 use Rattle.history_core.specs.Lanes.{take_lane, leave_lane, lane_out, sync_lane, lane_back}
 use Rattle.history_core.specs.Swept.{has_swept}
-use Rattle.history_core.specs.Debts.{has_passed, has_left_to_write}
+use Rattle.history_core.specs.Debts.{has_visited, has_left_to_write}
 use Rattle.history_core.specs.Steps as steps
 use Rattle.history_core.specs.Steps.{Event, lane, load_flushed, begin_checkpoint, Run}
 use Rattle.history_core.specs.Sample.{sample_lane}
@@ -50,7 +50,7 @@ pub record HasStored (p : Page) (t : State) : Type 0 where
   -- nothing is left of the second backend
   pub joined : get_elem? t.pool.core.views 1 ≡ some emptied_view
   -- but its checkpoint, the only one that the first keeps: it began at the entry's end, has visited the frame, which is no longer left to write, and has swept the lane up to there
-  pub ended : (v : View) × (c : Checkpoint) × (get_elem? t.pool.core.views 0 ≡ some v) × (v.kept ≡ c ∷ []) × (c.upto ≡ record_size) × (has_passed c 0 ≡ true) × (has_left_to_write c 0 ≡ false) × (has_swept c 0 ≡ record_size)
+  pub ended : (v : View) × (c : Checkpoint) × (get_elem? t.pool.core.views 0 ≡ some v) × (v.kept ≡ c ∷ []) × (c.upto ≡ record_size) × (has_visited c 0 ≡ true) × (has_left_to_write c 0 ≡ false) × (has_swept c 0 ≡ record_size)
 
 abbrev pub CheckpointRuns : Type 0
 CheckpointRuns = (p : Page) → IsPut p → (t : State) × Run (miss ++ fill ++ change p ++ flush p ++ begin ++ write p ++ drop ++ sync ++ join) miss_start t × HasStored p t

@@ -119,10 +119,10 @@ lane_after sync_lane ln = record ln { synced_upto = ln.stored_upto }
 lane_after (fail_sync n) ln = record ln { write_faults = n }
 lane_after _ ln = ln
 
--- whether a checkpoint has passed the frame of each link, and none is left that it has still to write
+-- whether a checkpoint has visited the frame of each link, and none is left that it has still to write
 abbrev pub all_ended : List Link → Bool
 all_ended [] = true
-all_ended (l ∷ ls) = l.passed && not l.left_to_write && all_ended ls
+all_ended (l ∷ ls) = l.visited && not l.left_to_write && all_ended ls
 
 -- the position where a view's checkpoint began, if it has nothing left to write
 abbrev pub swept_by : View → ℕ

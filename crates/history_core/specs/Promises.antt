@@ -14,7 +14,7 @@ use Rattle.page_core.specs.Steps as page_steps
 use Rattle.history_core.specs.Log.{Entry, end_of, cell, cut, head_size}
 use Rattle.history_core.specs.State.{State, stored, synced_upto, failed}
 use Rattle.history_core.specs.Swept.{has_swept}
-use Rattle.history_core.specs.Debts.{has_passed, has_left_to_write}
+use Rattle.history_core.specs.Debts.{has_visited, has_left_to_write}
 use Rattle.history_core.specs.Steps.{Event, pool, Step, Run}
 
 -- none of the events is the unpin of the frame f by backend i
@@ -62,7 +62,7 @@ AreSynced s upto = (k : ℕ) (e : Entry) → get_elem? s.log.entries k ≡ some 
 abbrev pub SweepsStore : State → Type 0
 SweepsStore s = (i upto : ℕ) (v : View) → get_elem? s.pool.core.views i ≡ some v → ((n : ℕ) → n < s.lanes → upto ≤ (lane_hold v n).swept) ⊎ ((k : ℕ) × (c : Checkpoint) × (get_elem? v.kept k ≡ some c) × ((n : ℕ) → n < s.lanes → upto ≤ has_swept c n)) → AreSynced s upto × AreStored s upto
 
--- What a checkpoint says at its end, when it has passed every frame and none is left that it has still to write: its own, or that of a backend that was joined into another
+-- What a checkpoint says at its end, when it has visited every frame and none is left that it has still to write: its own, or that of a backend that was joined into another
 pub record CheckpointsStore (s : State) : Type 0 where
-  pub own : (i : ℕ) (v : View) → get_elem? s.pool.core.views i ≡ some v → ((f : ℕ) → f < s.pool.core.frames → ((link v f).passed ≡ true) × ((link v f).left_to_write ≡ false)) → AreStored s v.upto
-  pub kept : (i k : ℕ) (v : View) (c : Checkpoint) → get_elem? s.pool.core.views i ≡ some v → get_elem? v.kept k ≡ some c → ((f : ℕ) → f < s.pool.core.frames → (has_passed c f ≡ true) × (has_left_to_write c f ≡ false)) → AreStored s c.upto
+  pub own : (i : ℕ) (v : View) → get_elem? s.pool.core.views i ≡ some v → ((f : ℕ) → f < s.pool.core.frames → ((link v f).visited ≡ true) × ((link v f).left_to_write ≡ false)) → AreStored s v.upto
+  pub kept : (i k : ℕ) (v : View) (c : Checkpoint) → get_elem? s.pool.core.views i ≡ some v → get_elem? v.kept k ≡ some c → ((f : ℕ) → f < s.pool.core.frames → (has_visited c f ≡ true) × (has_left_to_write c f ≡ false)) → AreStored s c.upto

@@ -212,7 +212,7 @@ has_written end tag p v = record v { calls = v.calls ++ Write v.number tag p end
 
 -- a checkpoint that begins has visited no frame, and none is left for it to write
 abbrev pub unmarked : Link → Link
-unmarked l = record l { passed = false; left_to_write = false }
+unmarked l = record l { visited = false; left_to_write = false }
 
 -- a view whose checkpoint begins where the log ends at `end`
 abbrev pub has_begun : ℕ → View → View

@@ -199,7 +199,7 @@ pub record CanClearWaiter (fr : Frame) (l : Link) : Type 0 where
   pub awaited : fr.word.awaited ≡ true
   pub single : fr.word.pins ≡ 1
 
--- a dirty frame, whether the view's checkpoint has passed it or not: a load while the view waited for the header may have
+-- a dirty frame, whether the view's checkpoint has visited it or not: a load while the view waited for the header may have
 pub record CanNeedCheckpoint (fr : Frame) (l : Link) : Type 0 where
   pub held : l.header ≡ Some fr.word
   pub settled : l.pending ≡ false
@@ -307,7 +307,7 @@ link_after clear_just_dirtied b fr l = record l { header = None }
 link_after (end_io end) b fr l = record l { seen_valid = saw_valid end l.seen_valid; header = None; io = Quiet; read = None; read_is_home = false; last_write = Unwritten }
 link_after (set_waiter number) b fr l = record l { header = None; waits = Some number }
 link_after clear_waiter b fr l = record l { header = None }
-link_after need_checkpoint b fr l = record l { header = None; passed = true; left_to_write = true }
+link_after need_checkpoint b fr l = record l { header = None; visited = true; left_to_write = true }
 
 -- whether a kind marks the frame dirty: a page may have to be written
 abbrev pub dirties : Kind → Bool

@@ -181,7 +181,7 @@ abbrev pub link_after : Kind → Frame → Link → Link
 link_after load_state fr l = record l {
   seen_valid = seen_valid_after l.pending l.role fr.word.valid l.seen_valid;
   waits = wait_after fr.word l.waits;
-  passed = l.passed || not fr.word.dirty;
+  visited = l.visited || not fr.word.dirty;
   left_to_write = l.left_to_write && fr.word.checkpoint_needed;
 }
 link_after (pin ring) fr l = record l { role = HandedOut; ring = ring }

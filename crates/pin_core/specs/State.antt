@@ -92,7 +92,7 @@ idle = record {
   out = None;
   overwritten = None;
   waits = None;
-  passed = false;
+  visited = false;
   left_to_write = false;
 }
 
@@ -171,7 +171,7 @@ sum_of_met a b = record { reads = a.reads + b.reads; writes = a.writes + b.write
 
 -- the checkpoint of a view, as it is kept when the view is joined into the first
 abbrev pub kept_checkpoint : View → Checkpoint
-kept_checkpoint u = record { number = u.number; upto = u.upto; passed = map (λ (l : Link). l.passed) u.links; left_to_write = map (λ (l : Link). l.left_to_write) u.links; swept = map (λ (h : LaneHold). h.swept) u.lanes }
+kept_checkpoint u = record { number = u.number; upto = u.upto; visited = map (λ (l : Link). l.visited) u.links; left_to_write = map (λ (l : Link). l.left_to_write) u.links; swept = map (λ (h : LaneHold). h.swept) u.lanes }
 
 -- the first view v with what it keeps of the view u
 abbrev pub joined_view : View → View → View

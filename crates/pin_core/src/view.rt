@@ -68,8 +68,8 @@ pub struct Link {
     pub overwritten: Option<[u8; 0]>,
     /// The number under which the backend waits here for its pin to be the only one.
     pub waits: Option<u64>,
-    /// The backend's checkpoint has passed the frame.
-    pub passed: bool,
+    /// The backend's checkpoint has visited the frame.
+    pub visited: bool,
     /// The frame is one that the backend's checkpoint has still to write.
     pub left_to_write: bool,
 }
@@ -273,8 +273,8 @@ pub struct FailedCalls {
 pub struct Checkpoint {
     pub number: u64,
     pub upto: u64,
-    /// For each frame, whether it was passed.
-    pub passed: [bool; 0],
+    /// For each frame, whether it was visited.
+    pub visited: [bool; 0],
     /// For each frame, whether it is one that has still to be written.
     pub left_to_write: [bool; 0],
     /// For each lane, the largest position where a checkpoint began that had nothing left to write as the lane was synced, or 0.

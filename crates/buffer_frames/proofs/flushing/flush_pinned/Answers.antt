@@ -39,7 +39,7 @@ returns-clause-met g c = c.flush_shared.ensures.met ∙ ap (λ (x : View). met_f
 
 pub returns-clause-notes : goal.returns-clause-notes
 returns-clause-notes g c = let f = c.args.frame in let e = c.share.ensures.shared in
-    notes_on (link c.args.seat.now.me.0 f) (link c.share.new.seat.me.0 f) (link c.flush_shared.new.seat.me.0 f) (notes_by (link c.args.seat.now.me.0 f) (link c.share.new.seat.me.0 f) (ap (λ (l : Link). l.passed) e) (ap (λ (l : Link). l.left_to_write) e)) c.flush_shared.ensures.notes
+    notes_on (link c.args.seat.now.me.0 f) (link c.share.new.seat.me.0 f) (link c.flush_shared.new.seat.me.0 f) (notes_by (link c.args.seat.now.me.0 f) (link c.share.new.seat.me.0 f) (ap (λ (l : Link). l.visited) e) (ap (λ (l : Link). l.left_to_write) e)) c.flush_shared.ensures.notes
 
 pub returns-clause-ended : goal.returns-clause-ended
 returns-clause-ended g c = error_after c.args.frame c.args.seat.now.me.0 c.share.new.seat.me.0 c.flush_shared.new.seat.me.0 c.flush_shared.result (rises_touched c.args.frame c.args.seat.now.me.0 c.share.new.seat.me.0 c.share.ensures.touches) c.flush_shared.ensures.ended

@@ -131,7 +131,7 @@ returns-in-Err-clause-ended g c = let f = c.args.frame in let u = c.unshare-2.en
 
 pub returns-in_default-clause-notes : goal.returns-in_default-clause-notes
 returns-in_default-clause-notes g c = let f = c.args.frame in let e = c.unshare.ensures.unshared in
-    notes_on (link c.args.seat.now.me.0 f) (link c.start_io.new.seat.me.0 f) (link c.unshare.new.seat.me.0 f) (notes_looked (link c.args.seat.now.me.0 f) (link c.start_io.new.seat.me.0 f) c.in_default.ensures.left) (notes_by (link c.start_io.new.seat.me.0 f) (link c.unshare.new.seat.me.0 f) (ap (λ (l : Link). l.passed) e) (ap (λ (l : Link). l.left_to_write) e))
+    notes_on (link c.args.seat.now.me.0 f) (link c.start_io.new.seat.me.0 f) (link c.unshare.new.seat.me.0 f) (notes_looked (link c.args.seat.now.me.0 f) (link c.start_io.new.seat.me.0 f) c.in_default.ensures.left) (notes_by (link c.start_io.new.seat.me.0 f) (link c.unshare.new.seat.me.0 f) (ap (λ (l : Link). l.visited) e) (ap (λ (l : Link). l.left_to_write) e))
 
 pub returns-in_default-clause-written : goal.returns-in_default-clause-written
 returns-in_default-clause-written g c = λ same. (let no : false ≡ true = same in absurd (cc))
@@ -139,12 +139,12 @@ returns-in_default-clause-written g c = λ same. (let no : false ≡ true = same
 pub returns-in-Ok-clause-notes : goal.returns-in-Ok-clause-notes
 returns-in-Ok-clause-notes g c = let f = c.args.frame in let v = c.args.seat.now.me.0 in let u = c.start_io.new.seat.me.0 in let w = c.write_out-written.new.seat.me.0 in let e = c.unshare-2.ensures.unshared in
     let written = subst (λ (x : ℕ). KeepsNotes (link u x) (link w x)) c.in-Some.ensures.right.0 c.write_out-written.ensures.notes in
-    notes_on (link v f) (link w f) (link c.unshare-2.new.seat.me.0 f) (notes_on (link v f) (link u f) (link w f) (notes_begun (link v f) (link u f) c.in-Some.ensures.begun) written) (notes_by (link w f) (link c.unshare-2.new.seat.me.0 f) (ap (λ (l : Link). l.passed) e) (ap (λ (l : Link). l.left_to_write) e))
+    notes_on (link v f) (link w f) (link c.unshare-2.new.seat.me.0 f) (notes_on (link v f) (link u f) (link w f) (notes_begun (link v f) (link u f) c.in-Some.ensures.begun) written) (notes_by (link w f) (link c.unshare-2.new.seat.me.0 f) (ap (λ (l : Link). l.visited) e) (ap (λ (l : Link). l.left_to_write) e))
 
 pub returns-in-Err-clause-notes : goal.returns-in-Err-clause-notes
 returns-in-Err-clause-notes g c = let f = c.args.frame in let v = c.args.seat.now.me.0 in let u = c.start_io.new.seat.me.0 in let w = c.write_out-written.new.seat.me.0 in let e = c.unshare-2.ensures.unshared in
     let written = subst (λ (x : ℕ). KeepsNotes (link u x) (link w x)) c.in-Some.ensures.right.0 c.write_out-written.ensures.notes in
-    notes_on (link v f) (link w f) (link c.unshare-2.new.seat.me.0 f) (notes_on (link v f) (link u f) (link w f) (notes_begun (link v f) (link u f) c.in-Some.ensures.begun) written) (notes_by (link w f) (link c.unshare-2.new.seat.me.0 f) (ap (λ (l : Link). l.passed) e) (ap (λ (l : Link). l.left_to_write) e))
+    notes_on (link v f) (link w f) (link c.unshare-2.new.seat.me.0 f) (notes_on (link v f) (link u f) (link w f) (notes_begun (link v f) (link u f) c.in-Some.ensures.begun) written) (notes_by (link w f) (link c.unshare-2.new.seat.me.0 f) (ap (λ (l : Link). l.visited) e) (ap (λ (l : Link). l.left_to_write) e))
 
 pub returns-in-Ok-clause-written : goal.returns-in-Ok-clause-written
 returns-in-Ok-clause-written g c = λ wrote. (let f = c.args.frame in let u = c.unshare-2.ensures in

@@ -119,14 +119,14 @@ returns-in-Err-clause-ended g c = let e = c.end_io-in-Err.ensures in
 pub returns-in-Ok-clause-notes : goal.returns-in-Ok-clause-notes
 returns-in-Ok-clause-notes g c = let f = c.frame-frame.result in let r = c.args.right.frame in let v = c.args.seat.now.me.0 in let w = c.write_logged.new.seat.me.0 in
     let cleared = c.clear_just.ensures.notes in
-    let copied = notes_by (link c.clear_just.new.seat.me.0 f) (link c.copy_out.new.seat.me.0 f) (ap (λ (l : Link). l.passed) c.copy_out.ensures.copied) (ap (λ (l : Link). l.left_to_write) c.copy_out.ensures.copied) in
+    let copied = notes_by (link c.clear_just.new.seat.me.0 f) (link c.copy_out.new.seat.me.0 f) (ap (λ (l : Link). l.visited) c.copy_out.ensures.copied) (ap (λ (l : Link). l.left_to_write) c.copy_out.ensures.copied) in
     let written = notes_on (link v f) (link c.copy_out.new.seat.me.0 f) (link w f) (notes_on (link v f) (link c.clear_just.new.seat.me.0 f) (link c.copy_out.new.seat.me.0 f) cleared copied) c.write_logged.ensures.notes in
     notes_on (link v r) (link w r) (link c.end_io.new.seat.me.0 r) (subst (λ (x : ℕ). KeepsNotes (link v x) (link w x)) c.frame-frame.ensures written) (notes_ended io_end.WriteOk (link w r) (link c.end_io.new.seat.me.0 r) c.end_io.ensures.ended)
 
 pub returns-in-Err-clause-notes : goal.returns-in-Err-clause-notes
 returns-in-Err-clause-notes g c = let f = c.frame-frame.result in let r = c.args.right.frame in let v = c.args.seat.now.me.0 in let w = c.write_logged.new.seat.me.0 in
     let cleared = c.clear_just.ensures.notes in
-    let copied = notes_by (link c.clear_just.new.seat.me.0 f) (link c.copy_out.new.seat.me.0 f) (ap (λ (l : Link). l.passed) c.copy_out.ensures.copied) (ap (λ (l : Link). l.left_to_write) c.copy_out.ensures.copied) in
+    let copied = notes_by (link c.clear_just.new.seat.me.0 f) (link c.copy_out.new.seat.me.0 f) (ap (λ (l : Link). l.visited) c.copy_out.ensures.copied) (ap (λ (l : Link). l.left_to_write) c.copy_out.ensures.copied) in
     let written = notes_on (link v f) (link c.copy_out.new.seat.me.0 f) (link w f) (notes_on (link v f) (link c.clear_just.new.seat.me.0 f) (link c.copy_out.new.seat.me.0 f) cleared copied) c.write_logged.ensures.notes in
     notes_on (link v r) (link w r) (link c.end_io-in-Err.new.seat.me.0 r) (subst (λ (x : ℕ). KeepsNotes (link v x) (link w x)) c.frame-frame.ensures written) (notes_ended io_end.Bad (link w r) (link c.end_io-in-Err.new.seat.me.0 r) c.end_io-in-Err.ensures.ended)
 

@@ -72,5 +72,5 @@ returns-clause-flushes g c =
     let k = subst (λ (h : ℕ). Touches h x w) p.pin c.unpin_and_wake.ensures.touches in
     let a = subst (λ (h : ℕ). Looked (unpinned_link (link x h)) (link w h)) p.pin c.unpin_and_wake.ensures.unpinned in
     flushes_then {L = g.row.L.Denot} {G = g.row.G.Denot} g.L.BlockLane.contents c.args.table.now f v x w c.flush_seen-answer.result
-    (flushes_on {L = g.row.L.Denot} {G = g.row.G.Denot} g.L.BlockLane.contents c.args.table.now f v u x c.flush_seen-answer.result p.touches p.marks (notes_by (link v f) (link u f) (ap (λ (l : Link). l.passed) p.pinned) (ap (λ (l : Link). l.left_to_write) p.pinned)) c.flush_seen-answer.ensures.flushes)
+    (flushes_on {L = g.row.L.Denot} {G = g.row.G.Denot} g.L.BlockLane.contents c.args.table.now f v u x c.flush_seen-answer.result p.touches p.marks (notes_by (link v f) (link u f) (ap (λ (l : Link). l.visited) p.pinned) (ap (λ (l : Link). l.left_to_write) p.pinned)) c.flush_seen-answer.ensures.flushes)
     k c.unpin_and_wake.ensures.marks (notes_unpinned (link x f) (link w f) a)

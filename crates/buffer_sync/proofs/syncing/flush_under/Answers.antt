@@ -59,7 +59,7 @@ returns-then-is_own-clause-flushes g c =
     let v = c.args.seat.now.me.0 in
     let u = c.tag_shown-tag.new.seat.me.0 in
     let x = c.unlock_header.new.seat.me.0 in
-    flushes_on {L = g.row.L.Denot} {G = g.row.G.Denot} g.L.BlockLane.contents c.args.table.now f v x c.flush_seen.new.seat.me.0 _ (touches_on f v u x e.touches h.touches) (h.marks ∙ e.marks) (notes_on (link v f) (link u f) (link x f) (notes_by (link v f) (link u f) (ap (λ (l : Link). l.passed) e.read) (ap (λ (l : Link). l.left_to_write) e.read)) (notes_by (link u f) (link x f) (ap (λ (l : Link). l.passed) h.unlocked) (ap (λ (l : Link). l.left_to_write) h.unlocked))) c.flush_seen.ensures.flushes
+    flushes_on {L = g.row.L.Denot} {G = g.row.G.Denot} g.L.BlockLane.contents c.args.table.now f v x c.flush_seen.new.seat.me.0 _ (touches_on f v u x e.touches h.touches) (h.marks ∙ e.marks) (notes_on (link v f) (link u f) (link x f) (notes_by (link v f) (link u f) (ap (λ (l : Link). l.visited) e.read) (ap (λ (l : Link). l.left_to_write) e.read)) (notes_by (link u f) (link x f) (ap (λ (l : Link). l.visited) h.unlocked) (ap (λ (l : Link). l.left_to_write) h.unlocked))) c.flush_seen.ensures.flushes
 
 pub flush_anew-requires-clause-stands : goal.flush_anew-requires-clause-stands
 flush_anew-requires-clause-stands g c = stands_self _ c.args.seat.now c.tag_shown-tag.new.seat c.tag_shown-tag.ensures.seat c.tag_shown-tag.ensures.touches.self c.requires.stands
@@ -88,4 +88,4 @@ returns-clause-flushes g c =
     let f = c.args.frame in
     let v = c.args.seat.now.me.0 in
     let u = c.tag_shown-tag.new.seat.me.0 in
-    flushes_on {L = g.row.L.Denot} {G = g.row.G.Denot} g.L.BlockLane.contents c.args.table.now f v u c.flush_anew.new.seat.me.0 _ e.touches e.marks (notes_by (link v f) (link u f) (ap (λ (l : Link). l.passed) e.read) (ap (λ (l : Link). l.left_to_write) e.read)) c.flush_anew.ensures.flushes
+    flushes_on {L = g.row.L.Denot} {G = g.row.G.Denot} g.L.BlockLane.contents c.args.table.now f v u c.flush_anew.new.seat.me.0 _ e.touches e.marks (notes_by (link v f) (link u f) (ap (λ (l : Link). l.visited) e.read) (ap (λ (l : Link). l.left_to_write) e.read)) c.flush_anew.ensures.flushes

@@ -3,7 +3,7 @@ use Rattle.frame_table.specs.Seats.{frames_of}
 use Rattle.backend_pass.specs.Passes.{PassState}
 use Rattle.checkpointer.specs.Marked.{AreMarked}
 use Rattle.checkpointer.proofs.Keeping.{marks_on}
-use Rattle.checkpointer.proofs.MarkedFrames.{inside_moved, marked_moved, passed_more}
+use Rattle.checkpointer.proofs.MarkedFrames.{inside_moved, marked_moved, visited_more}
 use Rattle.checkpointer.proofs.marking.mark_frames.Goals as goal
 
 pub loop-frame-preserved : goal.loop-frame-preserved
@@ -12,7 +12,7 @@ loop-frame-preserved g c =
     let e = c.mark_frame.ensures in
     record {
       marks = marks_on {L = g.row.L.Denot} {G = g.row.G.Denot} g.L.BlockLane.contents c.args.manager.now c.args.pass.now c.loop-frame.pass c.mark_frame.new.pass i.marks e.marks;
-      passed = passed_more c.loop-frame.frame c.loop-frame.pass.view c.mark_frame.new.pass.view e.others i.passed e.passed;
+      visited = visited_more c.loop-frame.frame c.loop-frame.pass.view c.mark_frame.new.pass.view e.others i.visited e.visited;
       marked = e.marked i.marked;
       inside = e.inside i.inside;
       room = e.room;

@@ -24,8 +24,8 @@ returns-clause-marks g c = did_marks looking tt _ _ _ _ c.look_at.ensures.did
 pub returns-clause-over : goal.returns-clause-over
 returns-clause-over g c = sees_over _ _ _ _ c.look_at.ensures.did
 
-pub returns-clause-passed : goal.returns-clause-passed
-returns-clause-passed g c = passes_clean _ _ _ _ c.look_at.ensures.did
+pub returns-clause-visited : goal.returns-clause-visited
+returns-clause-visited g c = passes_clean _ _ _ _ c.look_at.ensures.did
 
 pub returns-clause-written : goal.returns-clause-written
 returns-clause-written g c = need_not_write _ _ _ _ c.look_at.ensures.did
