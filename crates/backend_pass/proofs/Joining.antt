@@ -9,7 +9,7 @@ use Rattle.pin_core.specs.declared.view.View.{View}
 use Rattle.pin_core.specs.declared.view.LaneHold.{LaneHold}
 use Rattle.pin_core.specs.declared.view.LogHold.{LogHold}
 use Rattle.pin_core.specs.State.{emptied_view, joined_view, sum_of_met, no_partition, idle, no_lane}
-use Rattle.pin_core.specs.Steps.{HoldsNothing, IsFree}
+use Rattle.pin_core.specs.Steps.{HoldsNothing, HoldsNothingAt}
 use Rattle.held_pins.specs.Tokens.{no_tokens}
 use Rattle.held_pins.specs.Rests.{Rests}
 use Rattle.backend_pass.specs.Passes.{PassState}
@@ -149,7 +149,7 @@ joins v (p ∷ ps) = let r = joins (joined_view v p.view) ps in record {
 -- the first pass takes in all others, and may close the table
 pub joined_hold_nothing : (v w : View) (ps : List PassState) → Joins v w ps → HoldsNothing v → HoldsNothing w
 joined_hold_nothing v w ps j h = record {
-  frames = λ f. subst (λ l. IsFree (get_or l f idle)) (sym j.links) (h.frames f);
+  frames = λ f. subst (λ l. HoldsNothingAt (get_or l f idle)) (sym j.links) (h.frames f);
   partitions = λ p. ap (λ l. (get_or l p no_partition).held) j.partitions ∙ h.partitions p;
   lanes = λ n. ap (λ (l : List LaneHold). (get_or l n no_lane).held) j.lanes ∙ h.lanes n;
   log = ap (λ (l : LogHold). l.held) j.log ∙ h.log;

@@ -11,7 +11,7 @@ use Rattle.pin_core.specs.State.{link}
 use Rattle.segment_store.specs.Contents.{Pages}
 use Rattle.frame_table.specs.Seats.{Looked, MayUnpin, OnlyRises, SameMarks, SameSelf, Touches, unpinned_link, base_of, relations_of}
 use Rattle.held_pins.specs.Tokens.{HeldFrame, Tokens, held_at, tokens_less, tokens_more, tokens_of}
-use Rattle.held_pins.specs.Rests.{IsCalm, LinkRests, Rests, role_of}
+use Rattle.held_pins.specs.Rests.{HasAtMostLock, LinkRests, Rests, role_of}
 use Rattle.held_pins.proofs.HeldLists.{less_others, less_tag, more_tags}
 use Rattle.held_pins.proofs.Keeping.{beside, beside_touched, devices_touched, latches_same, link_looked, rests_less, rests_without}
 use Rattle.frame_table.proofs.Rising.{rises_none, rises_touched}
@@ -44,7 +44,7 @@ may_unpin o h l e unlocked r = record {
     handed e = cc
 
 -- what is left rests
-unpinned_rests : (l : Link) → IsCalm l → l.content ≡ Unlocked → LinkRests None (unpinned_link l)
+unpinned_rests : (l : Link) → HasAtMostLock l → l.content ≡ Unlocked → LinkRests None (unpinned_link l)
 unpinned_rests l c unlocked = record {
   calm = record { no_header = c.no_header; assigned = c.assigned; no_copy = c.no_copy; applied = c.applied; no_io = c.no_io; page_home = c.page_home; no_wait = c.no_wait };
   role = refl;

@@ -28,7 +28,7 @@ use Rattle.backend_pass.specs.Managers.{Belongs}
 use Rattle.backend_pass.specs.Passes.{KeepsCallers, KeepsMark, PassState, SamePass}
 use Rattle.backend_pass.specs.Reading.{NothingFails}
 use Rattle.backend_pass.proofs.Seated.{same_on}
-use Rattle.bg_writer.specs.Rounds.{Looked, Rounds, next, none, pages_of, pages_of_all}
+use Rattle.bg_writer.specs.Rounds.{LookedInOrder, Rounds, next, none, pages_of, pages_of_all}
 
 -- calls of devices, one after another
 pages_both : (a b : List DeviceCall) → pages_written (a ++ b) ≡ pages_written a + pages_written b
@@ -104,7 +104,7 @@ module _ {L G : Type 0} (contents : L → Option Pages) (m : Manager L G) where
     pub loaded : View
     pub loads : DidWord load_hand p.view loaded hand
     pub came : List Synced
-    pub looks : Looked contents m.table hand p.view loaded came q.view
+    pub looks : LookedInOrder contents m.table hand p.view loaded came q.view
     pub counted : length came ≡ places
     pub pages : pages_of_all came ≡ written
     pub writes : WritesPages written p.view q.view

@@ -27,14 +27,14 @@ pages_of_all (synced ∷ came) = pages_of synced + pages_of_all came
 
 module _ {L G : Type 0} (contents : L → Option Pages) (t : FrameTable L G) where
   -- Beginning with the one at which the hand points, frames were looked at in order, and this came of them, while the view pinned what it pinned in `start` at each look
-  pub data Looked (hand : ℕ) (start v : View) : List Synced → View → Type 0 where
-    none : Looked hand start v [] v
-    next : {u w : View} (came : List Synced) (synced : Synced) → Looked hand start v came u → SamePins start u → SyncsFrame contents t NotRecentlyUsed ((hand + length came) % frames_of t) u w (Ok synced) → Looked hand start v (came ++ synced ∷ []) w
+  pub data LookedInOrder (hand : ℕ) (start v : View) : List Synced → View → Type 0 where
+    none : LookedInOrder hand start v [] v
+    next : {u w : View} (came : List Synced) (synced : Synced) → LookedInOrder hand start v came u → SamePins start u → SyncsFrame contents t NotRecentlyUsed ((hand + length came) % frames_of t) u w (Ok synced) → LookedInOrder hand start v (came ++ synced ∷ []) w
 
   -- The round ended: it had looked at all frames, or had written 100 pages
   pub record EndsRound (hand : ℕ) (start v w : View) (round : Round) : Type 0 where
     pub came : List Synced
-    pub looks : Looked hand start v came w
+    pub looks : LookedInOrder hand start v came w
     pub looked : length came ≡ round.looked
     pub written : pages_of_all came ≡ round.written
     pub within : (round.looked ≤ frames_of t) × (round.written ≤ 100)
@@ -45,7 +45,7 @@ module _ {L G : Type 0} (contents : L → Option Pages) (t : FrameTable L G) whe
     pub came : List Synced
     pub before : View
     pub since : OnlyRises start before
-    pub looks : Looked hand start v came before
+    pub looks : LookedInOrder hand start v came before
     pub left : (length came < frames_of t) × (pages_of_all came < 100)
     pub pins : SamePins start before
     pub refused : SyncsFrame contents t NotRecentlyUsed ((hand + length came) % frames_of t) before w (Err (frame_refusal why))

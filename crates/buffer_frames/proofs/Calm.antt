@@ -8,7 +8,7 @@ use Rattle.pin_core.specs.declared.view.Role.TheVariants.{Absent, HandedOut, Vic
 use Rattle.pin_core.specs.declared.view.Content.TheVariants.{Unlocked}
 use Rattle.pin_core.specs.State.{link}
 use Rattle.frame_table.specs.Seats.{Looked, unpinned_link}
-use Rattle.held_pins.specs.Rests.{IsCalm, LinkRests, LinksRest, LinksRestBeside, role_of}
+use Rattle.held_pins.specs.Rests.{HasAtMostLock, LinkRests, LinksRest, LinksRestBeside, role_of}
 use Rattle.held_pins.specs.Tokens.{HeldFrame, Tokens, held_at}
 use Rattle.held_pins.proofs.Keeping.{beside_kept, calm_looked, link_same, rests_with}
 use Rattle.buffer_frames.specs.Stages.{HasVictim, Pins}
@@ -18,7 +18,7 @@ pub pins_worked : (t : Tokens) (tag f : ℕ) (v w : View) → w.links ≡ v.link
 pins_worked t tag f v w e p = let same = link_same v w e in record {
   others = beside_kept f t v w (λ g n. same g) p.others;
   new = p.new;
-  calm = subst IsCalm (sym (same f)) p.calm;
+  calm = subst HasAtMostLock (sym (same f)) p.calm;
   unlocked = ap (λ (l : Link). l.content) (same f) ∙ p.unlocked;
   role = ap (λ (l : Link). l.role) (same f) ∙ p.role;
   remembered = ap (λ (l : Link). l.tag) (same f) ∙ p.remembered;
@@ -28,7 +28,7 @@ pub victim_worked : (t : Tokens) (f : ℕ) (v w : View) → w.links ≡ v.links 
 victim_worked t f v w e p = let same = link_same v w e in record {
   others = beside_kept f t v w (λ g n. same g) p.others;
   new = p.new;
-  calm = subst IsCalm (sym (same f)) p.calm;
+  calm = subst HasAtMostLock (sym (same f)) p.calm;
   unlocked = ap (λ (l : Link). l.content) (same f) ∙ p.unlocked;
   role = ap (λ (l : Link). l.role) (same f) ∙ p.role;
 }
@@ -38,7 +38,7 @@ pub victim_looked : (t : Tokens) (f : ℕ) (v w : View) → HasVictim f t v → 
 victim_looked t f v w p same a = record { others = beside_kept f t v w same p.others; new = p.new; calm = calm_looked (link v f) (link w f) a p.calm; unlocked = a.content ∙ p.unlocked; role = a.role ∙ p.role }
 
 -- A frame of which callers have no tokens is given up
-pub rests_unpinned : (l m : Link) → Looked (unpinned_link l) m → IsCalm l → l.content ≡ Unlocked → LinkRests None m
+pub rests_unpinned : (l m : Link) → Looked (unpinned_link l) m → HasAtMostLock l → l.content ≡ Unlocked → LinkRests None m
 rests_unpinned l m a c unlocked = record {
   calm = calm_looked (unpinned_link l) m a record { no_header = c.no_header; assigned = c.assigned; no_copy = c.no_copy; applied = c.applied; no_io = c.no_io; page_home = c.page_home; no_wait = c.no_wait };
   role = a.role;
@@ -47,7 +47,7 @@ rests_unpinned l m a c unlocked = record {
   unlocked = λ none. a.content ∙ unlocked;
 }
 
-frame_unpinned : (t : Tokens) (f : ℕ) (v w : View) → LinksRestBeside f t v → held_at t f ≡ None → IsCalm (link v f) → (link v f).content ≡ Unlocked → ((g : ℕ) → g ≢ f → link w g ≡ link v g) → Looked (unpinned_link (link v f)) (link w f) → LinksRest t w
+frame_unpinned : (t : Tokens) (f : ℕ) (v w : View) → LinksRestBeside f t v → held_at t f ≡ None → HasAtMostLock (link v f) → (link v f).content ≡ Unlocked → ((g : ℕ) → g ≢ f → link w g ≡ link v g) → Looked (unpinned_link (link v f)) (link w f) → LinksRest t w
 frame_unpinned t f v w others new calm unlocked same looked = rests_with f t w (beside_kept f t v w same others) (subst (λ (o : Option HeldFrame). LinkRests o (link w f)) (sym new) (rests_unpinned (link v f) (link w f) looked calm unlocked))
 
 pub victim_unpinned : (t : Tokens) (f : ℕ) (v w : View) → HasVictim f t v → ((g : ℕ) → g ≢ f → link w g ≡ link v g) → Looked (unpinned_link (link v f)) (link w f) → LinksRest t w

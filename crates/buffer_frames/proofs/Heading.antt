@@ -11,7 +11,7 @@ use Rattle.pin_core.specs.State.{link}
 use Rattle.pin_core.specs.Steps.{HasNoVictim, HoldsNoHeader}
 use Rattle.frame_table.specs.Seats.{HoldsNumber, HoldsWord, IsWordOf, Looked, assigned_link, cleared_link, locked_link, stored_link, unlocked_link, victim_link}
 use Rattle.clock_sweep.specs.Keeping.{GetsHeader}
-use Rattle.held_pins.specs.Rests.{IsCalm, LinksRest, LinksRestBeside}
+use Rattle.held_pins.specs.Rests.{HasAtMostLock, LinksRest, LinksRestBeside}
 use Rattle.held_pins.specs.Tokens.{Tokens, held_at}
 use Rattle.held_pins.proofs.Keeping.{beside, beside_kept, beside_looked, link_same}
 use Rattle.buffer_frames.specs.Stages.{HasVictim, Pins}
@@ -25,24 +25,24 @@ pub headless_victim : (t : Tokens) (f : ℕ) (v : View) → HasVictim f t v → 
 headless_victim t f v p g = dite (ℕ_discrete g f) (λ e. subst (λ (x : ℕ). (link v x).header ≡ None) (sym e) p.calm.no_header) (λ n. (p.others g n).calm.no_header)
 
 -- The header of a frame with nothing but a pin is locked
-module _ (l m : Link) (word : ℕ) (locked : Looked (locked_link word l) m) (c : IsCalm l) where
+module _ (l m : Link) (word : ℕ) (locked : Looked (locked_link word l) m) (c : HasAtMostLock l) where
   pub knows_word : (P : StateWord → Type 0) → P (fields word) → HoldsWord P m
   knows_word P holds = record {
     held = λ none. let no : Some (fields word) ≡ None = sym locked.header ∙ none in absurd (cc);
     knows = λ w e. let same : Some (fields word) ≡ Some w = sym locked.header ∙ e in subst P (cc) holds;
   }
 
-  pub calm_pinned : (n : Link) → n ≡ victim_link m → IsCalm n
-  calm_pinned n e = subst IsCalm (sym e) record { no_header = refl; assigned = locked.pending ∙ c.assigned; no_copy = locked.copying ∙ c.no_copy; applied = locked.unapplied ∙ c.applied; no_io = locked.io ∙ c.no_io; page_home = locked.out ∙ c.page_home; no_wait = locked.waits c.no_wait }
+  pub calm_pinned : (n : Link) → n ≡ victim_link m → HasAtMostLock n
+  calm_pinned n e = subst HasAtMostLock (sym e) record { no_header = refl; assigned = locked.pending ∙ c.assigned; no_copy = locked.copying ∙ c.no_copy; applied = locked.unapplied ∙ c.applied; no_io = locked.io ∙ c.no_io; page_home = locked.out ∙ c.page_home; no_wait = locked.waits c.no_wait }
 
-  pub calm_unlocked : (n : Link) → n ≡ unlocked_link m → IsCalm n
-  calm_unlocked n e = subst IsCalm (sym e) record { no_header = refl; assigned = locked.pending ∙ c.assigned; no_copy = locked.copying ∙ c.no_copy; applied = locked.unapplied ∙ c.applied; no_io = locked.io ∙ c.no_io; page_home = locked.out ∙ c.page_home; no_wait = locked.waits c.no_wait }
+  pub calm_unlocked : (n : Link) → n ≡ unlocked_link m → HasAtMostLock n
+  calm_unlocked n e = subst HasAtMostLock (sym e) record { no_header = refl; assigned = locked.pending ∙ c.assigned; no_copy = locked.copying ∙ c.no_copy; applied = locked.unapplied ∙ c.applied; no_io = locked.io ∙ c.no_io; page_home = locked.out ∙ c.page_home; no_wait = locked.waits c.no_wait }
 
-  pub calm_cleared : (n o : Link) → n ≡ stored_link m → o ≡ cleared_link n → IsCalm o
-  calm_cleared n o e a = subst IsCalm (sym (a ∙ ap cleared_link e)) record { no_header = refl; assigned = refl; no_copy = locked.copying ∙ c.no_copy; applied = locked.unapplied ∙ c.applied; no_io = locked.io ∙ c.no_io; page_home = locked.out ∙ c.page_home; no_wait = locked.waits c.no_wait }
+  pub calm_cleared : (n o : Link) → n ≡ stored_link m → o ≡ cleared_link n → HasAtMostLock o
+  calm_cleared n o e a = subst HasAtMostLock (sym (a ∙ ap cleared_link e)) record { no_header = refl; assigned = refl; no_copy = locked.copying ∙ c.no_copy; applied = locked.unapplied ∙ c.applied; no_io = locked.io ∙ c.no_io; page_home = locked.out ∙ c.page_home; no_wait = locked.waits c.no_wait }
 
-  pub calm_assigned : (n o : Link) (tag : Option ℕ) → n ≡ stored_link m → o ≡ assigned_link tag n → IsCalm o
-  calm_assigned n o tag e a = subst IsCalm (sym (a ∙ ap (assigned_link tag) e)) record { no_header = refl; assigned = refl; no_copy = locked.copying ∙ c.no_copy; applied = locked.unapplied ∙ c.applied; no_io = locked.io ∙ c.no_io; page_home = locked.out ∙ c.page_home; no_wait = locked.waits c.no_wait }
+  pub calm_assigned : (n o : Link) (tag : Option ℕ) → n ≡ stored_link m → o ≡ assigned_link tag n → HasAtMostLock o
+  calm_assigned n o tag e a = subst HasAtMostLock (sym (a ∙ ap (assigned_link tag) e)) record { no_header = refl; assigned = refl; no_copy = locked.copying ∙ c.no_copy; applied = locked.unapplied ∙ c.applied; no_io = locked.io ∙ c.no_io; page_home = locked.out ∙ c.page_home; no_wait = locked.waits c.no_wait }
 
 -- it is unlocked again, as it was
 pub victim_unlocked : (t : Tokens) (f word : ℕ) (v u w : View) → HasVictim f t v → ((g : ℕ) → g ≢ f → link u g ≡ link v g) → Looked (locked_link word (link v f)) (link u f) → ((g : ℕ) → g ≢ f → link w g ≡ link u g) → link w f ≡ unlocked_link (link u f) → HasVictim f t w
@@ -64,7 +64,7 @@ module _ (t : Tokens) (f word : ℕ) (v u x y w : View) (victim : HasVictim f t 
   victim_cleared cleared = let same = link_same y w four f in record {
     others = others;
     new = victim.new;
-    calm = subst IsCalm (sym same) (calm_cleared (link v f) (link u f) word locked victim.calm (link x f) (link y f) stored cleared);
+    calm = subst HasAtMostLock (sym same) (calm_cleared (link v f) (link u f) word locked victim.calm (link x f) (link y f) stored cleared);
     unlocked = ap (λ (l : Link). l.content) (same ∙ cleared ∙ ap cleared_link stored) ∙ locked.content ∙ victim.unlocked;
     role = ap (λ (l : Link). l.role) (same ∙ cleared ∙ ap cleared_link stored) ∙ locked.role ∙ victim.role;
   }
@@ -74,7 +74,7 @@ module _ (t : Tokens) (f word : ℕ) (v u x y w : View) (victim : HasVictim f t 
   pins_assigned tag assigned is = let same = link_same y w four f in record {
     others = others;
     new = victim.new;
-    calm = subst IsCalm (sym same) (calm_assigned (link v f) (link u f) word locked victim.calm (link x f) (link y f) (link y f).tag stored assigned);
+    calm = subst HasAtMostLock (sym same) (calm_assigned (link v f) (link u f) word locked victim.calm (link x f) (link y f) (link y f).tag stored assigned);
     unlocked = ap (λ (l : Link). l.content) (same ∙ assigned) ∙ ap (λ (l : Link). l.content) stored ∙ locked.content ∙ victim.unlocked;
     role = ap (λ (l : Link). l.role) same ∙ ap (λ (l : Link). l.role) assigned;
     remembered = ap (λ (l : Link). l.tag) same ∙ is;

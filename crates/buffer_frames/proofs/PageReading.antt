@@ -25,7 +25,7 @@ use Rattle.frame_table.specs.Seats.{OnlyRises, SameMarks, Touches, view_marks}
 use Rattle.frame_table.specs.WordSteps.{DidWord, IsCopied, read_end, read_of, view_of}
 use Rattle.content_locks.specs.Locks.{CanCopy, Copies, LocksContent, copied_link}
 use Rattle.held_pins.specs.Tokens.{HeldFrame}
-use Rattle.held_pins.specs.Rests.{IsCalm, LinkRests}
+use Rattle.held_pins.specs.Rests.{HasAtMostLock, LinkRests}
 use Rattle.frame_table.proofs.Rising.{rises_by, rises_on, rises_touched}
 use Rattle.held_pins.proofs.Keeping.{link_same}
 use Rattle.buffer_frames.specs.PageReads.{OnlyReads, ReadsPage, ReadsUnder, SharesToRead, kept_by_reads}
@@ -127,7 +127,7 @@ pub record SharedRead (f : ℕ) (page : Page) (v a b w : View) : Type 0 where
   pub unshared : link w f ≡ unshared_link (link b f)
 
 -- where the page of a frame with nothing else may be copied, and the lock given up
-pub can_copy : (l m : Link) → m ≡ shared_link l → IsCalm l → CanCopy m
+pub can_copy : (l m : Link) → m ≡ shared_link l → HasAtMostLock l → CanCopy m
 can_copy l m e c = record {
   right = λ unlocked. differ (sym (ap (λ (x : Link). x.content) e) ∙ unlocked);
   settled = ap (λ (x : Link). x.unapplied) e ∙ c.applied;
@@ -181,7 +181,7 @@ module _ (f : ℕ) (page : Page) (v a b w : View) (r : SharedRead f page v a b w
     }
 
 -- the lock may be given up after the read
-pub can_unshare_read : (page : Page) (l m n : Link) → m ≡ shared_link l → n ≡ copied_link page m → IsCalm l → CanDropShare n
+pub can_unshare_read : (page : Page) (l m n : Link) → m ≡ shared_link l → n ≡ copied_link page m → HasAtMostLock l → CanDropShare n
 can_unshare_read page l m n shared copied c = let e : n ≡ copied_link page (shared_link l) = copied ∙ ap (copied_link page) shared in record {
   right = ap (λ (x : Link). x.content) e;
   no_copy = ap (λ (x : Link). x.copying) e ∙ c.no_copy;

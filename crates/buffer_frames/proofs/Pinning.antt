@@ -7,7 +7,7 @@ use Rattle.pin_core.specs.declared.view.Link.{Link}
 use Rattle.pin_core.specs.declared.view.View.{View}
 use Rattle.pin_core.specs.State.{link}
 use Rattle.frame_table.specs.Seats.{Looked, RemembersNoOther, mapped_link}
-use Rattle.held_pins.specs.Rests.{IsCalm, LinksRest}
+use Rattle.held_pins.specs.Rests.{HasAtMostLock, LinksRest}
 use Rattle.held_pins.specs.Tokens.{HeldFrame, IsNew, Tokens, held_at}
 use Rattle.buffer_frames.specs.Stages.{Pins}
 use Rattle.held_pins.proofs.Keeping.{beside, beside_kept, calm_looked}
@@ -20,7 +20,7 @@ none_given t tag f v remembers new r = of_held (held_at t f) refl
     of_held None e = refl
     of_held (Some h) e = absurd (new f h e (remembers h.tag ((r f).tag ∙ ap (λ (o : Option HeldFrame). option_map HeldFrame.tag o) e)))
 
-pub calm_mapped : (tag : ℕ) (ring : Bool) (l m : Link) → Looked (mapped_link tag ring l) m → IsCalm l → IsCalm m
+pub calm_mapped : (tag : ℕ) (ring : Bool) (l m : Link) → Looked (mapped_link tag ring l) m → HasAtMostLock l → HasAtMostLock m
 calm_mapped tag ring l m a c = calm_looked (mapped_link tag ring l) m a record { no_header = c.no_header; assigned = c.assigned; no_copy = c.no_copy; applied = c.applied; no_io = c.no_io; page_home = c.page_home; no_wait = c.no_wait }
 
 -- after the pin of the frame that the map gives

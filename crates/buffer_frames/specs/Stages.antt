@@ -7,14 +7,14 @@ use Rattle.pin_core.specs.declared.view.Role.TheVariants.{Absent, HandedOut, Vic
 use Rattle.pin_core.specs.declared.view.Link.{Link}
 use Rattle.pin_core.specs.declared.view.View.{View}
 use Rattle.pin_core.specs.State.{link}
-use Rattle.held_pins.specs.Rests.{IsCalm, LinksRestBeside}
+use Rattle.held_pins.specs.Rests.{HasAtMostLock, LinksRestBeside}
 use Rattle.held_pins.specs.Tokens.{Tokens, held_at}
 
 -- The frame f is pinned for the tag, with no token of the pin given yet
 pub record Pins (tag f : ℕ) (t : Tokens) (v : View) : Type 0 where
   pub others : LinksRestBeside f t v
   pub new : held_at t f ≡ None
-  pub calm : IsCalm (link v f)
+  pub calm : HasAtMostLock (link v f)
   pub unlocked : (link v f).content ≡ Unlocked
   pub role : (link v f).role ≡ HandedOut
   pub remembered : (link v f).tag ≡ Some tag
@@ -23,20 +23,20 @@ pub record Pins (tag f : ℕ) (t : Tokens) (v : View) : Type 0 where
 pub record HasVictim (f : ℕ) (t : Tokens) (v : View) : Type 0 where
   pub others : LinksRestBeside f t v
   pub new : held_at t f ≡ None
-  pub calm : IsCalm (link v f)
+  pub calm : HasAtMostLock (link v f)
   pub unlocked : (link v f).content ≡ Unlocked
   pub role : (link v f).role ≡ Victim
 
 -- A frame is pinned for the tag, and nothing is done there
 pub record IsPinned (tag : ℕ) (l : Link) : Type 0 where
-  pub calm : IsCalm l
+  pub calm : HasAtMostLock l
   pub unlocked : l.content ≡ Unlocked
   pub pinned : l.role ≢ Absent
   pub remembered : l.tag ≡ Some tag
 
 -- So it is once a read into a frame has ended
 pub record IsRead (tag : ℕ) (l : Link) : Type 0 where
-  pub calm : IsCalm l
+  pub calm : HasAtMostLock l
   pub unlocked : l.content ≡ Unlocked
   pub role : l.role ≡ HandedOut
   pub remembered : l.tag ≡ Some tag

@@ -5,7 +5,7 @@ ghost use Rattle.pin_core.specs.State.{link};
 ghost use Rattle.frame_table.specs.Content.{CanLock, unshared_link};
 ghost use Rattle.frame_table.specs.Seats.{CanStep, SameSeat};
 ghost use Rattle.content_locks.specs.Locks.{CanCopy, copied_link};
-ghost use Rattle.held_pins.specs.Rests.{IsCalm};
+ghost use Rattle.held_pins.specs.Rests.{HasAtMostLock};
 ghost use Rattle.buffer_frames.specs.PageReads.{OnlyReads, ReadsPage, ReadsUnder, SharesToRead};
 
 use atomic_table::Seat;
@@ -52,7 +52,7 @@ pub fn share_to_read<L: BlockLane, G: LogDevice, R: Wait>(
 ) -> Lsn
     requires seat { CanStep table.now seat.old frame }
     requires lock { CanLock (link seat.old.me.0 frame) }
-    requires calm { IsCalm (link seat.old.me.0 frame) }
+    requires calm { HasAtMostLock (link seat.old.me.0 frame) }
     requires tag { (link seat.old.me.0 frame).tag ≡ Some (packed_tag _tag) }
     ensures seat { SameSeat seat.old seat.new }
     ensures only { OnlyReads seat.old.me.0 seat.new.me.0 }

@@ -26,7 +26,7 @@ use Rattle.frame_table.specs.Seats.{IsWordOf, Looked, OnlyRises, SameMarks, Same
 use Rattle.frame_table.proofs.Rising.{rises_none, rises_on, rises_touched}
 use Rattle.frame_table.proofs.Told.{looked_on, looks_touch, touches}
 use Rattle.clock_sweep.specs.Keeping.{SamePins}
-use Rattle.held_pins.specs.Rests.{IsCalm, LinkRests, LinksRest, LinksRestBeside, role_of}
+use Rattle.held_pins.specs.Rests.{HasAtMostLock, LinkRests, LinksRest, LinksRestBeside, role_of}
 use Rattle.held_pins.specs.Tokens.{HeldFrame, IsPinnedFor, Tokens, held_at}
 use Rattle.held_pins.proofs.Keeping.{beside_kept, calm_looked, rests_with}
 use Rattle.buffer_frames.specs.declared.flushing.FrameFlushError.{FrameFlushError}
@@ -67,8 +67,8 @@ rests_under o word l m a r = let c = r.calm in record {
 }
 
 -- and is pinned by the victim pin alone
-pub calm_victim : (l m : Link) → m ≡ victim_link l → IsCalm (unlocked_link l) → IsCalm m
-calm_victim l m e c = subst IsCalm (sym e) record { no_header = refl; assigned = c.assigned; no_copy = c.no_copy; applied = c.applied; no_io = c.no_io; page_home = c.page_home; no_wait = c.no_wait }
+pub calm_victim : (l m : Link) → m ≡ victim_link l → HasAtMostLock (unlocked_link l) → HasAtMostLock m
+calm_victim l m e c = subst HasAtMostLock (sym e) record { no_header = refl; assigned = c.assigned; no_copy = c.no_copy; applied = c.applied; no_io = c.no_io; page_home = c.page_home; no_wait = c.no_wait }
 
 pub victim_left : (t : Tokens) (f : ℕ) (v u w : View) → LinksRestBeside f t v → held_at t f ≡ None → ((g : ℕ) → g ≢ f → link u g ≡ link v g) → (link u f).role ≡ Victim → ((g : ℕ) → g ≢ f → link w g ≡ link u g) → LeavesPinned (link u f) (link w f) → HasVictim f t w
 victim_left t f v u w others new one victim two left = record { others = beside_kept f t v w (λ g n. two g n ∙ one g n) others; new = new; calm = left.calm; unlocked = left.unlocked; role = left.role ∙ victim }
@@ -82,11 +82,11 @@ pub some_pinned : (o : Option HeldFrame) (r : Role) → o ≢ None → r ≡ rol
 some_pinned None r some e absent = some refl
 some_pinned (Some h) r some e absent = let no : HandedOut ≡ Absent = sym e ∙ absent in absurd (cc)
 
-pub left_looked : (l m : Link) → Looked l m → IsCalm l → l.content ≡ Unlocked → LeavesPinned l m
+pub left_looked : (l m : Link) → Looked l m → HasAtMostLock l → l.content ≡ Unlocked → LeavesPinned l m
 left_looked l m a calm unlocked = record { calm = calm_looked l m a calm; unlocked = a.content ∙ unlocked; role = a.role; tag = λ tag is. a.tag ∙ is; seen = a.seen_valid }
 
 -- once its tag was loaded
-pub pinned_read : (tag : Tag) (l m : Link) → m ≡ read_link (Some tag) l → IsCalm l → l.content ≡ Unlocked → l.role ≢ Absent → m.tag ≡ Some (packed_tag tag) → IsPinned (packed_tag tag) m
+pub pinned_read : (tag : Tag) (l m : Link) → m ≡ read_link (Some tag) l → HasAtMostLock l → l.content ≡ Unlocked → l.role ≢ Absent → m.tag ≡ Some (packed_tag tag) → IsPinned (packed_tag tag) m
 pinned_read tag l m e c unlocked pinned remembered = record {
   calm = record { no_header = ap (λ (x : Link). x.header) e ∙ c.no_header; assigned = ap (λ (x : Link). x.pending) e ∙ c.assigned; no_copy = ap (λ (x : Link). x.copying) e ∙ c.no_copy; applied = ap (λ (x : Link). x.unapplied) e ∙ c.applied; no_io = ap (λ (x : Link). x.io) e ∙ c.no_io; page_home = ap (λ (x : Link). x.out) e ∙ c.page_home; no_wait = ap (λ (x : Link). x.waits) e ∙ c.no_wait };
   unlocked = ap (λ (x : Link). x.content) e ∙ unlocked;

@@ -23,7 +23,7 @@ use Rattle.frame_table.specs.Latches.{DidTurn, IsTurned, work_of}
 use Rattle.frame_table.specs.Seats.{HasFlag, HoldsWord, OnlyRises, lanes_in, relations_of}
 use Rattle.content_locks.specs.Io.{LocksHeader}
 use Rattle.clock_sweep.specs.Keeping.{SamePins}
-use Rattle.held_pins.specs.Rests.{IsCalm}
+use Rattle.held_pins.specs.Rests.{HasAtMostLock}
 use Rattle.held_pins.specs.Tokens.{HeldFrame, Tokens, held_at}
 use Rattle.buffer_frames.specs.declared.flushing.FrameFlushError.{FrameFlushError}
 use Rattle.buffer_frames.specs.Flushing.{EndedInError, EndedWritten, FindsClean, FlushAnswer, met_flushing, met_lane_write}
@@ -39,7 +39,7 @@ is_skipped NotRecentlyUsed w = not w.valid || not w.dirty || nat_lt 0 w.pins || 
 is_skipped Needed w = not w.checkpoint_needed
 
 -- The header of the frame f was locked and then the state word loaded, which was `word`, while the view pinned what it pinned at first
-pub record LooksUnder (f word : ℕ) (v w : View) : Type 0 where
+pub record LooksUnderHeader (f word : ℕ) (v w : View) : Type 0 where
   pub under : View
   pub was : ℕ
   pub locks : LocksHeader f v under was
@@ -87,7 +87,7 @@ ComesAtOnce only w None = (is_skipped only w ≡ false) × (w.dirty ≡ true)
 
 -- A frame that is pinned is left pinned, with nothing done there, and what the pin knows it still knows
 pub record LeavesPinned (l m : Link) : Type 0 where
-  pub calm : IsCalm m
+  pub calm : HasAtMostLock m
   pub unlocked : m.content ≡ Unlocked
   pub role : m.role ≡ l.role
   pub tag : (tag : ℕ) → l.tag ≡ Some tag → m.tag ≡ Some tag
@@ -131,7 +131,7 @@ module _ {L G : Type 0} (contents : L → Option Pages) (t : FrameTable L G) whe
   pub record SyncsFrame (only : SyncOnly) (f : ℕ) (v w : View) (r : Result Synced FrameFlushError) : Type 0 where
     pub word : ℕ
     pub looked : View
-    pub looks : LooksUnder f word v looked
+    pub looks : LooksUnderHeader f word v looked
     pub until : OnlyRises looked w
     pub came : SyncAnswer only word f v looked w r
 

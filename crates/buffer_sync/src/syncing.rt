@@ -6,10 +6,10 @@ ghost use Rattle.pin_core.specs.declared.view.Content.TheVariants.{Unlocked};
 ghost use Rattle.pin_core.specs.declared.view.Role.TheVariants.{Absent};
 ghost use Rattle.pin_core.specs.State.{link};
 ghost use Rattle.frame_table.specs.Seats.{HoldsNumber, IsWordOf, Looked, SameMarks, SameSeat, Touches, frames_of, locked_link, unlocked_link};
-ghost use Rattle.held_pins.specs.Rests.{IsCalm, LinkRests, LinksRest, LinksRestBeside, Stands};
+ghost use Rattle.held_pins.specs.Rests.{HasAtMostLock, LinkRests, LinksRest, LinksRestBeside, Stands};
 ghost use Rattle.held_pins.specs.Tokens.{IsPinnedFor, held_at};
 ghost use Rattle.buffer_sync.specs.declared.syncing.SyncOnly.TheVariants.{Needed};
-ghost use Rattle.buffer_sync.specs.Syncs.{AreAlone, ComesAtOnce, FlushesPinned, IsDirty, LeavesPinned, LooksUnder, PinsUnder, SyncsOne, is_skipped, synced_of};
+ghost use Rattle.buffer_sync.specs.Syncs.{AreAlone, ComesAtOnce, FlushesPinned, IsDirty, LeavesPinned, LooksUnderHeader, PinsUnder, SyncsOne, is_skipped, synced_of};
 
 use crate::tags::tag_shown;
 use atomic_table::Seat;
@@ -86,7 +86,7 @@ fn look_under<L: BlockLane, G: LogDevice, R: Wait>(
     ensures marks { SameMarks seat.old.me.0 seat.new.me.0 }
     ensures locked { Looked (locked_link result (link seat.old.me.0 frame)) (link seat.new.me.0 frame) }
     ensures word { IsWordOf (link seat.old.me.0 frame) (fields result) }
-    ensures looks { LooksUnder frame result seat.old.me.0 seat.new.me.0 }
+    ensures looks { LooksUnderHeader frame result seat.old.me.0 seat.new.me.0 }
     ensures not_left_to_write { (fields result).checkpoint_needed ≡ false → (link seat.new.me.0 frame).left_to_write ≡ false }
 {
     table.lock_header(rt, seat, frame);
@@ -117,7 +117,7 @@ fn flush_seen<L: BlockLane, G: LogDevice, R: Wait>(
     requires stands { Stands table.now seat.old }
     requires others { LinksRestBeside frame held.now seat.old.me.0 }
     requires inside { frame < frames_of table.now }
-    requires calm { IsCalm (link seat.old.me.0 frame) }
+    requires calm { HasAtMostLock (link seat.old.me.0 frame) }
     requires unlocked { (link seat.old.me.0 frame).content ≡ Unlocked }
     requires pinned { (link seat.old.me.0 frame).role ≢ Absent }
     ensures seat { SameSeat seat.old seat.new }

@@ -90,7 +90,7 @@ pub record UnderExclusive (f : ℕ) (v w : View) : Type 0 where
   pub no_wait : (link w f).waits ≡ None
 
 -- After both were taken the state word was loaded: this number
-pub record LooksUnder (f word : ℕ) (v w : View) : Type 0 where
+pub record LooksUnderBoth (f word : ℕ) (v w : View) : Type 0 where
   pub held : View
   pub under : UnderExclusive f v held
   pub loads : Did looking f held w word
@@ -110,7 +110,7 @@ pub record WaitsARound (number f : ℕ) (v w : View) : Type 0 where
   pub unlocked : View
   pub word : ℕ
   pub found : ℕ
-  pub looks : LooksUnder f word v looked
+  pub looks : LooksUnderBoth f word v looked
   pub others : SeesOtherPins word
   pub free : (fields word).awaited ≡ false
   pub sets : Did (pages (set_waiter number)) f looked noted word
@@ -138,7 +138,7 @@ pub record FindsOtherWaiter (f backend : ℕ) (v w : View) : Type 0 where
   pub word : ℕ
   pub left : ℕ
   pub found : ℕ
-  pub looks : LooksUnder f word v looked
+  pub looks : LooksUnderBoth f word v looked
   pub others : SeesOtherPins word
   pub waiter : HasWaiter backend word
   pub other : backend ≢ v.number

@@ -6,7 +6,7 @@ ghost use Rattle.pin_core.specs.Steps.{HoldsNoHeader};
 ghost use Rattle.page_core.specs.Steps.{MayWait};
 ghost use Rattle.frame_table.specs.Content.{exclusive_link};
 ghost use Rattle.frame_table.specs.Seats.{CanStep, Looked, SameMarks, SameSeat, Touches, locked_link};
-ghost use Rattle.cleanup_lock.specs.Cleanup.{Attempted, CanLockForCleanup, ChangesContent, GrantsCleanup, LooksUnder, RefusesCleanup, WaitsUntilOver, is_waiter, local_pins, refused_tokens, unawaited_link};
+ghost use Rattle.cleanup_lock.specs.Cleanup.{Attempted, CanLockForCleanup, ChangesContent, GrantsCleanup, LooksUnderBoth, RefusesCleanup, WaitsUntilOver, is_waiter, local_pins, refused_tokens, unawaited_link};
 
 use atomic_table::Seat;
 use content_locks::{exclusive, unexclusive};
@@ -58,7 +58,7 @@ fn look_under_exclusive<L: BlockLane, G: LogDevice, R: Wait>(
     ensures marks { SameMarks seat.old.me.0 seat.new.me.0 }
     ensures held { Looked (locked_link result (exclusive_link (link seat.old.me.0 frame))) (link seat.new.me.0 frame) }
     ensures some { 0 < (fields result).pins }
-    ensures did { LooksUnder frame result seat.old.me.0 seat.new.me.0 }
+    ensures did { LooksUnderBoth frame result seat.old.me.0 seat.new.me.0 }
 {
     exclusive(table, rt, seat, frame);
     table.lock_header(rt, seat, frame);

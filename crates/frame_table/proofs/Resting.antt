@@ -7,7 +7,7 @@ use Rattle.pin_core.specs.declared.view.PartitionHold.{PartitionHold}
 use Rattle.pin_core.specs.declared.view.LaneHold.{LaneHold}
 use Rattle.pin_core.specs.declared.view.View.{View}
 use Rattle.pin_core.specs.State.{link, idle, no_partition, no_lane, first_view, new_view}
-use Rattle.pin_core.specs.Steps.{HoldsNothing, IsFree}
+use Rattle.pin_core.specs.Steps.{HoldsNothing, HoldsNothingAt}
 use Rattle.atomic_table.specs.declared.shared.Seat.{Seat}
 use Rattle.atomic_table.specs.Table.{Me}
 use Rattle.pin_core.specs.declared.view.Role.TheVariants.{Absent, HandedOut}
@@ -24,13 +24,13 @@ same_all zero i x = refl
 same_all (suc n) zero x = refl
 same_all (suc n) (suc i) x = same_all n i x
 
-idle_free : IsFree idle
+idle_free : HoldsNothingAt idle
 idle_free = record { no_pin = refl; no_header = refl; no_content = refl; no_io = refl; page_home = refl; no_wait = refl }
 
 -- a new view holds nothing, and so does the first one
 pub new_rests : (number base frames partitions lanes : ℕ) → HoldsNothing (new_view number base frames partitions lanes)
 new_rests number base frames partitions lanes = record {
-  frames = λ f. subst IsFree (sym (same_all frames f idle)) idle_free;
+  frames = λ f. subst HoldsNothingAt (sym (same_all frames f idle)) idle_free;
   partitions = λ p. ap (λ (h : PartitionHold). h.held) (same_all partitions p no_partition);
   lanes = λ n. ap (λ (h : LaneHold). h.held) (same_all lanes n no_lane);
   log = refl;
@@ -50,13 +50,13 @@ pub first_rests : (base frames partitions lanes : ℕ) → HoldsNothing (first_v
 first_rests base frames partitions lanes = let h = new_rests 0 base frames partitions lanes in record { frames = h.frames; partitions = h.partitions; lanes = h.lanes; log = h.log }
 
 -- loads of a frame's word leave a link free
-pub free_looked : (l m : Link) → Looked l m → IsFree l → IsFree m
+pub free_looked : (l m : Link) → Looked l m → HoldsNothingAt l → HoldsNothingAt m
 free_looked l m a h = record { no_pin = a.role ∙ h.no_pin; no_header = a.header ∙ h.no_header; no_content = a.content ∙ h.no_content; no_io = a.io ∙ h.no_io; page_home = a.out ∙ h.page_home; no_wait = a.waits h.no_wait }
 
 -- where a view holds nothing at other frames, and what it has at one is free, it holds nothing
-pub rests_on : (f : ℕ) (v w : View) → Touches f v w → IsFree (link w f) → HoldsNothing v → HoldsNothing w
+pub rests_on : (f : ℕ) (v w : View) → Touches f v w → HoldsNothingAt (link w f) → HoldsNothing v → HoldsNothing w
 rests_on f v w t here h = record {
-  frames = λ g. dite (ℕ_discrete g f) (λ e. subst (λ (x : ℕ). IsFree (link w x)) (sym e) here) (λ n. subst IsFree (sym (t.others g n)) (h.frames g));
+  frames = λ g. dite (ℕ_discrete g f) (λ e. subst (λ (x : ℕ). HoldsNothingAt (link w x)) (sym e) here) (λ n. subst HoldsNothingAt (sym (t.others g n)) (h.frames g));
   partitions = λ p. ap (λ (l : List PartitionHold). (get_or l p no_partition).held) t.partitions ∙ h.partitions p;
   lanes = λ n. ap (λ (l : List LaneHold). (get_or l n no_lane).held) (ap (λ (x : View). x.lanes) t.self) ∙ h.lanes n;
   log = ap (λ l. l.held) (ap (λ (x : View). x.log) t.self) ∙ h.log;
@@ -78,7 +78,7 @@ module _ {L G : Type 0} (t : FrameTable L G) where
     joined = ap (λ (x : View). x.joined + 1) same ∙ sym (ap (λ (x : View). x.next) same);
   }
 
-  pub closes_on : (s s' : Seat (Value L G) View) (f : ℕ) → CanClose t s → SameSeat s s' → Touches f s.me.0 s'.me.0 → IsFree (link s'.me.0 f) → CanClose t s'
+  pub closes_on : (s s' : Seat (Value L G) View) (f : ℕ) → CanClose t s → SameSeat s s' → Touches f s.me.0 s'.me.0 → HoldsNothingAt (link s'.me.0 f) → CanClose t s'
   closes_on s s' f c same touches free = record {
     fits = same.table ∙ c.fits;
     first = same.id ∙ c.first;
@@ -89,8 +89,8 @@ module _ {L G : Type 0} (t : FrameTable L G) where
   }
 
 -- a pin that was taken and given up leaves nothing
-pub free_unpinned : (ring : Bool) (l m n : Link) → Looked (pinned_link ring l) m → Looked (unpinned_link m) n → IsFree l → IsFree n
+pub free_unpinned : (ring : Bool) (l m n : Link) → Looked (pinned_link ring l) m → Looked (unpinned_link m) n → HoldsNothingAt l → HoldsNothingAt n
 free_unpinned ring l m n a b h = record { no_pin = b.role; no_header = b.header ∙ a.header ∙ h.no_header; no_content = b.content ∙ a.content ∙ h.no_content; no_io = b.io ∙ a.io ∙ h.no_io; page_home = b.out ∙ a.out ∙ h.page_home; no_wait = b.waits (a.waits h.no_wait) }
 
-pub can_unpin : (ring : Bool) (l m : Link) → Looked (pinned_link ring l) m → IsFree l → MayUnpin m
+pub can_unpin : (ring : Bool) (l m : Link) → Looked (pinned_link ring l) m → HoldsNothingAt l → MayUnpin m
 can_unpin ring l m a h = record { pinned = λ e. let no : HandedOut ≡ Absent = sym a.role ∙ e in absurd (cc); no_content = a.content ∙ h.no_content; no_io = a.io ∙ h.no_io; no_wait = a.waits h.no_wait }

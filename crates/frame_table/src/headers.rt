@@ -11,7 +11,7 @@ ghost use Rattle.pin_core.specs.Steps.{HasNoVictim};
 ghost use Rattle.table_rule.specs.Blocks.{has_block, is_block};
 ghost use Rattle.table_rule.specs.Layout.{tag_partition};
 ghost use Rattle.frame_table.specs.Kinds.{pins};
-ghost use Rattle.frame_table.specs.Seats.{CanErase, CanStep, CanStoreTag, CanStoreAs, HasFlag, HasRoom, HoldsNumber, HasOnlyPin, IsUsed, NamesStored, SameMarks, SameSeat, Stores, Touches, assigned_link, cleared_link, partitions_stored, read_link, relations_of, stored_link, tag_word, unlocked_link, victim_link};
+ghost use Rattle.frame_table.specs.Seats.{CanErase, CanStep, MayStoreTag, CanStoreAs, HasFlag, HasRoom, HoldsNumber, HasOnlyPin, IsUsed, NamesStored, SameMarks, SameSeat, Stores, Touches, assigned_link, cleared_link, partitions_stored, read_link, relations_of, stored_link, tag_word, unlocked_link, victim_link};
 ghost use Rattle.frame_table.specs.FrameSteps.{Did, always, storing};
 
 use crate::pin::Pin;
@@ -106,7 +106,7 @@ impl<L: BlockLane, G: LogDevice> FrameTable<L, G> {
         requires packed { (packed ≡ packed_tag _tag) × (unpacked_tag packed ≡ Some _tag) }
         requires seat { CanStep self.now seat.old frame }
         requires alone { HasOnlyPin (link seat.old.me.0 frame) }
-        requires tag { CanStoreTag (relations_of self.now) _tag seat.old.me.0 frame }
+        requires tag { MayStoreTag (relations_of self.now) _tag seat.old.me.0 frame }
         ensures seat { SameSeat seat.old seat.new }
         ensures did { (now : ℕ) × Did (storing (Some _tag)) frame seat.old.me.0 seat.new.me.0 now }
     {

@@ -11,7 +11,7 @@ use Rattle.block_tag.specs.declared.tag.Tag.{Tag}
 use Rattle.block_tag.specs.Names.{names_block, packed_tag, unpacked_tag}
 use Rattle.table_rule.proofs.Tags.{packed_is}
 use Rattle.held_pins.specs.declared.pins.HeldPin.{HeldPin}
-use Rattle.held_pins.specs.Tokens.{AreCounted, AreOfBlocks, AreOfOthers, HeldFrame, IsPinnedFor, IsOf, StandsAt, Tokens, count_of, held_at, held_in, held_of, tokens_less, tokens_more, tokens_of}
+use Rattle.held_pins.specs.Tokens.{TokensAreCounted, AreOfBlocks, AreOfOthers, HeldFrame, IsPinnedFor, IsOf, StandsAt, Tokens, count_of, held_at, held_in, held_of, tokens_less, tokens_more, tokens_of}
 
 some_none : {A : Type 0} (x : A) → Some x ≡ None → ⊥
 some_none x e = cc
@@ -47,7 +47,7 @@ pub count-with : (t : Tokens) (h : HeldFrame) → count_of (t ++ h ∷ []) ≡ c
 count-with [] h = omega arith
 count-with (x ∷ xs) h = let e = count-with xs h in omega arith
 
-pub counted_with : (t : Tokens) (h : HeldFrame) → AreCounted t → 0 < h.tokens → held_at t h.frame ≡ None → AreCounted (t ++ h ∷ [])
+pub counted_with : (t : Tokens) (h : HeldFrame) → TokensAreCounted t → 0 < h.tokens → held_at t h.frame ≡ None → TokensAreCounted (t ++ h ∷ [])
 counted_with [] h c some none = (some, refl, tt)
 counted_with (x ∷ xs) h c some none = (c.0, with_past xs h x.frame (λ e. none_past x xs h.frame none (sym e)) ∙ c.1, counted_with xs h c.2 some (none_rest x xs h.frame none))
 
@@ -76,11 +76,11 @@ none_of (Some h) e = absurd (some_none h.tag e)
 pub none_alike : (o p : Option HeldFrame) → option_map HeldFrame.tag p ≡ option_map HeldFrame.tag o → o ≡ None → p ≡ None
 none_alike o p same e = none_of p (same ∙ ap (option_map HeldFrame.tag) e)
 
-pub counted_more : (t : Tokens) (f : ℕ) → AreCounted t → AreCounted (tokens_more f t)
+pub counted_more : (t : Tokens) (f : ℕ) → TokensAreCounted t → TokensAreCounted (tokens_more f t)
 counted_more [] f c = tt
 counted_more (h ∷ hs) f c = dite (ℕ_discrete f h.frame)
-    (λ e. subst AreCounted (sym (more_here h hs f e)) (omega arith, c.1, c.2))
-    (λ n. subst AreCounted (sym (more_past h hs f n)) (c.0, none_alike (held_at hs h.frame) (held_at (tokens_more f hs) h.frame) (more_tags hs f h.frame) c.1, counted_more hs f c.2))
+    (λ e. subst TokensAreCounted (sym (more_here h hs f e)) (omega arith, c.1, c.2))
+    (λ n. subst TokensAreCounted (sym (more_past h hs f n)) (c.0, none_alike (held_at hs h.frame) (held_at (tokens_more f hs) h.frame) (more_tags hs f h.frame) c.1, counted_more hs f c.2))
 
 pub count-more : (t : Tokens) (f : ℕ) → held_at t f ≢ None → count_of (tokens_more f t) ≡ count_of t + 1
 count-more [] f some = absurd (some refl)
@@ -112,7 +112,7 @@ less_others (h ∷ hs) f g n = dite (ℕ_discrete f h.frame)
     (λ p. held_past h (tokens_less f hs) g p ∙ less_others hs f g n ∙ sym (held_past h hs g p)))
 
 -- the last token of a frame, and one of several
-pub less_none : (t : Tokens) (f : ℕ) → AreCounted t → tokens_of (held_at t f) ≡ 1 → held_at (tokens_less f t) f ≡ None
+pub less_none : (t : Tokens) (f : ℕ) → TokensAreCounted t → tokens_of (held_at t f) ≡ 1 → held_at (tokens_less f t) f ≡ None
 less_none [] f c one = refl
 less_none (h ∷ hs) f c one = dite (ℕ_discrete f h.frame)
     (λ e. ap (λ (t : Tokens). held_at t f) (less_last h hs f e (sym (ap tokens_of (held_here h hs f e)) ∙ one)) ∙ ap (held_at hs) e ∙ c.1)
@@ -126,15 +126,15 @@ less_tag (h ∷ hs) f more = dite (ℕ_discrete f h.frame)
     (λ n. ap (λ (t : Tokens). option_map HeldFrame.tag (held_at t f)) (less_past h hs f n) ∙ ap (option_map HeldFrame.tag) (held_past h (tokens_less f hs) f n)
     ∙ less_tag hs f (λ one. more (ap tokens_of (held_past h hs f n) ∙ one)) ∙ sym (ap (option_map HeldFrame.tag) (held_past h hs f n)))
 
-pub counted_less : (t : Tokens) (f : ℕ) → AreCounted t → AreCounted (tokens_less f t)
+pub counted_less : (t : Tokens) (f : ℕ) → TokensAreCounted t → TokensAreCounted (tokens_less f t)
 counted_less [] f c = tt
 counted_less (h ∷ hs) f c = dite (ℕ_discrete f h.frame)
     (λ e. dite (ℕ_discrete h.tokens 1)
-    (λ one. subst AreCounted (sym (less_last h hs f e one)) c.2)
-    (λ more. let some = c.0 in subst AreCounted (sym (less_here h hs f e more)) (omega arith, c.1, c.2)))
-    (λ n. subst AreCounted (sym (less_past h hs f n)) (c.0, less_others hs f h.frame (λ d. n (sym d)) ∙ c.1, counted_less hs f c.2))
+    (λ one. subst TokensAreCounted (sym (less_last h hs f e one)) c.2)
+    (λ more. let some = c.0 in subst TokensAreCounted (sym (less_here h hs f e more)) (omega arith, c.1, c.2)))
+    (λ n. subst TokensAreCounted (sym (less_past h hs f n)) (c.0, less_others hs f h.frame (λ d. n (sym d)) ∙ c.1, counted_less hs f c.2))
 
-pub count-less : (t : Tokens) (f : ℕ) → AreCounted t → held_at t f ≢ None → count_of (tokens_less f t) + 1 ≡ count_of t
+pub count-less : (t : Tokens) (f : ℕ) → TokensAreCounted t → held_at t f ≢ None → count_of (tokens_less f t) + 1 ≡ count_of t
 count-less [] f c some = absurd (some refl)
 count-less (h ∷ hs) f c some = let tokens = c.0 in dite (ℕ_discrete f h.frame)
     (λ e. dite (ℕ_discrete h.tokens 1)
@@ -196,12 +196,12 @@ frame_before [] i h f inside e none d = absurd (omega arith)
 frame_before (x ∷ xs) zero h f inside e none d = none_past (held_of x) (held_in xs) f none (sym d ∙ ap (λ (y : HeldPin). y.pin.frame) e)
 frame_before (x ∷ xs) (suc i) h f inside e none d = frame_before xs i h f (omega arith) e (none_rest (held_of x) (held_in xs) f none) d
 
-pub held_by_frame : (hs : List HeldPin) (i : ℕ) (h : HeldPin) → AreCounted (held_in hs) → i < length hs → h ≡ get_or hs i h → held_at (held_in hs) h.pin.frame ≡ Some (held_of h)
+pub held_by_frame : (hs : List HeldPin) (i : ℕ) (h : HeldPin) → TokensAreCounted (held_in hs) → i < length hs → h ≡ get_or hs i h → held_at (held_in hs) h.pin.frame ≡ Some (held_of h)
 held_by_frame [] i h c inside e = absurd (omega arith)
 held_by_frame (x ∷ xs) zero h c inside e = held_here (held_of x) (held_in xs) h.pin.frame (ap (λ (y : HeldPin). y.pin.frame) e) ∙ ap (λ (y : HeldPin). Some (held_of y)) (sym e)
 held_by_frame (x ∷ xs) (suc i) h c inside e = held_past (held_of x) (held_in xs) h.pin.frame (frame_before xs i h x.pin.frame (omega arith) e c.1) ∙ held_by_frame xs i h c.2 (omega arith) e
 
-pub pinned_for : (hs : List HeldPin) (i : ℕ) (h : HeldPin) (tag : Tag) → AreCounted (held_in hs) → i < length hs → IsOf tag i hs → h ≡ get_or hs i h → IsPinnedFor tag h.pin.frame (held_in hs)
+pub pinned_for : (hs : List HeldPin) (i : ℕ) (h : HeldPin) (tag : Tag) → TokensAreCounted (held_in hs) → i < length hs → IsOf tag i hs → h ≡ get_or hs i h → IsPinnedFor tag h.pin.frame (held_in hs)
 pinned_for hs i h tag c inside of e = record { held = held_of h; there = held_by_frame hs i h c inside e; same = ap packed_tag (of h e) }
 
 packed_apart : (a b : Tag) → names_block a ≡ true → names_block b ≡ true → packed_tag a ≡ packed_tag b → a ≡ b
@@ -232,7 +232,7 @@ blocks_with (x ∷ xs) h named all = (all.0, blocks_with xs h named all.1)
 -- what the invariant of the list says after a token more, and after one less
 pub record Counts (n : ℕ) (t : Tokens) : Type 0 where
   pub counts : n ≡ count_of t
-  pub counted : AreCounted t
+  pub counted : TokensAreCounted t
 
 pub counts_with : (n : ℕ) (t u : Tokens) (h : HeldFrame) → u ≡ t ++ h ∷ [] → h.tokens ≡ 1 → held_at t h.frame ≡ None → Counts n t → Counts (n + 1) u
 counts_with n t u h e one none c = subst (Counts (n + 1)) (sym e) record {
@@ -253,7 +253,7 @@ counts_less n f t u e some c = subst (Counts (n - 1)) (sym e) record {
 }
 
 -- where there are none, or one, or more
-pub not_counted : (t : Tokens) (f : ℕ) (h : HeldFrame) → AreCounted t → held_at t f ≡ Some h → 0 < h.tokens
+pub not_counted : (t : Tokens) (f : ℕ) (h : HeldFrame) → TokensAreCounted t → held_at t f ≡ Some h → 0 < h.tokens
 not_counted [] f h c e = absurd (some_none h (sym e))
 not_counted (x ∷ xs) f h c e = dite (ℕ_discrete f x.frame)
     (λ d. subst (λ (y : HeldFrame). 0 < y.tokens) (some_same x h (sym (held_here x xs f d) ∙ e)) c.0)
@@ -262,7 +262,7 @@ not_counted (x ∷ xs) f h c e = dite (ℕ_discrete f x.frame)
 pub still_held : (t : Tokens) (f : ℕ) → tokens_of (held_at t f) ≢ 1 → held_at t f ≢ None → held_at (tokens_less f t) f ≢ None
 still_held t f more some none = some (none_alike (held_at (tokens_less f t) f) (held_at t f) (sym (less_tag t f more)) none)
 
-pub length_le : (hs : List HeldPin) → AreCounted (held_in hs) → length hs ≤ count_of (held_in hs)
+pub length_le : (hs : List HeldPin) → TokensAreCounted (held_in hs) → length hs ≤ count_of (held_in hs)
 length_le [] c = omega arith
 length_le (h ∷ hs) c = let tokens = c.0 in let rest = length_le hs c.2 in omega arith
 
@@ -298,7 +298,7 @@ pub record Removed (hs ks : List HeldPin) (f : ℕ) (k : HeldPin) : Type 0 where
   pub one : tokens_of (held_at (held_in hs) f) ≡ 1
   pub none : held_at (held_in ks) f ≡ None
 
-pub removed : (hs ks : List HeldPin) (f i : ℕ) (h k : HeldPin) → StandsAt f i hs → h ≡ get_or hs i h → k ≡ get_or hs i k → h.tokens ≤ 1 → AreCounted (held_in hs) → ks ≡ take i hs ++ drop (i + 1) hs → Removed hs ks f k
+pub removed : (hs ks : List HeldPin) (f i : ℕ) (h k : HeldPin) → StandsAt f i hs → h ≡ get_or hs i h → k ≡ get_or hs i k → h.tokens ≤ 1 → TokensAreCounted (held_in hs) → ks ≡ take i hs ++ drop (i + 1) hs → Removed hs ks f k
 removed hs ks f i h k stands e d few counted is = record { shows = shows; frame = stands.here k d; one = ap tokens_of here ∙ one; none = ap (λ (t : Tokens). held_at t f) shows ∙ less_none (held_in hs) f counted (ap tokens_of here ∙ one) }
   where
     here : held_at (held_in hs) f ≡ Some (held_of h)
@@ -315,14 +315,14 @@ pub less_with : (t : Tokens) (h : HeldFrame) (f : ℕ) → f ≡ h.frame → h.t
 less_with [] h f e one none = less_last h [] f e one
 less_with (x ∷ xs) h f e one none = less_past x (xs ++ h ∷ []) f (none_past x xs f none) ∙ ap (λ (t : Tokens). x ∷ t) (less_with xs h f e one (none_rest x xs f none))
 
-pub less_more : (t : Tokens) (f : ℕ) → AreCounted t → held_at t f ≢ None → tokens_less f (tokens_more f t) ≡ t
+pub less_more : (t : Tokens) (f : ℕ) → TokensAreCounted t → held_at t f ≢ None → tokens_less f (tokens_more f t) ≡ t
 less_more [] f c some = absurd (some refl)
 less_more (h ∷ hs) f c some = let tokens = c.0 in dite (ℕ_discrete f h.frame)
     (λ e. ap (tokens_less f) (more_here h hs f e) ∙ less_here (record h { tokens = h.tokens + 1 }) hs f e (λ one. omega arith) ∙ ap (λ (n : ℕ). record h { tokens = n } ∷ hs) (omega arith))
     (λ n. ap (tokens_less f) (more_past h hs f n) ∙ less_past h (tokens_more f hs) f n ∙ ap (λ (t : Tokens). h ∷ t) (less_more hs f c.2 (λ none. some (held_past h hs f n ∙ none))))
 
 -- which isn't the last one, where there was one before
-pub more_several : (t : Tokens) (f : ℕ) → AreCounted t → held_at t f ≢ None → 1 < tokens_of (held_at (tokens_more f t) f)
+pub more_several : (t : Tokens) (f : ℕ) → TokensAreCounted t → held_at t f ≢ None → 1 < tokens_of (held_at (tokens_more f t) f)
 more_several [] f c some = absurd (some refl)
 more_several (h ∷ hs) f c some = let tokens = c.0 in dite (ℕ_discrete f h.frame)
     (λ e. let a : tokens_of (held_at (tokens_more f (h ∷ hs)) f) ≡ h.tokens + 1 = ap (λ (t : Tokens). tokens_of (held_at t f)) (more_here h hs f e) ∙ ap tokens_of (held_here (record h { tokens = h.tokens + 1 }) hs f e) in omega arith)

@@ -13,11 +13,11 @@ use Rattle.table_rule.specs.declared.value.Value.{Value}
 use Rattle.frame_table.specs.declared.table.FrameTable.{FrameTable}
 use Rattle.frame_table.specs.Seats.{Looked, SameSeat, SameSelf, Stores, Touches, self_of}
 use Rattle.held_pins.specs.Tokens.{HeldFrame, Tokens, held_at, tokens_less, tokens_more, tokens_of, tokens_with}
-use Rattle.held_pins.specs.Rests.{HasNoDevice, HasNoLatch, HasOneLatch, IsCalm, LinkRests, LinksRest, LinksRestBeside, SameLocks, Stands, kept_by_calls, role_of}
+use Rattle.held_pins.specs.Rests.{HasAtMostLock, HasNoDevice, HasNoLatch, HasOneLatch, LinkRests, LinksRest, LinksRestBeside, SameLocks, Stands, kept_by_calls, role_of}
 use Rattle.held_pins.proofs.HeldLists.{less_others, less_tag, more_tags, none_of, with_here, with_past}
 
 -- loads at a frame
-pub calm_looked : (l m : Link) → Looked l m → IsCalm l → IsCalm m
+pub calm_looked : (l m : Link) → Looked l m → HasAtMostLock l → HasAtMostLock m
 calm_looked l m a c = record { no_header = a.header ∙ c.no_header; assigned = a.pending ∙ c.assigned; no_copy = a.copying ∙ c.no_copy; applied = a.unapplied ∙ c.applied; no_io = a.io ∙ c.no_io; page_home = a.out ∙ c.page_home; no_wait = a.waits c.no_wait }
 
 pub link_looked : (o : Option HeldFrame) (l m : Link) → Looked l m → LinkRests o l → LinkRests o m

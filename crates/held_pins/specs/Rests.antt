@@ -36,7 +36,7 @@ kept_by_calls v = record v {
 }
 
 -- A backend has nothing at a frame but maybe a pin and a content lock
-pub record IsCalm (l : Link) : Type 0 where
+pub record HasAtMostLock (l : Link) : Type 0 where
   pub no_header : l.header ≡ None
   pub assigned : l.pending ≡ false
   pub no_copy : l.copying ≡ false
@@ -52,7 +52,7 @@ role_of (Some h) = HandedOut
 
 -- A frame between two calls: pinned where callers have tokens, its tag known and BM_VALID seen, and its content unlocked where they have none
 pub record LinkRests (o : Option HeldFrame) (l : Link) : Type 0 where
-  pub calm : IsCalm l
+  pub calm : HasAtMostLock l
   pub role : l.role ≡ role_of o
   pub tag : l.tag ≡ option_map HeldFrame.tag o
   pub seen : o ≢ None → l.seen_valid ≡ true

@@ -57,9 +57,9 @@ pub record IsPinnedFor (tag : Tag) (f : ℕ) (t : Tokens) : Type 0 where
   pub same : held.tag ≡ packed_tag tag
 
 -- each frame has a token, and none stands twice
-abbrev pub AreCounted : Tokens → Type 0
-AreCounted [] = Unit {0}
-AreCounted (h ∷ hs) = (0 < h.tokens) × (held_at hs h.frame ≡ None) × AreCounted hs
+abbrev pub TokensAreCounted : Tokens → Type 0
+TokensAreCounted [] = Unit {0}
+TokensAreCounted (h ∷ hs) = (0 < h.tokens) × (held_at hs h.frame ≡ None) × TokensAreCounted hs
 
 -- what a list of pins shows
 abbrev pub held_of : HeldPin → HeldFrame

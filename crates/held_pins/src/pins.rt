@@ -23,13 +23,13 @@ pub struct HeldPins {
 
 impl Model for HeldPins {
     ghost use Rattle.std.specs.Prelude.{◌≡◌, ◌≤◌, List, vec_capacity, vec_len};
-    ghost use Rattle.held_pins.specs.Tokens.{AreCounted, AreOfBlocks, HeldFrame, count_of, held_in};
+    ghost use Rattle.held_pins.specs.Tokens.{AreOfBlocks, HeldFrame, TokensAreCounted, count_of, held_in};
 
     ghost Value = { List HeldFrame };
 
     ghost view = { λ h. held_in h.pins.items };
 
-    ghost invariant = { λ h. (h.count ≡ count_of (held_in h.pins.items)) × (h.count ≤ 8) × AreCounted (held_in h.pins.items) × AreOfBlocks h.pins.items × (vec_len h.pins ≤ h.count) × (8 ≤ vec_capacity h.pins) };
+    ghost invariant = { λ h. (h.count ≡ count_of (held_in h.pins.items)) × (h.count ≤ 8) × TokensAreCounted (held_in h.pins.items) × AreOfBlocks h.pins.items × (vec_len h.pins ≤ h.count) × (8 ≤ vec_capacity h.pins) };
 }
 
 ghost use Rattle.std.specs.Prelude.{◌≡◌, ◌<◌, None, IfSome, IfNone, length};

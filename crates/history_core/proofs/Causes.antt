@@ -28,7 +28,7 @@ use Rattle.history_core.specs.Steps.{LaneAlone, MayWriteLane, Notes, Step, pools
 use Rattle.history_core.specs.Log.{record_size}
 use Rattle.history_core.specs.Device as log_kinds
 use Rattle.history_core.specs.Device.{LogKind, view_logged}
-use Rattle.history_core.specs.Causes.{mark_weight, NoneMarked, IsQuiet, AllQuiet, MarksLaw}
+use Rattle.history_core.specs.Causes.{mark_weight, NoneMarked, KnowsNoOutput, AllQuiet, MarksLaw}
 use Rattle.history_core.specs.Invariant.{Invariant}
 use Rattle.history_core.proofs.Outer.{lane_new}
 use Rattle.history_core.proofs.Stepping.{step_keeps, lane_put, no_write_holds}
@@ -143,18 +143,18 @@ module _ (views : List View) (i : ℕ) (v w : View) (there : get_elem? views i �
   none_here : mark_weight w ≡ 0
   none_here = let x = total-set mark_weight views i v w there in let y = term_le mark_weight views i v there in omega arith
 
-quiet_set : (views : List View) → ((i : ℕ) (v : View) → get_elem? views i ≡ some v → IsQuiet v) → (i : ℕ) (w : View) → IsQuiet w → (j : ℕ) (u : View) → get_elem? (set views i w) j ≡ some u → IsQuiet u
-quiet_set views h i w q j u e = ⊎_elim (λ (t : (j ≡ i) × (w ≡ u)). subst IsQuiet t.1 q) (λ (t : (j ≢ i) × (get_elem? views j ≡ some u)). h j u t.1) (at_set views i j w u e)
+quiet_set : (views : List View) → ((i : ℕ) (v : View) → get_elem? views i ≡ some v → KnowsNoOutput v) → (i : ℕ) (w : View) → KnowsNoOutput w → (j : ℕ) (u : View) → get_elem? (set views i w) j ≡ some u → KnowsNoOutput u
+quiet_set views h i w q j u e = ⊎_elim (λ (t : (j ≡ i) × (w ≡ u)). subst KnowsNoOutput t.1 q) (λ (t : (j ≢ i) × (get_elem? views j ≡ some u)). h j u t.1) (at_set views i j w u e)
 
 quiet_put : (frame : ℕ → Frame) (n f : ℕ) (fr : Frame) → ((g : ℕ) → g < n → (frame g).word.dirty ≡ false) → fr.word.dirty ≡ false → (g : ℕ) → g < n → (put frame f fr g).word.dirty ≡ false
 quiet_put frame n f fr h e g below = dite (ℕ_discrete g f) (λ same. ap (λ (x : Frame). x.word.dirty) (put_at frame f fr g same) ∙ e) (λ o. ap (λ (x : Frame). x.word.dirty) (put_else frame f fr g o) ∙ h g below)
 
 -- a view whose outputs, faults and lanes are those of another one
-same_quiet : (v w : View) → w.had_output ≡ v.had_output → w.met.writes ≡ v.met.writes → w.lanes ≡ v.lanes → IsQuiet v → IsQuiet w
+same_quiet : (v w : View) → w.had_output ≡ v.had_output → w.met.writes ≡ v.met.writes → w.lanes ≡ v.lanes → KnowsNoOutput v → KnowsNoOutput w
 same_quiet v w a b c q = record { output = a ∙ q.output; met = b ∙ q.met; out = λ n. ap (λ (x : List LaneHold). is_failed_write (lane_hold (record w { lanes = x }) n).change) c ∙ q.out n }
 
 -- a view whose hold of the lane q is the one after a kind
-laned_quiet : (v w : View) (q : ℕ) (h : LaneHold) → w.had_output ≡ false → w.met.writes ≡ 0 → w.lanes ≡ set v.lanes q h → is_failed_write h.change ≡ false → IsQuiet v → IsQuiet w
+laned_quiet : (v w : View) (q : ℕ) (h : LaneHold) → w.had_output ≡ false → w.met.writes ≡ 0 → w.lanes ≡ set v.lanes q h → is_failed_write h.change ≡ false → KnowsNoOutput v → KnowsNoOutput w
 laned_quiet v w q h a b c d x = record {
   output = a;
   met = b;
@@ -176,7 +176,7 @@ same_failed : (s : State) (q : ℕ) (ln : Lane) → ln.failed ≡ (s.lane q).fai
 same_failed s q ln same h tag = lane_put (λ (x : Lane). x.failed tag) s.lane q ln (λ j. same j tag) (s.lane_of tag) ∙ h tag
 
 -- a new view is quiet
-new_quiet : (number base n p l : ℕ) → IsQuiet (new_view number base n p l)
+new_quiet : (number base n p l : ℕ) → KnowsNoOutput (new_view number base n p l)
 new_quiet number base n p l = record { output = refl; met = refl; out = λ q. ap (λ (x : LaneHold). is_failed_write x.change) (lane_new n p l number base q) }
 
 module _ (s : State) (h : Invariant s) (m : MarksLaw s) where
@@ -184,7 +184,7 @@ module _ (s : State) (h : Invariant s) (m : MarksLaw s) where
   views = s.pool.core.views
 
   -- a step of one view, where the frames and blocks are as quiet as before
-  one_view : (i : ℕ) (v w : View) → get_elem? views i ≡ some v → mark_weight v ≤ mark_weight w → (AllQuiet s → mark_weight w ≡ 0 → IsQuiet w) → NoneMarked (set views i w) → AllQuiet s × ((j : ℕ) (u : View) → get_elem? (set views i w) j ≡ some u → IsQuiet u)
+  one_view : (i : ℕ) (v w : View) → get_elem? views i ≡ some v → mark_weight v ≤ mark_weight w → (AllQuiet s → mark_weight w ≡ 0 → KnowsNoOutput w) → NoneMarked (set views i w) → AllQuiet s × ((j : ℕ) (u : View) → get_elem? (set views i w) j ≡ some u → KnowsNoOutput u)
   one_view i v w there more quiet none = let q = m (none_before views i v w there more none) in (q, quiet_set views q.views i w (quiet q (none_here views i v w there more none)))
 
   pins_marks : {e : pin_steps.Event} {core' : _} → pin_steps.Step e s.pool.core core' → MarksLaw (record s { pool = record s.pool { core = core' } })
@@ -199,7 +199,7 @@ module _ (s : State) (h : Invariant s) (m : MarksLaw s) where
       let x = one_view 0 v w there (omega arith) (λ q z. same_quiet v w refl refl refl (q.views 0 v there)) (let y = total-snoc mark_weight (set views 0 w) b in omega arith) in record {
         frames = x.0.frames;
         blocks = x.0.blocks;
-        views = λ j u e. ⊎_elim (λ (t : get_elem? (set views 0 w) j ≡ some u). x.1 j u t) (λ (t : (b ≡ u) × (j ≡ length (set views 0 w))). subst IsQuiet t.0 (new_quiet v.next s.pool.core.base (length v.links) (length v.partitions) (length v.lanes))) (at_end (set views 0 w) b u j e);
+        views = λ j u e. ⊎_elim (λ (t : get_elem? (set views 0 w) j ≡ some u). x.1 j u t) (λ (t : (b ≡ u) × (j ≡ length (set views 0 w))). subst KnowsNoOutput t.0 (new_quiet v.next s.pool.core.base (length v.links) (length v.partitions) (length v.lanes))) (at_end (set views 0 w) b u j e);
       }
   pins_marks (pin_steps.joins j v u there other here live free) none = let w : View = joined_view v u in let vs : List View = set views 0 w in let also = set_else views 0 j w other ∙ here in
       let a = total-set mark_weight views 0 v w there in let b = total-set mark_weight vs j u emptied_view also in let both = or_both v.dirtied_or_synced u.dirtied_or_synced in let more = or_more v.dirtied_or_synced u.dirtied_or_synced in
@@ -313,7 +313,7 @@ marks_after rests h m = m
 marks_after (goes x r) h m = marks_after r (step_keeps x h) (marks_kept x h m)
 
 pub marks_open : (c : Config) (store : Store) (page : Page) → MarksLaw (opening c store page)
-marks_open c store page none = record { frames = λ f below. refl; blocks = λ tag. refl; views = λ i v there. subst IsQuiet (at_only (first_view c.base c.frames c.partitions c.lanes) v i there).0 (first_quiet c.base c.frames c.partitions c.lanes) }
+marks_open c store page none = record { frames = λ f below. refl; blocks = λ tag. refl; views = λ i v there. subst KnowsNoOutput (at_only (first_view c.base c.frames c.partitions c.lanes) v i there).0 (first_quiet c.base c.frames c.partitions c.lanes) }
   where
-    first_quiet : (base n p l : ℕ) → IsQuiet (first_view base n p l)
+    first_quiet : (base n p l : ℕ) → KnowsNoOutput (first_view base n p l)
     first_quiet base n p l = record { output = refl; met = refl; out = λ q. ap (λ (x : LaneHold). is_failed_write x.change) (lane_new n p l 0 base q) }

@@ -9,7 +9,7 @@ use Rattle.pin_core.specs.declared.view.Seen.TheVariants as seen
 use Rattle.pin_core.specs.State.{Page, split_state, joined_state, kept_checkpoint}
 use Rattle.pin_core.specs.Kinds as pins
 use Rattle.pin_core.specs.Steps as pin_steps
-use Rattle.pin_core.specs.Steps.{IsFree, HoldsNothing}
+use Rattle.pin_core.specs.Steps.{HoldsNothingAt, HoldsNothing}
 use Rattle.pin_core.proofs.Sample.{at_partition}
 use Rattle.page_core.proofs.Sample.{at_frame}
 use Rattle.page_core.specs.Kinds.{share, unshare, start_output, clear_just_dirtied, note_write, end_io, need_checkpoint}
@@ -161,7 +161,7 @@ syncs p = goes (lanes 1 0 take_lane (second_of (c22 p)) refl refl (lit< tt) (rec
     rests))))
 
 holds_nothing : (p : Page) → HoldsNothing (second_of (c27 p))
-holds_nothing p = record { frames = at_frame (λ (l : Link). IsFree l) (second_of (c27 p)) _ refl (record { no_pin = refl; no_header = refl; no_content = refl; no_io = refl; page_home = refl; no_wait = refl }) (record { no_pin = refl; no_header = refl; no_content = refl; no_io = refl; page_home = refl; no_wait = refl }); partitions = at_partition (λ (h : PartitionHold). h.held ≡ false) (second_of (c27 p)) _ refl refl refl; lanes = at_one_lane (λ (h : LaneHold). h.held ≡ false) (second_of (c27 p)) _ refl refl refl; log = refl }
+holds_nothing p = record { frames = at_frame (λ (l : Link). HoldsNothingAt l) (second_of (c27 p)) _ refl (record { no_pin = refl; no_header = refl; no_content = refl; no_io = refl; page_home = refl; no_wait = refl }) (record { no_pin = refl; no_header = refl; no_content = refl; no_io = refl; page_home = refl; no_wait = refl }); partitions = at_partition (λ (h : PartitionHold). h.held ≡ false) (second_of (c27 p)) _ refl refl refl; lanes = at_one_lane (λ (h : LaneHold). h.held ≡ false) (second_of (c27 p)) _ refl refl refl; log = refl }
 
 joins_there : (p : Page) → Run join (c27 p) (c28 p)
 joins_there p = goes (pools (page_steps.cores (pin_steps.joins 1 (view_of (c27 p)) (second_of (c27 p)) refl (λ e. cc) refl refl (holds_nothing p))) tt) rests

@@ -18,7 +18,7 @@ abbrev pub NoneMarked : List View → Type 0
 NoneMarked views = total mark_weight views ≡ 0
 
 -- A view has had no output right, counts no failed write or sync, and has none out
-pub record IsQuiet (v : View) : Type 0 where
+pub record KnowsNoOutput (v : View) : Type 0 where
   pub output : v.had_output ≡ false
   pub met : v.met.writes ≡ 0
   pub out : (n : ℕ) → is_failed_write (lane_hold v n).change ≡ false
@@ -27,7 +27,7 @@ pub record IsQuiet (v : View) : Type 0 where
 pub record AllQuiet (s : State) : Type 0 where
   pub frames : (f : ℕ) → f < s.pool.core.frames → (s.pool.core.frame f).word.dirty ≡ false
   pub blocks : (tag : ℕ) → failed s tag ≡ false
-  pub views : (i : ℕ) (v : View) → get_elem? s.pool.core.views i ≡ some v → IsQuiet v
+  pub views : (i : ℕ) (v : View) → get_elem? s.pool.core.views i ≡ some v → KnowsNoOutput v
 
 -- so it is where no view has the mark
 abbrev pub MarksLaw : State → Type 0

@@ -12,7 +12,7 @@ use Rattle.pin_core.specs.Invariant as pins
 use Rattle.pin_core.specs.Kinds as pin_kinds
 use Rattle.pin_core.specs.Turns.{view_turned}
 use Rattle.pin_core.specs.Steps as pin_steps
-use Rattle.pin_core.specs.Steps.{IsFree}
+use Rattle.pin_core.specs.Steps.{HoldsNothingAt}
 use Rattle.pin_core.proofs.Views.{link_new}
 use Rattle.pin_core.proofs.Stepping as pin_stepping
 use Rattle.pin_core.proofs.Stepping.{local_keeps}
@@ -128,7 +128,7 @@ pub new_link : (b : Block) (number base n p m f : ℕ) (fr : Frame) → PageLink
 new_link b number base n p m f fr = subst (PageLink b fr) (sym (link_new n p m number base f)) (idle_link b fr)
 
 -- a view that has nothing at a frame may be forgotten there
-forgets : (b : Block) (fr : Frame) (l : Link) → IsFree l → Keeps page_shape known page_part b b tt tt fr l fr idle
+forgets : (b : Block) (fr : Frame) (l : Link) → HoldsNothingAt l → Keeps page_shape known page_part b b tt tt fr l fr idle
 forgets b fr l a = record {
   column = λ t t' q c sums le _. grind (arith, q, c, a, sums sharers, sums applied_locks, sums unapplied_locks, sums copies, sums works, sums outs, sums (waits_as fr.word.waiter));
   cell = λ t q le c. idle_link b fr;

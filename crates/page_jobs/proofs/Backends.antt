@@ -29,7 +29,7 @@ use Rattle.page_jobs.specs.Printed.{BlockRead, copied, unsound}
 use Rattle.page_jobs.specs.Parts.{MeetsFault}
 use Rattle.page_jobs.specs.Reads.{calls_of_reads, fault_of_refusal}
 use Rattle.page_jobs.specs.Beside.{StaysBeside, WorksBeside, fault_of_flush}
-use Rattle.page_jobs.specs.Jobs.{AllAtBase, AnyMeets, AreFree, ReadParts, ReadsPart, workers_in}
+use Rattle.page_jobs.specs.Jobs.{AllAtBase, AnyMeets, HaveNoTokens, ReadParts, ReadsPart, workers_in}
 use Rattle.page_jobs.specs.Relations.{MeetNothing}
 use Rattle.page_jobs.proofs.Standing.{inside, length_front, taken, taken_from, there}
 
@@ -133,12 +133,12 @@ module _ {L G : Type 0} (contents : L → Option Pages) (m : Manager L G) where
           }
 
 module _ {L G : Type 0} (contents : L → Option Pages) (m : Manager L G) (fork : Fork) where
-  free_each : (ps : List PassState) → ((i : ℕ) (p : PassState) → get_elem? ps i ≡ some p → AreFree contents m (p ∷ [])) → AreFree contents m ps
+  free_each : (ps : List PassState) → ((i : ℕ) (p : PassState) → get_elem? ps i ≡ some p → HaveNoTokens contents m (p ∷ [])) → HaveNoTokens contents m ps
   free_each [] each = tt
   free_each (p ∷ ps) each = ((each 0 p refl).0, free_each ps (λ i. each (suc i)))
 
   -- new passes have no token
-  pub new_are_free : (n : ℕ) (ps : List PassState) → AreNewPasses contents m n ps → AreFree contents m ps
+  pub new_are_free : (n : ℕ) (ps : List PassState) → AreNewPasses contents m n ps → HaveNoTokens contents m ps
   new_are_free n ps new = free_each ps (λ i p at. let h = new.each i p at in (record { belongs = h.belongs; spent = h.tokens }, tt))
 
   -- no pass meets a fault of the output

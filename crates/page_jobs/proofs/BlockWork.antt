@@ -22,7 +22,7 @@ use Rattle.page_jobs.specs.declared.printing.Lines.{Lines}
 use Rattle.page_jobs.specs.declared.reading.BlockPage.{BlockPage}
 use Rattle.page_jobs.specs.declared.reading.BlockPage.TheVariants.{Sound, Unsound}
 use Rattle.page_jobs.specs.Printed.{BlockRead, copied, unsound, found_lines, found_summary, read_lines, read_summary, reads_lines, reads_totals}
-use Rattle.page_jobs.specs.Reads.{CopiesOrFindsUnsound, IsFree, IsKnown, IsWithinFront, Stays, StopsAt, calls_of_reads}
+use Rattle.page_jobs.specs.Reads.{CopiesOrFindsUnsound, HasNoTokens, IsKnown, IsWithinFront, Stays, StopsAt, calls_of_reads}
 use Rattle.page_jobs.specs.Parts.{AllReads, AreKnown, DoesPart, EndsFor, blocks_in}
 use Rattle.page_jobs.proofs.Staying.{stays_none, stays_on}
 use Rattle.page_jobs.proofs.Sums.{counted-is, none_sum, reads_totals-append, sum_assoc}
@@ -97,7 +97,7 @@ totals_joined t u v rs ss first second =
     ∙ ap (λ (x : ScanTotals). sum_of_totals t x) (sym (reads_totals-append rs ss))
 
 module _ {L G : Type 0} (contents : L → Option Pages) (m : Manager L G) (rel : ℕ) (fork : Fork) where
-  pub part_none : (lines : Lines) (from : ℕ) (p : PassState) (text : List ℕ) (t : ScanTotals) → IsFree contents m p → IsWithin t t.blocks → DoesPart contents m rel fork lines from from p p text text t t (Ok tt)
+  pub part_none : (lines : Lines) (from : ℕ) (p : PassState) (text : List ℕ) (t : ScanTotals) → HasNoTokens contents m p → IsWithin t t.blocks → DoesPart contents m rel fork lines from from p p text text t t (Ok tt)
   part_none lines from p text t free within = record {
     stays = stays_none contents m p free.belongs;
     spent = free.spent;
@@ -115,7 +115,7 @@ module _ {L G : Type 0} (contents : L → Option Pages) (m : Manager L G) (rel :
   }
 
   -- no memory before the first block
-  pub part_short : (lines : Lines) (from to : ℕ) (p : PassState) (text : List ℕ) (t : ScanTotals) → IsFree contents m p → IsWithin t t.blocks → from ≤ to → DoesPart contents m rel fork lines from to p p text text t t (Err Memory)
+  pub part_short : (lines : Lines) (from to : ℕ) (p : PassState) (text : List ℕ) (t : ScanTotals) → HasNoTokens contents m p → IsWithin t t.blocks → from ≤ to → DoesPart contents m rel fork lines from to p p text text t t (Err Memory)
   part_short lines from to p text t free within le = record {
     stays = stays_none contents m p free.belongs;
     spent = free.spent;
@@ -206,7 +206,7 @@ module _ {L G : Type 0} (contents : L → Option Pages) (m : Manager L G) (rel :
     pub place : IsWithinFront q.view.front r
     pub met : q.view.met ≡ p.view.met
 
-  one_read : (block : ℕ) (p q : PassState) (found : BlockPage) (page : Page) → IsFree contents m p → CopiesOrFindsUnsound contents m (tag_of_parts rel fork block) page p q found → ReadsOne block p q (read_of found page q.view.front)
+  one_read : (block : ℕ) (p q : PassState) (found : BlockPage) (page : Page) → HasNoTokens contents m p → CopiesOrFindsUnsound contents m (tag_of_parts rel fork block) page p q found → ReadsOne block p q (read_of found page q.view.front)
   one_read block p q Sound page free c = record {
     stays = c.stays;
     spent = c.spent;
@@ -226,7 +226,7 @@ module _ {L G : Type 0} (contents : L → Option Pages) (m : Manager L G) (rel :
   summary_of_one Unsound page front = refl
 
   -- the block was read, and printed
-  pub block_done : (lines : Lines) (block : ℕ) (p q : PassState) (found : BlockPage) (page : Page) (text text' : List ℕ) (t u : ScanTotals) → IsFree contents m p → CopiesOrFindsUnsound contents m (tag_of_parts rel fork block) page p q found
+  pub block_done : (lines : Lines) (block : ℕ) (p q : PassState) (found : BlockPage) (page : Page) (text text' : List ℕ) (t u : ScanTotals) → HasNoTokens contents m p → CopiesOrFindsUnsound contents m (tag_of_parts rel fork block) page p q found
       → text' ≡ text ++ found_lines lines block found page → u ≡ counted t (found_summary found page) → IsWithin u u.blocks → DoesPart contents m rel fork lines block (block + 1) p q text text' t u (Ok tt)
   block_done lines block p q found page text text' t u free reads line total within = let o = one_read block p q found page free reads in let r = read_of found page q.view.front in record {
     stays = o.stays;
@@ -245,7 +245,7 @@ module _ {L G : Type 0} (contents : L → Option Pages) (m : Manager L G) (rel :
   }
 
   -- it was read, and there was no memory to print it
-  pub block_short : (lines : Lines) (block : ℕ) (p q : PassState) (found : BlockPage) (page : Page) (text text' : List ℕ) (t u : ScanTotals) → IsFree contents m p → CopiesOrFindsUnsound contents m (tag_of_parts rel fork block) page p q found
+  pub block_short : (lines : Lines) (block : ℕ) (p q : PassState) (found : BlockPage) (page : Page) (text text' : List ℕ) (t u : ScanTotals) → HasNoTokens contents m p → CopiesOrFindsUnsound contents m (tag_of_parts rel fork block) page p q found
       → text' ≡ text → u ≡ t → IsWithin t t.blocks → DoesPart contents m rel fork lines block (block + 1) p q text text' t u (Err Memory)
   block_short lines block p q found page text text' t u free reads line total within = let o = one_read block p q found page free reads in let r = read_of found page q.view.front in record {
     stays = o.stays;

@@ -13,9 +13,9 @@ use Rattle.backend_pass.specs.Passes.{PassState}
 use Rattle.page_jobs.specs.declared.printing.Lines.{Lines}
 use Rattle.page_jobs.specs.declared.working.Worker.{Worker}
 use Rattle.page_jobs.specs.Dealt.{AreDealt, DoParts, HasWorked, HaveWorked, IsDealt, IsReady}
-use Rattle.page_jobs.specs.Jobs.{AreFree, workers_in}
+use Rattle.page_jobs.specs.Jobs.{HaveNoTokens, workers_in}
 use Rattle.page_jobs.specs.Parts.{DoesPart, blocks_in, part_start}
-use Rattle.page_jobs.specs.Reads.{IsFree}
+use Rattle.page_jobs.specs.Reads.{HasNoTokens}
 
 times_le : (a b n : ℕ) → a ≤ b → a * n ≤ b * n
 times_le a b n le = grind (arith, le)
@@ -77,9 +77,9 @@ gathered ws ws' ps ps' all w so_far split more =
     ∙ so_far
 
 module _ {L G : Type 0} (contents : L → Option Pages) (m : Manager L G) (rel : ℕ) (fork : Fork) where
-  ready_one : (blocks workers number : ℕ) (p : PassState) (w : Worker) → blocks ≡ blocks_in m rel fork → 0 < workers → number < workers → IsDealt blocks workers number p w → IsFree contents m p → IsReady contents m rel fork w
+  ready_one : (blocks workers number : ℕ) (p : PassState) (w : Worker) → blocks ≡ blocks_in m rel fork → 0 < workers → number < workers → IsDealt blocks workers number p w → HasNoTokens contents m p → IsReady contents m rel fork w
   ready_one blocks workers number p w size some below d free = record {
-    free = subst (IsFree contents m) (sym d.pass) free;
+    free = subst (HasNoTokens contents m) (sym d.pass) free;
     ordered = let le = start_le blocks workers number some in let a = d.from in let b = d.to in omega arith;
     within = let le = start_within blocks workers (number + 1) (omega arith) in let b = d.to in omega arith;
     text = d.text;
@@ -87,7 +87,7 @@ module _ {L G : Type 0} (contents : L → Option Pages) (m : Manager L G) (rel :
     rewritten = d.rewritten;
   }
 
-  pub all_ready : (blocks workers number : ℕ) (ps : List PassState) (ws : List Worker) → blocks ≡ blocks_in m rel fork → 0 < workers → number + length ps ≡ workers → AreDealt blocks workers number ps ws → AreFree contents m ps
+  pub all_ready : (blocks workers number : ℕ) (ps : List PassState) (ws : List Worker) → blocks ≡ blocks_in m rel fork → 0 < workers → number + length ps ≡ workers → AreDealt blocks workers number ps ws → HaveNoTokens contents m ps
       → (i : ℕ) (d : Worker) → i < length ws → IsReady contents m rel fork (slice_index_or ws i d)
   all_ready blocks workers number [] [] size some count a free i d below = absurd (omega arith)
   all_ready blocks workers number [] (w ∷ ws) size some count a free i d below = absurd a
@@ -111,12 +111,12 @@ module _ {L G : Type 0} (contents : L → Option Pages) (m : Manager L G) (rel :
       )
 
   -- the passes before the last one
-  pub free_front : (ps qs : List PassState) → AreFree contents m (ps ++ qs) → AreFree contents m ps
+  pub free_front : (ps qs : List PassState) → HaveNoTokens contents m (ps ++ qs) → HaveNoTokens contents m ps
   free_front [] qs free = tt
   free_front (p ∷ ps) qs free = (free.0, free_front ps qs free.1)
 
   -- and those after them
-  pub free_back : (ps qs : List PassState) → AreFree contents m (ps ++ qs) → AreFree contents m qs
+  pub free_back : (ps qs : List PassState) → HaveNoTokens contents m (ps ++ qs) → HaveNoTokens contents m qs
   free_back [] qs free = free
   free_back (p ∷ ps) qs free = free_back ps qs free.1
 

@@ -21,7 +21,7 @@ use Rattle.backend_pass.specs.Reading.{met_read_refused}
 use Rattle.backend_pass.proofs.Seated.{same_on}
 use Rattle.page_jobs.specs.declared.ending.JobError.{JobError}
 use Rattle.page_jobs.specs.declared.ending.JobError.TheVariants.{Memory}
-use Rattle.page_jobs.specs.Reads.{IsFree}
+use Rattle.page_jobs.specs.Reads.{HasNoTokens}
 use Rattle.page_jobs.specs.Rewrites.{AreFrom, EachOutcome, IfRead, IsEnded, IsUnput, Outcome, Rule, StopsAtFailure, unsound, kept, refused, changed, block_of, calls_by, calls_for, outcome_totals, rule_of, result_of}
 use Rattle.page_jobs.specs.Rewriting.{AllUnderCleanup, EndsRewriteFor, FollowsRule, GoesOn, HoldsUntil, RewritesBlock, RewritesBlocks, RewritesPart, RewritesWhole, UnderCleanup}
 use Rattle.page_jobs.proofs.BlockRewrites.{reads_since}
@@ -84,7 +84,7 @@ module _ {L G : Type 0} (contents : L → Option Pages) (m : Manager L G) (rel :
   goes_on p q r a b = record { belongs = b.belongs; same = same_on p q r a.same b.same; front = let x = a.front in let y = b.front in omega arith }
 
   -- no block was dealt with
-  pub blocks_none : (from to : ℕ) (p : PassState) → IsFree contents m p → from ≤ to → RewritesBlocks contents m rel fork from to [] p p
+  pub blocks_none : (from to : ℕ) (p : PassState) → HasNoTokens contents m p → from ≤ to → RewritesBlocks contents m rel fork from to [] p p
   blocks_none from to p free le = record {
     goes = goes_none p free.belongs;
     spent = free.spent;
@@ -98,7 +98,7 @@ module _ {L G : Type 0} (contents : L → Option Pages) (m : Manager L G) (rel :
     locked = tt;
   }
 
-  pub rewrites_nothing : (from to : ℕ) (p : PassState) (t : RewriteTotals) (end : Result Unit JobError) → IsFree contents m p → from ≤ to → IsRewriteWithin t t.blocks → OnOk end (from ≡ to) → IfErr end (λ e. e ≡ Memory)
+  pub rewrites_nothing : (from to : ℕ) (p : PassState) (t : RewriteTotals) (end : Result Unit JobError) → HasNoTokens contents m p → from ≤ to → IsRewriteWithin t t.blocks → OnOk end (from ≡ to) → IfErr end (λ e. e ≡ Memory)
       → RewritesPart contents m rel fork from to p p t t end
   rewrites_nothing from to p t end free le within whole cause = let none = blocks_none from to p free le in record {
     outcomes = [];

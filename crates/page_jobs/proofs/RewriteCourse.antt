@@ -16,7 +16,7 @@ use Rattle.page_jobs.specs.Parts.{blocks_in, part_start}
 use Rattle.page_jobs.specs.Rewrites.{EachOutcome, IsEnded, Outcome, calls_for, is_ended, rule_of}
 use Rattle.page_jobs.specs.Rewriting.{FollowsRule, RewritesBlocks}
 use Rattle.page_jobs.specs.RewriteCloses.{PutsNoMore, RewritesAlone}
-use Rattle.page_jobs.specs.RewriteEnds.{AreParts, AreWhole, WroteNothing, BackendCalls, all_done}
+use Rattle.page_jobs.specs.RewriteEnds.{AreParts, DidAll, WroteNothing, BackendCalls, all_done}
 use Rattle.page_jobs.specs.RewriteJobs.{outcomes_in_all}
 use Rattle.page_jobs.proofs.Deals.{start_first, start_last}
 use Rattle.page_jobs.proofs.RewriteOrder.{HaveParts}
@@ -43,7 +43,7 @@ module _ {L G : Type 0} (contents : L → Option Pages) (m : Manager L G) (rel :
     pub reads : WroteNothing parts
     pub fit : AreParts from parts (blocks_in m rel fork)
     pub follow : (k : ℕ) (o : Outcome) → get_elem? (all_done parts) k ≡ some o → (number : ℕ) × FollowsRule contents m rel fork number o
-    pub whole : W → AreWhole from parts (blocks_in m rel fork)
+    pub whole : W → DidAll from parts (blocks_in m rel fork)
     pub ended : W → (k : ℕ) (o : Outcome) → get_elem? (all_done parts) k ≡ some o → is_ended o ≡ true
 
   only_reads : (p : BackendCalls) (ps : List BackendCalls) → writes_in p.before ≡ 0 → writes_in p.after ≡ 0 → WroteNothing ps → WroteNothing (p ∷ ps)
@@ -83,7 +83,7 @@ module _ {L G : Type 0} (contents : L → Option Pages) (m : Manager L G) (rel :
             (λ (t : get_elem? os i ≡ some o). (p.view.number, each_at (FollowsRule contents m rel fork p.view.number) os i o did.0.follow t))
             (λ (t : (n : ℕ) × (get_elem? (all_done rest.parts) n ≡ some o)). rest.follow t.0 o t.1)
             (at_both os (all_done rest.parts) i o at);
-        whole = λ w. (did.0.order, subst (λ (b : ℕ). AreWhole b rest.parts (blocks_in m rel fork)) (sym (did.1 w).0) (rest.whole w));
+        whole = λ w. (did.0.order, subst (λ (b : ℕ). DidAll b rest.parts (blocks_in m rel fork)) (sym (did.1 w).0) (rest.whole w));
         ended = λ w i o at. ⊎_elim
             (λ (t : get_elem? os i ≡ some o). each_at IsEnded os i o (did.1 w).1 t)
             (λ (t : (n : ℕ) × (get_elem? (all_done rest.parts) n ≡ some o)). rest.ended w t.0 o t.1)

@@ -9,7 +9,7 @@ use lib.ListN.{get_elem?}
 use Rattle.history_core.proofs.Calls.{at_both, total-both}
 use Rattle.grid.specs.Shape.{total}
 use Rattle.page_jobs.specs.Rewrites.{AreFrom, Outcome, block_of}
-use Rattle.page_jobs.specs.RewriteEnds.{AreParts, AreWhole, BackendCalls, all_done, block_weight, times}
+use Rattle.page_jobs.specs.RewriteEnds.{AreParts, BackendCalls, DidAll, all_done, block_weight, times}
 use Rattle.page_jobs.proofs.PartRewrites.{from_append}
 use Rattle.page_jobs.proofs.RewriteCounts.{test_else, test_same}
 
@@ -76,11 +76,11 @@ parts_long a n [] h = omega arith
 parts_long a n (p ∷ ps) h = let l = length-append p.done (all_done ps) in let w = h.2 in let rest = parts_long h.0 n ps h.3 in omega arith
 
 -- whole parts are parts, and do each block below n
-pub whole_parts : (a n : ℕ) (ps : List BackendCalls) → AreWhole a ps n → AreParts a ps n
+pub whole_parts : (a n : ℕ) (ps : List BackendCalls) → DidAll a ps n → AreParts a ps n
 whole_parts a n [] h = omega arith
 whole_parts a n (p ∷ ps) h = (a + length p.done, h.0, omega arith, whole_parts (a + length p.done) n ps h.1)
 
-pub whole_all : (b a n : ℕ) (ps : List BackendCalls) → AreWhole a ps n → a ≤ b → b < n → times b (all_done ps) ≡ 1
+pub whole_all : (b a n : ℕ) (ps : List BackendCalls) → DidAll a ps n → a ≤ b → b < n → times b (all_done ps) ≡ 1
 whole_all b a n [] h low up = absurd (omega arith)
 whole_all b a n (p ∷ ps) h low up =
     let here = times_range b a p.done h.0 in
@@ -91,7 +91,7 @@ whole_all b a n (p ∷ ps) h low up =
     (cases_lt b (a + length p.done))
 
 -- whole parts are of all blocks, in order
-pub whole_from : (a n : ℕ) (ps : List BackendCalls) → AreWhole a ps n → AreFrom a (all_done ps) × (a + length (all_done ps) ≡ n)
+pub whole_from : (a n : ℕ) (ps : List BackendCalls) → DidAll a ps n → AreFrom a (all_done ps) × (a + length (all_done ps) ≡ n)
 whole_from a n [] h = (tt, omega arith)
 whole_from a n (p ∷ ps) h = let rest = whole_from (a + length p.done) n ps h.1 in (from_append a p.done (all_done ps) h.0 rest.0, (let l = length-append p.done (all_done ps) in let e = rest.1 in omega arith))
 

@@ -17,7 +17,7 @@ use Rattle.page_jobs.specs.declared.working.Worker.{Worker}
 use Rattle.page_jobs.specs.Beside.{EndsBeside, WorkIsRefused}
 use Rattle.page_jobs.specs.Dealt.{AllDone, AreDealt}
 use Rattle.page_jobs.specs.Ending.{totals_of_rewrite}
-use Rattle.page_jobs.specs.Jobs.{AreFree}
+use Rattle.page_jobs.specs.Jobs.{HaveNoTokens}
 use Rattle.page_jobs.specs.Parts.{blocks_in, part_start}
 use Rattle.page_jobs.specs.Rewrites.{Outcome, outcome_totals}
 use Rattle.page_jobs.specs.Rewriting.{EndsRewriteFor, RewritesBlocks, RewritesPart, RewritesWhole}
@@ -106,7 +106,7 @@ module _ {L G : Type 0} (contents : L → Option Pages) (m : Manager L G) (rel :
   }
 
   -- where no worker began
-  pub undone_parts : (n : ℕ) (ps : List PassState) → n ≡ blocks_in m rel fork → ((block : ℕ) → block < n → names_block (tag_of_parts rel fork block) ≡ true) → 0 < length ps → AreFree contents m ps → RewriteParts contents m rel fork ps ps
+  pub undone_parts : (n : ℕ) (ps : List PassState) → n ≡ blocks_in m rel fork → ((block : ℕ) → block < n → names_block (tag_of_parts rel fork block) ≡ true) → 0 < length ps → HaveNoTokens contents m ps → RewriteParts contents m rel fork ps ps
   undone_parts n ps size named many free = record {
     counted = refl;
     outcomes = none_of_each ps;

@@ -10,7 +10,7 @@ use Rattle.page_layout.specs.declared.scan.ScanTotals.{ScanTotals}
 use Rattle.page_layout.specs.Scan.{IsWithin, sum_of_totals}
 use Rattle.page_jobs.specs.declared.ending.JobError.{JobError}
 use Rattle.page_jobs.specs.declared.working.Worker.{Worker}
-use Rattle.page_jobs.specs.Dealt.{AllDone, AnyEnds, AreCounted, job_text, job_totals, text_if_done}
+use Rattle.page_jobs.specs.Dealt.{AllDone, AnyEnds, TotalsAreInRange, job_text, job_totals, text_if_done}
 use Rattle.page_jobs.proofs.Sums.{sum_assoc}
 
 -- two texts put one after the other
@@ -118,7 +118,7 @@ done_next ws i w at ok f rest = let n : suc i ≡ i + 1 = omega arith in f (subs
 pub done_all : (ws : List Worker) (i : ℕ) → length ws ≤ i → (AllDone (drop i ws) → AllDone ws) → AllDone ws
 done_all ws i all f = f (subst AllDone (sym (drop_all ws i all)) tt)
 
-pub counted_at : (ws : List Worker) (i : ℕ) (w : Worker) → AreCounted ws → get_elem? ws i ≡ some w → IsWithin w.printed.totals w.printed.totals.blocks
+pub counted_at : (ws : List Worker) (i : ℕ) (w : Worker) → TotalsAreInRange ws → get_elem? ws i ≡ some w → IsWithin w.printed.totals w.printed.totals.blocks
 counted_at [] i w c at = absurd (some-ne-none w (sym at))
 counted_at (x ∷ ws) zero w c at = subst (λ (y : Worker). IsWithin y.printed.totals y.printed.totals.blocks) (some-injective x w at) c.0
 counted_at (x ∷ ws) (suc i) w c at = counted_at ws i w c.1 at

@@ -22,11 +22,11 @@ use Rattle.page_jobs.specs.declared.printing.Lines.{Lines}
 use Rattle.page_jobs.specs.declared.working.Worker.{Worker}
 use Rattle.page_jobs.specs.Ending.{as_done, totals_of_scan}
 use Rattle.page_jobs.specs.Printed.{BlockRead, reads_lines, reads_totals, totals_line}
-use Rattle.page_jobs.specs.Reads.{IsFree, IsKnown, IsWithinFront, calls_of_reads}
+use Rattle.page_jobs.specs.Reads.{HasNoTokens, IsKnown, IsWithinFront, calls_of_reads}
 use Rattle.page_jobs.specs.Parts.{AllReads, AreKnown, DoesPart, EndsFor, MeetsFault, blocks_in, part_start}
-use Rattle.page_jobs.specs.Dealt.{AllDone, AnyEnds, AreCounted, DoParts, job_text, job_totals, text_if_done}
+use Rattle.page_jobs.specs.Dealt.{AllDone, AnyEnds, DoParts, TotalsAreInRange, job_text, job_totals, text_if_done}
 use Rattle.page_jobs.specs.Beside.{EndsBeside, WorkIsRefused}
-use Rattle.page_jobs.specs.Jobs.{AnyMeets, AreFree, ReadParts, ReadsAll, ReadsPart, reads_between}
+use Rattle.page_jobs.specs.Jobs.{AnyMeets, HaveNoTokens, ReadParts, ReadsAll, ReadsPart, reads_between}
 use Rattle.page_jobs.proofs.Deals.{start_first, start_last, start_le}
 use Rattle.page_jobs.proofs.Staying.{stays_none}
 use Rattle.page_jobs.proofs.Texts.{text_last}
@@ -234,7 +234,7 @@ module _ {L G : Type 0} (contents : L → Option Pages) (m : Manager L G) (rel :
     job_cause (Err e) c = cause_of e c
 
   -- the workers' totals
-  pub parts_counted : (lines : Lines) (n k number : ℕ) (ps : List PassState) (xs : List Worker) → DoParts contents m rel fork lines n k number ps xs → AreCounted xs
+  pub parts_counted : (lines : Lines) (n k number : ℕ) (ps : List PassState) (xs : List Worker) → DoParts contents m rel fork lines n k number ps xs → TotalsAreInRange xs
   parts_counted lines n k number [] [] d = tt
   parts_counted lines n k number [] (x ∷ xs) d = absurd d
   parts_counted lines n k number (p ∷ ps) [] d = absurd d
@@ -264,13 +264,13 @@ module _ {L G : Type 0} (contents : L → Option Pages) (m : Manager L G) (rel :
       let e = ap (part_start n (length ps)) (let z : 0 + length ps ≡ length ps = omega arith in z) in
       omega (arith, few, last, e, fits)
 
-  pub free_at : (ps : List PassState) (w : ℕ) (p : PassState) → AreFree contents m ps → get_elem? ps w ≡ some p → IsFree contents m p
+  pub free_at : (ps : List PassState) (w : ℕ) (p : PassState) → HaveNoTokens contents m ps → get_elem? ps w ≡ some p → HasNoTokens contents m p
   free_at [] w p free at = absurd (some-ne-none p (sym at))
-  free_at (x ∷ ps) zero p free at = subst (IsFree contents m) (some-injective x p at) free.0
+  free_at (x ∷ ps) zero p free at = subst (HasNoTokens contents m) (some-injective x p at) free.0
   free_at (x ∷ ps) (suc w) p free at = free_at ps w p free.1 at
 
   -- where no worker began
-  pub unread_parts : (ps : List PassState) → 0 < length ps → AreFree contents m ps → ReadParts contents m rel fork ps ps
+  pub unread_parts : (ps : List PassState) → 0 < length ps → HaveNoTokens contents m ps → ReadParts contents m rel fork ps ps
   unread_parts ps many free = record {
     counted = refl;
     each = λ w p q at there.

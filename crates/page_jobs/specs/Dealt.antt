@@ -11,7 +11,7 @@ use Rattle.page_jobs.specs.declared.ending.JobError.{JobError}
 use Rattle.page_jobs.specs.declared.printing.Lines.{Lines}
 use Rattle.page_jobs.specs.declared.working.Worker.{Worker}
 use Rattle.page_jobs.specs.Parts.{DoesPart, blocks_in, part_start}
-use Rattle.page_jobs.specs.Reads.{IsFree}
+use Rattle.page_jobs.specs.Reads.{HasNoTokens}
 
 -- The worker has this pass, its part of the blocks, and nothing printed or rewritten
 pub record IsDealt (blocks workers number : ℕ) (p : PassState) (w : Worker) : Type 0 where
@@ -46,9 +46,9 @@ job_totals [] = no_totals
 job_totals (w ∷ ws) = sum_of_totals w.printed.totals (job_totals ws)
 
 -- no number of theirs is above what their blocks can give
-abbrev pub AreCounted : List Worker → Type 0
-AreCounted [] = Unit {0}
-AreCounted (w ∷ ws) = IsWithin w.printed.totals w.printed.totals.blocks × AreCounted ws
+abbrev pub TotalsAreInRange : List Worker → Type 0
+TotalsAreInRange [] = Unit {0}
+TotalsAreInRange (w ∷ ws) = IsWithin w.printed.totals w.printed.totals.blocks × TotalsAreInRange ws
 
 -- all ended well
 abbrev pub AllDone : List Worker → Type 0
@@ -63,7 +63,7 @@ AnyEnds e (w ∷ ws) = (w.end ≡ Err e) ⊎ AnyEnds e ws
 module _ {L G : Type 0} (contents : L → Option Pages) (m : Manager L G) (rel : ℕ) (fork : Fork) where
   -- A worker can begin: its pass has no token, its part is one of the fork's blocks, and nothing is printed or rewritten
   pub record IsReady (w : Worker) : Type 0 where
-    pub free : IsFree contents m w.pass
+    pub free : HasNoTokens contents m w.pass
     pub ordered : w.from ≤ w.to
     pub within : w.to ≤ blocks_in m rel fork
     pub text : w.printed.text.items ≡ []

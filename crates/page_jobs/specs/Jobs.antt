@@ -19,7 +19,7 @@ use Rattle.page_jobs.specs.declared.printing.Lines.{Lines}
 use Rattle.page_jobs.specs.Beside.{LastIsRefused}
 use Rattle.page_jobs.specs.Ending.{totals_of_scan}
 use Rattle.page_jobs.specs.Printed.{BlockRead, reads_lines, reads_totals, totals_line}
-use Rattle.page_jobs.specs.Reads.{IsFree, IsWithinFront, Stays, calls_of_reads}
+use Rattle.page_jobs.specs.Reads.{HasNoTokens, IsWithinFront, Stays, calls_of_reads}
 use Rattle.page_jobs.specs.Parts.{AllReads, AreKnown, MeetsFault, blocks_in, part_start}
 
 -- the passes that work: all but the last
@@ -37,9 +37,9 @@ reads_between from to rs = take (to - from) (drop from rs)
 
 module _ {L G : Type 0} (contents : L → Option Pages) (m : Manager L G) where
   -- each pass is the manager's, and has no token
-  abbrev pub AreFree : List PassState → Type 0
-  AreFree [] = Unit {0}
-  AreFree (p ∷ ps) = IsFree contents m p × AreFree ps
+  abbrev pub HaveNoTokens : List PassState → Type 0
+  HaveNoTokens [] = Unit {0}
+  HaveNoTokens (p ∷ ps) = HasNoTokens contents m p × HaveNoTokens ps
 
   -- The page of the block was this one as the table was opened, which is known
   pub record WasKnownAtOpening (tag : Tag) (page : Page) : Type 0 where

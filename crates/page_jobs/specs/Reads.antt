@@ -60,7 +60,7 @@ calls_of_reads backend rel fork block (unsound ∷ rs) = calls_of_reads backend 
 
 module _ {L G : Type 0} (contents : L → Option Pages) (m : Manager L G) where
   -- The pass is the manager's, and has no token
-  pub record IsFree (p : PassState) : Type 0 where
+  pub record HasNoTokens (p : PassState) : Type 0 where
     pub belongs : Belongs contents m p
     pub spent : p.tokens ≡ no_tokens
 

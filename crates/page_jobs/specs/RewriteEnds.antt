@@ -133,6 +133,6 @@ AreParts a [] n = a ≤ n
 AreParts a (p ∷ ps) n = (c : ℕ) × AreFrom a p.done × (a + length p.done ≤ c) × AreParts c ps n
 
 -- and each did all of its blocks
-abbrev pub AreWhole : ℕ → List BackendCalls → ℕ → Type 0
-AreWhole a [] n = a ≡ n
-AreWhole a (p ∷ ps) n = AreFrom a p.done × AreWhole (a + length p.done) ps n
+abbrev pub DidAll : ℕ → List BackendCalls → ℕ → Type 0
+DidAll a [] n = a ≡ n
+DidAll a (p ∷ ps) n = AreFrom a p.done × DidAll (a + length p.done) ps n

@@ -5,7 +5,7 @@ ghost use Rattle.backend_pass.specs.Managers.{Belongs};
 ghost use Rattle.backend_pass.specs.Passes.{KeepsCallers, KeepsMark, SamePass};
 ghost use Rattle.backend_pass.specs.Reading.{NothingFails};
 ghost use Rattle.page_jobs.specs.Beside.{EndsBeside, fault_of_flush};
-ghost use Rattle.page_jobs.specs.Reads.{IsFree};
+ghost use Rattle.page_jobs.specs.Reads.{HasNoTokens};
 
 use crate::ending::JobError;
 use backend_pass::{FlushError, Manager, Pass};
@@ -22,7 +22,7 @@ pub trait Beside<L: BlockLane, G: LogDevice> {
         rt: &R,
         pass: &mut Pass,
     ) -> Result<(), FlushError>
-        requires free { IsFree L.contents manager.now pass.old }
+        requires free { HasNoTokens L.contents manager.now pass.old }
         ensures belongs { Belongs L.contents manager.now pass.new }
         ensures same { SamePass pass.old pass.new }
         ensures callers { KeepsCallers pass.old pass.new }
@@ -68,7 +68,7 @@ pub(crate) fn work_last<L: BlockLane, G: LogDevice, R: Wait, B: Beside<L, G>>(
     last: &mut Pass,
     beside: &mut B,
 ) -> Result<(), JobError>
-    requires free { IsFree L.contents manager.now last.old }
+    requires free { HasNoTokens L.contents manager.now last.old }
     ensures ends { EndsBeside L.contents manager.now last.old last.new result }
 {
     match beside.work(manager, rt, last) {

@@ -3,7 +3,7 @@ ghost use Rattle.std.specs.Prelude.{◌≡◌, ◌≤◌, ◌+◌, ◌^◌, ◌�
 ghost use Rattle.log_device.specs.Bytes.{Puts};
 ghost use Rattle.log_device.specs.Faults.{Rose};
 ghost use Rattle.page_jobs.specs.declared.ending.JobError.TheVariants.{Memory, OutFault};
-ghost use Rattle.page_jobs.specs.Dealt.{AllDone, AnyEnds, AreCounted, job_text, job_totals};
+ghost use Rattle.page_jobs.specs.Dealt.{AllDone, AnyEnds, TotalsAreInRange, job_text, job_totals};
 ghost use Rattle.page_jobs.specs.Ending.{as_done, totals_of_scan};
 ghost use Rattle.page_jobs.specs.Printed.{totals_line};
 
@@ -34,7 +34,7 @@ fn put_texts<O: Sink>(workers: &[Worker], out: &mut O) -> Result<(), JobError>
 
 /// The totals of all workers.
 fn sum_totals(workers: &[Worker]) -> ScanTotals
-    requires counts { AreCounted workers.now }
+    requires counts { TotalsAreInRange workers.now }
     requires few { (job_totals workers.now).blocks ≤ 2 ^ 32 }
     ensures { result ≡ job_totals workers.now }
 {
@@ -66,7 +66,7 @@ pub(crate) fn put_all<O: Sink>(
     beside_end: Result<(), JobError>,
     out: &mut O,
 ) -> Result<Totals, JobError>
-    requires counts { AreCounted workers.now }
+    requires counts { TotalsAreInRange workers.now }
     requires few { (job_totals workers.now).blocks ≤ 2 ^ 32 }
     ensures text { Puts (job_text (totals_line (job_totals workers.now)) workers.now) (O.bytes out.old) (O.bytes out.new) (as_done result) }
     ensures later { O.faults out.old ≤ O.faults out.new }

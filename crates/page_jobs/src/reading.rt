@@ -2,7 +2,7 @@
 ghost use Rattle.std.specs.Prelude.{◌≡◌, ◌<◌, IfErr, IfOk, OnOk, true, false};
 ghost use Rattle.block_tag.specs.Catalogue.{blocks_at};
 ghost use Rattle.frame_table.specs.Seats.{relations_of};
-ghost use Rattle.page_jobs.specs.Reads.{CopiesBlock, CopiesOrFindsUnsound, IsFree, PinsOne, RefusesBlock, StopsAt, fault_of_refusal, is_crowding, is_tried_once};
+ghost use Rattle.page_jobs.specs.Reads.{CopiesBlock, CopiesOrFindsUnsound, HasNoTokens, PinsOne, RefusesBlock, StopsAt, fault_of_refusal, is_crowding, is_tried_once};
 
 use crate::ending::JobError;
 use crate::gate::Gate;
@@ -33,7 +33,7 @@ pub(crate) fn pin_block<L: BlockLane, G: LogDevice, R: Wait>(
     tag: Tag,
     ring: &mut Option<Ring>,
 ) -> Result<Pinned, ReadError>
-    requires free { IsFree L.contents manager.now pass.old }
+    requires free { HasNoTokens L.contents manager.now pass.old }
     requires block { tag.block < blocks_at (relations_of manager.now.table) tag.rel.0 tag.fork }
     ensures pinned { IfOk result (PinsOne L.contents manager.now tag pass.old pass.new) }
     ensures refused { IfErr result (RefusesBlock L.contents manager.now tag pass.old pass.new) }
@@ -63,7 +63,7 @@ fn copy_block<L: BlockLane, G: LogDevice, R: Wait, T: Gate>(
     ring: &mut Option<Ring>,
     page: &mut Page,
 ) -> Result<(), ReadError>
-    requires free { IsFree L.contents manager.now pass.old }
+    requires free { HasNoTokens L.contents manager.now pass.old }
     requires block { tag.block < blocks_at (relations_of manager.now.table) tag.rel.0 tag.fork }
     ensures copied { OnOk result (CopiesBlock L.contents manager.now tag page.new pass.old pass.new) }
     ensures refused { IfErr result (RefusesBlock L.contents manager.now tag pass.old pass.new) }
@@ -113,7 +113,7 @@ pub(crate) fn read_block<L: BlockLane, G: LogDevice, R: Wait, T: Gate>(
     ring: &mut Option<Ring>,
     page: &mut Page,
 ) -> Result<BlockPage, JobError>
-    requires free { IsFree L.contents manager.now pass.old }
+    requires free { HasNoTokens L.contents manager.now pass.old }
     requires block { tag.block < blocks_at (relations_of manager.now.table) tag.rel.0 tag.fork }
     ensures read { IfOk result (λ found. CopiesOrFindsUnsound L.contents manager.now tag page.new pass.old pass.new found) }
     ensures fault { IfErr result (StopsAt L.contents manager.now tag pass.old pass.new) }

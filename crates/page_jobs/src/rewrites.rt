@@ -6,8 +6,8 @@ ghost use Rattle.page_jobs.specs.declared.ending.Totals.{Totals};
 ghost use Rattle.page_jobs.specs.Beside.{EndsBeside, StaysBeside, WorkIsRefused, WorksBeside};
 ghost use Rattle.page_jobs.specs.Dealt.{AllDone, IsReady};
 ghost use Rattle.page_jobs.specs.Ending.{totals_of_rewrite};
-ghost use Rattle.page_jobs.specs.Jobs.{AreFree, workers_in};
-ghost use Rattle.page_jobs.specs.Reads.{IsFree};
+ghost use Rattle.page_jobs.specs.Jobs.{HaveNoTokens, workers_in};
+ghost use Rattle.page_jobs.specs.Reads.{HasNoTokens};
 ghost use Rattle.page_jobs.specs.Relations.{MeetNothing};
 ghost use Rattle.page_jobs.specs.Rewriters.{AreRewritesCounted, EndsFirst, HaveRewritten, rewritten_totals};
 ghost use Rattle.page_jobs.specs.RewriteJobs.{EndsRewrite, FailsFirst, RewriteParts, RewritesFork};
@@ -71,7 +71,7 @@ fn rewrite_beside<
 ) -> Result<(), JobError>
     requires some { 0 < vec_len workers.old }
     requires ready { All (IsReady L.contents manager.now blocks.rel.0 blocks.fork) workers.old.items }
-    requires free { IsFree L.contents manager.now last.old }
+    requires free { HasNoTokens L.contents manager.now last.old }
     requires frames { (16 ≤ frames_of manager.now.table) × (frames_of manager.now.table ≤ 4096) }
     ensures count { vec_len workers.new ≡ vec_len workers.old }
     ensures rewritten { HaveRewritten L.contents manager.now blocks.rel.0 blocks.fork workers.old.items workers.new.items }
@@ -131,8 +131,8 @@ fn rewrite_passes<
 ) -> Result<Totals, JobError>
     requires some { 0 < vec_len passes.old }
     requires few { vec_len passes.old < 64 }
-    requires free { AreFree L.contents manager.now passes.old.items }
-    requires last { IsFree L.contents manager.now last.old }
+    requires free { HaveNoTokens L.contents manager.now passes.old.items }
+    requires last { HasNoTokens L.contents manager.now last.old }
     requires frames { (16 ≤ frames_of manager.now.table) × (frames_of manager.now.table ≤ 4096) }
     ensures passes { RewriteParts L.contents manager.now blocks.rel.0 blocks.fork passes.old.items passes.new.items }
     ensures capacity { vec_capacity passes.new ≡ vec_capacity passes.old }
@@ -169,7 +169,7 @@ pub fn rewrite<
 ) -> JobEnd
     requires several { 2 ≤ vec_len passes }
     requires few { vec_len passes ≤ 64 }
-    requires free { AreFree L.contents manager.now passes.items }
+    requires free { HaveNoTokens L.contents manager.now passes.items }
     requires frames { (16 ≤ frames_of manager.now.table) × (frames_of manager.now.table ≤ 4096) }
     ensures passes { RewriteParts L.contents manager.now rel.0 fork (workers_in passes.items) (workers_in result.passes.items) }
     ensures last { StaysBeside L.contents manager.now passes.items result.passes.items }

@@ -8,7 +8,7 @@ ghost use Rattle.backend_pass.specs.Managers.{Belongs};
 ghost use Rattle.page_layout.specs.Outcomes.{IsRewriteWithin, no_rewrite_totals};
 ghost use Rattle.frame_table.specs.Seats.{frames_of, relations_of};
 ghost use Rattle.page_jobs.specs.Parts.{blocks_in};
-ghost use Rattle.page_jobs.specs.Reads.{IsFree, RefusesBlock};
+ghost use Rattle.page_jobs.specs.Reads.{HasNoTokens, RefusesBlock};
 ghost use Rattle.page_jobs.specs.Rewriting.{LocksOne, RewritesBlock, RewritesHeld, RewritesLocked, RewritesPart, fault_of_put};
 
 use crate::ending::JobError;
@@ -41,7 +41,7 @@ fn lock_block<L: BlockLane, G: LogDevice, R: Wait>(
     tag: Tag,
     ring: &mut Option<Ring>,
 ) -> Result<Exclusive, ReadError>
-    requires free { IsFree L.contents manager.now pass.old }
+    requires free { HasNoTokens L.contents manager.now pass.old }
     requires block { tag.block < blocks_at (relations_of manager.now.table) tag.rel.0 tag.fork }
     ensures locked { IfOk result (LocksOne L.contents manager.now tag pass.old pass.new) }
     ensures refused { IfErr result (RefusesBlock L.contents manager.now tag pass.old pass.new) }
@@ -128,7 +128,7 @@ pub(crate) fn rewrite_block<L: BlockLane, G: LogDevice, R: Wait, T: Gate>(
     tag: Tag,
     desk: &mut RewriteBuffers,
 ) -> Result<PageRewrite, JobError>
-    requires free { IsFree L.contents manager.now pass.old }
+    requires free { HasNoTokens L.contents manager.now pass.old }
     requires block { tag.block < blocks_at (relations_of manager.now.table) tag.rel.0 tag.fork }
     ensures rewrites { RewritesBlock L.contents manager.now tag.rel.0 tag.fork tag.block pass.old pass.new result }
 {
@@ -155,7 +155,7 @@ fn rewrite_counted<L: BlockLane, G: LogDevice, R: Wait, T: Gate>(
     desk: &mut RewriteBuffers,
     totals: &mut RewriteTotals,
 ) -> Result<(), JobError>
-    requires free { IsFree L.contents manager.now pass.old }
+    requires free { HasNoTokens L.contents manager.now pass.old }
     requires block { tag.block < blocks_in manager.now tag.rel.0 tag.fork }
     requires within { IsRewriteWithin totals.now totals.now.blocks }
     requires room { totals.now.blocks < 2 ^ 32 }
@@ -181,7 +181,7 @@ fn rewrite_blocks<L: BlockLane, G: LogDevice, R: Wait, T: Gate>(
     desk: &mut RewriteBuffers,
     totals: &mut RewriteTotals,
 ) -> Result<(), JobError>
-    requires free { IsFree L.contents manager.now pass.old }
+    requires free { HasNoTokens L.contents manager.now pass.old }
     requires part { (from ≤ to) × (to ≤ blocks_in manager.now rel.0 fork) }
     requires none { totals.now ≡ no_rewrite_totals }
     ensures rewrites { RewritesPart L.contents manager.now rel.0 fork from to pass.old pass.new totals.entry.now totals.exit.now result }
@@ -207,7 +207,7 @@ pub(crate) fn rewrite_part<L: BlockLane, G: LogDevice, R: Wait, T: Gate>(
     to: u32,
     totals: &mut RewriteTotals,
 ) -> Result<(), JobError>
-    requires free { IsFree L.contents manager.now pass.old }
+    requires free { HasNoTokens L.contents manager.now pass.old }
     requires part { (from ≤ to) × (to ≤ blocks_in manager.now rel.0 fork) }
     requires none { totals.now ≡ no_rewrite_totals }
     requires frames { (16 ≤ frames_of manager.now.table) × (frames_of manager.now.table ≤ 4096) }
@@ -240,7 +240,7 @@ impl Worker {
         gate: &T,
         blocks: ForkBlocks,
     )
-        requires free { IsFree L.contents manager.now self.old.pass }
+        requires free { HasNoTokens L.contents manager.now self.old.pass }
         requires part { (self.old.from ≤ self.old.to) × (self.old.to ≤ blocks_in manager.now blocks.rel.0 blocks.fork) }
         requires none { self.old.rewritten ≡ no_rewrite_totals }
         requires frames { (16 ≤ frames_of manager.now.table) × (frames_of manager.now.table ≤ 4096) }

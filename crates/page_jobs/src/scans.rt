@@ -11,9 +11,9 @@ ghost use Rattle.page_jobs.specs.declared.printing.Lines.TheVariants.{Dump, Scan
 ghost use Rattle.page_jobs.specs.Beside.{EndsBeside, StaysBeside, WorkIsRefused, WorksBeside};
 ghost use Rattle.page_jobs.specs.Dealt.{HaveWorked, IsReady};
 ghost use Rattle.page_jobs.specs.Ending.{as_done};
-ghost use Rattle.page_jobs.specs.Jobs.{AllAtBase, AnyMeets, AreFree, EndsJob, IsOrigin, ReadParts, ReadsAll, workers_in};
+ghost use Rattle.page_jobs.specs.Jobs.{AllAtBase, AnyMeets, EndsJob, HaveNoTokens, IsOrigin, ReadParts, ReadsAll, workers_in};
 ghost use Rattle.page_jobs.specs.Printed.{text_of_pages};
-ghost use Rattle.page_jobs.specs.Reads.{IsFree};
+ghost use Rattle.page_jobs.specs.Reads.{HasNoTokens};
 ghost use Rattle.page_jobs.specs.Relations.{MeetNothing};
 
 use crate::beside::{Beside, work_last};
@@ -75,7 +75,7 @@ fn work_beside<
 ) -> Result<(), JobError>
     requires some { 0 < vec_len workers.old }
     requires ready { All (IsReady L.contents manager.now job.rel.0 job.fork) workers.old.items }
-    requires free { IsFree L.contents manager.now last.old }
+    requires free { HasNoTokens L.contents manager.now last.old }
     requires frames { (16 ≤ frames_of manager.now.table) × (frames_of manager.now.table ≤ 4096) }
     ensures count { vec_len workers.new ≡ vec_len workers.old }
     ensures worked { HaveWorked L.contents manager.now job.rel.0 job.fork job.lines workers.old.items workers.new.items }
@@ -116,8 +116,8 @@ fn work_passes<
 ) -> Result<Totals, JobError>
     requires some { 0 < vec_len passes.old }
     requires few { vec_len passes.old < 64 }
-    requires free { AreFree L.contents manager.now passes.old.items }
-    requires last { IsFree L.contents manager.now last.old }
+    requires free { HaveNoTokens L.contents manager.now passes.old.items }
+    requires last { HasNoTokens L.contents manager.now last.old }
     requires frames { (16 ≤ frames_of manager.now.table) × (frames_of manager.now.table ≤ 4096) }
     ensures passes { ReadParts L.contents manager.now job.rel.0 job.fork passes.old.items passes.new.items }
     ensures capacity { vec_capacity passes.new ≡ vec_capacity passes.old }
@@ -159,7 +159,7 @@ fn run_job<
 ) -> JobEnd
     requires several { 2 ≤ vec_len passes }
     requires few { vec_len passes ≤ 64 }
-    requires free { AreFree L.contents manager.now passes.items }
+    requires free { HaveNoTokens L.contents manager.now passes.items }
     requires frames { (16 ≤ frames_of manager.now.table) × (frames_of manager.now.table ≤ 4096) }
     ensures passes { ReadParts L.contents manager.now job.rel.0 job.fork (workers_in passes.items) (workers_in result.passes.items) }
     ensures last { StaysBeside L.contents manager.now passes.items result.passes.items }
@@ -208,7 +208,7 @@ pub fn scan<
 ) -> JobEnd
     requires several { 2 ≤ vec_len passes }
     requires few { vec_len passes ≤ 64 }
-    requires free { AreFree L.contents manager.now passes.items }
+    requires free { HaveNoTokens L.contents manager.now passes.items }
     requires frames { (16 ≤ frames_of manager.now.table) × (frames_of manager.now.table ≤ 4096) }
     ensures passes { ReadParts L.contents manager.now rel.0 fork (workers_in passes.items) (workers_in result.passes.items) }
     ensures last { StaysBeside L.contents manager.now passes.items result.passes.items }
@@ -249,7 +249,7 @@ pub fn dump<
 ) -> JobEnd
     requires several { 2 ≤ vec_len passes }
     requires few { vec_len passes ≤ 64 }
-    requires free { AreFree L.contents manager.now passes.items }
+    requires free { HaveNoTokens L.contents manager.now passes.items }
     requires frames { (16 ≤ frames_of manager.now.table) × (frames_of manager.now.table ≤ 4096) }
     ensures passes { ReadParts L.contents manager.now rel.0 fork (workers_in passes.items) (workers_in result.passes.items) }
     ensures last { StaysBeside L.contents manager.now passes.items result.passes.items }

@@ -4,7 +4,7 @@ ghost use Rattle.block_tag.specs.Catalogue.{blocks_at};
 ghost use Rattle.page_layout.specs.Scan.{IsWithin, no_totals};
 ghost use Rattle.frame_table.specs.Seats.{frames_of, relations_of};
 ghost use Rattle.page_jobs.specs.Parts.{DoesPart, blocks_in};
-ghost use Rattle.page_jobs.specs.Reads.{IsFree};
+ghost use Rattle.page_jobs.specs.Reads.{HasNoTokens};
 
 use crate::ending::JobError;
 use crate::gate::Gate;
@@ -69,7 +69,7 @@ impl Worker {
         desk: &mut Desk,
         block: u32,
     ) -> Result<(), JobError>
-        requires free { IsFree L.contents manager.now self.old.pass }
+        requires free { HasNoTokens L.contents manager.now self.old.pass }
         requires block { block < blocks_in manager.now job.rel.0 job.fork }
         requires within { IsWithin self.old.printed.totals self.old.printed.totals.blocks }
         requires room { self.old.printed.totals.blocks < 2 ^ 32 }
@@ -107,7 +107,7 @@ impl Worker {
         job: Job,
         desk: &mut Desk,
     ) -> Result<(), JobError>
-        requires free { IsFree L.contents manager.now self.old.pass }
+        requires free { HasNoTokens L.contents manager.now self.old.pass }
         requires part { (self.old.from ≤ self.old.to) × (self.old.to ≤ blocks_in manager.now job.rel.0 job.fork) }
         requires none { self.old.printed.totals.blocks ≡ 0 }
         requires within { IsWithin self.old.printed.totals self.old.printed.totals.blocks }
@@ -129,7 +129,7 @@ impl Worker {
         gate: &T,
         job: Job,
     ) -> Result<(), JobError>
-        requires free { IsFree L.contents manager.now self.old.pass }
+        requires free { HasNoTokens L.contents manager.now self.old.pass }
         requires part { (self.old.from ≤ self.old.to) × (self.old.to ≤ blocks_in manager.now job.rel.0 job.fork) }
         requires printed { (self.old.printed.text.items ≡ []) × (self.old.printed.totals ≡ no_totals) }
         requires frames { (16 ≤ frames_of manager.now.table) × (frames_of manager.now.table ≤ 4096) }
@@ -153,7 +153,7 @@ impl Worker {
         gate: &T,
         job: Job,
     )
-        requires free { IsFree L.contents manager.now self.old.pass }
+        requires free { HasNoTokens L.contents manager.now self.old.pass }
         requires part { (self.old.from ≤ self.old.to) × (self.old.to ≤ blocks_in manager.now job.rel.0 job.fork) }
         requires printed { (self.old.printed.text.items ≡ []) × (self.old.printed.totals ≡ no_totals) }
         requires frames { (16 ≤ frames_of manager.now.table) × (frames_of manager.now.table ≤ 4096) }

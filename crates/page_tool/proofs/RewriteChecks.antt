@@ -10,8 +10,8 @@ use Rattle.backend_pass.specs.Closing.{EachPass, HasSwept}
 use Rattle.backend_pass.specs.Managers.{Belongs}
 use Rattle.backend_pass.specs.Passes.{KeepsCallers, PassState}
 use Rattle.checkpointer.specs.declared.ending.CheckpointError.{CheckpointError}
-use Rattle.page_jobs.specs.Jobs.{AreFree}
-use Rattle.page_jobs.specs.Reads.{IsFree}
+use Rattle.page_jobs.specs.Jobs.{HaveNoTokens}
+use Rattle.page_jobs.specs.Reads.{HasNoTokens}
 use Rattle.page_tool.specs.Checkpointing.{ChecksByLast, LastMeets, PassMeets, StoresAll, SweepsPast}
 use Rattle.page_tool.specs.Rewriting.{checkpoint_error}
 
@@ -33,7 +33,7 @@ any_at (y ∷ ps) q P front here zero x at = front 0 x (omega arith) at
 any_at (y ∷ ps) q P front here (suc i) x at = any_at ps q P (λ j z low. front (suc j) z (omega arith)) here i x at
 
 module _ {L G : Type 0} (contents : L → Option Pages) (m : Manager L G) where
-  free_last : (ps : List PassState) (p : PassState) → AreFree contents m (ps ++ p ∷ []) → IsFree contents m p
+  free_last : (ps : List PassState) (p : PassState) → HaveNoTokens contents m (ps ++ p ∷ []) → HasNoTokens contents m p
   free_last [] p free = free.0
   free_last (x ∷ ps) p free = free_last ps p free.1
 
@@ -49,8 +49,8 @@ module _ {L G : Type 0} (contents : L → Option Pages) (m : Manager L G) where
     is_last = let n = long in let here : length all - 1 ≡ length ps = omega arith in
         ap (λ (k : ℕ). get_elem? all' k) here ∙ ap (λ (l : List PassState). get_elem? l (length ps)) after ∙ last_at ps q
 
-    pub free_of_last : AreFree contents m all → IsFree contents m p
-    free_of_last free = free_last ps p (subst (AreFree contents m) before free)
+    pub free_of_last : HaveNoTokens contents m all → HasNoTokens contents m p
+    free_of_last free = free_last ps p (subst (HaveNoTokens contents m) before free)
 
     -- what holds of the last pass before and after
     of_last : (P : PassState → PassState → Type 0) → P p q → (x y : PassState) → get_elem? all (length all - 1) ≡ some x → get_elem? all' (length all - 1) ≡ some y → P x y

@@ -12,7 +12,7 @@ use Rattle.block_tag.specs.Names.{lane_number, names_block}
 use Rattle.log_device.specs.MemoryLog.{StoredLog}
 use Rattle.page_layout.specs.Fields.{lsn_of}
 use Rattle.page_layout.specs.Soundness.{is_sound_page}
-use Rattle.segment_store.specs.Contents.{AreWhole, Marks, Pages, no_marks}
+use Rattle.segment_store.specs.Contents.{AreFullPages, Marks, Pages, no_marks}
 use Rattle.segment_store.specs.Lanes.{HoldPages, lane_at, page_in, tag_at}
 use Rattle.segment_store.specs.Restored.{pages_in}
 use Rattle.pin_core.specs.State.{Page}
@@ -201,13 +201,13 @@ module _ {L G : Type 0} (d : Devices L G) (m : Manager L G) (r : RelationFork) (
         (b.of.now ∙ lane_has block x.0 b ∙ ap (λ (p : Page). Some p) (sym (standing_or (pages_after d.contents r lanes pages) block x.0 [] x.1)))
 
     -- each page has 8192 bytes
-    full_at : ((lane : L) → IfSome (d.contents lane) AreWhole) → (block : ℕ) (new : Page) → get_elem? (pages_after d.contents r lanes pages) block ≡ some new → length new ≡ 8192
+    full_at : ((lane : L) → IfSome (d.contents lane) AreFullPages) → (block : ℕ) (new : Page) → get_elem? (pages_after d.contents r lanes pages) block ≡ some new → length new ≡ 8192
     full_at whole block new at =
         let b = both_at block new at in
-        let all : AreWhole b.of.after = subst (λ (p : Option Pages). IfSome p AreWhole) b.of.is.holds (whole b.of.closed) in
+        let all : AreFullPages b.of.after = subst (λ (p : Option Pages). IfSome p AreFullPages) b.of.is.holds (whole b.of.closed) in
         subst (λ (p : Option Page). IfSome p (λ page. length page ≡ 8192)) (lane_has block new b) (all (tag_at r.fork block))
 
-    pub pages_full : ((lane : L) → IfSome (d.contents lane) AreWhole) → AreFull (pages_after d.contents r lanes pages)
+    pub pages_full : ((lane : L) → IfSome (d.contents lane) AreFullPages) → AreFull (pages_after d.contents r lanes pages)
     pages_full whole = each_full (pages_after d.contents r lanes pages) (full_at whole)
 
     module _ (has : HasRewrites (rule_at r) (blocks_in m 0 r.fork) c.state.known c.state.origin c.state.log) where
@@ -270,7 +270,7 @@ module _ {L G : Type 0} (d : Devices L G) (m : Manager L G) (r : RelationFork) (
           let left = (c.laws.invariant.device.columns 0 (omega arith)).left (λ none. let no = sym device.down ∙ none in absurd (cc)) in
           record { rest = left.rest; short = left.short; is_bytes = sym (device.bytes known told) ∙ left.is_bytes }
 
-      pub leaves_either : ((lane : L) → IfSome (d.contents lane) AreWhole) → HasRewrites (rule_at r) (blocks_in m 0 r.fork) c.state.known c.state.origin c.state.log
+      pub leaves_either : ((lane : L) → IfSome (d.contents lane) AreFullPages) → HasRewrites (rule_at r) (blocks_in m 0 r.fork) c.state.known c.state.origin c.state.log
           → LeavesEither (rule_at r) (names_of r) base pages (pages_after d.contents r lanes pages) (failed_after d.failed_writes r lanes) (file_at d.synced log known)
       leaves_either whole has = record {
         law = c.laws.invariant.log;

@@ -5,7 +5,7 @@ use mathlib.Core.Option.{some-injective}
 use lib.ListN.{get_elem?}
 use Rattle.page_layout.specs.declared.outcomes.RewriteTotals.{RewriteTotals}
 use Rattle.page_layout.specs.Outcomes.{rewrite_totals_of}
-use Rattle.segment_store.specs.Contents.{AreWhole}
+use Rattle.segment_store.specs.Contents.{AreFullPages}
 use Rattle.pin_core.specs.declared.view.FailedCalls.{FailedCalls}
 use Rattle.pin_core.specs.declared.view.View.{View}
 use Rattle.pin_core.specs.State.{Page}
@@ -81,7 +81,7 @@ module _ {L G : Type 0} (d : Devices L G) (m : Manager L G) (r : RelationFork) (
   cause reads writes (Ok totals) s = ok_cause d m r base ps zs started few lanes log c reads writes totals (nothing totals s)
   cause reads writes (Err e) s = err_cause d m r base ps zs started few lanes log c reads writes e (why_early e s)
 
-  module _ (either : ClosesEither d m) (rewritten : ClosesRewritten d m) (full : ClosesFull d m) (room : base_of m.table + 8224 * r.blocks ≤ 2 ^ 62) (none : d.log_faults (log_of m) ≡ 0) (full_pages : (lane : L) → IfSome (d.contents lane) AreWhole) (stays_used : StaysUsed) where
+  module _ (either : ClosesEither d m) (rewritten : ClosesRewritten d m) (full : ClosesFull d m) (room : base_of m.table + 8224 * r.blocks ≤ 2 ^ 62) (none : d.log_faults (log_of m) ≡ 0) (full_pages : (lane : L) → IfSome (d.contents lane) AreFullPages) (stays_used : StaysUsed) where
     -- a whole rewrite, and its checkpoint
     stored : (pages : List Page) → ArePages d.contents r base (opened_of m.table) pages → (totals : RewriteTotals) (s : StoresRewrite d.contents m r.fork ps zs (Ok totals))
         → RewritesAndStores d.contents m 0 r.fork ps s.qs zs s.whole.counts s.whole.stores.upto

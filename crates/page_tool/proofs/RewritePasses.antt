@@ -18,8 +18,8 @@ use Rattle.backend_pass.specs.Passes.{KeepsCallers, PassState}
 use Rattle.checkpointer.specs.Stages.{HasNoLock}
 use Rattle.checkpointer.proofs.Keeping.{callers_none, no_lock_after}
 use Rattle.page_jobs.specs.Beside.{StaysBeside, WorksBeside}
-use Rattle.page_jobs.specs.Jobs.{AreFree, workers_in}
-use Rattle.page_jobs.specs.Reads.{IsFree}
+use Rattle.page_jobs.specs.Jobs.{HaveNoTokens, workers_in}
+use Rattle.page_jobs.specs.Reads.{HasNoTokens}
 use Rattle.page_jobs.specs.Relations.{MeetNothing}
 use Rattle.page_jobs.specs.RewriteCloses.{PutsNoMore, RewritesAlone}
 use Rattle.page_jobs.specs.RewriteJobs.{RewriteParts}
@@ -37,13 +37,13 @@ puts_no_more : (q z : PassState) → z.view.calls ≡ q.view.calls → PutsNoMor
 puts_no_more q z same = record { more = []; calls = same ∙ sym (append-nil q.view.calls); reads = none_put }
 
 module _ {L G : Type 0} (contents : L → Option Pages) (m : Manager L G) where
-  free_each : (ps : List PassState) → ((i : ℕ) (p : PassState) → get_elem? ps i ≡ some p → IsFree contents m p) → AreFree contents m ps
+  free_each : (ps : List PassState) → ((i : ℕ) (p : PassState) → get_elem? ps i ≡ some p → HasNoTokens contents m p) → HaveNoTokens contents m ps
   free_each [] each = tt
   free_each (p ∷ ps) each = (each 0 p refl, free_each ps (λ i. each (suc i)))
 
-  free_at : (ps : List PassState) (i : ℕ) (p : PassState) → AreFree contents m ps → get_elem? ps i ≡ some p → IsFree contents m p
+  free_at : (ps : List PassState) (i : ℕ) (p : PassState) → HaveNoTokens contents m ps → get_elem? ps i ≡ some p → HasNoTokens contents m p
   free_at [] i p free at = absurd (some-ne-none p (sym at))
-  free_at (x ∷ ps) zero p free at = subst (IsFree contents m) (some-injective x p at) free.0
+  free_at (x ∷ ps) zero p free at = subst (HasNoTokens contents m) (some-injective x p at) free.0
   free_at (x ∷ ps) (suc i) p free at = free_at ps i p free.1 at
 
   -- each pass after a checkpoint by the last one
@@ -82,15 +82,15 @@ module _ {L G : Type 0} (contents : L → Option Pages) (m : Manager L G) where
         ∙ ((new_rests (length ps - 1) (base_of m.table) (frames_of m.table) 128 (lanes_in m.table)).frames f).no_content)
 
     -- the passes have no tokens
-    pub are_free : AreFree contents m qs
+    pub are_free : HaveNoTokens contents m qs
     are_free = free_each qs (λ i q at. let c = came_back contents m ps qs stays i q at in ⊎_elim
-        (λ (w : WorksBeside contents m c.before q). let free : IsFree contents m q = record { belongs = w.belongs; spent = w.callers.tokens ∙ (new.each i c.before c.at).tokens } in free)
+        (λ (w : WorksBeside contents m c.before q). let free : HasNoTokens contents m q = record { belongs = w.belongs; spent = w.callers.tokens ∙ (new.each i c.before c.at).tokens } in free)
         (λ (t : (get_elem? (workers_in ps) i ≡ some c.before) × (get_elem? (workers_in qs) i ≡ some q)).
         let below = inside (workers_in ps) i c.before t.0 in
         let listed = parts.listed in
         let os = there parts.outcomes i (omega arith) in
         let x = parts.each i c.before q os.0 t.0 t.1 os.1 in
-        let free : IsFree contents m q = record { belongs = x.goes.belongs; spent = x.spent } in
+        let free : HasNoTokens contents m q = record { belongs = x.goes.belongs; spent = x.spent } in
         free)
         c.either)
 

@@ -8,7 +8,7 @@ use Rattle.block_tag.specs.declared.tag.Tag.{Tag}
 use Rattle.block_tag.specs.Names.{lane_number}
 use Rattle.page_layout.specs.Fields.{lsn_of}
 use Rattle.page_layout.specs.Soundness.{is_sound_page}
-use Rattle.segment_store.specs.Contents.{AreWhole, Marks, Pages}
+use Rattle.segment_store.specs.Contents.{AreFullPages, Marks, Pages}
 use Rattle.segment_store.specs.Lanes.{lane_at, page_in, tag_at}
 use Rattle.pin_core.specs.State.{Page}
 use Rattle.history_core.specs.Log.{head_bytes, log_bytes, records}
@@ -29,7 +29,7 @@ unfolding records
 head_only names base = append-nil (head_bytes base)
 
 module _ {L G : Type 0} (contents : L → Option Pages) (failed : L → Marks) (bytes : G → Option (List ℕ)) (synced : G → ℕ) (r : RelationFork) (base : ℕ) (lanes : List L) (log : G)
-    (head : (known : List ℕ) → bytes log ≡ Some known → known ≡ head_bytes base) (whole : (lane : L) → IfSome (contents lane) AreWhole) where
+    (head : (known : List ℕ) → bytes log ≡ Some known → known ≡ head_bytes base) (whole : (lane : L) → IfSome (contents lane) AreFullPages) where
   module _ (pages : List Page) (are : ArePages contents r base lanes pages) where
     -- each page is as it was
     same : (block : ℕ) (old new : Page) → get_elem? pages block ≡ some old → get_elem? (pages_after contents r lanes pages) block ≡ some new → new ≡ old
@@ -47,7 +47,7 @@ module _ {L G : Type 0} (contents : L → Option Pages) (failed : L → Marks) (
         let x = page_at r.fork (map contents lanes) 0 pages block new at in
         let tag = tag_at r.fork block in
         let l = found contents (λ known. known tag ≡ Some (get_or pages block [])) lanes (lane_number tag (length (map contents lanes))) (are.held block (inside pages block x.0 x.1)) in
-        let all : AreWhole l.2.0 = subst (λ (p : Option Pages). IfSome p AreWhole) l.2.1 (whole l.0) in
+        let all : AreFullPages l.2.0 = subst (λ (p : Option Pages). IfSome p AreFullPages) l.2.1 (whole l.0) in
         let long : length (get_or pages block []) ≡ 8192 = subst (λ (p : Option Page). IfSome p (λ page. length page ≡ 8192)) l.2.2 (all tag) in
         ap length (same block x.0 new x.1 at ∙ sym (standing_or pages block x.0 [] x.1)) ∙ long
 

@@ -6,7 +6,7 @@ use mathlib.Core.Logic.{dite}
 use mathlib.Core.Option.{some, some-injective}
 use native.Mathlib.Decide.{ℕ_discrete}
 use lib.ListN.{get_elem?}
-use Rattle.segment_store.specs.Contents.{AreWhole}
+use Rattle.segment_store.specs.Contents.{AreFullPages}
 use Rattle.segment_store.specs.Lanes.{page_in, tag_at}
 use Rattle.pin_core.specs.State.{Page}
 use Rattle.page_layout.specs.declared.outcomes.PageRewrite.{PageRewrite}
@@ -164,7 +164,7 @@ module _ {L G : Type 0} (d : Devices L G) (m : Manager L G) (r : RelationFork) (
                 (each_either d m r base ps zs started few lanes log c pages are either known told block old new was at (unfailed block low)),
           )
 
-      pub is_rewritten : ((lane : L) → IfSome (d.contents lane) AreWhole) → StaysUsed → IsRewrittenFile (rule_at r) (names_of r) base pages (pages_after d.contents r lanes pages) (file_at d.synced log known)
+      pub is_rewritten : ((lane : L) → IfSome (d.contents lane) AreFullPages) → StaysUsed → IsRewrittenFile (rule_at r) (names_of r) base pages (pages_after d.contents r lanes pages) (file_at d.synced log known)
       is_rewritten full stays_used = record {
         law = c.laws.invariant.log;
         log = c.state.log;

@@ -8,7 +8,7 @@ ghost use Rattle.command_line.specs.Numbers.{HasOptionsInRange};
 ghost use Rattle.frame_table.specs.Seats.{base_of, frames_of, opened_of, relations_of};
 ghost use Rattle.page_jobs.specs.Beside.{StaysBeside};
 ghost use Rattle.page_jobs.specs.Ending.{as_done};
-ghost use Rattle.page_jobs.specs.Jobs.{AllAtBase, AreFree, EndsJob, IsOrigin, ReadParts, workers_in};
+ghost use Rattle.page_jobs.specs.Jobs.{AllAtBase, EndsJob, HaveNoTokens, IsOrigin, ReadParts, workers_in};
 ghost use Rattle.page_jobs.specs.Relations.{IsCatalogOf, MeetNothing};
 ghost use Rattle.page_layout.specs.Scan.{totals_of};
 ghost use Rattle.page_tool.specs.Causes.{HasListingCause, listing_end, listing_error, scan_totals_in};
@@ -117,7 +117,7 @@ fn list_blocks<L: BlockLane + Send, R: Threads + Wait + Sync, O: Sink, T: Gate +
         (relations_of manager.now.table) }
     requires several { 2 ≤ vec_len passes }
     requires few { vec_len passes ≤ 64 }
-    requires free { AreFree L.contents manager.now passes.items }
+    requires free { HaveNoTokens L.contents manager.now passes.items }
     requires frames { (16 ≤ frames_of manager.now.table) × (frames_of manager.now.table ≤ 4096) }
     ensures passes { ReadParts L.contents manager.now 0 listed.relation.fork (workers_in passes.items) (workers_in result.passes.items) }
     ensures last { StaysBeside L.contents manager.now passes.items result.passes.items }

@@ -12,7 +12,7 @@ ghost use Rattle.backend_pass.specs.Closing.{EachPass};
 ghost use Rattle.backend_pass.specs.Managers.{Belongs};
 ghost use Rattle.backend_pass.specs.Passes.{KeepsCallers, PassState};
 ghost use Rattle.checkpointer.specs.Stages.{HasNoLock};
-ghost use Rattle.page_jobs.specs.Jobs.{AreFree};
+ghost use Rattle.page_jobs.specs.Jobs.{HaveNoTokens};
 ghost use Rattle.page_tool.specs.Checkpointing.{ChecksByLast, LastMeets, PassMeets, StoresAll, StoresRewrite, SweepsPast};
 ghost use Rattle.page_tool.specs.Rewriting.{HasRewriteCause, LeavesRewritten, checkpoint_error, rewrite_totals_in};
 ghost use Rattle.page_tool.specs.Starting.{IsStarted, log_of};
@@ -153,7 +153,7 @@ fn checkpoint_all<L: BlockLane, G: LogDevice, R: Wait>(
     passes: &mut Vec<Pass>,
 ) -> Result<(), CheckpointError>
     requires some { 0 < vec_len passes.old }
-    requires free { AreFree L.contents manager.now passes.old.items }
+    requires free { HaveNoTokens L.contents manager.now passes.old.items }
     requires unlocked { (last : PassState) → get_elem? passes.old.items (length passes.old.items - 1) ≡ some last → HasNoLock last }
     ensures passes { ChecksByLast L.contents manager.now passes.old.items passes.new.items }
     ensures swept { OnOk result (StoresAll (lanes_in manager.now.table) passes.old.items passes.new.items) }

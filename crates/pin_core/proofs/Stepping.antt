@@ -15,7 +15,7 @@ use Rattle.pin_core.specs.Invariant.{FrameLaw, LinkLaw, TagsAreBlocks, pin_part,
 use Rattle.pin_core.specs.Maps.{PairLaw, MapLaw}
 use Rattle.pin_core.specs.Turns.{TurnKind, change_map, take_turn, leave_turn, map_out, map_back, TurnAllowed, partition_after, hold_after, view_turned, HoldLaw, turn_shape, turn_part}
 use Rattle.pin_core.specs.Kinds.{Kind, store_tag, erase_tag, pin_mapped, CanStoreTag, Allowed, frame_after, link_after, view_after}
-use Rattle.pin_core.specs.Steps.{AllowedAround, Event, IsFree, HoldsNothing, state_after, state_turned, Step, touches, turns, splits, joins, Run, rests, goes}
+use Rattle.pin_core.specs.Steps.{AllowedAround, Event, HoldsNothingAt, HoldsNothing, state_after, state_turned, Step, touches, turns, splits, joins, Run, rests, goes}
 use Rattle.grid.specs.Shape.{Grid, put, tallies}
 use Rattle.grid.proofs.Lists.{set_else, puts}
 use Rattle.grid.proofs.Sums.{term_le}
@@ -213,7 +213,7 @@ pub new_hold : (number base n p m q : ℕ) (pt : Partition) → HoldLaw pt (hold
 new_hold number base n p m q pt = subst (HoldLaw pt) (sym (hold_new n p m number base q)) (idle_hold pt)
 
 -- a view that has nothing at a frame may be forgotten there
-forgets : (fr : Frame) (l : Link) → IsFree l → Keeps frame_shape pin_part pin_part tt tt tt tt fr l fr idle
+forgets : (fr : Frame) (l : Link) → HoldsNothingAt l → Keeps frame_shape pin_part pin_part tt tt tt tt fr l fr idle
 forgets fr l a = record {
   column = λ t t' q c sums le _. grind (arith, q, c, a, sums pins, sums headers, sums pendings, sums settled_pins, sums settled_headers);
   cell = λ t q le c. idle_link fr;

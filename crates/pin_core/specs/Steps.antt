@@ -56,7 +56,7 @@ pub data Event : Type 0 where
   join : ℕ → Event
 
 -- a view has nothing at a frame that it must give back
-pub record IsFree (l : Link) : Type 0 where
+pub record HoldsNothingAt (l : Link) : Type 0 where
   pub no_pin : l.role ≡ Absent
   pub no_header : l.header ≡ None
   pub no_content : l.content ≡ Unlocked
@@ -66,7 +66,7 @@ pub record IsFree (l : Link) : Type 0 where
 
 -- The view holds nothing
 pub record HoldsNothing (v : View) : Type 0 where
-  pub frames : (f : ℕ) → IsFree (link v f)
+  pub frames : (f : ℕ) → HoldsNothingAt (link v f)
   pub partitions : (p : ℕ) → (hold v p).held ≡ false
   pub lanes : (n : ℕ) → (lane_hold v n).held ≡ false
   pub log : v.log.held ≡ false

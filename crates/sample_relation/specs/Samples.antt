@@ -57,5 +57,5 @@ unfoldable pub sample_page : ℕ → ℕ → List ℕ
 sample_page seed block = page_of_kind ((seed + block) % 8) block
 
 -- these bytes were put after the old ones
-pub record Appends (old new bytes : List ℕ) : Type 0 where
+pub record Extends (old new bytes : List ℕ) : Type 0 where
   pub is : new ≡ old ++ bytes

@@ -3,7 +3,7 @@
 
 ghost use Rattle.std.specs.Prelude.{◌≡◌, ◌≤◌, OnOk, OnErr, length, replicate};
 ghost use Rattle.byteorder.specs.Endian.{little_bytes};
-ghost use Rattle.sample_relation.specs.Samples.{Appends, header_bytes, item_offset, items, page_of_kind, pointer_bits, pointers, sample_page, unsound_page, used_page};
+ghost use Rattle.sample_relation.specs.Samples.{Extends, header_bytes, item_offset, items, page_of_kind, pointer_bits, pointers, sample_page, unsound_page, used_page};
 
 mod lane;
 mod lanes;
@@ -22,7 +22,7 @@ const HEADER_SIZE: u16 = 24;
 const SIZE_AND_VERSION: u16 = 0x2004;
 
 fn put_u16(bytes: &mut Vec<u8>, number: u16) -> Result<(), Memory>
-    ensures { OnOk result (Appends bytes.old.items bytes.new.items (little_bytes 2 number)) }
+    ensures { OnOk result (Extends bytes.old.items bytes.new.items (little_bytes 2 number)) }
 {
     let mut low_first = [0; 2];
     LittleEndian::write_u16(&mut low_first, number);
@@ -30,7 +30,7 @@ fn put_u16(bytes: &mut Vec<u8>, number: u16) -> Result<(), Memory>
 }
 
 fn put_u32(bytes: &mut Vec<u8>, number: u32) -> Result<(), Memory>
-    ensures { OnOk result (Appends bytes.old.items bytes.new.items (little_bytes 4 number)) }
+    ensures { OnOk result (Extends bytes.old.items bytes.new.items (little_bytes 4 number)) }
 {
     let mut low_first = [0; 4];
     LittleEndian::write_u32(&mut low_first, number);
@@ -40,7 +40,7 @@ fn put_u32(bytes: &mut Vec<u8>, number: u32) -> Result<(), Memory>
 /// So many bytes of this value.
 fn put_copies(bytes: &mut Vec<u8>, count: usize, value: u8) -> Result<(), Memory>
     requires { count ≤ 8192 }
-    ensures { OnOk result (Appends bytes.old.items bytes.new.items (replicate count value)) }
+    ensures { OnOk result (Extends bytes.old.items bytes.new.items (replicate count value)) }
 {
     bytes.resize(bytes.len() + count, value)
 }
@@ -53,7 +53,7 @@ fn put_header(
     lower: u16,
     upper: u16,
 ) -> Result<(), Memory>
-    ensures { OnOk result (Appends bytes.old.items bytes.new.items (header_bytes lsn flags lower upper)) }
+    ensures { OnOk result (Extends bytes.old.items bytes.new.items (header_bytes lsn flags lower upper)) }
 {
     put_u32(bytes, (lsn / 0x1_0000_0000) as u32)?;
     put_u32(bytes, (lsn % 0x1_0000_0000) as u32)?;
@@ -87,7 +87,7 @@ fn pointer_of(block: u32, item: u16) -> u32
 
 fn put_pointers(bytes: &mut Vec<u8>, block: u32, count: u16) -> Result<(), Memory>
     requires { count ≤ 7 }
-    ensures { OnOk result (Appends bytes.old.items bytes.new.items (pointers block count)) }
+    ensures { OnOk result (Extends bytes.old.items bytes.new.items (pointers block count)) }
 {
     for before in 0..count {
         put_u32(bytes, pointer_of(block, before + 1))?;
@@ -98,7 +98,7 @@ fn put_pointers(bytes: &mut Vec<u8>, block: u32, count: u16) -> Result<(), Memor
 /// The items, that of the largest number first.
 fn put_items(bytes: &mut Vec<u8>, block: u32, count: u16) -> Result<(), Memory>
     requires { count ≤ 7 }
-    ensures { OnOk result (Appends bytes.old.items bytes.new.items (items block count)) }
+    ensures { OnOk result (Extends bytes.old.items bytes.new.items (items block count)) }
 {
     for below in (0..count).rev() {
         let item = below + 1;
@@ -110,7 +110,7 @@ fn put_items(bytes: &mut Vec<u8>, block: u32, count: u16) -> Result<(), Memory>
 
 fn put_used_page(bytes: &mut Vec<u8>, block: u32, count: u16) -> Result<(), Memory>
     requires { count ≤ 7 }
-    ensures { OnOk result (Appends bytes.old.items bytes.new.items (used_page block count)) }
+    ensures { OnOk result (Extends bytes.old.items bytes.new.items (used_page block count)) }
 {
     let lower = HEADER_SIZE + 4 * count;
     let upper = offset_of(count);
@@ -121,7 +121,7 @@ fn put_used_page(bytes: &mut Vec<u8>, block: u32, count: u16) -> Result<(), Memo
 }
 
 fn put_unsound_page(bytes: &mut Vec<u8>, block: u32) -> Result<(), Memory>
-    ensures { OnOk result (Appends bytes.old.items bytes.new.items (unsound_page block)) }
+    ensures { OnOk result (Extends bytes.old.items bytes.new.items (unsound_page block)) }
 {
     let upper = PAGE_SIZE as u16;
     put_header(bytes, 8 * u64::from(block), 8, HEADER_SIZE, upper)?;
@@ -131,7 +131,7 @@ fn put_unsound_page(bytes: &mut Vec<u8>, block: u32) -> Result<(), Memory>
 /// The page of a kind: a new one, one that isn't sound, or one with so many items.
 fn put_page(bytes: &mut Vec<u8>, kind: u16, block: u32) -> Result<(), Memory>
     requires { kind ≤ 7 }
-    ensures { OnOk result (Appends bytes.old.items bytes.new.items (page_of_kind kind block)) }
+    ensures { OnOk result (Extends bytes.old.items bytes.new.items (page_of_kind kind block)) }
 {
     match kind {
         0 => put_copies(bytes, PAGE_SIZE, 0),

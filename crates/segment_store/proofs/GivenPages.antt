@@ -9,7 +9,7 @@ use Rattle.std.proofs.lemmas.List.FromFn.{get_or-map-range_with_len}
 use Rattle.block_tag.specs.Names.{lane_number}
 use Rattle.block_tag.specs.declared.tag.Fork.{Fork}
 use Rattle.block_tag.specs.declared.tag.Tag.{Tag}
-use Rattle.segment_store.specs.Contents.{AreWhole, Pages}
+use Rattle.segment_store.specs.Contents.{AreFullPages, Pages}
 use Rattle.segment_store.specs.Lanes.{lane_at, page_in, tag_at}
 use Rattle.segment_store.specs.Relation.{block_at, first_blocks, relation_of, segment_pages}
 use Rattle.segment_store.specs.Restored.{given_back, pages_in}
@@ -46,7 +46,7 @@ pages_whole seg_blocks (bytes ∷ segments) =
           subst Whole (sym is) (All-append (λ page. length page ≡ 8192) (first_blocks bytes seg_blocks) others (first_whole bytes seg_blocks (omega arith)) (pages_whole seg_blocks segments))
     ]
 
-given_page : (tag : Tag) (lane : Option Pages) (was : List ℕ) → IfSome lane AreWhole → length was ≡ 8192 → length (unwrap_or (option_and_then (λ pages. pages tag) lane) was) ≡ 8192
+given_page : (tag : Tag) (lane : Option Pages) (was : List ℕ) → IfSome lane AreFullPages → length was ≡ 8192 → length (unwrap_or (option_and_then (λ pages. pages tag) lane) was) ≡ 8192
 given_page tag None was whole size = size
 given_page tag (Some pages) was whole size = held (pages tag) (whole tag)
   where
@@ -55,7 +55,7 @@ given_page tag (Some pages) was whole size = held (pages tag) (whole tag)
     held (Some page) is = is
 
 -- an absent lane, past the last one, says nothing
-lane_whole : (lanes : List (Option Pages)) (k : ℕ) → All (λ lane. IfSome lane AreWhole) lanes → IfSome (get_or lanes k None) AreWhole
+lane_whole : (lanes : List (Option Pages)) (k : ℕ) → All (λ lane. IfSome lane AreFullPages) lanes → IfSome (get_or lanes k None) AreFullPages
 lane_whole [] k whole = tt
 lane_whole (lane ∷ lanes) zero whole = whole 0 None (omega arith)
 lane_whole (lane ∷ lanes) (suc k) whole = lane_whole lanes k (λ j d below. whole (suc j) d (omega arith))
@@ -64,7 +64,7 @@ cons_whole : (page : List ℕ) (pages : List (List ℕ)) → length page ≡ 819
 cons_whole page pages size whole zero d below = size
 cons_whole page pages size whole (suc k) d below = whole k d (omega arith)
 
-given_whole : (fork : Fork) (lanes : List (Option Pages)) (block : ℕ) (pages : List (List ℕ)) → All (λ lane. IfSome lane AreWhole) lanes → Whole pages → Whole (pages_in fork lanes block pages)
+given_whole : (fork : Fork) (lanes : List (Option Pages)) (block : ℕ) (pages : List (List ℕ)) → All (λ lane. IfSome lane AreFullPages) lanes → Whole pages → Whole (pages_in fork lanes block pages)
 given_whole fork lanes block [] known whole = whole
 given_whole fork lanes block (page ∷ pages) known whole =
     let tag = tag_at fork block in

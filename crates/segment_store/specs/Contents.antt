@@ -28,8 +28,8 @@ abbrev pub no_marks : Marks
 no_marks = λ t. false
 
 -- each page has 8192 bytes
-abbrev pub AreWhole : Pages → Type 0
-AreWhole pages = (tag : Tag) → IfSome (pages tag) (λ page. length page ≡ 8192)
+abbrev pub AreFullPages : Pages → Type 0
+AreFullPages pages = (tag : Tag) → IfSome (pages tag) (λ page. length page ≡ 8192)
 
 -- some page of 8192 bytes stands at the tag, and all others are as they were
 pub record IsTorn (tag : Tag) (pages after : Pages) : Type 0 where

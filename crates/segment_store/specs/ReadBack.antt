@@ -2,7 +2,7 @@
 use Rattle.std.specs.Prelude.{◌≡◌, ℕ, ◌<◌, ◌≤◌, List, [], ◌++◌, All, Option, IfSome, length, drop, get_or}
 use Rattle.block_tag.specs.Names.{place_in_segment, segment_of}
 use Rattle.block_tag.specs.declared.tag.Fork.{Fork}
-use Rattle.segment_store.specs.Contents.{AreWhole, Pages}
+use Rattle.segment_store.specs.Contents.{AreFullPages, Pages}
 use Rattle.segment_store.specs.Relation.{block_at, relation_of, segment_pages}
 use Rattle.segment_store.specs.Restored.{given_back, pages_in, restored}
 
@@ -13,7 +13,7 @@ ReadsBack = (seg_blocks : ℕ) (segments pages : List (List ℕ)) → All (λ pa
 
 -- a relation whose lanes were given back has their pages, each as it was where no lane has it
 abbrev pub HasGivenPages : Type 0
-HasGivenPages = (fork : Fork) (seg_blocks : ℕ) (lanes : List (Option Pages)) (segments : List (List ℕ)) → All (λ lane. IfSome lane AreWhole) lanes
+HasGivenPages = (fork : Fork) (seg_blocks : ℕ) (lanes : List (Option Pages)) (segments : List (List ℕ)) → All (λ lane. IfSome lane AreFullPages) lanes
     → relation_of seg_blocks (given_back fork seg_blocks lanes segments) ≡ pages_in fork lanes 0 (relation_of seg_blocks segments)
 
 -- each block of a relation stands at its place in its segment

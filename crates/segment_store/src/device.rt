@@ -2,7 +2,7 @@
 ghost use Rattle.std.specs.Prelude.{◌≡◌, ◌+◌, ◌<◌, ◌^◌, ℕ, Option, Some, OnOk, IfSome, IsSome, MatchResult, true, false};
 ghost use Rattle.std.specs.Option.{ForSome};
 ghost use Rattle.log_device.specs.Faults.{HasCause};
-ghost use Rattle.segment_store.specs.Contents.{AfterWrite, AreWhole, Marks, Pages, no_marks, with_mark};
+ghost use Rattle.segment_store.specs.Contents.{AfterWrite, AreFullPages, Marks, Pages, no_marks, with_mark};
 
 use block_tag::Tag;
 use log_device::Failed;
@@ -64,5 +64,5 @@ pub trait BlockLane {
 
     ghost write_faults_fit: { (lane : Self) → write_faults lane < 2 ^ 64 };
 
-    ghost whole: { (lane : Self) → IfSome (contents lane) AreWhole };
+    ghost whole: { (lane : Self) → IfSome (contents lane) AreFullPages };
 }

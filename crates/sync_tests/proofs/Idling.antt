@@ -5,11 +5,11 @@ use Rattle.backend_pass.specs.declared.manager.Manager.{Manager}
 use Rattle.backend_pass.specs.Managers.{AreNewPasses, Belongs}
 use Rattle.backend_pass.specs.Passes.{KeepsCallers, PassState}
 use Rattle.manager_tests.proofs.Freeing.{three_free, three_unlocked}
-use Rattle.sync_tests.specs.Idle.{IsIdle}
+use Rattle.sync_tests.specs.Idle.{IsFreeAndUnlocked}
 
 module _ {L G : Type 0} (contents : L → Option Pages) (m : Manager L G) where
   -- a call that keeps what callers have of the pass
-  pub idle_on : (i : ℕ) (p q : PassState) → IsIdle contents m i p → Belongs contents m q → KeepsCallers p q → IsIdle contents m i q
+  pub idle_on : (i : ℕ) (p q : PassState) → IsFreeAndUnlocked contents m i p → Belongs contents m q → KeepsCallers p q → IsFreeAndUnlocked contents m i q
   idle_on i p q idle b k = record {
     free = record {
       is = record { belongs = b; number = k.keeps.number ∙ idle.free.is.number; joined = k.keeps.joined ∙ idle.free.is.joined; next = λ first. k.keeps.next ∙ idle.free.is.next first };
@@ -19,7 +19,7 @@ module _ {L G : Type 0} (contents : L → Option Pages) (m : Manager L G) where
   }
 
   pub three_idle : (ps qs rs ss : List PassState) (a b c : PassState) → AreNewPasses contents m 3 ps → ps ≡ qs ++ c ∷ [] → qs ≡ rs ++ b ∷ [] → rs ≡ ss ++ a ∷ []
-      → IsIdle contents m 0 a × IsIdle contents m 1 b × IsIdle contents m 2 c
+      → IsFreeAndUnlocked contents m 0 a × IsFreeAndUnlocked contents m 1 b × IsFreeAndUnlocked contents m 2 c
   three_idle ps qs rs ss a b c new last middle front =
       let f = three_free contents m ps qs rs ss a b c new last middle front in
       let u = three_unlocked contents m ps qs rs ss a b c new last middle front in

@@ -8,11 +8,11 @@ use Rattle.manager_tests.specs.Bench.{IsFree}
 
 module _ {L G : Type 0} (contents : L → Option Pages) where
   -- It is the pass number i of the manager's three, and has neither tokens nor content locks
-  pub record IsIdle (m : Manager L G) (i : ℕ) (p : PassState) : Type 0 where
+  pub record IsFreeAndUnlocked (m : Manager L G) (i : ℕ) (p : PassState) : Type 0 where
     pub free : IsFree contents m i p
     pub unlocked : HasNoLock p
 
 module _ {L G : Type 0} where
   -- It is so in a manager over lanes that don't tell what they hold
-  abbrev pub IsIdleIn : Manager L G → ℕ → PassState → Type 0
-  IsIdleIn m i p = IsIdle (λ _. None) m i p
+  abbrev pub IsFreeAndUnlockedIn : Manager L G → ℕ → PassState → Type 0
+  IsFreeAndUnlockedIn m i p = IsFreeAndUnlocked (λ _. None) m i p

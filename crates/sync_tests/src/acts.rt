@@ -1,6 +1,6 @@
 //! What three passes do one after another, and what comes of it.
 ghost use Rattle.manager_tests.specs.Bench.{IsFree};
-ghost use Rattle.sync_tests.specs.Idle.{IsIdle};
+ghost use Rattle.sync_tests.specs.Idle.{IsFreeAndUnlocked};
 
 use crate::bench::start;
 use crate::devices::{ByteLog, DeviceCall, PageLane, calls_of};
@@ -65,9 +65,9 @@ fn round_beside<L: BlockLane, G: LogDevice, R: Wait>(
     third: &mut Pass,
     number: u32,
 ) -> Option<Result<Round, FlushError>>
-    requires second { IsIdle L.contents manager.now 1 second.old }
+    requires second { IsFreeAndUnlocked L.contents manager.now 1 second.old }
     requires third { IsFree L.contents manager.now 2 third.old }
-    ensures second { IsIdle L.contents manager.now 1 second.new }
+    ensures second { IsFreeAndUnlocked L.contents manager.now 1 second.new }
     ensures third { IsFree L.contents manager.now 2 third.new }
 {
     let Ok(pinned) = pin(manager, rt, third, 2, block(number), &mut None) else {
@@ -108,10 +108,10 @@ fn perform<L: BlockLane, G: LogDevice, R: Wait>(
     copied: &mut Page,
 ) -> Answer
     requires first { IsFree L.contents manager.now 0 first.old }
-    requires second { IsIdle L.contents manager.now 1 second.old }
+    requires second { IsFreeAndUnlocked L.contents manager.now 1 second.old }
     requires third { IsFree L.contents manager.now 2 third.old }
     ensures first { IsFree L.contents manager.now 0 first.new }
-    ensures second { IsIdle L.contents manager.now 1 second.new }
+    ensures second { IsFreeAndUnlocked L.contents manager.now 1 second.new }
     ensures third { IsFree L.contents manager.now 2 third.new }
 {
     match act {
@@ -146,10 +146,10 @@ fn perform_all<L: BlockLane, G: LogDevice, R: Wait>(
     alloc: Global,
 ) -> Result<Vec<Answer>, AllocError>
     requires first { IsFree L.contents manager.now 0 first.old }
-    requires second { IsIdle L.contents manager.now 1 second.old }
+    requires second { IsFreeAndUnlocked L.contents manager.now 1 second.old }
     requires third { IsFree L.contents manager.now 2 third.old }
     ensures first { IsFree L.contents manager.now 0 first.new }
-    ensures second { IsIdle L.contents manager.now 1 second.new }
+    ensures second { IsFreeAndUnlocked L.contents manager.now 1 second.new }
     ensures third { IsFree L.contents manager.now 2 third.new }
 {
     let mut answers = Vec::new(alloc);

@@ -1,6 +1,6 @@
 //! A small manager over devices that tell of their calls.
 ghost use Rattle.std.specs.Prelude.{IfOk};
-ghost use Rattle.sync_tests.specs.Idle.{IsIdleIn};
+ghost use Rattle.sync_tests.specs.Idle.{IsFreeAndUnlockedIn};
 
 use crate::devices::{ByteLog, PageLane};
 use backend_pass::{Config, Manager, StartRefused};
@@ -29,9 +29,9 @@ pub fn start(
     lanes: Vec<PageLane>,
     log: ByteLog,
 ) -> Result<Bench<PageLane, ByteLog>, AllocError>
-    ensures first { IfOk result (λ b. IsIdleIn b.manager 0 b.first) }
-    ensures second { IfOk result (λ b. IsIdleIn b.manager 1 b.second) }
-    ensures third { IfOk result (λ b. IsIdleIn b.manager 2 b.third) }
+    ensures first { IfOk result (λ b. IsFreeAndUnlockedIn b.manager 0 b.first) }
+    ensures second { IfOk result (λ b. IsFreeAndUnlockedIn b.manager 1 b.second) }
+    ensures third { IfOk result (λ b. IsFreeAndUnlockedIn b.manager 2 b.third) }
 {
     let Ok(catalog) = catalog(alloc) else {
         return Err(AllocError);

@@ -1,5 +1,5 @@
 //! Rounds and checkpoints by a pass that has no token.
-ghost use Rattle.sync_tests.specs.Idle.{IsIdle};
+ghost use Rattle.sync_tests.specs.Idle.{IsFreeAndUnlocked};
 
 use backend_pass::{FlushError, Manager, Pass};
 use bg_writer::{Round, round};
@@ -15,8 +15,8 @@ pub fn round_once<L: BlockLane, G: LogDevice, R: Wait>(
     pass: &mut Pass,
     _number: u32,
 ) -> Result<Round, FlushError>
-    requires { IsIdle L.contents manager.now _number pass.old }
-    ensures { IsIdle L.contents manager.now _number pass.new }
+    requires { IsFreeAndUnlocked L.contents manager.now _number pass.old }
+    ensures { IsFreeAndUnlocked L.contents manager.now _number pass.new }
 {
     round(manager, rt, pass)
 }
@@ -28,8 +28,8 @@ pub fn checkpoint_once<L: BlockLane, G: LogDevice, R: Wait>(
     pass: &mut Pass,
     _number: u32,
 ) -> Result<Checkpoint, CheckpointError>
-    requires { IsIdle L.contents manager.now _number pass.old }
-    ensures { IsIdle L.contents manager.now _number pass.new }
+    requires { IsFreeAndUnlocked L.contents manager.now _number pass.old }
+    ensures { IsFreeAndUnlocked L.contents manager.now _number pass.new }
 {
     checkpoint(manager, rt, pass)
 }

@@ -11,12 +11,12 @@ use Rattle.frame_table.specs.declared.pin.Pin.{Pin}
 use Rattle.frame_table.specs.declared.table.FrameTable.{FrameTable}
 use Rattle.frame_table.specs.Seats.{Looked, SameSeat, frames_of, mapped_link}
 use Rattle.frame_table.specs.Latches.{SameWork}
-use Rattle.table_tests.specs.Work.{IsCalm, IsQuiet, Keeps, KeepsBeside, OnlyPins, PinsBlock, PinsNone}
+use Rattle.table_tests.specs.Work.{HasAtMostPin, IsQuiet, Keeps, KeepsBeside, OnlyPins, PinsBlock, PinsNone}
 use Rattle.table_tests.proofs.Seats.{keeps_on}
 use Rattle.table_tests.proofs.Working.{beside_on, calm_looked, keeps_worked, links_worked, not_victim, only_pins}
 
 -- a frame that was pinned by the map
-pub calm_mapped : (tag : ℕ) (ring : Bool) (l m : Link) → Looked (mapped_link tag ring l) m → IsCalm l → IsCalm m
+pub calm_mapped : (tag : ℕ) (ring : Bool) (l m : Link) → Looked (mapped_link tag ring l) m → HasAtMostPin l → HasAtMostPin m
 calm_mapped tag ring l m a c = calm_looked (mapped_link tag ring l) m a record { no_header = c.no_header; no_content = c.no_content; no_copy = c.no_copy; applied = c.applied; assigned = c.assigned; no_io = c.no_io; page_home = c.page_home; no_wait = c.no_wait }
 
 -- what follows of a pin, and where there is none

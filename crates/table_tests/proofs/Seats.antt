@@ -8,7 +8,7 @@ use Rattle.frame_table.specs.FrameSteps.{Did, Looks, kept_view, split_view}
 use Rattle.atomic_table.specs.declared.shared.Seat.{Seat}
 use Rattle.pin_core.specs.declared.view.View.{View}
 use Rattle.pin_core.specs.State.{link, joined_view}
-use Rattle.pin_core.specs.Steps.{HoldsNothing, IsFree}
+use Rattle.pin_core.specs.Steps.{HoldsNothing, HoldsNothingAt}
 use Rattle.table_rule.specs.declared.value.Value.{Value}
 use Rattle.frame_table.specs.declared.table.FrameTable.{FrameTable}
 use Rattle.frame_table.specs.Closes.{CanClose}
@@ -16,29 +16,29 @@ use Rattle.frame_table.specs.Seats.{CanStep, Fits, HoldsHeader, Looked, SameSeat
 use Rattle.frame_table.proofs.Resting.{rests_on, free_unpinned, new_rests}
 use Rattle.frame_table.proofs.Told.{looks_link, touches_on}
 use Rattle.clock_sweep.proofs.Keeping.{same_on}
-use Rattle.table_tests.specs.Work.{Keeps, Rests}
+use Rattle.table_tests.specs.Work.{Keeps, SeatHoldsNothing}
 
 module _ {L G : Type 0} (t : FrameTable L G) where
-  pub rests_first : (s : Seat (Value L G) View) → CanClose t s → Rests t s
+  pub rests_first : (s : Seat (Value L G) View) → CanClose t s → SeatHoldsNothing t s
   rests_first s c = record { fits = c.fits; live = c.live; hand = c.hand; free = c.free }
 
-  pub closes_still : (s s' : Seat (Value L G) View) → CanClose t s → Keeps s s' → Rests t s' → CanClose t s'
+  pub closes_still : (s s' : Seat (Value L G) View) → CanClose t s → Keeps s s' → SeatHoldsNothing t s' → CanClose t s'
   closes_still s s' c k r = record { fits = r.fits; first = k.id ∙ c.first; hand = r.hand; live = r.live; free = r.free; joined = ap (λ (n : ℕ). n + 1) k.joined ∙ c.joined ∙ sym k.next }
 
-  pub steps_there : (s : Seat (Value L G) View) (f : ℕ) → Rests t s → f < frames_of t → CanStep t s f
+  pub steps_there : (s : Seat (Value L G) View) (f : ℕ) → SeatHoldsNothing t s → f < frames_of t → CanStep t s f
   steps_there s f r low = record { fits = r.fits; live = r.live; inside = low }
 
   pub steps_on : (s s' : Seat (Value L G) View) (f : ℕ) → CanStep t s f → SameSeat s s' → Touches f s.me.0 s'.me.0 → CanStep t s' f
   steps_on s s' f c same touches = record { fits = same.table ∙ c.fits; live = ap (λ (x : View). x.emptied) touches.self ∙ c.live; inside = c.inside }
 
-  pub rests_still : (s s' : Seat (Value L G) View) (f : ℕ) → Rests t s → SameSeat s s' → Touches f s.me.0 s'.me.0 → IsFree (link s'.me.0 f) → Rests t s'
+  pub rests_still : (s s' : Seat (Value L G) View) (f : ℕ) → SeatHoldsNothing t s → SameSeat s s' → Touches f s.me.0 s'.me.0 → HoldsNothingAt (link s'.me.0 f) → SeatHoldsNothing t s'
   rests_still s s' f r same touches free = record { fits = same.table ∙ r.fits; live = ap (λ (x : View). x.emptied) touches.self ∙ r.live; hand = same.hand ∙ r.hand; free = rests_on f s.me.0 s'.me.0 touches free r.free }
 
 pub keeps_on : {L G : Type 0} (s s' s'' : Seat (Value L G) View) → Keeps s s' → Keeps s' s'' → Keeps s s''
 keeps_on s s' s'' a b = record { table = b.table ∙ a.table; id = b.id ∙ a.id; joined = b.joined ∙ a.joined; next = b.next ∙ a.next }
 
 -- a pin that was taken and given up leaves a seat that holds nothing
-pub rests_unpinned : {L G : Type 0} (t : FrameTable L G) (s s' s'' : Seat (Value L G) View) (f h : ℕ) (ring : Bool) → h ≡ f → Rests t s → SameSeat s s' → Touches f s.me.0 s'.me.0 → Looked (pinned_link ring (link s.me.0 f)) (link s'.me.0 f) → SameSeat s' s'' → Touches h s'.me.0 s''.me.0 → Looked (unpinned_link (link s'.me.0 h)) (link s''.me.0 h) → Rests t s''
+pub rests_unpinned : {L G : Type 0} (t : FrameTable L G) (s s' s'' : Seat (Value L G) View) (f h : ℕ) (ring : Bool) → h ≡ f → SeatHoldsNothing t s → SameSeat s s' → Touches f s.me.0 s'.me.0 → Looked (pinned_link ring (link s.me.0 f)) (link s'.me.0 f) → SameSeat s' s'' → Touches h s'.me.0 s''.me.0 → Looked (unpinned_link (link s'.me.0 h)) (link s''.me.0 h) → SeatHoldsNothing t s''
 rests_unpinned t s s' s'' f h ring e r a touches pinned b after unpinned = rests_still t s s'' f r (same_on s s' s'' a b) (touches_on f s.me.0 s'.me.0 s''.me.0 touches (subst (λ (x : ℕ). Touches x s'.me.0 s''.me.0) e after))
     (free_unpinned ring (link s.me.0 f) (link s'.me.0 f) (link s''.me.0 f) pinned (subst (λ (x : ℕ). Looked (unpinned_link (link s'.me.0 x)) (link s''.me.0 x)) e unpinned) (r.free.frames f))
 
@@ -58,9 +58,9 @@ holds_locked f word v w none locked u was looks did = let before = looks_link f 
 }
 
 -- a header that was locked may be unlocked, and then the seat holds nothing
-module _ {L G : Type 0} (t : FrameTable L G) (s s' : Seat (Value L G) View) (f word : ℕ) (r : Rests t s) (same : SameSeat s s') (touches : Touches f s.me.0 s'.me.0) (locked : Looked (locked_link word (link s.me.0 f)) (link s'.me.0 f)) where
-  pub rests_unlocked : (s'' : Seat (Value L G) View) → SameSeat s' s'' → Touches f s'.me.0 s''.me.0 → link s''.me.0 f ≡ unlocked_link (link s'.me.0 f) → Rests t s''
-  rests_unlocked s'' again after unlocked = let h = r.free.frames f in rests_still t s s'' f r (same_on s s' s'' same again) (touches_on f s.me.0 s'.me.0 s''.me.0 touches after) (subst IsFree (sym unlocked) record {
+module _ {L G : Type 0} (t : FrameTable L G) (s s' : Seat (Value L G) View) (f word : ℕ) (r : SeatHoldsNothing t s) (same : SameSeat s s') (touches : Touches f s.me.0 s'.me.0) (locked : Looked (locked_link word (link s.me.0 f)) (link s'.me.0 f)) where
+  pub rests_unlocked : (s'' : Seat (Value L G) View) → SameSeat s' s'' → Touches f s'.me.0 s''.me.0 → link s''.me.0 f ≡ unlocked_link (link s'.me.0 f) → SeatHoldsNothing t s''
+  rests_unlocked s'' again after unlocked = let h = r.free.frames f in rests_still t s s'' f r (same_on s s' s'' same again) (touches_on f s.me.0 s'.me.0 s''.me.0 touches after) (subst HoldsNothingAt (sym unlocked) record {
     no_pin = locked.role ∙ h.no_pin;
     no_header = refl;
     no_content = locked.content ∙ h.no_content;
@@ -71,10 +71,10 @@ module _ {L G : Type 0} (t : FrameTable L G) (s s' : Seat (Value L G) View) (f w
 
 -- seats come and go
 module _ {L G : Type 0} (t : FrameTable L G) where
-  pub rests_kept : (s s' : Seat (Value L G) View) → Rests t s → SameSeat s s' → s'.me.0 ≡ kept_view s.me.0 → Rests t s'
+  pub rests_kept : (s s' : Seat (Value L G) View) → SeatHoldsNothing t s → SameSeat s s' → s'.me.0 ≡ kept_view s.me.0 → SeatHoldsNothing t s'
   rests_kept s s' r same kept = record { fits = same.table ∙ r.fits; live = ap (λ (v : View). v.emptied) kept ∙ r.live; hand = same.hand ∙ r.hand; free = subst HoldsNothing (sym kept) record { frames = r.free.frames; partitions = r.free.partitions; lanes = r.free.lanes; log = r.free.log } }
 
-  pub rests_new : (s : Seat (Value L G) View) (base : ℕ) (v : View) → Fits t s → s.me ≡ (split_view base v, []) → Rests t s
+  pub rests_new : (s : Seat (Value L G) View) (base : ℕ) (v : View) → Fits t s → s.me ≡ (split_view base v, []) → SeatHoldsNothing t s
   rests_new s base v fits me = let same : s.me.0 ≡ split_view base v = ap (λ (m : Me (Value L G) View). m.0) me in record {
     fits = fits;
     live = ap (λ (x : View). x.emptied) same;
@@ -83,7 +83,7 @@ module _ {L G : Type 0} (t : FrameTable L G) where
   }
 
   -- once the one other backend is taken in, the table may be closed
-  pub closes_joined : (s s' s'' : Seat (Value L G) View) (u : View) → CanClose t s → s.me.0.next ≡ 1 → SameSeat s s' → s'.me.0 ≡ kept_view s.me.0 → (k : Seat (Value L G) View) → Keeps s' k → Rests t k → SameSeat k s'' → s''.me.0 ≡ joined_view k.me.0 u → CanClose t s''
+  pub closes_joined : (s s' s'' : Seat (Value L G) View) (u : View) → CanClose t s → s.me.0.next ≡ 1 → SameSeat s s' → s'.me.0 ≡ kept_view s.me.0 → (k : Seat (Value L G) View) → Keeps s' k → SeatHoldsNothing t k → SameSeat k s'' → s''.me.0 ≡ joined_view k.me.0 u → CanClose t s''
   closes_joined s s' s'' u c one same kept k keeps rests again joined = record {
     fits = again.table ∙ rests.fits;
     first = again.id ∙ keeps.id ∙ same.id ∙ c.first;

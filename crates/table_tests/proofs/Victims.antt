@@ -16,12 +16,12 @@ use Rattle.frame_table.specs.declared.table.FrameTable.{FrameTable}
 use Rattle.frame_table.specs.Seats.{HoldsHeader, Looked, SameSeat, SameSelf, Touches, unlocked_link, unpinned_link}
 use Rattle.clock_sweep.specs.Keeping.{GetsHeader}
 use Rattle.clock_sweep.specs.Keeping as sweeping
-use Rattle.table_tests.specs.Work.{IsCalm, Keeps, KeepsBeside, OnlyPins, SamePins}
+use Rattle.table_tests.specs.Work.{HasAtMostPin, Keeps, KeepsBeside, OnlyPins, SeatHasSamePins}
 use Rattle.table_tests.proofs.Working.{calm_looked, calm_unlocked, same_hold}
 
 module _ {L G : Type 0} (t : FrameTable L G) (s s' : Seat (Value L G) View) (p : OnlyPins t s) (same : SameSeat s s') where
   -- no header was taken
-  pub kept_pins : sweeping.KeepsFrames s.me.0 s'.me.0 → OnlyPins t s' × SamePins s s'
+  pub kept_pins : sweeping.KeepsFrames s.me.0 s'.me.0 → OnlyPins t s' × SeatHasSamePins s s'
   kept_pins k = (
     record {
       quiet = record { fits = same.table ∙ p.quiet.fits; live = ap (λ (x : View). x.emptied) k.aside ∙ p.quiet.live; hand = same.hand ∙ p.quiet.hand; frames = λ f. calm_looked (link s.me.0 f) (link s'.me.0 f) (k.links f) (p.quiet.frames f); lanes = λ n. ap (λ (l : List LaneHold). (get_or l n no_lane).held) (ap (λ (x : View). x.lanes) k.aside) ∙ p.quiet.lanes n; log = ap (λ (h : LogHold). h.held) (ap (λ (x : View). x.log) k.aside) ∙ p.quiet.log };
@@ -40,12 +40,12 @@ module _ {L G : Type 0} (t : FrameTable L G) (s s' : Seat (Value L G) View) (p :
 
   -- and given up again
   module _ (f word : ℕ) (g : GetsHeader f word s.me.0 s'.me.0) (s'' : Seat (Value L G) View) (again : SameSeat s' s'') (after : Touches f s'.me.0 s''.me.0) (unlocked : link s''.me.0 f ≡ unlocked_link (link s'.me.0 f)) where
-    pins_same : SamePins s s''
+    pins_same : SeatHasSamePins s s''
     pins_same h = dite (ℕ_discrete h f)
         (λ e. subst (λ (x : ℕ). (link s''.me.0 x).role ≡ (link s.me.0 x).role) (sym e) (ap (λ (l : Link). l.role) unlocked ∙ g.here.role))
         (λ n. ap (λ (l : Link). l.role) (after.others h n) ∙ (g.others h n).role)
 
-    pub unlocked_pins : OnlyPins t s'' × SamePins s s''
+    pub unlocked_pins : OnlyPins t s'' × SeatHasSamePins s s''
     unlocked_pins = (
       record {
         quiet = record {
@@ -53,8 +53,8 @@ module _ {L G : Type 0} (t : FrameTable L G) (s s' : Seat (Value L G) View) (p :
           live = ap (λ (x : View). x.emptied) after.self ∙ ap (λ (x : View). x.emptied) g.aside ∙ p.quiet.live;
           hand = again.hand ∙ same.hand ∙ p.quiet.hand;
           frames = λ h. dite (ℕ_discrete h f)
-              (λ e. subst (λ (x : ℕ). IsCalm (link s''.me.0 x)) (sym e) (calm_unlocked (link s.me.0 f) (link s'.me.0 f) word g.here (p.quiet.frames f) (link s''.me.0 f) unlocked))
-              (λ n. subst IsCalm (sym (after.others h n)) (calm_looked (link s.me.0 h) (link s'.me.0 h) (g.others h n) (p.quiet.frames h)));
+              (λ e. subst (λ (x : ℕ). HasAtMostPin (link s''.me.0 x)) (sym e) (calm_unlocked (link s.me.0 f) (link s'.me.0 f) word g.here (p.quiet.frames f) (link s''.me.0 f) unlocked))
+              (λ n. subst HasAtMostPin (sym (after.others h n)) (calm_looked (link s.me.0 h) (link s'.me.0 h) (g.others h n) (p.quiet.frames h)));
           lanes = λ n. ap (λ (l : List LaneHold). (get_or l n no_lane).held) (ap (λ (x : View). x.lanes) after.self ∙ ap (λ (x : View). x.lanes) g.aside) ∙ p.quiet.lanes n;
           log = ap (λ (x : LogHold). x.held) (ap (λ (x : View). x.log) after.self ∙ ap (λ (x : View). x.log) g.aside) ∙ p.quiet.log;
         };
@@ -72,7 +72,7 @@ pub keeps_beside : {L G : Type 0} (s s' : Seat (Value L G) View) → SameSeat s 
 keeps_beside s s' same aside = record { table = same.table; id = same.id; joined = ap (λ (x : View). x.joined) aside; next = ap (λ (x : View). x.next) aside }
 
 -- A frame is pinned, other steps keep the pins, and the pin is given up: the seat pins what it pinned
-pub pins_back : {L G : Type 0} (f h : ℕ) (s s' r s'' : Seat (Value L G) View) → h ≡ f → (link s.me.0 f).role ≡ Absent → KeepsBeside f s s' → SamePins s' r → Touches h r.me.0 s''.me.0 → Looked (unpinned_link (link r.me.0 h)) (link s''.me.0 h) → SamePins s s''
+pub pins_back : {L G : Type 0} (f h : ℕ) (s s' r s'' : Seat (Value L G) View) → h ≡ f → (link s.me.0 f).role ≡ Absent → KeepsBeside f s s' → SeatHasSamePins s' r → Touches h r.me.0 s''.me.0 → Looked (unpinned_link (link r.me.0 h)) (link s''.me.0 h) → SeatHasSamePins s s''
 pins_back f h s s' r s'' e absent keeps same there given g = dite (ℕ_discrete g f)
     (λ x. subst (λ (z : ℕ). (link s''.me.0 z).role ≡ (link s.me.0 z).role) (sym x) (subst (λ (z : ℕ). (link s''.me.0 z).role ≡ Absent) e given.role ∙ sym absent))
     (λ n. ap (λ (l : Link). l.role) (there.others g (λ x. n (x ∙ e))) ∙ same g ∙ ap (λ (l : Link). l.role) (keeps.others g n))

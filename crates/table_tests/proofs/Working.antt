@@ -30,7 +30,7 @@ use Rattle.frame_table.specs.Latches.{DidTurn, IsTurned, MapStep, SameWork, back
 use Rattle.map_partitions.specs.Partition.{HoldsLatch}
 use Rattle.frame_table.proofs.Told.{touches_on}
 use Rattle.clock_sweep.proofs.Keeping.{same_on}
-use Rattle.table_tests.specs.Work.{IsCalm, IsInside, IsQuiet, IsQuietBeside, KeepsBeside, KeepsOthers, OnlyPins, PinsNone, Rests}
+use Rattle.table_tests.specs.Work.{HasAtMostPin, IsInside, IsQuiet, IsQuietBeside, KeepsBeside, KeepsOthers, OnlyPins, PinsNone, SeatHoldsNothing}
 
 -- The link of a frame, before its header was locked and under the lock
 module _ (l m : Link) (word : ℕ) (locked : Looked (locked_link word l) m) where
@@ -42,14 +42,14 @@ module _ (l m : Link) (word : ℕ) (locked : Looked (locked_link word l) m) wher
   }
 
   -- and after that
-  module _ (c : IsCalm l) where
-    pub calm_unlocked : (n : Link) → n ≡ unlocked_link m → IsCalm n
-    calm_unlocked n e = subst IsCalm (sym e) record { no_header = refl; no_content = locked.content ∙ c.no_content; no_copy = locked.copying ∙ c.no_copy; applied = locked.unapplied ∙ c.applied; assigned = locked.pending ∙ c.assigned; no_io = locked.io ∙ c.no_io; page_home = locked.out ∙ c.page_home; no_wait = locked.waits c.no_wait }
+  module _ (c : HasAtMostPin l) where
+    pub calm_unlocked : (n : Link) → n ≡ unlocked_link m → HasAtMostPin n
+    calm_unlocked n e = subst HasAtMostPin (sym e) record { no_header = refl; no_content = locked.content ∙ c.no_content; no_copy = locked.copying ∙ c.no_copy; applied = locked.unapplied ∙ c.applied; assigned = locked.pending ∙ c.assigned; no_io = locked.io ∙ c.no_io; page_home = locked.out ∙ c.page_home; no_wait = locked.waits c.no_wait }
 
-    pub calm_victim : (n : Link) → Looked (victim_link m) n → IsCalm n
+    pub calm_victim : (n : Link) → Looked (victim_link m) n → HasAtMostPin n
     calm_victim n v = record { no_header = v.header; no_content = v.content ∙ locked.content ∙ c.no_content; no_copy = v.copying ∙ locked.copying ∙ c.no_copy; applied = v.unapplied ∙ locked.unapplied ∙ c.applied; assigned = v.pending ∙ locked.pending ∙ c.assigned; no_io = v.io ∙ locked.io ∙ c.no_io; page_home = v.out ∙ locked.out ∙ c.page_home; no_wait = v.waits (locked.waits c.no_wait) }
 
-    pub calm_assigned : (n o : Link) (tag : Option ℕ) → n ≡ stored_link m → Looked (assigned_link tag n) o → IsCalm o
+    pub calm_assigned : (n o : Link) (tag : Option ℕ) → n ≡ stored_link m → Looked (assigned_link tag n) o → HasAtMostPin o
     calm_assigned n o tag e a = record {
       no_header = a.header;
       no_content = a.content ∙ ap (λ (x : Link). x.content) e ∙ locked.content ∙ c.no_content;
@@ -61,14 +61,14 @@ module _ (l m : Link) (word : ℕ) (locked : Looked (locked_link word l) m) wher
       no_wait = a.waits (ap (λ (x : Link). x.waits) e ∙ locked.waits c.no_wait);
     }
 
-pub calm_unpinned : (l m : Link) → Looked (unpinned_link l) m → IsCalm l → IsCalm m
+pub calm_unpinned : (l m : Link) → Looked (unpinned_link l) m → HasAtMostPin l → HasAtMostPin m
 calm_unpinned l m a c = record { no_header = a.header ∙ c.no_header; no_content = a.content ∙ c.no_content; no_copy = a.copying ∙ c.no_copy; applied = a.unapplied ∙ c.applied; assigned = a.pending ∙ c.assigned; no_io = a.io ∙ c.no_io; page_home = a.out ∙ c.page_home; no_wait = a.waits c.no_wait }
 
 -- a load leaves it so
-pub calm_looked : (l m : Link) → Looked l m → IsCalm l → IsCalm m
+pub calm_looked : (l m : Link) → Looked l m → HasAtMostPin l → HasAtMostPin m
 calm_looked l m a c = record { no_header = a.header ∙ c.no_header; no_content = a.content ∙ c.no_content; no_copy = a.copying ∙ c.no_copy; applied = a.unapplied ∙ c.applied; assigned = a.pending ∙ c.assigned; no_io = a.io ∙ c.no_io; page_home = a.out ∙ c.page_home; no_wait = a.waits c.no_wait }
 
-pub may_unpin : (l : Link) → IsCalm l → l.role ≡ HandedOut → MayUnpin l
+pub may_unpin : (l : Link) → HasAtMostPin l → l.role ≡ HandedOut → MayUnpin l
 may_unpin l c out = record { pinned = λ none. (let no : HandedOut ≡ Absent = sym out ∙ none in absurd (cc)); no_content = c.no_content; no_io = c.no_io; no_wait = c.no_wait }
 
 -- a view without a latch names no pair there
@@ -81,8 +81,8 @@ module _ {L G : Type 0} (t : FrameTable L G) where
   pub quiet_beside : (s : Seat (Value L G) View) (f : ℕ) → IsQuiet t s → IsQuietBeside t f s
   quiet_beside s f q = record { fits = q.fits; live = q.live; hand = q.hand; others = λ g n. q.frames g; lanes = q.lanes; log = q.log }
 
-  pub quiet_at : (s : Seat (Value L G) View) (f : ℕ) → IsQuietBeside t f s → IsCalm (link s.me.0 f) → IsQuiet t s
-  quiet_at s f q c = record { fits = q.fits; live = q.live; hand = q.hand; frames = λ g. dite (ℕ_discrete g f) (λ e. subst (λ (x : ℕ). IsCalm (link s.me.0 x)) (sym e) c) (λ n. q.others g n); lanes = q.lanes; log = q.log }
+  pub quiet_at : (s : Seat (Value L G) View) (f : ℕ) → IsQuietBeside t f s → HasAtMostPin (link s.me.0 f) → IsQuiet t s
+  quiet_at s f q c = record { fits = q.fits; live = q.live; hand = q.hand; frames = λ g. dite (ℕ_discrete g f) (λ e. subst (λ (x : ℕ). HasAtMostPin (link s.me.0 x)) (sym e) c) (λ n. q.others g n); lanes = q.lanes; log = q.log }
 
   module _ (s s' : Seat (Value L G) View) (same : SameSeat s s') where
     -- a step at the frame
@@ -91,7 +91,7 @@ module _ {L G : Type 0} (t : FrameTable L G) where
       fits = same.table ∙ q.fits;
       live = ap (λ (x : View). x.emptied) self ∙ q.live;
       hand = same.hand ∙ q.hand;
-      others = λ g n. subst IsCalm (sym (others g n)) (q.others g n);
+      others = λ g n. subst HasAtMostPin (sym (others g n)) (q.others g n);
       lanes = λ n. ap (λ (l : List LaneHold). (get_or l n no_lane).held) (ap (λ (x : View). x.lanes) self) ∙ q.lanes n;
       log = ap (λ (h : LogHold). h.held) (ap (λ (x : View). x.log) self) ∙ q.log;
     }
@@ -102,7 +102,7 @@ module _ {L G : Type 0} (t : FrameTable L G) where
       fits = same.table ∙ q.fits;
       live = ap (λ (x : View). x.emptied) work ∙ q.live;
       hand = same.hand ∙ q.hand;
-      frames = λ f. subst IsCalm (sym (ap (λ (l : List Link). get_or l f idle) (ap (λ (x : View). x.links) work))) (q.frames f);
+      frames = λ f. subst HasAtMostPin (sym (ap (λ (l : List Link). get_or l f idle) (ap (λ (x : View). x.links) work))) (q.frames f);
       lanes = λ n. ap (λ (l : List LaneHold). (get_or l n no_lane).held) lanes ∙ q.lanes n;
       log = ap (λ (h : LogHold). h.held) log ∙ q.log;
     }
@@ -190,7 +190,7 @@ none_given_up f h s s' s'' e none keeps there given g = dite (ℕ_discrete g h)
 
 -- A seat that pins frames, after steps at one of them
 module _ {L G : Type 0} (t : FrameTable L G) (f : ℕ) (s : Seat (Value L G) View) (p : OnlyPins t s) where
-  pub pins_touched : (s' : Seat (Value L G) View) → SameSeat s s' → Touches f s.me.0 s'.me.0 → IsCalm (link s'.me.0 f) → (link s'.me.0 f).role ≢ Victim → OnlyPins t s'
+  pub pins_touched : (s' : Seat (Value L G) View) → SameSeat s s' → Touches f s.me.0 s'.me.0 → HasAtMostPin (link s'.me.0 f) → (link s'.me.0 f).role ≢ Victim → OnlyPins t s'
   pins_touched s' same touches calm here = only_pins t f s s' p.no_victim (keeps_touched s s' same f touches.self touches.others) here
       (quiet_at t s' f (beside_still t s s' same f (quiet_beside t s f p.quiet) touches.self touches.others) calm)
       (λ q. ap (λ (x : PartitionHold). x.held) (same_hold s.me.0 s'.me.0 touches.partitions q) ∙ p.partitions q)
@@ -208,19 +208,19 @@ module _ {L G : Type 0} (t : FrameTable L G) (f : ℕ) (s : Seat (Value L G) Vie
   module _ (s' s'' : Seat (Value L G) View) (same : SameSeat s s') (touches : Touches f s.me.0 s'.me.0) (again : SameSeat s' s'') (after : Touches f s'.me.0 s''.me.0) where
     pub pins_shared : link s'.me.0 f ≡ shared_link (link s.me.0 f) → link s''.me.0 f ≡ unshared_link (link s'.me.0 f) → OnlyPins t s''
     pins_shared shared given = let e = given ∙ ap unshared_link shared in let c = p.quiet.frames f in pins_touched s'' (same_on s s' s'' same again) (touches_on f s.me.0 s'.me.0 s''.me.0 touches after)
-        (subst IsCalm (sym e) record { no_header = c.no_header; no_content = refl; no_copy = c.no_copy; applied = c.applied; assigned = c.assigned; no_io = c.no_io; page_home = c.page_home; no_wait = c.no_wait })
+        (subst HasAtMostPin (sym e) record { no_header = c.no_header; no_content = refl; no_copy = c.no_copy; applied = c.applied; assigned = c.assigned; no_io = c.no_io; page_home = c.page_home; no_wait = c.no_wait })
         (λ victim. p.no_victim f (sym (ap (λ (l : Link). l.role) e) ∙ victim))
 
     pub pins_exclusive : link s'.me.0 f ≡ exclusive_link (link s.me.0 f) → link s''.me.0 f ≡ unexclusive_link (link s'.me.0 f) → OnlyPins t s''
     pins_exclusive exclusive given = let e = given ∙ ap unexclusive_link exclusive in let c = p.quiet.frames f in pins_touched s'' (same_on s s' s'' same again) (touches_on f s.me.0 s'.me.0 s''.me.0 touches after)
-        (subst IsCalm (sym e) record { no_header = c.no_header; no_content = refl; no_copy = c.no_copy; applied = c.applied; assigned = c.assigned; no_io = c.no_io; page_home = c.page_home; no_wait = c.no_wait })
+        (subst HasAtMostPin (sym e) record { no_header = c.no_header; no_content = refl; no_copy = c.no_copy; applied = c.applied; assigned = c.assigned; no_io = c.no_io; page_home = c.page_home; no_wait = c.no_wait })
         (λ victim. p.no_victim f (sym (ap (λ (l : Link). l.role) e) ∙ victim))
 
 -- a backend that has nothing at any frame
-pub calm_idle : (l : Link) → l ≡ idle → IsCalm l
-calm_idle l e = subst IsCalm (sym e) record { no_header = refl; no_content = refl; no_copy = refl; applied = refl; assigned = refl; no_io = refl; page_home = refl; no_wait = refl }
+pub calm_idle : (l : Link) → l ≡ idle → HasAtMostPin l
+calm_idle l e = subst HasAtMostPin (sym e) record { no_header = refl; no_content = refl; no_copy = refl; applied = refl; assigned = refl; no_io = refl; page_home = refl; no_wait = refl }
 
-pub pins_idle : {L G : Type 0} (t : FrameTable L G) (s : Seat (Value L G) View) → Rests t s → ((f : ℕ) → link s.me.0 f ≡ idle) → OnlyPins t s × PinsNone s
+pub pins_idle : {L G : Type 0} (t : FrameTable L G) (s : Seat (Value L G) View) → SeatHoldsNothing t s → ((f : ℕ) → link s.me.0 f ≡ idle) → OnlyPins t s × PinsNone s
 pins_idle t s r links = (
   record {
     quiet = record { fits = r.fits; live = r.live; hand = r.hand; frames = λ f. calm_idle (link s.me.0 f) (links f); lanes = r.free.lanes; log = r.free.log };
@@ -231,7 +231,7 @@ pins_idle t s r links = (
 )
 
 -- a view that pins nothing, and holds nothing but pins, holds nothing
-pub rests_pins : {L G : Type 0} (t : FrameTable L G) (s : Seat (Value L G) View) → OnlyPins t s → PinsNone s → Rests t s
+pub rests_pins : {L G : Type 0} (t : FrameTable L G) (s : Seat (Value L G) View) → OnlyPins t s → PinsNone s → SeatHoldsNothing t s
 rests_pins t s p none = record {
   fits = p.quiet.fits;
   live = p.quiet.live;

@@ -22,7 +22,7 @@ abbrev pub relations : List RelEntry
 relations = record { tablespace = 0; database = 0; relation = 16384; blocks = 64 ∷ 0 ∷ 0 ∷ 0 ∷ [] } ∷ []
 
 -- A backend has nothing at a frame but maybe a pin
-pub record IsCalm (l : Link) : Type 0 where
+pub record HasAtMostPin (l : Link) : Type 0 where
   pub no_header : l.header ≡ None
   pub no_content : l.content ≡ Unlocked
   pub no_copy : l.copying ≡ false
@@ -63,7 +63,7 @@ module _ {L G : Type 0} where
   HasBlock t tag = (names_block tag ≡ true) × (has_block (relations_of t) tag ≡ true) × (lanes_in t ≡ 1)
 
   -- The seat is one of the table, and holds nothing
-  pub record Rests (t : FrameTable L G) (s : Seat (Value L G) View) : Type 0 where
+  pub record SeatHoldsNothing (t : FrameTable L G) (s : Seat (Value L G) View) : Type 0 where
     pub fits : Fits t s
     pub live : s.me.0.emptied ≡ false
     pub hand : s.me.1 ≡ []
@@ -74,7 +74,7 @@ module _ {L G : Type 0} where
     pub fits : Fits t s
     pub live : s.me.0.emptied ≡ false
     pub hand : s.me.1 ≡ []
-    pub others : (g : ℕ) → g ≢ f → IsCalm (link s.me.0 g)
+    pub others : (g : ℕ) → g ≢ f → HasAtMostPin (link s.me.0 g)
     pub lanes : (n : ℕ) → (lane_hold s.me.0 n).held ≡ false
     pub log : s.me.0.log.held ≡ false
 
@@ -83,7 +83,7 @@ module _ {L G : Type 0} where
     pub fits : Fits t s
     pub live : s.me.0.emptied ≡ false
     pub hand : s.me.1 ≡ []
-    pub frames : (f : ℕ) → IsCalm (link s.me.0 f)
+    pub frames : (f : ℕ) → HasAtMostPin (link s.me.0 f)
     pub lanes : (n : ℕ) → (lane_hold s.me.0 n).held ≡ false
     pub log : s.me.0.log.held ≡ false
 
@@ -98,8 +98,8 @@ module _ {L G : Type 0} where
   PinsNone s = (f : ℕ) → (link s.me.0 f).role ≡ Absent
 
   -- it pins the frames that it pinned, and in the same way
-  abbrev pub SamePins : Seat (Value L G) View → Seat (Value L G) View → Type 0
-  SamePins s s' = (f : ℕ) → (link s'.me.0 f).role ≡ (link s.me.0 f).role
+  abbrev pub SeatHasSamePins : Seat (Value L G) View → Seat (Value L G) View → Type 0
+  SeatHasSamePins s s' = (f : ℕ) → (link s'.me.0 f).role ≡ (link s.me.0 f).role
 
   -- after a call the seat is the one before it, and its backend took no seat in or out
   pub record Keeps (s s' : Seat (Value L G) View) : Type 0 where

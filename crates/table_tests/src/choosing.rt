@@ -4,7 +4,7 @@ ghost use Rattle.pin_core.specs.declared.view.Role.TheVariants.{Absent};
 ghost use Rattle.pin_core.specs.State.{link};
 ghost use Rattle.frame_table.specs.Closes.{CanClose};
 ghost use Rattle.frame_table.specs.Seats.{frames_of};
-ghost use Rattle.table_tests.specs.Work.{IsSmall, Keeps, OnlyPins, PinsNone, SamePins};
+ghost use Rattle.table_tests.specs.Work.{IsSmall, Keeps, OnlyPins, PinsNone, SeatHasSamePins};
 
 use crate::entering::{enter_block, leave_block};
 use crate::fixture::{Table, TableSeat, block};
@@ -24,7 +24,7 @@ fn choose<R: Wait>(
     requires pins { OnlyPins table.now seat.old }
     requires census { census.old.frames ≡ frames_of table.now }
     ensures pins { OnlyPins table.now seat.new }
-    ensures same { SamePins seat.old seat.new }
+    ensures same { SeatHasSamePins seat.old seat.new }
     ensures keeps { Keeps seat.old seat.new }
     ensures census { census.new.frames ≡ census.old.frames }
 {
@@ -53,7 +53,7 @@ fn choose_beneath<R: Wait>(
     requires absent { (f : ℕ) → frame ≤ f → (link seat.old.me.0 f).role ≡ Absent }
     requires census { census.old.frames ≡ frames_of table.now }
     ensures pins { OnlyPins table.now seat.new }
-    ensures same { SamePins seat.old seat.new }
+    ensures same { SeatHasSamePins seat.old seat.new }
     ensures keeps { Keeps seat.old seat.new }
     ensures census { census.new.frames ≡ census.old.frames }
 {

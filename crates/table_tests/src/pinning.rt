@@ -3,7 +3,7 @@ ghost use Rattle.std.specs.Prelude.{◌≡◌, ◌<◌};
 ghost use Rattle.std.specs.Thread.{IsSync};
 ghost use Rattle.frame_table.specs.Closes.{CanClose};
 ghost use Rattle.frame_table.specs.Seats.{frames_of};
-ghost use Rattle.table_tests.specs.Work.{Keeps, Rests, backends_of};
+ghost use Rattle.table_tests.specs.Work.{Keeps, SeatHoldsNothing, backends_of};
 
 use crate::fixture::{Table, TableSeat};
 use frame_table::TryPin;
@@ -12,9 +12,9 @@ use std::thread::{Threads, join_mut};
 
 /// Pins a frame and gives it up, or says why it wasn't pinned.
 pub fn refusal<R: Wait>(table: &Table, rt: &R, seat: &mut TableSeat, frame: u32) -> Option<TryPin>
-    requires rests { Rests table.now seat.old }
+    requires rests { SeatHoldsNothing table.now seat.old }
     requires frame { frame < frames_of table.now }
-    ensures rests { Rests table.now seat.new }
+    ensures rests { SeatHoldsNothing table.now seat.new }
     ensures keeps { Keeps seat.old seat.new }
 {
     match table.try_pin(seat, frame, false) {
@@ -35,9 +35,9 @@ pub fn refusal_beside<R: Wait>(
     other: &mut TableSeat,
     frame: u32,
 ) -> Option<TryPin>
-    requires rests { Rests table.now seat.old × Rests table.now other.old }
+    requires rests { SeatHoldsNothing table.now seat.old × SeatHoldsNothing table.now other.old }
     requires frame { frame < frames_of table.now }
-    ensures rests { Rests table.now seat.new × Rests table.now other.new }
+    ensures rests { SeatHoldsNothing table.now seat.new × SeatHoldsNothing table.now other.new }
     ensures keeps { Keeps seat.old seat.new × Keeps other.old other.new }
 {
     table.lock_header(rt, other, frame);
@@ -54,9 +54,9 @@ pub fn pin_often<R: Wait>(
     frame: u32,
     times: u32,
 ) -> u32
-    requires rests { Rests table.now seat.old }
+    requires rests { SeatHoldsNothing table.now seat.old }
     requires frame { frame < frames_of table.now }
-    ensures rests { Rests table.now seat.new }
+    ensures rests { SeatHoldsNothing table.now seat.new }
     ensures keeps { Keeps seat.old seat.new }
 {
     let mut refused = 0;
@@ -95,20 +95,20 @@ fn pin_pair<R: Threads + Wait + Sync>(
     frame: u32,
     times: u32,
 ) -> (u32, u32)
-    requires rests { Rests table.now first.old × Rests table.now second.old }
+    requires rests { SeatHoldsNothing table.now first.old × SeatHoldsNothing table.now second.old }
     requires frame { frame < frames_of table.now }
-    ensures rests { Rests table.now first.new × Rests table.now second.new }
+    ensures rests { SeatHoldsNothing table.now first.new × SeatHoldsNothing table.now second.new }
     ensures keeps { Keeps first.old first.new × Keeps second.old second.new }
 {
     join_mut(
         rt,
         &mut || -> u32
-            requires { IsSync R.row × Rests table.now first.now × (frame < frames_of table.now) }
-            ensures { Rests table.entry.now first.exit.now × Keeps first.entry.now first.exit.now }
+            requires { IsSync R.row × SeatHoldsNothing table.now first.now × (frame < frames_of table.now) }
+            ensures { SeatHoldsNothing table.entry.now first.exit.now × Keeps first.entry.now first.exit.now }
         { pin_often(table, rt, first, frame, times) },
         &mut || -> u32
-            requires { IsSync R.row × Rests table.now second.now × (frame < frames_of table.now) }
-            ensures { Rests table.entry.now second.exit.now × Keeps second.entry.now second.exit.now }
+            requires { IsSync R.row × SeatHoldsNothing table.now second.now × (frame < frames_of table.now) }
+            ensures { SeatHoldsNothing table.entry.now second.exit.now × Keeps second.entry.now second.exit.now }
         { pin_often(table, rt, second, frame, times) },
     )
 }
@@ -142,20 +142,20 @@ fn pin_three<R: Threads + Wait + Sync>(
     frame: u32,
     times: u32,
 ) -> (u32, (u32, u32))
-    requires rests { Rests table.now first.old × Rests table.now second.old × Rests table.now third.old }
+    requires rests { SeatHoldsNothing table.now first.old × SeatHoldsNothing table.now second.old × SeatHoldsNothing table.now third.old }
     requires frame { frame < frames_of table.now }
-    ensures rests { Rests table.now first.new × Rests table.now second.new × Rests table.now third.new }
+    ensures rests { SeatHoldsNothing table.now first.new × SeatHoldsNothing table.now second.new × SeatHoldsNothing table.now third.new }
     ensures keeps { Keeps first.old first.new × Keeps second.old second.new × Keeps third.old third.new }
 {
     join_mut(
         rt,
         &mut || -> u32
-            requires { IsSync R.row × Rests table.now first.now × (frame < frames_of table.now) }
-            ensures { Rests table.entry.now first.exit.now × Keeps first.entry.now first.exit.now }
+            requires { IsSync R.row × SeatHoldsNothing table.now first.now × (frame < frames_of table.now) }
+            ensures { SeatHoldsNothing table.entry.now first.exit.now × Keeps first.entry.now first.exit.now }
         { pin_often(table, rt, first, frame, times) },
         &mut || -> (u32, u32)
-            requires { IsSync R.row × Rests table.now second.now × Rests table.now third.now × (frame < frames_of table.now) }
-            ensures { Rests table.entry.now second.exit.now × Keeps second.entry.now second.exit.now × Rests table.entry.now third.exit.now × Keeps third.entry.now third.exit.now }
+            requires { IsSync R.row × SeatHoldsNothing table.now second.now × SeatHoldsNothing table.now third.now × (frame < frames_of table.now) }
+            ensures { SeatHoldsNothing table.entry.now second.exit.now × Keeps second.entry.now second.exit.now × SeatHoldsNothing table.entry.now third.exit.now × Keeps third.entry.now third.exit.now }
         { pin_pair(table, rt, second, third, frame, times) },
     )
 }
@@ -179,12 +179,12 @@ pub fn pin_by_four<R: Threads + Wait + Sync>(
     let refused = join_mut(
         rt,
         &mut || -> u32
-            requires { IsSync R.row × Rests table.now seat.now × (frame < frames_of table.now) }
-            ensures { Rests table.entry.now seat.exit.now × Keeps seat.entry.now seat.exit.now }
+            requires { IsSync R.row × SeatHoldsNothing table.now seat.now × (frame < frames_of table.now) }
+            ensures { SeatHoldsNothing table.entry.now seat.exit.now × Keeps seat.entry.now seat.exit.now }
         { pin_often(table, rt, seat, frame, times) },
         &mut || -> (u32, (u32, u32))
-            requires { IsSync R.row × Rests table.now second × Rests table.now third × Rests table.now fourth × (frame < frames_of table.now) }
-            ensures { Rests table.entry.now second.exit × Keeps second.entry second.exit × Rests table.entry.now third.exit × Keeps third.entry third.exit × Rests table.entry.now fourth.exit × Keeps fourth.entry fourth.exit }
+            requires { IsSync R.row × SeatHoldsNothing table.now second × SeatHoldsNothing table.now third × SeatHoldsNothing table.now fourth × (frame < frames_of table.now) }
+            ensures { SeatHoldsNothing table.entry.now second.exit × Keeps second.entry second.exit × SeatHoldsNothing table.entry.now third.exit × Keeps third.entry third.exit × SeatHoldsNothing table.entry.now fourth.exit × Keeps fourth.entry fourth.exit }
         {
             pin_three(
                 table,

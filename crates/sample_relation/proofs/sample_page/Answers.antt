@@ -1,10 +1,10 @@
 use Rattle.std.proofs.Common.{◌≡◌, ◌+◌, ◌%◌, ◌++◌, ℕ, ◌∙◌, List, [], ap, length, arith}
-use Rattle.sample_relation.specs.Samples.{sample_page, page_of_kind, Appends}
+use Rattle.sample_relation.specs.Samples.{sample_page, page_of_kind, Extends}
 use Rattle.sample_relation.proofs.Lengths.{length_page}
 use Rattle.sample_relation.proofs.sample_page.Goals as goal
 
 -- the bytes that were put after none are those of the page
-put : (old new : List ℕ) (seed seed' block block' : ℕ) → seed' ≡ seed → block' ≡ block → old ≡ [] → Appends old new (page_of_kind ((seed' + block') % 8) block) → new ≡ page_of_kind ((seed + block) % 8) block
+put : (old new : List ℕ) (seed seed' block block' : ℕ) → seed' ≡ seed → block' ≡ block → old ≡ [] → Extends old new (page_of_kind ((seed' + block') % 8) block) → new ≡ page_of_kind ((seed + block) % 8) block
 put old new seed seed' block block' a b none puts =
     puts.is ∙ (ap (λ (l : List ℕ). l ++ page_of_kind ((seed' + block') % 8) block) none ∙ (ap (λ (s : ℕ). page_of_kind ((s + block') % 8) block) a ∙ ap (λ (n : ℕ). page_of_kind ((seed + n) % 8) block) b))
 

@@ -1,7 +1,7 @@
 use Rattle.std.proofs.Common.{◌≡◌, List, [], ◌∷◌, sym, subst}
 use Rattle.std.specs.Prelude.{IfOk}
 use Rattle.backend_pass.specs.Passes.{PassState}
-use Rattle.page_jobs.specs.Jobs.{AreFree, workers_in}
+use Rattle.page_jobs.specs.Jobs.{HaveNoTokens, workers_in}
 use Rattle.page_jobs.specs.RewriteJobs.{RewriteParts, RewritesFork}
 use Rattle.page_jobs.proofs.BesideWork.{ends_rewrite, job_met, last_stays, rewrites_met}
 use Rattle.page_jobs.proofs.Deals.{free_back, free_front, workers_before}
@@ -10,12 +10,12 @@ use Rattle.page_jobs.proofs.rewrites.rewrite.Goals as goal
 pub rewrite_passes-end-requires-clause-free : goal.rewrite_passes-end-requires-clause-free
 rewrite_passes-end-requires-clause-free g c κs within =
     free_front {L = g.row.L.Denot} {G = g.row.G.Denot} g.L.BlockLane.contents c.args.manager.now c.args.rel.0 c.args.fork c.take_last-last.new.self.items (c.take_last-last.result ∷ [])
-    (subst (AreFree {L = g.row.L.Denot} {G = g.row.G.Denot} g.L.BlockLane.contents c.args.manager.now) c.take_last-last.ensures.items c.requires.free)
+    (subst (HaveNoTokens {L = g.row.L.Denot} {G = g.row.G.Denot} g.L.BlockLane.contents c.args.manager.now) c.take_last-last.ensures.items c.requires.free)
 
 pub rewrite_passes-end-requires-clause-last : goal.rewrite_passes-end-requires-clause-last
 rewrite_passes-end-requires-clause-last g c κs within =
     (free_back {L = g.row.L.Denot} {G = g.row.G.Denot} g.L.BlockLane.contents c.args.manager.now c.args.rel.0 c.args.fork c.take_last-last.new.self.items (c.take_last-last.result ∷ [])
-    (subst (AreFree {L = g.row.L.Denot} {G = g.row.G.Denot} g.L.BlockLane.contents c.args.manager.now) c.take_last-last.ensures.items c.requires.free)).0
+    (subst (HaveNoTokens {L = g.row.L.Denot} {G = g.row.G.Denot} g.L.BlockLane.contents c.args.manager.now) c.take_last-last.ensures.items c.requires.free)).0
 
 pub returns-clause-passes : goal.returns-clause-passes
 returns-clause-passes g c =

@@ -2,7 +2,7 @@ use Rattle.std.proofs.Common.{◌≡◌, List, [], ◌∷◌, sym, subst}
 use Rattle.std.specs.Prelude.{IfOk}
 use Rattle.backend_pass.specs.Passes.{PassState}
 use Rattle.frame_table.specs.Seats.{base_of}
-use Rattle.page_jobs.specs.Jobs.{AllAtBase, AreFree, ReadParts, ReadsAll, workers_in}
+use Rattle.page_jobs.specs.Jobs.{AllAtBase, HaveNoTokens, ReadParts, ReadsAll, workers_in}
 use Rattle.page_jobs.proofs.BesideWork.{ends_job, job_met, last_stays, reads_met}
 use Rattle.page_jobs.proofs.Deals.{free_back, free_front, workers_before}
 use Rattle.page_jobs.proofs.scans.run_job.Goals as goal
@@ -10,12 +10,12 @@ use Rattle.page_jobs.proofs.scans.run_job.Goals as goal
 pub work_passes-end-requires-clause-free : goal.work_passes-end-requires-clause-free
 work_passes-end-requires-clause-free g c κs within =
     free_front {L = g.row.L.Denot} {G = g.row.G.Denot} g.L.BlockLane.contents c.args.manager.now c.args.job.rel.0 c.args.job.fork c.take_last-last.new.self.items (c.take_last-last.result ∷ [])
-    (subst (AreFree {L = g.row.L.Denot} {G = g.row.G.Denot} g.L.BlockLane.contents c.args.manager.now) c.take_last-last.ensures.items c.requires.free)
+    (subst (HaveNoTokens {L = g.row.L.Denot} {G = g.row.G.Denot} g.L.BlockLane.contents c.args.manager.now) c.take_last-last.ensures.items c.requires.free)
 
 pub work_passes-end-requires-clause-last : goal.work_passes-end-requires-clause-last
 work_passes-end-requires-clause-last g c κs within =
     (free_back {L = g.row.L.Denot} {G = g.row.G.Denot} g.L.BlockLane.contents c.args.manager.now c.args.job.rel.0 c.args.job.fork c.take_last-last.new.self.items (c.take_last-last.result ∷ [])
-    (subst (AreFree {L = g.row.L.Denot} {G = g.row.G.Denot} g.L.BlockLane.contents c.args.manager.now) c.take_last-last.ensures.items c.requires.free)).0
+    (subst (HaveNoTokens {L = g.row.L.Denot} {G = g.row.G.Denot} g.L.BlockLane.contents c.args.manager.now) c.take_last-last.ensures.items c.requires.free)).0
 
 pub returns-clause-passes : goal.returns-clause-passes
 returns-clause-passes g c =

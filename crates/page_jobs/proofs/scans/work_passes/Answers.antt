@@ -3,7 +3,7 @@ use Rattle.std.specs.Prelude.{IfErr, IfOk, vec_len}
 use Rattle.backend_pass.specs.Passes.{PassState}
 use Rattle.frame_table.specs.Seats.{base_of}
 use Rattle.page_jobs.specs.declared.working.Worker.{Worker}
-use Rattle.page_jobs.specs.Dealt.{AreCounted, AreDealt, DoParts, job_totals}
+use Rattle.page_jobs.specs.Dealt.{AreDealt, DoParts, TotalsAreInRange, job_totals}
 use Rattle.page_jobs.specs.declared.ending.JobError.TheVariants.{Memory, OutFault}
 use Rattle.page_jobs.specs.Beside.{WorkIsRefused}
 use Rattle.page_jobs.specs.Jobs.{AllAtBase, AnyMeets, ReadParts, ReadsAll}
@@ -26,7 +26,7 @@ put_all-end-requires-clause-counts g c =
     let several : 0 < length ps = subst (λ (n : ℕ). 0 < n) long c.requires.some in
     let xs = c.work_beside-beside_end.new.workers.items in
     let d = did_parts {L = g.row.L.Denot} {G = g.row.G.Denot} g.L.BlockLane.contents c.args.manager.now c.args.job.rel.0 c.args.job.fork c.args.job.lines c.blocks-blocks.result (length ps) 0 ps c.in_ok-workers.workers.items xs (subst (λ (k : ℕ). AreDealt c.blocks-blocks.result k 0 ps c.in_ok-workers.workers.items) long c.in_ok-workers.ensures.dealt.0) (search rules) c.work_beside-beside_end.ensures.worked in
-    subst AreCounted (sym c.deref.ensures.value) (parts_counted {L = g.row.L.Denot} {G = g.row.G.Denot} g.L.BlockLane.contents c.args.manager.now c.args.job.rel.0 c.args.job.fork c.args.job.lines c.blocks-blocks.result (length ps) 0 ps xs d)
+    subst TotalsAreInRange (sym c.deref.ensures.value) (parts_counted {L = g.row.L.Denot} {G = g.row.G.Denot} g.L.BlockLane.contents c.args.manager.now c.args.job.rel.0 c.args.job.fork c.args.job.lines c.blocks-blocks.result (length ps) 0 ps xs d)
 
 pub put_all-end-requires-clause-few : goal.put_all-end-requires-clause-few
 put_all-end-requires-clause-few g c =

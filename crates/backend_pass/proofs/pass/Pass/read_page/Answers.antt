@@ -7,7 +7,7 @@ use Rattle.pin_core.specs.declared.view.Link.{Link}
 use Rattle.pin_core.specs.declared.view.View.{View}
 use Rattle.pin_core.specs.State.{link}
 use Rattle.frame_table.specs.Content.{CanLock}
-use Rattle.held_pins.specs.Rests.{IsCalm}
+use Rattle.held_pins.specs.Rests.{HasAtMostLock}
 use Rattle.held_pins.specs.Tokens.{IsPinnedFor, held_at}
 use Rattle.backend_pass.specs.Managers.{Belongs}
 use Rattle.buffer_frames.specs.PageReads.{OnlyReads, ReadsPage, SharesToRead}
@@ -29,7 +29,7 @@ pub share_to_read-place-requires-clause-calm : goal.share_to_read-place-requires
 share_to_read-place-requires-clause-calm g c =
     let f = c.args.pinned.now.frame in
     let before = view_of_seat c.self.inside.seat c.replace.result c.into_seat-seat.result.me.0 c.replace.ensures.value c.into_seat-seat.ensures.2 in
-    subst (λ (v : View). IsCalm (link v f)) before (c.self.invariant.1.links f).calm
+    subst (λ (v : View). HasAtMostLock (link v f)) before (c.self.invariant.1.links f).calm
 
 pub share_to_read-place-requires-clause-tag : goal.share_to_read-place-requires-clause-tag
 share_to_read-place-requires-clause-tag g c =
