@@ -16,7 +16,7 @@ use Rattle.backend_pass.specs.Passes.{PassState}
 use Rattle.history_core.specs.Log.{IsFront}
 use Rattle.backend_pass.specs.Managers.{AreFronted, AreOthers, AreSpent, IsFirstAt, first_in, is_first, others_in}
 use Rattle.backend_pass.specs.Closing.{calls_of_passes, joined_views, met_by_passes}
-use Rattle.pin_core.specs.declared.view.Checkpoint.{Checkpoint}
+use Rattle.pin_core.specs.declared.view.JoinedCheckpoint.{JoinedCheckpoint}
 use Rattle.grid.proofs.Lists.{at_longer}
 
 -- a view that rests without tokens holds nothing
@@ -94,7 +94,7 @@ pub record Joins (v w : View) (ps : List PassState) : Type 0 where
   pub seen : v.end_seen ≤ w.end_seen
   pub down : v.saw_down ≡ true → w.saw_down ≡ true
   pub output : v.had_output ≡ true → w.had_output ≡ true
-  pub kept : (k : ℕ) (c : Checkpoint) → get_elem? v.kept k ≡ some c → (j : ℕ) × (get_elem? w.kept j ≡ some c)
+  pub kept : (k : ℕ) (c : JoinedCheckpoint) → get_elem? v.kept k ≡ some c → (j : ℕ) × (get_elem? w.kept j ≡ some c)
 
 or_true : (a b : Bool) → a ≡ true → (a || b) ≡ true
 or_true true b e = refl

@@ -8,7 +8,7 @@ use mathlib.Core.Option.{some, some-ne-none, some-injective}
 use lib.ListN.{get_elem?}
 use Rattle.pin_core.specs.declared.view.Call.{Call}
 use Rattle.pin_core.specs.declared.view.Call.TheVariants.{Read, Write}
-use Rattle.pin_core.specs.declared.view.Checkpoint.{Checkpoint}
+use Rattle.pin_core.specs.declared.view.JoinedCheckpoint.{JoinedCheckpoint}
 use Rattle.pin_core.specs.declared.view.View.{View}
 use Rattle.pin_core.specs.State.{Page, emptied_view, joined_view, kept_checkpoint}
 use Rattle.history_core.specs.Log.{Entry, Log, LogLaw, end_of, log_end, cell, IsLegal, IsLegalRead, place_of, backend_of, write_weight, weight_at, writes_in, writes_at, HasPlace, AreInOrder}
@@ -82,8 +82,8 @@ pub record SameCalls (v w : View) : Type 0 where
   pub kept : w.kept ≡ v.kept
 
 -- a view with the same number that keeps these checkpoints and more
-own_longer : (v w : View) (m : List Checkpoint) → w.number ≡ v.number → w.kept ≡ v.kept ++ m → (n : ℕ) → HasNumber v n → HasNumber w n
-own_longer v w m number kept n has other = let x = has (λ z. other (z ∙ sym number)) in (x.0, x.1, subst (λ (l : List Checkpoint). get_elem? l x.0 ≡ some x.1) (sym kept) (at_longer v.kept m x.0 x.1 x.2), x.3)
+own_longer : (v w : View) (m : List JoinedCheckpoint) → w.number ≡ v.number → w.kept ≡ v.kept ++ m → (n : ℕ) → HasNumber v n → HasNumber w n
+own_longer v w m number kept n has other = let x = has (λ z. other (z ∙ sym number)) in (x.0, x.1, subst (λ (l : List JoinedCheckpoint). get_elem? l x.0 ≡ some x.1) (sym kept) (at_longer v.kept m x.0 x.1 x.2), x.3)
 
 own_same : (v w : View) → w.number ≡ v.number → w.kept ≡ v.kept → (n : ℕ) → HasNumber v n → HasNumber w n
 own_same v w number kept n x = own_longer v w [] number (kept ∙ sym (append-nil v.kept)) n x
@@ -94,7 +94,7 @@ own_joined v u n has other = dite (ℕ_discrete n u.number)
     (λ (z : n ≡ u.number). let y = kept_right v.kept (kept_checkpoint u ∷ u.kept) 0 (kept_checkpoint u) refl in (y.0, kept_checkpoint u, y.1, sym z))
     (λ (o : n ≢ u.number). let x = has o in let y = kept_right v.kept (kept_checkpoint u ∷ u.kept) (suc x.0) x.1 x.2 in (y.0, x.1, y.1, x.3))
   where
-    kept_right : (l m : List Checkpoint) (k : ℕ) (c : Checkpoint) → get_elem? m k ≡ some c → (j : ℕ) × (get_elem? (l ++ m) j ≡ some c)
+    kept_right : (l m : List JoinedCheckpoint) (k : ℕ) (c : JoinedCheckpoint) → get_elem? m k ≡ some c → (j : ℕ) × (get_elem? (l ++ m) j ≡ some c)
     kept_right [] m k c at = (k, at)
     kept_right (y ∷ l) m k c at = let z = kept_right l m k c at in (suc z.0, z.1)
 
@@ -111,12 +111,12 @@ kept_set : (views : List View) → KeptLaw views → (i : ℕ) (v w : View) → 
 kept_set views h i v w there kept emptied = record {
   only_first = λ j u e other. ⊎_elim (λ (t : (j ≡ i) × (w ≡ u)). ap (λ (x : View). x.kept) (sym t.1) ∙ kept ∙ h.only_first i v there (λ z. other (t.0 ∙ z))) (λ (t : (j ≢ i) × (get_elem? views j ≡ some u)). h.only_first j u t.1 other) (at_set views i j w u e);
   spent = λ j k u c e at. let x = was j k u c e at in after c.number x.0 x.1 x.2;
-  apart = λ j m n u c d e ec ed same. ⊎_elim (λ (t : (j ≡ i) × (w ≡ u)). let is : u.kept ≡ v.kept = ap (λ (x : View). x.kept) (sym t.1) ∙ kept in h.apart i m n v c d there (subst (λ (l : List Checkpoint). get_elem? l m ≡ some c) is ec) (subst (λ (l : List Checkpoint). get_elem? l n ≡ some d) is ed) same)
+  apart = λ j m n u c d e ec ed same. ⊎_elim (λ (t : (j ≡ i) × (w ≡ u)). let is : u.kept ≡ v.kept = ap (λ (x : View). x.kept) (sym t.1) ∙ kept in h.apart i m n v c d there (subst (λ (l : List JoinedCheckpoint). get_elem? l m ≡ some c) is ec) (subst (λ (l : List JoinedCheckpoint). get_elem? l n ≡ some d) is ed) same)
       (λ (t : (j ≢ i) × (get_elem? views j ≡ some u)). h.apart j m n u c d t.1 ec ed same) (at_set views i j w u e);
 }
   where
-    was : (j k : ℕ) (u : View) (c : Checkpoint) → get_elem? (set views i w) j ≡ some u → get_elem? u.kept k ≡ some c → (x : View) × (get_elem? views c.number ≡ some x) × (x.emptied ≡ true)
-    was j k u c e at = ⊎_elim (λ (t : (j ≡ i) × (w ≡ u)). h.spent i k v c there (subst (λ (l : List Checkpoint). get_elem? l k ≡ some c) (ap (λ (x : View). x.kept) (sym t.1) ∙ kept) at)) (λ (t : (j ≢ i) × (get_elem? views j ≡ some u)). h.spent j k u c t.1 at) (at_set views i j w u e)
+    was : (j k : ℕ) (u : View) (c : JoinedCheckpoint) → get_elem? (set views i w) j ≡ some u → get_elem? u.kept k ≡ some c → (x : View) × (get_elem? views c.number ≡ some x) × (x.emptied ≡ true)
+    was j k u c e at = ⊎_elim (λ (t : (j ≡ i) × (w ≡ u)). h.spent i k v c there (subst (λ (l : List JoinedCheckpoint). get_elem? l k ≡ some c) (ap (λ (x : View). x.kept) (sym t.1) ∙ kept) at)) (λ (t : (j ≢ i) × (get_elem? views j ≡ some u)). h.spent j k u c t.1 at) (at_set views i j w u e)
 
     after : (n : ℕ) (x : View) → get_elem? views n ≡ some x → x.emptied ≡ true → (y : View) × (get_elem? (set views i w) n ≡ some y) × (y.emptied ≡ true)
     after n x at spent = dite (ℕ_discrete n i)
@@ -124,8 +124,8 @@ kept_set views h i v w there kept emptied = record {
         (λ (o : n ≢ i). (x, set_else views i n w o ∙ at, spent))
 
 -- nothing is kept where the list is empty
-nothing : (u : View) (k : ℕ) (c : Checkpoint) → u.kept ≡ [] → get_elem? u.kept k ≡ some c → ⊥
-nothing u k c none at = some-ne-none c (sym (subst (λ (l : List Checkpoint). get_elem? l k ≡ some c) none at))
+nothing : (u : View) (k : ℕ) (c : JoinedCheckpoint) → u.kept ≡ [] → get_elem? u.kept k ≡ some c → ⊥
+nothing u k c none at = some-ne-none c (sym (subst (λ (l : List JoinedCheckpoint). get_elem? l k ≡ some c) none at))
 
 live_not : {b : Bool} → b ≡ true → b ≡ false → ⊥
 live_not a b = cc
@@ -147,7 +147,7 @@ module _ (views : List View) (h : KeptLaw views) (j : ℕ) (v u : View) (there :
   vs = set views 0 w
 
   kept_is : w.kept ≡ v.kept ++ kept_checkpoint u ∷ []
-  kept_is = ap (λ (l : List Checkpoint). v.kept ++ kept_checkpoint u ∷ l) (h.only_first j u here other)
+  kept_is = ap (λ (l : List JoinedCheckpoint). v.kept ++ kept_checkpoint u ∷ l) (h.only_first j u here other)
 
   by_place : (k : ℕ) (x : View) → get_elem? (set vs j emptied_view) k ≡ some x → (P : View → Type 0) → P emptied_view → P w → ((q : ℕ) (y : View) → get_elem? views q ≡ some y → P y) → P x
   by_place k x e P a b c = ⊎_elim (λ (t : (k ≡ j) × (emptied_view ≡ x)). subst P t.1 a) (λ (t : (k ≢ j) × (get_elem? vs k ≡ some x)). ⊎_elim (λ (y : (k ≡ 0) × (w ≡ x)). subst P y.1 b) (λ (y : (k ≢ 0) × (get_elem? views k ≡ some x)). c k x y.1) (at_set views 0 k w x t.1)) (at_set vs j k emptied_view x e)
@@ -157,21 +157,21 @@ module _ (views : List View) (h : KeptLaw views) (j : ℕ) (v u : View) (there :
   still_spent n x at spent = dite (ℕ_discrete n j) (λ (e : n ≡ j). (emptied_view, ap (get_elem? (set vs j emptied_view)) e ∙ set_here vs j u emptied_view (set_else views 0 j w other ∙ here), refl))
       (λ (o : n ≢ j). dite (ℕ_discrete n 0) (λ (e : n ≡ 0). absurd (live_not (ap (λ (y : View). y.emptied) (some-injective v x (sym there ∙ ap (get_elem? views) (sym e) ∙ at)) ∙ spent) live)) (λ (p : n ≢ 0). (x, set_else vs j n emptied_view o ∙ set_else views 0 n w p ∙ at, spent)))
 
-  taken : (c : Checkpoint) → ((k : ℕ) × (get_elem? v.kept k ≡ some c)) ⊎ (kept_checkpoint u ≡ c) → (z : View) × (get_elem? (set vs j emptied_view) c.number ≡ some z) × (z.emptied ≡ true)
+  taken : (c : JoinedCheckpoint) → ((k : ℕ) × (get_elem? v.kept k ≡ some c)) ⊎ (kept_checkpoint u ≡ c) → (z : View) × (get_elem? (set vs j emptied_view) c.number ≡ some z) × (z.emptied ≡ true)
   taken c (inl t) = let z = h.spent 0 t.0 v c there t.1 in still_spent c.number z.0 z.1 z.2
-  taken c (inr e) = (emptied_view, ap (get_elem? (set vs j emptied_view)) (ap (λ (y : Checkpoint). y.number) (sym e) ∙ number) ∙ set_here vs j u emptied_view (set_else views 0 j w other ∙ here), refl)
+  taken c (inr e) = (emptied_view, ap (get_elem? (set vs j emptied_view)) (ap (λ (y : JoinedCheckpoint). y.number) (sym e) ∙ number) ∙ set_here vs j u emptied_view (set_else views 0 j w other ∙ here), refl)
 
-  at_last : (l : List Checkpoint) (n : ℕ) (c : Checkpoint) → get_elem? (l ++ kept_checkpoint u ∷ []) n ≡ some c → ((k : ℕ) × (get_elem? l k ≡ some c)) ⊎ (kept_checkpoint u ≡ c)
+  at_last : (l : List JoinedCheckpoint) (n : ℕ) (c : JoinedCheckpoint) → get_elem? (l ++ kept_checkpoint u ∷ []) n ≡ some c → ((k : ℕ) × (get_elem? l k ≡ some c)) ⊎ (kept_checkpoint u ≡ c)
   at_last l n c at = ⊎_elim (λ (t : get_elem? l n ≡ some c). inl (n, t)) (λ (t : (kept_checkpoint u ≡ c) × (n ≡ length l)). inr t.0) (at_end l (kept_checkpoint u) c n at)
 
   -- the view j is live, so none that was kept before has its number
-  fresh : (k : ℕ) (c : Checkpoint) → get_elem? v.kept k ≡ some c → c.number ≢ u.number
+  fresh : (k : ℕ) (c : JoinedCheckpoint) → get_elem? v.kept k ≡ some c → c.number ≢ u.number
   fresh k c at same = let z = h.spent 0 k v c there at in live_not (ap (λ (y : View). y.emptied) (some-injective u z.0 (sym here ∙ ap (get_elem? views) (sym (same ∙ number)) ∙ z.1)) ∙ z.2) going
 
-  ends_apart : (m n : ℕ) (c d : Checkpoint) → get_elem? (v.kept ++ kept_checkpoint u ∷ []) m ≡ some c → get_elem? (v.kept ++ kept_checkpoint u ∷ []) n ≡ some d → c.number ≡ d.number → m ≡ n
+  ends_apart : (m n : ℕ) (c d : JoinedCheckpoint) → get_elem? (v.kept ++ kept_checkpoint u ∷ []) m ≡ some c → get_elem? (v.kept ++ kept_checkpoint u ∷ []) n ≡ some d → c.number ≡ d.number → m ≡ n
   ends_apart m n c d ec ed same = ⊎_elim
-      (λ (t : get_elem? v.kept m ≡ some c). ⊎_elim (λ (y : get_elem? v.kept n ≡ some d). h.apart 0 m n v c d there t y same) (λ (y : (kept_checkpoint u ≡ d) × (n ≡ length v.kept)). absurd (fresh m c t (same ∙ ap (λ (z : Checkpoint). z.number) (sym y.0)))) (at_end v.kept (kept_checkpoint u) d n ed))
-      (λ (t : (kept_checkpoint u ≡ c) × (m ≡ length v.kept)). ⊎_elim (λ (y : get_elem? v.kept n ≡ some d). absurd (fresh n d y (sym same ∙ ap (λ (z : Checkpoint). z.number) (sym t.0)))) (λ (y : (kept_checkpoint u ≡ d) × (n ≡ length v.kept)). t.1 ∙ sym y.1) (at_end v.kept (kept_checkpoint u) d n ed))
+      (λ (t : get_elem? v.kept m ≡ some c). ⊎_elim (λ (y : get_elem? v.kept n ≡ some d). h.apart 0 m n v c d there t y same) (λ (y : (kept_checkpoint u ≡ d) × (n ≡ length v.kept)). absurd (fresh m c t (same ∙ ap (λ (z : JoinedCheckpoint). z.number) (sym y.0)))) (at_end v.kept (kept_checkpoint u) d n ed))
+      (λ (t : (kept_checkpoint u ≡ c) × (m ≡ length v.kept)). ⊎_elim (λ (y : get_elem? v.kept n ≡ some d). absurd (fresh n d y (sym same ∙ ap (λ (z : JoinedCheckpoint). z.number) (sym t.0)))) (λ (y : (kept_checkpoint u ≡ d) × (n ≡ length v.kept)). t.1 ∙ sym y.1) (at_end v.kept (kept_checkpoint u) d n ed))
       (at_end v.kept (kept_checkpoint u) c m ec)
 
   kept_joined : KeptLaw (set vs j emptied_view)
@@ -179,10 +179,10 @@ module _ (views : List View) (h : KeptLaw views) (j : ℕ) (v u : View) (there :
     only_first = λ k x e o. ⊎_elim (λ (t : (k ≡ j) × (emptied_view ≡ x)). ap (λ (y : View). y.kept) (sym t.1)) (λ (t : (k ≢ j) × (get_elem? vs k ≡ some x)). ⊎_elim (λ (y : (k ≡ 0) × (w ≡ x)). absurd (o y.0)) (λ (y : (k ≢ 0) × (get_elem? views k ≡ some x)). h.only_first k x y.1 o) (at_set views 0 k w x t.1)) (at_set vs j k emptied_view x e);
     spent = λ k n x c e at. by_place k x e (λ (y : View). (n : ℕ) → get_elem? y.kept n ≡ some c → (z : View) × (get_elem? (set vs j emptied_view) c.number ≡ some z) × (z.emptied ≡ true))
         (λ n at. absurd (some-ne-none c (sym at)))
-        (λ n at. taken c (at_last v.kept n c (subst (λ (l : List Checkpoint). get_elem? l n ≡ some c) kept_is at)))
+        (λ n at. taken c (at_last v.kept n c (subst (λ (l : List JoinedCheckpoint). get_elem? l n ≡ some c) kept_is at)))
         (λ q y t n at. let z = h.spent q n y c t at in still_spent c.number z.0 z.1 z.2) n at;
     apart = λ k m n x c d e ec ed same. by_place k x e (λ (y : View). get_elem? y.kept m ≡ some c → get_elem? y.kept n ≡ some d → m ≡ n) (λ at. absurd (some-ne-none c (sym at)))
-        (λ xc xd. ends_apart m n c d (subst (λ (l : List Checkpoint). get_elem? l m ≡ some c) kept_is xc) (subst (λ (l : List Checkpoint). get_elem? l n ≡ some d) kept_is xd) same)
+        (λ xc xd. ends_apart m n c d (subst (λ (l : List JoinedCheckpoint). get_elem? l m ≡ some c) kept_is xc) (subst (λ (l : List JoinedCheckpoint). get_elem? l n ≡ some d) kept_is xd) same)
         (λ q y t xc xd. h.apart q m n y c d t xc xd same) ec ed;
   }
 

@@ -5,7 +5,7 @@ use mathlib.Core.Option.{some}
 use native.Mathlib.Decide.{ℕ_discrete}
 use lib.ListN.{get_elem?}
 use Rattle.state_word.specs.declared.word.IoEnd.TheVariants.{ReadOk, WriteOk, Bad}
-use Rattle.pin_core.specs.declared.view.Checkpoint.{Checkpoint}
+use Rattle.pin_core.specs.declared.view.JoinedCheckpoint.{JoinedCheckpoint}
 use Rattle.pin_core.specs.declared.view.LastWrite.TheVariants.{Done}
 use Rattle.pin_core.specs.declared.view.Link.{Link}
 use Rattle.pin_core.specs.declared.view.View.{View}
@@ -189,11 +189,11 @@ module _ (t : Taken) (n : ℕ) (frame : ℕ → Frame) (end : ℕ) (f : ℕ) (fr
   view_touched : (v w : View) (l : Link) → Touched v w f l → LinkDebt t fr v.upto l → ViewDebts t n frame end v → ViewDebts t n (put frame f fr) end w
   view_touched v w l x debt h = let m = view_moves v h in record {
     begun = subst (λ (k : ℕ). k ≤ end) (sym x.upto) h.begun;
-    kept_begun = λ k c at. h.kept_begun k c (subst (λ (y : List Checkpoint). get_elem? y k ≡ some c) x.kept at);
+    kept_begun = λ k c at. h.kept_begun k c (subst (λ (y : List JoinedCheckpoint). get_elem? y k ≡ some c) x.kept at);
     own = λ g below. dite (ℕ_discrete g f)
         (λ (e : g ≡ f). subst (λ (k : ℕ). LinkDebt t (put frame f fr g) k (link w g)) (sym x.upto) (subst (λ (y : Frame). LinkDebt t y v.upto (link w g)) (sym (put_at frame f fr g e)) (subst (λ (k : ℕ). LinkDebt t fr v.upto (link w k)) (sym e) (subst (LinkDebt t fr v.upto) (sym x.here) debt))))
         (λ (o : g ≢ f). subst (λ (k : ℕ). LinkDebt t (put frame f fr g) k (link w g)) (sym x.upto) (subst (LinkDebt t (put frame f fr g) v.upto) (sym (x.others g o)) (m.own g below)));
-    kept = λ k g c at below. m.kept k g c (subst (λ (y : List Checkpoint). get_elem? y k ≡ some c) x.kept at) below;
+    kept = λ k g c at below. m.kept k g c (subst (λ (y : List JoinedCheckpoint). get_elem? y k ≡ some c) x.kept at) below;
   }
 
   pub debts_touched : (logged : ℕ → Option Page) (views : List View) → Debts t n frame end logged views → f < n → (fr.tag ≢ (frame f).tag → (frame f).word.dirty ≡ false) → (i : ℕ) (v w : View) (l : Link) → get_elem? views i ≡ some v → Touched v w f l → LinkDebt t fr v.upto l → Debts t n (put frame f fr) end logged (set views i w)
@@ -221,9 +221,9 @@ module _ (t : Taken) (n : ℕ) (frame : ℕ → Frame) (end : ℕ) (logged : ℕ
   pub debts_aside : (i : ℕ) (v w : View) → get_elem? views i ≡ some v → w.upto ≡ v.upto → w.kept ≡ v.kept → w.links ≡ v.links → Debts t n frame end logged (set views i w)
   debts_aside i v w there upto kept links = let d = h.each i v there in debts_set i w (record {
     begun = subst (λ (k : ℕ). k ≤ end) (sym upto) d.begun;
-    kept_begun = λ k c at. d.kept_begun k c (subst (λ (y : List Checkpoint). get_elem? y k ≡ some c) kept at);
+    kept_begun = λ k c at. d.kept_begun k c (subst (λ (y : List JoinedCheckpoint). get_elem? y k ≡ some c) kept at);
     own = λ f below. subst (λ (k : ℕ). LinkDebt t (frame f) k (link w f)) (sym upto) (subst (λ (y : List Link). LinkDebt t (frame f) v.upto (link (record w { links = y }) f)) (sym links) (d.own f below));
-    kept = λ k f c at below. d.kept k f c (subst (λ (y : List Checkpoint). get_elem? y k ≡ some c) kept at) below;
+    kept = λ k f c at below. d.kept k f c (subst (λ (y : List JoinedCheckpoint). get_elem? y k ≡ some c) kept at) below;
   })
 
 -- The lanes change: no block's entries go, and a block's last write is good only where it was, or where all its entries are in the lane now

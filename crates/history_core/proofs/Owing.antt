@@ -7,7 +7,7 @@ use mathlib.Core.Option.{some, some-ne-none, some-injective}
 use native.Mathlib.Decide.{ℕ_discrete}
 use lib.ListN.{get_elem?}
 use Rattle.page_layout.specs.Fields.{lsn_of}
-use Rattle.pin_core.specs.declared.view.Checkpoint.{Checkpoint}
+use Rattle.pin_core.specs.declared.view.JoinedCheckpoint.{JoinedCheckpoint}
 use Rattle.pin_core.specs.declared.view.Content.TheVariants.{Unlocked, Exclusive}
 use Rattle.pin_core.specs.declared.view.Io.TheVariants.{Output}
 use Rattle.pin_core.specs.declared.view.LastWrite.TheVariants.{Done}
@@ -82,9 +82,9 @@ module _ (s : State) (h : Invariant s) (d : DebtsLaw s) where
   no_debts : (w : View) → w.upto ≡ 0 → w.kept ≡ [] → ((f : ℕ) → link w f ≡ idle) → ViewDebts t n frame s.end w
   no_debts w upto kept links = record {
     begun = omega arith;
-    kept_begun = λ k c at. absurd (some-ne-none c (sym (subst (λ (y : List Checkpoint). get_elem? y k ≡ some c) kept at)));
+    kept_begun = λ k c at. absurd (some-ne-none c (sym (subst (λ (y : List JoinedCheckpoint). get_elem? y k ≡ some c) kept at)));
     own = λ f below. subst (LinkDebt t (frame f) w.upto) (sym (links f)) (record { settled = λ p. absurd (cc); done = λ e. absurd (cc) });
-    kept = λ k f c at below. absurd (some-ne-none c (sym (subst (λ (y : List Checkpoint). get_elem? y k ≡ some c) kept at)));
+    kept = λ k f c at below. absurd (some-ne-none c (sym (subst (λ (y : List JoinedCheckpoint). get_elem? y k ≡ some c) kept at)));
   }
 
   pins_owe : {e : pin_steps.Event} {core' : pins.State} → pin_steps.Step e s.pool.core core' → Debts t core'.frames core'.frame s.end s.pool.logged core'.views
@@ -108,12 +108,12 @@ module _ (s : State) (h : Invariant s) (d : DebtsLaw s) where
         kept = λ k f c at below. ⊎_elim (λ (z : get_elem? v.kept k ≡ some c). x.kept k f c z below) (λ (z : (m : ℕ) × (get_elem? (kept_checkpoint u ∷ u.kept) m ≡ some c)). taken_settled z.0 f c z.1 below) (at_both v.kept (kept_checkpoint u ∷ u.kept) k c at);
       })) j emptied_view (no_debts emptied_view refl refl (λ f. refl))
     where
-      taken_begun : (m : ℕ) (c : Checkpoint) → get_elem? (kept_checkpoint u ∷ u.kept) m ≡ some c → c.upto ≤ s.end
-      taken_begun zero c at = let z = (d.each j u here).begun in let e = ap (λ (y : Checkpoint). y.upto) (some-injective (kept_checkpoint u) c at) in omega arith
+      taken_begun : (m : ℕ) (c : JoinedCheckpoint) → get_elem? (kept_checkpoint u ∷ u.kept) m ≡ some c → c.upto ≤ s.end
+      taken_begun zero c at = let z = (d.each j u here).begun in let e = ap (λ (y : JoinedCheckpoint). y.upto) (some-injective (kept_checkpoint u) c at) in omega arith
       taken_begun (suc m) c at = (d.each j u here).kept_begun m c at
 
-      taken_settled : (m f : ℕ) (c : Checkpoint) → get_elem? (kept_checkpoint u ∷ u.kept) m ≡ some c → f < n → IsSettled t (frame f) c.upto (has_visited c f) (has_left_to_write c f)
-      taken_settled zero f c at below = subst (λ (y : Checkpoint). IsSettled t (frame f) y.upto (has_visited y f) (has_left_to_write y f)) (some-injective (kept_checkpoint u) c at)
+      taken_settled : (m f : ℕ) (c : JoinedCheckpoint) → get_elem? (kept_checkpoint u ∷ u.kept) m ≡ some c → f < n → IsSettled t (frame f) c.upto (has_visited c f) (has_left_to_write c f)
+      taken_settled zero f c at below = subst (λ (y : JoinedCheckpoint). IsSettled t (frame f) y.upto (has_visited y f) (has_left_to_write y f)) (some-injective (kept_checkpoint u) c at)
           (subst (λ (y : Bool). IsSettled t (frame f) u.upto y (has_left_to_write (kept_checkpoint u) f)) (sym (map_at (λ (x : Link). x.visited) idle false refl u.links f)) (subst (λ (y : Bool). IsSettled t (frame f) u.upto (link u f).visited y) (sym (map_at (λ (x : Link). x.left_to_write) idle false refl u.links f)) ((d.each j u here).own f below).settled))
       taken_settled (suc m) f c at below = (d.each j u here).kept m f c at below
 

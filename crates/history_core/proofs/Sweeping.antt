@@ -7,7 +7,7 @@ use native.Mathlib.Decide.{ℕ_discrete}
 use mathlib.Core.Option.{some, some-injective, some-ne-none}
 use lib.ListN.{get_elem?}
 use Rattle.page_layout.specs.Fields.{lsn_of}
-use Rattle.pin_core.specs.declared.view.Checkpoint.{Checkpoint}
+use Rattle.pin_core.specs.declared.view.JoinedCheckpoint.{JoinedCheckpoint}
 use Rattle.pin_core.specs.declared.view.LaneHold.{LaneHold}
 use Rattle.pin_core.specs.declared.view.Link.{Link}
 use Rattle.pin_core.specs.declared.view.Seen.TheVariants as seen
@@ -77,7 +77,7 @@ module _ {s t : State} (l : Later s t) where
   view_later : (v w : View) → w.lanes ≡ v.lanes → w.kept ≡ v.kept → ViewSwept s v → ViewSwept t w
   view_later v w holds kept h = record {
     own = λ n. subst (λ (x : List LaneHold). IsSwept t n (slice_index_or x n no_lane).swept) (sym holds) (swept_later n (lane_hold v n).swept (h.own n));
-    kept = λ k n c at. swept_later n (has_swept c n) (h.kept k n c (subst (λ (x : List Checkpoint). get_elem? x k ≡ some c) kept at));
+    kept = λ k n c at. swept_later n (has_swept c n) (h.kept k n c (subst (λ (x : List JoinedCheckpoint). get_elem? x k ≡ some c) kept at));
   }
 
   -- a view changes, and the others stay
@@ -90,7 +90,7 @@ swept_zero s n upto z = record { within = omega arith; covered = λ k e at lane 
 
 -- a view without a lane
 none_swept : (s : State) (w : View) → ((n : ℕ) → (lane_hold w n).swept ≡ 0) → w.kept ≡ [] → ViewSwept s w
-none_swept s w none kept = record { own = λ n. swept_zero s n (lane_hold w n).swept (none n); kept = λ k n c at. absurd (some-ne-none c (sym (subst (λ (y : List Checkpoint). get_elem? y k ≡ some c) kept at))) }
+none_swept s w none kept = record { own = λ n. swept_zero s n (lane_hold w n).swept (none n); kept = λ k n c at. absurd (some-ne-none c (sym (subst (λ (y : List JoinedCheckpoint). get_elem? y k ≡ some c) kept at))) }
 
 -- what a kind at a lane does to what is covered in it
 lane_below : (k : LaneKind) (ln : Lane) → ((tag : ℕ) → ln.synced_upto tag ≤ ln.stored_upto tag) → (tag : ℕ) → (lane_after k ln).synced_upto tag ≤ (lane_after k ln).stored_upto tag
@@ -189,7 +189,7 @@ module _ (s : State) (h : Invariant s) (d : DebtsLaw s) (m : SweptLaw s) where
       own = λ n. subst (λ (y : List LaneHold). IsSwept t n (slice_index_or y n no_lane).swept) (sym holds) (dite (ℕ_discrete n q)
           (λ e. subst (λ (z : ℕ). IsSwept t z (slice_index_or (set v.lanes q a) z no_lane).swept) (sym e) (subst (λ (z : LaneHold). IsSwept t q z.swept) (sym (get_or-set_same v.lanes q a no_lane (subst (λ (z : ℕ). q < z) (sym (h.wide i v there live)) low))) (hold_swept i q k v t there live lane_of end entries lane)))
           (λ o. subst (λ (z : LaneHold). IsSwept t n z.swept) (sym (get_or-set_other v.lanes q n a no_lane o)) (swept_later l n (lane_hold v n).swept (x.own n))));
-      kept = λ n g c is. swept_later l g (has_swept c g) (x.kept n g c (subst (λ (y : List Checkpoint). get_elem? y n ≡ some c) kept is));
+      kept = λ n g c is. swept_later l g (has_swept c g) (x.kept n g c (subst (λ (y : List JoinedCheckpoint). get_elem? y n ≡ some c) kept is));
     }) j u (subst (λ (y : List View). get_elem? y j ≡ some u) views at);
   }
 
@@ -218,8 +218,8 @@ module _ (s : State) (h : Invariant s) (d : DebtsLaw s) (m : SweptLaw s) where
         }) n z q.1) (at_set (set s.pool.core.views 0 w) j n emptied_view z at);
   }
     where
-      taken : ViewSwept s u → (a g : ℕ) (c : Checkpoint) → get_elem? (kept_checkpoint u ∷ u.kept) a ≡ some c → IsSwept s g (has_swept c g)
-      taken y zero g c is = subst (λ (z : Checkpoint). IsSwept s g (has_swept z g)) (some-injective (kept_checkpoint u) c is) (subst (IsSwept s g) (sym (map_at (λ (x : LaneHold). x.swept) no_lane 0 refl u.lanes g)) (y.own g))
+      taken : ViewSwept s u → (a g : ℕ) (c : JoinedCheckpoint) → get_elem? (kept_checkpoint u ∷ u.kept) a ≡ some c → IsSwept s g (has_swept c g)
+      taken y zero g c is = subst (λ (z : JoinedCheckpoint). IsSwept s g (has_swept z g)) (some-injective (kept_checkpoint u) c is) (subst (IsSwept s g) (sym (map_at (λ (x : LaneHold). x.swept) no_lane 0 refl u.lanes g)) (y.own g))
       taken y (suc a) g c is = y.kept a g c is
 
 pub swept_kept : {e : Event} {s t : State} → Step e s t → Invariant s → DebtsLaw s → SweptLaw s → SweptLaw t

@@ -3,7 +3,7 @@ use Rattle.std.specs.Prelude.{◌≡◌, ◌≢◌, ℕ, ◌<◌, ◌≤◌, Boo
 use mathlib.Core.Option.{some}
 use lib.ListN.{get_elem?}
 use Rattle.page_layout.specs.Fields.{lsn_of}
-use Rattle.pin_core.specs.declared.view.Checkpoint.{Checkpoint}
+use Rattle.pin_core.specs.declared.view.JoinedCheckpoint.{JoinedCheckpoint}
 use Rattle.pin_core.specs.declared.view.LastWrite.TheVariants.{Done}
 use Rattle.pin_core.specs.declared.view.Link.{Link}
 use Rattle.pin_core.specs.declared.view.View.{View}
@@ -13,10 +13,10 @@ use Rattle.history_core.specs.State.{State, stored_upto, failed}
 use Rattle.history_core.specs.Homes.{IsUnframed}
 
 -- whether a checkpoint of a backend that was joined into another has visited the frame f, and whether it has still to write it
-abbrev pub has_visited : Checkpoint → ℕ → Bool
+abbrev pub has_visited : JoinedCheckpoint → ℕ → Bool
 has_visited c f = slice_index_or c.visited f false
 
-abbrev pub has_left_to_write : Checkpoint → ℕ → Bool
+abbrev pub has_left_to_write : JoinedCheckpoint → ℕ → Bool
 has_left_to_write c f = slice_index_or c.left_to_write f false
 
 -- The entries of the log, and what the lanes have of them
@@ -44,10 +44,10 @@ pub record LinkDebt (t : Taken) (fr : Frame) (upto : ℕ) (l : Link) : Type 0 wh
 pub record ViewDebts (t : Taken) (frames : ℕ) (frame : ℕ → Frame) (end : ℕ) (v : View) : Type 0 where
   -- each began at the log's end or before it
   pub begun : v.upto ≤ end
-  pub kept_begun : (k : ℕ) (c : Checkpoint) → get_elem? v.kept k ≡ some c → c.upto ≤ end
+  pub kept_begun : (k : ℕ) (c : JoinedCheckpoint) → get_elem? v.kept k ≡ some c → c.upto ≤ end
   -- its own, and those of the views that were joined into it
   pub own : (f : ℕ) → f < frames → LinkDebt t (frame f) v.upto (link v f)
-  pub kept : (k f : ℕ) (c : Checkpoint) → get_elem? v.kept k ≡ some c → f < frames → IsSettled t (frame f) c.upto (has_visited c f) (has_left_to_write c f)
+  pub kept : (k f : ℕ) (c : JoinedCheckpoint) → get_elem? v.kept k ≡ some c → f < frames → IsSettled t (frame f) c.upto (has_visited c f) (has_left_to_write c f)
 
 -- The law of checkpoints, where `logged` is each block's page after the log, as far as it is known
 pub record Debts (t : Taken) (frames : ℕ) (frame : ℕ → Frame) (end : ℕ) (logged : ℕ → Option Page) (views : List View) : Type 0 where

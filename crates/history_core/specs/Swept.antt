@@ -2,7 +2,7 @@
 use Rattle.std.specs.Prelude.{◌≡◌, ℕ, ◌≤◌, slice_index_or}
 use mathlib.Core.Option.{some}
 use lib.ListN.{get_elem?}
-use Rattle.pin_core.specs.declared.view.Checkpoint.{Checkpoint}
+use Rattle.pin_core.specs.declared.view.JoinedCheckpoint.{JoinedCheckpoint}
 use Rattle.pin_core.specs.declared.view.View.{View}
 use Rattle.pin_core.specs.State.{lane_hold}
 use Rattle.history_core.specs.Log.{Entry, end_of}
@@ -14,13 +14,13 @@ pub record IsSwept (s : State) (n upto : ℕ) : Type 0 where
   pub covered : (k : ℕ) (e : Entry) → get_elem? s.log.entries k ≡ some e → s.lane_of e.tag ≡ n → end_of e ≤ upto → end_of e ≤ synced_upto s e.tag
 
 -- the position up to which a backend that was joined into another had swept the lane n
-abbrev pub has_swept : Checkpoint → ℕ → ℕ
+abbrev pub has_swept : JoinedCheckpoint → ℕ → ℕ
 has_swept c n = slice_index_or c.swept n 0
 
 -- What holds of the positions up to which a view has swept the lanes, and those that were joined into it had
 pub record ViewSwept (s : State) (v : View) : Type 0 where
   pub own : (n : ℕ) → IsSwept s n (lane_hold v n).swept
-  pub kept : (k n : ℕ) (c : Checkpoint) → get_elem? v.kept k ≡ some c → IsSwept s n (has_swept c n)
+  pub kept : (k n : ℕ) (c : JoinedCheckpoint) → get_elem? v.kept k ≡ some c → IsSwept s n (has_swept c n)
 
 pub record SweptLaw (s : State) : Type 0 where
   -- what a sync has covered is in the lane

@@ -15,7 +15,7 @@ use Rattle.pin_core.specs.declared.view.PartitionHold.{PartitionHold}
 use Rattle.pin_core.specs.declared.view.LaneHold.{LaneHold}
 use Rattle.pin_core.specs.declared.view.LogHold.{LogHold}
 use Rattle.pin_core.specs.declared.view.FailedCalls.{FailedCalls}
-use Rattle.pin_core.specs.declared.view.Checkpoint.{Checkpoint}
+use Rattle.pin_core.specs.declared.view.JoinedCheckpoint.{JoinedCheckpoint}
 use Rattle.pin_core.specs.declared.view.View.{View}
 use Rattle.std.specs.Option.{is_some}
 use Rattle.block_tag.specs.Names.{unpacked_tag}
@@ -170,7 +170,7 @@ abbrev pub sum_of_met : FailedCalls → FailedCalls → FailedCalls
 sum_of_met a b = record { reads = a.reads + b.reads; writes = a.writes + b.writes; logs = a.logs + b.logs }
 
 -- the checkpoint of a view, as it is kept when the view is joined into the first
-abbrev pub kept_checkpoint : View → Checkpoint
+abbrev pub kept_checkpoint : View → JoinedCheckpoint
 kept_checkpoint u = record { number = u.number; upto = u.upto; visited = map (λ (l : Link). l.visited) u.links; left_to_write = map (λ (l : Link). l.left_to_write) u.links; swept = map (λ (h : LaneHold). h.swept) u.lanes }
 
 -- the first view v with what it keeps of the view u

@@ -13,7 +13,7 @@ ghost use Rattle.pin_core.specs.Schedules.{IsReached, UsagesAreLow, TagWordsAreT
 mod view;
 
 pub use view::{
-    BlockPage, Call, Checkpoint, Content, DeviceCall, Io, LaneChange, LaneHold, LastWrite, Link,
+    BlockPage, Call, JoinedCheckpoint, Content, DeviceCall, Io, LaneChange, LaneHold, LastWrite, Link,
     Load, LogChange, LogHold, MapChange, MapEntry, FailedCalls, PartitionHold, Role, Seen, View,
 };
 

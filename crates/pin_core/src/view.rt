@@ -270,7 +270,7 @@ pub struct FailedCalls {
 }
 
 /// A checkpoint of a backend that was joined into another.
-pub struct Checkpoint {
+pub struct JoinedCheckpoint {
     pub number: u64,
     pub upto: u64,
     /// For each frame, whether it was visited.
@@ -321,7 +321,7 @@ pub struct View {
     /// The log end at which the backend's checkpoint began, or 0.
     pub upto: u64,
     /// The checkpoints of the backends that were joined into this one.
-    pub kept: [Checkpoint; 0],
+    pub kept: [JoinedCheckpoint; 0],
     pub device_calls: [DeviceCall; 0],
     pub met: FailedCalls,
     /// Under the log's latch the backend saw the log down, or saw its own call fail.
