@@ -19,8 +19,8 @@ use Rattle.backend_pass.specs.Reading.{met_read_refused}
 use Rattle.page_jobs.specs.declared.ending.JobError.{JobError}
 use Rattle.page_jobs.specs.declared.ending.JobError.TheVariants.{Memory}
 use Rattle.page_jobs.specs.declared.printing.Lines.{Lines}
-use Rattle.page_jobs.specs.declared.reading.BlockPage.{BlockPage}
-use Rattle.page_jobs.specs.declared.reading.BlockPage.TheVariants.{Sound, Unsound}
+use Rattle.page_jobs.specs.declared.reading.PageRead.{PageRead}
+use Rattle.page_jobs.specs.declared.reading.PageRead.TheVariants.{Sound, Unsound}
 use Rattle.page_jobs.specs.Printed.{BlockRead, copied, unsound, found_lines, found_summary, read_lines, read_summary, reads_lines, reads_totals}
 use Rattle.page_jobs.specs.Reads.{CopiesOrFindsUnsound, HasNoTokens, IsKnown, IsWithinFront, Stays, StopsAt, calls_of_reads}
 use Rattle.page_jobs.specs.Parts.{AllReads, AreKnown, DoesPart, EndsFor, blocks_in}
@@ -194,7 +194,7 @@ module _ {L G : Type 0} (contents : L → Option Pages) (m : Manager L G) (rel :
   }
 
   -- what was found of a block
-  abbrev read_of : BlockPage → Page → ℕ → BlockRead
+  abbrev read_of : PageRead → Page → ℕ → BlockRead
   read_of Sound page front = copied page front
   read_of Unsound page front = unsound
 
@@ -206,7 +206,7 @@ module _ {L G : Type 0} (contents : L → Option Pages) (m : Manager L G) (rel :
     pub place : IsWithinFront q.view.front r
     pub met : q.view.met ≡ p.view.met
 
-  one_read : (block : ℕ) (p q : PassState) (found : BlockPage) (page : Page) → HasNoTokens contents m p → CopiesOrFindsUnsound contents m (tag_of_parts rel fork block) page p q found → ReadsOne block p q (read_of found page q.view.front)
+  one_read : (block : ℕ) (p q : PassState) (found : PageRead) (page : Page) → HasNoTokens contents m p → CopiesOrFindsUnsound contents m (tag_of_parts rel fork block) page p q found → ReadsOne block p q (read_of found page q.view.front)
   one_read block p q Sound page free c = record {
     stays = c.stays;
     spent = c.spent;
@@ -217,16 +217,16 @@ module _ {L G : Type 0} (contents : L → Option Pages) (m : Manager L G) (rel :
   }
   one_read block p q Unsound page free c = record { stays = c.stays; spent = c.spent; calls = c.calls ∙ sym (append-nil p.view.calls); known = c.unsound; place = tt; met = c.met }
 
-  lines_of_one : (lines : Lines) (block : ℕ) (found : BlockPage) (page : Page) (front : ℕ) → found_lines lines block found page ≡ reads_lines lines block (read_of found page front ∷ [])
+  lines_of_one : (lines : Lines) (block : ℕ) (found : PageRead) (page : Page) (front : ℕ) → found_lines lines block found page ≡ reads_lines lines block (read_of found page front ∷ [])
   lines_of_one lines block Sound page front = sym (append-nil (found_lines lines block Sound page))
   lines_of_one lines block Unsound page front = sym (append-nil (found_lines lines block Unsound page))
 
-  summary_of_one : (found : BlockPage) (page : Page) (front : ℕ) → found_summary found page ≡ read_summary (read_of found page front)
+  summary_of_one : (found : PageRead) (page : Page) (front : ℕ) → found_summary found page ≡ read_summary (read_of found page front)
   summary_of_one Sound page front = refl
   summary_of_one Unsound page front = refl
 
   -- the block was read, and printed
-  pub block_done : (lines : Lines) (block : ℕ) (p q : PassState) (found : BlockPage) (page : Page) (text text' : List ℕ) (t u : ScanTotals) → HasNoTokens contents m p → CopiesOrFindsUnsound contents m (tag_of_parts rel fork block) page p q found
+  pub block_done : (lines : Lines) (block : ℕ) (p q : PassState) (found : PageRead) (page : Page) (text text' : List ℕ) (t u : ScanTotals) → HasNoTokens contents m p → CopiesOrFindsUnsound contents m (tag_of_parts rel fork block) page p q found
       → text' ≡ text ++ found_lines lines block found page → u ≡ counted t (found_summary found page) → IsWithin u u.blocks → DoesPart contents m rel fork lines block (block + 1) p q text text' t u (Ok tt)
   block_done lines block p q found page text text' t u free reads line total within = let o = one_read block p q found page free reads in let r = read_of found page q.view.front in record {
     stays = o.stays;
@@ -245,7 +245,7 @@ module _ {L G : Type 0} (contents : L → Option Pages) (m : Manager L G) (rel :
   }
 
   -- it was read, and there was no memory to print it
-  pub block_short : (lines : Lines) (block : ℕ) (p q : PassState) (found : BlockPage) (page : Page) (text text' : List ℕ) (t u : ScanTotals) → HasNoTokens contents m p → CopiesOrFindsUnsound contents m (tag_of_parts rel fork block) page p q found
+  pub block_short : (lines : Lines) (block : ℕ) (p q : PassState) (found : PageRead) (page : Page) (text text' : List ℕ) (t u : ScanTotals) → HasNoTokens contents m p → CopiesOrFindsUnsound contents m (tag_of_parts rel fork block) page p q found
       → text' ≡ text → u ≡ t → IsWithin t t.blocks → DoesPart contents m rel fork lines block (block + 1) p q text text' t u (Err Memory)
   block_short lines block p q found page text text' t u free reads line total within = let o = one_read block p q found page free reads in let r = read_of found page q.view.front in record {
     stays = o.stays;

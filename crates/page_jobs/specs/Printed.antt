@@ -10,8 +10,8 @@ use Rattle.page_layout.specs.Summary.{summary_of}
 use Rattle.page_layout.specs.Text.{line_of, scan_line_of}
 use Rattle.page_jobs.specs.declared.printing.Lines.{Lines}
 use Rattle.page_jobs.specs.declared.printing.Lines.TheVariants.{Scan, Dump}
-use Rattle.page_jobs.specs.declared.reading.BlockPage.{BlockPage}
-use Rattle.page_jobs.specs.declared.reading.BlockPage.TheVariants.{Sound, Unsound}
+use Rattle.page_jobs.specs.declared.reading.PageRead.{PageRead}
+use Rattle.page_jobs.specs.declared.reading.PageRead.TheVariants.{Sound, Unsound}
 
 -- the lines of a block, whose page is this
 abbrev pub page_lines : Lines → ℕ → Page → List ℕ
@@ -19,11 +19,11 @@ page_lines Scan block page = scan_line_of block page
 page_lines Dump block page = dump_lines_of block page
 
 -- where this was found of it
-abbrev pub found_lines : Lines → ℕ → BlockPage → Page → List ℕ
+abbrev pub found_lines : Lines → ℕ → PageRead → Page → List ℕ
 found_lines lines block Sound page = page_lines lines block page
 found_lines lines block Unsound page = line_of block Invalid
 
-abbrev pub found_summary : BlockPage → Page → PageSummary
+abbrev pub found_summary : PageRead → Page → PageSummary
 found_summary Sound page = summary_of page
 found_summary Unsound page = Invalid
 

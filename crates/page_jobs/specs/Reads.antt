@@ -24,8 +24,8 @@ use Rattle.backend_pass.specs.Passes.{KeepsCalls, KeepsLocks, KeepsMark, PassSta
 use Rattle.backend_pass.specs.Reading.{ReadingRefused, met_read_refused}
 use Rattle.page_jobs.specs.declared.ending.JobError.{JobError}
 use Rattle.page_jobs.specs.declared.ending.JobError.TheVariants.{ReadFault, WriteFault, LogFault, LogDown, LogShort}
-use Rattle.page_jobs.specs.declared.reading.BlockPage.{BlockPage}
-use Rattle.page_jobs.specs.declared.reading.BlockPage.TheVariants.{Sound, Unsound}
+use Rattle.page_jobs.specs.declared.reading.PageRead.{PageRead}
+use Rattle.page_jobs.specs.declared.reading.PageRead.TheVariants.{Sound, Unsound}
 use Rattle.page_jobs.specs.Printed.{BlockRead, copied, unsound}
 
 -- whether each frame was pinned
@@ -110,7 +110,7 @@ module _ {L G : Type 0} (contents : L → Option Pages) (m : Manager L G) where
     pub unsound : WasUnsoundAtOpening contents m.table tag
 
   -- The block was read, with no fault: its page was copied, or isn't sound
-  abbrev pub CopiesOrFindsUnsound : Tag → Page → PassState → PassState → BlockPage → Type 0
+  abbrev pub CopiesOrFindsUnsound : Tag → Page → PassState → PassState → PageRead → Type 0
   CopiesOrFindsUnsound tag page p q Sound = CopiesBlock tag page p q
   CopiesOrFindsUnsound tag page p q Unsound = FindsUnsound tag p q
 

@@ -4,7 +4,7 @@ ghost use Rattle.page_layout.specs.Scan.{IsWithin, counted, no_totals};
 ghost use Rattle.page_jobs.specs.declared.printing.Lines.TheVariants.{Dump};
 ghost use Rattle.page_jobs.specs.Printed.{found_lines, found_summary};
 
-use crate::reading::BlockPage;
+use crate::reading::PageRead;
 use page_layout::{Memory, Page, PageSummary, ScanTotals, append_line, dump_lines};
 use std::alloc::Global;
 
@@ -17,14 +17,14 @@ pub(crate) enum Lines {
     Dump,
 }
 
-impl BlockPage {
+impl PageRead {
     /// What a scan tells of the block. All bytes of a sound page, which is this, are looked at.
     fn summary(&self, page: &Page) -> PageSummary
         ensures { result ≡ found_summary self.now page.now }
     {
         match self {
-            BlockPage::Sound => page.summary(),
-            BlockPage::Unsound => PageSummary::Invalid,
+            PageRead::Sound => page.summary(),
+            PageRead::Unsound => PageSummary::Invalid,
         }
     }
 
@@ -40,8 +40,8 @@ impl BlockPage {
         ensures same { OnErr result (text.new.items ≡ text.old.items) }
     {
         match self {
-            BlockPage::Sound => dump_lines(alloc, block, page, text),
-            BlockPage::Unsound => append_line(alloc, block, &PageSummary::Invalid, text),
+            PageRead::Sound => dump_lines(alloc, block, page, text),
+            PageRead::Unsound => append_line(alloc, block, &PageSummary::Invalid, text),
         }
     }
 }
@@ -71,7 +71,7 @@ impl Printed {
         alloc: Global,
         lines: Lines,
         block: u32,
-        found: &BlockPage,
+        found: &PageRead,
         page: &Page,
     ) -> Result<(), Memory>
         requires within { IsWithin self.old.totals self.old.totals.blocks }

@@ -95,7 +95,7 @@ pub(crate) fn fault_of(why: ReadError) -> Option<JobError>
 
 /// What a worker read of a block.
 #[derive(Drop)]
-pub(crate) enum BlockPage {
+pub(crate) enum PageRead {
     /// Its page, which is sound.
     Sound,
     /// Its page isn't sound.
@@ -112,17 +112,17 @@ pub(crate) fn read_block<L: BlockLane, G: LogDevice, R: Wait, T: Gate>(
     tag: Tag,
     ring: &mut Option<Ring>,
     page: &mut Page,
-) -> Result<BlockPage, JobError>
+) -> Result<PageRead, JobError>
     requires free { HasNoTokens L.contents manager.now pass.old }
     requires block { tag.block < blocks_at (relations_of manager.now.table) tag.rel.0 tag.fork }
     ensures read { IfOk result (λ found. CopiesOrFindsUnsound L.contents manager.now tag page.new pass.old pass.new found) }
     ensures fault { IfErr result (StopsAt L.contents manager.now tag pass.old pass.new) }
 {
     match copy_block(manager, rt, gate, worker, pass, tag, ring, page) {
-        Ok(()) => Ok(BlockPage::Sound),
+        Ok(()) => Ok(PageRead::Sound),
         Err(why) => match fault_of(why) {
             Some(error) => Err(error),
-            None => Ok(BlockPage::Unsound),
+            None => Ok(PageRead::Unsound),
         },
     }
 }
