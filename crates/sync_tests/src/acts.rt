@@ -3,7 +3,7 @@ ghost use Rattle.manager_tests.specs.Bench.{IsFree};
 ghost use Rattle.sync_tests.specs.Idle.{IsFreeAndUnlocked};
 
 use crate::bench::start;
-use crate::devices::{ByteLog, DeviceCall, PageLane, calls_of};
+use crate::devices::{ByteLog, TestCall, PageLane, calls_of};
 use crate::syncing::{checkpoint_once, round_once};
 use backend_pass::{FlushError, Manager, Met, Pass, PutError, ReadError};
 use bg_writer::Round;
@@ -165,7 +165,7 @@ fn perform_all<L: BlockLane, G: LogDevice, R: Wait>(
 pub struct Played {
     pub answers: Vec<Answer>,
     /// The calls of the devices, in the order in which they were made.
-    pub calls: Vec<DeviceCall>,
+    pub calls: Vec<TestCall>,
     /// What the second pass met.
     pub met: Met,
     pub lanes: Vec<PageLane>,

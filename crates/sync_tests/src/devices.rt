@@ -9,7 +9,7 @@ use std::sync::atomic::{AtomicU64, Ordering};
 
 /// A call of a device, which may have failed.
 #[derive(Clone, Copy, PartialEq, Eq, Debug)]
-pub enum DeviceCall {
+pub enum TestCall {
     ReadBlock(u32),
     WriteBlock(u32),
     SyncLane,
@@ -21,7 +21,7 @@ pub enum DeviceCall {
 #[derive(Clone, Copy)]
 pub struct Numbered {
     number: u64,
-    call: DeviceCall,
+    call: TestCall,
 }
 
 /// The calls of a device, numbered with those of others.
@@ -48,14 +48,14 @@ impl Journal {
     }
 
     /// Adds a call. Without memory it is left out.
-    fn add(&mut self, call: DeviceCall) {
+    fn add(&mut self, call: TestCall) {
         let number = self.count.fetch_add(1, Ordering::SeqCst);
         let _ = self.calls.push(Numbered { number, call });
     }
 }
 
 /// Calls in the order in which they were made.
-fn in_order(mut numbered: Vec<Numbered>, alloc: Global) -> Result<Vec<DeviceCall>, AllocError> {
+fn in_order(mut numbered: Vec<Numbered>, alloc: Global) -> Result<Vec<TestCall>, AllocError> {
     numbered.sort_unstable_by_key(|n| n.number);
     let mut calls = Vec::new(alloc);
     for n in &numbered {
@@ -123,7 +123,7 @@ impl BlockLane for PageLane {
 
     fn read(&mut self, tag: Tag, page: &mut Page) -> Result<(), Failed> {
         self.history.count_call();
-        self.journal.add(DeviceCall::ReadBlock(tag.block));
+        self.journal.add(TestCall::ReadBlock(tag.block));
         self.reads = self.reads.saturating_add(1);
         if self.failing == Failing::Read(self.reads) {
             self.read_faults.raise();
@@ -138,7 +138,7 @@ impl BlockLane for PageLane {
     fn write(&mut self, tag: Tag, page: &Page) -> Result<(), Failed> {
         self.history.count_call();
         self.history.mark_written(tag);
-        self.journal.add(DeviceCall::WriteBlock(tag.block));
+        self.journal.add(TestCall::WriteBlock(tag.block));
         self.writes = self.writes.saturating_add(1);
         if self.failing == Failing::Write(self.writes) {
             self.write_faults.raise();
@@ -152,7 +152,7 @@ impl BlockLane for PageLane {
 
     fn sync(&mut self) -> Result<(), Failed> {
         self.history.count_call();
-        self.journal.add(DeviceCall::SyncLane);
+        self.journal.add(TestCall::SyncLane);
         self.syncs = self.syncs.saturating_add(1);
         if self.failing == Failing::Sync(self.syncs) {
             self.write_faults.raise();
@@ -209,7 +209,7 @@ impl LogDevice for ByteLog {
 
     fn append(&mut self, piece: &[u8]) -> Result<(), Failed> {
         self.history.raise();
-        self.journal.add(DeviceCall::Append);
+        self.journal.add(TestCall::Append);
         self.appends = self.appends.saturating_add(1);
         let fails = self.failing == Failing::Write(self.appends);
         if fails || self.bytes.extend_from_slice(piece).is_err() {
@@ -221,7 +221,7 @@ impl LogDevice for ByteLog {
 
     fn sync(&mut self) -> Result<(), Failed> {
         self.history.raise();
-        self.journal.add(DeviceCall::SyncLog);
+        self.journal.add(TestCall::SyncLog);
         self.syncs = self.syncs.saturating_add(1);
         if self.failing == Failing::Sync(self.syncs) {
             self.faults.raise();
@@ -240,7 +240,7 @@ pub fn calls_of(
     lanes: &[PageLane],
     log: &ByteLog,
     alloc: Global,
-) -> Result<Vec<DeviceCall>, AllocError> {
+) -> Result<Vec<TestCall>, AllocError> {
     let mut calls = Vec::new(alloc);
     calls.extend_from_slice(&log.journal.calls)?;
     for lane in lanes {

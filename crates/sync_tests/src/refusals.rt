@@ -1,7 +1,7 @@
 //! A put, a flush and a checkpoint, of which one device call fails.
 use crate::acts::{Act, Answer, Copied, Played, play};
-use crate::devices::DeviceCall::{Append, ReadBlock, SyncLane, SyncLog, WriteBlock};
-use crate::devices::{DeviceCall, Failing};
+use crate::devices::TestCall::{Append, ReadBlock, SyncLane, SyncLog, WriteBlock};
+use crate::devices::{TestCall, Failing};
 use crate::tests::{checkpoint, devices, put, refused};
 use backend_pass::{FlushError, PutError, ReadError};
 use checkpointer::CheckpointError;
@@ -53,7 +53,7 @@ const READ: Answer = Answer::Read(Ok(Access {
 }));
 
 /// All device calls of a put, a flush and a checkpoint, each made once.
-const CALLS: [DeviceCall; 5] = [ReadBlock(0), Append, SyncLog, WriteBlock(0), SyncLane];
+const CALLS: [TestCall; 5] = [ReadBlock(0), Append, SyncLog, WriteBlock(0), SyncLane];
 
 /// What is stored after them.
 const STORED: Stored = Stored {

@@ -1,5 +1,5 @@
 //! A rewrite, and a checkpoint after it.
-use crate::devices::{ByteLog, DeviceCall, PageLane, calls_of};
+use crate::devices::{ByteLog, TestCall, PageLane, calls_of};
 use backend_pass::{Config, Manager, Pinned, StartRefused};
 use block_tag::{Catalog, CatalogError, Fork, RelEntry, RelNo};
 use checkpointer::{Checkpoint, CheckpointError, checkpoint};
@@ -27,7 +27,7 @@ impl Gate for Deaf {
 pub struct Rewritten {
     pub end: Result<Totals, JobError>,
     pub checkpoint: Result<Checkpoint, CheckpointError>,
-    pub calls: Vec<DeviceCall>,
+    pub calls: Vec<TestCall>,
 }
 
 /// A relation of four blocks.

@@ -32,7 +32,7 @@ pub enum Use {
 
 /// What the third one does beside them.
 #[derive(Clone, Copy)]
-pub enum Job {
+pub enum TestJob {
     Rounds,
     Checkpoints,
 }
@@ -126,17 +126,17 @@ fn sync_once<R: Wait>(
     rt: &R,
     pass: &mut Pass,
     _number: u32,
-    job: Job,
+    job: TestJob,
 ) -> Option<Lsn>
     requires { IsFreeAndUnlockedIn manager.now _number pass.old }
     ensures { IsFreeAndUnlockedIn manager.now _number pass.new }
 {
     match job {
-        Job::Rounds => match round_once(manager, rt, pass, _number) {
+        TestJob::Rounds => match round_once(manager, rt, pass, _number) {
             Ok(round) if round.looked == 16 => Some(0),
             _ => None,
         },
-        Job::Checkpoints => match checkpoint_once(manager, rt, pass, _number) {
+        TestJob::Checkpoints => match checkpoint_once(manager, rt, pass, _number) {
             Ok(checkpoint) => Some(checkpoint.upto),
             Err(_why) => None,
         },
@@ -149,7 +149,7 @@ fn sync_often<R: Wait>(
     rt: &R,
     pass: &mut Pass,
     _number: u32,
-    job: Job,
+    job: TestJob,
     times: u32,
 ) -> Option<Lsn>
     requires { IsFreeAndUnlockedIn manager.now _number pass.old }
@@ -178,7 +178,7 @@ fn sync_beside<R: Threads + Wait + Sync>(
     second: &mut Pass,
     third: &mut Pass,
     how: (Use, Use),
-    job: Job,
+    job: TestJob,
     alloc: Global,
 ) -> Beside
     requires first { IsFreeIn manager.now 0 first.old }
@@ -217,7 +217,7 @@ pub fn run_beside<R: Threads + Wait + Sync>(
     lanes: Vec<PageLane>,
     log: ByteLog,
     how: (Use, Use),
-    job: Job,
+    job: TestJob,
 ) -> Result<Ran, AllocError> {
     let Bench {
         manager,

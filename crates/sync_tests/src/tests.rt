@@ -1,10 +1,10 @@
 //! Rounds and checkpoints that are run.
 use crate::acts::{Act, Answer, play};
 use crate::bench::BLOCKS;
-use crate::devices::DeviceCall::{Append, ReadBlock, SyncLane, SyncLog, WriteBlock};
+use crate::devices::TestCall::{Append, ReadBlock, SyncLane, SyncLog, WriteBlock};
 use crate::devices::{ByteLog, Failing, Journal, PageLane};
 use crate::rewriting::rewrite_then_checkpoint;
-use crate::sharing::{Job, Use, run_beside};
+use crate::sharing::{TestJob, Use, run_beside};
 use backend_pass::{FlushError, Met};
 use bg_writer::Round;
 use checkpointer::{Checkpoint, CheckpointError};
@@ -369,7 +369,7 @@ fn wrong(lane: &mut PageLane) -> u32 {
 fn a_checkpoint_stores_what_was_put_before_it(rt: HostRuntime) -> Result<(), Fail> {
     let (lanes, log) = devices(rt.alloc(), 1, Failing::None, Failing::None)?;
     let both = (Use::Put, Use::Put);
-    let mut run = run_beside(&rt, rt.alloc(), lanes, log, both, Job::Checkpoints)?;
+    let mut run = run_beside(&rt, rt.alloc(), lanes, log, both, TestJob::Checkpoints)?;
     assert_eq!(rt; run.beside.used, (Some(200), Some(200)));
     let upto = run.beside.upto.ok_or("a checkpoint was refused")?;
     let lane = run.lanes.first_mut().ok_or("no lane")?;
@@ -383,7 +383,7 @@ fn a_checkpoint_stores_what_was_put_before_it(rt: HostRuntime) -> Result<(), Fai
 fn rounds_are_made_beside_puts_and_reads(rt: HostRuntime) -> Result<(), Fail> {
     let (lanes, log) = devices(rt.alloc(), 1, Failing::None, Failing::None)?;
     let each = (Use::Put, Use::Copy);
-    let mut run = run_beside(&rt, rt.alloc(), lanes, log, each, Job::Rounds)?;
+    let mut run = run_beside(&rt, rt.alloc(), lanes, log, each, TestJob::Rounds)?;
     assert_eq!(rt; run.beside.used, (Some(200), Some(200)));
     assert_eq!(rt; run.beside.upto, Some(0));
     let lane = run.lanes.first_mut().ok_or("no lane")?;

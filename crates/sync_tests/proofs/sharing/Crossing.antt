@@ -14,7 +14,7 @@ use Rattle.table_tests.proofs.Crossing.{shared_sync, lease_sync}
 use Rattle.sync_tests.specs.contracts.devices.PageLane as lane
 use Rattle.sync_tests.specs.contracts.devices.ByteLog as log
 use Rattle.sync_tests.specs.contracts.sharing.Use as uses
-use Rattle.sync_tests.specs.contracts.sharing.Job as jobs
+use Rattle.sync_tests.specs.contracts.sharing.TestJob as jobs
 
 lanes_cross : IsSend lane.the_row
 lanes_cross = search (sendable, crosses, over.crosses) depth 30 fits 20000
