@@ -7,7 +7,7 @@ use Rattle.pin_core.specs.declared.view.Link.{Link}
 use Rattle.pin_core.specs.declared.view.Role.{Role}
 use Rattle.pin_core.specs.declared.view.Role.TheVariants.{Absent, HandedOut, Victim}
 use Rattle.pin_core.specs.declared.view.View.{View}
-use Rattle.pin_core.specs.Invariant.{FrameLaw, Invariant}
+use Rattle.pin_core.specs.Invariant.{FrameLaw, PinInvariant}
 use Rattle.pin_core.specs.State.{Frame, State, link, no_tag}
 use Rattle.pin_core.specs.Tallies.{Tally, flag_weight, frame_shape, headers, pendings, pin_weight, pins, settled_headers, settled_pins, some_weight, unless_flag, weigh}
 use Rattle.pin_core.specs.Kinds.{CanLoadTag, load_tag}
@@ -51,7 +51,7 @@ module _ (fr : Frame) (t : Tally → ℕ) (law : FrameLaw fr t) where
       of_count zero e = refl
       of_count (suc n) e = let single = (law.pending (omega (arith, e))).single in absurd (omega (arith, single, law.counted, law.pending_pins, e))
 
-module _ (s : State) (i f : ℕ) (v : View) (inv : Invariant s) (there : get_elem? s.views i ≡ some v) (inside : f < s.frames) (settled : (link v f).pending ≡ false) where
+module _ (s : State) (i f : ℕ) (v : View) (inv : PinInvariant s) (there : get_elem? s.views i ≡ some v) (inside : f < s.frames) (settled : (link v f).pending ≡ false) where
   column : FrameLaw (s.frame f) (tallies frame_shape s.views f)
   column = inv.grid.columns f inside
 

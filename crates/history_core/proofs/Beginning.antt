@@ -75,7 +75,7 @@ pub link_begun : (v w : View) → BegunHere v w → (f : ℕ) → link w f ≡ u
 link_begun v w b f = ap (λ (x : List Link). link (record w { links = x }) f) b.links ∙ at_unmarked v.links f
 
 module _ (i : ℕ) (v w : View) (begun : BegunHere v w) where
-  core_begun : (s : pins.State) → pin_law.Invariant s → get_elem? s.views i ≡ some v → pin_law.Invariant (record s { views = set s.views i w })
+  core_begun : (s : pins.State) → pin_law.PinInvariant s → get_elem? s.views i ≡ some v → pin_law.PinInvariant (record s { views = set s.views i w })
   core_begun s h there = record {
     grid = steady_alike frame_shape pin_law.pin_part s.frames s.frame (λ _. tt) s.views h.grid i v w there refl (λ g k. ap (pin_tallies.weigh k) (link_begun v w begun g) ∙ pin_same k (link v g)) (λ g b c o x. subst (LinkLaw c) (sym (link_begun v w begun g)) (pin_link c (link v g) x));
     turns = steady turn_shape turn_part s.partitions s.partition (λ _. tt) s.views h.turns i v w there refl (λ p. ap (λ (x : List PartitionHold). hold (record w { partitions = x }) p) begun.partitions);
@@ -87,7 +87,7 @@ module _ (i : ℕ) (v w : View) (begun : BegunHere v w) where
     accounted = accounted_set s.views i v w h.accounted there begun.emptied begun.joined;
   }
 
-  pub pool_begun : (s : page.State) → page_law.Invariant s → get_elem? s.core.views i ≡ some v → page_law.Invariant (aside s i w)
+  pub pool_begun : (s : page.State) → page_law.PageInvariant s → get_elem? s.core.views i ≡ some v → page_law.PageInvariant (aside s i w)
   pool_begun s h there = record {
     core = core_begun s.core h.core there;
     pages = steady_alike page_shape page_law.page_part s.core.frames s.core.frame (block_of s.logged) s.core.views h.pages i v w there refl (λ g k. ap (weigh k) (link_begun v w begun g) ∙ page_same k (link v g)) (λ g b c o x. subst (PageLink b c) (sym (link_begun v w begun g)) (page_link b c (link v g) x));

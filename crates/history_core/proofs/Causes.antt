@@ -29,7 +29,7 @@ use Rattle.history_core.specs.Log.{record_size}
 use Rattle.history_core.specs.Device as log_kinds
 use Rattle.history_core.specs.Device.{LogKind, view_logged}
 use Rattle.history_core.specs.Causes.{mark_weight, NoneMarked, KnowsNoOutput, AllQuiet, MarksLaw}
-use Rattle.history_core.specs.Invariant.{Invariant}
+use Rattle.history_core.specs.Invariant.{HistoryInvariant}
 use Rattle.history_core.proofs.Outer.{lane_new}
 use Rattle.history_core.proofs.Stepping.{step_keeps, lane_put, no_write_holds}
 use Rattle.grid.specs.Shape.{put}
@@ -179,7 +179,7 @@ same_failed s q ln same h tag = lane_put (λ (x : Lane). x.failed tag) s.lane q 
 new_quiet : (number base n p l : ℕ) → KnowsNoOutput (new_view number base n p l)
 new_quiet number base n p l = record { output = refl; met = refl; out = λ q. ap (λ (x : LaneHold). is_failed_write x.change) (lane_new n p l number base q) }
 
-module _ (s : State) (h : Invariant s) (m : MarksLaw s) where
+module _ (s : State) (h : HistoryInvariant s) (m : MarksLaw s) where
   abbrev views : List View
   views = s.pool.core.views
 
@@ -273,7 +273,7 @@ module _ (s : State) (h : Invariant s) (m : MarksLaw s) where
   aside_marks i v w there more a b c none = let x = one_view i v w there more (λ q z. same_quiet v w a b c (q.views i v there)) none in record { frames = x.0.frames; blocks = x.0.blocks; views = x.1 }
 
 -- an entry is made
-entered_marks : (s : State) (h : Invariant s) → MarksLaw s → (i f : ℕ) (p : Page) (v : View) → get_elem? s.pool.core.views i ≡ some v → f < s.pool.core.frames → {t : State} → t.pool.core.views ≡ set s.pool.core.views i (has_written (s.end + record_size) (s.pool.core.frame f).tag p (paged (make_entry p) s.pool f v)) → t.pool.core.frames ≡ s.pool.core.frames → t.pool.core.frame ≡ put s.pool.core.frame f (s.pool.core.frame f) → ((tag : ℕ) → failed t tag ≡ failed s tag) → MarksLaw t
+entered_marks : (s : State) (h : HistoryInvariant s) → MarksLaw s → (i f : ℕ) (p : Page) (v : View) → get_elem? s.pool.core.views i ≡ some v → f < s.pool.core.frames → {t : State} → t.pool.core.views ≡ set s.pool.core.views i (has_written (s.end + record_size) (s.pool.core.frame f).tag p (paged (make_entry p) s.pool f v)) → t.pool.core.frames ≡ s.pool.core.frames → t.pool.core.frame ≡ put s.pool.core.frame f (s.pool.core.frame f) → ((tag : ℕ) → failed t tag ≡ failed s tag) → MarksLaw t
 entered_marks s h m i f p v there inside {t = t} vs size frames same none = let w : View = has_written (s.end + record_size) (s.pool.core.frame f).tag p (paged (make_entry p) s.pool f v) in let more = or_more v.dirtied_or_synced false in
     let x = one_view s h m i v w there more (λ q z. let y = q.views i v there in record { output = either_false v.had_output false y.output refl; met = y.met; out = y.out }) (subst NoneMarked vs none) in record {
       frames = λ g below. ap (λ (y : ℕ → Frame). (y g).word.dirty) frames ∙ quiet_put s.pool.core.frame s.pool.core.frames f (s.pool.core.frame f) x.0.frames (x.0.frames f inside) g (subst (λ (z : ℕ). g < z) size below);
@@ -293,7 +293,7 @@ no_write_fault log_kinds.sync_log v = omega arith
 no_write_fault (log_kinds.fail_sync synced faults) v = omega arith
 no_write_fault log_kinds.see_down v = omega arith
 
-pub marks_kept : {e : Event} {s t : State} → Step e s t → Invariant s → MarksLaw s → MarksLaw t
+pub marks_kept : {e : Event} {s t : State} → Step e s t → HistoryInvariant s → MarksLaw s → MarksLaw t
 marks_kept (pools {s = s} x a) h m = pool_marks s h m x
 marks_kept (lanes {s = s} i q k v there live low a alone) h m = lanes_marks s h m i q k v there alone
 marks_kept (writes {s = s} i q f k v there live low inside a x) h m = writes_marks s h m i q f k v there inside x
@@ -308,7 +308,7 @@ marks_kept (adds_hand {s = s} i v there live) h m = λ none. let x = aside_marks
 marks_kept (loads_hand {s = s} i v there live) h m = aside_marks s h m i v (looked (seen.Hand s.hand) v) there (omega arith) refl refl refl
 marks_kept (raises {s = s} i v there live synced) h m = λ none. let x = aside_marks s h m i v (has_raised s.end v) there (omega arith) refl refl refl none in record { frames = x.frames; blocks = x.blocks; views = x.views }
 
-pub marks_after : {es : List Event} {s t : State} → Run es s t → Invariant s → MarksLaw s → MarksLaw t
+pub marks_after : {es : List Event} {s t : State} → Run es s t → HistoryInvariant s → MarksLaw s → MarksLaw t
 marks_after rests h m = m
 marks_after (goes x r) h m = marks_after r (step_keeps x h) (marks_kept x h m)
 

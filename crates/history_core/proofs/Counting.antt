@@ -26,7 +26,7 @@ use Rattle.history_core.specs.Log.{record_size}
 use Rattle.history_core.specs.Device as log_kinds
 use Rattle.history_core.specs.Device.{LogKind, view_logged}
 use Rattle.history_core.specs.Steps.{Event, stepped, ticked, looked, pool_noting, paged, laned, has_loaded, has_read, has_begun, has_written, Step, pools, lanes, writes, notes, logs, enters, reads, loads_end, begins, loads_flushed, raises, adds_hand, loads_hand, Run, rests, goes, has_raised}
-use Rattle.history_core.specs.Invariant.{Invariant}
+use Rattle.history_core.specs.Invariant.{HistoryInvariant}
 use Rattle.history_core.proofs.Counts.{known, more, counts_kept, count_stays, other_link, risen_later}
 use Rattle.history_core.proofs.LogCounting.{log_counting, log_counts_open}
 use Rattle.history_core.proofs.Opening.{one_total}
@@ -71,7 +71,7 @@ stays_more k d ln h = record {
   others = λ t u m q c le e. other_link k d ln ln m refl refl (λ x. x) (λ x. x) e.1;
 }
 
-module _ (s : State) (h : Invariant s) (m : LanesCounted s) where
+module _ (s : State) (h : HistoryInvariant s) (m : LanesCounted s) where
   abbrev views : List View
   views = s.pool.core.views
 
@@ -155,7 +155,7 @@ zero_or_more zero = inl refl
 zero_or_more (suc n) = inr (omega arith)
 
 -- the law after a step at the lane q, where the view becomes w
-laned_counts : (s : State) (h : Invariant s) (m : LanesCounted s) (i q : ℕ) (k : LaneKind) (v w : View) → get_elem? s.pool.core.views i ≡ some v → v.emptied ≡ false → q < s.lanes → LaneAllowed k (s.lane q) (lane_hold v q) → w.lanes ≡ set v.lanes q (lane_hold_after k v.flushed (swept_by v) (lane_hold v q)) → w.met ≡ sum_of_met v.met (met_by k (lane_hold v q))
+laned_counts : (s : State) (h : HistoryInvariant s) (m : LanesCounted s) (i q : ℕ) (k : LaneKind) (v w : View) → get_elem? s.pool.core.views i ≡ some v → v.emptied ≡ false → q < s.lanes → LaneAllowed k (s.lane q) (lane_hold v q) → w.lanes ≡ set v.lanes q (lane_hold_after k v.flushed (swept_by v) (lane_hold v q)) → w.met ≡ sum_of_met v.met (met_by k (lane_hold v q))
     → Counted s.lanes (put s.lane q (lane_after k (s.lane q))) s.flushed (set s.pool.core.views i w)
 laned_counts s h m i q k v w there live low a holds met = let lane' : ℕ → Lane = put s.lane q (lane_after k (s.lane q)) in let d : FailedCalls = met_by k (lane_hold v q) in let vs' : List View = set s.pool.core.views i w in
     let sums : all_met vs' ≡ sum_of_met (all_met s.pool.core.views) d = met_set s.pool.core.views i v w d there met in let cells = m.lanes.cells i v q there low in
@@ -172,7 +172,7 @@ laned_counts s h m i q k v w there live low a holds met = let lane' : ℕ → La
     }
 
 -- the law where a view changes elsewhere
-unlaned_counts : (s : State) (h : Invariant s) (m : LanesCounted s) (i : ℕ) (v w : View) → get_elem? s.pool.core.views i ≡ some v → w.lanes ≡ v.lanes → w.met.reads ≡ v.met.reads → w.met.writes ≡ v.met.writes → w.met.logs ≡ v.met.logs → Counted s.lanes s.lane s.flushed (set s.pool.core.views i w)
+unlaned_counts : (s : State) (h : HistoryInvariant s) (m : LanesCounted s) (i : ℕ) (v w : View) → get_elem? s.pool.core.views i ≡ some v → w.lanes ≡ v.lanes → w.met.reads ≡ v.met.reads → w.met.writes ≡ v.met.writes → w.met.logs ≡ v.met.logs → Counted s.lanes s.lane s.flushed (set s.pool.core.views i w)
 unlaned_counts s h m i v w there holds a b c = let met : w.met ≡ v.met = λ j. record { reads = a j; writes = b j; logs = c j } in let same = met_set s.pool.core.views i v w none there (met ∙ sym (plus_none v.met)) in record {
   lanes = unlaned s h m i v w there holds met;
   reads_rose = λ e. m.reads_rose (let y = ap (λ (n : FailedCalls). n.reads) same in omega arith);
@@ -194,7 +194,7 @@ forgets k ln h free = record {
   others = λ t u m q c le e. e.1;
 }
 
-pools_counts : (s : State) (h : Invariant s) (m : LanesCounted s) → {e : pin_steps.Event} {core' : _} → pin_steps.Step e s.pool.core core' → Counted s.lanes s.lane s.flushed core'.views
+pools_counts : (s : State) (h : HistoryInvariant s) (m : LanesCounted s) → {e : pin_steps.Event} {core' : _} → pin_steps.Step e s.pool.core core' → Counted s.lanes s.lane s.flushed core'.views
 pools_counts s h m (pin_steps.touches i f k v there live inside a around) = unlaned_counts s h m i v (pin_kinds.view_after k s.pool.core.partition_of f (s.pool.core.frame f) (link v f) v) there refl refl refl refl
 pools_counts s h m (pin_steps.turns i p k v there live below a) = unlaned_counts s h m i v (view_turned k p (hold v p) v) there refl refl refl refl
 pools_counts s h m (pin_steps.splits v there room) = let w : View = record v { next = v.next + 1 } in let b : View = new_view v.next s.pool.core.base (length v.links) (length v.partitions) (length v.lanes) in let x = unlaned_counts s h m 0 v w there refl refl refl refl in let vs : List View = set s.pool.core.views 0 w in
@@ -240,7 +240,7 @@ log_reads (log_kinds.fail_sync synced faults) = (refl, refl)
 log_reads log_kinds.see_down = (refl, refl)
 
 -- a step at the log
-logged_counts : (s : State) (h : Invariant s) (m : LanesCounted s) (i : ℕ) (k : LogKind) (v : View) → get_elem? s.pool.core.views i ≡ some v → Counted s.lanes s.lane s.flushed (set s.pool.core.views i (view_logged k v))
+logged_counts : (s : State) (h : HistoryInvariant s) (m : LanesCounted s) (i : ℕ) (k : LogKind) (v : View) → get_elem? s.pool.core.views i ≡ some v → Counted s.lanes s.lane s.flushed (set s.pool.core.views i (view_logged k v))
 logged_counts s h m i k v there = let w : View = view_logged k v in let d : FailedCalls = log_kinds.met_by k in let same = met_set s.pool.core.views i v w d there refl in let zero_d = log_reads k in record {
   lanes = subst (λ (x : FailedCalls). Grid count_shape count_part s.lanes s.lane (λ _. record { flushed = s.flushed; met = x }) (set s.pool.core.views i w)) (sym same)
       (sweep count_shape known count_part s.lanes s.lane s.lane (λ _. known_of s) (λ _. more (known_of s) d) s.pool.core.views i v w (all_known s h m) there (λ g below. stays_more (known_of s) d (s.lane g) (lane_hold v g)));
@@ -248,7 +248,7 @@ logged_counts s h m i k v there = let w : View = view_logged k v in let d : Fail
   writes_rose = λ e. m.writes_rose (let y = ap (λ (n : FailedCalls). n.writes) same in let z = zero_d.1 in omega arith);
 }
 
-lane_counting : {e : Event} {s t : State} → Step e s t → Invariant s → LanesCounted s → LanesCounted t
+lane_counting : {e : Event} {s t : State} → Step e s t → HistoryInvariant s → LanesCounted s → LanesCounted t
 lane_counting (pools {s = s} (page_steps.cores x) a) h m = pools_counts s h m x
 lane_counting (pools {s = s} (page_steps.touches i f k v there live inside a around) plain) h m = unlaned_counts s h m i v (paged k s.pool f v) there refl refl refl refl
 lane_counting (lanes {s = s} i q k v there live low a alone) h m = laned_counts s h m i q k v (stepped (laned k q v v)) there live low a refl refl
@@ -264,10 +264,10 @@ lane_counting (adds_hand {s = s} i v there live) h m = let x = unlaned_counts s 
 lane_counting (loads_hand {s = s} i v there live) h m = unlaned_counts s h m i v (looked (seen.Hand s.hand) v) there refl refl refl refl
 lane_counting (raises {s = s} i v there live synced) h m = let x = unlaned_counts s h m i v (has_raised s.end v) there refl refl refl refl in record { lanes = record { columns = x.lanes.columns; cells = x.lanes.cells }; reads_rose = x.reads_rose; writes_rose = x.writes_rose }
 
-pub counting : {e : Event} {s t : State} → Step e s t → Invariant s → CountsLaw s → CountsLaw t
+pub counting : {e : Event} {s t : State} → Step e s t → HistoryInvariant s → CountsLaw s → CountsLaw t
 counting x h m = record { lanes = lane_counting x h m.lanes; log = log_counting x h m.log }
 
-pub counts_after : {es : List Event} {s t : State} → Run es s t → Invariant s → CountsLaw s → CountsLaw t
+pub counts_after : {es : List Event} {s t : State} → Run es s t → HistoryInvariant s → CountsLaw s → CountsLaw t
 counts_after rests h m = m
 counts_after (goes x r) h m = counts_after r (step_keeps x h) (counting x h m)
 

@@ -16,7 +16,7 @@ use Rattle.history_core.specs.Log.{record_size}
 use Rattle.history_core.specs.Lanes.{lane_back}
 use Rattle.history_core.specs.Device.{view_logged}
 use Rattle.history_core.specs.State.{State, Store, opening}
-use Rattle.history_core.specs.Invariant.{Invariant}
+use Rattle.history_core.specs.Invariant.{HistoryInvariant}
 use Rattle.history_core.specs.Ends.{EndsLaw}
 use Rattle.history_core.specs.Steps.{Event, stepped, ticked, looked, pool_noting, paged, laned, has_loaded, has_begun, has_read, has_written, has_raised, Step, pools, lanes, writes, notes, logs, enters, reads, loads_end, begins, loads_flushed, raises, adds_hand, loads_hand}
 use Rattle.grid.proofs.Lists.{at_set, at_end, at_only}
@@ -44,7 +44,7 @@ pools_ends s from m (pin_steps.splits v there room) = let w : View = record v { 
 pools_ends s from m (pin_steps.joins j v u there other here live free) = let w : View = joined_view v u in let p = m 0 v there in let q = m j u here in
     ends_set s.end (set s.pool.core.views 0 w) (ends_set s.end s.pool.core.views m s.end 0 w (omega arith) (omega arith)) s.end j emptied_view (omega arith) (omega arith)
 
-pub ends_kept : {e : Event} {s t : State} → Step e s t → Invariant s → EndsLaw s → EndsLaw t
+pub ends_kept : {e : Event} {s t : State} → Step e s t → HistoryInvariant s → EndsLaw s → EndsLaw t
 ends_kept (pools {s = s} (page_steps.cores x) a) h m = pools_ends s (let p = h.based in let q = h.flushed_from in let r = h.flushed_to in omega arith) m x
 ends_kept (pools {s = s} (page_steps.touches i f k v there live inside a around) plain) h m = ends_same s.end s.pool.core.views m i v (paged k s.pool f v) there refl
 ends_kept (lanes {s = s} i q k v there live low a alone) h m = ends_same s.end s.pool.core.views m i v (stepped (laned k q v v)) there refl

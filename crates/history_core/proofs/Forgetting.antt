@@ -22,7 +22,7 @@ unknown_frame b fr t c = grind (arith, c)
 unknown_link : (b : Block) (fr : Frame) (l : Link) → fr.word.valid ≡ false → PageLink b fr l → PageLink unknown fr l
 unknown_link b fr l e c = grind (arith, c, e)
 
-module _ (s : page.State) (f : ℕ) (h : page_law.Invariant s) (inside : f < s.core.frames) (named : (s.core.frame f).tag ≢ no_tag) (invalid : (s.core.frame f).word.valid ≡ false) where
+module _ (s : page.State) (f : ℕ) (h : page_law.PageInvariant s) (inside : f < s.core.frames) (named : (s.core.frame f).tag ≢ no_tag) (invalid : (s.core.frame f).word.valid ≡ false) where
   abbrev tag : ℕ
   tag = (s.core.frame f).tag
 
@@ -30,7 +30,7 @@ module _ (s : page.State) (f : ℕ) (h : page_law.Invariant s) (inside : f < s.c
   invalid_at : (g : ℕ) → g < s.core.frames → (s.core.frame g).tag ≡ tag → (s.core.frame g).word.valid ≡ false
   invalid_at g below e = subst (λ (z : ℕ). (s.core.frame z).word.valid ≡ false) (h.core.apart f g inside below named (sym e)) invalid
 
-  pub forgets : page_law.Invariant (record s { logged = put s.logged tag None })
+  pub forgets : page_law.PageInvariant (record s { logged = put s.logged tag None })
   forgets = record {
     core = h.core;
     waits = h.waits;

@@ -23,7 +23,7 @@ use Rattle.history_core.specs.Lanes.{swept_by, LaneKind, LaneAllowed, lane_after
 use Rattle.history_core.specs.Device.{appenders, log_weigh, resting_weight}
 use Rattle.history_core.specs.Device as log
 use Rattle.history_core.specs.Homes.{IsUnframed}
-use Rattle.history_core.specs.Invariant.{Invariant}
+use Rattle.history_core.specs.Invariant.{HistoryInvariant}
 use Rattle.history_core.specs.Steps.{looked, stepped, laned, lanes, paged, has_read, has_written, new_entry, MayWriteLane, writes, enters, reads}
 use Rattle.history_core.specs.Histories.{IsReached, CallsAreLegal, ReadsAtBase, SyncsMakeDurable, JoinedAreApart, CallsAreOwn, FrontsAreReached, CallsAreInOrder, LoadedIsFlushed, LanesGoOutFlushed, NotedWritesAreDone, holds_log, LogIsHeld, WritesAreEntries, ReadsStand, WritesStand, LogBeforeData, LanesHoldFlushedPages, IsStored, CleanBlocksAreStored, FramesAreSound, FramesHoldCells, LogWords, holds_lane, LanesAreHeld, EntriesAreDurable, DeviceHoldsLog}
 use Rattle.history_core.specs.Rest.{RestLaw}
@@ -33,7 +33,7 @@ use Rattle.history_core.proofs.Stepping.{step_keeps, run_keeps}
 use Rattle.grid.proofs.Lists.{set_here, put_at, put_here}
 use Rattle.grid.proofs.Sums.{total-count, total-none, total-same, total-add}
 
-pub reached : (s : State) → IsReached s → Invariant s
+pub reached : (s : State) → IsReached s → HistoryInvariant s
 reached s r = run_keeps r.run (opens r.config r.store r.page r.opens r.stores)
 
 flag_cond : (b : Bool) → flag_weight b ≡ cond b 1 0
@@ -87,7 +87,7 @@ is_out (lane_kinds.lane_back noted) s n f h l x a = absurd x
 pub syncs : (s : State) → SyncsMakeDurable s
 syncs s _ _ tag t (lanes i n k v there live low a alone) same = ap (λ (y : Lane). y.synced_upto tag) (put_at s.lane n (lane_after k (s.lane n)) (s.lane_of tag) same) ∙ ap (λ (z : ℕ). (s.lane z).stored_upto tag) (sym same)
 
-module _ (s : State) (h : Invariant s) where
+module _ (s : State) (h : HistoryInvariant s) where
   pub legal : CallsAreLegal s
   legal i k v c there at = (h.history.calls i v there).legal k c at
 

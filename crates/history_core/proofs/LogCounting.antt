@@ -27,7 +27,7 @@ use Rattle.history_core.specs.Lanes.{LaneKind, Rises, met_by, fault_of}
 use Rattle.history_core.specs.Device as log_kinds
 use Rattle.history_core.specs.Device.{LogKind, LogAllowed, device_after, view_logged, is_failed, HasRisen, Written, DeviceLaw, LogLink, LogTally, holders, appenders, log_weigh}
 use Rattle.history_core.specs.Counts.{all_met, NoneFailedOut, FaultsOut, LogCounted}
-use Rattle.history_core.specs.Invariant.{Invariant, written_of}
+use Rattle.history_core.specs.Invariant.{HistoryInvariant, written_of}
 use Rattle.history_core.specs.Steps.{Event, stepped, ticked, looked, pool_noting, paged, laned, has_loaded, has_read, has_begun, has_written, Step, pools, lanes, writes, notes, logs, enters, reads, loads_end, begins, loads_flushed, raises, adds_hand, loads_hand, has_raised}
 use Rattle.history_core.proofs.Device.{risen}
 use Rattle.history_core.proofs.Opening.{one_total}
@@ -92,7 +92,7 @@ module _ (start : ℕ) (d d' : Device) (views : List View) (m : LogCounted start
 held_alone : (w : Written) (d : Device) (t : LogTally → ℕ) (a b : Bool) (h m : LogHold) → DeviceLaw w d t → LogLink w d a h → LogLink w d b m → ((k : LogTally) → log_weigh k h + log_weigh k m ≤ t k) → h.held ≡ true → m.out ≡ None
 held_alone w d t a b h m q c e le held = grind (arith, q, c, e, le holders, le appenders, held)
 
-module _ (s : State) (h : Invariant s) (i : ℕ) (v : View) (there : get_elem? s.pool.core.views i ≡ some v) where
+module _ (s : State) (h : HistoryInvariant s) (i : ℕ) (v : View) (there : get_elem? s.pool.core.views i ≡ some v) where
   link_of : (j : ℕ) (u : View) → get_elem? s.pool.core.views j ≡ some u → LogLink (written_of s) s.device u.saw_down u.log
   link_of j u at = h.device.cells j u 0 at (lit< tt)
 
@@ -138,7 +138,7 @@ module _ (s : State) (h : Invariant s) (i : ℕ) (v : View) (there : get_elem? s
       (λ t z. (subst (FaultsOut t s.device) (sym same) (m.counts i v t there (sym out ∙ z)), m.taken i v t there (sym out ∙ z)))
 
 -- a new view counts nothing, and has nothing out
-pools_counted : (s : State) (h : Invariant s) → LogCounted s.log_faults s.device s.pool.core.views → {e : pin_steps.Event} {core' : _} → pin_steps.Step e s.pool.core core' → LogCounted s.log_faults s.device core'.views
+pools_counted : (s : State) (h : HistoryInvariant s) → LogCounted s.log_faults s.device s.pool.core.views → {e : pin_steps.Event} {core' : _} → pin_steps.Step e s.pool.core core' → LogCounted s.log_faults s.device core'.views
 pools_counted s h m (pin_steps.touches i f k v there live inside a around) = elsewhere s h i v there m (pin_kinds.view_after k s.pool.core.partition_of f (s.pool.core.frame f) (link v f) v) refl refl refl
 pools_counted s h m (pin_steps.turns i p k v there live below a) = elsewhere s h i v there m (view_turned k p (hold v p) v) refl refl refl
 pools_counted s h m (pin_steps.splits v there room) = let w : View = record v { next = v.next + 1 } in let b : View = new_view v.next s.pool.core.base (length v.links) (length v.partitions) (length v.lanes) in let vs : List View = set s.pool.core.views 0 w in let x = elsewhere s h 0 v there m w refl refl refl in
@@ -193,7 +193,7 @@ no_log_fault (lane_kinds.fail_sync faults) h = refl
 same_logs : (k : LaneKind) (q : ℕ) (v : View) → v.met.logs + (met_by k (lane_hold v q)).logs ≡ v.met.logs
 same_logs k q v = let x = no_log_fault k (lane_hold v q) in omega arith
 
-pub log_counting : {e : Event} {s t : State} → Step e s t → Invariant s → LogCounted s.log_faults s.device s.pool.core.views → LogCounted t.log_faults t.device t.pool.core.views
+pub log_counting : {e : Event} {s t : State} → Step e s t → HistoryInvariant s → LogCounted s.log_faults s.device s.pool.core.views → LogCounted t.log_faults t.device t.pool.core.views
 log_counting (pools {s = s} (page_steps.cores x) a) h m = pools_counted s h m x
 log_counting (pools {s = s} (page_steps.touches i f k v there live inside a around) plain) h m = elsewhere s h i v there m (paged k s.pool f v) refl refl refl
 log_counting (lanes {s = s} i q k v there live low a alone) h m = elsewhere s h i v there m (stepped (laned k q v v)) refl refl (same_logs k q v)

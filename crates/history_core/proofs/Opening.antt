@@ -10,7 +10,7 @@ use Rattle.history_core.specs.Log.{Log, cell, cut, write_weight, writes_in, reco
 use Rattle.history_core.specs.State.{Store, CanStore, is_known, known_origin, fresh_lane, fresh_device, opening}
 use Rattle.history_core.specs.Lanes.{holders, LaneLink, lane_shape}
 use Rattle.history_core.specs.Homes.{Home, HomeFrame, HomeLink, home_of}
-use Rattle.history_core.specs.Invariant.{CallsLaw, written_of, Invariant}
+use Rattle.history_core.specs.Invariant.{CallsLaw, written_of, HistoryInvariant}
 use Rattle.history_core.specs.Device.{LogTally, holders, appenders, log_weigh, LogLink}
 use Rattle.history_core.proofs.Device.{no_log_law}
 use Rattle.history_core.proofs.Calls.{no_calls, no_total}
@@ -39,7 +39,7 @@ head_only names base = sym (append-nil (head_bytes base))
 fresh_frame : (h : Home) (p : Page) → HomeFrame h (empty_frame p)
 fresh_frame h p = record { clean = λ named. absurd (named refl) }
 
-pub opens : (c : Config) (store : Store) (page : Page) → CanOpen c → CanStore c store → Invariant (opening c store page)
+pub opens : (c : Config) (store : Store) (page : Page) → CanOpen c → CanStore c store → HistoryInvariant (opening c store page)
 opens c store page can stores = let w : View = first_view c.base c.frames c.partitions c.lanes in let log : Log = record { base = c.base; entries = [] } in let none : (k : LogTally) → total (λ (v : View). log_weigh k v.log) (w ∷ []) ≡ 0 = (λ k. one_total (λ (v : View). log_weigh k v.log) w (no_weight k)) in record {
   pool = pages.opens c (known_origin store) page can;
   logged = λ tag is. ap (λ (b : Bool). cond b (Some (store.origin tag)) None) is ∙ (λ j. Some (sym (cell_none store.origin) j tag));

@@ -19,7 +19,7 @@ use Rattle.history_core.specs.State.{Device, State, Store, opening}
 use Rattle.history_core.specs.Lanes.{lane_back}
 use Rattle.history_core.specs.Device as log
 use Rattle.history_core.specs.Device.{LogKind, LogAllowed, device_after, view_logged}
-use Rattle.history_core.specs.Invariant.{Invariant}
+use Rattle.history_core.specs.Invariant.{HistoryInvariant}
 use Rattle.history_core.specs.Outings.{IsAsTaken, OutingsLaw}
 use Rattle.history_core.specs.Steps.{Event, stepped, ticked, looked, pool_noting, paged, laned, has_loaded, has_begun, has_read, has_written, Step, pools, lanes, writes, notes, logs, enters, reads, loads_end, begins, loads_flushed, raises, adds_hand, loads_hand, has_raised}
 use Rattle.history_core.proofs.LogCounting.{by_view, none_out, others_home, is_held}
@@ -32,7 +32,7 @@ Law d views = (i : ℕ) (v : View) (taken : TakenLog) → get_elem? views i ≡ 
 aside : (d : Device) (views : List View) → Law d views → (i : ℕ) (v w : View) → get_elem? views i ≡ some v → w.log.out ≡ v.log.out → w.log.change ≡ v.log.change → Law d (set views i w)
 aside d views m i v w there out same j u taken at = by_view views i v w there (λ (x : View). (taken : TakenLog) → x.log.out ≡ Some taken → x.log.change ≡ change.Untouched → IsAsTaken taken d) (λ t a b. m i v t there (sym out ∙ a) (sym same ∙ b)) (λ k x o at t a b. m k x t at a b) j u at taken
 
-pools_out : (s : State) (h : Invariant s) → OutingsLaw s → {e : pin_steps.Event} {core' : pins.State} → pin_steps.Step e s.pool.core core' → Law s.device core'.views
+pools_out : (s : State) (h : HistoryInvariant s) → OutingsLaw s → {e : pin_steps.Event} {core' : pins.State} → pin_steps.Step e s.pool.core core' → Law s.device core'.views
 pools_out s h m (pin_steps.touches i f k v there live inside a around) = aside s.device s.pool.core.views m i v (pin_kinds.view_after k s.pool.core.partition_of f (s.pool.core.frame f) (link v f) v) there refl refl
 pools_out s h m (pin_steps.turns i p k v there live below a) = aside s.device s.pool.core.views m i v (view_turned k p (hold v p) v) there refl refl
 pools_out s h m (pin_steps.splits v there room) = let w : View = record v { next = v.next + 1 } in let b : View = new_view v.next s.pool.core.base (length v.links) (length v.partitions) (length v.lanes) in let x = aside s.device s.pool.core.views m 0 v w there refl refl in
@@ -41,7 +41,7 @@ pools_out s h m (pin_steps.joins j v u there other here live free) = let w : Vie
     λ k y taken at. by_view (set s.pool.core.views 0 w) j u emptied_view (set_else s.pool.core.views 0 j w other ∙ here) (λ (z : View). (taken : TakenLog) → z.log.out ≡ Some taken → z.log.change ≡ change.Untouched → IsAsTaken taken s.device) (λ t a b. absurd (cc)) (λ n z o at t a b. x n z t at a b) k y at taken
 
 -- a step at the log
-module _ (s : State) (h : Invariant s) (m : OutingsLaw s) (i : ℕ) (v : View) (there : get_elem? s.pool.core.views i ≡ some v) where
+module _ (s : State) (h : HistoryInvariant s) (m : OutingsLaw s) (i : ℕ) (v : View) (there : get_elem? s.pool.core.views i ≡ some v) where
   -- the device stays, and the view has it out as before
   same_device : (w : View) (d : Device) → d.bytes ≡ s.device.bytes → d.synced ≡ s.device.synced → d.down ≡ s.device.down → w.log.out ≡ v.log.out → w.log.change ≡ v.log.change → Law d (set s.pool.core.views i w)
   same_device w d bytes synced down out same j u taken at a b = let x = aside s.device s.pool.core.views m i v w there out same j u taken at a b in record { bytes = λ l e. x.bytes l e ∙ sym bytes; synced = synced ∙ x.synced; down = down ∙ x.down }
@@ -61,7 +61,7 @@ module _ (s : State) (h : Invariant s) (m : OutingsLaw s) (i : ℕ) (v : View) (
   logged (log.fail_sync synced faults) a = alone (view_logged (log.fail_sync synced faults) v) (device_after (log.fail_sync synced faults) s.end s.device) (is_held s h i v there a.call.out) (λ t out same. absurd (cc))
   logged (log.log_back noted) a = alone (view_logged (log.log_back noted) v) s.device (is_held s h i v there a.out) (λ t out same. absurd (cc))
 
-pub outings_kept : {e : Event} {s t : State} → Step e s t → Invariant s → OutingsLaw s → OutingsLaw t
+pub outings_kept : {e : Event} {s t : State} → Step e s t → HistoryInvariant s → OutingsLaw s → OutingsLaw t
 outings_kept (pools {s = s} (page_steps.cores x) a) h m = pools_out s h m x
 outings_kept (pools {s = s} (page_steps.touches i f k v there live inside a around) plain) h m = aside s.device s.pool.core.views m i v (paged k s.pool f v) there refl refl
 outings_kept (lanes {s = s} i q k v there live low a alone) h m = aside s.device s.pool.core.views m i v (stepped (laned k q v v)) there refl refl

@@ -35,7 +35,7 @@ use Rattle.history_core.specs.State.{Lane, State, Store, stored_upto, failed, op
 use Rattle.history_core.specs.Lanes as lane_kinds
 use Rattle.history_core.specs.Lanes.{LaneKind, lane_after}
 use Rattle.history_core.specs.Device.{view_logged}
-use Rattle.history_core.specs.Invariant.{Invariant}
+use Rattle.history_core.specs.Invariant.{HistoryInvariant}
 use Rattle.history_core.specs.Debts.{Taken, IsCurrent, IsSettled, LinkDebt, ViewDebts, Debts, has_visited, has_left_to_write, taken_of, DebtsLaw}
 use Rattle.history_core.specs.Steps.{Event, IsPlain, MayWriteLane, Notes, CanEnter, has_loaded, has_begun, new_entry, logged_noting, pool_noting, stepped, ticked, looked, paged, laned, has_read, has_written, Step, pools, lanes, writes, notes, logs, enters, reads, loads_end, begins, loads_flushed, raises, adds_hand, loads_hand, Run, rests, goes, has_raised}
 use Rattle.history_core.proofs.Beginning.{BegunHere, link_begun}
@@ -57,7 +57,7 @@ map_at g a b e [] n = sym e
 map_at g a b e (x ∷ l) zero = refl
 map_at g a b e (x ∷ l) (suc n) = map_at g a b e l n
 
-module _ (s : State) (h : Invariant s) (d : DebtsLaw s) where
+module _ (s : State) (h : HistoryInvariant s) (d : DebtsLaw s) where
   abbrev t : Taken
   t = taken_of s
 
@@ -236,7 +236,7 @@ no_output : (b : Block) (fr : Frame) (l m : Link) (t : Tally → ℕ) → PageFr
 no_output b fr l m t q d x y e done = grind (arith, q, d, x applied_locks, x unapplied_locks, y sharers, e, done)
 
 -- An entry of the page p of the frame f is made
-module _ (s : State) (h : Invariant s) (d : DebtsLaw s) (i f : ℕ) (p : Page) (v : View) (there : get_elem? s.pool.core.views i ≡ some v) (live : v.emptied ≡ false) (inside : f < s.pool.core.frames) (x : CanEnter s f p v) where
+module _ (s : State) (h : HistoryInvariant s) (d : DebtsLaw s) (i f : ℕ) (p : Page) (v : View) (there : get_elem? s.pool.core.views i ≡ some v) (live : v.emptied ≡ false) (inside : f < s.pool.core.frames) (x : CanEnter s f p v) where
   abbrev tag_of : ℕ
   tag_of = (s.pool.core.frame f).tag
 
@@ -300,7 +300,7 @@ module _ (s : State) (h : Invariant s) (d : DebtsLaw s) (i f : ℕ) (p : Page) (
       debts_touched longer s.pool.core.frames s.pool.core.frame (s.end + record_size) f (s.pool.core.frame f) (stays refl (λ e. e) (λ e. e)) logged' s.pool.core.views entries_longer inside (λ goes. absurd (goes refl)) i v (has_written (s.end + record_size) tag_of p (paged (make_entry p) s.pool f v)) l there
       (touches_at s h d i f v (has_written (s.end + record_size) tag_of p (paged (make_entry p) s.pool f v)) l there live inside refl refl refl) (record { settled = own.settled; done = own.done })
 
-pub debts_kept : {e : Event} {s t : State} → Step e s t → Invariant s → DebtsLaw s → DebtsLaw t
+pub debts_kept : {e : Event} {s t : State} → Step e s t → HistoryInvariant s → DebtsLaw s → DebtsLaw t
 debts_kept (pools {s = s} (page_steps.cores x) a) h d = pins_owe s h d x
 debts_kept (pools {s = s} (page_steps.touches i f k v there live inside a around) plain) h d = pages_owe s h d i f k v there live inside a plain
 debts_kept (lanes {s = s} i q k v there live low a alone) h d = let w : View = stepped (laned k q v v) in same_lane s h d q (lane_after k (s.lane q)) (no_write_holds k s q (lane_hold v q) (s.lane q) alone) s.pool.logged (set s.pool.core.views i w) s.pool.core.frame (aside_owe s h d i v w there refl refl refl)
@@ -323,7 +323,7 @@ debts_kept (adds_hand {s = s} i v there live) h d = aside_owe s h d i v (ticked 
 debts_kept (loads_hand {s = s} i v there live) h d = aside_owe s h d i v (looked (seen.Hand s.hand) v) there refl refl refl
 debts_kept (raises {s = s} i v there live synced) h d = aside_owe s h d i v (has_raised s.end v) there refl refl refl
 
-pub debts_after : {es : List Event} {s t : State} → Run es s t → Invariant s → DebtsLaw s → DebtsLaw t
+pub debts_after : {es : List Event} {s t : State} → Run es s t → HistoryInvariant s → DebtsLaw s → DebtsLaw t
 debts_after rests h d = d
 debts_after (goes x r) h d = debts_after r (step_keeps x h) (debts_kept x h d)
 

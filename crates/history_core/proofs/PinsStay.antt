@@ -23,14 +23,14 @@ use Rattle.history_core.specs.Log.{record_size}
 use Rattle.history_core.specs.Lanes.{lane_back}
 use Rattle.history_core.specs.Device.{view_logged}
 use Rattle.history_core.specs.State.{State}
-use Rattle.history_core.specs.Invariant.{Invariant}
+use Rattle.history_core.specs.Invariant.{HistoryInvariant}
 use Rattle.history_core.specs.Promises.{HasNoUnpin, PinnedTagsStay}
 use Rattle.history_core.specs.Steps.{Event, pool, stepped, ticked, looked, logged_noting, pool_noting, paged, laned, has_loaded, has_begun, has_read, has_written, Step, pools, lanes, writes, notes, logs, enters, reads, loads_end, begins, loads_flushed, raises, adds_hand, loads_hand, Run, rests, goes, has_raised}
 use Rattle.grid.specs.Shape.{put}
 use Rattle.history_core.proofs.Beginning.{BegunHere, link_begun}
 use Rattle.history_core.proofs.Stepping.{relinks, step_keeps, run_keeps}
 
-module _ (s : State) (h : Invariant s) (i f : ℕ) (out : IsHandedOut s.pool.core i f) where
+module _ (s : State) (h : HistoryInvariant s) (i f : ℕ) (out : IsHandedOut s.pool.core i f) where
   -- a view whose role at the frame f stays
   beside : (j : ℕ) (u w : View) → get_elem? s.pool.core.views j ≡ some u → (link w f).role ≡ (link u f).role → (x : View) × (get_elem? (set s.pool.core.views j w) i ≡ some x) × (f < s.pool.core.frames) × ((link x f).role ≡ HandedOut)
   beside j u w here role = let x = view_stays s.pool.core.views i j f out.0 u w out.1 out.3 here role in (x.0, x.1, out.2, x.2)
@@ -44,7 +44,7 @@ module _ (s : State) (h : Invariant s) (i f : ℕ) (out : IsHandedOut s.pool.cor
   tag_same : (g : ℕ) (k : Kind) (b : Block) → (put s.pool.core.frame g (frame_after k b (s.pool.core.frame g)) f).tag ≡ (s.pool.core.frame f).tag
   tag_same g k b = tags_stay s.pool.core.frame g (frame_after k b (s.pool.core.frame g)) (tag_kept k b (s.pool.core.frame g)) f
 
-step_stays : {e : Event} {s t : State} (i f : ℕ) → Step e s t → Invariant s → IsHandedOut s.pool.core i f → e ≢ pool (page_steps.pins_and_maps (pin_steps.at i f unpin)) → Stays s.pool.core t.pool.core i f
+step_stays : {e : Event} {s t : State} (i f : ℕ) → Step e s t → HistoryInvariant s → IsHandedOut s.pool.core i f → e ≢ pool (page_steps.pins_and_maps (pin_steps.at i f unpin)) → Stays s.pool.core t.pool.core i f
 step_stays i f (pools x a) h out other = pages.step_stays i f x h.pool out (λ q. other (ap pool q))
 step_stays i f (lanes {s = s} j n k u here live low a alone) h out other = (beside s h i f out j u (stepped (laned k n u u)) here refl, refl)
 step_stays i f (writes {s = s} j n g k u here live low inside a x) h out other = let b : Block = block_of s.pool.logged (s.pool.core.frame g).tag in let w : View = laned k n u (paged begin_write s.pool g u) in
@@ -62,9 +62,9 @@ step_stays i f (raises {s = s} j u here live synced) h out other = (beside s h i
 step_stays i f (adds_hand {s = s} j u here live) h out other = (beside s h i f out j u (ticked u) here refl, refl)
 step_stays i f (loads_hand {s = s} j u here live) h out other = (beside s h i f out j u (looked (seen.Hand s.hand) u) here refl, refl)
 
-run_stays : {es : List Event} {s t : State} (i f : ℕ) → Run es s t → Invariant s → IsHandedOut s.pool.core i f → HasNoUnpin i f es → Stays s.pool.core t.pool.core i f
+run_stays : {es : List Event} {s t : State} (i f : ℕ) → Run es s t → HistoryInvariant s → IsHandedOut s.pool.core i f → HasNoUnpin i f es → Stays s.pool.core t.pool.core i f
 run_stays i f rests h out none = (out, refl)
 run_stays i f (goes x r) h out none = let a = step_stays i f x h out none.0 in let b = run_stays i f r (step_keeps x h) a.0 none.1 in (b.0, b.1 ∙ a.1)
 
-pub pinned_stay : (s : State) → Invariant s → PinnedTagsStay s
+pub pinned_stay : (s : State) → HistoryInvariant s → PinnedTagsStay s
 pinned_stay s h i f es t out none r = let x = run_stays i f r h out none in (record { had = tag_there s.pool.core i f h.pool.core out; has = tag_there t.pool.core i f (run_keeps r h).pool.core x.0; same = x.1 }, x.0)

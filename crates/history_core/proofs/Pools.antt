@@ -37,7 +37,7 @@ link_same v w e f = ap (λ (x : List Link). link (record w { links = x }) f) e
 hold_same : (v w : View) → w.partitions ≡ v.partitions → (p : ℕ) → hold w p ≡ hold v p
 hold_same v w e p = ap (λ (x : List PartitionHold). hold (record w { partitions = x }) p) e
 
-core_aside : (s : pins.State) (i : ℕ) (v w : View) → pin_law.Invariant s → get_elem? s.views i ≡ some v → SameHere v w → pin_law.Invariant (record s { views = set s.views i w })
+core_aside : (s : pins.State) (i : ℕ) (v w : View) → pin_law.PinInvariant s → get_elem? s.views i ≡ some v → SameHere v w → pin_law.PinInvariant (record s { views = set s.views i w })
 core_aside s i v w h there same = record {
   grid = steady frame_shape pin_law.pin_part s.frames s.frame (λ _. tt) s.views h.grid i v w there refl (link_same v w same.links);
   turns = steady turn_shape turn_part s.partitions s.partition (λ _. tt) s.views h.turns i v w there refl (hold_same v w same.partitions);
@@ -49,7 +49,7 @@ core_aside s i v w h there same = record {
   accounted = accounted_set s.views i v w h.accounted there same.backend.emptied same.joined;
 }
 
-pub pool_aside : (s : page.State) (i : ℕ) (v w : View) → page_law.Invariant s → get_elem? s.core.views i ≡ some v → SameHere v w → page_law.Invariant (aside s i w)
+pub pool_aside : (s : page.State) (i : ℕ) (v w : View) → page_law.PageInvariant s → get_elem? s.core.views i ≡ some v → SameHere v w → page_law.PageInvariant (aside s i w)
 pool_aside s i v w h there same = record {
   core = core_aside s.core i v w h.core there same;
   pages = steady page_shape page_law.page_part s.core.frames s.core.frame (block_of s.logged) s.core.views h.pages i v w there refl (link_same v w same.links);
@@ -57,7 +57,7 @@ pool_aside s i v w h there same = record {
 }
 
 -- a step of a kind of `page_core`, with more of the view changed
-pub pool_touched : (s : page.State) (h : page_law.Invariant s) (i f : ℕ) (k : Kind) (v w : View) → get_elem? s.core.views i ≡ some v → v.emptied ≡ false → f < s.core.frames → Allowed k (block_of s.logged (s.core.frame f).tag) (s.core.frame f) (link v f) → AllowedAround k v f → SameHere (paged k s f v) w → page_law.Invariant (pool_after k s i f w)
+pub pool_touched : (s : page.State) (h : page_law.PageInvariant s) (i f : ℕ) (k : Kind) (v w : View) → get_elem? s.core.views i ≡ some v → v.emptied ≡ false → f < s.core.frames → Allowed k (block_of s.logged (s.core.frame f).tag) (s.core.frame f) (link v f) → AllowedAround k v f → SameHere (paged k s f v) w → page_law.PageInvariant (pool_after k s i f w)
 pool_touched s h i f k v w there live inside a around same = let fr = s.core.frame f in let b = block_of s.logged fr.tag in
-    subst (λ (x : List View). page_law.Invariant (record { core = record s.core { frame = put s.core.frame f (frame_after k b fr); views = x }; logged = logged_after k s.logged fr.tag })) (set-set s.core.views i (paged k s f v) w)
+    subst (λ (x : List View). page_law.PageInvariant (record { core = record s.core { frame = put s.core.frame f (frame_after k b fr); views = x }; logged = logged_after k s.logged fr.tag })) (set-set s.core.views i (paged k s f v) w)
     (pool_aside (state_after k s i f v) i (paged k s f v) w (kind_step_keeps s h i f v there live inside k a around) (set_here s.core.views i v (paged k s f v) there) same)

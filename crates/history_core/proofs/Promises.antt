@@ -9,7 +9,7 @@ use Rattle.history_core.specs.Swept.{IsSwept, has_swept, SweptLaw}
 use Rattle.history_core.specs.Log.{Entry, end_of}
 use Rattle.history_core.specs.State.{State, stored_upto, failed}
 use Rattle.history_core.specs.Homes.{IsUnframed}
-use Rattle.history_core.specs.Invariant.{Invariant}
+use Rattle.history_core.specs.Invariant.{HistoryInvariant}
 use Rattle.history_core.specs.Debts.{has_visited, has_left_to_write, IsSettled, taken_of, DebtsLaw}
 use Rattle.history_core.specs.Promises.{GrantsAreAlone, IsInLane, IsUnwritten, AreStored, AreSynced, SweepsStore, CheckpointsStore}
 use Rattle.pin_core.specs.Steps as pin_steps
@@ -25,7 +25,7 @@ either false x y = y refl
 apart : {b : Bool} → b ≡ true → b ≡ false → ⊥
 apart y n = cc
 
-module _ (s : State) (h : Invariant s) (d : DebtsLaw s) where
+module _ (s : State) (h : HistoryInvariant s) (d : DebtsLaw s) where
   in_lane : (k : ℕ) (e : Entry) → get_elem? s.log.entries k ≡ some e → failed s e.tag ≡ false → end_of e ≤ stored_upto s e.tag → IsInLane s e
   in_lane k e at ok low = let x = h.flushed_cells e.tag in record { place = stored_upto s e.tag; later = low; flushed = x.within; durable = durable s h k e at (let y = x.within in omega arith); holds = λ known. x.is_cell known ok }
 
@@ -66,5 +66,5 @@ module _ (s : State) (h : Invariant s) (d : DebtsLaw s) where
       all_synced h2 k e at low = let x = h2 (s.lane_of e.tag) (h.placed e.tag) in let y = x.1 in x.2.covered k e at refl (omega arith)
 
 -- the load is of a frame that is there
-pub grants_alone : (s : State) → Invariant s → GrantsAreAlone s
+pub grants_alone : (s : State) → HistoryInvariant s → GrantsAreAlone s
 grants_alone s h i f v t (pools (page_steps.cores (pin_steps.touches _ _ k w at live inside a around)) plain) there one pinned locked j u other here = let alone = cleanup_alone s.pool h.pool f inside in (alone.pins i j v u there here (λ e. other (sym e)) one pinned, alone.locks i j v u there here (λ e. other (sym e)) locked)

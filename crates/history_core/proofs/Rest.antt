@@ -9,7 +9,7 @@ use Rattle.pin_core.specs.Tallies.{some_weight}
 use Rattle.history_core.specs.Log.{Entry, IsImage, log_bytes, record_bytes}
 use Rattle.history_core.specs.State.{State, Store, Device, opening}
 use Rattle.history_core.specs.Device.{LogKind, take_log, leave_log, log_out, append, fail_append, sync_log, fail_sync, log_back, see_down, LogAllowed, device_after, view_logged, Written, DeviceLaw, LogLink, LogTally, holders, appenders, log_weigh, log_shape}
-use Rattle.history_core.specs.Invariant.{Invariant, written_of}
+use Rattle.history_core.specs.Invariant.{HistoryInvariant, written_of}
 use Rattle.history_core.specs.Steps.{Event, new_entry, CanLog, AppendsRecord, aside, Step, pools, lanes, writes, notes, logs, enters, reads, loads_end, begins, loads_flushed, raises, adds_hand, loads_hand, Run, rests, goes}
 use Rattle.history_core.specs.Rest.{NoneAppended, HasRest, RestLaw}
 use Rattle.history_core.proofs.Logs.{bytes_longer}
@@ -25,10 +25,10 @@ none_behind a [] e = refl
 none_behind a (x ∷ b) e = absurd (let y : length a ≡ length a + length (x ∷ b) = ap (λ (l : List ℕ). length l) e ∙ length-append a (x ∷ b) in omega arith)
 
 -- while no record is appended and the log isn't down the device has the log's bytes
-pub whole : (s : State) → Invariant s → NoneAppended s → s.device.down ≡ None → s.device.bytes ≡ log_bytes s.names s.log
+pub whole : (s : State) → HistoryInvariant s → NoneAppended s → s.device.down ≡ None → s.device.bytes ≡ log_bytes s.names s.log
 whole s h none up = (h.device.columns 0 (lit< tt)).bytes (total-none (λ (v : View). log_weigh appenders v.log) s.pool.core.views (λ i v there. ap some_weight (none i v there))) up
 
-law_of : (s : State) → Invariant s → HasRest s → RestLaw s
+law_of : (s : State) → HistoryInvariant s → HasRest s → RestLaw s
 law_of s h x = record { behind = x; none = λ none up. none_behind (log_bytes s.names s.log) x.rest (sym (whole s h none up) ∙ x.is_bytes) }
 
 -- nothing follows the log's bytes
@@ -53,7 +53,7 @@ none_else : (w : Written) (d : Device) (saw : _) (h : LogHold) (t : LogTally →
 none_else w d saw h t q c le out none = let held : h.held ≡ true = grind (arith, c, out) in grind (arith, q, c, le holders, held, none)
 
 -- a step at the log
-logged : (s : State) (h : Invariant s) (i : ℕ) (k : LogKind) (v : View) → get_elem? s.pool.core.views i ≡ some v → LogAllowed k s.device v.log → AppendsRecord k s v → Invariant (record s { pool = aside s.pool i (view_logged k v); device = device_after k s.end s.device }) → HasRest s
+logged : (s : State) (h : HistoryInvariant s) (i : ℕ) (k : LogKind) (v : View) → get_elem? s.pool.core.views i ≡ some v → LogAllowed k s.device v.log → AppendsRecord k s v → HistoryInvariant (record s { pool = aside s.pool i (view_logged k v); device = device_after k s.end s.device }) → HasRest s
     → HasRest (record s { pool = aside s.pool i (view_logged k v); device = device_after k s.end s.device })
 logged s h i take_log v there a r g x = same s _ x refl refl refl refl
 logged s h i leave_log v there a r g x = same s _ x refl refl refl refl
@@ -77,7 +77,7 @@ logged s h i (fail_append f tag p bytes faults) v there a r g x = let c = h.devi
       short = a.part;
     }
 
-behind_after : {e : Event} {s t : State} → Step e s t → Invariant s → Invariant t → HasRest s → HasRest t
+behind_after : {e : Event} {s t : State} → Step e s t → HistoryInvariant s → HistoryInvariant t → HasRest s → HasRest t
 behind_after (pools {s = s} x a) h g m = same s _ m refl refl refl refl
 behind_after (lanes {s = s} i q k v there live low a alone) h g m = same s _ m refl refl refl refl
 behind_after (writes {s = s} i q f k v there live low inside a x) h g m = same s _ m refl refl refl refl
@@ -93,10 +93,10 @@ behind_after (adds_hand {s = s} i v there live) h g m = same s _ m refl refl ref
 behind_after (loads_hand {s = s} i v there live) h g m = same s _ m refl refl refl refl
 behind_after (raises {s = s} i v there live synced) h g m = same s _ m refl refl refl refl
 
-pub rest_kept : {e : Event} {s t : State} → Step e s t → Invariant s → RestLaw s → RestLaw t
+pub rest_kept : {e : Event} {s t : State} → Step e s t → HistoryInvariant s → RestLaw s → RestLaw t
 rest_kept {t = t} x h m = let g = step_keeps x h in law_of t g (behind_after x h g m.behind)
 
-pub rest_after : {es : List Event} {s t : State} → Run es s t → Invariant s → RestLaw s → RestLaw t
+pub rest_after : {es : List Event} {s t : State} → Run es s t → HistoryInvariant s → RestLaw s → RestLaw t
 rest_after rests h m = m
 rest_after (goes x r) h m = rest_after r (step_keeps x h) (rest_kept x h m)
 

@@ -23,7 +23,7 @@ use Rattle.history_core.specs.Log.{Entry, record_size, cell, cut, tag_of}
 use Rattle.history_core.specs.Lanes.{lane_back}
 use Rattle.history_core.specs.Device.{view_logged}
 use Rattle.history_core.specs.State.{State, Store, opening}
-use Rattle.history_core.specs.Invariant.{Invariant}
+use Rattle.history_core.specs.Invariant.{HistoryInvariant}
 use Rattle.history_core.specs.Histories.{IsStored}
 use Rattle.history_core.specs.Sound.{WasSound, SoundLaw, ShowsSound, UnsoundStay, UnsoundAreFirst}
 use Rattle.history_core.specs.Steps.{Event, new_entry, stepped, ticked, looked, pool_noting, paged, laned, has_loaded, has_begun, has_read, has_written, has_raised, Step, pools, lanes, writes, notes, logs, enters, reads, loads_end, begins, loads_flushed, raises, adds_hand, loads_hand}
@@ -50,7 +50,7 @@ either_way false x y = y refl
 not_both : {b : Bool} → b ≡ true → b ≡ false → ⊥
 not_both a b = cc
 
-module _ (s : State) (h : Invariant s) (entries : (k : ℕ) (e : Entry) → get_elem? s.log.entries k ≡ some e → WasSound s e.tag) where
+module _ (s : State) (h : HistoryInvariant s) (entries : (k : ℕ) (e : Entry) → get_elem? s.log.entries k ≡ some e → WasSound s e.tag) where
   -- no entry is of a block whose page was not sound
   none_of : (tag : ℕ) → s.known tag ≡ true → is_sound_page (s.origin tag) ≡ false → (k : ℕ) (e : Entry) → get_elem? s.log.entries k ≡ some e → e.tag ≢ tag
   none_of tag known unsound k e at is = not_both (subst (WasSound s) is (entries k e at) known) unsound
@@ -106,7 +106,7 @@ pools_sound s m (pin_steps.joins j v u there other here live free) = let w : Vie
 exclusive_locked : {c : _} → c ≡ Exclusive → c ≡ Unlocked → ⊥
 exclusive_locked a e = cc
 
-pub sound_kept : {e : Event} {s t : State} → Step e s t → Invariant s → SoundLaw s → SoundLaw t
+pub sound_kept : {e : Event} {s t : State} → Step e s t → HistoryInvariant s → SoundLaw s → SoundLaw t
 sound_kept (pools {s = s} (page_steps.cores x) a) h m = record { entries = m.entries; calls = pools_sound s m.calls x }
 sound_kept (pools {s = s} (page_steps.touches i f k v there live inside a around) plain) h m = record { entries = m.entries; calls = calls_same s s.pool.core.views m.calls i v (paged k s.pool f v) there refl }
 sound_kept (lanes {s = s} i q k v there live low a alone) h m = record { entries = m.entries; calls = calls_same s s.pool.core.views m.calls i v (stepped (laned k q v v)) there refl }
@@ -132,7 +132,7 @@ sound_open c store page = record {
 }
 
 -- what shows that a block's page was sound
-pub shows : (s : State) → Invariant s → SoundLaw s → ShowsSound s
+pub shows : (s : State) → HistoryInvariant s → SoundLaw s → ShowsSound s
 shows s h m = record {
   seen = λ i f tag v there below is valid. let x = h.pool.core.grid.cells i v f there below in remembered s h m.entries i f tag v there below is (valid_sound s h m.entries f below ((x.remembers tag is).0).named (x.seen valid));
   copied = λ i f tag v there below is copied. remembered s h m.entries i f tag v there below is (locked_sound s h m.entries i f v there below (by_copy (link v f).copied copied (λ p e. ((h.pool.pages.cells i v f there below).copied p e).right)));
@@ -144,7 +144,7 @@ shows s h m = record {
     by_copy (Some p) there is = is p refl
 
 -- a block whose page was not sound is as it was
-pub stay_untouched : (s : State) → Invariant s → SoundLaw s → UnsoundStay s
+pub stay_untouched : (s : State) → HistoryInvariant s → SoundLaw s → UnsoundStay s
 stay_untouched s h m tag named known unsound = record { unentered = none; is_cell = cell_is; invalid = invalid; done = stored_is.done; stored_is = stored_is.stored_is known ∙ cell_is }
   where
     none : (k : ℕ) (e : Entry) → get_elem? s.log.entries k ≡ some e → e.tag ≢ tag
@@ -182,7 +182,7 @@ cell_first origin (e ∷ es) tag images unsound = let before = put origin e.tag 
     (λ is. absurd (not_both (ap is_sound_page (x ∙ put_at origin e.tag e.image tag is) ∙ images 0 e refl) unsound))
     (λ other. x ∙ put_else origin e.tag e.image tag other)
 
-pub unsound_first : (s : State) → Invariant s → UnsoundAreFirst s
+pub unsound_first : (s : State) → HistoryInvariant s → UnsoundAreFirst s
 unsound_first s h = record {
   cells = λ tag place. cell_first s.origin (cut place s.log.entries) tag (λ k e at. let x = from_cut place s.log.entries k e at in (h.log.images x.0 e x.1).sound);
   last_cells = last_cells;

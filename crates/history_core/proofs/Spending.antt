@@ -15,7 +15,7 @@ use Rattle.history_core.specs.Log.{record_size}
 use Rattle.history_core.specs.Lanes.{lane_back}
 use Rattle.history_core.specs.Device.{view_logged}
 use Rattle.history_core.specs.State.{State, Store, opening}
-use Rattle.history_core.specs.Invariant.{Invariant}
+use Rattle.history_core.specs.Invariant.{HistoryInvariant}
 use Rattle.history_core.specs.Spent.{SpentLaw}
 use Rattle.history_core.specs.Steps.{Event, stepped, ticked, looked, pool_noting, paged, laned, has_loaded, has_begun, has_read, has_written, Step, pools, lanes, writes, notes, logs, enters, reads, loads_end, begins, loads_flushed, raises, adds_hand, loads_hand, Run, rests, goes, has_raised}
 use Rattle.history_core.proofs.Stepping.{step_keeps}
@@ -34,14 +34,14 @@ spent_set views h i w x j u at gone = ⊎_elim (λ (y : (j ≡ i) × (w ≡ u)).
 spent_live : (views : List View) → AllSpent views → (i : ℕ) (w : View) → w.emptied ≡ false → AllSpent (set views i w)
 spent_live views h i w live = spent_set views h i w (λ gone. absurd (live_not gone live))
 
-pools_spent : (s : State) (h : Invariant s) → SpentLaw s → {e : pin_steps.Event} {core' : pins.State} → pin_steps.Step e s.pool.core core' → AllSpent core'.views
+pools_spent : (s : State) (h : HistoryInvariant s) → SpentLaw s → {e : pin_steps.Event} {core' : pins.State} → pin_steps.Step e s.pool.core core' → AllSpent core'.views
 pools_spent s h m (pin_steps.touches i f k v there live inside a around) = spent_live s.pool.core.views m i (pin_kinds.view_after k s.pool.core.partition_of f (s.pool.core.frame f) (link v f) v) live
 pools_spent s h m (pin_steps.turns i p k v there live below a) = spent_live s.pool.core.views m i (view_turned k p (hold v p) v) live
 pools_spent s h m (pin_steps.splits v there room) = let w : View = record v { next = v.next + 1 } in let b : View = new_view v.next s.pool.core.base (length v.links) (length v.partitions) (length v.lanes) in let x = spent_live s.pool.core.views m 0 w (h.pool.core.views.first v there).0 in
     λ j u at gone. ⊎_elim (λ (y : get_elem? (set s.pool.core.views 0 w) j ≡ some u). x j u y gone) (λ (y : (b ≡ u) × (j ≡ length (set s.pool.core.views 0 w))). absurd (live_not gone (ap (λ (z : View). z.emptied) (sym y.0)))) (at_end (set s.pool.core.views 0 w) b u j at)
 pools_spent s h m (pin_steps.joins j v u there other here live free) = spent_set (set s.pool.core.views 0 (joined_view v u)) (spent_live s.pool.core.views m 0 (joined_view v u) (h.pool.core.views.first v there).0) j emptied_view (λ gone. refl)
 
-pub spent_kept : {e : Event} {s t : State} → Step e s t → Invariant s → SpentLaw s → SpentLaw t
+pub spent_kept : {e : Event} {s t : State} → Step e s t → HistoryInvariant s → SpentLaw s → SpentLaw t
 spent_kept (pools {s = s} (page_steps.cores x) a) h m = pools_spent s h m x
 spent_kept (pools {s = s} (page_steps.touches i f k v there live inside a around) plain) h m = spent_live s.pool.core.views m i (paged k s.pool f v) live
 spent_kept (lanes {s = s} i q k v there live low a alone) h m = spent_live s.pool.core.views m i (stepped (laned k q v v)) live
@@ -57,7 +57,7 @@ spent_kept (raises {s = s} i v there live synced) h m = spent_live s.pool.core.v
 spent_kept (adds_hand {s = s} i v there live) h m = spent_live s.pool.core.views m i (ticked v) live
 spent_kept (loads_hand {s = s} i v there live) h m = spent_live s.pool.core.views m i (looked (seen.Hand s.hand) v) live
 
-pub spent_after : {es : List Event} {s t : State} → Run es s t → Invariant s → SpentLaw s → SpentLaw t
+pub spent_after : {es : List Event} {s t : State} → Run es s t → HistoryInvariant s → SpentLaw s → SpentLaw t
 spent_after rests h m = m
 spent_after (goes x r) h m = spent_after r (step_keeps x h) (spent_kept x h m)
 

@@ -42,7 +42,7 @@ use Rattle.history_core.specs.State.{Lane, Device, State, next_hand, stored, sto
 use Rattle.history_core.specs.Lanes as lane_kinds
 use Rattle.history_core.specs.Lanes.{swept_by, LaneKind, LaneAllowed, lane_after, lane_hold_after, lane_shape, lane_part}
 use Rattle.history_core.specs.Homes.{Home, home_of, IsClean, HomeLink, home_shape, home_part, IsUnframed, IsFlushedCell}
-use Rattle.history_core.specs.Invariant.{HistoryLaw, written_of, Invariant}
+use Rattle.history_core.specs.Invariant.{HistoryLaw, written_of, HistoryInvariant}
 use Rattle.history_core.specs.Steps.{Event, IsPlain, PoolAllowed, stepped, ticked, looked, aside, pool_after, pool_noting, CanNoteLaneRead, paged, laned, LaneAlone, CanWrite, MayWriteLane, Notes, new_entry, CanEnter, CanRead, has_loaded, has_read, has_begun, has_written, Step, pools, lanes, writes, notes, enters, reads, loads_end, begins, loads_flushed, raises, adds_hand, loads_hand, logs, Run, rests, goes, has_raised}
 use Rattle.history_core.specs.Device.{LogKind, take_log, leave_log, log_out, append, fail_append, sync_log, fail_sync, log_back, see_down, LogAllowed, device_after, view_logged, log_weigh, log_shape, log_part}
 use Rattle.history_core.proofs.Device.{log_keeps, enter_keeps, end_keeps, synced_all}
@@ -62,13 +62,13 @@ use Rattle.grid.proofs.Sums.{term_le}
 use Rattle.grid.proofs.Grids.{Keeps, Relinks, both_grids, touch, sweep, steady, reblock, grows}
 
 -- the laws of a state, by what they speak of
-pub outer_of : (s : State) → Invariant s → Outer s.known s.origin s.log s.lanes s.lane s.flushed (written_of s) s.device s.pool.core.views
+pub outer_of : (s : State) → HistoryInvariant s → Outer s.known s.origin s.log s.lanes s.lane s.flushed (written_of s) s.device s.pool.core.views
 outer_of s h = record { device = h.device; history = h.history; lanes = h.lanes; wide = h.wide }
 
-pub blocks_of : (s : State) → Invariant s → Blocks s.pool.core.frames s.pool.core.frame s.pool.core.views s.origin s.log s.flushed (home_of s)
+pub blocks_of : (s : State) → HistoryInvariant s → Blocks s.pool.core.frames s.pool.core.frame s.pool.core.views s.origin s.log s.flushed (home_of s)
 blocks_of s h = record { homes = h.homes; unframed = h.unframed; flushed_cells = h.flushed_cells }
 
-knows : (s : State) → Invariant s → Grid home_shape known s.pool.core.frames s.pool.core.frame (home_of s) s.pool.core.views
+knows : (s : State) → HistoryInvariant s → Grid home_shape known s.pool.core.frames s.pool.core.frame (home_of s) s.pool.core.views
 knows s h = let g = page_stepping.knows s.pool h.pool in both_grids (record { columns = g.columns; cells = g.cells }) h.homes
 
 -- what is known of each block with these pages after the log, and these lanes
@@ -76,8 +76,8 @@ abbrev homes_with : State → (ℕ → Option Page) → (ℕ → Lane) → ℕ �
 homes_with s logged lane tag = record { block = block_of logged tag; known = s.known tag; stored = (lane (s.lane_of tag)).stored tag; stored_upto = (lane (s.lane_of tag)).stored_upto tag; failed = (lane (s.lane_of tag)).failed tag }
 
 -- a state with another buffer pool and other lanes, where the log stays
-assemble : (s : State) → Invariant s → (pool' : page.State) (lane' : ℕ → Lane) → page_law.Invariant pool' → ((tag : ℕ) → s.known tag ≡ true → pool'.logged tag ≡ Some (cell s.origin s.log.entries tag)) → ((tag : ℕ) → (lane' (s.lane_of tag)).known ≡ s.known tag) → pool'.core.base ≡ s.pool.core.base
-    → Outer s.known s.origin s.log s.lanes lane' s.flushed (written_of s) s.device pool'.core.views → Blocks pool'.core.frames pool'.core.frame pool'.core.views s.origin s.log s.flushed (homes_with s pool'.logged lane') → Invariant (record s { pool = pool'; lane = lane' })
+assemble : (s : State) → HistoryInvariant s → (pool' : page.State) (lane' : ℕ → Lane) → page_law.PageInvariant pool' → ((tag : ℕ) → s.known tag ≡ true → pool'.logged tag ≡ Some (cell s.origin s.log.entries tag)) → ((tag : ℕ) → (lane' (s.lane_of tag)).known ≡ s.known tag) → pool'.core.base ≡ s.pool.core.base
+    → Outer s.known s.origin s.log s.lanes lane' s.flushed (written_of s) s.device pool'.core.views → Blocks pool'.core.frames pool'.core.frame pool'.core.views s.origin s.log s.flushed (homes_with s pool'.logged lane') → HistoryInvariant (record s { pool = pool'; lane = lane' })
 assemble s h pool' lane' law logged known kept outer blocks = record {
   pool = law;
   logged = logged;
@@ -101,8 +101,8 @@ assemble s h pool' lane' law logged known kept outer blocks = record {
 }
 
 -- and where each block's page after the log stays
-assemble_same : (s : State) → Invariant s → (pool' : page.State) (lane' : ℕ → Lane) → page_law.Invariant pool' → pool'.logged ≡ s.pool.logged → ((tag : ℕ) → (lane' (s.lane_of tag)).known ≡ s.known tag) → pool'.core.base ≡ s.pool.core.base
-    → Outer s.known s.origin s.log s.lanes lane' s.flushed (written_of s) s.device pool'.core.views → Blocks pool'.core.frames pool'.core.frame pool'.core.views s.origin s.log s.flushed (homes_with s s.pool.logged lane') → Invariant (record s { pool = pool'; lane = lane' })
+assemble_same : (s : State) → HistoryInvariant s → (pool' : page.State) (lane' : ℕ → Lane) → page_law.PageInvariant pool' → pool'.logged ≡ s.pool.logged → ((tag : ℕ) → (lane' (s.lane_of tag)).known ≡ s.known tag) → pool'.core.base ≡ s.pool.core.base
+    → Outer s.known s.origin s.log s.lanes lane' s.flushed (written_of s) s.device pool'.core.views → Blocks pool'.core.frames pool'.core.frame pool'.core.views s.origin s.log s.flushed (homes_with s s.pool.logged lane') → HistoryInvariant (record s { pool = pool'; lane = lane' })
 assemble_same s h pool' lane' law same known kept outer blocks = assemble s h pool' lane' law (λ tag is. (λ j. same j tag) ∙ h.logged tag is) known kept outer
     (subst (λ (g : ℕ → Option Page). Blocks pool'.core.frames pool'.core.frame pool'.core.views s.origin s.log s.flushed (homes_with s g lane')) (sym same) blocks)
 
@@ -149,10 +149,10 @@ still_known (lane_kinds.fail_write f tag p faults) ln = refl
 still_known (lane_kinds.fail_sync faults) ln = refl
 still_known _ ln = refl
 
-known_after : (s : State) → Invariant s → (k : LaneKind) (q tag : ℕ) → (put s.lane q (lane_after k (s.lane q)) (s.lane_of tag)).known ≡ s.known tag
+known_after : (s : State) → HistoryInvariant s → (k : LaneKind) (q tag : ℕ) → (put s.lane q (lane_after k (s.lane q)) (s.lane_of tag)).known ≡ s.known tag
 known_after s h k q tag = lane_put (λ (x : Lane). x.known) s.lane q (lane_after k (s.lane q)) (still_known k (s.lane q)) (s.lane_of tag) ∙ h.known tag
 
-module _ (s : State) (h : Invariant s) where
+module _ (s : State) (h : HistoryInvariant s) where
   abbrev views : List View
   views = s.pool.core.views
 
@@ -191,7 +191,7 @@ module _ (s : State) (h : Invariant s) where
   fresh i f _ v there a around = tt
 
   -- a step of a kind of `pin_core` at a frame
-  pins_step : (i f : ℕ) (k : pin_kinds.Kind) (v : View) → get_elem? views i ≡ some v → v.emptied ≡ false → f < n → pin_kinds.Allowed k (frame f) (link v f) → pin_steps.AllowedAround k s.pool.core v f → Invariant (record s { pool = record s.pool { core = pin_steps.state_after k s.pool.core i f v } })
+  pins_step : (i f : ℕ) (k : pin_kinds.Kind) (v : View) → get_elem? views i ≡ some v → v.emptied ≡ false → f < n → pin_kinds.Allowed k (frame f) (link v f) → pin_steps.AllowedAround k s.pool.core v f → HistoryInvariant (record s { pool = record s.pool { core = pin_steps.state_after k s.pool.core i f v } })
   pins_step i f k v there live inside a around = let w : View = pin_stepping.after k s.pool.core f v in let fr : Frame = pin_kinds.frame_after k (frame f) in let l : Link = pin_kinds.link_after k (frame f) (link v f) in
       let law = page_stepping.step_keeps (page_steps.cores (pin_steps.touches i f k v there live inside a around)) h.pool in
       assemble_same s h (record s.pool { core = pin_steps.state_after k s.pool.core i f v }) s.lane law refl h.known refl (outer_same s.known s.origin s.log s.lanes s.lane s.flushed (written_of s) s.device views (outer_of s h) i v w there (record { calls = refl; front = refl; joined = refl; flushed = refl; emptied = refl; number = refl; kept = refl }) refl refl refl refl)
@@ -223,7 +223,7 @@ module _ (s : State) (h : Invariant s) where
     }
 
   -- a step of a plain kind of `page_core`
-  page_step : (i f : ℕ) (k : Kind) (v : View) → get_elem? views i ≡ some v → v.emptied ≡ false → f < n → Allowed k (block_of s.pool.logged (frame f).tag) (frame f) (link v f) → page_steps.AllowedAround k v f → IsPlain k → Invariant (record s { pool = page_steps.state_after k s.pool i f v })
+  page_step : (i f : ℕ) (k : Kind) (v : View) → get_elem? views i ≡ some v → v.emptied ≡ false → f < n → Allowed k (block_of s.pool.logged (frame f).tag) (frame f) (link v f) → page_steps.AllowedAround k v f → IsPlain k → HistoryInvariant (record s { pool = page_steps.state_after k s.pool i f v })
   page_step i f k v there live inside a around plain = let stays = plain_block k (block_of s.pool.logged (frame f).tag) plain in let w : View = paged k s.pool f v in
       assemble_same s h (page_steps.state_after k s.pool i f v) s.lane (page_stepping.step_keeps (page_steps.touches i f k v there live inside a around) h.pool) (logged_same i f k v there live inside stays) h.known refl
       (outer_same s.known s.origin s.log s.lanes s.lane s.flushed (written_of s) s.device views (outer_of s h) i v w there (record { calls = refl; front = refl; joined = refl; flushed = refl; emptied = refl; number = refl; kept = refl }) refl refl refl refl)
@@ -234,7 +234,7 @@ module _ (s : State) (h : Invariant s) where
   blocks_aside i v w there e = record { homes = steady home_shape home_part n frame (home_of s) views h.homes i v w there refl (λ g. ap (λ (x : List Link). link (record w { links = x }) g) e); unframed = h.unframed; flushed_cells = h.flushed_cells }
 
   -- a step of `pin_core` that is no step at a frame
-  others_step : {e : pin_steps.Event} {core' : pins.State} → pin_steps.Step e s.pool.core core' → Invariant (record s { pool = record s.pool { core = core' } })
+  others_step : {e : pin_steps.Event} {core' : pins.State} → pin_steps.Step e s.pool.core core' → HistoryInvariant (record s { pool = record s.pool { core = core' } })
   others_step (pin_steps.touches i f k v there live inside a around) = pins_step i f k v there live inside a around
   others_step (pin_steps.turns i p k v there live below a) = let x : pin_steps.Step (pin_steps.turn i p k) s.pool.core (pin_steps.state_turned k s.pool.core i p v) = pin_steps.turns i p k v there live below a in let w : View = view_turned k p (hold v p) v in
       assemble_same s h (record s.pool { core = pin_steps.state_turned k s.pool.core i p v }) s.lane (page_stepping.step_keeps (page_steps.cores x) h.pool) refl h.known refl
@@ -260,12 +260,12 @@ module _ (s : State) (h : Invariant s) where
         flushed_cells = h.flushed_cells;
       })
 
-pools_step : (s : State) → Invariant s → {e : page_steps.Event} {pool' : page.State} → page_steps.Step e s.pool pool' → PoolAllowed e → Invariant (record s { pool = pool' })
+pools_step : (s : State) → HistoryInvariant s → {e : page_steps.Event} {pool' : page.State} → page_steps.Step e s.pool pool' → PoolAllowed e → HistoryInvariant (record s { pool = pool' })
 pools_step s h (page_steps.cores x) a = others_step s h x
 pools_step s h (page_steps.touches i f k v there live inside a around) plain = page_step s h i f k v there live inside a around plain
 
 -- the laws of the calls and the lanes after a step at a lane
-laned_outer : (s : State) (h : Invariant s) (i q : ℕ) (k : LaneKind) (v w : View) → get_elem? s.pool.core.views i ≡ some v → v.emptied ≡ false → q < s.lanes → LaneAllowed k (s.lane q) (lane_hold v q) → SameCalls v w → w.emptied ≡ v.emptied → w.lanes ≡ set v.lanes q (lane_hold_after k v.flushed (swept_by v) (lane_hold v q)) → w.log ≡ v.log → w.saw_down ≡ v.saw_down
+laned_outer : (s : State) (h : HistoryInvariant s) (i q : ℕ) (k : LaneKind) (v w : View) → get_elem? s.pool.core.views i ≡ some v → v.emptied ≡ false → q < s.lanes → LaneAllowed k (s.lane q) (lane_hold v q) → SameCalls v w → w.emptied ≡ v.emptied → w.lanes ≡ set v.lanes q (lane_hold_after k v.flushed (swept_by v) (lane_hold v q)) → w.log ≡ v.log → w.saw_down ≡ v.saw_down
     → Outer s.known s.origin s.log s.lanes (put s.lane q (lane_after k (s.lane q))) s.flushed (written_of s) s.device (set s.pool.core.views i w)
 laned_outer s h i q k v w there live low a same emptied holds unlogged saw = record {
   device = steady log_shape log_part 1 (λ _. s.device) (λ _. written_of s) s.pool.core.views h.device i v w there saw (λ g. unlogged);
@@ -275,7 +275,7 @@ laned_outer s h i q k v w there live low a same emptied holds unlogged saw = rec
 }
 
 -- The kind k notes something at the frame f, where `logged` is what is known of the blocks' pages by then
-module _ (s : State) (h : Invariant s) (i q f : ℕ) (noted : Bool) (k : Kind) (v : View) (there : get_elem? s.pool.core.views i ≡ some v) (live : v.emptied ≡ false) (low : q < s.lanes) (inside : f < s.pool.core.frames) (back : LaneAllowed (lane_kinds.lane_back noted) (s.lane q) (lane_hold v q)) (logged : ℕ → Option Page) where
+module _ (s : State) (h : HistoryInvariant s) (i q f : ℕ) (noted : Bool) (k : Kind) (v : View) (there : get_elem? s.pool.core.views i ≡ some v) (live : v.emptied ≡ false) (low : q < s.lanes) (inside : f < s.pool.core.frames) (back : LaneAllowed (lane_kinds.lane_back noted) (s.lane q) (lane_hold v q)) (logged : ℕ → Option Page) where
   abbrev noting : page.State
   noting = record s.pool { logged = logged }
 
@@ -285,10 +285,10 @@ module _ (s : State) (h : Invariant s) (i q f : ℕ) (noted : Bool) (k : Kind) (
   abbrev noting_block : Block
   noting_block = block_of logged noting_frame.tag
 
-  noted_keeps : page_law.Invariant noting → ((tag : ℕ) → s.known tag ≡ true → logged tag ≡ s.pool.logged tag) → ((tag : ℕ) → tag ≢ noting_frame.tag → homes_with s logged s.lane tag ≡ home_of s tag) → ((g : ℕ) → g < s.pool.core.frames → g ≢ f → homes_with s logged s.lane (s.pool.core.frame g).tag ≡ home_of s (s.pool.core.frame g).tag)
+  noted_keeps : page_law.PageInvariant noting → ((tag : ℕ) → s.known tag ≡ true → logged tag ≡ s.pool.logged tag) → ((tag : ℕ) → tag ≢ noting_frame.tag → homes_with s logged s.lane tag ≡ home_of s tag) → ((g : ℕ) → g < s.pool.core.frames → g ≢ f → homes_with s logged s.lane (s.pool.core.frame g).tag ≡ home_of s (s.pool.core.frame g).tag)
       → Allowed k noting_block noting_frame (link v f) → page_steps.AllowedAround k v f → block_after k noting_block ≡ noting_block
       → Keeps home_shape known home_part (home_of s noting_frame.tag) (homes_with s logged s.lane noting_frame.tag) tt tt noting_frame (link v f) (frame_after k noting_block noting_frame) (link_after k noting_block noting_frame (link v f))
-      → Invariant (record s { pool = pool_after k noting i f (laned (lane_kinds.lane_back noted) q v (paged k noting f v)); lane = put s.lane q (s.lane q) })
+      → HistoryInvariant (record s { pool = pool_after k noting i f (laned (lane_kinds.lane_back noted) q v (paged k noting f v)); lane = put s.lane q (s.lane q) })
   noted_keeps law same free else a around stays keeps = let fr : Frame = frame_after k noting_block noting_frame in let w : View = laned (lane_kinds.lane_back noted) q v (paged k noting f v) in let views = s.pool.core.views in
       let is : logged_after k logged noting_frame.tag ≡ logged = (λ j g. put_same logged noting_frame.tag (block_after k noting_block).logged g (ap (λ (x : Block). x.logged) stays) j) in
       let here : SameHere (paged k noting f v) w = record { backend = record { emptied = refl; number = refl; next = refl; links = refl; partitions = refl }; joined = refl; links = refl; partitions = refl } in
@@ -309,21 +309,21 @@ pub for_input : (b : Block) (fr : Frame) (l : Link) (t : pin_tallies.Tally → �
 for_input b fr l t c d e = let x = d.input e in (x.0.named, grind (arith, c, x.1), x.1)
 
 -- what a lane gave is noted at a frame
-module _ (s : State) (h : Invariant s) (i q f : ℕ) (noted : Bool) (v : View) (there : get_elem? s.pool.core.views i ≡ some v) (live : v.emptied ≡ false) (low : q < s.lanes) (inside : f < s.pool.core.frames) (back : LaneAllowed (lane_kinds.lane_back noted) (s.lane q) (lane_hold v q)) (p : Page) (x : CanNoteLaneRead s q f p (lane_hold v q) (link v f)) where
+module _ (s : State) (h : HistoryInvariant s) (i q f : ℕ) (noted : Bool) (v : View) (there : get_elem? s.pool.core.views i ≡ some v) (live : v.emptied ≡ false) (low : q < s.lanes) (inside : f < s.pool.core.frames) (back : LaneAllowed (lane_kinds.lane_back noted) (s.lane q) (lane_hold v q)) (p : Page) (x : CanNoteLaneRead s q f p (lane_hold v q) (link v f)) where
   abbrev read_frame : Frame
   read_frame = s.pool.core.frame f
 
   is_input : (read_frame.tag ≢ no_tag) × (read_frame.word.dirty ≡ false) × (read_frame.word.valid ≡ false)
   is_input = for_input (block_of s.pool.logged read_frame.tag) read_frame (link v f) (tallies frame_shape s.pool.core.views f) (h.pool.core.grid.columns f inside) (h.pool.pages.cells i v f there inside) x.right
 
-  note_known : s.known read_frame.tag ≡ true → Invariant (record s { pool = pool_after (note_read p) s.pool i f (laned (lane_kinds.lane_back noted) q v (paged (note_read p) s.pool f v)); lane = put s.lane q (s.lane q) })
+  note_known : s.known read_frame.tag ≡ true → HistoryInvariant (record s { pool = pool_after (note_read p) s.pool i f (laned (lane_kinds.lane_back noted) q v (paged (note_read p) s.pool f v)); lane = put s.lane q (s.lane q) })
   note_known e = let hm = home_of s read_frame.tag in let clean = (h.homes.columns f inside).clean is_input.0 is_input.1 in
       let held = (h.lanes.cells i v q there low).hold.read read_frame.tag p x.was_read (ap (λ (z : ℕ). (s.lane z).known) (sym x.lane) ∙ h.known read_frame.tag ∙ e) in let is : hm.stored ≡ p = ap (λ (z : ℕ). (s.lane z).stored read_frame.tag) x.lane ∙ held in
       noted_keeps s h i q f noted (note_read p) v there live low inside back s.pool.logged h.pool (λ tag z. refl) (λ tag z. refl) (λ g below other. refl) (record { right = x.right; fresh = x.fresh; given = λ r z. same_Some r hm.stored (sym z ∙ clean.stored e) ∙ is }) tt refl
       (homes.note_read_keeps hm read_frame (link v f) p hm refl refl (λ z. (z, refl)) x.right)
 
   -- where the contents aren't known the block's page is forgotten
-  note_unknown : s.known read_frame.tag ≡ false → Invariant (record s { pool = pool_after (note_read p) (record s.pool { logged = put s.pool.logged read_frame.tag None }) i f (laned (lane_kinds.lane_back noted) q v (paged (note_read p) (record s.pool { logged = put s.pool.logged read_frame.tag None }) f v)); lane = put s.lane q (s.lane q) })
+  note_unknown : s.known read_frame.tag ≡ false → HistoryInvariant (record s { pool = pool_after (note_read p) (record s.pool { logged = put s.pool.logged read_frame.tag None }) i f (laned (lane_kinds.lane_back noted) q v (paged (note_read p) (record s.pool { logged = put s.pool.logged read_frame.tag None }) f v)); lane = put s.lane q (s.lane q) })
   note_unknown e = let tag = read_frame.tag in let g : ℕ → Option Page = put s.pool.logged tag None in let hm = home_of s tag in
       let else : (t : ℕ) → t ≢ tag → homes_with s g s.lane t ≡ home_of s t = (λ t other. ap (λ (o : Option Page). record (home_of s t) { block = record { logged = o } }) (put_else s.pool.logged tag None t other)) in
       noted_keeps s h i q f noted (note_read p) v there live low inside back g (forgets s.pool f h.pool inside is_input.0 is_input.2) (λ t z. put_else s.pool.logged tag None t (λ same. absurd (apart (sym (ap s.known same) ∙ z) e))) else
@@ -334,13 +334,13 @@ module _ (s : State) (h : Invariant s) (i q f : ℕ) (noted : Bool) (v : View) (
       apart : {b : Bool} → b ≡ true → b ≡ false → ⊥
       apart y n = cc
 
-  note_either : (b : Bool) → s.known read_frame.tag ≡ b → Invariant (record s { pool = pool_after (note_read p) (record s.pool { logged = cond b s.pool.logged (put s.pool.logged read_frame.tag None) }) i f (laned (lane_kinds.lane_back noted) q v (paged (note_read p) (record s.pool { logged = cond b s.pool.logged (put s.pool.logged read_frame.tag None) }) f v)); lane = put s.lane q (s.lane q) })
+  note_either : (b : Bool) → s.known read_frame.tag ≡ b → HistoryInvariant (record s { pool = pool_after (note_read p) (record s.pool { logged = cond b s.pool.logged (put s.pool.logged read_frame.tag None) }) i f (laned (lane_kinds.lane_back noted) q v (paged (note_read p) (record s.pool { logged = cond b s.pool.logged (put s.pool.logged read_frame.tag None) }) f v)); lane = put s.lane q (s.lane q) })
   note_either true e = note_known e
   note_either false e = note_unknown e
 
 -- what comes back is noted at a frame
-notes_step : (s : State) → Invariant s → (i q f : ℕ) (noted : Bool) (k : Kind) (v : View) → get_elem? s.pool.core.views i ≡ some v → v.emptied ≡ false → q < s.lanes → f < s.pool.core.frames → LaneAllowed (lane_kinds.lane_back noted) (s.lane q) (lane_hold v q) → Notes k s q f (lane_hold v q) (link v f)
-    → Invariant (record s { pool = pool_after k (pool_noting k s f) i f (laned (lane_kinds.lane_back noted) q v (paged k (pool_noting k s f) f v)); lane = put s.lane q (s.lane q) })
+notes_step : (s : State) → HistoryInvariant s → (i q f : ℕ) (noted : Bool) (k : Kind) (v : View) → get_elem? s.pool.core.views i ≡ some v → v.emptied ≡ false → q < s.lanes → f < s.pool.core.frames → LaneAllowed (lane_kinds.lane_back noted) (s.lane q) (lane_hold v q) → Notes k s q f (lane_hold v q) (link v f)
+    → HistoryInvariant (record s { pool = pool_after k (pool_noting k s f) i f (laned (lane_kinds.lane_back noted) q v (paged k (pool_noting k s f) f v)); lane = put s.lane q (s.lane q) })
 notes_step s h i q f noted (note_read p) v there live low inside back x = note_either s h i q f noted v there live low inside back p x (s.known (s.pool.core.frame f).tag) refl
 notes_step s h i q f noted (note_write true) v there live low inside back (p, x) = let fr = s.pool.core.frame f in let hm = home_of s fr.tag in let held = (h.lanes.cells i v q there low).hold.written f fr.tag p x.was_written in
     noted_keeps s h i q f noted (note_write true) v there live low inside back s.pool.logged h.pool (λ tag z. refl) (λ tag z. refl) (λ g below other. refl) x.right tt refl
@@ -370,8 +370,8 @@ notes_step s h i q f noted kinds.need_checkpoint v there live low inside back x 
 notes_step s h i q f noted (kinds.end_io end) v there live low inside back x = absurd x
 
 -- a step at a lane that touches no frame
-lanes_step : (s : State) → Invariant s → (i q : ℕ) (k : LaneKind) (v : View) → get_elem? s.pool.core.views i ≡ some v → v.emptied ≡ false → q < s.lanes → LaneAllowed k (s.lane q) (lane_hold v q) → LaneAlone k s q (lane_hold v q)
-    → Invariant (record s { pool = aside s.pool i (stepped (laned k q v v)); lane = put s.lane q (lane_after k (s.lane q)) })
+lanes_step : (s : State) → HistoryInvariant s → (i q : ℕ) (k : LaneKind) (v : View) → get_elem? s.pool.core.views i ≡ some v → v.emptied ≡ false → q < s.lanes → LaneAllowed k (s.lane q) (lane_hold v q) → LaneAlone k s q (lane_hold v q)
+    → HistoryInvariant (record s { pool = aside s.pool i (stepped (laned k q v v)); lane = put s.lane q (lane_after k (s.lane q)) })
 lanes_step s h i q k v there live inside a alone = let w : View = stepped (laned k q v v) in let views = s.pool.core.views in let holds = no_write_holds k s q (lane_hold v q) (s.lane q) alone in
     let same : SameHere v w = record { backend = record { emptied = refl; number = refl; next = refl; links = refl; partitions = refl }; joined = refl; links = refl; partitions = refl } in
     assemble_same s h (aside s.pool i w) (put s.lane q (lane_after k (s.lane q))) (pool_aside s.pool i v w h.pool there same) refl (known_after s h k q) refl
@@ -379,7 +379,7 @@ lanes_step s h i q k v there live inside a alone = let w : View = stepped (laned
     (subst (λ (x : ℕ → Home). Blocks s.pool.core.frames s.pool.core.frame (set views i w) s.origin s.log s.flushed x) (homes_same s s.pool.logged q (lane_after k (s.lane q)) holds) (blocks_aside s h i v w there refl))
 
 -- The page p of the frame f goes to its lane q, or fails to
-module _ (s : State) (h : Invariant s) (i q f : ℕ) (v : View) (there : get_elem? s.pool.core.views i ≡ some v) (live : v.emptied ≡ false) (low : q < s.lanes) (inside : f < s.pool.core.frames) (tag : ℕ) (x : CanWrite s q f tag (s.pool.core.frame f).page (lane_hold v q) (link v f)) where
+module _ (s : State) (h : HistoryInvariant s) (i q f : ℕ) (v : View) (there : get_elem? s.pool.core.views i ≡ some v) (live : v.emptied ≡ false) (low : q < s.lanes) (inside : f < s.pool.core.frames) (tag : ℕ) (x : CanWrite s q f tag (s.pool.core.frame f).page (lane_hold v q) (link v f)) where
   abbrev written_frame : Frame
   written_frame = s.pool.core.frame f
 
@@ -436,7 +436,7 @@ module _ (s : State) (h : Invariant s) (i q f : ℕ) (v : View) (there : get_ele
       failed = (written_at (λ (y : Lane). y.failed) done fails tag ∙ put_here (failed s) tag done) j;
     }
 
-    pub write_keeps : Invariant (record s { pool = pool_after begin_write s.pool i f (laned k q v (paged begin_write s.pool f v)); lane = lane' })
+    pub write_keeps : HistoryInvariant (record s { pool = pool_after begin_write s.pool i f (laned k q v (paged begin_write s.pool f v)); lane = lane' })
     write_keeps = let b : Block = block_of s.pool.logged written_frame.tag in let w : View = laned k q v (paged begin_write s.pool f v) in let views = s.pool.core.views in let a : Allowed begin_write b written_frame (link v f) = record { right = x.right.right } in
         let same : SameHere (paged begin_write s.pool f v) w = record { backend = record { emptied = refl; number = refl; next = refl; links = refl; partitions = refl }; joined = refl; links = refl; partitions = refl } in
         assemble_same s h (pool_after begin_write s.pool i f w) lane' (pool_touched s.pool h.pool i f begin_write v w there live inside a tt same) (logged_same s h i f begin_write v there live inside refl) (known_after s h k q) refl
@@ -452,8 +452,8 @@ module _ (s : State) (h : Invariant s) (i q f : ℕ) (v : View) (there : get_ele
               (λ (o : t ≢ tag). subst (IsFlushedCell s.origin s.log s.flushed t) (sym (else t o)) (h.flushed_cells t));
         })
 
-writes_step : (s : State) → Invariant s → (i q f : ℕ) (k : LaneKind) (v : View) → get_elem? s.pool.core.views i ≡ some v → v.emptied ≡ false → q < s.lanes → f < s.pool.core.frames → LaneAllowed k (s.lane q) (lane_hold v q) → MayWriteLane k s q f (lane_hold v q) (link v f)
-    → Invariant (record s { pool = pool_after begin_write s.pool i f (laned k q v (paged begin_write s.pool f v)); lane = put s.lane q (lane_after k (s.lane q)) })
+writes_step : (s : State) → HistoryInvariant s → (i q f : ℕ) (k : LaneKind) (v : View) → get_elem? s.pool.core.views i ≡ some v → v.emptied ≡ false → q < s.lanes → f < s.pool.core.frames → LaneAllowed k (s.lane q) (lane_hold v q) → MayWriteLane k s q f (lane_hold v q) (link v f)
+    → HistoryInvariant (record s { pool = pool_after begin_write s.pool i f (laned k q v (paged begin_write s.pool f v)); lane = put s.lane q (lane_after k (s.lane q)) })
 writes_step s h i q f (lane_kinds.write_block g tag p) v there live low inside back (at, x) = let page = (s.pool.core.frame f).page in let upto_of = (λ (z : Page). max ((s.lane q).stored_upto tag) (lsn_of z)) in
     let y : CanWrite s q f tag page (lane_hold v q) (link v f) = record { tagged = x.tagged; lane = x.lane; page = refl; right = x.right; log_first = subst (λ (z : Page). lsn_of z ≤ (lane_hold v q).flushed) (sym x.page) x.log_first } in
     write_keeps s h i q f v there live low inside tag y (lane_kinds.write_block g tag p) p (upto_of p) false back refl refl refl (subst (λ (z : Page). IsFlushedCell s.origin s.log s.flushed tag (record (home_of s tag) { stored = z; stored_upto = upto_of z; failed = false })) x.page (is_flushed s h i q f v there live low inside tag y back.out))
@@ -473,7 +473,7 @@ copied_is_logged : (b : Block) (fr : Frame) (l : Link) (tag : ℕ) (p : Page) �
 copied_is_logged _ _ _ tag p c d a = ((c.copied p a.copied).is_logged, (d.remembers tag a.remembered).1)
 
 -- a state where a view changes beside all that the pool and the lanes know of it
-with_view : (s : State) (h : Invariant s) (i : ℕ) (v w : View) → get_elem? s.pool.core.views i ≡ some v → SameHere v w → w.lanes ≡ v.lanes → w.log ≡ v.log → w.saw_down ≡ v.saw_down → HistoryLaw s.known s.origin s.log s.flushed (set s.pool.core.views i w) → Invariant (record s { pool = aside s.pool i w })
+with_view : (s : State) (h : HistoryInvariant s) (i : ℕ) (v w : View) → get_elem? s.pool.core.views i ≡ some v → SameHere v w → w.lanes ≡ v.lanes → w.log ≡ v.log → w.saw_down ≡ v.saw_down → HistoryLaw s.known s.origin s.log s.flushed (set s.pool.core.views i w) → HistoryInvariant (record s { pool = aside s.pool i w })
 with_view s h i v w there same holds unlogged saw history = assemble_same s h (aside s.pool i w) s.lane (pool_aside s.pool i v w h.pool there same) refl h.known refl
     (record {
       device = steady log_shape log_part 1 (λ _. s.device) (λ _. written_of s) s.pool.core.views h.device i v w there saw (λ g. unlogged);
@@ -483,7 +483,7 @@ with_view s h i v w there same holds unlogged saw history = assemble_same s h (a
     })
     (blocks_aside s h i v w there same.links)
 
-reads_step : (s : State) → Invariant s → (i f tag : ℕ) (p : Page) (v : View) → get_elem? s.pool.core.views i ≡ some v → f < s.pool.core.frames → CanRead tag p (link v f) → Invariant (record s { pool = aside s.pool i (looked (seen.LogEnd s.end) (has_read s.end tag p v)) })
+reads_step : (s : State) → HistoryInvariant s → (i f tag : ℕ) (p : Page) (v : View) → get_elem? s.pool.core.views i ≡ some v → f < s.pool.core.frames → CanRead tag p (link v f) → HistoryInvariant (record s { pool = aside s.pool i (looked (seen.LogEnd s.end) (has_read s.end tag p v)) })
 reads_step s h i f tag p v there inside a = let w : View = looked (seen.LogEnd s.end) (has_read s.end tag p v) in
     let x = copied_is_logged (block_of s.pool.logged (s.pool.core.frame f).tag) (s.pool.core.frame f) (link v f) tag p (h.pool.pages.cells i v f there inside) (h.pool.core.grid.cells i v f there inside) a in
     let is : s.known tag ≡ true → p ≡ cell s.origin s.log.entries tag = (λ known. sym (x.0 (cell s.origin s.log.entries tag) (ap s.pool.logged x.1 ∙ h.logged tag known))) in
@@ -491,7 +491,7 @@ reads_step s h i f tag p v there inside a = let w : View = looked (seen.LogEnd s
     (history_read s.known s.origin s.log s.flushed s.pool.core.views h.history h.log i v w there tag p is (new_entry s 0 tag p) (ap (λ (z : ℕ). v.calls ++ Read v.number tag p z ∷ []) h.ends) h.ends refl refl refl refl)
 
 -- the flushed position rises to the log's end, whose bytes are durable
-raised_state : (t : State) → Invariant t → length (log_bytes t.names t.log) ≤ t.device.synced → Invariant (record t { flushed = max t.flushed t.end })
+raised_state : (t : State) → HistoryInvariant t → length (log_bytes t.names t.log) ≤ t.device.synced → HistoryInvariant (record t { flushed = max t.flushed t.end })
 raised_state t k durable = let more : t.flushed ≤ max t.flushed t.end = omega arith in record {
   pool = k.pool;
   logged = k.logged;
@@ -514,7 +514,7 @@ raised_state t k durable = let more : t.flushed ≤ max t.flushed t.end = omega 
   flushed_cells = λ tag. let x = k.flushed_cells tag in record { based = x.based; within = (let y = x.within in omega arith); is_cell = x.is_cell };
 }
 
-raises_step : (s : State) → Invariant s → (i : ℕ) (v : View) → get_elem? s.pool.core.views i ≡ some v → v.log.synced ≡ true → Invariant (record s { pool = aside s.pool i (has_raised s.end v); flushed = max s.flushed s.end })
+raises_step : (s : State) → HistoryInvariant s → (i : ℕ) (v : View) → get_elem? s.pool.core.views i ≡ some v → v.log.synced ≡ true → HistoryInvariant (record s { pool = aside s.pool i (has_raised s.end v); flushed = max s.flushed s.end })
 raises_step s h i v there synced = raised_state (record s { pool = aside s.pool i (has_raised s.end v) }) (with_view s h i v (has_raised s.end v) there (record { backend = record { emptied = refl; number = refl; next = refl; links = refl; partitions = refl }; joined = refl; links = refl; partitions = refl }) refl refl refl (history_same s.known s.origin s.log s.flushed s.pool.core.views h.history i v (has_raised s.end v) there (record { calls = refl; front = refl; joined = refl; flushed = refl; emptied = refl; number = refl; kept = refl })))
     (synced_all (written_of s) s.device v.saw_down v.log (tallies log_shape s.pool.core.views 0) (h.device.columns 0 (lit< tt)) (h.device.cells i v 0 there (lit< tt)) (λ k. term_le (λ (u : View). log_weigh k u.log) s.pool.core.views i v there) synced)
 
@@ -531,7 +531,7 @@ durable_later (log_back noted) end d h a low = omega arith
 durable_later see_down end d h a low = omega arith
 
 -- a step at the log
-logs_step : (s : State) → Invariant s → (i : ℕ) (k : LogKind) (v : View) → get_elem? s.pool.core.views i ≡ some v → LogAllowed k s.device v.log → Invariant (record s { pool = aside s.pool i (view_logged k v); device = device_after k s.end s.device })
+logs_step : (s : State) → HistoryInvariant s → (i : ℕ) (k : LogKind) (v : View) → get_elem? s.pool.core.views i ≡ some v → LogAllowed k s.device v.log → HistoryInvariant (record s { pool = aside s.pool i (view_logged k v); device = device_after k s.end s.device })
 logs_step s h i k v there a = let w : View = view_logged k v in let views = s.pool.core.views in let later = durable_later k s.end s.device v.log a (h.device.columns 0 (lit< tt)).synced in
     let same : SameHere v w = record { backend = record { emptied = refl; number = refl; next = refl; links = refl; partitions = refl }; joined = refl; links = refl; partitions = refl } in let blocks = blocks_aside s h i v w there refl in record {
       pool = pool_aside s.pool i v w h.pool there same;
@@ -556,7 +556,7 @@ logs_step s h i k v there a = let w : View = view_logged k v in let views = s.po
     }
 
 -- An entry of the page p of the frame f is made
-module _ (s : State) (h : Invariant s) (i f : ℕ) (p : Page) (v : View) (there : get_elem? s.pool.core.views i ≡ some v) (live : v.emptied ≡ false) (inside : f < s.pool.core.frames) (x : CanEnter s f p v) where
+module _ (s : State) (h : HistoryInvariant s) (i f : ℕ) (p : Page) (v : View) (there : get_elem? s.pool.core.views i ≡ some v) (live : v.emptied ≡ false) (inside : f < s.pool.core.frames) (x : CanEnter s f p v) where
   abbrev old : Frame
   old = s.pool.core.frame f
 
@@ -595,7 +595,7 @@ module _ (s : State) (h : Invariant s) (i f : ℕ) (p : Page) (v : View) (there 
       (λ e. put_at s.pool.logged tag_of (Some p) t e ∙ ap Some (sym (more ∙ put_at (cell s.origin s.log.entries) tag_of p t e)))
       (λ o. put_else s.pool.logged tag_of (Some p) t o ∙ h.logged t known ∙ ap Some (sym (more ∙ put_else (cell s.origin s.log.entries) tag_of p t o)))
 
-  pub enters_step : Invariant entered
+  pub enters_step : HistoryInvariant entered
   enters_step = let views = s.pool.core.views in let n = s.pool.core.frames in let frame = s.pool.core.frame in let l : Link = link_after (make_entry p) at_block old (link v f) in
       let same : SameHere (paged (make_entry p) s.pool f v) after = record { backend = record { emptied = refl; number = refl; next = refl; links = refl; partitions = refl }; joined = refl; links = refl; partitions = refl } in
       let longer = end_longer s.log entry h.log in record {
@@ -627,7 +627,7 @@ module _ (s : State) (h : Invariant s) (i f : ℕ) (p : Page) (v : View) (there 
       }
 
 -- the holder of the log's latch keeps the log end that it loads
-loads_end_step : (s : State) → Invariant s → (i : ℕ) (v : View) → get_elem? s.pool.core.views i ≡ some v → Invariant (record s { pool = aside s.pool i (has_loaded s.end v) })
+loads_end_step : (s : State) → HistoryInvariant s → (i : ℕ) (v : View) → get_elem? s.pool.core.views i ≡ some v → HistoryInvariant (record s { pool = aside s.pool i (has_loaded s.end v) })
 loads_end_step s h i v there = let w : View = has_loaded s.end v in let same : SameHere v w = record { backend = record { emptied = refl; number = refl; next = refl; links = refl; partitions = refl }; joined = refl; links = refl; partitions = refl } in
     assemble_same s h (aside s.pool i w) s.lane (pool_aside s.pool i v w h.pool there same) refl h.known refl
     (record {
@@ -639,7 +639,7 @@ loads_end_step s h i v there = let w : View = has_loaded s.end v in let same : S
     (blocks_aside s h i v w there refl)
 
 -- no law speaks of the hand
-handed : {t : State} → Invariant t → (hand : ℕ) → Invariant (record t { hand = hand })
+handed : {t : State} → HistoryInvariant t → (hand : ℕ) → HistoryInvariant (record t { hand = hand })
 handed k hand = record {
   pool = k.pool;
   logged = k.logged;
@@ -662,7 +662,7 @@ handed k hand = record {
   flushed_cells = k.flushed_cells;
 }
 
-pub step_keeps : {e : Event} {s t : State} → Step e s t → Invariant s → Invariant t
+pub step_keeps : {e : Event} {s t : State} → Step e s t → HistoryInvariant s → HistoryInvariant t
 step_keeps (pools {s = s} x a) h = pools_step s h x a
 step_keeps (lanes {s = s} i q k v there live low a alone) h = lanes_step s h i q k v there live low a alone
 step_keeps (writes {s = s} i q f k v there live low inside a x) h = writes_step s h i q f k v there live low inside a x
@@ -683,6 +683,6 @@ step_keeps (loads_hand {s = s} i v there live) h = let w : View = looked (seen.H
     (history_same s.known s.origin s.log s.flushed s.pool.core.views h.history i v w there (record { calls = refl; front = refl; joined = refl; flushed = refl; emptied = refl; number = refl; kept = refl }))
 step_keeps (logs {s = s} i k v there live a record_is) h = logs_step s h i k v there a
 
-pub run_keeps : {es : List Event} {s t : State} → Run es s t → Invariant s → Invariant t
+pub run_keeps : {es : List Event} {s t : State} → Run es s t → HistoryInvariant s → HistoryInvariant t
 run_keeps rests h = h
 run_keeps (goes x r) h = run_keeps r (step_keeps x h)

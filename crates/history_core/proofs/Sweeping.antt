@@ -25,7 +25,7 @@ use Rattle.history_core.specs.Lanes as lane_kinds
 use Rattle.history_core.specs.Device.{view_logged}
 use Rattle.history_core.specs.State.{Lane, State, Store, stored_upto, synced_upto, opening}
 use Rattle.history_core.specs.Homes.{IsUnframed}
-use Rattle.history_core.specs.Invariant.{Invariant}
+use Rattle.history_core.specs.Invariant.{HistoryInvariant}
 use Rattle.history_core.specs.Debts.{DebtsLaw}
 use Rattle.history_core.specs.Swept.{IsSwept, has_swept, ViewSwept, SweptLaw}
 use Rattle.history_core.specs.Steps.{Event, new_entry, stepped, ticked, looked, pool_noting, paged, laned, has_loaded, has_begun, has_read, has_written, Step, pools, lanes, writes, notes, logs, enters, reads, loads_end, begins, loads_flushed, raises, adds_hand, loads_hand, has_raised}
@@ -123,7 +123,7 @@ lane_grows (lane_kinds.lane_back noted) ln low tag = omega arith
 at_lane : (P : Lane → Type 0) (lane : ℕ → Lane) (q : ℕ) (ln : Lane) (k : ℕ) → (k ≡ q → P ln) → P (lane k) → P (put lane q ln k)
 at_lane P lane q ln k x y = dite (ℕ_discrete k q) (λ e. subst P (sym (put_at lane q ln k e)) (x e)) (λ o. subst P (sym (put_else lane q ln k o)) y)
 
-module _ (s : State) (h : Invariant s) (d : DebtsLaw s) (m : SweptLaw s) where
+module _ (s : State) (h : HistoryInvariant s) (d : DebtsLaw s) (m : SweptLaw s) where
   -- a step at the lane q
   lane_later : (q : ℕ) (k : LaneKind) (t : State) → t.lane_of ≡ s.lane_of → t.end ≡ s.end → t.log.entries ≡ s.log.entries → t.lane ≡ put s.lane q (lane_after k (s.lane q)) → Later s t
   lane_later q k t lane_of end entries lane = record {
@@ -222,7 +222,7 @@ module _ (s : State) (h : Invariant s) (d : DebtsLaw s) (m : SweptLaw s) where
       taken y zero g c is = subst (λ (z : JoinedCheckpoint). IsSwept s g (has_swept z g)) (some-injective (kept_checkpoint u) c is) (subst (IsSwept s g) (sym (map_at (λ (x : LaneHold). x.swept) no_lane 0 refl u.lanes g)) (y.own g))
       taken y (suc a) g c is = y.kept a g c is
 
-pub swept_kept : {e : Event} {s t : State} → Step e s t → Invariant s → DebtsLaw s → SweptLaw s → SweptLaw t
+pub swept_kept : {e : Event} {s t : State} → Step e s t → HistoryInvariant s → DebtsLaw s → SweptLaw s → SweptLaw t
 swept_kept (pools {s = s} (page_steps.cores x) a) h d m = pools_swept s h d m x
 swept_kept (pools {s = s} (page_steps.touches i f k v there live inside a around) is) h d m = let t : State = record s { pool = page_steps.state_after k s.pool i f v } in aside_swept s h d m i v (paged k s.pool f v) t there refl refl refl (plain s h d m t refl refl refl refl) m.below
 swept_kept {t = t} (lanes {s = s} i q k v there live low a alone) h d m = laned_swept s h d m i q k v (stepped (laned k q v v)) t there live low refl refl refl refl refl refl refl

@@ -25,7 +25,7 @@ use Rattle.history_core.specs.Log.{record_size}
 use Rattle.history_core.specs.Lanes.{lane_back}
 use Rattle.history_core.specs.Device.{view_logged}
 use Rattle.history_core.specs.State.{State, Store, next_hand, opening}
-use Rattle.history_core.specs.Invariant.{Invariant}
+use Rattle.history_core.specs.Invariant.{HistoryInvariant}
 use Rattle.history_core.specs.Trail.{sum_found, sum_left, Follows, IsHighest, TrailLaw, HasSameWords, ListedIsMade}
 use Rattle.history_core.specs.Steps.{Event, stepped, ticked, looked, pool_noting, paged, laned, has_loaded, has_begun, has_read, has_written, Step, pools, lanes, writes, notes, logs, enters, reads, loads_end, begins, loads_flushed, raises, adds_hand, loads_hand, has_raised}
 use Rattle.grid.specs.Shape.{put, total}
@@ -242,7 +242,7 @@ pools_highest s from m (pin_steps.joins j v u there other here live free) = let 
     let x : IsHighest s.flushed vs = subst (λ (n : ℕ). IsHighest n vs) (let p = m.above 0 v there in let q = m.above j u here in omega arith) (highest_set s.flushed s.pool.core.views m 0 v w there (omega arith)) in
     highest_taken s.flushed vs x 0 j w u (λ e. other (sym e)) (set_here s.pool.core.views 0 v w there) (set_else s.pool.core.views 0 j w other ∙ here) (omega arith)
 
-highest_kept : {e : Event} {s t : State} → Step e s t → Invariant s → IsHighest s.flushed s.pool.core.views → IsHighest t.flushed t.pool.core.views
+highest_kept : {e : Event} {s t : State} → Step e s t → HistoryInvariant s → IsHighest s.flushed s.pool.core.views → IsHighest t.flushed t.pool.core.views
 highest_kept (pools {s = s} (page_steps.cores x) a) h m = pools_highest s (let p = h.based in let q = h.flushed_from in omega arith) m x
 highest_kept (pools {s = s} (page_steps.touches i f k v there live inside a around) plain) h m = highest_same s.flushed s.pool.core.views m i v (paged k s.pool f v) there refl
 highest_kept (lanes {s = s} i q k v there live low a alone) h m = highest_same s.flushed s.pool.core.views m i v (stepped (laned k q v v)) there refl
@@ -258,7 +258,7 @@ highest_kept (raises {s = s} i v there live synced) h m = let w : View = has_rai
 highest_kept (adds_hand {s = s} i v there live) h m = highest_same s.flushed s.pool.core.views m i v (ticked v) there refl
 highest_kept (loads_hand {s = s} i v there live) h m = highest_same s.flushed s.pool.core.views m i v (looked (seen.Hand s.hand) v) there refl
 
-pub trail_kept : {e : Event} {s t : State} → Step e s t → Invariant s → TrailLaw s → TrailLaw t
+pub trail_kept : {e : Event} {s t : State} → Step e s t → HistoryInvariant s → TrailLaw s → TrailLaw t
 trail_kept x h m = record { words = words_kept x m.words; hand = hand_kept x m.hand; flushed = highest_kept x h m.flushed }
 
 pub trail_open : (c : Config) (store : Store) (page : Page) → TrailLaw (opening c store page)

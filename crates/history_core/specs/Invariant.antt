@@ -59,8 +59,8 @@ abbrev pub written_of : State → Written
 written_of s = record { bytes = log_bytes s.names s.log; end = s.end; faults = s.log_faults }
 
 -- The law of the buffer pool, and that of the lanes, the log and the calls
-pub record Invariant (s : State) : Type 0 where
-  pub pool : pages.Invariant s.pool
+pub record HistoryInvariant (s : State) : Type 0 where
+  pub pool : pages.PageInvariant s.pool
   -- the page of a block after the log is the image of its last entry, or what its lane held at the start, where the lane's contents are known
   pub logged : (tag : ℕ) → s.known tag ≡ true → s.pool.logged tag ≡ Some (cell s.origin s.log.entries tag)
   pub known : (tag : ℕ) → (s.lane (s.lane_of tag)).known ≡ s.known tag

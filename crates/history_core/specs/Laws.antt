@@ -1,6 +1,6 @@
 -- The whole law: what holds in every state that events lead to.
 use Rattle.history_core.specs.State.{State}
-use Rattle.history_core.specs.Invariant.{Invariant}
+use Rattle.history_core.specs.Invariant.{HistoryInvariant}
 use Rattle.history_core.specs.Causes.{MarksLaw}
 use Rattle.history_core.specs.Counts.{CountsLaw}
 use Rattle.history_core.specs.Debts.{DebtsLaw}
@@ -17,7 +17,7 @@ pub record Laws (s : State) : Type 0 where
   -- some list of events leads to it, from the start of a buffer pool
   pub reached : IsReached s
   -- of pins, headers, tags, maps, content locks, pages, lanes, the log and the calls
-  pub invariant : Invariant s
+  pub invariant : HistoryInvariant s
   -- of what must have happened before there can be a fault of writing
   pub marks : MarksLaw s
   -- of the faults that backends count, and the devices' counts

@@ -16,7 +16,7 @@ use Rattle.pin_core.specs.Tallies.{flag_weight, some_weight}
 use Rattle.pin_core.specs.Tallies as pins
 use Rattle.page_core.specs.State.{Block, State, block_of}
 use Rattle.page_core.specs.Tallies.{Tally, pin, sharers, applied_locks, unapplied_locks, copies, works, outs, weigh, share_weight, exclusive_weight, work_weight, page_shape}
-use Rattle.page_core.specs.Invariant.{PageLink, Invariant}
+use Rattle.page_core.specs.Invariant.{PageLink, PageInvariant}
 use Rattle.page_core.specs.Histories.{IsReached, HasNoUnpin, PinnedTagsStay, is_shared, is_exclusive, is_working, shares, excludes, works_on, ContentLocks, SharersAreFew, OneIo, copies_at, CopyLatches, DirtiedFramesAreDirty, RightsNeedPins, OnePageOut, PagesAreHome, ImagesAreLogged, FramesHoldPages, ValidPagesAreSound, CopiesArePages, IsAwaitedBy, WaitersAreNamed, BackendsWaitOnce, CleanupIsAlone}
 use Rattle.grid.specs.Shape.{tallies, total}
 use Rattle.grid.proofs.Sums.{total-count, total-few, total-add, total-same, total-none, term_le, terms_le}
@@ -35,7 +35,7 @@ use Rattle.page_core.proofs.Waits.{waiter}
 use Rattle.page_core.proofs.Opening.{opens}
 use Rattle.page_core.proofs.Stepping.{relinked, step_keeps, run_keeps}
 
-pub reached : (s : State) → IsReached s → Invariant s
+pub reached : (s : State) → IsReached s → PageInvariant s
 reached s r = run_keeps r.run (opens r.config r.origin r.page r.opens)
 
 same_role : (s : State) (f g : ℕ) (k : Kind) (b : Block) (u : View) → Relinks page_shape u (view_after k g b (s.core.frame g) (link u g) u) g (link_after k b (s.core.frame g) (link u g)) → (link (view_after k g b (s.core.frame g) (link u g) u) f).role ≡ (link u f).role
@@ -43,17 +43,17 @@ same_role s f g k b u r = dite (ℕ_discrete f g)
     (λ e. subst (λ (z : ℕ). (link (view_after k g b (s.core.frame g) (link u g) u) z).role ≡ (link u z).role) (sym e) (ap (λ (x : Link). x.role) r.here ∙ role_kept k b (s.core.frame g) (link u g)))
     (λ o. ap (λ (x : Link). x.role) (r.else f o))
 
-pub step_stays : {e : Event} {s t : State} (i f : ℕ) → Step e s t → Invariant s → IsHandedOut s.core i f → e ≢ pins_and_maps (pin_steps.at i f unpin) → Stays s.core t.core i f
+pub step_stays : {e : Event} {s t : State} (i f : ℕ) → Step e s t → PageInvariant s → IsHandedOut s.core i f → e ≢ pins_and_maps (pin_steps.at i f unpin) → Stays s.core t.core i f
 step_stays i f (cores {s = s} x) h out other = pin_schedules.step_stays i f x h.core out (λ q. other (ap pins_and_maps q))
 step_stays i f (touches {s = s} j g k u here live inside a around) h out other = let b = block_of s.logged (s.core.frame g).tag in
     let x = view_stays s.core.views i j f out.0 u (view_after k g b (s.core.frame g) (link u g) u) out.1 out.3 here (same_role s f g k b u (relinked s h j g u here live inside k a)) in
     ((x.0, x.1, out.2, x.2), tags_stay s.core.frame g (frame_after k b (s.core.frame g)) (tag_kept k b (s.core.frame g)) f)
 
-run_stays : {es : List Event} {s t : State} (i f : ℕ) → Run es s t → Invariant s → IsHandedOut s.core i f → HasNoUnpin i f es → Stays s.core t.core i f
+run_stays : {es : List Event} {s t : State} (i f : ℕ) → Run es s t → PageInvariant s → IsHandedOut s.core i f → HasNoUnpin i f es → Stays s.core t.core i f
 run_stays i f rests h out none = (out, refl)
 run_stays i f (goes x r) h out none = let a = step_stays i f x h out none.0 in let b = run_stays i f r (step_keeps x h) a.0 none.1 in (b.0, b.1 ∙ a.1)
 
-pub stay : (s : State) → Invariant s → PinnedTagsStay s
+pub stay : (s : State) → PageInvariant s → PinnedTagsStay s
 stay s h i f es t out none r = let x = run_stays i f r h out none in (record { had = tag_there s.core i f h.core out; has = tag_there t.core i f (run_keeps r h).core x.0; same = x.1 }, x.0)
 
 one_sharer : (c : Content) → share_weight c ≡ cond (is_shared c) 1 0
@@ -107,7 +107,7 @@ copying_takes b fr l h home e = let right = h.copying e in record { page_home = 
 input_takes : (b : Block) (fr : Frame) (l : Link) → PageLink b fr l → l.out ≡ None → l.io ≡ Input → CanTakePage fr l
 input_takes b fr l h home e = let invalid = (h.input e).1 in record { page_home = home; shared = λ x. (let valid = (h.content (λ z. absurd (cc))).1 in absurd (cc)); unlocked = λ x. e }
 
-module _ (s : State) (h : Invariant s) where
+module _ (s : State) (h : PageInvariant s) where
   pub locks : (f : ℕ) → f < s.core.frames → ContentLocks s f
   locks f below = let c = h.pages.columns f below in let shared : total (λ (v : View). weigh sharers (link v f)) s.core.views ≡ count_by (shares f) s.core.views = total-count (λ (v : View). weigh sharers (link v f)) (shares f) (λ v. one_sharer (link v f).content) s.core.views in record {
     sharers = c.shared ∙ shared;

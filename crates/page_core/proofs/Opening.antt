@@ -5,7 +5,7 @@ use Rattle.pin_core.specs.State.{Config, CanOpen, Page, link, first_view, empty_
 use Rattle.pin_core.proofs.Opening as pins
 use Rattle.page_core.specs.State.{Block, block_of, opening}
 use Rattle.page_core.specs.Tallies.{Tally, sharers, applied_locks, unapplied_locks, copies, works, outs, waits_as, weigh, page_shape}
-use Rattle.page_core.specs.Invariant.{PageFrame, PageLink, WaitsOnce, Invariant}
+use Rattle.page_core.specs.Invariant.{PageFrame, PageLink, WaitsOnce, PageInvariant}
 use Rattle.grid.specs.Shape.{tallies, total}
 use Rattle.grid.proofs.Lists.{at_only}
 use Rattle.page_core.proofs.Waits.{waits_first}
@@ -18,7 +18,7 @@ no_sums base n p m f k = let e : weigh k (link (first_view base n p m) f) ≡ 0 
 empty_frame_law : (b : Block) (p : Page) (t : Tally → ℕ) → ((k : Tally) → t k ≡ 0) → PageFrame b (empty_frame p) t
 empty_frame_law b p t e = grind (arith, e sharers, e applied_locks, e unapplied_locks, e copies, e works, e outs, e (waits_as 0))
 
-pub opens : (c : Config) (origin : ℕ → Option Page) (page : Page) → CanOpen c → Invariant (opening c origin page)
+pub opens : (c : Config) (origin : ℕ → Option Page) (page : Page) → CanOpen c → PageInvariant (opening c origin page)
 opens c origin page can = let base = c.base in let n = c.frames in let p = c.partitions in let m = c.lanes in let w : View = first_view base n p m in let b : Block = block_of origin no_tag in record {
   core = pins.opens c page can;
   pages = record {

@@ -18,7 +18,7 @@ use Rattle.pin_core.proofs.Stepping as pin_stepping
 use Rattle.pin_core.proofs.Stepping.{local_keeps}
 use Rattle.page_core.specs.State.{Block, State, block_of}
 use Rattle.page_core.specs.Tallies.{Tally, pin, sharers, applied_locks, unapplied_locks, copies, works, outs, waits_as, weigh, page_shape}
-use Rattle.page_core.specs.Invariant.{PageLink, page_part, pin_part, WaitsOnce, WaitsLaw, Invariant}
+use Rattle.page_core.specs.Invariant.{PageLink, page_part, pin_part, WaitsOnce, WaitsLaw, PageInvariant}
 use Rattle.page_core.specs.Kinds.{Kind, set_waiter, Allowed, frame_after, block_after, link_after, view_after}
 use Rattle.page_core.specs.Steps.{AllowedAround, MayWait, Event, logged_after, state_after, Step, cores, touches, Run, rests, goes}
 use Rattle.page_core.proofs.KeepingPages.{known}
@@ -36,10 +36,10 @@ pub to_pins : (n : ℕ) (frame : ℕ → Frame) (block : ℕ → Block) (views :
 to_pins n frame block views g = record { columns = g.columns; cells = g.cells }
 
 -- both laws of a state
-pub knows : (s : State) → Invariant s → Grid page_shape known s.core.frames s.core.frame (block_of s.logged) s.core.views
+pub knows : (s : State) → PageInvariant s → Grid page_shape known s.core.frames s.core.frame (block_of s.logged) s.core.views
 knows s h = both_grids (to_pages s.core.frames s.core.frame (block_of s.logged) s.core.views h.core.grid) h.pages
 
-module _ (s : State) (h : Invariant s) (i f : ℕ) (v : View) (there : get_elem? s.core.views i ≡ some v) (live : v.emptied ≡ false) (inside : f < s.core.frames) where
+module _ (s : State) (h : PageInvariant s) (i f : ℕ) (v : View) (there : get_elem? s.core.views i ≡ some v) (live : v.emptied ≡ false) (inside : f < s.core.frames) where
   abbrev fr : Frame
   fr = s.core.frame f
 
@@ -94,7 +94,7 @@ module _ (s : State) (h : Invariant s) (i f : ℕ) (v : View) (there : get_elem?
         goes_on : (link_after k b fr l).waits ≡ l.waits → WaitsOnce w
         goes_on e = waits_less v w (relinks_less v w f refl relinked.else (λ number x. sym e ∙ sym (ap (λ (y : Link). y.waits) relinked.here) ∙ x)) (h.waits i v there)
 
-    pub kind_step_keeps : AllowedAround k v f → Invariant (state_after k s i f v)
+    pub kind_step_keeps : AllowedAround k v f → PageInvariant (state_after k s i f v)
     kind_step_keeps around = record {
       core = local_keeps s.core i f v w (frame_after k b fr) h.core there (record { emptied = refl; number = refl; next = refl; links = length-set v.links f (link_after k b fr l); partitions = refl }) refl refl (tag_kept k b fr)
           (to_pins s.core.frames (put s.core.frame f (frame_after k b fr)) (block_of logged') (set s.core.views i w) (touched pin_part (to_pages s.core.frames s.core.frame (block_of s.logged) s.core.views h.core.grid) (pins_kept k b fr l a)));
@@ -136,7 +136,7 @@ forgets b fr l a = record {
 }
 
 -- the law of pages after a step of `pin_core`
-pages_below : (s : State) → Invariant s → {e : pin_steps.Event} {core' : below.State} → pin_steps.Step e s.core core' → Grid page_shape page_part core'.frames core'.frame (block_of s.logged) core'.views
+pages_below : (s : State) → PageInvariant s → {e : pin_steps.Event} {core' : below.State} → pin_steps.Step e s.core core' → Grid page_shape page_part core'.frames core'.frame (block_of s.logged) core'.views
 pages_below s h (pin_steps.touches i f k v there live inside a around) = below_step s h i f v there live inside k a
 pages_below s h (pin_steps.turns i p k v there live below a) = steady page_shape page_part s.core.frames s.core.frame (block_of s.logged) s.core.views h.pages i v (view_turned k p (hold v p) v) there refl (λ g. refl)
 pages_below s h (pin_steps.splits v there room) = let w : View = record v { next = v.next + 1 } in let n = length v.links in let p = length v.partitions in let m = length v.lanes in
@@ -149,17 +149,17 @@ pages_below s h (pin_steps.joins j v u there other here live free) = let w : Vie
     (λ g inside. forgets (block_of s.logged (s.core.frame g).tag) (s.core.frame g) (link u g) (free.frames g))
 
 -- where the views wait after a step of `pin_core`
-waits_below : (s : State) → Invariant s → {e : pin_steps.Event} {core' : below.State} → pin_steps.Step e s.core core' → WaitsLaw core'.views
+waits_below : (s : State) → PageInvariant s → {e : pin_steps.Event} {core' : below.State} → pin_steps.Step e s.core core' → WaitsLaw core'.views
 waits_below s h (pin_steps.touches i f k v there live inside a around) = let r = pin_stepping.relinked s.core h.core i f v there live inside k in
     waits_fewer s.core.views h.waits i v (pin_stepping.after k s.core f v) there (relinks_less v (pin_stepping.after k s.core f v) f refl r.else (λ number x. wait_below k (s.core.frame f) (link v f) number (sym (ap (λ (y : Link). y.waits) r.here) ∙ x)))
 waits_below s h (pin_steps.turns i p k v there live below a) = waits_set s.core.views h.waits i v (view_turned k p (hold v p) v) there refl refl
 waits_below s h (pin_steps.splits v there room) = let w : View = record v { next = v.next + 1 } in waits_split (set s.core.views 0 w) (waits_set s.core.views h.waits 0 v w there refl refl) v.next s.core.base (length v.links) (length v.partitions) (length v.lanes)
 waits_below s h (pin_steps.joins j v u there other here live free) = let w : View = joined_view v u in waits_emptied (set s.core.views 0 w) (waits_set s.core.views h.waits 0 v w there refl refl) j
 
-pub step_keeps : {e : Event} {s t : State} → Step e s t → Invariant s → Invariant t
+pub step_keeps : {e : Event} {s t : State} → Step e s t → PageInvariant s → PageInvariant t
 step_keeps (cores {s = s} x) h = record { core = pin_stepping.step_keeps x h.core; pages = pages_below s h x; waits = waits_below s h x }
 step_keeps (touches {s = s} i f k v there live inside a around) h = kind_step_keeps s h i f v there live inside k a around
 
-pub run_keeps : {es : List Event} {s t : State} → Run es s t → Invariant s → Invariant t
+pub run_keeps : {es : List Event} {s t : State} → Run es s t → PageInvariant s → PageInvariant t
 run_keeps rests h = h
 run_keeps (goes x r) h = run_keeps r (step_keeps x h)

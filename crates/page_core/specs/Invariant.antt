@@ -139,7 +139,7 @@ abbrev pub WaitsLaw : List View → Type 0
 WaitsLaw views = (i : ℕ) (v : View) → get_elem? views i ≡ some v → WaitsOnce v
 
 -- What holds of pins, headers, tags and maps, and of content locks, pages, input and output, and waits
-pub record Invariant (s : State) : Type 0 where
-  pub core : pins.Invariant s.core
+pub record PageInvariant (s : State) : Type 0 where
+  pub core : pins.PinInvariant s.core
   pub pages : Grid page_shape page_part s.core.frames s.core.frame (block_of s.logged) s.core.views
   pub waits : WaitsLaw s.core.views

@@ -8,7 +8,7 @@ ghost use Rattle.pin_core.specs.State.{CanOpen, Config, Page};
 ghost use Rattle.pin_core.specs.Schedules.{UsagesAreLow, TagWordsAreTags, TagWordsAreBlocks, UntaggedFramesHaveOnePin, FlagsMatchTags, SeenFramesAreValid, TagsAreUnique, PinsAreCounted, PinnedFramesHavePins, PinsAreFew, HeadersAreHeld, HoldersHaveTheWord, PinsRemember, MapsAreExact, TurnsAreHeld, MapsAreAsSeen, MapsAreHome};
 ghost use Rattle.pin_core.specs.Invariant.{AllAccounted};
 ghost use Rattle.page_core.specs.State.{State, opening};
-ghost use Rattle.page_core.specs.Invariant.{Invariant};
+ghost use Rattle.page_core.specs.Invariant.{PageInvariant};
 ghost use Rattle.page_core.specs.Steps.{Event, Run};
 ghost use Rattle.page_core.specs.Histories.{IsReached, PinnedTagsStay, ContentLocks, SharersAreFew, OneIo, RightsNeedPins, CopyLatches, DirtiedFramesAreDirty, OnePageOut, PagesAreHome, ImagesAreLogged, FramesHoldPages, ValidPagesAreSound, CopiesArePages, WaitersAreNamed, BackendsWaitOnce, CleanupIsAlone};
 ghost use Rattle.page_core.specs.Sample.{SampleRuns, CleanupRuns};
@@ -16,51 +16,51 @@ ghost use Rattle.page_core.specs.Sample.{SampleRuns, CleanupRuns};
 /// What every list of events keeps, whatever the backends do and in whatever order.
 pub fn all_histories()
     // Where the invariant holds it holds after every list of events, and it holds at the start: so in every state that events lead to.
-    ensures kept { (es : List Event) (s : State) (t : State) → Invariant s → Run es s t → Invariant t }
-    ensures opens { (config : Config) (origin : ℕ → Option Page) (page : Page) → CanOpen config → Invariant (opening config origin page) }
-    ensures reached { (s : State) → IsReached s → Invariant s }
+    ensures kept { (es : List Event) (s : State) (t : State) → PageInvariant s → Run es s t → PageInvariant t }
+    ensures opens { (config : Config) (origin : ℕ → Option Page) (page : Page) → CanOpen config → PageInvariant (opening config origin page) }
+    ensures reached { (s : State) → IsReached s → PageInvariant s }
 
     // And where it holds, of pins, tags and maps:
-    ensures counted { (s : State) → Invariant s → PinsAreCounted s.core }
-    ensures pinned { (s : State) → Invariant s → PinnedFramesHavePins s.core }
-    ensures few { (s : State) → Invariant s → PinsAreFew s.core }
-    ensures accounted { (s : State) → Invariant s → AllAccounted s.core.views }
-    ensures held { (s : State) → Invariant s → HeadersAreHeld s.core }
-    ensures holders { (s : State) → Invariant s → HoldersHaveTheWord s.core }
-    ensures unique { (s : State) → Invariant s → TagsAreUnique s.core }
-    ensures stay { (s : State) → Invariant s → PinnedTagsStay s }
-    ensures exact { (s : State) → Invariant s → MapsAreExact s.core }
-    ensures usages { (s : State) → Invariant s → UsagesAreLow s.core }
-    ensures packed { (s : State) → Invariant s → TagWordsAreTags s.core }
-    ensures blocks { (s : State) → Invariant s → TagWordsAreBlocks s.core }
-    ensures untagged { (s : State) → Invariant s → UntaggedFramesHaveOnePin s.core }
-    ensures flags { (s : State) → Invariant s → FlagsMatchTags s.core }
-    ensures seen { (s : State) → Invariant s → SeenFramesAreValid s.core }
-    ensures remembers { (s : State) → Invariant s → PinsRemember s.core }
-    ensures taken { (s : State) → Invariant s → TurnsAreHeld s.core }
-    ensures maps_seen { (s : State) → Invariant s → MapsAreAsSeen s.core }
-    ensures maps_home { (s : State) → Invariant s → MapsAreHome s.core }
+    ensures counted { (s : State) → PageInvariant s → PinsAreCounted s.core }
+    ensures pinned { (s : State) → PageInvariant s → PinnedFramesHavePins s.core }
+    ensures few { (s : State) → PageInvariant s → PinsAreFew s.core }
+    ensures accounted { (s : State) → PageInvariant s → AllAccounted s.core.views }
+    ensures held { (s : State) → PageInvariant s → HeadersAreHeld s.core }
+    ensures holders { (s : State) → PageInvariant s → HoldersHaveTheWord s.core }
+    ensures unique { (s : State) → PageInvariant s → TagsAreUnique s.core }
+    ensures stay { (s : State) → PageInvariant s → PinnedTagsStay s }
+    ensures exact { (s : State) → PageInvariant s → MapsAreExact s.core }
+    ensures usages { (s : State) → PageInvariant s → UsagesAreLow s.core }
+    ensures packed { (s : State) → PageInvariant s → TagWordsAreTags s.core }
+    ensures blocks { (s : State) → PageInvariant s → TagWordsAreBlocks s.core }
+    ensures untagged { (s : State) → PageInvariant s → UntaggedFramesHaveOnePin s.core }
+    ensures flags { (s : State) → PageInvariant s → FlagsMatchTags s.core }
+    ensures seen { (s : State) → PageInvariant s → SeenFramesAreValid s.core }
+    ensures remembers { (s : State) → PageInvariant s → PinsRemember s.core }
+    ensures taken { (s : State) → PageInvariant s → TurnsAreHeld s.core }
+    ensures maps_seen { (s : State) → PageInvariant s → MapsAreAsSeen s.core }
+    ensures maps_home { (s : State) → PageInvariant s → MapsAreHome s.core }
 
     // and of content locks, pages, input and output:
-    ensures locks { (s : State) (f : ℕ) → Invariant s → f < s.core.frames → ContentLocks s f }
-    ensures sharers { (s : State) → Invariant s → SharersAreFew s }
-    ensures one_io { (s : State) (f : ℕ) → Invariant s → f < s.core.frames → OneIo s f }
-    ensures rights { (s : State) → Invariant s → RightsNeedPins s }
-    ensures copy_latches { (s : State) (f : ℕ) → Invariant s → f < s.core.frames → CopyLatches s f }
-    ensures dirtied { (s : State) → Invariant s → DirtiedFramesAreDirty s }
-    ensures one_out { (s : State) → Invariant s → OnePageOut s }
-    ensures pages_home { (s : State) → Invariant s → PagesAreHome s }
-    ensures applies { (s : State) → Invariant s → ImagesAreLogged s }
-    ensures sound { (s : State) → Invariant s → ValidPagesAreSound s }
+    ensures locks { (s : State) (f : ℕ) → PageInvariant s → f < s.core.frames → ContentLocks s f }
+    ensures sharers { (s : State) → PageInvariant s → SharersAreFew s }
+    ensures one_io { (s : State) (f : ℕ) → PageInvariant s → f < s.core.frames → OneIo s f }
+    ensures rights { (s : State) → PageInvariant s → RightsNeedPins s }
+    ensures copy_latches { (s : State) (f : ℕ) → PageInvariant s → f < s.core.frames → CopyLatches s f }
+    ensures dirtied { (s : State) → PageInvariant s → DirtiedFramesAreDirty s }
+    ensures one_out { (s : State) → PageInvariant s → OnePageOut s }
+    ensures pages_home { (s : State) → PageInvariant s → PagesAreHome s }
+    ensures applies { (s : State) → PageInvariant s → ImagesAreLogged s }
+    ensures sound { (s : State) → PageInvariant s → ValidPagesAreSound s }
 
     // of waits for a cleanup lock:
-    ensures waiters { (s : State) (f : ℕ) → Invariant s → f < s.core.frames → WaitersAreNamed s f }
-    ensures one_wait { (s : State) → Invariant s → BackendsWaitOnce s }
-    ensures granted { (s : State) (f : ℕ) → Invariant s → f < s.core.frames → CleanupIsAlone s f }
+    ensures waiters { (s : State) (f : ℕ) → PageInvariant s → f < s.core.frames → WaitersAreNamed s f }
+    ensures one_wait { (s : State) → PageInvariant s → BackendsWaitOnce s }
+    ensures granted { (s : State) (f : ℕ) → PageInvariant s → f < s.core.frames → CleanupIsAlone s f }
 
     // and, where each read that is noted gives the block's page after the log, where that is known, as the kind asks (the crate above, which has the lanes, shows that they do):
-    ensures frames_hold { (s : State) → Invariant s → FramesHoldPages s }
-    ensures copies_are { (s : State) → Invariant s → CopiesArePages s }
+    ensures frames_hold { (s : State) → PageInvariant s → FramesHoldPages s }
+    ensures copies_are { (s : State) → PageInvariant s → CopiesArePages s }
 {}
 
 /// An example: a backend misses a block and reads it into a frame, copies its page under a shared lock, and evicts it.

@@ -4,7 +4,7 @@ use lib.ListN.{length-replicate}
 use Rattle.pin_core.specs.declared.view.View.{View}
 use Rattle.pin_core.specs.State.{Config, CanOpen, Page, no_tag, link, hold, idle, no_partition, first_view, empty_frame, empty_partition, opening}
 use Rattle.pin_core.specs.Tallies.{Tally, pins, headers, pendings, settled_pins, settled_headers, weigh, frame_shape}
-use Rattle.pin_core.specs.Invariant.{FrameLaw, LinkLaw, live_weight, Invariant}
+use Rattle.pin_core.specs.Invariant.{FrameLaw, LinkLaw, live_weight, PinInvariant}
 use Rattle.pin_core.specs.declared.view.MapChange.TheVariants.{Settled}
 use Rattle.pin_core.specs.Maps.{PairLaw}
 use Rattle.pin_core.specs.Turns.{TurnTally, holders, TurnLaw, HoldLaw, turn_shape}
@@ -33,7 +33,7 @@ one_backend : (base n p m : ℕ) (v : View) → first_view base n p m ≡ v → 
 unfolding total
 one_backend base n p m v e = let j : v.joined ≡ 0 = ap (λ (x : View). x.joined) (sym e) in omega arith
 
-pub opens : (c : Config) (page : Page) → CanOpen c → Invariant (opening c page)
+pub opens : (c : Config) (page : Page) → CanOpen c → PinInvariant (opening c page)
 opens c page can = let base = c.base in let n = c.frames in let p = c.partitions in let m = c.lanes in let w : View = first_view base n p m in record {
   grid = record {
     columns = λ f below. empty_frame_law page (tallies frame_shape (w ∷ []) f) (no_sums base n p m f);

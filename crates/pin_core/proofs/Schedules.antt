@@ -13,7 +13,7 @@ use Rattle.pin_core.specs.declared.view.PartitionHold.{PartitionHold}
 use Rattle.pin_core.specs.declared.view.View.{View}
 use Rattle.pin_core.specs.State.{Frame, Partition, State, no_tag, link, hold, is_pin, pins_frame, new_view, joined_view, emptied_view}
 use Rattle.pin_core.specs.Tallies.{Tally, pins, headers, weigh, pin_weight, some_weight, flag_weight, frame_shape}
-use Rattle.pin_core.specs.Invariant.{FrameLaw, HasTag, TagsAgree, Invariant}
+use Rattle.pin_core.specs.Invariant.{FrameLaw, HasTag, TagsAgree, PinInvariant}
 use Rattle.pin_core.specs.Kinds.{Kind, load_state, pin, pin_mapped, unpin, lock_header, unlock_header, store_tag, erase_tag, load_tag, pin_victim, lower_usage, assign, clear, Allowed, frame_after, link_after, view_after}
 use Rattle.pin_core.specs.Steps.{HoldsNothing, state_after, Event, at, Step, touches, turns, splits, joins, Run, rests, goes}
 use Rattle.pin_core.specs.Turns.{TurnTally, view_turned, TurnLaw, HoldLaw, turn_shape}
@@ -30,7 +30,7 @@ use Rattle.pin_core.proofs.Maps.{gives_holder}
 use Rattle.pin_core.proofs.Opening.{opens}
 use Rattle.pin_core.proofs.Stepping.{relinked, step_keeps, run_keeps}
 
-pub reached : (s : State) → IsReached s → Invariant s
+pub reached : (s : State) → IsReached s → PinInvariant s
 reached s r = run_keeps r.run (opens r.config r.page r.opens)
 
 one_pin : (r : Role) → pin_weight r ≤ 1
@@ -43,7 +43,7 @@ some_pin Absent n = absurd (n refl)
 some_pin HandedOut n = omega arith
 some_pin Victim n = omega arith
 
-module _ (s : State) (h : Invariant s) where
+module _ (s : State) (h : PinInvariant s) where
   pub unique : TagsAreUnique s
   unique f g a b x y same = h.apart f g a b x.named same
 
@@ -189,7 +189,7 @@ others_tag assign fr l m t a c le e = refl
 others_tag clear fr l m t a c le e = refl
 
 -- Backend j makes a step of the kind k at the frame g, while the one at i has a handed-out pin of f
-module _ (s : State) (h : Invariant s) (i f : ℕ) (v : View) (there : get_elem? s.views i ≡ some v) (below : f < s.frames) (pinned : (link v f).role ≡ HandedOut)
+module _ (s : State) (h : PinInvariant s) (i f : ℕ) (v : View) (there : get_elem? s.views i ≡ some v) (below : f < s.frames) (pinned : (link v f).role ≡ HandedOut)
     (j g : ℕ) (k : Kind) (u : View) (here : get_elem? s.views j ≡ some u) (live : u.emptied ≡ false) (inside : g < s.frames) (a : Allowed k (s.frame g) (link u g)) where
   abbrev moved : View
   moved = view_after k s.partition_of g (s.frame g) (link u g) u
@@ -248,7 +248,7 @@ view_stays views i j f v u w there pinned here same = dite (ℕ_discrete i j)
 not_joined : (views : List View) (i j f : ℕ) (v u : View) → get_elem? views i ≡ some v → (link v f).role ≡ HandedOut → get_elem? views j ≡ some u → HoldsNothing u → i ≢ j
 not_joined views i j f v u there pinned here free e = let same : v ≡ u = some-injective v u (sym there ∙ ap (λ (z : ℕ). get_elem? views z) e ∙ here) in let r : (link u f).role ≡ HandedOut = subst (λ (x : View). (link x f).role ≡ HandedOut) same pinned in let n = (free.frames f).no_pin in cc
 
-pub step_stays : {e : Event} {s t : State} (i f : ℕ) → Step e s t → Invariant s → IsHandedOut s i f → e ≢ at i f unpin → Stays s t i f
+pub step_stays : {e : Event} {s t : State} (i f : ℕ) → Step e s t → PinInvariant s → IsHandedOut s i f → e ≢ at i f unpin → Stays s t i f
 step_stays i f (touches {s = s} j g k u here live inside a around) h out other = (pin_stays s h i f out.0 out.1 out.2 out.3 j g k u here live inside a other, tag_stays s h i f out.0 out.1 out.2 out.3 j g k u here live inside a)
 step_stays i f (turns {s = s} j p k u here live below a) h out other = let x = view_stays s.views i j f out.0 u (view_turned k p (hold u p) u) out.1 out.3 here refl in ((x.0, x.1, out.2, x.2), refl)
 step_stays i f (splits {s = s} v here room) h out other = let w : View = record v { next = v.next + 1 } in let b : View = new_view v.next s.base (length v.links) (length v.partitions) (length v.lanes) in let x = view_stays s.views i 0 f out.0 v w out.1 out.3 here refl in
@@ -256,12 +256,12 @@ step_stays i f (splits {s = s} v here room) h out other = let w : View = record 
 step_stays i f (joins {s = s} j v u first nonzero here live free) h out other = let x = view_stays s.views i 0 f out.0 v (joined_view v u) out.1 out.3 first refl in
     ((x.0, set_else (set s.views 0 (joined_view v u)) j i emptied_view (not_joined s.views i j f out.0 u out.1 out.3 here free) ∙ x.1, out.2, x.2), refl)
 
-pub tag_there : (s : State) (i f : ℕ) → Invariant s → IsHandedOut s i f → HasTag (s.frame f)
+pub tag_there : (s : State) (i f : ℕ) → PinInvariant s → IsHandedOut s i f → HasTag (s.frame f)
 tag_there s i f h out = (h.grid.cells i out.0 f out.1 out.2).handed_out out.3
 
-run_stays : {es : List Event} {s t : State} (i f : ℕ) → Run es s t → Invariant s → IsHandedOut s i f → HasNoUnpin i f es → Stays s t i f
+run_stays : {es : List Event} {s t : State} (i f : ℕ) → Run es s t → PinInvariant s → IsHandedOut s i f → HasNoUnpin i f es → Stays s t i f
 run_stays i f rests h out none = (out, refl)
 run_stays i f (goes x r) h out none = let a = step_stays i f x h out none.0 in let b = run_stays i f r (step_keeps x h) a.0 none.1 in (b.0, b.1 ∙ a.1)
 
-pub stay : (s : State) → Invariant s → PinnedTagsStay s
+pub stay : (s : State) → PinInvariant s → PinnedTagsStay s
 stay s h i f es t out none r = let x = run_stays i f r h out none in (record { had = tag_there s i f h out; has = tag_there t i f (run_keeps r h) x.0; same = x.1 }, x.0)

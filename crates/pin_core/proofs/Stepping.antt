@@ -11,7 +11,7 @@ use Rattle.pin_core.specs.declared.view.MapChange.TheVariants.{Settled, Entering
 use Rattle.pin_core.specs.declared.view.View.{View}
 use Rattle.pin_core.specs.State.{Frame, Partition, State, no_tag, idle, link, no_partition, hold, local, new_view, emptied_view, joined_view, split_state, joined_state}
 use Rattle.pin_core.specs.Tallies.{Tally, pins, headers, pendings, settled_pins, settled_headers, weigh, flag_weight, frame_shape}
-use Rattle.pin_core.specs.Invariant.{FrameLaw, LinkLaw, TagsAreBlocks, pin_part, Invariant}
+use Rattle.pin_core.specs.Invariant.{FrameLaw, LinkLaw, TagsAreBlocks, pin_part, PinInvariant}
 use Rattle.pin_core.specs.Maps.{PairLaw, MapLaw}
 use Rattle.pin_core.specs.Turns.{TurnKind, change_map, take_turn, leave_turn, map_out, map_back, TurnAllowed, partition_after, hold_after, view_turned, HoldLaw, turn_shape, turn_part}
 use Rattle.pin_core.specs.Kinds.{Kind, store_tag, erase_tag, pin_mapped, CanStoreTag, Allowed, frame_after, link_after, view_after}
@@ -36,8 +36,8 @@ blocks_put is_block n frame f fr h here g below = dite (ℕ_discrete g f)
     (λ o. subst (λ (x : Frame). x.tag ≢ no_tag → is_block x.tag ≡ true) (sym ((puts frame f fr g).other o)) (h g below))
 
 -- One frame and one view change, and no tag word: what a crate above has to show of a kind of its own
-pub local_keeps : (s : State) (i f : ℕ) (v w : View) (fr : Frame) → Invariant s → get_elem? s.views i ≡ some v → SameBackend v w → w.joined ≡ v.joined → w.partitions ≡ v.partitions → fr.tag ≡ (s.frame f).tag
-    → Grid frame_shape pin_part s.frames (put s.frame f fr) (λ _. tt) (set s.views i w) → Invariant (local s i f fr w)
+pub local_keeps : (s : State) (i f : ℕ) (v w : View) (fr : Frame) → PinInvariant s → get_elem? s.views i ≡ some v → SameBackend v w → w.joined ≡ v.joined → w.partitions ≡ v.partitions → fr.tag ≡ (s.frame f).tag
+    → Grid frame_shape pin_part s.frames (put s.frame f fr) (λ _. tt) (set s.views i w) → PinInvariant (local s i f fr w)
 local_keeps s i f v w fr h there same joined holds tag grid = let maps = maps_same s.frames s.partition_of (λ p. (s.partition p).map) (λ p. (s.partition p).owed) (λ g. (s.frame g).tag) h.maps (λ p. (s.partition p).map) (λ p. (s.partition p).owed) (λ g. (put s.frame f fr g).tag) (λ p. refl) (λ p. refl) (tags_stay s.frame f fr tag) in record {
   grid = grid;
   turns = steady turn_shape turn_part s.partitions s.partition (λ _. tt) s.views h.turns i v w there refl (λ p. ap (λ (x : List PartitionHold). hold (record w { partitions = x }) p) holds);
@@ -54,7 +54,7 @@ abbrev pub after : Kind → State → ℕ → View → View
 after k s f v = view_after k s.partition_of f (s.frame f) (link v f) v
 
 -- Backend i, whose view is v, makes a step at the frame f
-module _ (s : State) (h : Invariant s) (i f : ℕ) (v : View) (there : get_elem? s.views i ≡ some v) (live : v.emptied ≡ false) (inside : f < s.frames) where
+module _ (s : State) (h : PinInvariant s) (i f : ℕ) (v : View) (there : get_elem? s.views i ≡ some v) (live : v.emptied ≡ false) (inside : f < s.frames) where
   abbrev gives : ℕ → ℕ → Option ℕ
   gives p = (s.partition p).map
 
@@ -73,7 +73,7 @@ module _ (s : State) (h : Invariant s) (i f : ℕ) (v : View) (there : get_elem?
       (kind_keeps k (s.frame f) (link v f) a known)
 
   -- a kind that names no pair
-  plain : (k : Kind) → Allowed k (s.frame f) (link v f) → TagKnown k (s.frame f) → (after k s f v).partitions ≡ v.partitions → (frame_after k (s.frame f)).tag ≡ (s.frame f).tag → Invariant (local s i f (frame_after k (s.frame f)) (after k s f v))
+  plain : (k : Kind) → Allowed k (s.frame f) (link v f) → TagKnown k (s.frame f) → (after k s f v).partitions ≡ v.partitions → (frame_after k (s.frame f)).tag ≡ (s.frame f).tag → PinInvariant (local s i f (frame_after k (s.frame f)) (after k s f v))
   plain k a known holds tag = local_keeps s i f v (after k s f v) (frame_after k (s.frame f)) h there
       (record { emptied = refl; number = refl; next = refl; links = length-set v.links f (link_after k (s.frame f) (link v f)); partitions = ap (λ (x : List PartitionHold). length x) holds }) refl holds tag (grid_after k a known)
 
@@ -108,7 +108,7 @@ module _ (s : State) (h : Invariant s) (i f : ℕ) (v : View) (there : get_elem?
   naming : (k : Kind) (p : ℕ) (c : MapChange) → Allowed k (s.frame f) (link v f) → TagKnown k (s.frame f) → p < s.partitions → (hold v p).held ≡ true → (hold v p).changed ≡ false → (hold v p).change ≡ Settled → (after k s f v).partitions ≡ set v.partitions p (record (hold v p) { change = c })
       → MapLaw s.frames s.partition_of gives (λ q. (put s.partition p (record (s.partition p) { owed = c }) q).owed) (λ g. (put s.frame f (frame_after k (s.frame f)) g).tag)
       → ((frame_after k (s.frame f)).tag ≢ no_tag → s.is_block (frame_after k (s.frame f)).tag ≡ true)
-      → Invariant (record s { frame = put s.frame f (frame_after k (s.frame f)); partition = put s.partition p (record (s.partition p) { owed = c }); views = set s.views i (after k s f v) })
+      → PinInvariant (record s { frame = put s.frame f (frame_after k (s.frame f)); partition = put s.partition p (record (s.partition p) { owed = c }); views = set s.views i (after k s f v) })
   naming k p c a known below held unchanged settled names maps block = let part : ℕ → Partition = put s.partition p (record (s.partition p) { owed = c }) in let tag_words : ℕ → ℕ = λ g. (put s.frame f (frame_after k (s.frame f)) g).tag in
       let exact : MapLaw s.frames s.partition_of (λ q. (part q).map) (λ q. (part q).owed) tag_words = maps_same s.frames s.partition_of gives (λ q. (part q).owed) tag_words maps (λ q. (part q).map) (λ q. (part q).owed) tag_words
       (λ q. dite (ℕ_discrete q p) (λ e. ap (λ (x : Partition). x.map) ((puts s.partition p (record (s.partition p) { owed = c }) q).same e) ∙ ap gives (sym e)) (λ o. ap (λ (x : Partition). x.map) ((puts s.partition p (record (s.partition p) { owed = c }) q).other o))) (λ q. refl) (λ g. refl) in record {
@@ -130,7 +130,7 @@ untagged tag fr l t c x le a = grind (arith, c, x, a, le pins, le settled_pins)
 has_tag : (o : Option ℕ) (owed : MapChange) (word tag f : ℕ) → PairLaw o owed word tag f → o ≡ Some f → owed ≡ Settled → word ≡ tag
 has_tag o owed word tag f x given settled = dite (ℕ_discrete word tag) (λ e. e) (λ n. let l = x.found given n in absurd (cc))
 
-pub kind_step_keeps : (s : State) (i f : ℕ) (k : Kind) (v : View) → Invariant s → get_elem? s.views i ≡ some v → v.emptied ≡ false → f < s.frames → Allowed k (s.frame f) (link v f) → AllowedAround k s v f → Invariant (state_after k s i f v)
+pub kind_step_keeps : (s : State) (i f : ℕ) (k : Kind) (v : View) → PinInvariant s → get_elem? s.views i ≡ some v → v.emptied ≡ false → f < s.frames → Allowed k (s.frame f) (link v f) → AllowedAround k s v f → PinInvariant (state_after k s i f v)
 kind_step_keeps s i f (store_tag tag) v h there live inside a around = let p = s.partition_of tag in let m = around.naming in let c : MapChange = Entering tag f in let x : Partition = record (s.partition p) { owed = c } in let fr : Frame = record (s.frame f) { tag = tag } in
     let free = unowed s h i f v there live inside p (h.placed tag) m.held (m.settled p) in
     let bare = untagged tag (s.frame f) (link v f) (tallies frame_shape s.views f) (h.grid.columns f inside) (h.grid.cells i v f there inside) (λ y. term_le (λ (u : View). weigh y (link u f)) s.views i v there) a in
@@ -151,7 +151,7 @@ kind_step_keeps s i f (pin_mapped tag ring) v h there live inside a m = let p = 
 kind_step_keeps s i f k v h there live inside a around = plain s h i f v there live inside k a tt refl refl
 
 -- Backend i, whose view is v, makes a step at the latch of the partition p
-module _ (s : State) (h : Invariant s) (i p : ℕ) (v : View) (there : get_elem? s.views i ≡ some v) (live : v.emptied ≡ false) (below : p < s.partitions) where
+module _ (s : State) (h : PinInvariant s) (i p : ℕ) (v : View) (there : get_elem? s.views i ≡ some v) (live : v.emptied ≡ false) (below : p < s.partitions) where
   -- a step that leaves the map and the pair in change
   same_map : (k : TurnKind) → (partition_after k (s.partition p) (hold v p)).map ≡ (s.partition p).map → (partition_after k (s.partition p) (hold v p)).owed ≡ (s.partition p).owed
       → MapLaw s.frames s.partition_of (λ q. (put s.partition p (partition_after k (s.partition p) (hold v p)) q).map) (λ q. (put s.partition p (partition_after k (s.partition p) (hold v p)) q).owed) (λ g. (s.frame g).tag)
@@ -174,7 +174,7 @@ module _ (s : State) (h : Invariant s) (i p : ℕ) (v : View) (there : get_elem?
       owes : (pt : Partition) (y : PartitionHold) → HoldLaw pt y → TurnAllowed change_map pt y → pt.owed ≡ y.change
       owes pt y c a = grind (arith, c, a)
 
-  pub turn_step_keeps : (k : TurnKind) → TurnAllowed k (s.partition p) (hold v p) → Invariant (state_turned k s i p v)
+  pub turn_step_keeps : (k : TurnKind) → TurnAllowed k (s.partition p) (hold v p) → PinInvariant (state_turned k s i p v)
   turn_step_keeps k a = let w : View = view_turned k p (hold v p) v in let y : PartitionHold = hold_after k (hold v p) in record {
     grid = steady frame_shape pin_part s.frames s.frame (λ _. tt) s.views h.grid i v w there refl (λ g. refl);
     turns = touch turn_shape turn_part turn_part s.partitions s.partition (λ _. tt) (λ _. tt) s.views i p v w (partition_after k (s.partition p) (hold v p)) y h.turns h.turns there below
@@ -220,7 +220,7 @@ forgets fr l a = record {
   others = λ t n m q c le d. d;
 }
 
-split_keeps : (s : State) (v : View) → Invariant s → get_elem? s.views 0 ≡ some v → v.next < s.backends → Invariant (split_state s v)
+split_keeps : (s : State) (v : View) → PinInvariant s → get_elem? s.views 0 ≡ some v → v.next < s.backends → PinInvariant (split_state s v)
 split_keeps s v h there room = let w : View = record v { next = v.next + 1 } in let n = length v.links in let p = length v.partitions in let m = length v.lanes in record {
   grid = grows frame_shape pin_part s.frames s.frame (λ _. tt) (set s.views 0 w) (steady frame_shape pin_part s.frames s.frame (λ _. tt) s.views h.grid 0 v w there refl (λ g. refl)) (new_view v.next s.base n p m) (new_none v.next s.base n p m) (λ g below. new_link v.next s.base n p m g (s.frame g));
   turns = grows turn_shape turn_part s.partitions s.partition (λ _. tt) (set s.views 0 w) (steady turn_shape turn_part s.partitions s.partition (λ _. tt) s.views h.turns 0 v w there refl (λ g. refl)) (new_view v.next s.base n p m) (λ q _. new_unheld v.next s.base n p m q) (λ q below. new_hold v.next s.base n p m q (s.partition q));
@@ -232,7 +232,7 @@ split_keeps s v h there room = let w : View = record v { next = v.next + 1 } in 
   accounted = accounted_split s.views v w (new_view v.next s.base n p m) h.accounted there refl refl refl;
 }
 
-join_keeps : (s : State) (j : ℕ) (v u : View) → Invariant s → get_elem? s.views 0 ≡ some v → j ≢ 0 → get_elem? s.views j ≡ some u → u.emptied ≡ false → HoldsNothing u → Invariant (joined_state s v j u)
+join_keeps : (s : State) (j : ℕ) (v u : View) → PinInvariant s → get_elem? s.views 0 ≡ some v → j ≢ 0 → get_elem? s.views j ≡ some u → u.emptied ≡ false → HoldsNothing u → PinInvariant (joined_state s v j u)
 join_keeps s j v u h there other here live free = let w : View = joined_view v u in let vs : List View = set s.views 0 w in record {
   grid = sweep frame_shape pin_part pin_part s.frames s.frame s.frame (λ _. tt) (λ _. tt) vs j u emptied_view (steady frame_shape pin_part s.frames s.frame (λ _. tt) s.views h.grid 0 v w there refl (λ g. refl)) (set_else s.views 0 j w other ∙ here)
       (λ g below. forgets (s.frame g) (link u g) (free.frames g));
@@ -246,12 +246,12 @@ join_keeps s j v u h there other here live free = let w : View = joined_view v u
   accounted = accounted_join s.views j v u h.accounted there (h.views.first v there).0 other here live;
 }
 
-pub step_keeps : {e : Event} {s t : State} → Step e s t → Invariant s → Invariant t
+pub step_keeps : {e : Event} {s t : State} → Step e s t → PinInvariant s → PinInvariant t
 step_keeps (touches {s = s} i f k v there live inside a around) h = kind_step_keeps s i f k v h there live inside a around
 step_keeps (turns {s = s} i p k v there live below a) h = turn_step_keeps s h i p v there live below k a
 step_keeps (splits {s = s} v there room) h = split_keeps s v h there room
 step_keeps (joins {s = s} j v u there other here live free) h = join_keeps s j v u h there other here live free
 
-pub run_keeps : {es : List Event} {s t : State} → Run es s t → Invariant s → Invariant t
+pub run_keeps : {es : List Event} {s t : State} → Run es s t → PinInvariant s → PinInvariant t
 run_keeps rests h = h
 run_keeps (goes x r) h = run_keeps r (step_keeps x h)

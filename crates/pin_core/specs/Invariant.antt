@@ -114,7 +114,7 @@ abbrev pub TagsAreBlocks : (ℕ → Bool) → ℕ → (ℕ → Frame) → Type 0
 TagsAreBlocks is_block frames frame = (f : ℕ) → f < frames → (frame f).tag ≢ no_tag → is_block (frame f).tag ≡ true
 
 -- What holds of pins, headers, tags and maps
-pub record Invariant (s : State) : Type 0 where
+pub record PinInvariant (s : State) : Type 0 where
   pub grid : Grid frame_shape pin_part s.frames s.frame (λ _. tt) s.views
   pub turns : Grid turn_shape turn_part s.partitions s.partition (λ _. tt) s.views
   pub apart : TagsApart s.frames s.frame

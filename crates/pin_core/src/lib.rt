@@ -5,7 +5,7 @@
 
 ghost use Rattle.std.specs.Prelude.{List};
 ghost use Rattle.pin_core.specs.State.{CanOpen, Config, Page, State, opening};
-ghost use Rattle.pin_core.specs.Invariant.{AllAccounted, Invariant};
+ghost use Rattle.pin_core.specs.Invariant.{AllAccounted, PinInvariant};
 ghost use Rattle.pin_core.specs.Steps.{Event, Run};
 ghost use Rattle.pin_core.specs.Sample.{SampleRuns};
 ghost use Rattle.pin_core.specs.Schedules.{IsReached, UsagesAreLow, TagWordsAreTags, TagWordsAreBlocks, UntaggedFramesHaveOnePin, FlagsMatchTags, SeenFramesAreValid, TagsAreUnique, PinsAreCounted, PinnedFramesHavePins, PinsAreFew, HeadersAreHeld, HoldersHaveTheWord, PinsRemember, PinnedTagsStay, MapsAreExact, TurnsAreHeld, MapsAreAsSeen, MapsAreHome};
@@ -20,30 +20,30 @@ pub use view::{
 /// What every list of events keeps, whatever the backends do and in whatever order.
 pub fn all_schedules()
     // Where the invariant holds it holds after every list of events, and it holds at the start: so in every state that events lead to.
-    ensures kept { (es : List Event) (s : State) (t : State) → Invariant s → Run es s t → Invariant t }
-    ensures opens { (config : Config) (page : Page) → CanOpen config → Invariant (opening config page) }
-    ensures reached { (s : State) → IsReached s → Invariant s }
+    ensures kept { (es : List Event) (s : State) (t : State) → PinInvariant s → Run es s t → PinInvariant t }
+    ensures opens { (config : Config) (page : Page) → CanOpen config → PinInvariant (opening config page) }
+    ensures reached { (s : State) → IsReached s → PinInvariant s }
 
     // And where it holds:
-    ensures unique { (s : State) → Invariant s → TagsAreUnique s }
-    ensures stay { (s : State) → Invariant s → PinnedTagsStay s }
-    ensures counted { (s : State) → Invariant s → PinsAreCounted s }
-    ensures accounted { (s : State) → Invariant s → AllAccounted s.views }
-    ensures pinned { (s : State) → Invariant s → PinnedFramesHavePins s }
-    ensures few { (s : State) → Invariant s → PinsAreFew s }
-    ensures held { (s : State) → Invariant s → HeadersAreHeld s }
-    ensures holders { (s : State) → Invariant s → HoldersHaveTheWord s }
-    ensures usages { (s : State) → Invariant s → UsagesAreLow s }
-    ensures packed { (s : State) → Invariant s → TagWordsAreTags s }
-    ensures blocks { (s : State) → Invariant s → TagWordsAreBlocks s }
-    ensures untagged { (s : State) → Invariant s → UntaggedFramesHaveOnePin s }
-    ensures flags { (s : State) → Invariant s → FlagsMatchTags s }
-    ensures seen { (s : State) → Invariant s → SeenFramesAreValid s }
-    ensures remembers { (s : State) → Invariant s → PinsRemember s }
-    ensures exact { (s : State) → Invariant s → MapsAreExact s }
-    ensures taken { (s : State) → Invariant s → TurnsAreHeld s }
-    ensures maps_seen { (s : State) → Invariant s → MapsAreAsSeen s }
-    ensures maps_home { (s : State) → Invariant s → MapsAreHome s }
+    ensures unique { (s : State) → PinInvariant s → TagsAreUnique s }
+    ensures stay { (s : State) → PinInvariant s → PinnedTagsStay s }
+    ensures counted { (s : State) → PinInvariant s → PinsAreCounted s }
+    ensures accounted { (s : State) → PinInvariant s → AllAccounted s.views }
+    ensures pinned { (s : State) → PinInvariant s → PinnedFramesHavePins s }
+    ensures few { (s : State) → PinInvariant s → PinsAreFew s }
+    ensures held { (s : State) → PinInvariant s → HeadersAreHeld s }
+    ensures holders { (s : State) → PinInvariant s → HoldersHaveTheWord s }
+    ensures usages { (s : State) → PinInvariant s → UsagesAreLow s }
+    ensures packed { (s : State) → PinInvariant s → TagWordsAreTags s }
+    ensures blocks { (s : State) → PinInvariant s → TagWordsAreBlocks s }
+    ensures untagged { (s : State) → PinInvariant s → UntaggedFramesHaveOnePin s }
+    ensures flags { (s : State) → PinInvariant s → FlagsMatchTags s }
+    ensures seen { (s : State) → PinInvariant s → SeenFramesAreValid s }
+    ensures remembers { (s : State) → PinInvariant s → PinsRemember s }
+    ensures exact { (s : State) → PinInvariant s → MapsAreExact s }
+    ensures taken { (s : State) → PinInvariant s → TurnsAreHeld s }
+    ensures maps_seen { (s : State) → PinInvariant s → MapsAreAsSeen s }
+    ensures maps_home { (s : State) → PinInvariant s → MapsAreHome s }
 {}
 
 /// An example: a backend misses a block and gives it a frame, another one hits it there, and the first one's pin goes.
