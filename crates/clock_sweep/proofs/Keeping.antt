@@ -29,7 +29,7 @@ use Rattle.frame_table.proofs.Rising.{grows_loads}
 use Rattle.clock_sweep.specs.Keeping.{SameAside, aside_of, KeepsFrames, GetsHeader, SamePins}
 use Rattle.clock_sweep.specs.Choosing as choice
 use Rattle.clock_sweep.specs.Choosing.{TakesHeader, LeavesFrame, Skips, LeavesRing, LeavesFree, Counts, NextIs, Passes, Sweeps, Comes, Chooses, FindsNone, Takes}
-use Rattle.clock_sweep.specs.declared.held.Held.{Held}
+use Rattle.clock_sweep.specs.declared.held.LockedFrame.{LockedFrame}
 
 -- what steps leave apart from frames
 pub aside_none : (v : View) → SameAside v v
@@ -231,17 +231,17 @@ gets_on f word v u w a b = record {
     relocked : (l m : Link) → Looked l m → Looked (locked_link word l) (locked_link word m)
     relocked l m c = record { role = c.role; tag = c.tag; ring = c.ring; header = refl; pending = c.pending; content = c.content; copying = c.copying; dirtied = c.dirtied; unapplied = c.unapplied; copied = c.copied; io = c.io; read = c.read; read_is_home = c.read_is_home; last_write = c.last_write; out = c.out; overwritten = c.overwritten; image = c.image; seen_valid = c.seen_valid; waits = c.waits; visited = c.visited; left_to_write = c.left_to_write }
 
-pub takes_gets : (limit : ℕ) (held : Held) (v u w : View) → KeepsFrames v u → Takes limit held u w → GetsHeader held.frame held.word v w
+pub takes_gets : (limit : ℕ) (held : LockedFrame) (v u w : View) → KeepsFrames v u → Takes limit held u w → GetsHeader held.frame held.word v w
 takes_gets limit held v u w a t = gets_on held.frame held.word v u w a (gets held.frame held.word u w t.locks)
 
-pub chooses_gets : (n : ℕ) (place : Option ℕ) (v w : View) (held : Held) → Chooses n place v w held → HoldsNoHeader v → GetsHeader held.frame held.word v w
+pub chooses_gets : (n : ℕ) (place : Option ℕ) (v w : View) (held : LockedFrame) → Chooses n place v w held → HoldsNoHeader v → GetsHeader held.frame held.word v w
 chooses_gets n place v w held (choice.from_ring source e t) none = takes_gets 1 held v v w (keeps_none v) t
 chooses_gets n place v w held (choice.from_list {u = u} {x = x} source r l t) none = let a = ring_keeps n place v u r none in let b = keeps_on v u x a (list_keeps n u x l (headless_on v u a none)) in takes_gets 0 held v x w b t
 chooses_gets n place v w held (choice.by_clock {u = u} {x = x} {y = y} {left = left} source r l c t) none = let a = ring_keeps n place v u r none in let b = keeps_on v u x a (list_keeps n u x l (headless_on v u a none)) in
     takes_gets 0 held v y w (keeps_on v x y b (comes_keep n x y held.frame left c (headless_on v x b none))) t
 
 -- a frame that no backend pins isn't pinned by this one
-takes_absent : (limit : ℕ) (held : Held) (v w : View) → Takes limit held v w → (link w held.frame).role ≡ Absent
+takes_absent : (limit : ℕ) (held : LockedFrame) (v w : View) → Takes limit held v w → (link w held.frame).role ≡ Absent
 takes_absent limit held v w t = ap (λ (l : Link). l.role) (link_is (pins pin.lock_header) held.frame t.locks.was t.locks.before w t.locks.did) ∙ of_role (link t.locks.before held.frame).role refl
   where
     none : (t.locks.did.state.pool.core.frame held.frame).word.pins ≡ 0
@@ -255,13 +255,13 @@ takes_absent limit held v w t = ap (λ (l : Link). l.role) (link_is (pins pin.lo
     of_role HandedOut e = let a = some (λ no. let x : HandedOut ≡ Absent = sym e ∙ no in absurd (cc)) in absurd (omega (arith, a, none))
     of_role Victim e = let a = some (λ no. let x : Victim ≡ Absent = sym e ∙ no in absurd (cc)) in absurd (omega (arith, a, none))
 
-pub chooses_absent : (n : ℕ) (place : Option ℕ) (v w : View) (held : Held) → Chooses n place v w held → GetsHeader held.frame held.word v w → (link v held.frame).role ≡ Absent
+pub chooses_absent : (n : ℕ) (place : Option ℕ) (v w : View) (held : LockedFrame) → Chooses n place v w held → GetsHeader held.frame held.word v w → (link v held.frame).role ≡ Absent
 chooses_absent n place v w held (choice.from_ring source e t) g = sym g.here.role ∙ takes_absent 1 held v w t
 chooses_absent n place v w held (choice.from_list {u = u} {x = x} source r l t) g = sym g.here.role ∙ takes_absent 0 held x w t
 chooses_absent n place v w held (choice.by_clock {u = u} {x = x} {y = y} {left = left} source r l c t) g = sym g.here.role ∙ takes_absent 0 held y w t
 
 -- what was taken from the ring stands at its place
-pub chooses_place : (n : ℕ) (place : Option ℕ) (v w : View) (held : Held) → Chooses n place v w held → held.from_ring ≡ true → place ≡ Some held.frame
+pub chooses_place : (n : ℕ) (place : Option ℕ) (v w : View) (held : LockedFrame) → Chooses n place v w held → held.from_ring ≡ true → place ≡ Some held.frame
 chooses_place n place v w held (choice.from_ring source e t) ring = e
 chooses_place n place v w held (choice.from_list source r l t) ring = let no : false ≡ true = sym source ∙ ring in absurd (cc)
 chooses_place n place v w held (choice.by_clock source r l c t) ring = let no : false ≡ true = sym source ∙ ring in absurd (cc)

@@ -11,7 +11,7 @@ use Rattle.frame_table.specs.Seats.{IsUsed}
 use Rattle.frame_table.specs.FrameSteps.{Did, Looks, looking}
 use Rattle.frame_table.specs.WordSteps.{DidWord, add_hand}
 use Rattle.access_rings.specs.RingState.{RingState, frame_at_current, ring_after_keep, ring_after_next}
-use Rattle.clock_sweep.specs.declared.held.Held.{Held}
+use Rattle.clock_sweep.specs.declared.held.LockedFrame.{LockedFrame}
 use Rattle.clock_sweep.specs.declared.clock.Treated.{Treated}
 use Rattle.clock_sweep.specs.declared.clock.Treated.TheVariants.{Chosen, Passed}
 use Rattle.clock_sweep.specs.Keeping.{SamePins}
@@ -34,7 +34,7 @@ abbrev pub IsUnfit : ℕ → StateWord → Type 0
 IsUnfit limit w = (0 < w.pins) ⊎ (limit < w.usage)
 
 -- A frame was chosen: its header is held, at a word that is fit
-pub record Takes (limit : ℕ) (held : Held) (v w : View) : Type 0 where
+pub record Takes (limit : ℕ) (held : LockedFrame) (v w : View) : Type 0 where
   pub locks : TakesHeader held.frame v w held.word
   pub fit : IsFit limit (fields held.word)
 
@@ -101,7 +101,7 @@ abbrev pub Comes : ℕ → View → View → ℕ → ℕ → Type 0
 Comes n v w f left = (u : View) × (tries : ℕ) × Sweeps n v u tries × NextIs n tries u w f left
 
 -- A frame was chosen: the ring's, or of the free list where that isn't taken, or of the clock
-pub data Chooses (n : ℕ) (place : Option ℕ) (v w : View) (held : Held) : Type 0 where
+pub data Chooses (n : ℕ) (place : Option ℕ) (v w : View) (held : LockedFrame) : Type 0 where
   from_ring : held.from_ring ≡ true → place ≡ Some held.frame → Takes 1 held v w → Chooses n place v w held
   from_list : {u x : View} → held.from_ring ≡ false → LeavesRing n place v u → LeavesFree n u x → Takes 0 held x w → Chooses n place v w held
   by_clock : {u x y : View} {left : ℕ} → held.from_ring ≡ false → LeavesRing n place v u → LeavesFree n u x → Comes n x y held.frame left → Takes 0 held y w → Chooses n place v w held

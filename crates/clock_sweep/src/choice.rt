@@ -13,7 +13,7 @@ ghost use Rattle.clock_sweep.specs.Choosing.{Chooses, FindsNone, IsFit, LeavesFr
 
 use crate::census::Census;
 use crate::clock::from_clock;
-use crate::held::{Held, NoUnpinned};
+use crate::held::{LockedFrame, NoUnpinned};
 use crate::sweep::Sweep;
 use crate::taking::try_frame;
 use access_rings::Ring;
@@ -36,7 +36,7 @@ fn next_place(ring: &mut Option<Ring>) -> Option<u32>
 }
 
 /// The ring's current place gets the frame that was chosen (`AddBufferToRing`), if that came from elsewhere.
-fn keep_place(ring: &mut Option<Ring>, held: &Held)
+fn keep_place(ring: &mut Option<Ring>, held: &LockedFrame)
     ensures { ring.new ≡ ring_keeping held.now.from_ring held.now.frame ring.old }
 {
     if held.from_ring {
@@ -53,7 +53,7 @@ fn from_ring<L: BlockLane, G: LogDevice, R: Wait>(
     rt: &R,
     seat: &mut Seat<Value<L, G>, View>,
     place: Option<u32>,
-) -> Option<Held>
+) -> Option<LockedFrame>
     requires seat { IsSeat table.now seat.old }
     requires headless { HoldsNoHeader seat.old.me.0 }
     ensures seat { SameSeat seat.old seat.new }
@@ -70,7 +70,7 @@ fn from_free_list<L: BlockLane, G: LogDevice, R: Wait>(
     rt: &R,
     seat: &mut Seat<Value<L, G>, View>,
     sweep: &Sweep,
-) -> Option<Held>
+) -> Option<LockedFrame>
     requires seat { IsSeat table.now seat.old }
     requires headless { HoldsNoHeader seat.old.me.0 }
     ensures seat { SameSeat seat.old seat.new }
@@ -99,7 +99,7 @@ pub fn victim<L: BlockLane, G: LogDevice, R: Wait>(
     sweep: &Sweep,
     census: &mut Census,
     ring: &mut Option<Ring>,
-) -> Result<Held, NoUnpinned>
+) -> Result<LockedFrame, NoUnpinned>
     requires seat { IsSeat table.now seat.old }
     requires headless { HoldsNoHeader seat.old.me.0 }
     requires census { census.old.frames ≡ frames_of table.now }
@@ -139,7 +139,7 @@ fn choose<L: BlockLane, G: LogDevice, R: Wait>(
     sweep: &Sweep,
     census: &mut Census,
     place: Option<u32>,
-) -> Result<Held, NoUnpinned>
+) -> Result<LockedFrame, NoUnpinned>
     requires seat { IsSeat table.now seat.old }
     requires headless { HoldsNoHeader seat.old.me.0 }
     requires census { census.old ≡ new_census (frames_of table.now) }

@@ -8,7 +8,7 @@ ghost use Rattle.clock_sweep.specs.CensusList.{new_census};
 ghost use Rattle.clock_sweep.specs.Choosing.{Comes, Counts, FindsUnpinned, NextIs, Sweeps, Takes, Treats};
 
 use crate::census::Census;
-use crate::held::{Held, NoUnpinned};
+use crate::held::{LockedFrame, NoUnpinned};
 use atomic_table::Seat;
 use frame_table::{FrameTable, Value};
 use log_device::LogDevice;
@@ -27,7 +27,7 @@ struct Next {
 /// What the clock does with a frame.
 enum Treated {
     /// It is the victim.
-    Chosen(Held),
+    Chosen(LockedFrame),
     /// The clock goes on, with so many tries left.
     Passed(u32),
 }
@@ -126,7 +126,7 @@ fn treat<L: BlockLane, G: LogDevice, R: Wait>(
         table.lower_usage(seat, frame, word);
         return Treated::Passed(table.frames());
     }
-    Treated::Chosen(Held {
+    Treated::Chosen(LockedFrame {
         frame,
         word,
         from_ring: false,
@@ -139,7 +139,7 @@ pub(crate) fn from_clock<L: BlockLane, G: LogDevice, R: Wait>(
     rt: &R,
     seat: &mut Seat<Value<L, G>, View>,
     census: &mut Census,
-) -> Result<Held, NoUnpinned>
+) -> Result<LockedFrame, NoUnpinned>
     requires seat { IsSeat table.now seat.old }
     requires headless { HoldsNoHeader seat.old.me.0 }
     requires census { census.old ≡ new_census (frames_of table.now) }

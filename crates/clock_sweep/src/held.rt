@@ -1,13 +1,13 @@
 //! What a choice answers.
 
 /// A frame that was chosen, whose header this backend holds. It has to be pinned, by a call that takes its number and its word, or its header unlocked, which takes the number alone.
-pub struct Held {
+pub struct LockedFrame {
     pub(crate) frame: u32,
     pub(crate) word: u64,
     pub(crate) from_ring: bool,
 }
 
-impl Held {
+impl LockedFrame {
     ghost use Rattle.std.specs.Prelude.{◌≡◌};
 
     pub fn frame(&self) -> u32
@@ -34,7 +34,7 @@ impl Held {
     pub fn into_frame(self) -> u32
         ensures { result ≡ self.frame }
     {
-        let Held {
+        let LockedFrame {
             frame,
             word: _,
             from_ring: _,

@@ -6,7 +6,7 @@ ghost use Rattle.pin_core.specs.Steps.{HoldsNoHeader};
 ghost use Rattle.frame_table.specs.Seats.{IsSeat, SameSeat, frames_of};
 ghost use Rattle.clock_sweep.specs.Choosing.{IsFit, IsUnfit, Skips, Takes, usage_allowed};
 
-use crate::held::Held;
+use crate::held::LockedFrame;
 use atomic_table::Seat;
 use frame_table::{FrameTable, Value};
 use log_device::LogDevice;
@@ -31,7 +31,7 @@ pub(crate) fn try_frame<L: BlockLane, G: LogDevice, R: Wait>(
     seat: &mut Seat<Value<L, G>, View>,
     frame: u32,
     from_ring: bool,
-) -> Option<Held>
+) -> Option<LockedFrame>
     requires seat { IsSeat table.now seat.old }
     requires headless { HoldsNoHeader seat.old.me.0 }
     ensures seat { SameSeat seat.old seat.new }
@@ -45,7 +45,7 @@ pub(crate) fn try_frame<L: BlockLane, G: LogDevice, R: Wait>(
     }
     let word = table.lock_header(rt, seat, frame);
     if is_fit(word, from_ring) {
-        return Some(Held {
+        return Some(LockedFrame {
             frame,
             word,
             from_ring,

@@ -13,7 +13,7 @@ use Rattle.history_core.proofs.Laws.{laws_kept}
 use Rattle.table_rule.specs.declared.value.Value.{Value}
 use Rattle.table_rule.specs.declared.opening.Opening.{Opening}
 use Rattle.frame_table.specs.Kinds.{FrameWord, state_word, tag_word, content_word, FrameKind, part_of, load_of, view_after, state_after}
-use Rattle.table_rule.specs.Shows.{ShowsFrame, Devices, Shows, Held}
+use Rattle.table_rule.specs.Shows.{ShowsFrame, Devices, Shows, RuleHolds}
 use Rattle.frame_table.specs.FrameSteps.{part_place, SaysOf, Did, Choice, always, if_found, if_unlocked, chosen, choice_part, tells}
 use Rattle.frame_table.proofs.Kept.{frame_step}
 use Rattle.frame_table.proofs.Frames.{Asks, shows_after}
@@ -57,7 +57,7 @@ module _ {L G : Type 0} (d : Devices L G) (o : Opening L G) where
   -- Where whatever state the table shows lets the seat make a step of the chosen kind, the operation keeps the rule, and tells that step
   pub acts : (choice : Choice) (slots id f a b : ℕ) (g : ℕ → ℕ) (me : Me (Value L G) View) → f < o.config.frames → me.0.emptied ≡ false
       → ((t : table.State (Value L G) View) (s : State) → Shows d o t s → Laws s → get_elem? s.pool.core.views id ≡ some me.0 → let i : ℕ = part_place (choice_part choice) f in let n : ℕ = get_or t.words i 0 in n < 18446744073709551616 → Asks (chosen choice a n) t s f i (g n) me.0)
-      → Allows (Held d o) slots id me (part_place (choice_part choice) f) g (tells choice (step slots (part_place (choice_part choice) f) a b none) me)
+      → Allows (RuleHolds d o) slots id me (part_place (choice_part choice) f) g (tells choice (step slots (part_place (choice_part choice) f) a b none) me)
   acts choice slots id f a b g me below live asked t h deep there small =
       let s = h.state in let i : ℕ = part_place (choice_part choice) f in let n : ℕ = get_or t.words i 0 in let k : FrameKind = chosen choice a n in
       let here : get_elem? s.pool.core.views id ≡ some me.0 = ap (λ (l : List View). get_elem? l id) (sym h.shows.views) ∙ there in

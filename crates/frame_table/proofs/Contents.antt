@@ -23,7 +23,7 @@ use Rattle.table_rule.specs.declared.value.Value.{Value}
 use Rattle.table_rule.specs.declared.opening.Opening.{Opening}
 use Rattle.table_rule.specs.Layout.{content_place}
 use Rattle.frame_table.specs.Kinds.{FrameKind, pages, part_of, load_of, frame_after, link_after, IsAllowed, IsAllowedAround}
-use Rattle.table_rule.specs.Shows.{ShowsFrame, Devices, Shows, Held}
+use Rattle.table_rule.specs.Shows.{ShowsFrame, Devices, Shows, RuleHolds}
 use Rattle.frame_table.specs.FrameSteps.{Did, SaysOf, part_place, always, if_found, chosen, tells}
 use Rattle.frame_table.specs.Kinds.{content_word}
 use Rattle.frame_table.specs.Content.{looking_content, has_exclusive, has_copying, CanLock, CanDropShare, CanDropExclusive, CanDropCopy}
@@ -137,14 +137,14 @@ module _ {L G : Type 0} (d : Devices L G) (o : Opening L G) where
   says_content : (t : table.State (Value L G) View) (s : State) (f : ℕ) → f < o.config.frames → Shows d o t s → SaysOf content_word (get_or t.words (3 * f + 2) 0) (s.pool.core.frame f)
   says_content t s f below h = let a = h.frame f below in (a.sharers, a.exclusive, a.copying, a.small)
 
-  pub looks_content : (slots id f : ℕ) (me : Me (Value L G) View) → f < o.config.frames → me.0.emptied ≡ false → Allows (Held d o) slots id me (content_place f) (λ n. n) (tells (always looking_content) (step slots (content_place f) 0 0 none) me)
+  pub looks_content : (slots id f : ℕ) (me : Me (Value L G) View) → f < o.config.frames → me.0.emptied ≡ false → Allows (RuleHolds d o) slots id me (content_place f) (λ n. n) (tells (always looking_content) (step slots (content_place f) 0 0 none) me)
   looks_content slots id f me below live = acts d o (always looking_content) slots id f 0 0 (λ n. n) me below live (λ t s h laws there small. looks_content_at t s f me.0 below h)
 
   -- a step of the kind k at a content word, which becomes g of what it was
   pub changes : (k : FrameKind) → part_of k ≡ content_word → (slots id f a b : ℕ) (g : ℕ → ℕ) (me : Me (Value L G) View) → f < o.config.frames → me.0.emptied ≡ false
       → ((s : State) (n : ℕ) → Laws s → f < s.pool.core.frames → get_elem? s.pool.core.views id ≡ some me.0 → SaysOf content_word n (s.pool.core.frame f) → AsksContent k s f (g n) me.0)
-      → Allows (Held d o) slots id me (content_place f) g (tells (always k) (step slots (content_place f) a b none) me)
-  changes k part slots id f a b g me below live asked = subst (λ (i : ℕ). Allows (Held d o) slots id me i g (tells (always k) (step slots i a b none) me)) at (acts d o (always k) slots id f a b g me below live
+      → Allows (RuleHolds d o) slots id me (content_place f) g (tells (always k) (step slots (content_place f) a b none) me)
+  changes k part slots id f a b g me below live asked = subst (λ (i : ℕ). Allows (RuleHolds d o) slots id me i g (tells (always k) (step slots i a b none) me)) at (acts d o (always k) slots id f a b g me below live
       (λ t s h laws there small. subst (λ (i : ℕ). Asks k t s f i (g (get_or t.words i 0)) me.0) (sym at) (at_content k t s f (g (get_or t.words (3 * f + 2) 0)) me.0 below h (asked s (get_or t.words (3 * f + 2) 0) laws (let e = h.fixed.frames in omega arith) there (says_content t s f below h)))))
     where
       at : part_place (part_of k) f ≡ content_place f
@@ -153,8 +153,8 @@ module _ {L G : Type 0} (d : Devices L G) (o : Opening L G) where
   -- a compare-exchange of the content word from `was` to `new`
   pub exchanges : (k : FrameKind) → part_of k ≡ content_word → (slots id f was new : ℕ) (me : Me (Value L G) View) → f < o.config.frames → me.0.emptied ≡ false
       → ((s : State) → Laws s → f < s.pool.core.frames → s.pool.core.backends ≤ 64 → get_elem? s.pool.core.views id ≡ some me.0 → SaysOf content_word was (s.pool.core.frame f) → AsksContent k s f new me.0)
-      → Allows (Held d o) slots id me (content_place f) (λ n. either (eqb n was) new n) (tells (if_found k) (step slots (content_place f) was new none) me)
-  exchanges k part slots id f was new me below live asked = subst (λ (i : ℕ). Allows (Held d o) slots id me i (λ n. either (eqb n was) new n) (tells (if_found k) (step slots i was new none) me)) at
+      → Allows (RuleHolds d o) slots id me (content_place f) (λ n. either (eqb n was) new n) (tells (if_found k) (step slots (content_place f) was new none) me)
+  exchanges k part slots id f was new me below live asked = subst (λ (i : ℕ). Allows (RuleHolds d o) slots id me i (λ n. either (eqb n was) new n) (tells (if_found k) (step slots i was new none) me)) at
       (acts d o (if_found k) slots id f was new (λ n. either (eqb n was) new n) me below live
       (λ t s h laws there small. subst (λ (i : ℕ). Asks (chosen (if_found k) was (get_or t.words i 0)) t s f i (either (eqb (get_or t.words i 0) was) new (get_or t.words i 0)) me.0) (sym at) (of_test t s h laws there)))
     where
@@ -169,7 +169,7 @@ module _ {L G : Type 0} (d : Devices L G) (o : Opening L G) where
           (λ miss. subst (λ (b : Bool). Asks (cond b k (load_of (part_of k))) t s f (3 * f + 2) (either b new n) me.0) (sym (ne_eqb n was miss)) (subst (λ p. Asks (load_of p) t s f (3 * f + 2) n me.0) (sym part) (looks_content_at t s f me.0 below h)))
 
   pub shares_there : (slots id f was : ℕ) (me : Me (Value L G) View) → f < o.config.frames → me.0.emptied ≡ false → CanLock (link me.0 f) → has_exclusive was ≡ false
-      → Allows (Held d o) slots id me (content_place f) (λ n. either (eqb n was) (was + 1) n) (tells (if_found (pages paged.share)) (step slots (content_place f) was (was + 1) none) me)
+      → Allows (RuleHolds d o) slots id me (content_place f) (λ n. either (eqb n was) (was + 1) n) (tells (if_found (pages paged.share)) (step slots (content_place f) was (was + 1) none) me)
   shares_there slots id f was me below live may free = exchanges (pages paged.share) refl slots id f was (was + 1) me below live (λ s laws inside few there is. let m = more_sharers was (let q = few_sharers s laws f inside in let e = is.0 in omega arith) is.3 in record {
     allowed = (tt, record { pinned = may.pinned; seen = may.seen; none = may.none; free = is.1 ∙ free });
     around = tt;
@@ -179,7 +179,7 @@ module _ {L G : Type 0} (d : Devices L G) (o : Opening L G) where
   })
 
   pub excludes_there : (slots id f was : ℕ) (me : Me (Value L G) View) → f < o.config.frames → me.0.emptied ≡ false → CanLock (link me.0 f) → was ≡ 0
-      → Allows (Held d o) slots id me (content_place f) (λ n. either (eqb n was) 262144 n) (tells (if_found (pages paged.exclude)) (step slots (content_place f) was 262144 none) me)
+      → Allows (RuleHolds d o) slots id me (content_place f) (λ n. either (eqb n was) 262144 n) (tells (if_found (pages paged.exclude)) (step slots (content_place f) was 262144 none) me)
   excludes_there slots id f was me below live may zero = exchanges (pages paged.exclude) refl slots id f was 262144 me below live (λ s laws inside few there is. let none : SaysOf content_word 0 (s.pool.core.frame f) = subst (λ (x : ℕ). SaysOf content_word x (s.pool.core.frame f)) zero is in record {
     allowed = (tt, record { pinned = may.pinned; seen = may.seen; none = may.none; free = none.1; alone = none.0; no_copy = none.2 });
     around = tt;
@@ -189,7 +189,7 @@ module _ {L G : Type 0} (d : Devices L G) (o : Opening L G) where
   })
 
   pub copies_there : (slots id f was : ℕ) (me : Me (Value L G) View) → f < o.config.frames → me.0.emptied ≡ false → (link me.0 f).content ≡ Shared → has_copying was ≡ false
-      → Allows (Held d o) slots id me (content_place f) (λ n. either (eqb n was) (was + 524288) n) (tells (if_found (pages paged.take_copy)) (step slots (content_place f) was (was + 524288) none) me)
+      → Allows (RuleHolds d o) slots id me (content_place f) (λ n. either (eqb n was) (was + 524288) n) (tells (if_found (pages paged.take_copy)) (step slots (content_place f) was (was + 524288) none) me)
   copies_there slots id f was me below live right free = exchanges (pages paged.take_copy) refl slots id f was (was + 524288) me below live (λ s laws inside few there is. let m = copy_set was free is.3 in record {
     allowed = (tt, record { right = right; free = is.2 ∙ free });
     around = tt;
@@ -199,7 +199,7 @@ module _ {L G : Type 0} (d : Devices L G) (o : Opening L G) where
   })
 
   pub unshares_there : (slots id f : ℕ) (me : Me (Value L G) View) → f < o.config.frames → me.0.emptied ≡ false → CanDropShare (link me.0 f)
-      → Allows (Held d o) slots id me (content_place f) (λ n. (n + (2 ^ 64 - 1)) % 2 ^ 64) (tells (always (pages paged.unshare)) (step slots (content_place f) 1 0 none) me)
+      → Allows (RuleHolds d o) slots id me (content_place f) (λ n. (n + (2 ^ 64 - 1)) % 2 ^ 64) (tells (always (pages paged.unshare)) (step slots (content_place f) 1 0 none) me)
   unshares_there slots id f me below live may = changes (pages paged.unshare) refl slots id f 1 0 (λ n. (n + (2 ^ 64 - 1)) % 2 ^ 64) me below live (λ s n laws inside there is. let m = less_sharers n (subst (λ (x : ℕ). 0 < x) is.0 (own_share s laws f inside id me.0 there may.right)) is.3 in record {
     allowed = (tt, record { right = may.right; no_copy = may.no_copy; no_output = may.no_output; page_home = may.page_home });
     around = tt;
@@ -209,7 +209,7 @@ module _ {L G : Type 0} (d : Devices L G) (o : Opening L G) where
   })
 
   pub unexcludes_there : (slots id f : ℕ) (me : Me (Value L G) View) → f < o.config.frames → me.0.emptied ≡ false → CanDropExclusive (link me.0 f)
-      → Allows (Held d o) slots id me (content_place f) (λ n. (n + (2 ^ 64 - 262144)) % 2 ^ 64) (tells (always (pages paged.unexclude)) (step slots (content_place f) 262144 0 none) me)
+      → Allows (RuleHolds d o) slots id me (content_place f) (λ n. (n + (2 ^ 64 - 262144)) % 2 ^ 64) (tells (always (pages paged.unexclude)) (step slots (content_place f) 262144 0 none) me)
   unexcludes_there slots id f me below live may = changes (pages paged.unexclude) refl slots id f 262144 0 (λ n. (n + (2 ^ 64 - 262144)) % 2 ^ 64) me below live (λ s n laws inside there is. let m = exclusive_cleared n (sym is.1 ∙ own_exclusive s laws f inside id me.0 there may.right) is.3 in record {
     allowed = (tt, record { right = may.right; settled = may.settled; page_home = may.page_home });
     around = tt;
@@ -219,7 +219,7 @@ module _ {L G : Type 0} (d : Devices L G) (o : Opening L G) where
   })
 
   pub leaves_copy_there : (slots id f : ℕ) (me : Me (Value L G) View) → f < o.config.frames → me.0.emptied ≡ false → CanDropCopy (link me.0 f)
-      → Allows (Held d o) slots id me (content_place f) (λ n. (n + (2 ^ 64 - 524288)) % 2 ^ 64) (tells (always (pages paged.leave_copy)) (step slots (content_place f) 524288 0 none) me)
+      → Allows (RuleHolds d o) slots id me (content_place f) (λ n. (n + (2 ^ 64 - 524288)) % 2 ^ 64) (tells (always (pages paged.leave_copy)) (step slots (content_place f) 524288 0 none) me)
   leaves_copy_there slots id f me below live may = changes (pages paged.leave_copy) refl slots id f 524288 0 (λ n. (n + (2 ^ 64 - 524288)) % 2 ^ 64) me below live (λ s n laws inside there is. let m = copy_cleared n (sym is.2 ∙ own_copy s laws f inside id me.0 there may.right) is.3 in record {
     allowed = (tt, record { right = may.right; page_home = may.page_home });
     around = tt;

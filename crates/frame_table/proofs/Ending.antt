@@ -25,7 +25,7 @@ use Rattle.table_rule.specs.declared.turn.Place.TheVariants as place
 use Rattle.table_rule.specs.declared.turn.Turn.TheVariants as turn
 use Rattle.table_rule.specs.Layout.{slot_of}
 use Rattle.table_rule.specs.Laid.{lanes_among, HasNoDevices, EndsWith}
-use Rattle.table_rule.specs.Shows.{is_out, IsHome, Devices, Gives, GivesPage, GivesMap, GivesLane, GivesLog, IsLane, IsLog, IsPlaceIn, Held}
+use Rattle.table_rule.specs.Shows.{is_out, IsHome, Devices, Gives, GivesPage, GivesMap, GivesLane, GivesLog, IsLane, IsLog, IsPlaceIn, RuleHolds}
 use Rattle.table_rule.proofs.Emptying.{at_take, two_last, plain_each, LanesAt, AreThose, are_those, same_item, IsOther, other_plain, other_lanes, lane_plain, log_lanes, list_lanes, one_log}
 use Rattle.table_rule.proofs.Opens.{length_low}
 use Rattle.frame_table.specs.Closes.{Closes}
@@ -38,7 +38,7 @@ spent_home (place.Of (turn.Partition p)) = refl
 spent_home (place.Of (turn.Lane q)) = refl
 spent_home (place.Of turn.Log) = refl
 
-module _ {L G : Type 0} (d : Devices L G) (o : Opening L G) (t : table.State (Value L G) View) (h : Held d o t) (v : View) (there : get_elem? t.views 0 ≡ some v) (live : v.emptied ≡ false) (free : HoldsNothing v) (joined : v.joined + 1 ≡ v.next) where
+module _ {L G : Type 0} (d : Devices L G) (o : Opening L G) (t : table.State (Value L G) View) (h : RuleHolds d o t) (v : View) (there : get_elem? t.views 0 ≡ some v) (live : v.emptied ≡ false) (free : HoldsNothing v) (joined : v.joined + 1 ≡ v.next) where
   abbrev s : State
   s = h.state
 
@@ -173,7 +173,7 @@ module _ {L G : Type 0} (d : Devices L G) (o : Opening L G) (t : table.State (Va
     }
 
 -- What the last state of a closed table gives
-module _ {L G : Type 0} (d : Devices L G) (o : Opening L G) (id : ℕ) (v : View) (words : List ℕ) (xs : List (Value L G)) (final : Final (Seen (Held d o) id v) words xs) (first_id : id ≡ 0) (live : v.emptied ≡ false) (free : HoldsNothing v) (joined : v.joined + 1 ≡ v.next) where
+module _ {L G : Type 0} (d : Devices L G) (o : Opening L G) (id : ℕ) (v : View) (words : List ℕ) (xs : List (Value L G)) (final : Final (Seen (RuleHolds d o) id v) words xs) (first_id : id ≡ 0) (live : v.emptied ≡ false) (free : HoldsNothing v) (joined : v.joined + 1 ≡ v.next) where
   seen_first : get_elem? final.0.views 0 ≡ some v
   seen_first = ap (get_elem? final.0.views) (sym first_id) ∙ final.1.1
 

@@ -33,7 +33,7 @@ use Rattle.table_rule.specs.declared.turn.Turn.TheVariants as turn
 use Rattle.table_rule.specs.declared.value.Value.{Value}
 use Rattle.table_rule.specs.Blocks.{log_name}
 use Rattle.table_rule.specs.Layout.{latch_place, end_place}
-use Rattle.table_rule.specs.Shows.{HasTurn, ShowsFrame, ShowsLatches, is_out, is_taken, Devices, Shows, Held}
+use Rattle.table_rule.specs.Shows.{HasTurn, ShowsFrame, ShowsLatches, is_out, is_taken, Devices, Shows, RuleHolds}
 use Rattle.frame_table.specs.Entering.{MayBecomeEntry, IsRecord, MayStoreEnd, DidEnter, view_entered, tells_end}
 use Rattle.frame_table.proofs.Frames.{frame_else, lane_none, device_none, same_at, home_before, gives_same}
 use Rattle.frame_table.proofs.LogNames.{record_is}
@@ -124,7 +124,7 @@ module _ {L G : Type 0} (d : Devices L G) (o : Opening L G) where
 
   -- the store keeps the rule, and tells that step
   pub stores_end : (slots id f end : ℕ) (me : Me (Value L G) View) → me.0.emptied ≡ false → (tag : Tag) (p : Page) → MayStoreEnd o.catalog.value f tag p end me.0
-      → Allows (Held d o) slots id me (end_place o.config.frames) (λ _. end) (tells_end o.catalog.value f end (step slots (end_place o.config.frames) end 0 none) me)
+      → Allows (RuleHolds d o) slots id me (end_place o.config.frames) (λ _. end) (tells_end o.catalog.value f end (step slots (end_place o.config.frames) end 0 none) me)
   stores_end slots id f end me live tag p may t h deep there small = let s : State = h.state in let here : get_elem? s.pool.core.views id ≡ some me.0 = ap (λ (l : List View). get_elem? l id) (sym h.shows.views) ∙ there in
       let inside : f < s.pool.core.frames = inside_of s id f me.0 h.laws here live may.enters.right in let can : CanEnter s f p me.0 = can_enter s id me.0 h.laws here live o.catalog.value h.shows.fixed.names f tag p end may in
       let is : end ≡ s.end + record_size = may.next ∙ ap (λ (n : ℕ). n + record_size) (end_is s id me.0 h.laws here live may.start may.enters.loaded) in (

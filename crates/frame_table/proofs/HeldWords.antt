@@ -19,7 +19,7 @@ use Rattle.table_rule.specs.declared.value.Value.{Value}
 use Rattle.table_rule.specs.declared.opening.Opening.{Opening}
 use Rattle.table_rule.specs.Layout.{state_place}
 use Rattle.frame_table.specs.Kinds.{FrameKind, pages, state_word, part_of}
-use Rattle.table_rule.specs.Shows.{Devices, Held}
+use Rattle.table_rule.specs.Shows.{Devices, RuleHolds}
 use Rattle.frame_table.specs.Seats.{Looked}
 use Rattle.frame_table.specs.FrameSteps.{Did, SaysOf, Tried, part_place, has_locked, always, if_found, tells}
 use Rattle.frame_table.specs.Content.{CanAwait, CanBeginIo, CanClearJust, CanFinishIo, CanNeed, CanWake, begun_link, dirtied_link, start_of}
@@ -57,8 +57,8 @@ module _ {L G : Type 0} (d : Devices L G) (o : Opening L G) where
   -- a step of the kind k under the header, whose word becomes `new`
   pub gives_up : (k : FrameKind) → part_of k ≡ state_word → (slots id f word new : ℕ) (me : Me (Value L G) View) → f < o.config.frames → me.0.emptied ≡ false → (link me.0 f).header ≡ Some (fields word)
       → ((s : State) → (s.pool.core.frame f).word ≡ fields word → (link me.0 f).header ≡ Some (s.pool.core.frame f).word → AsksWord k s f new me.0)
-      → Allows (Held d o) slots id me (state_place f) (λ _. new) (tells (always k) (step slots (state_place f) new 0 none) me)
-  gives_up k part slots id f word new me below live held asked = subst (λ (i : ℕ). Allows (Held d o) slots id me i (λ _. new) (tells (always k) (step slots i new 0 none) me)) at (acts d o (always k) slots id f new 0 (λ _. new) me below live
+      → Allows (RuleHolds d o) slots id me (state_place f) (λ _. new) (tells (always k) (step slots (state_place f) new 0 none) me)
+  gives_up k part slots id f word new me below live held asked = subst (λ (i : ℕ). Allows (RuleHolds d o) slots id me i (λ _. new) (tells (always k) (step slots i new 0 none) me)) at (acts d o (always k) slots id f new 0 (λ _. new) me below live
       (λ t s h laws there small. let is = word_held s id f word me.0 laws there (let e = h.fixed.frames in omega arith) held in
       subst (λ (i : ℕ). Asks k t s f i new me.0) (sym at) (at_word d o k t s f new me.0 below h (asked s is (held ∙ ap (λ (w : StateWord). Some w) (sym is))))))
     where
@@ -66,7 +66,7 @@ module _ {L G : Type 0} (d : Devices L G) (o : Opening L G) where
       at = ap (λ p. part_place p f) part
 
   pub marks_there : (slots id f was new : ℕ) (me : Me (Value L G) View) → f < o.config.frames → me.0.emptied ≡ false → (link me.0 f).content ≡ Exclusive → has_locked was ≡ false → fields new ≡ dirtied_fields (fields was)
-      → Allows (Held d o) slots id me (state_place f) (λ n. either (eqb n was) new n) (tells (if_found (pages paged.mark_dirty)) (step slots (state_place f) was new none) me)
+      → Allows (RuleHolds d o) slots id me (state_place f) (λ n. either (eqb n was) new n) (tells (if_found (pages paged.mark_dirty)) (step slots (state_place f) was new none) me)
   marks_there slots id f was new me below live right unlocked made = swaps d o (pages paged.mark_dirty) refl slots id f was new me below live (λ s laws there spread inside is. record {
     allowed = (tt, record { unlocked = ap (λ (w : StateWord). w.locked) is ∙ unlocked; right = right });
     around = tt;
@@ -76,7 +76,7 @@ module _ {L G : Type 0} (d : Devices L G) (o : Opening L G) where
   })
 
   pub begins_there : (input : Bool) (slots id f word new : ℕ) (me : Me (Value L G) View) → f < o.config.frames → me.0.emptied ≡ false → CanBeginIo input word (link me.0 f) → HasNoIo me.0 → fields new ≡ unlocked_fields (io_started_fields (fields word))
-      → Allows (Held d o) slots id me (state_place f) (λ _. new) (tells (always (pages (start_of input))) (step slots (state_place f) new 0 none) me)
+      → Allows (RuleHolds d o) slots id me (state_place f) (λ _. new) (tells (always (pages (start_of input))) (step slots (state_place f) new 0 none) me)
   begins_there true slots id f word new me below live may quiet made = gives_up (pages paged.start_input) refl slots id f word new me below live may.held (λ s is held. let r = may.to_read refl in record {
     allowed = (tt, record { held = held; settled = may.settled; pinned = may.pinned; clear = ap (λ (w : StateWord). w.in_progress) is ∙ may.clear; tagged = ap (λ (w : StateWord). w.tag_valid) is ∙ r.0; invalid = ap (λ (w : StateWord). w.valid) is ∙ r.1 });
     around = quiet;
@@ -93,7 +93,7 @@ module _ {L G : Type 0} (d : Devices L G) (o : Opening L G) where
   })
 
   pub finishes_there : (end : IoEnd) (slots id f word new : ℕ) (me : Me (Value L G) View) → f < o.config.frames → me.0.emptied ≡ false → CanFinishIo end word (link me.0 f) → HasNoWriteOut me.0 f → fields new ≡ unlocked_fields (io_ended_fields end (fields word))
-      → Allows (Held d o) slots id me (state_place f) (λ _. new) (tells (always (pages (paged.end_io end))) (step slots (state_place f) new 0 none) me)
+      → Allows (RuleHolds d o) slots id me (state_place f) (λ _. new) (tells (always (pages (paged.end_io end))) (step slots (state_place f) new 0 none) me)
   finishes_there end slots id f word new me below live may no_write made = gives_up (pages (paged.end_io end)) refl slots id f word new me below live may.held (λ s is held. record {
     allowed = (tt, record { held = held; page_home = may.page_home; ends = may.ends });
     around = no_write;
@@ -103,7 +103,7 @@ module _ {L G : Type 0} (d : Devices L G) (o : Opening L G) where
   })
 
   pub clears_just_there : (slots id f word new : ℕ) (me : Me (Value L G) View) → f < o.config.frames → me.0.emptied ≡ false → CanClearJust word (link me.0 f) → fields new ≡ unlocked_fields (just_dirtied_cleared_fields (fields word))
-      → Allows (Held d o) slots id me (state_place f) (λ _. new) (tells (always (pages paged.clear_just_dirtied)) (step slots (state_place f) new 0 none) me)
+      → Allows (RuleHolds d o) slots id me (state_place f) (λ _. new) (tells (always (pages paged.clear_just_dirtied)) (step slots (state_place f) new 0 none) me)
   clears_just_there slots id f word new me below live may made = gives_up (pages paged.clear_just_dirtied) refl slots id f word new me below live may.held (λ s is held. record {
     allowed = (tt, record { held = held; right = may.right });
     around = tt;
@@ -113,7 +113,7 @@ module _ {L G : Type 0} (d : Devices L G) (o : Opening L G) where
   })
 
   pub needs_there : (slots id f word new : ℕ) (me : Me (Value L G) View) → f < o.config.frames → me.0.emptied ≡ false → CanNeed word (link me.0 f) → fields new ≡ unlocked_fields (checkpoint_needed_fields (fields word))
-      → Allows (Held d o) slots id me (state_place f) (λ _. new) (tells (always (pages paged.need_checkpoint)) (step slots (state_place f) new 0 none) me)
+      → Allows (RuleHolds d o) slots id me (state_place f) (λ _. new) (tells (always (pages paged.need_checkpoint)) (step slots (state_place f) new 0 none) me)
   needs_there slots id f word new me below live may made = gives_up (pages paged.need_checkpoint) refl slots id f word new me below live may.held (λ s is held. record {
     allowed = (tt, record { held = held; settled = may.settled; dirty = ap (λ (w : StateWord). w.dirty) is ∙ may.dirty });
     around = tt;
@@ -123,7 +123,7 @@ module _ {L G : Type 0} (d : Devices L G) (o : Opening L G) where
   })
 
   pub awaits_there : (number slots id f word new : ℕ) (me : Me (Value L G) View) → f < o.config.frames → me.0.emptied ≡ false → CanAwait word (link me.0 f) → MayWait number me.0 → fields new ≡ unlocked_fields (waiter_set_fields number (fields word))
-      → Allows (Held d o) slots id me (state_place f) (λ _. new) (tells (always (pages (paged.set_waiter number))) (step slots (state_place f) new 0 none) me)
+      → Allows (RuleHolds d o) slots id me (state_place f) (λ _. new) (tells (always (pages (paged.set_waiter number))) (step slots (state_place f) new 0 none) me)
   awaits_there number slots id f word new me below live can may made = gives_up (pages (paged.set_waiter number)) refl slots id f word new me below live can.held (λ s is held. record {
     allowed = (tt, record { held = held; settled = can.settled; pinned = can.pinned; right = can.right; free = ap (λ (w : StateWord). w.awaited) is ∙ can.free });
     around = may;
@@ -133,7 +133,7 @@ module _ {L G : Type 0} (d : Devices L G) (o : Opening L G) where
   })
 
   pub wakes_there : (slots id f word new : ℕ) (me : Me (Value L G) View) → f < o.config.frames → me.0.emptied ≡ false → CanWake word (link me.0 f) → fields new ≡ unlocked_fields (waiter_cleared_fields (fields word))
-      → Allows (Held d o) slots id me (state_place f) (λ _. new) (tells (always (pages paged.clear_waiter)) (step slots (state_place f) new 0 none) me)
+      → Allows (RuleHolds d o) slots id me (state_place f) (λ _. new) (tells (always (pages paged.clear_waiter)) (step slots (state_place f) new 0 none) me)
   wakes_there slots id f word new me below live may made = gives_up (pages paged.clear_waiter) refl slots id f word new me below live may.held (λ s is held. record {
     allowed = (tt, record { held = held; settled = may.settled; awaited = ap (λ (w : StateWord). w.awaited) is ∙ may.awaited; single = ap (λ (w : StateWord). w.pins) is ∙ may.single });
     around = tt;

@@ -39,7 +39,7 @@ use Rattle.block_tag.specs.declared.catalogue.RelEntry.{RelEntry}
 use Rattle.table_rule.specs.Layout.{state_place, tag_place, tag_partition, partition_of_tag}
 use Rattle.history_core.specs.Laws.{Laws}
 use Rattle.frame_table.specs.Kinds.{FrameKind, pins, part_of, link_after}
-use Rattle.table_rule.specs.Shows.{ShowsFrame, Devices, Shows, Held}
+use Rattle.table_rule.specs.Shows.{ShowsFrame, Devices, Shows, RuleHolds}
 use Rattle.frame_table.specs.Seats.{Finds, mapped_link, SameSelf, Looked, Touches, Stores, HoldsWord, HasRoom, IsUsed, HasFlag, HasOnlyPin, MayChange, Lacks, NamesIn, NamesStored, MayStoreTag, CanErase, CanStoreAs, partitions_erased, partitions_stored, stored_link, assigned_link, tag_word, read_link}
 use Rattle.frame_table.specs.FrameSteps.{Tried, if_found, Did, always, looking, storing, tells}
 use Rattle.frame_table.proofs.Frames.{Asks}
@@ -74,12 +74,12 @@ module _ {L G : Type 0} (d : Devices L G) (o : Opening L G) where
   -- a store of the state word under the header, which holds the number `was`
   held_stores : (k : FrameKind) → part_of k ≡ part_of looking → (slots id f was new : ℕ) (me : Me (Value L G) View) → f < o.config.frames → me.0.emptied ≡ false → (link me.0 f).header ≡ Some (fields was)
       → ((s : State) → Laws s → get_elem? s.pool.core.views id ≡ some me.0 → f < s.pool.core.frames → (s.pool.core.frame f).word ≡ fields was → (link me.0 f).header ≡ Some (s.pool.core.frame f).word → AsksWord k s f new me.0)
-      → Allows (Held d o) slots id me (state_place f) (λ _. new) (tells (always k) (step slots (state_place f) new 0 none) me)
+      → Allows (RuleHolds d o) slots id me (state_place f) (λ _. new) (tells (always k) (step slots (state_place f) new 0 none) me)
   held_stores k part slots id f was new me below live held asked = stores d o k part slots id f new 0 new me below live (λ s laws there inside. let is : (s.pool.core.frame f).word ≡ fields was = (laws.invariant.pool.core.grid.cells id me.0 f there inside).header (fields was) held in
       asked s laws there inside is (held ∙ ap (λ (w : StateWord). Some w) (sym is)))
 
   pub victims_there : (slots id f was new : ℕ) (me : Me (Value L G) View) → f < o.config.frames → me.0.emptied ≡ false → (link me.0 f).header ≡ Some (fields was) → (link me.0 f).role ≡ Absent → HasNoVictim me.0 → HasRoom (fields was) → fields new ≡ unlocked_fields (record (fields was) { pins = (fields was).pins + 1 })
-      → Allows (Held d o) slots id me (state_place f) (λ _. new) (tells (always (pins pin.pin_victim)) (step slots (state_place f) new 0 none) me)
+      → Allows (RuleHolds d o) slots id me (state_place f) (λ _. new) (tells (always (pins pin.pin_victim)) (step slots (state_place f) new 0 none) me)
   victims_there slots id f was new me below live held absent only room made = held_stores (pins pin.pin_victim) refl slots id f was new me below live held (λ s laws there inside is mine. record {
     allowed = record { held = mine; absent = absent; room = subst HasRoom (sym is) room };
     around = only;
@@ -89,7 +89,7 @@ module _ {L G : Type 0} (d : Devices L G) (o : Opening L G) where
   })
 
   pub lowers_there : (slots id f was new : ℕ) (me : Me (Value L G) View) → f < o.config.frames → me.0.emptied ≡ false → (link me.0 f).header ≡ Some (fields was) → IsUsed (fields was) → fields new ≡ unlocked_fields (usage_down_fields (fields was))
-      → Allows (Held d o) slots id me (state_place f) (λ _. new) (tells (always (pins pin.lower_usage)) (step slots (state_place f) new 0 none) me)
+      → Allows (RuleHolds d o) slots id me (state_place f) (λ _. new) (tells (always (pins pin.lower_usage)) (step slots (state_place f) new 0 none) me)
   lowers_there slots id f was new me below live held used made = held_stores (pins pin.lower_usage) refl slots id f was new me below live held (λ s laws there inside is mine. let u = subst IsUsed (sym is) used in record {
     allowed = record { held = mine; free = u.0; used = u.1 };
     around = tt;
@@ -103,7 +103,7 @@ module _ {L G : Type 0} (d : Devices L G) (o : Opening L G) where
   pending_frame s id f v laws there inside stored = (laws.invariant.pool.core.grid.columns f inside).pending (let a = term_le (λ (u : View). weigh pendings (link u f)) s.pool.core.views id v there in let b = ap flag_weight stored in omega arith)
 
   pub assigns_there : (slots id f was new : ℕ) (me : Me (Value L G) View) → f < o.config.frames → me.0.emptied ≡ false → (link me.0 f).header ≡ Some (fields was) → (link me.0 f).pending ≡ true → HasFlag false (fields was) → fields new ≡ unlocked_fields (assigned_fields (fields was))
-      → Allows (Held d o) slots id me (state_place f) (λ _. new) (tells (always (pins pin.assign)) (step slots (state_place f) new 0 none) me)
+      → Allows (RuleHolds d o) slots id me (state_place f) (λ _. new) (tells (always (pins pin.assign)) (step slots (state_place f) new 0 none) me)
   assigns_there slots id f was new me below live held stored flag made = held_stores (pins pin.assign) refl slots id f was new me below live held (λ s laws there inside is mine. record {
     allowed = record { held = mine; stored = stored; named = λ none. let t = (pending_frame s id f me.0 laws there inside stored).leaving none in let g = subst (HasFlag false) (sym is) flag in absurd (cc) };
     around = tt;
@@ -113,7 +113,7 @@ module _ {L G : Type 0} (d : Devices L G) (o : Opening L G) where
   })
 
   pub clears_there : (slots id f was new : ℕ) (me : Me (Value L G) View) → f < o.config.frames → me.0.emptied ≡ false → (link me.0 f).header ≡ Some (fields was) → (link me.0 f).pending ≡ true → HasFlag true (fields was) → fields new ≡ unlocked_fields (cleared_fields (fields was))
-      → Allows (Held d o) slots id me (state_place f) (λ _. new) (tells (always (pins pin.clear)) (step slots (state_place f) new 0 none) me)
+      → Allows (RuleHolds d o) slots id me (state_place f) (λ _. new) (tells (always (pins pin.clear)) (step slots (state_place f) new 0 none) me)
   clears_there slots id f was new me below live held stored flag made = held_stores (pins pin.clear) refl slots id f was new me below live held (λ s laws there inside is mine. record {
     allowed = record {
       held = mine;
@@ -139,7 +139,7 @@ module _ {L G : Type 0} (d : Devices L G) (o : Opening L G) where
       }
 
   pub tag_loads : (slots id f : ℕ) (me : Me (Value L G) View) → f < o.config.frames → me.0.emptied ≡ false → pin.CanLoadTag (link me.0 f).role (link me.0 f).header
-      → Allows (Held d o) slots id me (tag_place f) (λ n. n) (tells (always (pins pin.load_tag)) (step slots (tag_place f) 0 0 none) me)
+      → Allows (RuleHolds d o) slots id me (tag_place f) (λ n. n) (tells (always (pins pin.load_tag)) (step slots (tag_place f) 0 0 none) me)
   tag_loads slots id f me below live right = acts d o (always (pins pin.load_tag)) slots id f 0 0 (λ n. n) me below live (λ t s h laws there small. record {
     allowed = right;
     around = tt;
@@ -165,7 +165,7 @@ module _ {L G : Type 0} (d : Devices L G) (o : Opening L G) where
       of_seen (Some entries) e = ap (λ (m : ℕ → Option ℕ). m tag) ((laws.invariant.pool.core.turns.cells id v (tag_partition tag) there low).seen entries e home) ∙ gives entries e
 
   pub maps_there : (tag : ℕ) (ring : Bool) (slots id f was new : ℕ) (me : Me (Value L G) View) → f < o.config.frames → me.0.emptied ≡ false → (link me.0 f).role ≡ Absent → Finds me.0 tag f → (fields was).locked ≡ false → fields new ≡ pinned_fields ring (fields was)
-      → Allows (Held d o) slots id me (state_place f) (λ n. either (eqb n was) new n) (tells (if_found (pins (pin.pin_mapped tag ring))) (step slots (state_place f) was new none) me)
+      → Allows (RuleHolds d o) slots id me (state_place f) (λ n. either (eqb n was) new n) (tells (if_found (pins (pin.pin_mapped tag ring))) (step slots (state_place f) was new none) me)
   maps_there tag ring slots id f was new me below live absent finds unlocked made = swaps d o (pins (pin.pin_mapped tag ring)) refl slots id f was new me below live (λ s laws there spread inside is. let at : tag_partition tag ≡ s.pool.core.partition_of tag = ap (λ (g : ℕ → ℕ). g tag) (sym spread) in record {
     allowed = record { unlocked = ap (λ (w : StateWord). w.locked) is ∙ unlocked; absent = absent };
     around = record {
@@ -195,7 +195,7 @@ module _ {L G : Type 0} (d : Devices L G) (o : Opening L G) where
   is_block_of relations tag t e listed = ap (has_named relations) e ∙ listed
 
   pub stores_there : (slots id f tag : ℕ) (t : Tag) (me : Me (Value L G) View) → f < o.config.frames → me.0.emptied ≡ false → unpacked_tag tag ≡ Some t → has_block o.catalog.value t ≡ true → HasOnlyPin (link me.0 f) → HoldsWord (HasFlag false) (link me.0 f) → MayChange me.0 (tag_partition tag) → Lacks me.0 tag
-      → Allows (Held d o) slots id me (tag_place f) (λ _. tag) (tells (always (pins (pin.store_tag tag))) (step slots (tag_place f) tag 0 none) me)
+      → Allows (RuleHolds d o) slots id me (tag_place f) (λ _. tag) (tells (always (pins (pin.store_tag tag))) (step slots (tag_place f) tag 0 none) me)
   stores_there slots id f tag t me below live packed listed alone untagged may lacks = acts d o (always (pins (pin.store_tag tag))) slots id f tag 0 (λ _. tag) me below live (λ u s h laws there small.
       let inside : f < s.pool.core.frames = (let e = h.fixed.frames in omega arith) in let mine = alone_there s id f me.0 laws there inside alone in let at : tag_partition tag ≡ s.pool.core.partition_of tag = ap (λ (g : ℕ → ℕ). g tag) (sym h.fixed.partition_of) in record {
         allowed = record { alone = mine; named = named_there tag (is_tag_of tag t packed); packed = is_tag_of tag t packed; untagged = untagged.knows (s.pool.core.frame f).word mine.held };
@@ -214,7 +214,7 @@ module _ {L G : Type 0} (d : Devices L G) (o : Opening L G) where
   known_there s id f tag v laws there inside known = let r = (laws.invariant.pool.core.grid.cells id v f there inside).remembers tag known in (r.0.named, r.1)
 
   pub erases_there : (slots id f : ℕ) (me : Me (Value L G) View) → f < o.config.frames → me.0.emptied ≡ false → HasOnlyPin (link me.0 f) → CanErase me.0 f
-      → Allows (Held d o) slots id me (tag_place f) (λ _. 18446744073709551615) (tells (always (pins pin.erase_tag)) (step slots (tag_place f) 18446744073709551615 0 none) me)
+      → Allows (RuleHolds d o) slots id me (tag_place f) (λ _. 18446744073709551615) (tells (always (pins pin.erase_tag)) (step slots (tag_place f) 18446744073709551615 0 none) me)
   erases_there slots id f me below live alone can = acts d o (always (pins pin.erase_tag)) slots id f 18446744073709551615 0 (λ _. 18446744073709551615) me below live (λ u s h laws there small.
       let inside : f < s.pool.core.frames = (let e = h.fixed.frames in omega arith) in of_tag u s h laws there inside (link me.0 f).tag refl)
     where
@@ -304,7 +304,7 @@ victimless f v w t l h g = dite (ℕ_discrete g f)
 
 module _ {L G : Type 0} (d : Devices L G) (o : Opening L G) where
   pub stores_as : (slots id f : ℕ) (tag : Tag) (me : Me (Value L G) View) → f < o.config.frames → me.0.emptied ≡ false → HasOnlyPin (link me.0 f) → unpacked_tag (packed_tag tag) ≡ Some tag → MayStoreTag o.catalog.value tag me.0 f
-      → Allows (Held d o) slots id me (tag_place f) (λ _. packed_tag tag) (tells (always (storing (Some tag))) (step slots (tag_place f) (packed_tag tag) 0 none) me)
+      → Allows (RuleHolds d o) slots id me (tag_place f) (λ _. packed_tag tag) (tells (always (storing (Some tag))) (step slots (tag_place f) (packed_tag tag) 0 none) me)
   stores_as slots id f tag me below live alone packed can =
       stores_there d o slots id f (packed_tag tag) tag me below live packed can.listed alone can.word (subst (MayChange me.0) (ap partition_of_tag (sym packed)) can.latch) can.map
 

@@ -43,7 +43,7 @@ use Rattle.table_rule.specs.declared.value.Value.{Value}
 use Rattle.table_rule.specs.declared.value.Value.TheVariants as value
 use Rattle.table_rule.specs.Layout.{latch_place, slot_of}
 use Rattle.table_rule.specs.LogCalls.{LogDid}
-use Rattle.table_rule.specs.Shows.{is_out, is_taken, IsHome, Devices, Gives, GivesLog, IsLog, HasValue, Held, KeepsOpening}
+use Rattle.table_rule.specs.Shows.{is_out, is_taken, IsHome, Devices, Gives, GivesLog, IsLog, HasValue, RuleHolds, KeepsOpening}
 use Rattle.frame_table.specs.LogWork.{DidLog, DidTwo, GoesOut, out_steps, view_out, IsPart, ComesHome, home_hold, device_calls_of, view_home, MayCall, MarksLogDown, IsLogOut, IsTakenLog, MayComeHome, log_went, log_came}
 use Rattle.frame_table.proofs.LogDevices.{rises, log_before, log_appended, log_torn, log_synced, log_unsynced, log_marked, Torn}
 use Rattle.frame_table.proofs.Entering.{end_is, can_log, is_entry}
@@ -129,14 +129,14 @@ log_home s id v laws there held out i u at = dite (ℕ_discrete i id)
 module _ {L G : Type 0} (d : Devices L G) (o : Opening L G) (slots id : ℕ) (me : Me (Value L G) View) (live : me.0.emptied ≡ false) where
   -- what an operation at the log's latch, which leaves the word, has to give
   abbrev Acts : table.State (Value L G) View → (ℕ → Me (Value L G) View → Type 0) → Type 0
-  Acts t then = (w : View) × (a : table.Act (Value L G)) × table.Valid t.homes me.1 a × Held d o (stepped t (latch_place o.config.frames turn.Log) (get_or t.words (latch_place o.config.frames turn.Log) 0) id me.1 w a)
+  Acts t then = (w : View) × (a : table.Act (Value L G)) × table.Valid t.homes me.1 a × RuleHolds d o (stepped t (latch_place o.config.frames turn.Log) (get_or t.words (latch_place o.config.frames turn.Log) 0) id me.1 w a)
       × then (get_or t.words (latch_place o.config.frames turn.Log) 0) (w, table.carried_after me.1 a)
 
   abbrev at_latch : table.Step (Value L G)
   at_latch = step slots (latch_place o.config.frames turn.Log) 0 0 none
 
   pub log_goes_out : me.0.log.held ≡ true → me.0.log.out ≡ None
-      → Allows (Held d o) slots id me (latch_place o.config.frames turn.Log) (λ n. n) (log_went d.bytes d.synced d.log_faults d.log_calls (slot_of o.config.frames (place.Of turn.Log)) at_latch me)
+      → Allows (RuleHolds d o) slots id me (latch_place o.config.frames turn.Log) (λ n. n) (log_went d.bytes d.synced d.log_faults d.log_calls (slot_of o.config.frames (place.Of turn.Log)) at_latch me)
   log_goes_out held out t h deep there small = of_value value_there.value value_there.home value_there.gives
     where
       here : get_elem? h.state.pool.core.views id ≡ some me.0
@@ -188,7 +188,7 @@ module _ {L G : Type 0} (d : Devices L G) (o : Opening L G) (slots id : ℕ) (me
 
 module _ {L G : Type 0} (d : Devices L G) (o : Opening L G) (slots id : ℕ) (me : Me (Value L G) View) (live : me.0.emptied ≡ false) where
   pub log_comes_back : (x : NotedLog G) → me.1 ≡ (slot_of o.config.frames (place.Of turn.Log), value.Log (record x { call = log_call.Untouched })) ∷ rest me.1 → record_size ≤ vec_capacity x.buffer → ((g : G) → d.log_faults g < 18446744073709551616) → MayComeHome d.bytes d.synced d.log_faults d.log_calls o.catalog.value x me.0
-      → Allows (Held d o) slots id me (latch_place o.config.frames turn.Log) (λ n. n) (log_came (d.bytes x.device) (d.log_faults x.device) x.call (at_latch d o slots id me live) me)
+      → Allows (RuleHolds d o) slots id me (latch_place o.config.frames turn.Log) (λ n. n) (log_came (d.bytes x.device) (d.log_faults x.device) x.call (at_latch d o slots id me live) me)
   log_comes_back x hand room fits may t h deep there small = of_call x.call may.did may.marked may.may
     where
       here : get_elem? h.state.pool.core.views id ≡ some me.0
@@ -230,7 +230,7 @@ module _ {L G : Type 0} (d : Devices L G) (o : Opening L G) (slots id : ℕ) (me
         w,
         gives,
         tt,
-        subst (λ (c : List (ℕ × Value L G)). Held d o (stepped t (latch_place o.config.frames turn.Log) (get_or t.words (latch_place o.config.frames turn.Log) 0) id c w gives)) (sym hand) record {
+        subst (λ (c : List (ℕ × Value L G)). RuleHolds d o (stepped t (latch_place o.config.frames turn.Log) (get_or t.words (latch_place o.config.frames turn.Log) 0) id c w gives)) (sym hand) record {
           state = with_log h.state views dev;
           shows = shows_back d o (set t.words (latch_place o.config.frames turn.Log) (get_or t.words (latch_place o.config.frames turn.Log) 0)) t h.state (with_log h.state views dev) id me.0 w (place.Of turn.Log) (value.Log (record x { call = log_call.Untouched })) (set-get_or t.words (latch_place o.config.frames turn.Log) 0) h.shows here
               (log_moves d o h.state id me.0 w views dev h.shows.fixed are latch same) tt (is, refl, room);
@@ -312,7 +312,7 @@ out_unnoted bytes synced faults calls value.Away v w b out = absurd b
 module _ {L G : Type 0} (d : Devices L G) (o : Opening L G) where
   -- the seat as the exchange of the slot left it
   pub log_comes_from : (slots id : ℕ) (me me' : Me (Value L G) View) (x : NotedLog G) → me' ≡ (me.0, (slot_of o.config.frames (place.Of turn.Log), value.Log (record x { call = log_call.Untouched })) ∷ rest me.1) → me.0.emptied ≡ false → record_size ≤ vec_capacity x.buffer → ((g : G) → d.log_faults g < 18446744073709551616) → MayComeHome d.bytes d.synced d.log_faults d.log_calls o.catalog.value x me.0
-      → Allows (Held d o) slots id me' (latch_place o.config.frames turn.Log) (λ n. n) (log_came (d.bytes x.device) (d.log_faults x.device) x.call (step slots (latch_place o.config.frames turn.Log) 0 0 none) me')
+      → Allows (RuleHolds d o) slots id me' (latch_place o.config.frames turn.Log) (λ n. n) (log_came (d.bytes x.device) (d.log_faults x.device) x.call (step slots (latch_place o.config.frames turn.Log) 0 0 none) me')
   log_comes_from slots id me me' x e live room fits may = let now : Me (Value L G) View = (me.0, (slot_of o.config.frames (place.Of turn.Log), value.Log (record x { call = log_call.Untouched })) ∷ rest me.1) in
-      subst (λ (m : Me (Value L G) View). Allows (Held d o) slots id m (latch_place o.config.frames turn.Log) (λ n. n) (log_came (d.bytes x.device) (d.log_faults x.device) x.call (step slots (latch_place o.config.frames turn.Log) 0 0 none) m)) (sym e)
+      subst (λ (m : Me (Value L G) View). Allows (RuleHolds d o) slots id m (latch_place o.config.frames turn.Log) (λ n. n) (log_came (d.bytes x.device) (d.log_faults x.device) x.call (step slots (latch_place o.config.frames turn.Log) 0 0 none) m)) (sym e)
       (log_comes_back d o slots id now live x refl room fits may)

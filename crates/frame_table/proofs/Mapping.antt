@@ -37,7 +37,7 @@ use Rattle.table_rule.specs.declared.turn.Turn.{Turn}
 use Rattle.table_rule.specs.declared.turn.Turn.TheVariants.{Partition, Lane, Log}
 use Rattle.table_rule.specs.Layout.{latch_place, slot_of}
 use Rattle.history_core.specs.Laws.{Laws}
-use Rattle.table_rule.specs.Shows.{is_taken, is_out, IsHome, AreApart, entry_of, Devices, Gives, GivesEntries, GivesMap, HasValue, KeepsOpening, Shows, Held}
+use Rattle.table_rule.specs.Shows.{is_taken, is_out, IsHome, AreApart, entry_of, Devices, Gives, GivesEntries, GivesMap, HasValue, KeepsOpening, Shows, RuleHolds}
 use Rattle.frame_table.specs.Latches.{AreBelow, DidMap, ComesBack, as_it_was, entered, left_out, MayComeBack, HasNamed, HasRoomFor, IsMap, map_went, map_came, MapStep, SameWork, work_of, is_named, back_hold}
 use Rattle.history_core.proofs.Laws.{laws_kept}
 use Rattle.frame_table.proofs.Frames.{put_keeps, set_twice}
@@ -105,7 +105,7 @@ module _ {L G : Type 0} (d : Devices L G) (o : Opening L G) where
           absurd (let a = ap flag_weight held in let b = ap flag_weight e in omega (arith, one, sum))
 
   pub goes_out : (slots id p : ℕ) (me : Me (Value L G) View) → p < 128 → me.0.emptied ≡ false → (hold me.0 p).held ≡ true → (hold me.0 p).out ≡ None
-      → Allows (Held d o) slots id me (latch_place o.config.frames (Partition p)) (λ n. n) (map_went o.config.frames p (slot_of o.config.frames (place.Of (Partition p))) (step slots (latch_place o.config.frames (Partition p)) 0 0 none) me)
+      → Allows (RuleHolds d o) slots id me (latch_place o.config.frames (Partition p)) (λ n. n) (map_went o.config.frames p (slot_of o.config.frames (place.Of (Partition p))) (step slots (latch_place o.config.frames (Partition p)) 0 0 none) me)
   goes_out slots id p me below live held out t h deep there small = of_value value_there.value value_there.home value_there.gives
     where
       here : get_elem? h.state.pool.core.views id ≡ some me.0
@@ -129,7 +129,7 @@ module _ {L G : Type 0} (d : Devices L G) (o : Opening L G) where
       value_there = h.shows.homes (place.Of (Partition p)) below none_out
 
       of_value : (y : Value L G) → get_elem? t.homes (o.config.frames + p) ≡ some (some y) → GivesMap o.config.frames y (h.state.pool.core.partition p).map
-          → (w : View) × (a : table.Act (Value L G)) × table.Valid t.homes me.1 a × Held d o (stepped t (latch_place o.config.frames (Partition p)) (get_or t.words (latch_place o.config.frames (Partition p)) 0) id me.1 w a)
+          → (w : View) × (a : table.Act (Value L G)) × table.Valid t.homes me.1 a × RuleHolds d o (stepped t (latch_place o.config.frames (Partition p)) (get_or t.words (latch_place o.config.frames (Partition p)) 0) id me.1 w a)
           × map_went o.config.frames p (o.config.frames + p) (step slots (latch_place o.config.frames (Partition p)) 0 0 none) me (get_or t.words (latch_place o.config.frames (Partition p)) 0) (w, table.carried_after me.1 a)
       of_value (value.Map m) home gives_it = let entries : List MapEntry = map entry_of m.items in let k : parts.TurnKind = parts.map_out entries in let w : View = view_mapped k p me.0 in
           let a : parts.TurnAllowed k (h.state.pool.core.partition p) (hold me.0 p) = record { held = held; home = out; entries_are = gives_it.found } in (
@@ -172,7 +172,7 @@ some_out (Some e) n = refl
 
 module _ {L G : Type 0} (d : Devices L G) (o : Opening L G) where
   pub comes_back : (slots id p : ℕ) (me : Me (Value L G) View) (y : Value L G) (entries : List MapEntry) → p < 128 → me.0.emptied ≡ false → me.1 ≡ (slot_of o.config.frames (place.Of (Partition p)), y) ∷ rest me.1 → IsMap o.config.frames y entries → MayComeBack entries p me.0
-      → Allows (Held d o) slots id me (latch_place o.config.frames (Partition p)) (λ n. n) (map_came p entries (step slots (latch_place o.config.frames (Partition p)) 0 0 none) me)
+      → Allows (RuleHolds d o) slots id me (latch_place o.config.frames (Partition p)) (λ n. n) (map_came p entries (step slots (latch_place o.config.frames (Partition p)) 0 0 none) me)
   comes_back slots id p me y entries below live hand is may t h deep there small = of_change (hold me.0 p).change refl
     where
       here : get_elem? h.state.pool.core.views id ≡ some me.0
@@ -231,8 +231,8 @@ module _ {L G : Type 0} (d : Devices L G) (o : Opening L G) where
       abbrev_words : set t.words (latch_place o.config.frames (Partition p)) (get_or t.words (latch_place o.config.frames (Partition p)) 0) ≡ t.words
       abbrev_words = set-get_or t.words (latch_place o.config.frames (Partition p)) 0
 
-      held_changed : (hold me.0 p).change ≢ Settled → Held d o (stepped t (latch_place o.config.frames (Partition p)) (get_or t.words (latch_place o.config.frames (Partition p)) 0) id me.1 (view_mapped (parts.map_back entries) p (view_mapped parts.change_map p me.0)) gives)
-      held_changed named = subst (λ (x : List (ℕ × Value L G)). Held d o (stepped t (latch_place o.config.frames (Partition p)) (get_or t.words (latch_place o.config.frames (Partition p)) 0) id x (view_mapped (parts.map_back entries) p (view_mapped parts.change_map p me.0)) gives)) (sym hand) record {
+      held_changed : (hold me.0 p).change ≢ Settled → RuleHolds d o (stepped t (latch_place o.config.frames (Partition p)) (get_or t.words (latch_place o.config.frames (Partition p)) 0) id me.1 (view_mapped (parts.map_back entries) p (view_mapped parts.change_map p me.0)) gives)
+      held_changed named = subst (λ (x : List (ℕ × Value L G)). RuleHolds d o (stepped t (latch_place o.config.frames (Partition p)) (get_or t.words (latch_place o.config.frames (Partition p)) 0) id x (view_mapped (parts.map_back entries) p (view_mapped parts.change_map p me.0)) gives)) (sym hand) record {
         state = mapped (parts.map_back entries) (mapped parts.change_map h.state id p me.0) id p (view_mapped parts.change_map p me.0);
         shows = subst (λ (l : List View). Shows d o record { words = set t.words (latch_place o.config.frames (Partition p)) (get_or t.words (latch_place o.config.frames (Partition p)) 0); homes = set t.homes (o.config.frames + p) (some y); views = l } (mapped (parts.map_back entries) (mapped parts.change_map h.state id p me.0) id p (view_mapped parts.change_map p me.0)))
             (set_twice t.views id (view_mapped parts.change_map p me.0) (view_mapped (parts.map_back entries) p (view_mapped parts.change_map p me.0)))
@@ -242,14 +242,14 @@ module _ {L G : Type 0} (d : Devices L G) (o : Opening L G) where
       }
 
       of_change : (c : MapChange) → (hold me.0 p).change ≡ c
-          → (w : View) × (a : table.Act (Value L G)) × table.Valid t.homes me.1 a × Held d o (stepped t (latch_place o.config.frames (Partition p)) (get_or t.words (latch_place o.config.frames (Partition p)) 0) id me.1 w a)
+          → (w : View) × (a : table.Act (Value L G)) × table.Valid t.homes me.1 a × RuleHolds d o (stepped t (latch_place o.config.frames (Partition p)) (get_or t.words (latch_place o.config.frames (Partition p)) 0) id me.1 w a)
           × map_came p entries (step slots (latch_place o.config.frames (Partition p)) 0 0 none) me (get_or t.words (latch_place o.config.frames (Partition p)) 0) (w, table.carried_after me.1 a)
       of_change Settled e = let same : found entries ≡ (h.state.pool.core.partition p).map = map_is ∙ ap (λ (c : MapChange). map_after c (h.state.pool.core.partition p).map) e in
           let a : parts.TurnAllowed (parts.map_back entries) (h.state.pool.core.partition p) (hold me.0 p) = record { out = may.out; entries_are = same } in (
             view_mapped (parts.map_back entries) p me.0,
             gives,
             tt,
-            subst (λ (x : List (ℕ × Value L G)). Held d o (stepped t (latch_place o.config.frames (Partition p)) (get_or t.words (latch_place o.config.frames (Partition p)) 0) id x (view_mapped (parts.map_back entries) p me.0) gives)) (sym hand) record {
+            subst (λ (x : List (ℕ × Value L G)). RuleHolds d o (stepped t (latch_place o.config.frames (Partition p)) (get_or t.words (latch_place o.config.frames (Partition p)) 0) id x (view_mapped (parts.map_back entries) p me.0) gives)) (sym hand) record {
               state = mapped (parts.map_back entries) h.state id p me.0;
               shows = shows_home d o entries (set t.words (latch_place o.config.frames (Partition p)) (get_or t.words (latch_place o.config.frames (Partition p)) 0)) t h.state id p me.0 y abbrev_words below h.shows here (gives_of y (h.state.pool.core.partition p).map is same);
               laws = laws_kept (map_step (parts.map_back entries) h.state id p me.0 here live low a) h.laws;
@@ -315,9 +315,9 @@ back_stepped entries p v w unchanged b = back_steps entries p v w (hold v p).cha
 module _ {L G : Type 0} (d : Devices L G) (o : Opening L G) where
   -- the seat as the exchange of the slot left it
   pub comes_from : (slots id p : ℕ) (me me' : Me (Value L G) View) (m : Vec Mapped Global) → me' ≡ (me.0, (slot_of o.config.frames (place.Of (Partition p)), value.Map m) ∷ rest me.1) → p < 128 → me.0.emptied ≡ false → AreApart m.items × (o.config.frames ≤ vec_capacity m) → MayComeBack (map entry_of m.items) p me.0
-      → Allows (Held d o) slots id me' (latch_place o.config.frames (Partition p)) (λ n. n) (map_came p (map entry_of m.items) (step slots (latch_place o.config.frames (Partition p)) 0 0 none) me')
+      → Allows (RuleHolds d o) slots id me' (latch_place o.config.frames (Partition p)) (λ n. n) (map_came p (map entry_of m.items) (step slots (latch_place o.config.frames (Partition p)) 0 0 none) me')
   comes_from slots id p me me' m e below live room may = let entries : List MapEntry = map entry_of m.items in
-      subst (λ (x : Me (Value L G) View). Allows (Held d o) slots id x (latch_place o.config.frames (Partition p)) (λ n. n) (map_came p entries (step slots (latch_place o.config.frames (Partition p)) 0 0 none) x)) (sym e)
+      subst (λ (x : Me (Value L G) View). Allows (RuleHolds d o) slots id x (latch_place o.config.frames (Partition p)) (λ n. n) (map_came p entries (step slots (latch_place o.config.frames (Partition p)) 0 0 none) x)) (sym e)
       (comes_back d o slots id p (me.0, (slot_of o.config.frames (place.Of (Partition p)), value.Map m) ∷ rest me.1) (value.Map m) entries below live refl (refl, room.0, room.1) may)
 
   -- what the seat has then, and what it is told

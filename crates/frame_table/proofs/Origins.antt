@@ -23,7 +23,7 @@ use Rattle.history_core.proofs.Sound.{stay_untouched}
 use Rattle.table_rule.specs.declared.value.Value.{Value}
 use Rattle.table_rule.specs.declared.opening.Opening.{Opening}
 use Rattle.table_rule.specs.Layout.{end_place, lane_of_tag, state_place}
-use Rattle.table_rule.specs.Shows.{Devices, Held, KeepsOpening, IsPlaced}
+use Rattle.table_rule.specs.Shows.{Devices, RuleHolds, KeepsOpening, IsPlaced}
 use Rattle.table_rule.specs.TakenLanes.{IsBlockOf}
 use Rattle.table_rule.proofs.LanesOut.{block_number, map_at}
 use Rattle.frame_table.specs.declared.log_words.EndLoad.{EndLoad}
@@ -136,8 +136,8 @@ module _ {L G : Type 0} (d : Devices L G) (o : Opening L G) (s : State) (h : Kee
 
 module _ {L G : Type 0} (d : Devices L G) (o : Opening L G) where
   pub loads_end_held : (slots id : ℕ) (me : Me (Value L G) View) → me.0.emptied ≡ false → (what : EndLoad) → IsEndAllowed o.config.frames what me.0
-      → Allows (Held d o) slots id me (end_place o.config.frames) (λ n. n) (tells_end_load what o.config.frames o.base o.catalog.value o.config.lanes (map d.contents o.lanes.value.items) (step slots (end_place o.config.frames) 0 0 none) me)
-  loads_end_held slots id me live what allowed = allows_with (Held d o) slots id me (end_place o.config.frames) (λ n. n) (tells_word (end_kind what) (step slots (end_place o.config.frames) 0 0 none) me)
+      → Allows (RuleHolds d o) slots id me (end_place o.config.frames) (λ n. n) (tells_end_load what o.config.frames o.base o.catalog.value o.config.lanes (map d.contents o.lanes.value.items) (step slots (end_place o.config.frames) 0 0 none) me)
+  loads_end_held slots id me live what allowed = allows_with (RuleHolds d o) slots id me (end_place o.config.frames) (λ n. n) (tells_word (end_kind what) (step slots (end_place o.config.frames) 0 0 none) me)
       (λ found. (o.base ≤ found) × (found ≡ o.base → ReadsHeld o.catalog.value o.config.lanes (map d.contents o.lanes.value.items) what me.0) × CopiesAreLogged o.catalog.value o.config.lanes (map d.contents o.lanes.value.items) o.config.frames found me.0)
       (loads_end_there d o slots id me live what allowed)
       (λ t h there. let here : get_elem? h.state.pool.core.views id ≡ some me.0 = ap (λ (l : List View). get_elem? l id) (sym h.shows.views) ∙ there in let says = h.shows.latches.end in (
@@ -147,8 +147,8 @@ module _ {L G : Type 0} (d : Devices L G) (o : Opening L G) where
       ))
 
   pub looks_held : (slots id f : ℕ) (me : Me (Value L G) View) → f < o.config.frames → me.0.emptied ≡ false
-      → Allows (Held d o) slots id me (state_place f) (λ n. n) (tells_look f o.catalog.value o.config.lanes (map d.contents o.lanes.value.items) (step slots (state_place f) 0 0 none) me)
-  looks_held slots id f me below live = allows_with (Held d o) slots id me (state_place f) (λ n. n) (tells (always looking) (step slots (state_place f) 0 0 none) me)
+      → Allows (RuleHolds d o) slots id me (state_place f) (λ n. n) (tells_look f o.catalog.value o.config.lanes (map d.contents o.lanes.value.items) (step slots (state_place f) 0 0 none) me)
+  looks_held slots id f me below live = allows_with (RuleHolds d o) slots id me (state_place f) (λ n. n) (tells (always looking) (step slots (state_place f) 0 0 none) me)
       (λ found. FitsHeld o.catalog.value o.config.lanes (map d.contents o.lanes.value.items) (link me.0 f) (fields found))
       (looks d o slots id f me below live)
       (λ t h there. let here : get_elem? h.state.pool.core.views id ≡ some me.0 = ap (λ (l : List View). get_elem? l id) (sym h.shows.views) ∙ there in

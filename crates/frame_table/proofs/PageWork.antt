@@ -30,7 +30,7 @@ use Rattle.table_rule.specs.declared.turn.Place.{Place}
 use Rattle.table_rule.specs.declared.turn.Place.TheVariants as place
 use Rattle.table_rule.specs.declared.turn.Turn.TheVariants as turn
 use Rattle.table_rule.specs.Layout.{content_place, slot_of}
-use Rattle.table_rule.specs.Shows.{is_out, IsHome, Devices, Gives, GivesPage, KeepsOpening, HasValue, Shows, Held}
+use Rattle.table_rule.specs.Shows.{is_out, IsHome, Devices, Gives, GivesPage, KeepsOpening, HasValue, Shows, RuleHolds}
 use Rattle.frame_table.specs.Kinds.{FrameKind, pages, part_of, content_word, frame_after, link_after, view_after, state_after, IsAllowed, IsAllowedAround}
 use Rattle.frame_table.specs.FrameSteps.{Did, SaysOf}
 use Rattle.frame_table.specs.PageWork.{MayTakePage, MayReturnPage, by_input, overwriting, input_page, page_went, page_came, ReturnsBy, page_out_link, applied_link, returned_link, read_home}
@@ -100,7 +100,7 @@ module _ {L G : Type 0} (d : Devices L G) (o : Opening L G) where
   }
 
   pub page_goes_out : (slots id f : ℕ) (me : Me (Value L G) View) → f < o.config.frames → me.0.emptied ≡ false → MayTakePage (link me.0 f)
-      → Allows (Held d o) slots id me (content_place f) (λ n. n) (page_went f (slot_of o.config.frames (place.Page f)) (step slots (content_place f) 0 0 none) me)
+      → Allows (RuleHolds d o) slots id me (content_place f) (λ n. n) (page_went f (slot_of o.config.frames (place.Page f)) (step slots (content_place f) 0 0 none) me)
   page_goes_out slots id f me below live can t h deep there small = of_value value_there.value value_there.home value_there.gives
     where
       s : State
@@ -139,7 +139,7 @@ module _ {L G : Type 0} (d : Devices L G) (o : Opening L G) where
       value_there = h.shows.homes (place.Page f) below none_out
 
       of_value : (y : Value L G) → get_elem? t.homes f ≡ some (some y) → GivesPage y (s.pool.core.frame f).page
-          → (w : View) × (a : table.Act (Value L G)) × table.Valid t.homes me.1 a × Held d o (stepped t (content_place f) (get_or t.words (content_place f) 0) id me.1 w a)
+          → (w : View) × (a : table.Act (Value L G)) × table.Valid t.homes me.1 a × RuleHolds d o (stepped t (content_place f) (get_or t.words (content_place f) 0) id me.1 w a)
           × page_went f f (step slots (content_place f) 0 0 none) me (get_or t.words (content_place f) 0) (w, table.carried_after me.1 a)
       of_value (value.Page q) home gives_it = (
         w,
@@ -215,7 +215,7 @@ module _ (s : State) (id f : ℕ) (v : View) (page : Page) (laws : Laws s) (ther
 
 module _ {L G : Type 0} (d : Devices L G) (o : Opening L G) where
   pub page_comes_back : (slots id f : ℕ) (me : Me (Value L G) View) (page : Page) → f < o.config.frames → me.0.emptied ≡ false → me.1 ≡ (slot_of o.config.frames (place.Page f), value.Page page) ∷ rest me.1 → MayReturnPage page (link me.0 f)
-      → Allows (Held d o) slots id me (content_place f) (λ n. n) (page_came f (step slots (content_place f) 0 0 none) me)
+      → Allows (RuleHolds d o) slots id me (content_place f) (λ n. n) (page_came f (step slots (content_place f) 0 0 none) me)
   page_comes_back slots id f me page below live hand can t h deep there small = of_change (overwriting (link me.0 f)) refl (overwrites_or s id f me.0 page h.laws here inside can (overwriting (link me.0 f)) refl)
     where
       s : State
@@ -232,18 +232,18 @@ module _ {L G : Type 0} (d : Devices L G) (o : Opening L G) where
 
       -- the page comes back in a state whose step so far moved that page alone, into this one
       Comes : Option paged.Kind → Type 0
-      Comes x = (w : View) × (a : table.Act (Value L G)) × table.Valid t.homes me.1 a × Held d o (stepped t (content_place f) (get_or t.words (content_place f) 0) id me.1 w a)
+      Comes x = (w : View) × (a : table.Act (Value L G)) × table.Valid t.homes me.1 a × RuleHolds d o (stepped t (content_place f) (get_or t.words (content_place f) 0) id me.1 w a)
           × (table.carried_after me.1 a ≡ rest me.1) × ReturnsBy x f me.0 w (get_or t.words (content_place f) 0)
 
-      home_held : (s' : State) (w : View) → Moves d o s s' id me.0 w (place.Page f) → Laws s' → page ≡ (s'.pool.core.frame f).page → Held d o (stepped t (content_place f) (get_or t.words (content_place f) 0) id me.1 w gives)
-      home_held s' w m laws is = subst (λ (x : List (ℕ × Value L G)). Held d o (stepped t (content_place f) (get_or t.words (content_place f) 0) id x w gives)) (sym hand) record {
+      home_held : (s' : State) (w : View) → Moves d o s s' id me.0 w (place.Page f) → Laws s' → page ≡ (s'.pool.core.frame f).page → RuleHolds d o (stepped t (content_place f) (get_or t.words (content_place f) 0) id me.1 w gives)
+      home_held s' w m laws is = subst (λ (x : List (ℕ × Value L G)). RuleHolds d o (stepped t (content_place f) (get_or t.words (content_place f) 0) id x w gives)) (sym hand) record {
         state = s';
         shows = shows_back d o (set t.words (content_place f) (get_or t.words (content_place f) 0)) t s s' id me.0 w (place.Page f) (value.Page page) same h.shows here m below is;
         laws = laws;
       }
 
       of_change : (x : Option paged.Kind) → overwriting (link me.0 f) ≡ x → ((x ≡ None) × ((s.pool.core.frame f).page ≡ page)) ⊎ ((k : paged.Kind) × (x ≡ Some k) × Overwrites k s f me.0 page)
-          → (w : View) × (a : table.Act (Value L G)) × table.Valid t.homes me.1 a × Held d o (stepped t (content_place f) (get_or t.words (content_place f) 0) id me.1 w a)
+          → (w : View) × (a : table.Act (Value L G)) × table.Valid t.homes me.1 a × RuleHolds d o (stepped t (content_place f) (get_or t.words (content_place f) 0) id me.1 w a)
           × page_came f (step slots (content_place f) 0 0 none) me (get_or t.words (content_place f) 0) (w, table.carried_after me.1 a)
       of_change x e (inl (none_is, taken)) = let allowed : IsAllowed (pages paged.page_back) s f me.0 = (tt, record { out = can.out }) in let w : View = view_after (pages paged.page_back) s f me.0 in (
         w,
@@ -307,8 +307,8 @@ module _ {L G : Type 0} (d : Devices L G) (o : Opening L G) where
 
   -- the same, where the page was put into the seat's hand by the exchange
   pub page_comes_from : (slots id f : ℕ) (me me' : Me (Value L G) View) (page : Page) → me' ≡ (me.0, (slot_of o.config.frames (place.Page f), value.Page page) ∷ rest me.1) → f < o.config.frames → me.0.emptied ≡ false → MayReturnPage page (link me.0 f)
-      → Allows (Held d o) slots id me' (content_place f) (λ n. n) (page_came f (step slots (content_place f) 0 0 none) me')
-  page_comes_from slots id f me me' page e below live can = subst (λ (x : Me (Value L G) View). Allows (Held d o) slots id x (content_place f) (λ n. n) (page_came f (step slots (content_place f) 0 0 none) x)) (sym e)
+      → Allows (RuleHolds d o) slots id me' (content_place f) (λ n. n) (page_came f (step slots (content_place f) 0 0 none) me')
+  page_comes_from slots id f me me' page e below live can = subst (λ (x : Me (Value L G) View). Allows (RuleHolds d o) slots id x (content_place f) (λ n. n) (page_came f (step slots (content_place f) 0 0 none) x)) (sym e)
       (page_comes_back slots id f (me.0, (slot_of o.config.frames (place.Page f), value.Page page) ∷ rest me.1) page below live refl can)
 
 -- nothing was written over a page that just went out

@@ -25,7 +25,7 @@ use Rattle.table_rule.specs.declared.turn.Place.{Place}
 use Rattle.table_rule.specs.declared.turn.Place.TheVariants as place
 use Rattle.table_rule.specs.declared.turn.Turn.{Turn}
 use Rattle.table_rule.specs.declared.turn.Turn.TheVariants as turn
-use Rattle.table_rule.specs.Shows.{KeepsOpening, is_out, IsPlaceIn, is_taken, IsHome, Devices, Shows, Held}
+use Rattle.table_rule.specs.Shows.{KeepsOpening, is_out, IsPlaceIn, is_taken, IsHome, Devices, Shows, RuleHolds}
 use Rattle.frame_table.specs.FrameSteps.{kept_view, split_view}
 use Rattle.frame_table.proofs.Frames.{lane_none, device_none, gives_same, same_out, home_before}
 
@@ -53,13 +53,13 @@ module _ {L G : Type 0} (d : Devices L G) (o : Opening L G) where
     list = h.list;
   }
 
-  pub splits_there : (base id : ℕ) (v : View) → base ≡ o.base → id ≡ 0 → v.next < o.config.passes → Splits (Held d o) id v (kept_view v) (split_view base v)
+  pub splits_there : (base id : ℕ) (v : View) → base ≡ o.base → id ≡ 0 → v.next < o.config.passes → Splits (RuleHolds d o) id v (kept_view v) (split_view base v)
   splits_there base id v based first room t h there = let s = h.state in let core = s.pool.core in
       let here : get_elem? core.views 0 ≡ some v = ap (λ (l : List View). get_elem? l 0) (sym h.shows.views) ∙ ap (get_elem? t.views) (sym first) ∙ there in
       let base_is : base ≡ core.base = based ∙ sym h.shows.fixed.base ∙ sym h.laws.invariant.based in
       let views : List View = set core.views 0 (kept_view v) ++ new_view v.next core.base (length v.links) (length v.partitions) (length v.lanes) ∷ [] in
       let same : set t.views id (kept_view v) ++ split_view base v ∷ [] ≡ views = (λ i. set (h.shows.views i) (first i) (kept_view v) ++ split_view (base_is i) v ∷ []) in
-      subst (λ (l : List View). Held d o record { words = t.words; homes = t.homes; views = l }) (sym same) record {
+      subst (λ (l : List View). RuleHolds d o record { words = t.words; homes = t.homes; views = l }) (sym same) record {
         state = with_views s views;
         shows = shows_views t s views h.shows (λ x inside none_out. home_before core.views 0 v (kept_view v) x here (λ e. sym (same_out v (kept_view v) refl refl refl refl x) ∙ e) (λ i u at. none_out i u (at_longer (set core.views 0 (kept_view v)) (new_view v.next core.base (length v.links) (length v.partitions) (length v.lanes) ∷ []) i u at)));
         laws = laws_kept (pools (page_steps.cores (pin_steps.splits v here (let e = h.shows.fixed.backends in omega arith))) tt) h.laws;
@@ -73,7 +73,7 @@ free_home d o s j u h laws there free (place.Of (turn.Lane q)) has = ap (λ (z :
 free_home d o s j u h laws there free (place.Of turn.Log) has = ap (λ (z : Option TakenLog). is_some z) ((laws.invariant.device.cells j u 0 there (omega arith)).resting free.log).0
 
 module _ {L G : Type 0} (d : Devices L G) (o : Opening L G) where
-  pub joins_there : (id other : ℕ) (v u : View) → id ≡ 0 → u.emptied ≡ false → HoldsNothing u → Joins (Held d o) id v other u (joined_view v u) emptied_view
+  pub joins_there : (id other : ℕ) (v u : View) → id ≡ 0 → u.emptied ≡ false → HoldsNothing u → Joins (RuleHolds d o) id v other u (joined_view v u) emptied_view
   joins_there id other v u first live free t h there apart at = let s = h.state in let core = s.pool.core in
       let here : get_elem? core.views 0 ≡ some v = ap (λ (l : List View). get_elem? l 0) (sym h.shows.views) ∙ ap (get_elem? t.views) (sym first) ∙ there in
       let other_zero : other ≢ 0 = (λ e. apart (e ∙ sym first)) in
@@ -81,7 +81,7 @@ module _ {L G : Type 0} (d : Devices L G) (o : Opening L G) where
       let views : List View = set (set core.views 0 (joined_view v u)) other emptied_view in
       let same : set (set t.views id (joined_view v u)) other emptied_view ≡ views = (λ i. set (set (h.shows.views i) (first i) (joined_view v u)) other emptied_view) in
       let at_core : get_elem? (set core.views 0 (joined_view v u)) other ≡ some u = set_else core.views 0 other (joined_view v u) other_zero ∙ there_u in
-      subst (λ (l : List View). Held d o record { words = t.words; homes = t.homes; views = l }) (sym same) record {
+      subst (λ (l : List View). RuleHolds d o record { words = t.words; homes = t.homes; views = l }) (sym same) record {
         state = with_views d o s views;
         shows = shows_views d o t s views h.shows (λ x inside none_out. home_before core.views 0 v (joined_view v u) x here (λ e. sym (same_out v (joined_view v u) refl refl refl refl x) ∙ e)
             (home_before (set core.views 0 (joined_view v u)) other u emptied_view x at_core (λ e. free_home d o s other u h.shows.fixed h.laws there_u free x inside) none_out));

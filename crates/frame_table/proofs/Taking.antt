@@ -38,7 +38,7 @@ use Rattle.table_rule.specs.declared.turn.Turn.{Turn}
 use Rattle.table_rule.specs.declared.turn.Turn.TheVariants.{Partition, Lane, Log}
 use Rattle.table_rule.specs.Layout.{latch_place}
 use Rattle.history_core.specs.Laws.{Laws}
-use Rattle.table_rule.specs.Shows.{ShowsFrame, ShowsLatches, is_taken, HasTurn, is_out, IsHome, Devices, KeepsOpening, Shows, Held}
+use Rattle.table_rule.specs.Shows.{ShowsFrame, ShowsLatches, is_taken, HasTurn, is_out, IsHome, Devices, KeepsOpening, Shows, RuleHolds}
 use Rattle.frame_table.specs.Latches.{MayLeave, LatchAllowed, HasLatch, part_kind, lane_kind, log_kind, view_latched, state_latched, turn_event, DidTurn, SameWork, work_of, IsTurned, took, left}
 use Rattle.history_core.proofs.Laws.{laws_kept}
 use Rattle.frame_table.proofs.Frames.{frame_else, put_keeps, same_at, home_before, SameLane, SameDevice, lane_none, device_none, SameValues, gives_same}
@@ -251,7 +251,7 @@ module _ {L G : Type 0} (d : Devices L G) (o : Opening L G) where
 
   -- taking a latch, where it is free
   pub takes_there : (slots id : ℕ) (x : Turn) (me : Me (Value L G) View) → HasTurn o.config.lanes x → me.0.emptied ≡ false
-      → Allows (Held d o) slots id me (latch_place o.config.frames x) (λ n. either (eqb n 0) 1 n) (took x (step slots (latch_place o.config.frames x) 0 1 none) me)
+      → Allows (RuleHolds d o) slots id me (latch_place o.config.frames x) (λ n. either (eqb n 0) 1 n) (took x (step slots (latch_place o.config.frames x) 0 1 none) me)
   takes_there slots id x me has live t h deep there small = of_taken (is_taken x h.state) refl
     where
       abbrev_there : get_elem? h.state.pool.core.views id ≡ some me.0
@@ -261,16 +261,16 @@ module _ {L G : Type 0} (d : Devices L G) (o : Opening L G) where
       word_is = h.shows.latches.latch x has
 
       of_taken : (b : Bool) → is_taken x h.state ≡ b
-          → (w : View) × (a : table.Act (Value L G)) × table.Valid t.homes me.1 a × Held d o (stepped t (latch_place o.config.frames x) (either (eqb (get_or t.words (latch_place o.config.frames x) 0) 0) 1 (get_or t.words (latch_place o.config.frames x) 0)) id me.1 w a)
+          → (w : View) × (a : table.Act (Value L G)) × table.Valid t.homes me.1 a × RuleHolds d o (stepped t (latch_place o.config.frames x) (either (eqb (get_or t.words (latch_place o.config.frames x) 0) 0) 1 (get_or t.words (latch_place o.config.frames x) 0)) id me.1 w a)
           × took x (step slots (latch_place o.config.frames x) 0 1 none) me (get_or t.words (latch_place o.config.frames x) 0) (w, table.carried_after me.1 a)
       of_taken true e = let at : ℕ = latch_place o.config.frames x in let n : ℕ = get_or t.words at 0 in let one : n ≡ 1 = word_is ∙ ap flag_weight e in let not_zero : n ≢ 0 = (λ z. omega arith) in
           let same : stepped t at (either (eqb n 0) 1 n) id me.1 me.0 keeps ≡ t = (λ i. record { words = (ap (λ (b : Bool). set t.words at (either b 1 n)) (ne_eqb n 0 not_zero) ∙ set-get_or t.words at 0) i; homes = t.homes; views = set_again t.views id me.0 there i }) in
-          (me.0, keeps, tt, subst (Held d o) (sym same) h, (refl, (λ z. absurd (not_zero z)), λ z. refl))
+          (me.0, keeps, tt, subst (RuleHolds d o) (sym same) h, (refl, (λ z. absurd (not_zero z)), λ z. refl))
       of_taken false e = let at : ℕ = latch_place o.config.frames x in let n : ℕ = get_or t.words at 0 in let zero_is : n ≡ 0 = word_is ∙ ap flag_weight e in let s = h.state in (
         view_latched true x s me.0,
         keeps,
         tt,
-        subst (λ (m : ℕ). Held d o (stepped t at m id me.1 (view_latched true x s me.0) keeps)) (sym (ap (λ (b : Bool). either b 1 n) (eq-eqb n 0 zero_is))) record {
+        subst (λ (m : ℕ). RuleHolds d o (stepped t at m id me.1 (view_latched true x s me.0) keeps)) (sym (ap (λ (b : Bool). either b 1 n) (eq-eqb n 0 zero_is))) record {
           state = state_latched true x s id me.0;
           shows = shows_turned true x t s id me.1 me.0 h.shows abbrev_there has;
           laws = laws_kept (turn_step d o true x s id me.0 h.shows.fixed has abbrev_there live e) h.laws;
@@ -280,7 +280,7 @@ module _ {L G : Type 0} (d : Devices L G) (o : Opening L G) where
 
   -- leaving one
   pub leaves_there : (slots id : ℕ) (x : Turn) (me : Me (Value L G) View) → HasTurn o.config.lanes x → me.0.emptied ≡ false → MayLeave x me.0
-      → Allows (Held d o) slots id me (latch_place o.config.frames x) (λ _. 0) (λ _. left x (step slots (latch_place o.config.frames x) 0 0 none) me 0)
+      → Allows (RuleHolds d o) slots id me (latch_place o.config.frames x) (λ _. 0) (λ _. left x (step slots (latch_place o.config.frames x) 0 0 none) me 0)
   leaves_there slots id x me has live may t h deep there small = let s = h.state in let here : get_elem? s.pool.core.views id ≡ some me.0 = ap (λ (l : List View). get_elem? l id) (sym h.shows.views) ∙ there in (
     view_latched false x s me.0,
     keeps,

@@ -25,7 +25,7 @@ use Rattle.table_rule.specs.declared.turn.Place.{Place}
 use Rattle.table_rule.specs.declared.turn.Place.TheVariants as place
 use Rattle.table_rule.specs.declared.turn.Turn.{Turn}
 use Rattle.table_rule.specs.declared.turn.Turn.TheVariants as turn
-use Rattle.table_rule.specs.Shows.{HasTurn, is_taken, ShowsLatches, Devices, Shows, Held, is_out}
+use Rattle.table_rule.specs.Shows.{HasTurn, is_taken, ShowsLatches, Devices, Shows, RuleHolds, is_out}
 use Rattle.frame_table.specs.WordSteps.{WordKind, load_end, read_end, begin_checkpoint, load_flushed, raise_flushed, load_hand, add_hand, word_place, word_of, word_after, word_event, IsWordAllowed, read_of, view_of, flushed_of, hand_of, next_of, DidWord, tells_word}
 use Rattle.frame_table.specs.declared.log_words.EndLoad.{EndLoad}
 use Rattle.frame_table.specs.declared.log_words.EndLoad.TheVariants.{Plain, Read, Checkpoint}
@@ -164,7 +164,7 @@ module _ {L G : Type 0} (d : Devices L G) (o : Opening L G) where
   -- Where whatever state the table shows lets the seat make the step, and the operation gives the word its new number, the operation keeps the rule, and tells that step
   pub acts_behind : (k : WordKind) (slots id a b : ℕ) (g : ℕ → ℕ) (me : Me (Value L G) View) → me.0.emptied ≡ false
       → ((s : State) → Laws s → s.pool.core.frames ≡ o.config.frames → get_elem? s.pool.core.views id ≡ some me.0 → word_of k s < 18446744073709551616 → IsWordAllowed k s me.0 × (g (word_of k s) ≡ word_after k s))
-      → Allows (Held d o) slots id me (word_place k o.config.frames) g (tells_word k (step slots (word_place k o.config.frames) a b none) me)
+      → Allows (RuleHolds d o) slots id me (word_place k o.config.frames) g (tells_word k (step slots (word_place k o.config.frames) a b none) me)
   acts_behind k slots id a b g me live asked t h deep there small = let s = h.state in let n : ℕ = get_or t.words (word_place k o.config.frames) 0 in
       let here : get_elem? s.pool.core.views id ≡ some me.0 = ap (λ (l : List View). get_elem? l id) (sym h.shows.views) ∙ there in
       let says = word_says k t s h.shows in let ok = asked s h.laws h.shows.fixed.frames here (subst (λ (x : ℕ). x < 18446744073709551616) (sym says) small) in (
@@ -189,21 +189,21 @@ hand_moves n small = dite (ℕ_discrete n 18446744073709551615)
     (λ (o : n ≢ 18446744073709551615). mod-eq_of_lt (omega arith) ∙ sym (ap (λ (b : Bool). cond b 0 (n + 1)) (ne_eqb n 18446744073709551615 o)))
 
 module _ {L G : Type 0} (d : Devices L G) (o : Opening L G) (slots id : ℕ) (me : Me (Value L G) View) (live : me.0.emptied ≡ false) where
-  pub loads_end_there : (what : EndLoad) → IsEndAllowed o.config.frames what me.0 → Allows (Held d o) slots id me (end_place o.config.frames) (λ n. n) (tells_word (end_kind what) (step slots (end_place o.config.frames) 0 0 none) me)
+  pub loads_end_there : (what : EndLoad) → IsEndAllowed o.config.frames what me.0 → Allows (RuleHolds d o) slots id me (end_place o.config.frames) (λ n. n) (tells_word (end_kind what) (step slots (end_place o.config.frames) 0 0 none) me)
   loads_end_there Plain a = acts_behind d o load_end slots id 0 0 (λ n. n) me live (λ s l f there small. (tt, refl))
   loads_end_there (Read f) a = acts_behind d o (read_end f) slots id 0 0 (λ n. n) me live (λ s l e there small. ((subst (λ (n : ℕ). f < n) (sym e) a.0, a.1), refl))
   loads_end_there Checkpoint a = acts_behind d o begin_checkpoint slots id 0 0 (λ n. n) me live (λ s l f there small. (tt, refl))
 
-  pub loads_flushed_there : Allows (Held d o) slots id me (flushed_place o.config.frames) (λ n. n) (tells_word load_flushed (step slots (flushed_place o.config.frames) 0 0 none) me)
+  pub loads_flushed_there : Allows (RuleHolds d o) slots id me (flushed_place o.config.frames) (λ n. n) (tells_word load_flushed (step slots (flushed_place o.config.frames) 0 0 none) me)
   loads_flushed_there = acts_behind d o load_flushed slots id 0 0 (λ n. n) me live (λ s l f there small. (tt, refl))
 
-  pub raises_there : (end : ℕ) → me.0.log.synced ≡ true → me.0.log.end ≡ Some end → Allows (Held d o) slots id me (flushed_place o.config.frames) (λ _. end) (tells_word raise_flushed (step slots (flushed_place o.config.frames) end 0 none) me)
+  pub raises_there : (end : ℕ) → me.0.log.synced ≡ true → me.0.log.end ≡ Some end → Allows (RuleHolds d o) slots id me (flushed_place o.config.frames) (λ _. end) (tells_word raise_flushed (step slots (flushed_place o.config.frames) end 0 none) me)
   raises_there end synced noted = acts_behind d o raise_flushed slots id end 0 (λ _. end) me live (λ s l f there small. ((synced, noted ∙ ap (λ (n : ℕ). Some n) ((l.invariant.device.cells id me.0 0 there (lit< tt)).end end noted).1), (let e = ((l.invariant.device.cells id me.0 0 there (lit< tt)).end end noted).1 in let low = l.invariant.flushed_to in omega arith)))
 
-  pub loads_hand_there : Allows (Held d o) slots id me (hand_place o.config.frames) (λ n. n) (tells_word load_hand (step slots (hand_place o.config.frames) 0 0 none) me)
+  pub loads_hand_there : Allows (RuleHolds d o) slots id me (hand_place o.config.frames) (λ n. n) (tells_word load_hand (step slots (hand_place o.config.frames) 0 0 none) me)
   loads_hand_there = acts_behind d o load_hand slots id 0 0 (λ n. n) me live (λ s l f there small. (tt, refl))
 
-  pub adds_hand_there : Allows (Held d o) slots id me (hand_place o.config.frames) (λ n. (n + 1) % 2 ^ 64) (tells_word add_hand (step slots (hand_place o.config.frames) 1 0 none) me)
+  pub adds_hand_there : Allows (RuleHolds d o) slots id me (hand_place o.config.frames) (λ n. (n + 1) % 2 ^ 64) (tells_word add_hand (step slots (hand_place o.config.frames) 1 0 none) me)
   adds_hand_there = acts_behind d o add_hand slots id 1 0 (λ n. (n + 1) % 2 ^ 64) me live (λ s l f there small. (tt, hand_moves s.hand small))
 
 -- the flushed position is never below what a view has loaded of it

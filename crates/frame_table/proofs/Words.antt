@@ -25,7 +25,7 @@ use Rattle.table_rule.specs.declared.value.Value.{Value}
 use Rattle.table_rule.specs.declared.opening.Opening.{Opening}
 use Rattle.table_rule.specs.Layout.{tag_partition, state_place}
 use Rattle.frame_table.specs.Kinds.{FrameKind, pins, part_of, load_of, frame_after, link_after, IsAllowed, IsAllowedAround}
-use Rattle.table_rule.specs.Shows.{ShowsFrame, Devices, Shows, Held}
+use Rattle.table_rule.specs.Shows.{ShowsFrame, Devices, Shows, RuleHolds}
 use Rattle.frame_table.specs.FrameSteps.{part_place, has_locked, has_tag, always, if_found, if_unlocked, chosen, tells, looking}
 use Rattle.frame_table.proofs.Frames.{Asks}
 use Rattle.frame_table.proofs.Acting.{acts}
@@ -75,14 +75,14 @@ module _ {L G : Type 0} (d : Devices L G) (o : Opening L G) where
   says : (t : table.State (Value L G) View) (s : State) (f : ℕ) → f < o.config.frames → Shows d o t s → (s.pool.core.frame f).word ≡ fields (get_or t.words (3 * f) 0)
   says t s f below h = (h.frame f below).word
 
-  pub looks : (slots id f : ℕ) (me : Me (Value L G) View) → f < o.config.frames → me.0.emptied ≡ false → Allows (Held d o) slots id me (state_place f) (λ n. n) (tells (always looking) (step slots (state_place f) 0 0 none) me)
+  pub looks : (slots id f : ℕ) (me : Me (Value L G) View) → f < o.config.frames → me.0.emptied ≡ false → Allows (RuleHolds d o) slots id me (state_place f) (λ n. n) (tells (always looking) (step slots (state_place f) 0 0 none) me)
   looks slots id f me below live = acts d o (always looking) slots id f 0 0 (λ n. n) me below live (λ t s h laws there small. looks_at t s f me.0 below h)
 
   -- a step of the kind k at a state word, whatever the word was
   pub stores : (k : FrameKind) → part_of k ≡ part_of looking → (slots id f a b new : ℕ) (me : Me (Value L G) View) → f < o.config.frames → me.0.emptied ≡ false
       → ((s : State) → Laws s → get_elem? s.pool.core.views id ≡ some me.0 → f < s.pool.core.frames → AsksWord k s f new me.0)
-      → Allows (Held d o) slots id me (state_place f) (λ _. new) (tells (always k) (step slots (state_place f) a b none) me)
-  stores k part slots id f a b new me below live asked = subst (λ (i : ℕ). Allows (Held d o) slots id me i (λ _. new) (tells (always k) (step slots i a b none) me)) at (acts d o (always k) slots id f a b (λ _. new) me below live
+      → Allows (RuleHolds d o) slots id me (state_place f) (λ _. new) (tells (always k) (step slots (state_place f) a b none) me)
+  stores k part slots id f a b new me below live asked = subst (λ (i : ℕ). Allows (RuleHolds d o) slots id me i (λ _. new) (tells (always k) (step slots i a b none) me)) at (acts d o (always k) slots id f a b (λ _. new) me below live
       (λ t s h laws there small. subst (λ (i : ℕ). Asks k t s f i new me.0) (sym at) (at_word k t s f new me.0 below h (asked s laws there (let e = h.fixed.frames in omega arith)))))
     where
       at : part_place (part_of k) f ≡ state_place f
@@ -91,8 +91,8 @@ module _ {L G : Type 0} (d : Devices L G) (o : Opening L G) where
   -- a compare-exchange of the state word from `was` to `new`
   pub swaps : (k : FrameKind) → part_of k ≡ part_of looking → (slots id f was new : ℕ) (me : Me (Value L G) View) → f < o.config.frames → me.0.emptied ≡ false
       → ((s : State) → Laws s → get_elem? s.pool.core.views id ≡ some me.0 → s.pool.core.partition_of ≡ tag_partition → f < s.pool.core.frames → (s.pool.core.frame f).word ≡ fields was → AsksWord k s f new me.0)
-      → Allows (Held d o) slots id me (state_place f) (λ n. either (eqb n was) new n) (tells (if_found k) (step slots (state_place f) was new none) me)
-  swaps k part slots id f was new me below live asked = subst (λ (i : ℕ). Allows (Held d o) slots id me i (λ n. either (eqb n was) new n) (tells (if_found k) (step slots i was new none) me)) at
+      → Allows (RuleHolds d o) slots id me (state_place f) (λ n. either (eqb n was) new n) (tells (if_found k) (step slots (state_place f) was new none) me)
+  swaps k part slots id f was new me below live asked = subst (λ (i : ℕ). Allows (RuleHolds d o) slots id me i (λ n. either (eqb n was) new n) (tells (if_found k) (step slots i was new none) me)) at
       (acts d o (if_found k) slots id f was new (λ n. either (eqb n was) new n) me below live
       (λ t s h laws there small. subst (λ (i : ℕ). Asks (chosen (if_found k) was (get_or t.words i 0)) t s f i (either (eqb (get_or t.words i 0) was) new (get_or t.words i 0)) me.0) (sym at) (of_test t s h laws there)))
     where
@@ -106,7 +106,7 @@ module _ {L G : Type 0} (d : Devices L G) (o : Opening L G) where
           (λ miss. subst (λ (b : Bool). Asks (cond b k (load_of (part_of k))) t s f (3 * f) (either b new n) me.0) (sym (ne_eqb n was miss)) (subst (λ p. Asks (load_of p) t s f (3 * f) n me.0) (sym part) (looks_at t s f me.0 below h)))
 
   pub pins_there : (ring : Bool) (slots id f was new : ℕ) (me : Me (Value L G) View) → f < o.config.frames → me.0.emptied ≡ false → (link me.0 f).role ≡ Absent → has_locked was ≡ false → has_tag was ≡ true → fields new ≡ pinned_fields ring (fields was)
-      → Allows (Held d o) slots id me (state_place f) (λ n. either (eqb n was) new n) (tells (if_found (pins (pin.pin ring))) (step slots (state_place f) was new none) me)
+      → Allows (RuleHolds d o) slots id me (state_place f) (λ n. either (eqb n was) new n) (tells (if_found (pins (pin.pin ring))) (step slots (state_place f) was new none) me)
   pins_there ring slots id f was new me below live absent unlocked tagged made = swaps (pins (pin.pin ring)) refl slots id f was new me below live (λ s laws there spread inside is. record {
     allowed = record { unlocked = ap (λ (w : StateWord). w.locked) is ∙ unlocked; absent = absent; tagged = ap (λ (w : StateWord). w.tag_valid) is ∙ tagged };
     around = tt;
@@ -116,7 +116,7 @@ module _ {L G : Type 0} (d : Devices L G) (o : Opening L G) where
   })
 
   pub unpins_there : (slots id f was new : ℕ) (me : Me (Value L G) View) → f < o.config.frames → me.0.emptied ≡ false → (link me.0 f).role ≢ Absent → (link me.0 f).content ≡ Unlocked → (link me.0 f).io ≡ Quiet → (link me.0 f).waits ≡ None → has_locked was ≡ false → fields new ≡ unpinned_fields (fields was)
-      → Allows (Held d o) slots id me (state_place f) (λ n. either (eqb n was) new n) (tells (if_found (pins pin.unpin)) (step slots (state_place f) was new none) me)
+      → Allows (RuleHolds d o) slots id me (state_place f) (λ n. either (eqb n was) new n) (tells (if_found (pins pin.unpin)) (step slots (state_place f) was new none) me)
   unpins_there slots id f was new me below live pinned content io waits unlocked made = swaps (pins pin.unpin) refl slots id f was new me below live (λ s laws there spread inside is. record {
     allowed = record { unlocked = ap (λ (w : StateWord). w.locked) is ∙ unlocked; pinned = pinned; no_content = content; no_io = io; no_wait = waits };
     around = tt;
@@ -127,7 +127,7 @@ module _ {L G : Type 0} (d : Devices L G) (o : Opening L G) where
 
   -- locking a header: where it was locked, this is a load
   pub locks_there : (slots id f : ℕ) (me : Me (Value L G) View) → f < o.config.frames → me.0.emptied ≡ false → HoldsNoHeader me.0
-      → Allows (Held d o) slots id me (state_place f) (λ n. bit_or n 4194304) (tells (if_unlocked (pins pin.lock_header)) (step slots (state_place f) 4194304 0 none) me)
+      → Allows (RuleHolds d o) slots id me (state_place f) (λ n. bit_or n 4194304) (tells (if_unlocked (pins pin.lock_header)) (step slots (state_place f) 4194304 0 none) me)
   locks_there slots id f me below live headless = acts d o (if_unlocked (pins pin.lock_header)) slots id f 4194304 0 (λ n. bit_or n 4194304) me below live (λ t s h laws there small. let n : ℕ = get_or t.words (3 * f) 0 in
       of_lock t s n h (says t s f below h) (has_locked n) refl)
     where
@@ -154,7 +154,7 @@ module _ {L G : Type 0} (d : Devices L G) (o : Opening L G) where
       of_header (Some w) e = e ∙ ap (λ (x : StateWord). Some x) (sym ((laws.invariant.pool.core.grid.cells id v f there inside).header w e))
 
   pub unlocks_there : (slots id f : ℕ) (me : Me (Value L G) View) → f < o.config.frames → me.0.emptied ≡ false → (link me.0 f).header ≢ None → (link me.0 f).pending ≡ false
-      → Allows (Held d o) slots id me (state_place f) (λ n. bit_and n 18446744073705357311) (tells (always (pins pin.unlock_header)) (step slots (state_place f) 18446744073705357311 0 none) me)
+      → Allows (RuleHolds d o) slots id me (state_place f) (λ n. bit_and n 18446744073705357311) (tells (always (pins pin.unlock_header)) (step slots (state_place f) 18446744073705357311 0 none) me)
   unlocks_there slots id f me below live held settled = acts d o (always (pins pin.unlock_header)) slots id f 18446744073705357311 0 (λ n. bit_and n 18446744073705357311) me below live (λ t s h laws there small. let n : ℕ = get_or t.words (3 * f) 0 in
       at_word (pins pin.unlock_header) t s f (bit_and n 18446744073705357311) me.0 below h record {
         allowed = record { held = held_word s id f me.0 laws there (let e = h.fixed.frames in omega arith) held; settled = settled };

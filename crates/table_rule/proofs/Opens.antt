@@ -32,7 +32,7 @@ use Rattle.table_rule.specs.declared.turn.Turn.TheVariants as turn
 use Rattle.pin_core.specs.Tallies.{flag_weight}
 use Rattle.table_rule.specs.Layout.{latch_place, word_count, tag_partition, partition_of_tag, tag_lane, lane_of_tag}
 use Rattle.table_rule.specs.Blocks.{is_block, log_name, name_of, name_in}
-use Rattle.table_rule.specs.Shows.{is_taken, HasTurn, ShowsFrame, IsHome, Devices, IsPlaced, IsLane, IsLog, AreLanes, IsNewLog, GivesMap, IsPlaceIn, HasValue, Held, starting}
+use Rattle.table_rule.specs.Shows.{is_taken, HasTurn, ShowsFrame, IsHome, Devices, IsPlaced, IsLane, IsLog, AreLanes, IsNewLog, GivesMap, IsPlaceIn, HasValue, RuleHolds, starting}
 use Rattle.table_rule.specs.Laid.{AreOpening, AreSlots, EndsWith, home_lane, home_lanes, home_log, zero_page, lanes_among, HasNoDevices}
 use Rattle.table_rule.proofs.Laying.{lanes_append, plain_both, lanes_pages, plain_pages, lanes_aways, plain_aways, lanes_lanes, plain_lanes, lanes_counted, lane_numbered, lanes_maps, plain_maps, lanes_before, snoc_same}
 
@@ -300,7 +300,7 @@ module _ {L G : Type 0} (d : Devices L G) (o : Opening L G) where
   free words h w count turn.Log low = in_latches words n o.base w (3 * n + 144) 144 refl (omega arith)
 
   pub opens_there : (words : List ℕ) (ys : List (Value L G)) → AreOpening words o.config.frames o.base → AreSlots o.config.frames o.lanes.value.items o.log.value ys → 0 < o.config.passes → o.config.passes ≤ 64 → 0 < o.config.lanes → length o.lanes.value.items ≡ o.config.lanes
-      → o.base ≤ 4611686018427387904 → AreLanes d o.catalog.value o.lanes.value.items → IsNewLog {L = L} {G = G} d o.base o.log.value → Held d o (opening words ys (starting o))
+      → o.base ≤ 4611686018427387904 → AreLanes d o.catalog.value o.lanes.value.items → IsNewLog {L = L} {G = G} d o.base o.log.value → RuleHolds d o (opening words ys (starting o))
   opens_there words ys w h some_backend few_backends some_lane count based are new = record {
     state = start;
     shows = record {
@@ -340,7 +340,7 @@ module _ {L G : Type 0} (d : Devices L G) (o : Opening L G) where
 
   -- the same, where the devices are given beside the key
   pub opens_built : (words : List ℕ) (ys : List (Value L G)) (rs : List RelEntry) (ls : List L) (log : G) → o.catalog.value ≡ rs → o.lanes.value.items ≡ ls → o.log.value ≡ log → AreOpening words o.config.frames o.base → AreSlots o.config.frames ls log ys → 0 < o.config.passes → o.config.passes ≤ 64 → 0 < o.config.lanes
-      → length ls ≡ o.config.lanes → o.base ≤ 4611686018427387904 → AreLanes d rs ls → IsNewLog {L = L} {G = G} d o.base log → Held d o (opening words ys (starting o))
+      → length ls ≡ o.config.lanes → o.base ≤ 4611686018427387904 → AreLanes d rs ls → IsNewLog {L = L} {G = G} d o.base log → RuleHolds d o (opening words ys (starting o))
   opens_built words ys rs ls log same_relations same_lanes same_log w h some_backend few_backends some_lane count based are new = opens_there words ys w
       (subst (λ (l : List L). AreSlots o.config.frames l o.log.value ys) (sym same_lanes) (subst (λ (x : G). AreSlots o.config.frames ls x ys) (sym same_log) h))
       some_backend few_backends some_lane (ap (λ (l : List L). length l) same_lanes ∙ count) based

@@ -219,7 +219,7 @@ module _ {L G : Type 0} where
     pub list : HasList o t.homes
 
   -- The rule: the table shows a state that has the law. The state has besides what no word shows: the pages of the blocks after the log, its entries, and what is out
-  pub record Held (d : Devices L G) (o : Opening L G) (t : table.State (Value L G) View) : Type 0 where
+  pub record RuleHolds (d : Devices L G) (o : Opening L G) (t : table.State (Value L G) View) : Type 0 where
     pub state : State
     pub shows : Shows d o t state
     pub laws : Laws state

@@ -10,9 +10,9 @@ use segment_store::BlockLane;
 pub struct Rule;
 
 impl<L: BlockLane, G: LogDevice> TableRule<Value<L, G>, View, Opening<L, G>> for Rule {
-    ghost use Rattle.table_rule.specs.Shows.{Held, devices, starting};
+    ghost use Rattle.table_rule.specs.Shows.{RuleHolds, devices, starting};
 
-    ghost holds = { Held (devices L.contents L.failed_writes L.unsynced L.read_faults L.write_faults L.calls G.bytes G.synced G.faults G.calls) };
+    ghost holds = { RuleHolds (devices L.contents L.failed_writes L.unsynced L.read_faults L.write_faults L.calls G.bytes G.synced G.faults G.calls) };
 
     ghost first = { starting };
 }
