@@ -28,7 +28,7 @@ use Rattle.backend_pass.specs.Managers.{Belongs}
 use Rattle.backend_pass.specs.Passes.{KeepsCallers, KeepsMark, PassState, SamePass}
 use Rattle.backend_pass.specs.Reading.{NothingFails}
 use Rattle.backend_pass.proofs.Seated.{same_on}
-use Rattle.bg_writer.specs.Rounds.{LookedInOrder, Rounds, next, none, pages_of, pages_of_all}
+use Rattle.bg_writer.specs.Rounds.{LookedInOrder, Rounds, next, none, pages_written_for, pages_written_for_all}
 
 -- calls of devices, one after another
 pages_both : (a b : List DeviceCall) → pages_written (a ++ b) ≡ pages_written a + pages_written b
@@ -73,12 +73,12 @@ went_writes q tag page v w e = record {
 }
 
 module _ {L G : Type 0} (contents : L → Option Pages) (t : FrameTable L G) where
-  pub sync_writes : (f : ℕ) (v w : View) (synced : Synced) → SyncsFrame contents t NotRecentlyUsed f v w (Ok synced) → WritesPages (pages_of synced) v w
+  pub sync_writes : (f : ℕ) (v w : View) (synced : Synced) → SyncsFrame contents t NotRecentlyUsed f v w (Ok synced) → WritesPages (pages_written_for synced) v w
   sync_writes f v w Skipped s = writes_none v w s.came.1
   sync_writes f v w Clean s = writes_none v w s.came.2
   sync_writes f v w Written s = let b = s.came.2 in went_writes _ _ b.answer.page v w b.answer.work
 
-pages_snoc : (came : List Synced) (synced : Synced) → pages_of_all (came ++ synced ∷ []) ≡ pages_of_all came + pages_of synced
+pages_snoc : (came : List Synced) (synced : Synced) → pages_written_for_all (came ++ synced ∷ []) ≡ pages_written_for_all came + pages_written_for synced
 pages_snoc [] synced = omega arith
 pages_snoc (x ∷ came) synced = let e = pages_snoc came synced in omega arith
 
@@ -106,7 +106,7 @@ module _ {L G : Type 0} (contents : L → Option Pages) (m : Manager L G) where
     pub came : List Synced
     pub looks : LookedInOrder contents m.table hand p.view loaded came q.view
     pub counted : length came ≡ places
-    pub pages : pages_of_all came ≡ written
+    pub pages : pages_written_for_all came ≡ written
     pub writes : WritesPages written p.view q.view
     pub met : q.view.met ≡ p.view.met
 
@@ -125,7 +125,7 @@ module _ {L G : Type 0} (contents : L → Option Pages) (m : Manager L G) where
   pub notes_held : (p q : PassState) (f : ℕ) → ((g : ℕ) → g ≢ f → link q.view g ≡ link p.view g) → KeepsNotes (link p.view f) (link q.view f) → (g : ℕ) → KeepsNotes (link p.view g) (link q.view g)
   notes_held p q f others here g = dite (ℕ_discrete g f) (λ e. subst (λ (x : ℕ). KeepsNotes (link p.view x) (link q.view x)) (sym e) here) (λ n. notes_same (link p.view g) (link q.view g) (others g n))
 
-  pub going_on : (p q r : PassState) (hand places written f : ℕ) (synced : Synced) → Going p q hand places written → f ≡ (hand + places) % frames_of m.table → Goes q r f synced → Going p r hand (places + 1) (written + pages_of synced)
+  pub going_on : (p q r : PassState) (hand places written f : ℕ) (synced : Synced) → Going p q hand places written → f ≡ (hand + places) % frames_of m.table → Goes q r f synced → Going p r hand (places + 1) (written + pages_written_for synced)
   going_on p q r hand places written f synced a at s = record {
     belongs = s.belongs;
     same = same_on p q r a.same s.same;
@@ -139,7 +139,7 @@ module _ {L G : Type 0} (contents : L → Option Pages) (m : Manager L G) where
     looks = next a.came synced a.looks a.pins (subst (λ (x : ℕ). SyncsFrame contents m.table NotRecentlyUsed x q.view r.view (Ok synced)) (at ∙ ap (λ (n : ℕ). (hand + n) % frames_of m.table) (sym a.counted)) s.syncs);
     counted = (let e = length-append a.came (synced ∷ []) in let n = a.counted in omega arith);
     pages = (let e = pages_snoc a.came synced in let n = a.pages in omega arith);
-    writes = writes_on written (pages_of synced) p.view q.view r.view a.writes (sync_writes contents m.table f q.view r.view synced s.syncs);
+    writes = writes_on written (pages_written_for synced) p.view q.view r.view a.writes (sync_writes contents m.table f q.view r.view synced s.syncs);
     met = s.met ∙ a.met;
   }
 
@@ -206,7 +206,7 @@ module _ {L G : Type 0} (contents : L → Option Pages) (m : Manager L G) where
     met = ap (λ (x : PassState). x.view.met) new;
   }
 
-pub pages_few : (synced : Synced) → pages_of synced ≤ 1
+pub pages_few : (synced : Synced) → pages_written_for synced ≤ 1
 pages_few Skipped = omega arith
 pages_few Clean = omega arith
 pages_few Written = omega arith

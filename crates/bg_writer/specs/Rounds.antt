@@ -16,14 +16,14 @@ use Rattle.backend_pass.specs.FrameFlushes.{frame_refusal}
 use Rattle.bg_writer.specs.declared.reports.Round.{Round}
 
 -- how many pages were written for a frame, and for frames, by what came of them
-abbrev pub pages_of : Synced → ℕ
-pages_of Written = 1
-pages_of Skipped = 0
-pages_of Clean = 0
+abbrev pub pages_written_for : Synced → ℕ
+pages_written_for Written = 1
+pages_written_for Skipped = 0
+pages_written_for Clean = 0
 
-abbrev pub pages_of_all : List Synced → ℕ
-pages_of_all [] = 0
-pages_of_all (synced ∷ came) = pages_of synced + pages_of_all came
+abbrev pub pages_written_for_all : List Synced → ℕ
+pages_written_for_all [] = 0
+pages_written_for_all (synced ∷ came) = pages_written_for synced + pages_written_for_all came
 
 module _ {L G : Type 0} (contents : L → Option Pages) (t : FrameTable L G) where
   -- Beginning with the one at which the hand points, frames were looked at in order, and this came of them, while the view pinned what it pinned in `start` at each look
@@ -36,7 +36,7 @@ module _ {L G : Type 0} (contents : L → Option Pages) (t : FrameTable L G) whe
     pub came : List Synced
     pub looks : LookedInOrder hand start v came w
     pub looked : length came ≡ round.looked
-    pub written : pages_of_all came ≡ round.written
+    pub written : pages_written_for_all came ≡ round.written
     pub within : (round.looked ≤ frames_of t) × (round.written ≤ 100)
     pub done : (round.looked ≡ frames_of t) ⊎ (round.written ≡ 100)
 
@@ -46,7 +46,7 @@ module _ {L G : Type 0} (contents : L → Option Pages) (t : FrameTable L G) whe
     pub before : View
     pub since : OnlyRises start before
     pub looks : LookedInOrder hand start v came before
-    pub left : (length came < frames_of t) × (pages_of_all came < 100)
+    pub left : (length came < frames_of t) × (pages_written_for_all came < 100)
     pub pins : SamePins start before
     pub refused : SyncsFrame contents t NotRecentlyUsed ((hand + length came) % frames_of t) before w (Err (frame_refusal why))
     pub ended : EndedInError ((hand + length came) % frames_of t) before w

@@ -10,7 +10,7 @@ ghost use Rattle.backend_pass.specs.FrameFlushes.{RefusesFrame, frame_answer};
 ghost use Rattle.backend_pass.specs.Managers.{Belongs};
 ghost use Rattle.backend_pass.specs.Passes.{KeepsCallers, KeepsMark, SamePass};
 ghost use Rattle.backend_pass.specs.Reading.{NothingFails};
-ghost use Rattle.bg_writer.specs.Rounds.{Rounds, pages_of};
+ghost use Rattle.bg_writer.specs.Rounds.{Rounds, pages_written_for};
 
 use crate::reports::Round;
 use backend_pass::{FlushError, Manager, Pass, SyncOnly, Synced};
@@ -32,7 +32,7 @@ fn frame_past(hand: u64, places: u32, frames: u32) -> u32
 
 /// How many pages were written for a frame.
 fn pages(synced: Synced) -> u32
-    ensures { result ≡ pages_of synced }
+    ensures { result ≡ pages_written_for synced }
 {
     match synced {
         Synced::Written => 1,

@@ -24,7 +24,7 @@ use Rattle.table_rule.specs.declared.turn.Turn.TheVariants.{Lane}
 use Rattle.table_rule.specs.LaneCalls.{LaneDevices, LaneDid, NotesRead, NotesWritten, NotesWriteFailed}
 use Rattle.table_rule.specs.TakenLanes.{IsBlockOf, page_held, taken_lane}
 use Rattle.frame_table.specs.Latches.{DidTurn, IsTurned, SameWork}
-use Rattle.frame_table.specs.LaneWork.{IsNoted, IsTakenLane, LaneStep, MayNote, MayNoteRead, MayNoteWrite, MayReturn, back_lane, back_view, device_calls_of, is_sync, lane_read_link, met_of, out_lane, out_view, swept_lane, unwritten_link, written_link}
+use Rattle.frame_table.specs.LaneWork.{IsNoted, IsTakenLane, LaneStep, MayNote, MayNoteRead, MayNoteWrite, MayReturn, back_lane, back_view, is_sync, lane_device_calls, lane_read_link, met_of, out_lane, out_view, swept_lane, unwritten_link, written_link}
 use Rattle.frame_table.specs.Seats.{OnlyRises, SameMarks, view_marks}
 use Rattle.held_pins.specs.Rests.{HasNoDevice, kept_by_calls}
 use Rattle.frame_table.proofs.Rising.{rises_back, rises_on, rises_out, rises_turned}
@@ -94,8 +94,8 @@ module _ {L : Type 0} (d : LaneDevices L) (q : ℕ) (after : L) (call : LaneCall
     others = λ g n. trip_left g ∙ others g n ∙ trip_went g;
   }
 
-  pub trip_calls : Made (device_calls_of d q after call) v w
-  trip_calls = ap (λ (z : View). z.device_calls) left ∙ ap (λ (z : View). z.device_calls) back ∙ ap (λ (l : List DeviceCall). l ++ device_calls_of d q after call) (ap (λ (z : View). z.device_calls) out ∙ ap (λ (z : View). z.device_calls) took)
+  pub trip_calls : Made (lane_device_calls d q after call) v w
+  trip_calls = ap (λ (z : View). z.device_calls) left ∙ ap (λ (z : View). z.device_calls) back ∙ ap (λ (l : List DeviceCall). l ++ lane_device_calls d q after call) (ap (λ (z : View). z.device_calls) out ∙ ap (λ (z : View). z.device_calls) took)
 
   pub trip_met : w.met ≡ sum_of_met v.met (met_of call)
   trip_met = ap (λ (z : View). z.met) left ∙ ap (λ (z : View). z.met) back ∙ ap (λ (m : FailedCalls). sum_of_met m (met_of call)) (ap (λ (z : View). z.met) out ∙ ap (λ (z : View). z.met) took)
@@ -169,7 +169,7 @@ pub read_given : {A E : Type 0} (f : ℕ) (tag : Tag) (page : Page) (call : Lane
 read_given f tag page call (Ok x) v w n noted ok = given_by f tag page call v w n noted
 read_given f tag page call (Err x) v w n noted ok = let no : false ≡ true = ok in absurd (cc)
 
-pub read_made : {L : Type 0} (d : LaneDevices L) (q : ℕ) (after : L) (f : ℕ) (tag : Tag) (done : Bool) (call : LaneCall) (v w : View) → IsReadCall f tag done call → Made (device_calls_of d q after call) v w → Made (LaneRead q (packed_tag tag) done ∷ []) v w
+pub read_made : {L : Type 0} (d : LaneDevices L) (q : ℕ) (after : L) (f : ℕ) (tag : Tag) (done : Bool) (call : LaneCall) (v w : View) → IsReadCall f tag done call → Made (lane_device_calls d q after call) v w → Made (LaneRead q (packed_tag tag) done ∷ []) v w
 read_made d q after f tag true (lane_call.Read g t p) v w e m = subst (λ (x : Tag). Made (LaneRead q (packed_tag x) true ∷ []) v w) e.1 m
 read_made d q after f tag false (lane_call.ReadFailed t) v w e m = subst (λ (x : Tag). Made (LaneRead q (packed_tag x) false ∷ []) v w) e m
 read_made d q after f tag done call v w e m = absurd e
@@ -227,7 +227,7 @@ write_noted f tag page true (lane_call.Written g t p) v w e noted = subst (λ (x
 write_noted f tag page false (lane_call.WriteFailed g t p) v w e noted = subst (λ (x : ℕ). link w x ≡ unwritten_link (link v x)) e.0 noted.here
 write_noted f tag page done call v w e noted = absurd e
 
-pub write_made : {L : Type 0} (d : LaneDevices L) (q : ℕ) (after : L) (f : ℕ) (tag : Tag) (page : Page) (done : Bool) (call : LaneCall) (v w : View) → IsWriteCall f tag page done call → Made (device_calls_of d q after call) v w → CallsLane done q (packed_tag tag) page v w
+pub write_made : {L : Type 0} (d : LaneDevices L) (q : ℕ) (after : L) (f : ℕ) (tag : Tag) (page : Page) (done : Bool) (call : LaneCall) (v w : View) → IsWriteCall f tag page done call → Made (lane_device_calls d q after call) v w → CallsLane done q (packed_tag tag) page v w
 write_made d q after f tag page true (lane_call.Written g t p) v w e m = record { left = page; whole = λ done. refl; calls = subst (λ (x : Page). Made (LaneWrite q (packed_tag tag) x true ∷ []) v w) e.2 (subst (λ (x : Tag). Made (LaneWrite q (packed_tag x) p.value true ∷ []) v w) e.1 m) }
 write_made d q after f tag page false (lane_call.WriteFailed g t p) v w e m = record { left = page_held (d.contents after) t p.value; whole = λ done. (let no : false ≡ true = done in absurd (cc)); calls = subst (λ (x : Tag). Made (LaneWrite q (packed_tag x) (page_held (d.contents after) t p.value) false ∷ []) v w) e.1 m }
 write_made d q after f tag page done call v w e m = absurd e

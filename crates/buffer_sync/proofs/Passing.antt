@@ -41,7 +41,7 @@ use Rattle.buffer_sync.specs.declared.syncing.SyncOnly.{SyncOnly}
 use Rattle.buffer_sync.specs.declared.syncing.SyncOnly.TheVariants.{NotRecentlyUsed, Needed}
 use Rattle.buffer_sync.specs.declared.syncing.Synced.{Synced}
 use Rattle.buffer_sync.specs.declared.syncing.Synced.TheVariants.{Skipped, Clean, Written}
-use Rattle.buffer_sync.specs.Syncs.{ComesAtOnce, EndsSync, IsDirty, FlushesPinned, LeavesPinned, LooksUnderHeader, PinnedAnswer, PinsUnder, SeesClean, SyncAnswer, SyncsOne, WritesBlock, by_load, by_word, is_skipped, pinned_anew, pinned_before, synced_of}
+use Rattle.buffer_sync.specs.Syncs.{ComesAtOnce, EndsSync, IsDirty, FlushesPinned, LeavesPinned, LooksUnderHeader, PinnedAnswer, PinsUnder, SeesClean, SyncAnswer, SyncsOne, WritesBlock, by_load, by_word, passes_over, pinned_anew, pinned_before, synced_of}
 
 -- the header is locked, and the word loaded under it is the one that is held
 pub locked_as : (was word : ℕ) (l m n : Link) → Looked (locked_link was l) m → Looked m n → fields word ≡ fields was → Looked (locked_link word l) n
@@ -181,7 +181,7 @@ third_of false false true d e = absurd (cc e)
 third_of false false false d e = refl
 
 -- the background writer writes no frame that the view pins itself
-pub not_recently_used_absent : (l : Link) (w : StateWord) → IsWordOf l w → is_skipped NotRecentlyUsed w ≡ false → l.role ≡ Absent
+pub not_recently_used_absent : (l : Link) (w : StateWord) → IsWordOf l w → passes_over NotRecentlyUsed w ≡ false → l.role ≡ Absent
 not_recently_used_absent l w shows unused = of_role l.role refl
   where
     none : nat_lt 0 w.pins ≡ false
@@ -193,7 +193,7 @@ not_recently_used_absent l w shows unused = of_role l.role refl
     of_role Victim e = let some = shows.pinned (λ absent. (let no : Victim ≡ Absent = sym e ∙ absent in absurd (cc))) in absurd (grind (arith, some, none))
 
 -- a frame that is written has its content unlocked
-pub unlocked_at : (only : SyncOnly) (o : Option HeldFrame) (l : Link) (w : StateWord) → IsWordOf l w → is_skipped only w ≡ false → LinkRests o l → (only ≡ Needed → l.content ≡ Unlocked) → l.content ≡ Unlocked
+pub unlocked_at : (only : SyncOnly) (o : Option HeldFrame) (l : Link) (w : StateWord) → IsWordOf l w → passes_over only w ≡ false → LinkRests o l → (only ≡ Needed → l.content ≡ Unlocked) → l.content ≡ Unlocked
 unlocked_at NotRecentlyUsed o l w shows is r needed = r.unlocked (none_absent o (sym r.role ∙ not_recently_used_absent l w shows is))
 unlocked_at Needed o l w shows is r needed = needed refl
 
@@ -218,7 +218,7 @@ module _ {L G : Type 0} (contents : L → Option Pages) (t : FrameTable L G) whe
   clean_made f v w (by_load s made) = made
   clean_made f v w (by_word s) = made_none v w s.calls
 
-  pub synced_answer : (only : SyncOnly) (word f : ℕ) (v looked w : View) (r : Result Synced FrameFlushError) → is_skipped only (fields word) ≡ false → PinsUnder f word looked w → looked.device_calls ≡ v.device_calls → PinnedAnswer contents t f looked w r → PinnedAnswer contents t f v w r → SyncAnswer contents t only word f v looked w r
+  pub synced_answer : (only : SyncOnly) (word f : ℕ) (v looked w : View) (r : Result Synced FrameFlushError) → passes_over only (fields word) ≡ false → PinsUnder f word looked w → looked.device_calls ≡ v.device_calls → PinnedAnswer contents t f looked w r → PinnedAnswer contents t f v w r → SyncAnswer contents t only word f v looked w r
   synced_answer only word f v looked w (Ok Skipped) is under same s all = absurd s
   synced_answer only word f v looked w (Ok Clean) is under same s all = (is, inr s, made_before [] v looked w same (clean_made f looked w s))
   synced_answer only word f v looked w (Ok Written) is under same s all = (is, under, all)
@@ -286,7 +286,7 @@ module _ {L G : Type 0} (contents : L → Option Pages) (t : FrameTable L G) whe
   flushes_flushed f tag v w r named listed works notes a met error written = record { works = works; notes = notes; answer = flushed_answer f tag v w r named listed a; met = flushed_met v w r met; ended = flushed_ended f v w r error written }
 
   -- what came of it, with the look before
-  pub syncs_flushed : (only : SyncOnly) (word f : ℕ) (v looked w : View) (r : Result Synced FrameFlushError) → LooksUnderHeader f word v looked → Touches f v looked → SameMarks v looked → KeepsNotes (link v f) (link looked f) → is_skipped only (fields word) ≡ false → PinsUnder f word looked w → FlushesPinned contents t f looked w r → (link w f).content ≡ (link v f).content → SyncsOne contents t only f v w r
+  pub syncs_flushed : (only : SyncOnly) (word f : ℕ) (v looked w : View) (r : Result Synced FrameFlushError) → LooksUnderHeader f word v looked → Touches f v looked → SameMarks v looked → KeepsNotes (link v f) (link looked f) → passes_over only (fields word) ≡ false → PinsUnder f word looked w → FlushesPinned contents t f looked w r → (link w f).content ≡ (link v f).content → SyncsOne contents t only f v w r
   syncs_flushed only word f v looked w r looks k m n is under s lock = let all = flushes_on f v looked w r k m n s in record {
     works = all.works;
     notes = all.notes;

@@ -34,9 +34,9 @@ use Rattle.buffer_sync.specs.declared.syncing.Synced.{Synced}
 use Rattle.buffer_sync.specs.declared.syncing.Synced.TheVariants.{Skipped, Clean, Written}
 
 -- whether a frame with this state word is passed over: the background writer writes a dirty frame that no backend pins and whose usage count is 0, and a checkpoint one that has BM_CHECKPOINT_NEEDED
-abbrev pub is_skipped : SyncOnly → StateWord → Bool
-is_skipped NotRecentlyUsed w = not w.valid || not w.dirty || nat_lt 0 w.pins || nat_lt 0 w.usage
-is_skipped Needed w = not w.checkpoint_needed
+abbrev pub passes_over : SyncOnly → StateWord → Bool
+passes_over NotRecentlyUsed w = not w.valid || not w.dirty || nat_lt 0 w.pins || nat_lt 0 w.usage
+passes_over Needed w = not w.checkpoint_needed
 
 -- The header of the frame f was locked and then the state word loaded, which was `word`, while the view pinned what it pinned at first
 pub record LooksUnderHeader (f word : ℕ) (v w : View) : Type 0 where
@@ -80,10 +80,10 @@ pub record IsDirty (w : StateWord) : Type 0 where
 
 -- what comes of a frame at once, by its state word, or that it is to be written
 abbrev pub ComesAtOnce : SyncOnly → StateWord → Option Synced → Type 0
-ComesAtOnce only w (Some Skipped) = is_skipped only w ≡ true
-ComesAtOnce only w (Some Clean) = (is_skipped only w ≡ false) × (w.dirty ≡ false)
+ComesAtOnce only w (Some Skipped) = passes_over only w ≡ true
+ComesAtOnce only w (Some Clean) = (passes_over only w ≡ false) × (w.dirty ≡ false)
 ComesAtOnce only w (Some Written) = ⊥
-ComesAtOnce only w None = (is_skipped only w ≡ false) × (w.dirty ≡ true)
+ComesAtOnce only w None = (passes_over only w ≡ false) × (w.dirty ≡ true)
 
 -- A frame that is pinned is left pinned, with nothing done there, and what the pin knows it still knows
 pub record LeavesPinned (l m : Link) : Type 0 where
@@ -122,10 +122,10 @@ module _ {L G : Type 0} (contents : L → Option Pages) (t : FrameTable L G) whe
 
   -- what came of the frame f, whose state word was `word` at the look that led to the view `looked`
   abbrev pub SyncAnswer : SyncOnly → ℕ → ℕ → View → View → View → Result Synced FrameFlushError → Type 0
-  SyncAnswer only word f v looked w (Ok Skipped) = (is_skipped only (fields word) ≡ true) × Made [] v w
-  SyncAnswer only word f v looked w (Ok Clean) = (is_skipped only (fields word) ≡ false) × (((fields word).dirty ≡ false) ⊎ SeesClean f looked w) × Made [] v w
-  SyncAnswer only word f v looked w (Ok Written) = (is_skipped only (fields word) ≡ false) × PinsUnder f word looked w × WritesBlock f v w (Ok true)
-  SyncAnswer only word f v looked w (Err why) = (is_skipped only (fields word) ≡ false) × PinsUnder f word looked w × WritesBlock f v w (Err why)
+  SyncAnswer only word f v looked w (Ok Skipped) = (passes_over only (fields word) ≡ true) × Made [] v w
+  SyncAnswer only word f v looked w (Ok Clean) = (passes_over only (fields word) ≡ false) × (((fields word).dirty ≡ false) ⊎ SeesClean f looked w) × Made [] v w
+  SyncAnswer only word f v looked w (Ok Written) = (passes_over only (fields word) ≡ false) × PinsUnder f word looked w × WritesBlock f v w (Ok true)
+  SyncAnswer only word f v looked w (Err why) = (passes_over only (fields word) ≡ false) × PinsUnder f word looked w × WritesBlock f v w (Err why)
 
   -- The state word of the frame f was looked at under its header, and by that the frame was passed over or written (`SyncOneBuffer`)
   pub record SyncsFrame (only : SyncOnly) (f : ℕ) (v w : View) (r : Result Synced FrameFlushError) : Type 0 where

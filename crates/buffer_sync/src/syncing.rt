@@ -9,7 +9,7 @@ ghost use Rattle.frame_table.specs.Seats.{HoldsNumber, IsWordOf, Looked, SameMar
 ghost use Rattle.held_pins.specs.Rests.{HasAtMostLock, LinkRests, LinksRest, LinksRestBeside, Stands};
 ghost use Rattle.held_pins.specs.Tokens.{IsPinnedFor, held_at};
 ghost use Rattle.buffer_sync.specs.declared.syncing.SyncOnly.TheVariants.{Needed};
-ghost use Rattle.buffer_sync.specs.Syncs.{AreAlone, ComesAtOnce, FlushesPinned, IsDirty, LeavesPinned, LooksUnderHeader, PinsUnder, SyncsOne, is_skipped, synced_of};
+ghost use Rattle.buffer_sync.specs.Syncs.{AreAlone, ComesAtOnce, FlushesPinned, IsDirty, LeavesPinned, LooksUnderHeader, PinsUnder, SyncsOne, passes_over, synced_of};
 
 use crate::tags::tag_shown;
 use atomic_table::Seat;
@@ -46,7 +46,7 @@ pub enum Synced {
 
 /// Whether a frame with this state word is passed over.
 fn is_passed_over(word: u64, only: SyncOnly) -> bool
-    ensures { result ≡ is_skipped only (fields word) }
+    ensures { result ≡ passes_over only (fields word) }
 {
     match only {
         SyncOnly::NotRecentlyUsed => {

@@ -16,7 +16,7 @@ use Rattle.page_core.specs.State.{Block, block_of}
 use Rattle.page_core.specs.Kinds.{Kind, note_read, begin_write, note_write}
 use Rattle.page_core.specs.Kinds as pages
 use Rattle.history_core.specs.State.{State, Lane}
-use Rattle.history_core.specs.Lanes.{swept_by, LaneKind, read_block, lane_back, LaneAllowed, lane_after, lane_hold_after, CanReturnLane, met_by, calls_by, syncs, fault_of}
+use Rattle.history_core.specs.Lanes.{swept_by, LaneKind, read_block, lane_back, LaneAllowed, lane_after, lane_hold_after, CanReturnLane, lane_met_by, lane_calls_by, syncs, fault_of}
 use Rattle.history_core.specs.Steps.{Event, Step, Run, rests, goes, NoWrite, LaneAlone, MayWriteLane, aside, stepped, laned, paged, pool_after, pool_noting}
 use Rattle.history_core.specs.Steps as steps
 use Rattle.history_core.specs.Laws.{Laws}
@@ -192,35 +192,35 @@ module _ (k : LaneKind) (a : LaneHold) (c : LaneChange) (noted : Bool) (q : ℕ)
   lanes_home : set (set v.lanes q (lane_hold_after k v.flushed (swept_by v) (lane_hold v q))) q (back_lane (get_or (set v.lanes q (lane_hold_after k v.flushed (swept_by v) (lane_hold v q))) q no_lane)) ≡ set v.lanes q (back_lane a)
   lanes_home = subst (λ (h : LaneHold). set (set v.lanes q h) q (back_lane (get_or (set v.lanes q h) q no_lane)) ≡ set v.lanes q (back_lane a)) (sym hold) (lanes_back v.lanes q a c low)
 
-  fault_noted : met_by k (lane_hold v q) ≡ record { reads = 0; writes = 0; logs = 0 } → sum_of_met (sum_of_met v.met (met_by k (lane_hold v q))) (fault_of noted (get_or (set v.lanes q (lane_hold_after k v.flushed (swept_by v) (lane_hold v q))) q no_lane).change) ≡ sum_of_met v.met (fault_of noted c)
+  fault_noted : lane_met_by k (lane_hold v q) ≡ record { reads = 0; writes = 0; logs = 0 } → sum_of_met (sum_of_met v.met (lane_met_by k (lane_hold v q))) (fault_of noted (get_or (set v.lanes q (lane_hold_after k v.flushed (swept_by v) (lane_hold v q))) q no_lane).change) ≡ sum_of_met v.met (fault_of noted c)
   fault_noted none = let change : LaneChange = (get_or (set v.lanes q (lane_hold_after k v.flushed (swept_by v) (lane_hold v q))) q no_lane).change in
       ap (λ (m : FailedCalls). sum_of_met (sum_of_met v.met m) (fault_of noted change)) none ∙ met_after_none v.met (fault_of noted change) ∙ ap (λ (h : LaneHold). sum_of_met v.met (fault_of noted h.change)) (get_or-set_same v.lanes q (lane_hold_after k v.flushed (swept_by v) (lane_hold v q)) no_lane low ∙ hold)
 
-pub view_alone : (k : LaneKind) (a : LaneHold) (c : LaneChange) (noted : Bool) (q : ℕ) (v : View) → q < length v.lanes → lane_hold_after k v.flushed (swept_by v) (lane_hold v q) ≡ record a { change = c } → met_by k (lane_hold v q) ≡ record { reads = 0; writes = 0; logs = 0 }
-    → alone_view (lane_back noted) q (alone_view k q v) ≡ record v { lanes = set v.lanes q (back_lane a); steps = v.steps + 2; device_calls = v.device_calls ++ calls_by k q; met = sum_of_met v.met (fault_of noted c); dirtied_or_synced = v.dirtied_or_synced || syncs k }
-view_alone k a c noted q v low hold none = λ j. record v { lanes = lanes_home k a c noted q v low hold j; steps = two_more v.steps j; device_calls = append-nil (v.device_calls ++ calls_by k q) j; met = fault_noted k a c noted q v low hold none j; dirtied_or_synced = or_none (v.dirtied_or_synced || syncs k) j }
+pub view_alone : (k : LaneKind) (a : LaneHold) (c : LaneChange) (noted : Bool) (q : ℕ) (v : View) → q < length v.lanes → lane_hold_after k v.flushed (swept_by v) (lane_hold v q) ≡ record a { change = c } → lane_met_by k (lane_hold v q) ≡ record { reads = 0; writes = 0; logs = 0 }
+    → alone_view (lane_back noted) q (alone_view k q v) ≡ record v { lanes = set v.lanes q (back_lane a); steps = v.steps + 2; device_calls = v.device_calls ++ lane_calls_by k q; met = sum_of_met v.met (fault_of noted c); dirtied_or_synced = v.dirtied_or_synced || syncs k }
+view_alone k a c noted q v low hold none = λ j. record v { lanes = lanes_home k a c noted q v low hold j; steps = two_more v.steps j; device_calls = append-nil (v.device_calls ++ lane_calls_by k q) j; met = fault_noted k a c noted q v low hold none j; dirtied_or_synced = or_none (v.dirtied_or_synced || syncs k) j }
 
 pub view_read : (tag : ℕ) (p : Page) (s : State) (id q f : ℕ) (v : View) → q < length v.lanes
-    → noted_view false (note_read p) (alone_state (read_block tag p) s id q v) q f (alone_view (read_block tag p) q v) ≡ record v { links = set v.links f (record (link v f) { read = Some p; read_is_home = false }); lanes = set v.lanes q (back_lane (lane_hold v q)); steps = v.steps + 2; device_calls = v.device_calls ++ calls_by (read_block tag p) q; met = sum_of_met v.met (record { reads = 0; writes = 0; logs = 0 }); dirtied_or_synced = v.dirtied_or_synced || false }
+    → noted_view false (note_read p) (alone_state (read_block tag p) s id q v) q f (alone_view (read_block tag p) q v) ≡ record v { links = set v.links f (record (link v f) { read = Some p; read_is_home = false }); lanes = set v.lanes q (back_lane (lane_hold v q)); steps = v.steps + 2; device_calls = v.device_calls ++ lane_calls_by (read_block tag p) q; met = sum_of_met v.met (record { reads = 0; writes = 0; logs = 0 }); dirtied_or_synced = v.dirtied_or_synced || false }
 view_read tag p s id q f v low = λ j. record v {
   links = set v.links f (record (link v f) { read = Some p; read_is_home = false });
   loads = append-nil v.loads j;
   lanes = lanes_back v.lanes q (lane_hold v q) (lane_change.Read tag p) low j;
   steps = two_more v.steps j;
-  device_calls = append-nil (v.device_calls ++ calls_by (read_block tag p) q) j;
+  device_calls = append-nil (v.device_calls ++ lane_calls_by (read_block tag p) q) j;
   met = met_after_none v.met (record { reads = 0; writes = 0; logs = 0 }) j;
   dirtied_or_synced = (or_none ((v.dirtied_or_synced || false) || false) ∙ or_none (v.dirtied_or_synced || false)) j;
   had_output = or_none v.had_output j;
 }
 
-pub view_written : (k : LaneKind) (c : LaneChange) (noted done : Bool) (s : State) (id q f : ℕ) (v : View) → q < length v.lanes → f < length v.links → lane_hold_after k v.flushed (swept_by v) (lane_hold v q) ≡ record (lane_hold v q) { change = c } → met_by k (lane_hold v q) ≡ record { reads = 0; writes = 0; logs = 0 } → syncs k ≡ false
-    → noted_view noted (note_write done) (written_state k s id q f v) q f (written_view k s q f v) ≡ record v { links = set v.links f (record (link v f) { last_write = pages.write_noted done }); lanes = set v.lanes q (back_lane (lane_hold v q)); steps = v.steps + 2; device_calls = v.device_calls ++ calls_by k q; met = sum_of_met v.met (fault_of noted c); dirtied_or_synced = v.dirtied_or_synced || false }
+pub view_written : (k : LaneKind) (c : LaneChange) (noted done : Bool) (s : State) (id q f : ℕ) (v : View) → q < length v.lanes → f < length v.links → lane_hold_after k v.flushed (swept_by v) (lane_hold v q) ≡ record (lane_hold v q) { change = c } → lane_met_by k (lane_hold v q) ≡ record { reads = 0; writes = 0; logs = 0 } → syncs k ≡ false
+    → noted_view noted (note_write done) (written_state k s id q f v) q f (written_view k s q f v) ≡ record v { links = set v.links f (record (link v f) { last_write = pages.write_noted done }); lanes = set v.lanes q (back_lane (lane_hold v q)); steps = v.steps + 2; device_calls = v.device_calls ++ lane_calls_by k q; met = sum_of_met v.met (fault_of noted c); dirtied_or_synced = v.dirtied_or_synced || false }
 view_written k c noted done s id q f v low inside hold none quiet = λ j. record v {
   links = links j;
   loads = (append-nil (v.loads ++ []) ∙ append-nil v.loads) j;
   lanes = lanes_home k (lane_hold v q) c noted q v low hold j;
   steps = two_more v.steps j;
-  device_calls = append-nil (v.device_calls ++ calls_by k q) j;
+  device_calls = append-nil (v.device_calls ++ lane_calls_by k q) j;
   met = fault_noted k (lane_hold v q) c noted q v low hold none j;
   dirtied_or_synced = marks j;
   had_output = (or_none (v.had_output || false) ∙ or_none v.had_output) j;

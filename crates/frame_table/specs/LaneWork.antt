@@ -88,14 +88,14 @@ module _ {L : Type 0} (d : LaneDevices L) (q : ℕ) (after : L) where
   back_events SyncFailed i = steps.lane i q (fail_sync (d.write_faults after)) ∷ steps.lane i q (lane_back true) ∷ []
 
   -- the device call that it was; after a write that failed the lane's page of the block is unspecified
-  abbrev pub device_calls_of : LaneCall → List DeviceCall
-  device_calls_of Untouched = []
-  device_calls_of (Read f tag page) = device.LaneRead q (packed_tag tag) true ∷ []
-  device_calls_of (ReadFailed tag) = device.LaneRead q (packed_tag tag) false ∷ []
-  device_calls_of (Written f tag page) = device.LaneWrite q (packed_tag tag) page.value true ∷ []
-  device_calls_of (WriteFailed f tag page) = device.LaneWrite q (packed_tag tag) (page_held (d.contents after) tag page.value) false ∷ []
-  device_calls_of Synced = device.LaneSync q true ∷ []
-  device_calls_of SyncFailed = device.LaneSync q false ∷ []
+  abbrev pub lane_device_calls : LaneCall → List DeviceCall
+  lane_device_calls Untouched = []
+  lane_device_calls (Read f tag page) = device.LaneRead q (packed_tag tag) true ∷ []
+  lane_device_calls (ReadFailed tag) = device.LaneRead q (packed_tag tag) false ∷ []
+  lane_device_calls (Written f tag page) = device.LaneWrite q (packed_tag tag) page.value true ∷ []
+  lane_device_calls (WriteFailed f tag page) = device.LaneWrite q (packed_tag tag) (page_held (d.contents after) tag page.value) false ∷ []
+  lane_device_calls Synced = device.LaneSync q true ∷ []
+  lane_device_calls SyncFailed = device.LaneSync q false ∷ []
 
 -- what the view has at the frame of the call
 abbrev pub lane_read_link : Page → Link → Link
@@ -141,7 +141,7 @@ back_view d q after call v = record v {
   links = links_of call v;
   lanes = slice_set v.lanes q (back_lane (swept_lane call v (lane_hold v q)));
   steps = v.steps + call_steps call;
-  device_calls = v.device_calls ++ device_calls_of d q after call;
+  device_calls = v.device_calls ++ lane_device_calls d q after call;
   met = sum_of_met v.met (met_of call);
   dirtied_or_synced = v.dirtied_or_synced || is_sync call;
 }

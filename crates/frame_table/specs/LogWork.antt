@@ -16,7 +16,7 @@ use Rattle.pin_core.specs.State.{Page, sum_of_met}
 use Rattle.history_core.specs.Log.{record_size}
 use Rattle.history_core.specs.State.{State}
 use Rattle.history_core.specs.Laws.{Laws}
-use Rattle.history_core.specs.Device.{LogKind, log_out, append, fail_append, sync_log, fail_sync, log_back, see_down, LogAllowed, view_logged, met_by}
+use Rattle.history_core.specs.Device.{LogKind, log_out, append, fail_append, sync_log, fail_sync, log_back, see_down, LogAllowed, view_logged, log_met_by}
 use Rattle.history_core.specs.Steps.{AppendsRecord}
 use Rattle.table_rule.specs.declared.noted_log.LogCall.{LogCall}
 use Rattle.table_rule.specs.declared.noted_log.LogCall.TheVariants as log_call
@@ -80,12 +80,12 @@ home_hold log_call.SyncFailed h = record h { out = None; change = change.Untouch
 home_hold _ h = record h { out = None; change = change.Untouched }
 
 -- the calls of devices that it counts more
-abbrev pub device_calls_of : LogCall → List DeviceCall
-device_calls_of log_call.Untouched = []
-device_calls_of (log_call.Appended f tag page piece) = LogAppend true ∷ []
-device_calls_of (log_call.AppendFailed f tag page piece) = LogAppend false ∷ []
-device_calls_of log_call.Synced = LogSync true ∷ []
-device_calls_of log_call.SyncFailed = LogSync false ∷ []
+abbrev pub log_device_calls : LogCall → List DeviceCall
+log_device_calls log_call.Untouched = []
+log_device_calls (log_call.Appended f tag page piece) = LogAppend true ∷ []
+log_device_calls (log_call.AppendFailed f tag page piece) = LogAppend false ∷ []
+log_device_calls log_call.Synced = LogSync true ∷ []
+log_device_calls log_call.SyncFailed = LogSync false ∷ []
 
 -- and the steps
 abbrev pub home_steps : LogCall → ℕ
@@ -96,8 +96,8 @@ home_steps _ = 2
 abbrev pub view_home : LogCall → View → View
 view_home call v = record v {
   log = home_hold call v.log;
-  device_calls = v.device_calls ++ device_calls_of call;
-  met = sum_of_met v.met (met_by (log_back (has_failed call)));
+  device_calls = v.device_calls ++ log_device_calls call;
+  met = sum_of_met v.met (log_met_by (log_back (has_failed call)));
   saw_down = v.saw_down || has_failed call;
   steps = v.steps + home_steps call;
 }

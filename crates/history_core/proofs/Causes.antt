@@ -23,7 +23,7 @@ use Rattle.page_core.specs.Kinds.{Kind, Allowed, frame_after, dirties, starts_ou
 use Rattle.page_core.specs.Steps as page_steps
 use Rattle.history_core.specs.State.{Lane, State, Store, failed, opening}
 use Rattle.history_core.specs.Lanes as lane_kinds
-use Rattle.history_core.specs.Lanes.{swept_by, LaneKind, lane_after, lane_hold_after, met_by, fault_of, syncs, is_failed_write}
+use Rattle.history_core.specs.Lanes.{swept_by, LaneKind, lane_after, lane_hold_after, lane_met_by, fault_of, syncs, is_failed_write}
 use Rattle.history_core.specs.Steps.{LaneAlone, MayWriteLane, Notes, Step, pools, lanes, writes, notes, logs, enters, reads, loads_end, begins, loads_flushed, raises, adds_hand, loads_hand, Event, Run, rests, goes, stepped, ticked, looked, aside, pool_after, logged_noting, pool_noting, paged, laned, has_loaded, has_read, has_begun, has_written, has_raised}
 use Rattle.history_core.specs.Log.{record_size}
 use Rattle.history_core.specs.Device as log_kinds
@@ -96,7 +96,7 @@ no_fault true lane_change.Synced e = refl
 no_fault false change e = refl
 
 -- a step at a lane that is no failed write and no sync leaves the view quiet
-still_no_fault : (k : LaneKind) (s : State) (q : ℕ) (loaded swept : ℕ) (x : LaneHold) → LaneAlone k s q x → syncs k ≡ false → is_failed_write x.change ≡ false → (is_failed_write (lane_hold_after k loaded swept x).change ≡ false) × ((met_by k x).writes ≡ 0)
+still_no_fault : (k : LaneKind) (s : State) (q : ℕ) (loaded swept : ℕ) (x : LaneHold) → LaneAlone k s q x → syncs k ≡ false → is_failed_write x.change ≡ false → (is_failed_write (lane_hold_after k loaded swept x).change ≡ false) × ((lane_met_by k x).writes ≡ 0)
 still_no_fault lane_kinds.take_lane s q loaded swept x a e h = (h, refl)
 still_no_fault lane_kinds.leave_lane s q loaded swept x a e h = (h, refl)
 still_no_fault (lane_kinds.lane_out taken) s q loaded swept x a e h = (h, refl)

@@ -17,7 +17,7 @@ use Rattle.history_core.specs.State.{Lane, State, Store, fresh_lane, opening}
 use Rattle.history_core.specs.Lanes as lane_kinds
 use Rattle.pin_core.specs.declared.view.LaneChange.{LaneChange}
 use Rattle.pin_core.specs.declared.view.LaneChange.TheVariants as lane_change
-use Rattle.history_core.specs.Lanes.{swept_by, LaneKind, LaneAllowed, lane_after, lane_hold_after, met_by, fault_of, is_failed_read, is_failed_write}
+use Rattle.history_core.specs.Lanes.{swept_by, LaneKind, LaneAllowed, lane_after, lane_hold_after, lane_met_by, fault_of, is_failed_read, is_failed_write}
 use Rattle.history_core.specs.Device.{HasRisen}
 use Rattle.history_core.specs.Counts.{all_met, Known, CountTally, holders, failed_reads, failed_writes, unfailed, count_weigh, HoldCounts, count_shape, count_part, known_of, Counted, CountsLaw}
 use Rattle.pin_core.specs.declared.view.Seen.TheVariants as seen
@@ -79,9 +79,9 @@ module _ (s : State) (h : HistoryInvariant s) (m : LanesCounted s) where
   all_known = both_grids (record { columns = λ f below. record { taken = (h.lanes.columns f below).taken }; cells = h.lanes.cells }) m.lanes
 
   -- one lane and one view change
-  laned_grid : (i q : ℕ) (k : LaneKind) (v w : View) → get_elem? views i ≡ some v → v.emptied ≡ false → q < s.lanes → LaneAllowed k (s.lane q) (lane_hold v q) → w.lanes ≡ set v.lanes q (lane_hold_after k v.flushed (swept_by v) (lane_hold v q)) → w.met ≡ sum_of_met v.met (met_by k (lane_hold v q))
+  laned_grid : (i q : ℕ) (k : LaneKind) (v w : View) → get_elem? views i ≡ some v → v.emptied ≡ false → q < s.lanes → LaneAllowed k (s.lane q) (lane_hold v q) → w.lanes ≡ set v.lanes q (lane_hold_after k v.flushed (swept_by v) (lane_hold v q)) → w.met ≡ sum_of_met v.met (lane_met_by k (lane_hold v q))
       → Grid count_shape count_part s.lanes (put s.lane q (lane_after k (s.lane q))) (λ _. record { flushed = s.flushed; met = all_met (set views i w) }) (set views i w)
-  laned_grid i q k v w there live inside a holds met = let d : FailedCalls = met_by k (lane_hold v q) in let ln : Lane = lane_after k (s.lane q) in let l : LaneHold = lane_hold_after k v.flushed (swept_by v) (lane_hold v q) in
+  laned_grid i q k v w there live inside a holds met = let d : FailedCalls = lane_met_by k (lane_hold v q) in let ln : Lane = lane_after k (s.lane q) in let l : LaneHold = lane_hold_after k v.flushed (swept_by v) (lane_hold v q) in
       subst (λ (x : FailedCalls). Grid count_shape count_part s.lanes (put s.lane q ln) (λ _. record { flushed = s.flushed; met = x }) (set views i w)) (sym (met_set views i v w d there met))
       (sweep count_shape known count_part s.lanes s.lane (put s.lane q ln) (λ _. known_of s) (λ _. more (known_of s) d) views i v w all_known there (λ g below. dite (ℕ_discrete g q)
       (λ (e : g ≡ q). subst (λ (x : Lane × LaneHold). Keeps count_shape known count_part (known_of s) (more (known_of s) d) tt tt (s.lane g) (lane_hold v g) x.0 x.1)
@@ -135,7 +135,7 @@ rose_later lane_kinds.sync_lane ln x a = ((λ y. y), λ y. y)
 rose_later (lane_kinds.lane_back noted) ln x a = ((λ y. y), λ y. y)
 
 -- a kind that counts a fault, and the count that rose before
-counts_by : (k : LaneKind) (h : LaneHold) → (0 < (met_by k h).reads → is_failed_read h.change ≡ true) × (0 < (met_by k h).writes → is_failed_write h.change ≡ true)
+counts_by : (k : LaneKind) (h : LaneHold) → (0 < (lane_met_by k h).reads → is_failed_read h.change ≡ true) × (0 < (lane_met_by k h).writes → is_failed_write h.change ≡ true)
 counts_by (lane_kinds.lane_back noted) h = counted_failed noted h.change
 counts_by lane_kinds.take_lane h = ((λ e. absurd (omega arith)), λ e. absurd (omega arith))
 counts_by lane_kinds.leave_lane h = ((λ e. absurd (omega arith)), λ e. absurd (omega arith))
@@ -155,9 +155,9 @@ zero_or_more zero = inl refl
 zero_or_more (suc n) = inr (omega arith)
 
 -- the law after a step at the lane q, where the view becomes w
-laned_counts : (s : State) (h : HistoryInvariant s) (m : LanesCounted s) (i q : ℕ) (k : LaneKind) (v w : View) → get_elem? s.pool.core.views i ≡ some v → v.emptied ≡ false → q < s.lanes → LaneAllowed k (s.lane q) (lane_hold v q) → w.lanes ≡ set v.lanes q (lane_hold_after k v.flushed (swept_by v) (lane_hold v q)) → w.met ≡ sum_of_met v.met (met_by k (lane_hold v q))
+laned_counts : (s : State) (h : HistoryInvariant s) (m : LanesCounted s) (i q : ℕ) (k : LaneKind) (v w : View) → get_elem? s.pool.core.views i ≡ some v → v.emptied ≡ false → q < s.lanes → LaneAllowed k (s.lane q) (lane_hold v q) → w.lanes ≡ set v.lanes q (lane_hold_after k v.flushed (swept_by v) (lane_hold v q)) → w.met ≡ sum_of_met v.met (lane_met_by k (lane_hold v q))
     → Counted s.lanes (put s.lane q (lane_after k (s.lane q))) s.flushed (set s.pool.core.views i w)
-laned_counts s h m i q k v w there live low a holds met = let lane' : ℕ → Lane = put s.lane q (lane_after k (s.lane q)) in let d : FailedCalls = met_by k (lane_hold v q) in let vs' : List View = set s.pool.core.views i w in
+laned_counts s h m i q k v w there live low a holds met = let lane' : ℕ → Lane = put s.lane q (lane_after k (s.lane q)) in let d : FailedCalls = lane_met_by k (lane_hold v q) in let vs' : List View = set s.pool.core.views i w in
     let sums : all_met vs' ≡ sum_of_met (all_met s.pool.core.views) d = met_set s.pool.core.views i v w d there met in let cells = m.lanes.cells i v q there low in
     record {
       lanes = laned_grid s h m i q k v w there live low a holds met;
@@ -227,7 +227,7 @@ pools_counts s h m (pin_steps.joins j v u there other here live free) = let w : 
       writes_rose = λ e. m.writes_rose (omega arith);
     }
 
-log_reads : (k : LogKind) → ((log_kinds.met_by k).reads ≡ 0) × ((log_kinds.met_by k).writes ≡ 0)
+log_reads : (k : LogKind) → ((log_kinds.log_met_by k).reads ≡ 0) × ((log_kinds.log_met_by k).writes ≡ 0)
 log_reads (log_kinds.log_back true) = (refl, refl)
 log_reads (log_kinds.log_back false) = (refl, refl)
 log_reads log_kinds.take_log = (refl, refl)
@@ -241,7 +241,7 @@ log_reads log_kinds.see_down = (refl, refl)
 
 -- a step at the log
 logged_counts : (s : State) (h : HistoryInvariant s) (m : LanesCounted s) (i : ℕ) (k : LogKind) (v : View) → get_elem? s.pool.core.views i ≡ some v → Counted s.lanes s.lane s.flushed (set s.pool.core.views i (view_logged k v))
-logged_counts s h m i k v there = let w : View = view_logged k v in let d : FailedCalls = log_kinds.met_by k in let same = met_set s.pool.core.views i v w d there refl in let zero_d = log_reads k in record {
+logged_counts s h m i k v there = let w : View = view_logged k v in let d : FailedCalls = log_kinds.log_met_by k in let same = met_set s.pool.core.views i v w d there refl in let zero_d = log_reads k in record {
   lanes = subst (λ (x : FailedCalls). Grid count_shape count_part s.lanes s.lane (λ _. record { flushed = s.flushed; met = x }) (set s.pool.core.views i w)) (sym same)
       (sweep count_shape known count_part s.lanes s.lane s.lane (λ _. known_of s) (λ _. more (known_of s) d) s.pool.core.views i v w (all_known s h m) there (λ g below. stays_more (known_of s) d (s.lane g) (lane_hold v g)));
   reads_rose = λ e. m.reads_rose (let y = ap (λ (n : FailedCalls). n.reads) same in let z = zero_d.0 in omega arith);

@@ -12,7 +12,7 @@ use Rattle.pin_core.specs.Tallies.{flag_weight, unless_flag}
 use Rattle.pin_core.specs.State.{Page, sum_of_met}
 use Rattle.history_core.specs.State.{Lane}
 use Rattle.history_core.specs.Lanes as lanes
-use Rattle.history_core.specs.Lanes.{LaneKind, LaneAllowed, lane_after, lane_hold_after, met_by, fault_of, is_failed_read, is_failed_write, LaneLink, LaneColumn, Rises}
+use Rattle.history_core.specs.Lanes.{LaneKind, LaneAllowed, lane_after, lane_hold_after, lane_met_by, fault_of, is_failed_read, is_failed_write, LaneLink, LaneColumn, Rises}
 use Rattle.history_core.specs.Device.{HasRisen}
 use Rattle.history_core.specs.Counts.{Known, CountTally, holders, failed_reads, failed_writes, unfailed, count_weigh, CountLaw, LaneCounts, HoldCounts, count_shape, lane_part, count_part}
 use Rattle.history_core.proofs.Device.{risen_least, risen}
@@ -247,7 +247,7 @@ module _ (k : Known) (loaded swept : ℕ) (ln : Lane) (h : LaneHold) where
         failed_met = λ tag bad z. by_failed (is_failed_write h.change) refl (λ f. let b = write_counted noted h.change (rule.all f) f in omega arith) (λ f. let g = ap flag_weight f in let b = q.failed_met tag bad (omega arith) in omega arith);
       }
 
-  pub counts_kept : (kind : LaneKind) → LaneAllowed kind ln h → Keeps_by kind k (met_by kind h) loaded swept ln h
+  pub counts_kept : (kind : LaneKind) → LaneAllowed kind ln h → Keeps_by kind k (lane_met_by kind h) loaded swept ln h
   counts_kept lanes.take_lane a = take_lane_counts a
   counts_kept lanes.leave_lane a = leave_lane_counts a
   counts_kept (lanes.lane_out taken) a = lane_out_counts taken a

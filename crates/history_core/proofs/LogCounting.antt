@@ -23,7 +23,7 @@ use Rattle.page_core.specs.Kinds.{begin_write, make_entry}
 use Rattle.history_core.specs.Log.{record_size}
 use Rattle.history_core.specs.State.{Device, State, Store, fresh_device}
 use Rattle.history_core.specs.Lanes as lane_kinds
-use Rattle.history_core.specs.Lanes.{LaneKind, Rises, met_by, fault_of}
+use Rattle.history_core.specs.Lanes.{LaneKind, Rises, lane_met_by, fault_of}
 use Rattle.history_core.specs.Device as log_kinds
 use Rattle.history_core.specs.Device.{LogKind, LogAllowed, device_after, view_logged, is_failed, HasRisen, Written, DeviceLaw, LogLink, LogTally, holders, appenders, log_weigh}
 use Rattle.history_core.specs.Counts.{all_met, NoneFailedOut, FaultsOut, LogCounted}
@@ -168,7 +168,7 @@ pools_counted s h m (pin_steps.joins j v u there other here live free) = let w :
         (λ p. none k x (set_else (set s.pool.core.views 0 (joined_view v u)) j k emptied_view o ∙ set_else s.pool.core.views 0 k (joined_view v u) p ∙ at)))
 
 -- a kind at a lane counts no fault of the log
-no_log_fault : (k : LaneKind) (h : LaneHold) → (met_by k h).logs ≡ 0
+no_log_fault : (k : LaneKind) (h : LaneHold) → (lane_met_by k h).logs ≡ 0
 no_log_fault (lane_kinds.lane_back true) h = by_change h.change
   where
     by_change : (c : LaneChange) → (fault_of true c).logs ≡ 0
@@ -190,7 +190,7 @@ no_log_fault (lane_kinds.fail_write f tag p faults) h = refl
 no_log_fault lane_kinds.sync_lane h = refl
 no_log_fault (lane_kinds.fail_sync faults) h = refl
 
-same_logs : (k : LaneKind) (q : ℕ) (v : View) → v.met.logs + (met_by k (lane_hold v q)).logs ≡ v.met.logs
+same_logs : (k : LaneKind) (q : ℕ) (v : View) → v.met.logs + (lane_met_by k (lane_hold v q)).logs ≡ v.met.logs
 same_logs k q v = let x = no_log_fault k (lane_hold v q) in omega arith
 
 pub log_counting : {e : Event} {s t : State} → Step e s t → HistoryInvariant s → LogCounted s.log_faults s.device s.pool.core.views → LogCounted t.log_faults t.device t.pool.core.views

@@ -126,16 +126,16 @@ log_hold_after (fail_sync synced n) h = record h { change = change.SyncFailed; a
 log_hold_after (log_back noted) h = record h { out = None; change = change.Untouched }
 log_hold_after see_down h = h
 
-abbrev pub calls_by : LogKind → List DeviceCall
-calls_by (append f tag p bytes) = LogAppend true ∷ []
-calls_by (fail_append f tag p bytes n) = LogAppend false ∷ []
-calls_by sync_log = LogSync true ∷ []
-calls_by (fail_sync synced n) = LogSync false ∷ []
-calls_by _ = []
+abbrev pub log_calls_by : LogKind → List DeviceCall
+log_calls_by (append f tag p bytes) = LogAppend true ∷ []
+log_calls_by (fail_append f tag p bytes n) = LogAppend false ∷ []
+log_calls_by sync_log = LogSync true ∷ []
+log_calls_by (fail_sync synced n) = LogSync false ∷ []
+log_calls_by _ = []
 
-abbrev pub met_by : LogKind → FailedCalls
-met_by (log_back true) = record { reads = 0; writes = 0; logs = 1 }
-met_by _ = record { reads = 0; writes = 0; logs = 0 }
+abbrev pub log_met_by : LogKind → FailedCalls
+log_met_by (log_back true) = record { reads = 0; writes = 0; logs = 1 }
+log_met_by _ = record { reads = 0; writes = 0; logs = 0 }
 
 -- the holder's own failure shows it that the log is down
 abbrev pub sees_down : LogKind → Bool
@@ -148,8 +148,8 @@ sees_down _ = false
 abbrev pub view_logged : LogKind → View → View
 view_logged k v = record v {
   log = log_hold_after k v.log;
-  device_calls = v.device_calls ++ calls_by k;
-  met = sum_of_met v.met (met_by k);
+  device_calls = v.device_calls ++ log_calls_by k;
+  met = sum_of_met v.met (log_met_by k);
   saw_down = v.saw_down || sees_down k;
   steps = v.steps + 1;
 }

@@ -142,14 +142,14 @@ lane_hold_after (fail_sync n) flushed swept h = record h { change = SyncFailed }
 lane_hold_after (lane_back noted) flushed swept h = record h { out = None; change = Untouched }
 
 -- the device call that a kind is, at the lane n
-abbrev pub calls_by : LaneKind → ℕ → List DeviceCall
-calls_by (read_block tag page) n = device.LaneRead n tag true ∷ []
-calls_by (fail_read tag m) n = device.LaneRead n tag false ∷ []
-calls_by (write_block f tag p) n = device.LaneWrite n tag p true ∷ []
-calls_by (fail_write f tag p m) n = device.LaneWrite n tag p false ∷ []
-calls_by sync_lane n = device.LaneSync n true ∷ []
-calls_by (fail_sync m) n = device.LaneSync n false ∷ []
-calls_by _ n = []
+abbrev pub lane_calls_by : LaneKind → ℕ → List DeviceCall
+lane_calls_by (read_block tag page) n = device.LaneRead n tag true ∷ []
+lane_calls_by (fail_read tag m) n = device.LaneRead n tag false ∷ []
+lane_calls_by (write_block f tag p) n = device.LaneWrite n tag p true ∷ []
+lane_calls_by (fail_write f tag p m) n = device.LaneWrite n tag p false ∷ []
+lane_calls_by sync_lane n = device.LaneSync n true ∷ []
+lane_calls_by (fail_sync m) n = device.LaneSync n false ∷ []
+lane_calls_by _ n = []
 
 -- the fault that a backend counts as the lane comes back
 abbrev pub fault_of : Bool → LaneChange → FailedCalls
@@ -158,9 +158,9 @@ fault_of true (WriteFailed f tag) = record { reads = 0; writes = 1; logs = 0 }
 fault_of true SyncFailed = record { reads = 0; writes = 1; logs = 0 }
 fault_of _ _ = record { reads = 0; writes = 0; logs = 0 }
 
-abbrev pub met_by : LaneKind → LaneHold → FailedCalls
-met_by (lane_back noted) h = fault_of noted h.change
-met_by _ h = record { reads = 0; writes = 0; logs = 0 }
+abbrev pub lane_met_by : LaneKind → LaneHold → FailedCalls
+lane_met_by (lane_back noted) h = fault_of noted h.change
+lane_met_by _ h = record { reads = 0; writes = 0; logs = 0 }
 
 abbrev pub syncs : LaneKind → Bool
 syncs sync_lane = true
@@ -171,8 +171,8 @@ syncs _ = false
 abbrev pub lane_changed : LaneKind → ℕ → ℕ → LaneHold → View → View
 lane_changed k n swept h v = record v {
   lanes = slice_set v.lanes n (lane_hold_after k v.flushed swept h);
-  device_calls = v.device_calls ++ calls_by k n;
-  met = sum_of_met v.met (met_by k h);
+  device_calls = v.device_calls ++ lane_calls_by k n;
+  met = sum_of_met v.met (lane_met_by k h);
   dirtied_or_synced = v.dirtied_or_synced || syncs k;
 }
 

@@ -4,6 +4,6 @@ use Rattle.log_device.specs.declared.count.CallCount.{CallCount}
 use Rattle.log_device.specs.declared.count.CallCount.TheVariants.{Zero, After'}
 
 -- how many calls were counted
-abbrev pub number_of : CallCount → ℕ
-number_of Zero = 0
-number_of (After' shape before) = number_of before + 1
+abbrev pub calls_counted : CallCount → ℕ
+calls_counted Zero = 0
+calls_counted (After' shape before) = calls_counted before + 1

@@ -46,17 +46,17 @@ pub enum CallCount {
 }
 
 impl CallCount {
-    ghost use Rattle.log_device.specs.Calls.{number_of};
+    ghost use Rattle.log_device.specs.Calls.{calls_counted};
 
     pub fn new() -> CallCount
-        ensures { number_of result ≡ 0 }
+        ensures { calls_counted result ≡ 0 }
     {
         CallCount::Zero
     }
 
     /// Counts one more.
     pub fn raise(&mut self)
-        ensures { number_of self.new ≡ number_of self.old + 1 }
+        ensures { calls_counted self.new ≡ calls_counted self.old + 1 }
     {
         *self = CallCount::After(Snapshot::of(self));
     }

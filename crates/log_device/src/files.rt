@@ -2,7 +2,7 @@
 ghost use Rattle.std.specs.Prelude.{◌≡◌, ◌+◌, None, OnOk};
 ghost use Rattle.std.specs.Io.KnownBytes.{Appends};
 ghost use Rattle.log_device.specs.Bytes.{Puts};
-ghost use Rattle.log_device.specs.Calls.{number_of};
+ghost use Rattle.log_device.specs.Calls.{calls_counted};
 ghost use Rattle.log_device.specs.Faults.{HasCause};
 
 use crate::count::{CallCount, FaultCount};
@@ -45,12 +45,12 @@ impl<F: Write + OpenFile + Drop> LogDevice for FileLog<F> {
 
     ghost faults = { λ l. l.faults.count };
 
-    ghost calls = { λ l. number_of l.calls };
+    ghost calls = { λ l. calls_counted l.calls };
 
     fn append(&mut self, piece: &[u8]) -> Result<(), Failed>
         ensures bytes { Puts piece.now None None result }
         ensures faults { HasCause self.old.faults.count self.new.faults.count result }
-        ensures calls { number_of self.new.calls ≡ number_of self.old.calls + 1 }
+        ensures calls { calls_counted self.new.calls ≡ calls_counted self.old.calls + 1 }
         ensures written { OnOk result (Appends (F.contents self.old.file) (F.contents self.new.file) piece.now) }
     {
         self.calls.raise();

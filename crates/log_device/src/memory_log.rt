@@ -1,7 +1,7 @@
 //! Logs in memory.
 ghost use Rattle.std.specs.Prelude.{◌≡◌, ◌+◌, ◌≤◌, ◌++◌, [], Some, IfOk, OnErr, is_ok, length, not};
 ghost use Rattle.log_device.specs.Bytes.{Puts, Syncs};
-ghost use Rattle.log_device.specs.Calls.{number_of};
+ghost use Rattle.log_device.specs.Calls.{calls_counted};
 ghost use Rattle.log_device.specs.Faults.{CountsOne, HasCause};
 ghost use Rattle.log_device.specs.Memory.{prefix_of, takes_piece};
 ghost use Rattle.log_device.specs.Plan.{after_call, fails_next, fresh_plan};
@@ -64,7 +64,7 @@ impl MemLog {
         ensures appends { IfOk result (λ log. log.sink.puts ≡ plan.appends) }
         ensures syncs { IfOk result (λ log. log.syncs ≡ plan.syncs) }
         ensures faults { IfOk result (λ log. log.faults.count ≡ 0) }
-        ensures calls { IfOk result (λ log. number_of log.calls ≡ 0) }
+        ensures calls { IfOk result (λ log. calls_counted log.calls ≡ 0) }
     {
         let sink = MemSink::new(alloc, room, plan.appends)?;
         Ok(MemLog {
@@ -105,7 +105,7 @@ impl LogDevice for MemLog {
 
     ghost faults = { λ l. l.faults.count };
 
-    ghost calls = { λ l. number_of l.calls };
+    ghost calls = { λ l. calls_counted l.calls };
 
     /// Fails where the plan says so and where there is no room for the piece.
     fn append(&mut self, piece: &[u8]) -> Result<(), Failed>
@@ -113,7 +113,7 @@ impl LogDevice for MemLog {
         ensures synced { self.new.synced ≡ self.old.synced }
         ensures faults { HasCause self.old.faults.count self.new.faults.count result }
         ensures counted { CountsOne self.old.faults.count self.new.faults.count result }
-        ensures calls { number_of self.new.calls ≡ number_of self.old.calls + 1 }
+        ensures calls { calls_counted self.new.calls ≡ calls_counted self.old.calls + 1 }
         ensures answer { is_ok result ≡ takes_piece self.old.sink piece.now }
         ensures left { OnErr result (self.new.sink.bytes ≡ self.old.sink.bytes ++ prefix_of self.old.sink piece.now) }
         ensures appends { self.new.sink.puts ≡ after_call self.old.sink.puts }
@@ -134,7 +134,7 @@ impl LogDevice for MemLog {
         ensures synced { Syncs self.old.sink.bytes self.old.synced self.new.synced result }
         ensures faults { HasCause self.old.faults.count self.new.faults.count result }
         ensures counted { CountsOne self.old.faults.count self.new.faults.count result }
-        ensures calls { number_of self.new.calls ≡ number_of self.old.calls + 1 }
+        ensures calls { calls_counted self.new.calls ≡ calls_counted self.old.calls + 1 }
         ensures answer { is_ok result ≡ not (fails_next self.old.syncs) }
         ensures syncs { self.new.syncs ≡ after_call self.old.syncs }
     {

@@ -42,7 +42,7 @@ use Rattle.backend_pass.proofs.Seated.{same_on}
 use Rattle.page_jobs.specs.declared.ending.JobError.{JobError}
 use Rattle.page_jobs.specs.Parts.{blocks_in}
 use Rattle.page_jobs.specs.Reads.{FindsUnsound, PinsOne, RefusesBlock, Stays, fault_of_refusal}
-use Rattle.page_jobs.specs.Rewrites.{IfRead, IsEnded, Outcome, unsound, kept, refused, changed, block_of, calls_by, calls_for, rule_of, result_of}
+use Rattle.page_jobs.specs.Rewrites.{IfRead, IsEnded, Outcome, unsound, kept, refused, changed, outcome_block, outcome_calls, calls_for, rule_of, result_of}
 use Rattle.page_jobs.specs.Rewriting.{FollowsRule, GoesOn, HoldsUntil, KeepsOtherLocks, LastReads, LocksOne, PutFails, RewritesBlock, RewritesBlocks, RewritesHeld, RewritesLocked, UnderCleanup, fault_of_put}
 use Rattle.page_jobs.proofs.BlockWork.{on_err}
 use Rattle.page_jobs.proofs.Staying.{calls_on, stays_on}
@@ -270,8 +270,8 @@ module _ {L G : Type 0} (contents : L → Option Pages) (m : Manager L G) where
 
   -- the block was locked first
   module _ (tag : Tag) (p q r : PassState) (e : Exclusive) (one : LocksOne contents m tag p q e) where
-    calls_after : (o : Outcome) → r.view.calls ≡ q.view.calls ++ calls_by (rule_of tag.rel.0 tag.fork) o → r.view.calls ≡ p.view.calls ++ calls_for (rule_of tag.rel.0 tag.fork) (o ∷ [])
-    calls_after o calls = calls ∙ ap (λ (l : List Call). l ++ calls_by (rule_of tag.rel.0 tag.fork) o) one.calls.calls ∙ ap (λ (l : List Call). p.view.calls ++ l) (sym (append-nil (calls_by (rule_of tag.rel.0 tag.fork) o)))
+    calls_after : (o : Outcome) → r.view.calls ≡ q.view.calls ++ outcome_calls (rule_of tag.rel.0 tag.fork) o → r.view.calls ≡ p.view.calls ++ calls_for (rule_of tag.rel.0 tag.fork) (o ∷ [])
+    calls_after o calls = calls ∙ ap (λ (l : List Call). l ++ outcome_calls (rule_of tag.rel.0 tag.fork) o) one.calls.calls ∙ ap (λ (l : List Call). p.view.calls ++ l) (sym (append-nil (outcome_calls (rule_of tag.rel.0 tag.fork) o)))
 
     locks_after : HasLock content.Unlocked e.pinned.frame r → KeepsOtherLocks e.pinned.frame q r → KeepsLocks p r
     locks_after unlocked others g = dite (ℕ_discrete g e.pinned.frame)
@@ -279,7 +279,7 @@ module _ {L G : Type 0} (contents : L → Option Pages) (m : Manager L G) where
         (λ other. others g other ∙ one.others g other)
 
     under : (answer : Result PageRewrite InsertError) (x : RewritesHeld contents m tag e.pinned.frame q r answer)
-        → UnderCleanup p.view.number ((rule_of tag.rel.0 tag.fork).tag (block_of x.page.outcome)) p.view.calls (p.view.calls ++ calls_by (rule_of tag.rel.0 tag.fork) x.page.outcome) p.view r.view
+        → UnderCleanup p.view.number ((rule_of tag.rel.0 tag.fork).tag (outcome_block x.page.outcome)) p.view.calls (p.view.calls ++ outcome_calls (rule_of tag.rel.0 tag.fork) x.page.outcome) p.view r.view
     under answer x = record {
       frame = e.pinned.frame;
       asked = one.asked;
@@ -288,7 +288,7 @@ module _ {L G : Type 0} (contents : L → Option Pages) (m : Manager L G) where
       grants = one.granted;
       tagged = one.tagged ∙ ap (λ (b : ℕ). Some (packed_tag (tag_of_parts tag.rel.0 tag.fork b))) (sym x.page.block);
       calls_are = one.calls.calls;
-      until = subst (λ (l : List Call). HoldsUntil e.pinned.frame (l ++ calls_by (rule_of tag.rel.0 tag.fork) x.page.outcome) q.view r.view) one.calls.calls x.until;
+      until = subst (λ (l : List Call). HoldsUntil e.pinned.frame (l ++ outcome_calls (rule_of tag.rel.0 tag.fork) x.page.outcome) q.view r.view) one.calls.calls x.until;
     }
 
     blocks_after : (answer : Result PageRewrite InsertError) (x : RewritesHeld contents m tag e.pinned.frame q r answer) → RewritesBlocks contents m tag.rel.0 tag.fork tag.block (tag.block + 1) (x.page.outcome ∷ []) p r

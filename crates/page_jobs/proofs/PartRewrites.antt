@@ -22,7 +22,7 @@ use Rattle.backend_pass.proofs.Seated.{same_on}
 use Rattle.page_jobs.specs.declared.ending.JobError.{JobError}
 use Rattle.page_jobs.specs.declared.ending.JobError.TheVariants.{Memory}
 use Rattle.page_jobs.specs.Reads.{HasNoTokens}
-use Rattle.page_jobs.specs.Rewrites.{AreFrom, EachOutcome, IfRead, IsEnded, IsUnput, Outcome, Rule, StopsAtFailure, unsound, kept, refused, changed, block_of, calls_by, calls_for, outcome_totals, rule_of, result_of}
+use Rattle.page_jobs.specs.Rewrites.{AreFrom, EachOutcome, IfRead, IsEnded, IsUnput, Outcome, Rule, StopsAtFailure, unsound, kept, refused, changed, outcome_block, outcome_calls, calls_for, outcome_totals, rule_of, result_of}
 use Rattle.page_jobs.specs.Rewriting.{AllUnderCleanup, EndsRewriteFor, FollowsRule, GoesOn, HoldsUntil, RewritesBlock, RewritesBlocks, RewritesPart, RewritesWhole, UnderCleanup}
 use Rattle.page_jobs.proofs.BlockRewrites.{reads_since}
 use Rattle.page_jobs.proofs.BlockWork.{on_err, on_ok}
@@ -43,7 +43,7 @@ from_append a (o ∷ os) us x y = (x.0, from_append (a + 1) os us x.1 (subst (λ
 
 pub calls_for-append : (r : Rule) (os us : List Outcome) → calls_for r (os ++ us) ≡ calls_for r os ++ calls_for r us
 calls_for-append r [] us = refl
-calls_for-append r (o ∷ os) us = ap (λ (l : List Call). calls_by r o ++ l) (calls_for-append r os us) ∙ sym (append_assoc (calls_by r o) (calls_for r os) (calls_for r us))
+calls_for-append r (o ∷ os) us = ap (λ (l : List Call). outcome_calls r o ++ l) (calls_for-append r os us) ∙ sym (append_assoc (outcome_calls r o) (calls_for r os) (calls_for r us))
 
 stops_later : (os us : List Outcome) → EachOutcome IsEnded os → StopsAtFailure us → StopsAtFailure (os ++ us)
 stops_later [] us ended stops = stops
@@ -65,15 +65,15 @@ under_wider number packed before after u v w x earlier later h = record { frame 
 all_wider : (r : Rule) (number : ℕ) (u v w x : View) → OnlyRises u v → OnlyRises w x → (calls : List Call) (os : List Outcome) → AllUnderCleanup r number v w calls os → AllUnderCleanup r number u x calls os
 all_wider r number u v w x earlier later calls [] all = tt
 all_wider r number u v w x earlier later calls (o ∷ os) all = (
-  if_read o _ _ (under_wider number (r.tag (block_of o)) calls (calls ++ calls_by r o) u v w x earlier later) all.0,
-  all_wider r number u v w x earlier later (calls ++ calls_by r o) os all.1,
+  if_read o _ _ (under_wider number (r.tag (outcome_block o)) calls (calls ++ outcome_calls r o) u v w x earlier later) all.0,
+  all_wider r number u v w x earlier later (calls ++ outcome_calls r o) os all.1,
 )
 
 under_on : (r : Rule) (number : ℕ) (u v w : View) → OnlyRises u v → OnlyRises v w → (calls : List Call) (os us : List Outcome) → AllUnderCleanup r number u v calls os → AllUnderCleanup r number v w (calls ++ calls_for r os) us → AllUnderCleanup r number u w calls (os ++ us)
 under_on r number u v w earlier later calls [] us a b = all_wider r number u v w w earlier (rises_none w) calls us (subst (λ (l : List Call). AllUnderCleanup r number v w l us) (append-nil calls) b)
 under_on r number u v w earlier later calls (o ∷ os) us a b = (
-  if_read o _ _ (under_wider number (r.tag (block_of o)) calls (calls ++ calls_by r o) u u v w (rises_none u) later) a.0,
-  under_on r number u v w earlier later (calls ++ calls_by r o) os us a.1 (subst (λ (l : List Call). AllUnderCleanup r number v w l us) (sym (append_assoc calls (calls_by r o) (calls_for r os))) b),
+  if_read o _ _ (under_wider number (r.tag (outcome_block o)) calls (calls ++ outcome_calls r o) u u v w (rises_none u) later) a.0,
+  under_on r number u v w earlier later (calls ++ outcome_calls r o) os us a.1 (subst (λ (l : List Call). AllUnderCleanup r number v w l us) (sym (append_assoc calls (outcome_calls r o) (calls_for r os))) b),
 )
 
 module _ {L G : Type 0} (contents : L → Option Pages) (m : Manager L G) (rel : ℕ) (fork : Fork) where

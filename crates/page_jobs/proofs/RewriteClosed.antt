@@ -10,7 +10,7 @@ use Rattle.grid.specs.Shape.{put}
 use Rattle.grid.proofs.Lists.{put_else}
 use Rattle.grid.proofs.Sums.{total-same}
 use Rattle.history_core.specs.History.{IsHistory}
-use Rattle.page_jobs.specs.Rewrites.{Rule, Outcome, unsound, kept, refused, changed, block_of, calls_by}
+use Rattle.page_jobs.specs.Rewrites.{Rule, Outcome, unsound, kept, refused, changed, outcome_block, outcome_calls}
 use Rattle.page_jobs.specs.RewriteEnds.{BackendCalls, all_done, block_weight, Rewrites, RewritesAll, HasRewrites, HasEntry, IsRewritten, change_weight}
 use Rattle.page_jobs.proofs.RewriteCounts.{Each, each_done, total_some, test_is, outcome_at, outcome_weight, writes_at_are, writes_are, same_place, total_blocks}
 use Rattle.history_core.proofs.Logs.{cut_in, cut_out, in_or_out}
@@ -25,7 +25,7 @@ cell_untouched origin (e ∷ es) p tag h = in_or_out p e
     (λ (t : p < end_of e). subst (λ (l : List Entry). cell origin l tag ≡ origin tag) (sym (cut_out p e es t)) (cell_untouched origin es p tag (λ k x at. h (suc k) x at)))
 
 module _ {r : Rule} {n : ℕ} {known : ℕ → Bool} {origin : ℕ → Page} {log : Log} {calls : List Call} {ps : List BackendCalls} (h : IsHistory known origin log calls) (w : Rewrites r n known origin calls ps) where
-  legal_done : (k : ℕ) (o : Outcome) → get_elem? (all_done ps) k ≡ some o → Each (IsLegal known origin log) (calls_by r o)
+  legal_done : (k : ℕ) (o : Outcome) → get_elem? (all_done ps) k ≡ some o → Each (IsLegal known origin log) (outcome_calls r o)
   legal_done = each_done r (IsLegal known origin log) ps (subst (Each (IsLegal known origin log)) w.calls_are h.legal)
 
   -- entries with one end are one
@@ -69,10 +69,10 @@ module _ {r : Rule} {n : ℕ} {known : ℕ → Bool} {origin : ℕ → Page} {lo
       from (j, o, t, low) = by_case j o t low
 
   -- the outcome of a block that has an entry is the one that made it
-  outcome_of : (k j : ℕ) (e : Entry) (o : Outcome) → (at : get_elem? log.entries k ≡ some e) → get_elem? (all_done ps) j ≡ some o → e.tag ≡ r.tag (block_of o) → (m : MadeBy e) × (o ≡ changed m.block m.backend m.page m.place (end_of e))
+  outcome_of : (k j : ℕ) (e : Entry) (o : Outcome) → (at : get_elem? log.entries k ≡ some e) → get_elem? (all_done ps) j ≡ some o → e.tag ≡ r.tag (outcome_block o) → (m : MadeBy e) × (o ≡ changed m.block m.backend m.page m.place (end_of e))
   outcome_of k j e o at to tagged = let m = made_by k e at in let c = changed m.block m.backend m.page m.place (end_of e) in
-      let same : block_of o ≡ m.block = w.apart (block_of o) m.block (w.below j o to) (w.below m.index c m.there) (sym tagged ∙ m.tagged) in
-      let index = same_place (all_done ps) j m.index o c to m.there same (w.once (block_of o)) in (m, some-injective o c (sym to ∙ ap (get_elem? (all_done ps)) index ∙ m.there))
+      let same : outcome_block o ≡ m.block = w.apart (outcome_block o) m.block (w.below j o to) (w.below m.index c m.there) (sym tagged ∙ m.tagged) in
+      let index = same_place (all_done ps) j m.index o c to m.there same (w.once (outcome_block o)) in (m, some-injective o c (sym to ∙ ap (get_elem? (all_done ps)) index ∙ m.there))
 
   abbrev place_after : Outcome → ℕ
   place_after (changed b i q p m) = m
@@ -84,8 +84,8 @@ module _ {r : Rule} {n : ℕ} {known : ℕ → Bool} {origin : ℕ → Page} {lo
       same_index j k d e at to (ap place_after x.1)
 
   -- the page that was read of a block, and not after its entry, is the page at the start
-  read_page : (j : ℕ) (o : Outcome) → get_elem? (all_done ps) j ≡ some o → (q : Page) (p : ℕ) → IsLegalRead known origin log (r.tag (block_of o)) q p → ((b i t m : ℕ) (x : Page) → o ≡ changed b i x t m → p < m) → known (r.tag (block_of o)) ≡ true → q ≡ origin (r.tag (block_of o))
-  read_page j o at q p l before is = l.reads is ∙ cell_untouched origin log.entries p (r.tag (block_of o)) (λ k e to tagged. let x = outcome_of k j e o to at tagged in before x.0.block x.0.backend x.0.place (end_of e) x.0.page x.1)
+  read_page : (j : ℕ) (o : Outcome) → get_elem? (all_done ps) j ≡ some o → (q : Page) (p : ℕ) → IsLegalRead known origin log (r.tag (outcome_block o)) q p → ((b i t m : ℕ) (x : Page) → o ≡ changed b i x t m → p < m) → known (r.tag (outcome_block o)) ≡ true → q ≡ origin (r.tag (outcome_block o))
+  read_page j o at q p l before is = l.reads is ∙ cell_untouched origin log.entries p (r.tag (outcome_block o)) (λ k e to tagged. let x = outcome_of k j e o to at tagged in before x.0.block x.0.backend x.0.place (end_of e) x.0.page x.1)
 
   read_changed : (j b i m : ℕ) (q : Page) (p : ℕ) → get_elem? (all_done ps) j ≡ some (changed b i q p m) → known (r.tag b) ≡ true → q ≡ origin (r.tag b)
   read_changed j b i m q p at = read_page j (changed b i q p m) at q p (legal_done j (changed b i q p m) at 0 (Read i (r.tag b) q p) refl) (λ c k t z x e. subst (λ (y : ℕ). p < y) (ap place_after e) (w.fair j (changed b i q p m) at).1)
@@ -103,7 +103,7 @@ module _ {r : Rule} {n : ℕ} {known : ℕ → Bool} {origin : ℕ → Page} {lo
   }
 
   -- no entry is of a block that was not changed
-  no_entry : (j : ℕ) (o : Outcome) → get_elem? (all_done ps) j ≡ some o → outcome_weight o ≡ 0 → HasEntry log (r.tag (block_of o)) → ⊥
+  no_entry : (j : ℕ) (o : Outcome) → get_elem? (all_done ps) j ≡ some o → outcome_weight o ≡ 0 → HasEntry log (r.tag (outcome_block o)) → ⊥
   no_entry j o at none x = let y = outcome_of x.index j x.entry o x.there at x.tagged in absurd (let z = ap outcome_weight y.1 in omega arith)
 
 -- Where all blocks are done
@@ -114,13 +114,13 @@ module _ {r : Rule} {n : ℕ} {known : ℕ → Bool} {origin : ℕ → Page} {lo
   pub changed_read : (j b i : ℕ) (q : Page) (p m : ℕ) → get_elem? (all_done ps) j ≡ some (changed b i q p m) → q ≡ origin (r.tag b)
   changed_read j b i q p m at = read_changed h w.rewrites j b i m q p at (told b (w.rewrites.below j (changed b i q p m) at))
 
-  changes_here : (j : ℕ) (o : Outcome) → get_elem? (all_done ps) j ≡ some o → outcome_weight o ≡ change_weight r origin (block_of o)
+  changes_here : (j : ℕ) (o : Outcome) → get_elem? (all_done ps) j ≡ some o → outcome_weight o ≡ change_weight r origin (outcome_block o)
   changes_here j (unsound b) at = ap (λ (t : Bool). cond t 1 0) (sym (w.rewrites.fair j (unsound b) at (told b (w.rewrites.below j (unsound b) at))))
   changes_here j (kept b i q p) at = ap (λ (t : Bool). cond t 1 0) (sym (w.rewrites.fair j (kept b i q p) at) ∙ ap r.changes (kept_read j b i q p at))
   changes_here j (refused b i q p) at = let e = w.ended j (refused b i q p) at in absurd (cc)
   changes_here j (changed b i q p m) at = ap (λ (t : Bool). cond t 1 0) (sym (w.rewrites.fair j (changed b i q p m) at).0 ∙ ap r.changes (changed_read j b i q p m at))
 
-  has_entry : (j : ℕ) (o : Outcome) → get_elem? (all_done ps) j ≡ some o → outcome_weight o ≡ 1 → HasEntry log (r.tag (block_of o))
+  has_entry : (j : ℕ) (o : Outcome) → get_elem? (all_done ps) j ≡ some o → outcome_weight o ≡ 1 → HasEntry log (r.tag (outcome_block o))
   has_entry j (changed b i q p m) at e = let l : IsLegalWrite log i (r.tag b) (r.rewritten q m) m = legal_done h w.rewrites j (changed b i q p m) at 1 (Write i (r.tag b) (r.rewritten q m) m) refl in record { index = l.index; entry = l.entry; there = l.there; tagged = l.tagged }
   has_entry j (unsound b) at e = absurd (omega arith)
   has_entry j (kept b i q p) at e = absurd (omega arith)
@@ -129,8 +129,8 @@ module _ {r : Rule} {n : ℕ} {known : ℕ → Bool} {origin : ℕ → Page} {lo
   pub is_rewritten : IsRewritten r n known origin log
   is_rewritten = record {
     rewrites = has_rewrites h w.rewrites;
-    all = λ b low is. let x = total_some (block_weight b) (all_done ps) (let y = w.all b low in omega arith) in let same : block_of x.1 ≡ b = test_is (block_of x.1) b x.3 in
+    all = λ b low is. let x = total_some (block_weight b) (all_done ps) (let y = w.all b low in omega arith) in let same : outcome_block x.1 ≡ b = test_is (outcome_block x.1) b x.3 in
         subst (λ (t : ℕ). HasEntry log (r.tag t)) same (has_entry x.0 x.1 x.2 (changes_here x.0 x.1 x.2 ∙ ap (λ (t : ℕ). change_weight r origin t) same ∙ ap (λ (t : Bool). cond t 1 0) is));
-    end = let x = total_blocks n (change_weight r origin) (all_done ps) w.rewrites.below w.all in let y = total-same outcome_weight (λ (o : Outcome). change_weight r origin (block_of o)) (all_done ps) changes_here in
+    end = let x = total_blocks n (change_weight r origin) (all_done ps) w.rewrites.below w.all in let y = total-same outcome_weight (λ (o : Outcome). change_weight r origin (outcome_block o)) (all_done ps) changes_here in
         let z = writes_are r ps w.rewrites.reads in let c = ap writes_in w.rewrites.calls_are in let k = h.counted in omega arith;
   }

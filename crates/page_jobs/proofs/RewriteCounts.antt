@@ -12,8 +12,8 @@ use Rattle.history_core.specs.Log.{write_weight, weight_at, writes_in, writes_at
 use Rattle.grid.specs.Shape.{total}
 use Rattle.grid.proofs.Lists.{at_longer}
 use Rattle.grid.proofs.Sums.{terms_le, total-same}
-use Rattle.page_jobs.specs.Rewrites.{Rule, Outcome, unsound, kept, refused, changed, block_of, calls_by, calls_for}
-use Rattle.page_jobs.specs.RewriteEnds.{BackendCalls, calls_of, all_done, WroteNothing, block_weight, times, sum_below}
+use Rattle.page_jobs.specs.Rewrites.{Rule, Outcome, unsound, kept, refused, changed, outcome_block, outcome_calls, calls_for}
+use Rattle.page_jobs.specs.RewriteEnds.{BackendCalls, calls_of_backends, all_done, WroteNothing, block_weight, times, sum_below}
 
 -- where a sum is above 0 some term is
 pub total_some : {A : Type 0} (g : A → ℕ) (l : List A) → 0 < total g l → (j : ℕ) × (a : A) × (get_elem? l j ≡ some a) × (0 < g a)
@@ -43,22 +43,22 @@ module _ {A : Type 0} (P : A → Type 0) where
 module _ (r : Rule) where
   -- each call of an outcome is one of the calls
   module _ (P : Call → Type 0) where
-    each_made : (os : List Outcome) → Each P (calls_for r os) → (k : ℕ) (o : Outcome) → get_elem? os k ≡ some o → Each P (calls_by r o)
+    each_made : (os : List Outcome) → Each P (calls_for r os) → (k : ℕ) (o : Outcome) → get_elem? os k ≡ some o → Each P (outcome_calls r o)
     each_made [] h k o e = absurd (some-ne-none o (sym e))
-    each_made (x ∷ os) h zero o e = subst (λ (y : Outcome). Each P (calls_by r y)) (some-injective x o e) (each_left P (calls_by r x) (calls_for r os) h)
-    each_made (x ∷ os) h (suc k) o e = each_made os (each_right P (calls_by r x) (calls_for r os) h) k o e
+    each_made (x ∷ os) h zero o e = subst (λ (y : Outcome). Each P (outcome_calls r y)) (some-injective x o e) (each_left P (outcome_calls r x) (calls_for r os) h)
+    each_made (x ∷ os) h (suc k) o e = each_made os (each_right P (outcome_calls r x) (calls_for r os) h) k o e
 
-    pub each_done : (ps : List BackendCalls) → Each P (calls_of r ps) → (k : ℕ) (o : Outcome) → get_elem? (all_done ps) k ≡ some o → Each P (calls_by r o)
+    pub each_done : (ps : List BackendCalls) → Each P (calls_of_backends r ps) → (k : ℕ) (o : Outcome) → get_elem? (all_done ps) k ≡ some o → Each P (outcome_calls r o)
     each_done [] h k o e = absurd (some-ne-none o (sym e))
-    each_done (p ∷ ps) h k o e = let rest = each_right P p.before (calls_for r p.done ++ (p.after ++ calls_of r ps)) h in ⊎_elim
-        (λ (t : get_elem? p.done k ≡ some o). each_made p.done (each_left P (calls_for r p.done) (p.after ++ calls_of r ps) rest) k o t)
-        (λ (t : (j : ℕ) × (get_elem? (all_done ps) j ≡ some o)). each_done ps (each_right P p.after (calls_of r ps) (each_right P (calls_for r p.done) (p.after ++ calls_of r ps) rest)) t.0 o t.1)
+    each_done (p ∷ ps) h k o e = let rest = each_right P p.before (calls_for r p.done ++ (p.after ++ calls_of_backends r ps)) h in ⊎_elim
+        (λ (t : get_elem? p.done k ≡ some o). each_made p.done (each_left P (calls_for r p.done) (p.after ++ calls_of_backends r ps) rest) k o t)
+        (λ (t : (j : ℕ) × (get_elem? (all_done ps) j ≡ some o)). each_done ps (each_right P p.after (calls_of_backends r ps) (each_right P (calls_for r p.done) (p.after ++ calls_of_backends r ps) rest)) t.0 o t.1)
         (at_both p.done (all_done ps) k o e)
 
   -- a count of calls that counts no read is that of the outcomes
   module _ (g : Call → ℕ) (few : (c : Call) → g c ≤ write_weight c) where
     abbrev weight : Outcome → ℕ
-    weight o = total g (calls_by r o)
+    weight o = total g (outcome_calls r o)
 
     total_none : (l : List Call) → writes_in l ≡ 0 → total g l ≡ 0
     unfolding total
@@ -68,13 +68,13 @@ module _ (r : Rule) where
     total_made : (os : List Outcome) → total g (calls_for r os) ≡ total weight os
     unfolding total
     total_made [] = refl
-    total_made (o ∷ os) = omega (arith, total-both g (calls_by r o) (calls_for r os), total_made os)
+    total_made (o ∷ os) = omega (arith, total-both g (outcome_calls r o) (calls_for r os), total_made os)
 
-    pub total_calls : (ps : List BackendCalls) → WroteNothing ps → total g (calls_of r ps) ≡ total weight (all_done ps)
+    pub total_calls : (ps : List BackendCalls) → WroteNothing ps → total g (calls_of_backends r ps) ≡ total weight (all_done ps)
     unfolding total
     total_calls [] h = refl
-    total_calls (p ∷ ps) h = let x = h zero p refl in let rest = p.after ++ calls_of r ps in
-        omega (arith, total-both g p.before (calls_for r p.done ++ rest), total-both g (calls_for r p.done) rest, total-both g p.after (calls_of r ps), total-both weight p.done (all_done ps), total_made p.done, total_none p.before x.0, total_none p.after x.1, total_calls ps (λ k q t. h (suc k) q t))
+    total_calls (p ∷ ps) h = let x = h zero p refl in let rest = p.after ++ calls_of_backends r ps in
+        omega (arith, total-both g p.before (calls_for r p.done ++ rest), total-both g (calls_for r p.done) rest, total-both g p.after (calls_of_backends r ps), total-both weight p.done (all_done ps), total_made p.done, total_none p.before x.0, total_none p.after x.1, total_calls ps (λ k q t. h (suc k) q t))
 
 -- how many writes at the place, and how many in all, an outcome makes
 abbrev pub outcome_at : ℕ → Outcome → ℕ
@@ -103,14 +103,14 @@ few_at : (p : ℕ) (c : Call) → weight_at p c ≤ write_weight c
 few_at p (Read i t q n) = omega arith
 few_at p (Write i t q n) = test_le (nat_eq n p)
 
-same_at : (r : Rule) (p : ℕ) (o : Outcome) → total (weight_at p) (calls_by r o) ≡ outcome_at p o
+same_at : (r : Rule) (p : ℕ) (o : Outcome) → total (weight_at p) (outcome_calls r o) ≡ outcome_at p o
 unfolding total
 same_at r p (unsound b) = refl
 same_at r p (kept b i q n) = refl
 same_at r p (refused b i q n) = refl
 same_at r p (changed b i q n m) = omega arith
 
-same_weight : (r : Rule) (o : Outcome) → total write_weight (calls_by r o) ≡ outcome_weight o
+same_weight : (r : Rule) (o : Outcome) → total write_weight (outcome_calls r o) ≡ outcome_weight o
 unfolding total
 same_weight r (unsound b) = refl
 same_weight r (kept b i q n) = refl
@@ -118,15 +118,15 @@ same_weight r (refused b i q n) = refl
 same_weight r (changed b i q n m) = refl
 
 module _ (r : Rule) (ps : List BackendCalls) (h : WroteNothing ps) where
-  pub writes_at_are : (p : ℕ) → writes_at p (calls_of r ps) ≡ total (outcome_at p) (all_done ps)
-  writes_at_are p = total_calls r (weight_at p) (few_at p) ps h ∙ total-same (λ (o : Outcome). total (weight_at p) (calls_by r o)) (outcome_at p) (all_done ps) (λ j o t. same_at r p o)
+  pub writes_at_are : (p : ℕ) → writes_at p (calls_of_backends r ps) ≡ total (outcome_at p) (all_done ps)
+  writes_at_are p = total_calls r (weight_at p) (few_at p) ps h ∙ total-same (λ (o : Outcome). total (weight_at p) (outcome_calls r o)) (outcome_at p) (all_done ps) (λ j o t. same_at r p o)
 
-  pub writes_are : writes_in (calls_of r ps) ≡ total outcome_weight (all_done ps)
-  writes_are = total_calls r write_weight (λ c. omega arith) ps h ∙ total-same (λ (o : Outcome). total write_weight (calls_by r o)) outcome_weight (all_done ps) (λ j o t. same_weight r o)
+  pub writes_are : writes_in (calls_of_backends r ps) ≡ total outcome_weight (all_done ps)
+  writes_are = total_calls r write_weight (λ c. omega arith) ps h ∙ total-same (λ (o : Outcome). total write_weight (outcome_calls r o)) outcome_weight (all_done ps) (λ j o t. same_weight r o)
 
 -- two outcomes of one block are one
-pub same_place : (os : List Outcome) (j k : ℕ) (o q : Outcome) → get_elem? os j ≡ some o → get_elem? os k ≡ some q → block_of o ≡ block_of q → times (block_of o) os ≤ 1 → j ≡ k
-same_place os j k o q eo eq same few = dite (ℕ_discrete k j) (λ e. sym e) (λ n. let x = terms_le (block_weight (block_of o)) os j k o q n eo eq in let a = test_same (block_of o) (block_of o) 1 0 refl in let b = test_same (block_of q) (block_of o) 1 0 (sym same) in absurd (omega arith))
+pub same_place : (os : List Outcome) (j k : ℕ) (o q : Outcome) → get_elem? os j ≡ some o → get_elem? os k ≡ some q → outcome_block o ≡ outcome_block q → times (outcome_block o) os ≤ 1 → j ≡ k
+same_place os j k o q eo eq same few = dite (ℕ_discrete k j) (λ e. sym e) (λ n. let x = terms_le (block_weight (outcome_block o)) os j k o q n eo eq in let a = test_same (outcome_block o) (outcome_block o) 1 0 refl in let b = test_same (outcome_block q) (outcome_block o) 1 0 (sym same) in absurd (omega arith))
 
 -- sums over the numbers below n
 sum_same : (n : ℕ) (g h : ℕ → ℕ) → ((b : ℕ) → b < n → g b ≡ h b) → sum_below n g ≡ sum_below n h
@@ -141,7 +141,7 @@ sum_add (suc n) g h = omega (arith, sum_add n g h)
 
 -- g at the block of an outcome, and 0 elsewhere
 abbrev weigh : (ℕ → ℕ) → ℕ → Outcome → ℕ
-weigh g b o = cond (nat_eq (block_of o) b) (g b) 0
+weigh g b o = cond (nat_eq (outcome_block o) b) (g b) 0
 
 sum_none : (n a : ℕ) (g : ℕ → ℕ) → n ≤ a → sum_below n (λ b. cond (nat_eq a b) (g b) 0) ≡ 0
 unfolding sum_below
@@ -161,25 +161,25 @@ sum_zero zero = refl
 sum_zero (suc n) = omega (arith, sum_zero n)
 
 -- the sums over outcomes, block by block
-swapped : (n : ℕ) (g : ℕ → ℕ) (os : List Outcome) → ((k : ℕ) (o : Outcome) → get_elem? os k ≡ some o → block_of o < n) → total (λ (o : Outcome). g (block_of o)) os ≡ sum_below n (λ b. total (weigh g b) os)
+swapped : (n : ℕ) (g : ℕ → ℕ) (os : List Outcome) → ((k : ℕ) (o : Outcome) → get_elem? os k ≡ some o → outcome_block o < n) → total (λ (o : Outcome). g (outcome_block o)) os ≡ sum_below n (λ b. total (weigh g b) os)
 unfolding total
 swapped n g [] h = sym (sum_zero n)
-swapped n g (o ∷ os) h = let x = sum_one n (block_of o) g (h zero o refl) in let y = swapped n g os (λ k q t. h (suc k) q t) in let z = sum_add n (λ b. weigh g b o) (λ b. total (weigh g b) os) in omega arith
+swapped n g (o ∷ os) h = let x = sum_one n (outcome_block o) g (h zero o refl) in let y = swapped n g os (λ k q t. h (suc k) q t) in let z = sum_add n (λ b. weigh g b o) (λ b. total (weigh g b) os) in omega arith
 
 weighed_none : (g : ℕ → ℕ) (b : ℕ) (os : List Outcome) → times b os ≡ 0 → total (weigh g b) os ≡ 0
 unfolding total
 weighed_none g b [] h = refl
-weighed_none g b (o ∷ os) h = dite (ℕ_discrete (block_of o) b)
-    (λ e. let x = test_same (block_of o) b 1 0 e in absurd (omega arith))
-    (λ n. let x = test_else (block_of o) b 1 0 n in let y = test_else (block_of o) b (g b) 0 n in let z = weighed_none g b os (omega arith) in omega arith)
+weighed_none g b (o ∷ os) h = dite (ℕ_discrete (outcome_block o) b)
+    (λ e. let x = test_same (outcome_block o) b 1 0 e in absurd (omega arith))
+    (λ n. let x = test_else (outcome_block o) b 1 0 n in let y = test_else (outcome_block o) b (g b) 0 n in let z = weighed_none g b os (omega arith) in omega arith)
 
 weighed_one : (g : ℕ → ℕ) (b : ℕ) (os : List Outcome) → times b os ≡ 1 → total (weigh g b) os ≡ g b
 unfolding total
 weighed_one g b [] h = absurd (omega arith)
-weighed_one g b (o ∷ os) h = dite (ℕ_discrete (block_of o) b)
-    (λ e. let x = test_same (block_of o) b 1 0 e in let y = test_same (block_of o) b (g b) 0 e in let z = weighed_none g b os (omega arith) in omega arith)
-    (λ n. let x = test_else (block_of o) b 1 0 n in let y = test_else (block_of o) b (g b) 0 n in let z = weighed_one g b os (omega arith) in omega arith)
+weighed_one g b (o ∷ os) h = dite (ℕ_discrete (outcome_block o) b)
+    (λ e. let x = test_same (outcome_block o) b 1 0 e in let y = test_same (outcome_block o) b (g b) 0 e in let z = weighed_none g b os (omega arith) in omega arith)
+    (λ n. let x = test_else (outcome_block o) b 1 0 n in let y = test_else (outcome_block o) b (g b) 0 n in let z = weighed_one g b os (omega arith) in omega arith)
 
 -- where each block below n is done once
-pub total_blocks : (n : ℕ) (g : ℕ → ℕ) (os : List Outcome) → ((k : ℕ) (o : Outcome) → get_elem? os k ≡ some o → block_of o < n) → ((b : ℕ) → b < n → times b os ≡ 1) → total (λ (o : Outcome). g (block_of o)) os ≡ sum_below n g
+pub total_blocks : (n : ℕ) (g : ℕ → ℕ) (os : List Outcome) → ((k : ℕ) (o : Outcome) → get_elem? os k ≡ some o → outcome_block o < n) → ((b : ℕ) → b < n → times b os ≡ 1) → total (λ (o : Outcome). g (outcome_block o)) os ≡ sum_below n g
 total_blocks n g os below all = swapped n g os below ∙ sum_same n (λ b. total (weigh g b) os) g (λ b t. weighed_one g b os (all b t))

@@ -33,7 +33,7 @@ use Rattle.page_jobs.specs.declared.ending.Totals.{Totals}
 use Rattle.page_jobs.specs.Ending.{totals_of_rewrite}
 use Rattle.page_jobs.specs.Jobs.{IsOrigin}
 use Rattle.page_jobs.specs.Parts.{blocks_in}
-use Rattle.page_jobs.specs.Rewrites.{Outcome, Rule, unsound, kept, refused, changed, block_of, outcome_totals, rule_of, result_of}
+use Rattle.page_jobs.specs.Rewrites.{Outcome, Rule, unsound, kept, refused, changed, outcome_block, outcome_totals, rule_of, result_of}
 use Rattle.page_jobs.specs.RewriteCloses.{ClosesEither, ClosesRewritten, HasImage, HoldEither, HoldRewritten, IsInLanes, RewritesAlone, RewritesAndStores}
 use Rattle.page_jobs.specs.RewriteEnds.{HasRewrites, IsAfter, IsFair, IsResult, WroteNothing, BackendCalls, Rewrites, RewritesAll, all_done, block_weight, times}
 use Rattle.page_jobs.specs.Rewriting.{FollowsRule}
@@ -177,7 +177,7 @@ module _ {L G : Type 0} (d : Devices L G) (m : Manager L G) (rel : ℕ) (fork : 
       let same : u.page ≡ c.state.origin word = same_Some u.page (c.state.origin word) (sym is ∙ c.opened.origin q l.0 pages.0 word tag l.1 pages.1 placed) in
       told_invalid (c.state.origin word) (subst (λ (p : Page). is_sound_page p ≡ false) same u.unsound)
 
-  fair : (number : ℕ) (o : Outcome) → block_of o < blocks_in m rel fork → FollowsRule d.contents m rel fork number o → IsFair rule c.state.known c.state.origin o
+  fair : (number : ℕ) (o : Outcome) → outcome_block o < blocks_in m rel fork → FollowsRule d.contents m rel fork number o → IsFair rule c.state.known c.state.origin o
   fair number (unsound b) low f = λ known. ap is_changed_outcome (unsound_told b low f known)
   fair number (kept b i p n) low f = f.2
   fair number (refused b i p n) low f = f.2
@@ -193,7 +193,7 @@ module _ {L G : Type 0} (d : Devices L G) (m : Manager L G) (rel : ℕ) (fork : 
     times_in_turn : (b : ℕ) → times b (all_done in_turn) ≡ times b (all_done t.parts)
     times_in_turn b = let a = total-both (block_weight b) ordered.first.done (all_done ordered.others) in let s = ordered.same b in omega arith
 
-    below_in_turn : (k : ℕ) (o : Outcome) → get_elem? (all_done in_turn) k ≡ some o → block_of o < blocks_in m rel fork
+    below_in_turn : (k : ℕ) (o : Outcome) → get_elem? (all_done in_turn) k ≡ some o → outcome_block o < blocks_in m rel fork
     below_in_turn k o at = let y = ordered.among k o at in parts_below 0 (blocks_in m rel fork) t.parts t.fit y.0 o y.1
 
     rewrites : Rewrites rule (blocks_in m rel fork) c.state.known c.state.origin (calls_in_order zs) in_turn
@@ -251,13 +251,13 @@ module _ {L G : Type 0} (d : Devices L G) (m : Manager L G) (rel : ℕ) (fork : 
   }
 
   -- what is told of a block is what is told of its page at the opening
-  told_at : (j : ℕ) (o : Outcome) → get_elem? (all_done whole_parts_of.parts) j ≡ some o → result_of o ≡ page_rewrite_of (c.state.origin ((rule_of rel fork).tag (block_of o)))
+  told_at : (j : ℕ) (o : Outcome) → get_elem? (all_done whole_parts_of.parts) j ≡ some o → result_of o ≡ page_rewrite_of (c.state.origin ((rule_of rel fork).tag (outcome_block o)))
   told_at j o at = by_case o at
     where
       order : InOrder (rule_of rel fork) zs whole_parts_of.parts
       order = ordered d m rel fork ps qs zs lanes log c y.alone (Unit {0}) y.all.outcomes whole_parts_of
 
-      by_case : (u : Outcome) → get_elem? (all_done whole_parts_of.parts) j ≡ some u → result_of u ≡ page_rewrite_of (c.state.origin ((rule_of rel fork).tag (block_of u)))
+      by_case : (u : Outcome) → get_elem? (all_done whole_parts_of.parts) j ≡ some u → result_of u ≡ page_rewrite_of (c.state.origin ((rule_of rel fork).tag (outcome_block u)))
       by_case (unsound b) e = let low = parts_below 0 (blocks_in m rel fork) whole_parts_of.parts whole_parts_of.fit j (unsound b) e in sym (unsound_told d m rel fork ps qs zs lanes log c y.alone b low (whole_parts_of.follow j (unsound b) e).1 (all_known b low))
       by_case (kept b i p n) e = let k = order.onto j (kept b i p n) e in ap page_rewrite_of (kept_read c.history all_rewrites all_known k.0 b i p n k.1)
       by_case (refused b i p n) e = absurd (let bad : false ≡ true = whole_parts_of.ended tt j (refused b i p n) e in cc)
@@ -277,7 +277,7 @@ module _ {L G : Type 0} (d : Devices L G) (m : Manager L G) (rel : ℕ) (fork : 
       let os = all_done whole_parts_of.parts in
       let all = whole_from 0 (blocks_in m rel fork) whole_parts_of.parts (whole_parts_of.whole tt) in
       let same : map result_of os ≡ map page_rewrite_of pages = same_told os pages (let e = all.1 in let k = origin.counted in omega arith) (λ i o page at there.
-      let block : block_of o ≡ i = let e = from_at 0 os i o all.0 at in omega arith in
+      let block : outcome_block o ≡ i = let e = from_at 0 os i o all.0 at in omega arith in
       told_at i o at ∙ ap (λ (b : ℕ). page_rewrite_of (c.state.origin ((rule_of rel fork).tag b))) block ∙ ap page_rewrite_of (sym (origin_is pages origin i page there))) in
       y.all.totals_is
       ∙ ap (λ (us : List Outcome). totals_of_rewrite (outcome_totals us)) (sym whole_parts_of.dones)

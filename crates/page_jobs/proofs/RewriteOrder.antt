@@ -11,7 +11,7 @@ use Rattle.backend_pass.specs.Managers.{first_in, is_first, others_in}
 use Rattle.backend_pass.specs.Passes.{PassState}
 use Rattle.backend_pass.proofs.Joining.{first_here, first_past, others_here, others_past}
 use Rattle.page_jobs.specs.Rewrites.{Outcome, Rule, calls_for}
-use Rattle.page_jobs.specs.RewriteEnds.{WroteNothing, BackendCalls, all_done, block_weight, calls_of, times}
+use Rattle.page_jobs.specs.RewriteEnds.{WroteNothing, BackendCalls, all_done, block_weight, calls_of_backends, times}
 use Rattle.grid.proofs.Lists.{at_longer}
 use Rattle.page_jobs.proofs.RewriteCounts.{at_right}
 
@@ -31,21 +31,21 @@ pub record InOrder (r : Rule) (zs : List PassState) (ps : List BackendCalls) : T
   pub first : BackendCalls
   pub others : List BackendCalls
   pub first_calls : (first_in zs).calls ≡ first.before ++ (calls_for r first.done ++ first.after)
-  pub other_calls : calls_of_passes (others_in zs) ≡ calls_of r others
+  pub other_calls : calls_of_passes (others_in zs) ≡ calls_of_backends r others
   pub same : (b : ℕ) → times b first.done + times b (all_done others) ≡ times b (all_done ps)
   pub among : (k : ℕ) (o : Outcome) → get_elem? (all_done (first ∷ others)) k ≡ some o → (j : ℕ) × (get_elem? (all_done ps) j ≡ some o)
   pub onto : (j : ℕ) (o : Outcome) → get_elem? (all_done ps) j ≡ some o → (k : ℕ) × (get_elem? (all_done (first ∷ others)) k ≡ some o)
   pub first_reads : (writes_in first.before ≡ 0) × (writes_in first.after ≡ 0)
   pub other_reads : WroteNothing others
 
-pub all_calls : (r : Rule) (zs : List PassState) (ps : List BackendCalls) → HaveParts r zs ps → calls_of_passes zs ≡ calls_of r ps
+pub all_calls : (r : Rule) (zs : List PassState) (ps : List BackendCalls) → HaveParts r zs ps → calls_of_passes zs ≡ calls_of_backends r ps
 all_calls r [] [] h = refl
 all_calls r [] (p ∷ ps) h = absurd h
 all_calls r (z ∷ zs) [] h = absurd h
 all_calls r (z ∷ zs) (p ∷ ps) h =
     ap₂ (λ (a b : List Call). a ++ b) h.0 (all_calls r zs ps h.1)
-    ∙ append_assoc p.before (calls_for r p.done ++ p.after) (calls_of r ps)
-    ∙ ap (λ (l : List Call). p.before ++ l) (append_assoc (calls_for r p.done) p.after (calls_of r ps))
+    ∙ append_assoc p.before (calls_for r p.done ++ p.after) (calls_of_backends r ps)
+    ∙ ap (λ (l : List Call). p.before ++ l) (append_assoc (calls_for r p.done) p.after (calls_of_backends r ps))
 
 -- an outcome of one of two parts is one of both
 left_of : (os us : List Outcome) (k : ℕ) (o : Outcome) → get_elem? os k ≡ some o → (j : ℕ) × (get_elem? (os ++ us) j ≡ some o)
@@ -73,8 +73,8 @@ first_later r z zs p ps later calls reads x = record {
   others = p ∷ x.others;
   first_calls = ap (λ v. v.calls) (first_past z zs later) ∙ x.first_calls;
   other_calls = ap calls_of_passes (others_past z zs later) ∙ ap₂ (λ (a b : List Call). a ++ b) calls x.other_calls
-      ∙ append_assoc p.before (calls_for r p.done ++ p.after) (calls_of r x.others)
-      ∙ ap (λ (l : List Call). p.before ++ l) (append_assoc (calls_for r p.done) p.after (calls_of r x.others));
+      ∙ append_assoc p.before (calls_for r p.done ++ p.after) (calls_of_backends r x.others)
+      ∙ ap (λ (l : List Call). p.before ++ l) (append_assoc (calls_for r p.done) p.after (calls_of_backends r x.others));
   same = λ b. let s = x.same b in let a = total-both (block_weight b) p.done (all_done x.others) in let c = total-both (block_weight b) p.done (all_done ps) in omega arith;
   among = λ k o at. ⊎_elim
       (λ (t : get_elem? x.first.done k ≡ some o). let y = x.among k o (at_longer x.first.done (all_done x.others) k o t) in right_of p.done (all_done ps) y.0 o y.1)
@@ -120,8 +120,8 @@ in_order r (z ∷ zs) [] h reads = absurd h
 in_order r (z ∷ zs) (p ∷ ps) h reads = by_first r (is_first z) z zs p ps refl h reads (in_order r zs ps h.1 (λ k q at. reads (suc k) q at))
 
 -- the calls of all passes are those of the parts
-pub calls_ordered : (r : Rule) (zs : List PassState) (ps : List BackendCalls) (x : InOrder r zs ps) → calls_in_order zs ≡ calls_of r (x.first ∷ x.others)
+pub calls_ordered : (r : Rule) (zs : List PassState) (ps : List BackendCalls) (x : InOrder r zs ps) → calls_in_order zs ≡ calls_of_backends r (x.first ∷ x.others)
 calls_ordered r zs ps x =
     ap₂ (λ (a b : List Call). a ++ b) x.first_calls x.other_calls
-    ∙ append_assoc x.first.before (calls_for r x.first.done ++ x.first.after) (calls_of r x.others)
-    ∙ ap (λ (l : List Call). x.first.before ++ l) (append_assoc (calls_for r x.first.done) x.first.after (calls_of r x.others))
+    ∙ append_assoc x.first.before (calls_for r x.first.done ++ x.first.after) (calls_of_backends r x.others)
+    ∙ ap (λ (l : List Call). x.first.before ++ l) (append_assoc (calls_for r x.first.done) x.first.after (calls_of_backends r x.others))

@@ -8,7 +8,7 @@ use mathlib.Core.Option.{some, some-ne-none, some-injective}
 use lib.ListN.{get_elem?}
 use Rattle.history_core.proofs.Calls.{at_both, total-both}
 use Rattle.grid.specs.Shape.{total}
-use Rattle.page_jobs.specs.Rewrites.{AreFrom, Outcome, block_of}
+use Rattle.page_jobs.specs.Rewrites.{AreFrom, Outcome, outcome_block}
 use Rattle.page_jobs.specs.RewriteEnds.{AreParts, BackendCalls, DidAll, all_done, block_weight, times}
 use Rattle.page_jobs.proofs.PartRewrites.{from_append}
 use Rattle.page_jobs.proofs.RewriteCounts.{test_else, test_same}
@@ -24,17 +24,17 @@ unfolding total
 times_range b a [] h = record { below = λ l. refl; inside = λ l m. absurd (omega arith); behind = λ l. refl }
 times_range b a (o ∷ os) h =
     let rest = times_range b (a + 1) os h.1 in
-    dite (ℕ_discrete (block_of o) b)
-    (λ e. let x = test_same (block_of o) b 1 0 e in let y = h.0 in record { below = λ l. absurd (omega arith); inside = λ l m. let z = rest.below (omega arith) in omega arith; behind = λ l. absurd (omega arith) })
-    (λ n. let x = test_else (block_of o) b 1 0 n in let y = h.0 in record {
+    dite (ℕ_discrete (outcome_block o) b)
+    (λ e. let x = test_same (outcome_block o) b 1 0 e in let y = h.0 in record { below = λ l. absurd (omega arith); inside = λ l m. let z = rest.below (omega arith) in omega arith; behind = λ l. absurd (omega arith) })
+    (λ n. let x = test_else (outcome_block o) b 1 0 n in let y = h.0 in record {
       below = λ l. let z = rest.below (omega arith) in omega arith;
       inside = λ l m. dite (ℕ_discrete a b) (λ e. absurd (n (h.0 ∙ e))) (λ q. let z = rest.inside (omega arith) (omega arith) in omega arith);
       behind = λ l. let z = rest.behind (omega arith) in omega arith;
     })
 
-in_range : (a : ℕ) (os : List Outcome) (k : ℕ) (o : Outcome) → AreFrom a os → get_elem? os k ≡ some o → block_of o < a + length os
+in_range : (a : ℕ) (os : List Outcome) (k : ℕ) (o : Outcome) → AreFrom a os → get_elem? os k ≡ some o → outcome_block o < a + length os
 in_range a [] k o h e = absurd (some-ne-none o (sym e))
-in_range a (x ∷ os) zero o h e = let y = h.0 in omega (arith, ap block_of (some-injective x o e))
+in_range a (x ∷ os) zero o h e = let y = h.0 in omega (arith, ap outcome_block (some-injective x o e))
 in_range a (x ∷ os) (suc k) o h e = let y = in_range (a + 1) os k o h.1 e in omega arith
 
 parts_least : (a n : ℕ) (ps : List BackendCalls) → AreParts a ps n → a ≤ n
@@ -60,7 +60,7 @@ parts_few b a n (p ∷ ps) h =
 pub parts_once : (n : ℕ) (ps : List BackendCalls) → AreParts 0 ps n → (b : ℕ) → times b (all_done ps) ≤ 1
 parts_once n ps h b = (parts_few b 0 n ps h).0
 
-pub parts_below : (a n : ℕ) (ps : List BackendCalls) → AreParts a ps n → (k : ℕ) (o : Outcome) → get_elem? (all_done ps) k ≡ some o → block_of o < n
+pub parts_below : (a n : ℕ) (ps : List BackendCalls) → AreParts a ps n → (k : ℕ) (o : Outcome) → get_elem? (all_done ps) k ≡ some o → outcome_block o < n
 parts_below a n [] h k o e = absurd (some-ne-none o (sym e))
 parts_below a n (p ∷ ps) h k o e =
     let low = h.2 in
@@ -95,7 +95,7 @@ pub whole_from : (a n : ℕ) (ps : List BackendCalls) → DidAll a ps n → AreF
 whole_from a n [] h = (tt, omega arith)
 whole_from a n (p ∷ ps) h = let rest = whole_from (a + length p.done) n ps h.1 in (from_append a p.done (all_done ps) h.0 rest.0, (let l = length-append p.done (all_done ps) in let e = rest.1 in omega arith))
 
-pub from_at : (a : ℕ) (os : List Outcome) (i : ℕ) (o : Outcome) → AreFrom a os → get_elem? os i ≡ some o → block_of o ≡ a + i
+pub from_at : (a : ℕ) (os : List Outcome) (i : ℕ) (o : Outcome) → AreFrom a os → get_elem? os i ≡ some o → outcome_block o ≡ a + i
 from_at a [] i o h at = absurd (some-ne-none o (sym at))
-from_at a (x ∷ os) zero o h at = let e = h.0 in omega (arith, ap block_of (some-injective x o at))
+from_at a (x ∷ os) zero o h at = let e = h.0 in omega (arith, ap outcome_block (some-injective x o at))
 from_at a (x ∷ os) (suc i) o h at = let e = from_at (a + 1) os i o h.1 at in omega arith

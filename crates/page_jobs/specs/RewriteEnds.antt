@@ -10,7 +10,7 @@ use Rattle.history_core.specs.History.{IsHistory}
 use Rattle.history_core.specs.Laws.{Laws}
 use Rattle.history_core.specs.Promises.{AreStored}
 use Rattle.history_core.specs.State.{State, stored, failed}
-use Rattle.page_jobs.specs.Rewrites.{AreFrom, Outcome, unsound, kept, refused, changed, Rule, block_of, calls_for, is_ended}
+use Rattle.page_jobs.specs.Rewrites.{AreFrom, Outcome, unsound, kept, refused, changed, Rule, outcome_block, calls_for, is_ended}
 
 -- the rule was followed; where a block isn't sound it has no page that the rule changes
 abbrev pub IsFair : Rule → (ℕ → Bool) → (ℕ → Page) → Outcome → Type 0
@@ -25,9 +25,9 @@ pub record BackendCalls : Type 0 where
   pub done : List Outcome
   pub after : List Call
 
-abbrev pub calls_of : Rule → List BackendCalls → List Call
-calls_of r [] = []
-calls_of r (p ∷ ps) = p.before ++ (calls_for r p.done ++ (p.after ++ calls_of r ps))
+abbrev pub calls_of_backends : Rule → List BackendCalls → List Call
+calls_of_backends r [] = []
+calls_of_backends r (p ∷ ps) = p.before ++ (calls_for r p.done ++ (p.after ++ calls_of_backends r ps))
 
 abbrev pub all_done : List BackendCalls → List Outcome
 all_done [] = []
@@ -39,18 +39,18 @@ WroteNothing ps = (k : ℕ) (p : BackendCalls) → get_elem? ps k ≡ some p →
 
 -- how often a block is among the outcomes
 abbrev pub block_weight : ℕ → Outcome → ℕ
-block_weight b o = if nat_eq (block_of o) b then 1 else 0
+block_weight b o = if nat_eq (outcome_block o) b then 1 else 0
 
 abbrev pub times : ℕ → List Outcome → ℕ
 times b os = total (block_weight b) os
 
 -- A rewrite of blocks below n, with any end
 pub record Rewrites (r : Rule) (n : ℕ) (known : ℕ → Bool) (origin : ℕ → Page) (calls : List Call) (ps : List BackendCalls) : Type 0 where
-  pub calls_are : calls ≡ calls_of r ps
+  pub calls_are : calls ≡ calls_of_backends r ps
   pub reads : WroteNothing ps
   -- each is fair, and of a block below n, which is done once at most
   pub fair : (k : ℕ) (o : Outcome) → get_elem? (all_done ps) k ≡ some o → IsFair r known origin o
-  pub below : (k : ℕ) (o : Outcome) → get_elem? (all_done ps) k ≡ some o → block_of o < n
+  pub below : (k : ℕ) (o : Outcome) → get_elem? (all_done ps) k ≡ some o → outcome_block o < n
   pub once : (b : ℕ) → times b (all_done ps) ≤ 1
   -- the blocks below n have tags of their own
   pub apart : (a b : ℕ) → a < n → b < n → r.tag a ≡ r.tag b → a ≡ b

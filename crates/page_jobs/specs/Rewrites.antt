@@ -36,11 +36,11 @@ pub data Outcome : Type 0 where
   refused : ℕ → ℕ → Page → ℕ → Outcome
   changed : ℕ → ℕ → Page → ℕ → ℕ → Outcome
 
-abbrev pub block_of : Outcome → ℕ
-block_of (unsound b) = b
-block_of (kept b i p n) = b
-block_of (refused b i p n) = b
-block_of (changed b i p n m) = b
+abbrev pub outcome_block : Outcome → ℕ
+outcome_block (unsound b) = b
+outcome_block (kept b i p n) = b
+outcome_block (refused b i p n) = b
+outcome_block (changed b i p n m) = b
 
 -- whether the block was dealt with to its end
 abbrev pub is_ended : Outcome → Bool
@@ -50,16 +50,16 @@ is_ended (refused b i p n) = false
 is_ended (changed b i p n m) = true
 
 -- the calls that were made for it
-abbrev pub calls_by : Rule → Outcome → List Call
-calls_by r (unsound b) = []
-calls_by r (kept b i p n) = Read i (r.tag b) p n ∷ []
-calls_by r (refused b i p n) = Read i (r.tag b) p n ∷ []
-calls_by r (changed b i p n m) = Read i (r.tag b) p n ∷ Write i (r.tag b) (r.rewritten p m) m ∷ []
+abbrev pub outcome_calls : Rule → Outcome → List Call
+outcome_calls r (unsound b) = []
+outcome_calls r (kept b i p n) = Read i (r.tag b) p n ∷ []
+outcome_calls r (refused b i p n) = Read i (r.tag b) p n ∷ []
+outcome_calls r (changed b i p n m) = Read i (r.tag b) p n ∷ Write i (r.tag b) (r.rewritten p m) m ∷ []
 
 -- and for blocks one after the other
 abbrev pub calls_for : Rule → List Outcome → List Call
 calls_for r [] = []
-calls_for r (o ∷ os) = calls_by r o ++ calls_for r os
+calls_for r (o ∷ os) = outcome_calls r o ++ calls_for r os
 
 -- what a rewrite tells of the block
 abbrev pub result_of : Outcome → PageRewrite
@@ -79,7 +79,7 @@ EachOutcome P (o ∷ os) = P o × EachOutcome P os
 -- the outcomes are of the blocks from this one on, in order
 abbrev pub AreFrom : ℕ → List Outcome → Type 0
 AreFrom a [] = Unit {0}
-AreFrom a (o ∷ os) = (block_of o ≡ a) × AreFrom (a + 1) os
+AreFrom a (o ∷ os) = (outcome_block o ≡ a) × AreFrom (a + 1) os
 
 abbrev pub IsEnded : Outcome → Type 0
 IsEnded o = is_ended o ≡ true

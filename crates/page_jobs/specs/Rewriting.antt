@@ -28,7 +28,7 @@ use Rattle.backend_pass.specs.Passes.{KeepsCalls, KeepsLocks, KeepsMark, PassSta
 use Rattle.page_jobs.specs.declared.ending.JobError.{JobError}
 use Rattle.page_jobs.specs.declared.ending.JobError.TheVariants.{LogDown, LogFault, LogFull, Memory}
 use Rattle.page_jobs.specs.Parts.{MeetsFault, blocks_in}
-use Rattle.page_jobs.specs.Rewrites.{AreFrom, EachOutcome, IfRead, IsEnded, IsUnput, Outcome, Rule, StopsAtFailure, unsound, kept, refused, changed, block_of, calls_by, calls_for, outcome_totals, rule_of, result_of}
+use Rattle.page_jobs.specs.Rewrites.{AreFrom, EachOutcome, IfRead, IsEnded, IsUnput, Outcome, Rule, StopsAtFailure, unsound, kept, refused, changed, outcome_block, outcome_calls, calls_for, outcome_totals, rule_of, result_of}
 
 -- what ends a job, by the refusal of a put
 abbrev pub fault_of_put : InsertError → JobError
@@ -68,7 +68,7 @@ pub record LastReads (number : ℕ) (tag : Tag) (page : Page) (before after : Li
 -- after these calls each block that was read was read, and put, under its cleanup lock
 abbrev pub AllUnderCleanup : Rule → ℕ → View → View → List Call → List Outcome → Type 0
 AllUnderCleanup r number v w calls [] = Unit {0}
-AllUnderCleanup r number v w calls (o ∷ os) = IfRead o (UnderCleanup number (r.tag (block_of o)) calls (calls ++ calls_by r o) v w) × AllUnderCleanup r number v w (calls ++ calls_by r o) os
+AllUnderCleanup r number v w calls (o ∷ os) = IfRead o (UnderCleanup number (r.tag (outcome_block o)) calls (calls ++ outcome_calls r o) v w) × AllUnderCleanup r number v w (calls ++ outcome_calls r o) os
 
 module _ {L G : Type 0} (contents : L → Option Pages) (m : Manager L G) where
   -- What every call of a rewrite leaves of a pass: it is the same one, and its front isn't before the old one
@@ -119,8 +119,8 @@ module _ {L G : Type 0} (contents : L → Option Pages) (m : Manager L G) where
   -- What came of a sound page of a block, between these two states of the pass
   pub record RewritesPage (tag : Tag) (p q : PassState) (r : Result PageRewrite InsertError) : Type 0 where
     pub outcome : Outcome
-    pub block : block_of outcome ≡ tag.block
-    pub calls : q.view.calls ≡ p.view.calls ++ calls_by (rule_of tag.rel.0 tag.fork) outcome
+    pub block : outcome_block outcome ≡ tag.block
+    pub calls : q.view.calls ≡ p.view.calls ++ outcome_calls (rule_of tag.rel.0 tag.fork) outcome
     pub follows : FollowsRule tag.rel.0 tag.fork p.view.number outcome
     pub mark : IsUnput outcome → KeepsMark p q
     pub done : IfOk r (λ what. (what ≡ result_of outcome) × IsEnded outcome × (q.view.met ≡ p.view.met))
@@ -140,7 +140,7 @@ module _ {L G : Type 0} (contents : L → Option Pages) (m : Manager L G) where
     pub unlocked : HasLock Unlocked frame q
     pub others : KeepsOtherLocks frame p q
     pub page : RewritesPage tag p q r
-    pub until : HoldsUntil frame (p.view.calls ++ calls_by (rule_of tag.rel.0 tag.fork) page.outcome) p.view q.view
+    pub until : HoldsUntil frame (p.view.calls ++ outcome_calls (rule_of tag.rel.0 tag.fork) page.outcome) p.view q.view
 
 module _ {L G : Type 0} (contents : L → Option Pages) (m : Manager L G) (rel : ℕ) (fork : Fork) where
   -- The put of one of the fork's blocks was refused, for a reason that the error names

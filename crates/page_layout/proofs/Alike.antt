@@ -7,7 +7,7 @@ use Rattle.page_layout.specs.declared.summary.PageSummary.{PageSummary}
 use Rattle.page_layout.specs.declared.summary.PageSummary.TheVariants.{Invalid, New, Used}
 use Rattle.page_layout.specs.declared.summary.PointerCounts.{PointerCounts}
 use Rattle.page_layout.specs.Fields.{header_of, item_count, item_of, pointer_at, with_lsn}
-use Rattle.page_layout.specs.Pointers.{counts_of, first_items, items_of}
+use Rattle.page_layout.specs.Pointers.{counts_of_states, first_items, items_of}
 use Rattle.page_layout.specs.Positions.{DifferInPositions, DiffersInPosition}
 use Rattle.page_layout.specs.Scan.{sum_of_totals, totals_of, totals_of_summaries}
 use Rattle.page_layout.specs.Soundness.{IsUsedPage}
@@ -47,7 +47,7 @@ unfolding used_of
 totals_of-with_lsn lsn page is =
     let one = λ (s : PageSummary). totals_of_summaries (s ∷ []) in
     ap one (summary_of-used (with_lsn lsn page) (stays_used lsn page is))
-    ∙ ap (λ (counts : PointerCounts). one (Used (record { header = header_of page; items = item_count page; pointers = counts }))) (ap counts_of (items_of-with_lsn lsn page))
+    ∙ ap (λ (counts : PointerCounts). one (Used (record { header = header_of page; items = item_count page; pointers = counts }))) (ap counts_of_states (items_of-with_lsn lsn page))
     ∙ sym (ap one (summary_of-used page is))
 
 either : (page other : List ℕ) → DiffersInPosition page other → totals_of (other ∷ []) ≡ totals_of (page ∷ [])

@@ -6,7 +6,7 @@ use Rattle.std.proofs.lemmas.List.FromFn.{get_or-range_with_len, length-range_wi
 use Rattle.std.proofs.lemmas.List.Sums.{get_or-le-sum_by, sum_by-cons, sum_by-le-sum_by}
 use Rattle.page_layout.specs.Compact.{IsCompactable}
 use Rattle.page_layout.specs.Fields.{item_count}
-use Rattle.page_layout.specs.Rewritten.{HasItemsOf, byte_in_room, is_at_or_above, is_in_room, is_normal, item_byte, length_at, new_byte, new_lower, new_offset, new_upper, offset_at, places_of, rewritten_page, room_at, room_of, special_of}
+use Rattle.page_layout.specs.Rewritten.{HasItemsOf, byte_in_room, is_at_or_above, is_in_room, is_normal, item_byte, length_at, new_byte, new_lower, new_offset, new_upper, offset_at, places_of, rewritten_page, room_at, room_of_items, special_of}
 use Rattle.page_layout.proofs.After.{byte_of}
 use Rattle.page_layout.proofs.Final.{new_ends}
 use Rattle.page_layout.proofs.Pointers.{IsPut, above_itself, offset_bounds, part_of_room, room_normal, unless, when}
@@ -53,7 +53,7 @@ adds page p q differ above o = elim (cases_Bool (eqb o p)) [
 ]
 
 pub apart : (page : List ℕ) (fits : IsCompactable page) (p q : ℕ) → p ≢ q → p < item_count page → is_at_or_above page p q ≡ true → new_offset page p + room_at page p ≤ new_offset page q
-unfolding new_offset room_of
+unfolding new_offset room_of_items
 apart page fits p q differ below above =
     let gp = λ (o : ℕ). cond (is_at_or_above page p o) (room_at page o) 0 in
     let gq = λ (o : ℕ). cond (is_at_or_above page q o) (room_at page o) 0 in

@@ -7,7 +7,7 @@ use Rattle.std.proofs.lemmas.List.Folds.{list_any-append}
 use Rattle.page_layout.proofs.Keys.{range_more}
 use Rattle.page_layout.specs.Compact.{IsCompactable}
 use Rattle.page_layout.specs.Fields.{header_of, item_count, number_at}
-use Rattle.page_layout.specs.Rewritten.{is_normal, is_outside, is_skipped, left_of_first, length_at, lower_of, offset_at, places_of, room_at, room_of, special_of, state_at, upper_of}
+use Rattle.page_layout.specs.Rewritten.{is_normal, is_outside, is_skipped, left_of_first, length_at, lower_of, offset_at, places_of, room_at, room_of_items, special_of, state_at, upper_of}
 use Rattle.page_layout.specs.Soundness.{is_new_page, is_sound_header, is_sound_page}
 use Rattle.page_layout.specs.declared.page.Header.{Header}
 
@@ -50,8 +50,8 @@ any_range p (suc n) k below here =
     ]
 
 -- the answer of the walk over all items
-pub fit_is : (page : List ℕ) (n room space bound : ℕ) → n ≡ item_count page → list_any (is_outside page) (range_with_len 0 n) ≡ false → room ≡ sum_by (room_at page) (range_with_len 0 n) → bound ≡ space → leb room bound ≡ (not (list_any (is_outside page) (places_of page)) && not (ltb space (room_of page)))
-unfolding room_of
+pub fit_is : (page : List ℕ) (n room space bound : ℕ) → n ≡ item_count page → list_any (is_outside page) (range_with_len 0 n) ≡ false → room ≡ sum_by (room_at page) (range_with_len 0 n) → bound ≡ space → leb room bound ≡ (not (list_any (is_outside page) (places_of page)) && not (ltb space (room_of_items page)))
+unfolding room_of_items
 fit_is page n room space bound all none is same =
     let inside : list_any (is_outside page) (places_of page) ≡ false = ap (λ (m : ℕ). list_any (is_outside page) (range_with_len 0 m)) (sym all) ∙ none in
     let total : sum_by (room_at page) (places_of page) ≡ room = ap (λ (m : ℕ). sum_by (room_at page) (range_with_len 0 m)) (sym all) ∙ sym is in
@@ -78,7 +78,7 @@ pub compactable_from : (page : List ℕ) → length page ≡ 8192 → is_sound_p
 unfolding is_skipped
 compactable_from page size sound used kept =
     let order = used_order page sound used in
-    let fifth = ltb (special_of page - lower_of page) (room_of page) in
+    let fifth = ltb (special_of page - lower_of page) (room_of_items page) in
     let fourth = list_any (is_outside page) (places_of page) in
     let third = ltb (lower_of page) 24 in
     let second = not (eqb (special_of page) 8192) in
@@ -88,7 +88,7 @@ compactable_from page size sound used kept =
     let four = or_parts fourth fifth three.1 in
     let special : special_of page ≡ 8192 = let t = two.0 in grind (arith, nat_tests) in
     let lower : 24 ≤ lower_of page = let t = three.0 in grind (arith, nat_tests) in
-    let room : room_of page ≤ special_of page - lower_of page = let t = four.1 in grind (arith, nat_tests) in
+    let room : room_of_items page ≤ special_of page - lower_of page = let t = four.1 in grind (arith, nat_tests) in
     record {
       size = size;
       special = special;

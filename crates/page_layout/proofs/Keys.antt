@@ -12,7 +12,7 @@ use Rattle.std.proofs.lemmas.List.Sorted.{All-permutation, sum_by-IsPermutation}
 use Rattle.std.proofs.lemmas.List.Sums.{get_or-le-sum_by, sum_by-cons, sum_by-take-drop, sum_by-take-le, sum_by_more, sum_by_more_le, sum_by_push}
 use Rattle.page_layout.specs.Compact.{AreSortedKeys, IsCompactable, IsKey, key_at, keys_of, room_of_key}
 use Rattle.page_layout.specs.Fields.{item_count}
-use Rattle.page_layout.specs.Rewritten.{is_at_or_above, is_normal, length_at, new_offset, new_upper, offset_at, places_of, room_at, room_of, special_of, state_at}
+use Rattle.page_layout.specs.Rewritten.{is_at_or_above, is_normal, length_at, new_offset, new_upper, offset_at, places_of, room_at, room_of_items, special_of, state_at}
 
 pub range_more : (n : ℕ) → range_with_len 0 (suc n) ≡ range_with_len 0 n ++ n ∷ []
 range_more n =
@@ -222,8 +222,8 @@ unfolding new_offset
 new_offset_is page keys h j below few = ap (λ (s : ℕ). special_of page - s) (room_above page keys h j below few)
 
 -- the room of all items is that of all numbers
-pub room_is : (page keys : List ℕ) (h : AreSortedKeys page keys) → sum_by (room_of_key page) keys ≡ room_of page
-unfolding room_of room_of_key room_at
+pub room_is : (page keys : List ℕ) (h : AreSortedKeys page keys) → sum_by (room_of_key page) keys ≡ room_of_items page
+unfolding room_of_items room_of_key room_at
 room_is page keys h = h.sums (room_at page) (λ place not1. rw not1 refl)
 
 -- a step of the loop that lists the numbers

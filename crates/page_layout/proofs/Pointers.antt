@@ -8,7 +8,7 @@ use Rattle.std.proofs.lemmas.List.FromFn.{get_or-range_with_len, length-range_wi
 use Rattle.std.proofs.lemmas.List.Sums.{get_or-le-sum_by, sum_by-le-sum_by}
 use Rattle.page_layout.specs.Compact.{IsCompactable}
 use Rattle.page_layout.specs.Fields.{item_count, pointer_at}
-use Rattle.page_layout.specs.Rewritten.{byte_in_room, is_at_or_above, is_in_room, is_normal, item_byte, length_at, new_offset, new_pointer, new_upper, offset_at, places_of, room_at, room_of, state_at}
+use Rattle.page_layout.specs.Rewritten.{byte_in_room, is_at_or_above, is_in_room, is_normal, item_byte, length_at, new_offset, new_pointer, new_upper, offset_at, places_of, room_at, room_of_items, state_at}
 
 pub pointer_normal : (page : List ℕ) (place : ℕ) → state_at page place ≡ 1 → new_pointer page place ≡ new_offset page place + 32768 + length_at page place * 131072
 unfolding new_pointer
@@ -79,7 +79,7 @@ room_normal page place normal = when (eqb (state_at page place) 1) ((length_at p
 
 -- an item is put within the items' space
 pub offset_bounds : (page : List ℕ) (place : ℕ) → IsCompactable page → place < item_count page → (new_upper page ≤ new_offset page place) × (new_offset page place + room_at page place ≤ 8192)
-unfolding new_upper new_offset room_of
+unfolding new_upper new_offset room_of_items
 offset_bounds page place fits below =
     let g = λ (other : ℕ). cond (is_at_or_above page place other) (room_at page other) 0 in
     let all : sum_by g (places_of page) ≤ sum_by (room_at page) (places_of page) = sum_by-le-sum_by g (room_at page) (places_of page) (part_of_room page place) in

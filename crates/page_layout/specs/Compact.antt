@@ -1,7 +1,7 @@
 -- What a page that isn't skipped has, and the numbers by which its items are sorted.
 use Rattle.std.specs.Prelude.{◌≡◌, ℕ, suc, zero, ◌+◌, ◌-◌, ◌*◌, ◌%◌, ◌≤◌, ◌<◌, true, false, sum_by, slice_index, List, [], ◌∷◌, ◌++◌, if◌then◌else◌, length}
 use Rattle.page_layout.specs.Fields.{item_count}
-use Rattle.page_layout.specs.Rewritten.{is_normal, length_at, lower_of, new_offset, offset_at, places_of, room_at, room_of, special_of, upper_of}
+use Rattle.page_layout.specs.Rewritten.{is_normal, length_at, lower_of, new_offset, offset_at, places_of, room_at, room_of_items, special_of, upper_of}
 
 -- a page that isn't skipped: its items stand between the line pointers and the end, and have room there when rounded up
 pub record IsCompactable (page : List ℕ) : Type 0 where
@@ -11,7 +11,7 @@ pub record IsCompactable (page : List ℕ) : Type 0 where
   pub order : lower_of page ≤ upper_of page
   pub upper : upper_of page ≤ 8192
   pub inside : (place : ℕ) → place < item_count page → is_normal page place ≡ true → (upper_of page ≤ offset_at page place) × (offset_at page place + length_at page place ≤ 8192)
-  pub room : room_of page + lower_of page ≤ 8192
+  pub room : room_of_items page + lower_of page ≤ 8192
 
 -- a number that is the smaller the higher the item stands, and among items at one offset the smaller the smaller its place
 unfoldable pub key_at : List ℕ → ℕ → ℕ

@@ -17,8 +17,8 @@ items_of page = first_items page (item_count page)
 abbrev pub count_of_state : ℕ → List Item → ℕ
 count_of_state state items = count_by (λ i. i.state == state) items
 
-abbrev pub counts_of : List Item → PointerCounts
-counts_of items = record {
+abbrev pub counts_of_states : List Item → PointerCounts
+counts_of_states items = record {
   normal = count_of_state 1 items;
   redirect = count_of_state 2 items;
   dead = count_of_state 3 items;

@@ -47,8 +47,8 @@ abbrev pub places_of : List ℕ → List ℕ
 places_of page = range_with_len 0 (item_count page)
 
 -- the room of all items
-unfoldable pub room_of : List ℕ → ℕ
-room_of page = sum_by (room_at page) (places_of page)
+unfoldable pub room_of_items : List ℕ → ℕ
+room_of_items page = sum_by (room_at page) (places_of page)
 
 -- whether another item stands at or above this one: at a higher offset, or at the same one under no larger number
 unfoldable pub is_at_or_above : List ℕ → ℕ → ℕ → Bool
@@ -69,7 +69,7 @@ is_outside page place =
 -- items' space, or the items have no room after the line pointers
 unfoldable pub is_skipped : List ℕ → Bool
 is_skipped page =
-    not (number_at 8 2 page == 0) || (not (special_of page == 8192) || (nat_lt (lower_of page) 24 || (list_any (is_outside page) (places_of page) || nat_lt (special_of page - lower_of page) (room_of page))))
+    not (number_at 8 2 page == 0) || (not (special_of page == 8192) || (nat_lt (lower_of page) 24 || (list_any (is_outside page) (places_of page) || nat_lt (special_of page - lower_of page) (room_of_items page))))
 
 -- how many of the first n line pointers are left once those at their end that don't stay are cut
 unfoldable pub left_of_first : List ℕ → ℕ → ℕ
@@ -88,7 +88,7 @@ unfoldable pub new_lower : List ℕ → ℕ
 new_lower page = 24 + 4 * pointers_left page
 
 unfoldable pub new_upper : List ℕ → ℕ
-new_upper page = special_of page - room_of page
+new_upper page = special_of page - room_of_items page
 
 -- flag 1 says whether an unused line pointer is left
 unfoldable pub new_flags : List ℕ → ℕ

@@ -5,11 +5,11 @@ use Rattle.page_layout.specs.declared.summary.PageSummary.TheVariants.{Invalid, 
 use Rattle.page_layout.specs.declared.summary.UsedPage.{UsedPage}
 use Rattle.page_layout.specs.Fields.{header_of, item_count}
 use Rattle.page_layout.specs.Soundness.{is_new_page, is_sound_page}
-use Rattle.page_layout.specs.Pointers.{counts_of, items_of}
+use Rattle.page_layout.specs.Pointers.{counts_of_states, items_of}
 
 -- of a page that is sound and not new: its header, and its line pointers by their states
 unfoldable pub used_of : List ℕ → UsedPage
-used_of page = record { header = header_of page; items = item_count page; pointers = counts_of (items_of page) }
+used_of page = record { header = header_of page; items = item_count page; pointers = counts_of_states (items_of page) }
 
 -- that it isn't sound, that it is new, or what it has
 unfoldable pub summary_of : List ℕ → PageSummary

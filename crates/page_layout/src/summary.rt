@@ -49,14 +49,14 @@ pub enum PageSummary {
     Used(UsedPage),
 }
 
-ghost use Rattle.page_layout.specs.Pointers.{counts_of, items_of, total_of};
+ghost use Rattle.page_layout.specs.Pointers.{counts_of_states, items_of, total_of};
 ghost use Rattle.page_layout.specs.Summary.{summary_of, used_of};
 
 impl Page {
     /// How many line pointers there are of each state.
     pub fn pointer_counts(&self) -> PointerCounts
         requires { is_sound_page self.now ≡ true }
-        ensures counts { result ≡ counts_of (items_of self.now) }
+        ensures counts { result ≡ counts_of_states (items_of self.now) }
         ensures total { total_of result ≤ item_count self.now }
     {
         let mut counts = PointerCounts {

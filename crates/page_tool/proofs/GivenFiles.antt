@@ -25,7 +25,7 @@ use Rattle.page_tool.specs.Limits.{log_base}
 use Rattle.page_tool.specs.Listings.{NoneFails}
 use Rattle.page_tool.specs.Request.{RewriteAsked}
 use Rattle.page_tool.specs.RewriteCommand.{AreSurveyed, IsLogRefusal, IsPutRefusal, IsSurveyRefusal, LeavesByEnd, OpensLog, rewrite_status}
-use Rattle.page_tool.specs.RewriteFiles.{BecomesOf, Changes, HostFiles, IsHeadBegun, IsRewrittenAt, KeepsFiles, KeepsPaths, RewriteLeaves, RewritesFiles, files_of, fork_at, log_opened, main_rule, opened_at, pages_at, rewrote, untouched, with_blocks}
+use Rattle.page_tool.specs.RewriteFiles.{BecomesOf, Changes, HostFiles, IsHeadBegun, IsRewrittenAt, KeepsFiles, KeepsPaths, RewriteLeaves, RewritesFiles, files_of, fork_at, log_opened, main_rule, pages_at, relation_at, rewrote, untouched, with_blocks}
 use Rattle.page_tool.specs.RewriteResults.{IsRewrittenFile, LeavesEither}
 use Rattle.page_tool.specs.Rewriting.{ArePages, HasPositionsLeft, HasRewriteCause, IsRewriteCause, LeavesRewritten, failed_after, pages_after}
 use Rattle.page_tool.specs.Starting.{names_of}
@@ -181,7 +181,7 @@ module _ (r : RewriteAsked) (old new : HostFiles) where
 module _ {L G : Type 0} (contents : L → Option Pages) (failed : L → Marks) (bytes : G → Option (List ℕ)) (synced : G → ℕ) (r : RewriteAsked) where
   -- the relation that is asked for is open
   abbrev pub IsOpen : Told → Type 0
-  IsOpen a = IfSome a.contents (λ _. a.open_at ≡ opened_at r)
+  IsOpen a = IfSome a.contents (λ _. a.open_at ≡ relation_at r)
 
   -- Lanes, and a log if one was opened, were given back
   pub record GivesBack (b c : Told) (lanes : List L) (log : Option G) : Type 0 where
@@ -191,18 +191,18 @@ module _ {L G : Type 0} (contents : L → Option Pages) (failed : L → Marks) (
 
   module _ (a b c : Told) (lanes : List L) (log : Option G) (open_so : IsOpen a) (same : SamePaths a b) (gives : GivesBack b c lanes log)
       (paths : Paths) (known : a.contents ≡ Some paths) (there : paths r.path ≢ []) where
-    opened_so : b.open_at ≡ opened_at r
-    opened_so = at_some a.contents (λ _. b.open_at ≡ a.open_at) paths known same.open_at ∙ at_some a.contents (λ _. a.open_at ≡ opened_at r) paths known open_so
+    opened_so : b.open_at ≡ relation_at r
+    opened_so = at_some a.contents (λ _. b.open_at ≡ a.open_at) paths known same.open_at ∙ at_some a.contents (λ _. a.open_at ≡ relation_at r) paths known open_so
 
-    given_paths : c.contents ≡ Some (paths_after (opened_at r) (map contents lanes) paths)
+    given_paths : c.contents ≡ Some (paths_after (relation_at r) (map contents lanes) paths)
     given_paths = gives.paths ∙ ap (λ (o : Option Paths). option_map (paths_after b.open_at (map contents lanes)) o) (same.contents ∙ known)
         ∙ ap (λ (at : OpenAt). Some (paths_after at (map contents lanes) paths)) opened_so
 
-    given_marks : c.failed ≡ marks_after (opened_at r) (map failed lanes) a.failed
+    given_marks : c.failed ≡ marks_after (relation_at r) (map failed lanes) a.failed
     given_marks =
         let marks = at_some b.contents (λ (ps : Paths). ps b.open_at.path ≢ [] → c.failed ≡ marks_after b.open_at (map failed lanes) b.failed) paths (same.contents ∙ known) gives.marks in
         subst (λ (at : OpenAt). paths at.path ≢ [] → c.failed ≡ marks_after at (map failed lanes) b.failed) opened_so marks there
-        ∙ ap (λ (m : PathMarks). marks_after (opened_at r) (map failed lanes) m) (at_some a.contents (λ _. b.failed ≡ a.failed) paths known same.failed)
+        ∙ ap (λ (m : PathMarks). marks_after (relation_at r) (map failed lanes) m) (at_some a.contents (λ _. b.failed ≡ a.failed) paths known same.failed)
 
   module _ (a b c : Told) (lanes : List L) (logs : Logs) (known : a.logs ≡ Some logs) where
     given_none : b.logs ≡ a.logs → GivesBack b c lanes None → c.logs ≡ Some logs
@@ -224,11 +224,11 @@ module _ {L G : Type 0} (contents : L → Option Pages) (failed : L → Marks) (
 
   -- lanes that were not written leave the paths as they were
   module _ (lanes : List L) (paths : Paths) (marks new_marks : PathMarks) (logs new_logs : Logs) (unmarked : All (λ lane. failed lane ≡ no_marks) lanes)
-      (held : HoldPages (fork_of r.path) (pages_at r paths) (map contents lanes)) (marks_are : new_marks ≡ marks_after (opened_at r) (map failed lanes) marks) where
-    kept_paths : KeepsPaths r (record { paths = paths; failed = marks; logs = logs }) (record { paths = paths_after (opened_at r) (map contents lanes) paths; failed = new_marks; logs = new_logs })
+      (held : HoldPages (fork_of r.path) (pages_at r paths) (map contents lanes)) (marks_are : new_marks ≡ marks_after (relation_at r) (map failed lanes) marks) where
+    kept_paths : KeepsPaths r (record { paths = paths; failed = marks; logs = logs }) (record { paths = paths_after (relation_at r) (map contents lanes) paths; failed = new_marks; logs = new_logs })
     kept_paths = record {
-      paths = paths_same (opened_at r) (map contents lanes) paths held;
-      failed = none_fails failed (opened_at r) lanes paths marks new_marks unmarked marks_are;
+      paths = paths_same (relation_at r) (map contents lanes) paths held;
+      failed = none_fails failed (relation_at r) lanes paths marks new_marks unmarked marks_are;
     }
 
   -- nothing but the lanes was given back, which were not written
@@ -240,7 +240,7 @@ module _ {L G : Type 0} (contents : L → Option Pages) (failed : L → Marks) (
       let there_so = at_some a.contents (λ ps. ps r.path ≢ []) paths known there in
       let held_so = at_some a.contents (λ ps. HoldPages (fork_of r.path) (pages_at r ps) (map contents lanes)) paths known held in
       record {
-        paths = paths_after (opened_at r) (map contents lanes) paths;
+        paths = paths_after (relation_at r) (map contents lanes) paths;
         logs = logs;
         paths_are = given_paths a a c lanes None open_so same gives paths known there_so;
         logs_are = given_none a a c lanes logs told refl gives;
@@ -269,7 +269,7 @@ module _ {L G : Type 0} (contents : L → Option Pages) (failed : L → Marks) (
       let there_so = at_some a.contents (λ ps. ps r.path ≢ []) paths known there in
       let held_so = at_some a.contents (λ ps. HoldPages (fork_of r.path) (pages_at r ps) (map contents lanes)) paths known held in
       record {
-        paths = paths_after (opened_at r) (map contents lanes) paths;
+        paths = paths_after (relation_at r) (map contents lanes) paths;
         logs = logs;
         paths_are = given_paths a b c lanes None open_so same gives paths known there_so;
         logs_are = given_none a b c lanes logs logs_known opens gives;
@@ -284,7 +284,7 @@ module _ {L G : Type 0} (contents : L → Option Pages) (failed : L → Marks) (
       let held_so = at_some a.contents (λ ps. HoldPages (fork_of r.path) (pages_at r ps) (map contents lanes)) paths known held in
       let file = known_bytes a b c lanes logs logs_known log log opens (told log) gives in
       record {
-        paths = paths_after (opened_at r) (map contents lanes) paths;
+        paths = paths_after (relation_at r) (map contents lanes) paths;
         logs = with_log r.log (record { bytes = file.0; synced = synced log }) logs;
         paths_are = given_paths a b c lanes (Some log) open_so same gives paths known there_so;
         logs_are = given_file a b c lanes logs logs_known log log opens (told log) gives;
@@ -297,7 +297,7 @@ module _ {L G : Type 0} (contents : L → Option Pages) (failed : L → Marks) (
   module _ (relation : RelationFork) (base : ℕ) (lanes lanes' : List L) (log' : G) (end : Result RewriteTotals RewriteError) (leaves : LeavesRewritten contents failed bytes synced relation base lanes lanes' log' end)
       (main : fork_of r.path ≡ Main) (paths : Paths) (marks new_marks : PathMarks) (logs : Logs) (x : List ℕ) (bytes_are : bytes log' ≡ Some x)
       (relation_is : relation ≡ fork_at r paths) (base_is : base ≡ log_base (pages_at r paths)) (pages_so : ArePages contents relation base lanes (pages_at r paths))
-      (marks_are : new_marks ≡ marks_after (opened_at r) (map failed lanes') marks) where
+      (marks_are : new_marks ≡ marks_after (relation_at r) (map failed lanes') marks) where
     abbrev before : List Page
     before = pages_at r paths
 
@@ -308,17 +308,17 @@ module _ {L G : Type 0} (contents : L → Option Pages) (failed : L → Marks) (
     old = record { paths = paths; failed = marks; logs = logs }
 
     abbrev new : HostFiles
-    new = record { paths = paths_after (opened_at r) (map contents lanes') paths; failed = new_marks; logs = with_log r.log (record { bytes = x; synced = synced log' }) logs }
+    new = record { paths = paths_after (relation_at r) (map contents lanes') paths; failed = new_marks; logs = with_log r.log (record { bytes = x; synced = synced log' }) logs }
 
     marks_so : new_marks r.path ≡ failed_after failed (fork_at r paths) lanes'
-    marks_so = ap (λ (m : PathMarks). m r.path) marks_are ∙ marks_here (opened_at r) (map failed lanes') marks
+    marks_so = ap (λ (m : PathMarks). m r.path) marks_are ∙ marks_here (relation_at r) (map failed lanes') marks
         ∙ ap {B = ℕ → Bool} (λ (f : Fork). λ (block : ℕ). mark_in (map failed lanes') (tag_at f block)) main
 
     changes : Changes r old new after (record { bytes = x; synced = synced log' })
     changes = record {
-      paths = with_lanes (opened_at r) (map contents lanes') paths ∙ ap (λ (f : Fork). with_blocks (opened_at r) (pages_in f (map contents lanes') 0 (pages_at r paths)) paths) main;
+      paths = with_lanes (relation_at r) (map contents lanes') paths ∙ ap (λ (f : Fork). with_blocks (relation_at r) (pages_in f (map contents lanes') 0 (pages_at r paths)) paths) main;
       logs = refl;
-      failed = λ other not. ap (λ (m : PathMarks). m other) marks_are ∙ marks_elsewhere (opened_at r) (map failed lanes') marks other not;
+      failed = λ other not. ap (λ (m : PathMarks). m other) marks_are ∙ marks_elsewhere (relation_at r) (map failed lanes') marks other not;
     }
 
     either : LeavesEither main_rule (names_of (fork_at r paths)) (log_base before) before after (new_marks r.path) (record { bytes = x; synced = synced log' })
@@ -368,7 +368,7 @@ module _ {L G : Type 0} (contents : L → Option Pages) (failed : L → Marks) (
       let pages_so = at_some a.contents (λ ps. ArePages contents relation base lanes (pages_at r ps)) paths known surveyed.pages in
       let x = known_bytes a b c lanes' logs logs_known log log' opens told gives in
       record {
-        paths = paths_after (opened_at r) (map contents lanes') paths;
+        paths = paths_after (relation_at r) (map contents lanes') paths;
         logs = with_log r.log (record { bytes = x.0; synced = synced log' }) logs;
         paths_are = given_paths a b c lanes' (Some log') open_so same gives paths known there_so;
         logs_are = given_file a b c lanes' logs logs_known log log' opens told gives;

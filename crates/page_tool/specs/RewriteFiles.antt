@@ -38,8 +38,8 @@ BecomesOf old new Leaves = IfSome old (λ files. IsSomeAnd new (Leaves files))
 abbrev pub with_blocks : OpenAt → List Page → Paths → Paths
 with_blocks at pages paths = λ path. if bytes_eq path at.path then restored at.seg_blocks (paths path) pages else paths path
 
-abbrev pub opened_at : RewriteAsked → OpenAt
-opened_at r = record { path = r.path; seg_blocks = r.options.seg_blocks }
+abbrev pub relation_at : RewriteAsked → OpenAt
+relation_at r = record { path = r.path; seg_blocks = r.options.seg_blocks }
 
 -- the pages of the relation
 abbrev pub pages_at : RewriteAsked → Paths → List Page
@@ -64,7 +64,7 @@ pub record KeepsFiles (r : RewriteAsked) (old new : HostFiles) : Type 0 where
 
 -- The relation has these pages now, and this file is at the log's path; all else is as it was
 pub record Changes (r : RewriteAsked) (old new : HostFiles) (after : List Page) (file : StoredLog) : Type 0 where
-  pub paths : new.paths ≡ with_blocks (opened_at r) after old.paths
+  pub paths : new.paths ≡ with_blocks (relation_at r) after old.paths
   pub logs : new.logs ≡ with_log r.log file old.logs
   pub failed : (other : List ℕ) → bytes_eq other r.path ≡ false → new.failed other ≡ old.failed other
 

@@ -12,12 +12,12 @@ use Rattle.page_jobs.specs.Relations.{IsCatalogOf}
 use Rattle.page_tool.specs.declared.starting.RelationFork.{RelationFork}
 
 -- the relation in the catalogue: no other fork of it has blocks
-abbrev pub entry_of : RelationFork → RelEntry
-entry_of r = record { tablespace = 0; database = 0; relation = r.number; blocks = slice_set (replicate 4 0) (fork_number r.fork) r.blocks }
+abbrev pub relation_entry : RelationFork → RelEntry
+relation_entry r = record { tablespace = 0; database = 0; relation = r.number; blocks = slice_set (replicate 4 0) (fork_number r.fork) r.blocks }
 
 -- how the log names its blocks
 abbrev pub names_of : RelationFork → ℕ → List ℕ
-names_of r = log_name (entry_of r ∷ [])
+names_of r = log_name (relation_entry r ∷ [])
 
 -- the log as the manager was started
 abbrev pub log_of : {L G : Type 0} → Manager L G → G
@@ -25,7 +25,7 @@ log_of m = m.table.table.shared.key.log.value
 
 -- The manager has the blocks of this fork and no others, and a log that begins at `base`; these are all its passes, of which none has done anything
 pub record IsStarted {L G : Type 0} (contents : L → Option Pages) (r : RelationFork) (base : ℕ) (m : Manager L G) (ps : List PassState) : Type 0 where
-  pub entries : relations_of m.table ≡ entry_of r ∷ []
+  pub entries : relations_of m.table ≡ relation_entry r ∷ []
   pub catalog : IsCatalogOf r.fork r.blocks (relations_of m.table)
   pub counted : length (opened_of m.table) ≡ lanes_in m.table
   pub based : base_of m.table ≡ base

@@ -7,7 +7,7 @@ ghost use Rattle.command_line.specs.Numbers.{HasOptionsInRange};
 ghost use Rattle.frame_table.specs.Seats.{opened_of};
 ghost use Rattle.history_core.specs.Log.{head_bytes};
 ghost use Rattle.page_jobs.specs.Relations.{IsCatalogOf};
-ghost use Rattle.page_tool.specs.Starting.{IsStarted, entry_of, log_of};
+ghost use Rattle.page_tool.specs.Starting.{IsStarted, log_of, relation_entry};
 
 use crate::limits::RECORD_SIZE;
 use backend_pass::{Config, Manager, Pass, StartRefused};
@@ -33,7 +33,7 @@ pub(crate) struct RelationFork {
 impl RelationFork {
     /// The relation in the catalogue of a manager of its own: no other fork of it has blocks.
     fn entry(self) -> RelEntry
-        ensures { result ≡ entry_of self }
+        ensures { result ≡ relation_entry self }
     {
         let mut blocks = [0; 4];
         blocks[self.fork.number() as usize] = self.blocks;
@@ -47,7 +47,7 @@ impl RelationFork {
 
     /// A catalogue of this relation alone.
     pub(crate) fn catalog(self, alloc: Global) -> Result<Catalog, AllocError>
-        ensures entries { IfOk result (λ catalog. catalog ≡ entry_of self ∷ []) }
+        ensures entries { IfOk result (λ catalog. catalog ≡ relation_entry self ∷ []) }
         ensures catalog { IfOk result (IsCatalogOf self.fork self.blocks) }
     {
         Catalog::build(alloc, &[self.entry()]).map_err(|_| AllocError)

@@ -1,6 +1,6 @@
 -- What a lane's calls were.
 use Rattle.std.specs.Prelude.{ℕ, true}
-use Rattle.log_device.specs.Calls.{number_of}
+use Rattle.log_device.specs.Calls.{calls_counted}
 use Rattle.segment_store.specs.Contents.{Marks, no_marks, with_mark}
 use Rattle.segment_store.specs.declared.history.LaneHistory.{LaneHistory}
 use Rattle.segment_store.specs.declared.history.WrittenTags.{WrittenTags}
@@ -13,7 +13,7 @@ listed (More' tag shape others) = with_mark tag true (listed others)
 
 -- how many calls there were
 abbrev pub calls_in : LaneHistory → ℕ
-calls_in history = number_of history.calls
+calls_in history = calls_counted history.calls
 
 -- the tags that were written since the last sync that succeeded
 abbrev pub unsynced_in : LaneHistory → Marks

@@ -9,13 +9,13 @@ use Rattle.segment_store.specs.declared.memory_logs.MemLogs.{MemLogs}
 abbrev pub log_path : LogFile → List ℕ
 log_path file = string_bytes file.path
 
-abbrev pub log_in : LogFile → Option StoredLog
-log_in file = Some (as_stored file.log)
+abbrev pub log_in_file : LogFile → Option StoredLog
+log_in_file file = Some (as_stored file.log)
 
 -- the logs at their paths
 abbrev pub logs_at : List LogFile → Logs
-logs_at files = of_first log_path log_in None files
+logs_at files = of_first log_path log_in_file None files
 
 -- the path of the log that was opened last
-abbrev pub opened_at : MemLogs → List ℕ
-opened_at logs = string_bytes logs.open_path
+abbrev pub opened_path : MemLogs → List ℕ
+opened_path logs = string_bytes logs.open_path

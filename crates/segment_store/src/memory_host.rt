@@ -9,7 +9,7 @@ ghost use Rattle.segment_store.specs.Lanes.{dealt, own_pages};
 ghost use Rattle.segment_store.specs.Logs.{CountsOneLogOpening, HasLogCause, IsOpenedLog, empty_log, logs_after, with_log};
 ghost use Rattle.segment_store.specs.MemoryHost.{bytes_of, lanes_of, marks_at, open_now, openings_of, segments_at};
 ghost use Rattle.segment_store.specs.MemoryLane.{fresh_lane_plan, marks_of, pages_of, plan_of, unsynced_of};
-ghost use Rattle.segment_store.specs.MemoryLog.{logs_at, opened_at};
+ghost use Rattle.segment_store.specs.MemoryLog.{logs_at, opened_path};
 ghost use Rattle.log_device.specs.MemoryLog.{appends_of, as_stored, room_of, syncs_of};
 ghost use Rattle.log_device.specs.Plan.{after_call, fails_next, fresh_plan};
 ghost use Rattle.segment_store.specs.Relation.{block_at, segment_pages, first_blocks, relation_of};
@@ -397,7 +397,7 @@ impl Host for MemHost {
 
     ghost logs = { λ h. Some (logs_at h.logs.files.items) };
 
-    ghost log_at = { λ h. opened_at h.logs };
+    ghost log_at = { λ h. opened_path h.logs };
 
     ghost read_faults = { λ h. h.read_faults.count };
 
@@ -449,7 +449,7 @@ impl Host for MemHost {
         ensures appends { IfOk result (λ log. appends_of log ≡ fresh_plan self.old.logs.calls.appends) }
         ensures syncs { IfOk result (λ log. syncs_of log ≡ fresh_plan self.old.logs.calls.syncs) }
         ensures logs { MatchResult result (λ _. Some (logs_at self.new.logs.files.items) ≡ Some (with_log path.now empty_log (logs_at self.old.logs.files.items))) (λ _. Some (logs_at self.new.logs.files.items) ≡ Some (logs_at self.old.logs.files.items)) }
-        ensures log_at { MatchResult result (λ _. opened_at self.new.logs ≡ path.now) (λ _. opened_at self.new.logs ≡ opened_at self.old.logs) }
+        ensures log_at { MatchResult result (λ _. opened_path self.new.logs ≡ path.now) (λ _. opened_path self.new.logs ≡ opened_path self.old.logs) }
         ensures fault { IsErrOf result LogOpen.Failed ↔ (fails_next self.old.logs.openings ≡ true) }
         ensures openings { self.new.logs.openings ≡ after_call self.old.logs.openings }
         ensures log_faults { HasLogCause self.old.logs.faults.count self.new.logs.faults.count result }
@@ -467,9 +467,9 @@ impl Host for MemHost {
         ensures open_at { open_now self.new ≡ open_now self.old }
         ensures openings { openings_of self.new ≡ openings_of self.old }
         ensures lanes { lanes_of self.new ≡ lanes_of self.old }
-        ensures logs { logs_at self.new.logs.files.items ≡ logs_after (opened_at self.old.logs) (option_map as_stored log) (logs_at self.old.logs.files.items) }
+        ensures logs { logs_at self.new.logs.files.items ≡ logs_after (opened_path self.old.logs) (option_map as_stored log) (logs_at self.old.logs.files.items) }
         ensures log_faults { Added self.old.logs.faults.count (option_map_or (λ l. l.faults.count) log 0) self.new.logs.faults.count }
-        ensures log_at { opened_at self.new.logs ≡ opened_at self.old.logs }
+        ensures log_at { opened_path self.new.logs ≡ opened_path self.old.logs }
         ensures log_openings { self.new.logs.openings ≡ self.old.logs.openings }
         ensures log_calls { self.new.logs.calls ≡ self.old.logs.calls }
         ensures log_room { self.new.logs.room ≡ self.old.logs.room }

@@ -4,7 +4,7 @@ ghost use Rattle.std.specs.List.{position};
 ghost use Rattle.std.specs.Str.{bytes_eq};
 ghost use Rattle.log_device.specs.Faults.{Added};
 ghost use Rattle.segment_store.specs.Logs.{CountsOneLogOpening, HasLogCause, empty_log, logs_after, with_log};
-ghost use Rattle.segment_store.specs.MemoryLog.{logs_at, opened_at};
+ghost use Rattle.segment_store.specs.MemoryLog.{logs_at, opened_path};
 ghost use Rattle.log_device.specs.MemoryLog.{appends_of, as_stored, room_of, syncs_of};
 ghost use Rattle.log_device.specs.Plan.{after_call, fails_next, fresh_plan};
 
@@ -44,7 +44,7 @@ impl MemLogs {
         ensures room { result.room ≡ room }
         ensures openings { result.openings ≡ openings }
         ensures calls { result.calls ≡ calls }
-        ensures open_path { opened_at result ≡ [] }
+        ensures open_path { opened_path result ≡ [] }
         ensures faults { result.faults.count ≡ 0 }
     {
         MemLogs {
@@ -98,7 +98,7 @@ impl MemLogs {
         ensures syncs { IfOk result (λ log. syncs_of log ≡ fresh_plan self.old.calls.syncs) }
         ensures faults { IfOk result (λ log. log.faults.count ≡ 0) }
         ensures files { MatchResult result (λ _. logs_at self.new.files.items ≡ with_log path.now empty_log (logs_at self.old.files.items)) (λ _. self.new.files.items ≡ self.old.files.items) }
-        ensures open_path { MatchResult result (λ _. opened_at self.new ≡ path.now) (λ _. opened_at self.new ≡ opened_at self.old) }
+        ensures open_path { MatchResult result (λ _. opened_path self.new ≡ path.now) (λ _. opened_path self.new ≡ opened_path self.old) }
         ensures same { self.new ≡ record self.old { files = self.new.files; open_path = self.new.open_path } }
     {
         let calls = self.calls.fresh(alloc)?;
@@ -118,7 +118,7 @@ impl MemLogs {
         ensures syncs { IfOk result (λ log. syncs_of log ≡ fresh_plan self.old.calls.syncs) }
         ensures faultless { IfOk result (λ log. log.faults.count ≡ 0) }
         ensures files { MatchResult result (λ _. logs_at self.new.files.items ≡ with_log path.now empty_log (logs_at self.old.files.items)) (λ _. self.new.files.items ≡ self.old.files.items) }
-        ensures open_path { MatchResult result (λ _. opened_at self.new ≡ path.now) (λ _. opened_at self.new ≡ opened_at self.old) }
+        ensures open_path { MatchResult result (λ _. opened_path self.new ≡ path.now) (λ _. opened_path self.new ≡ opened_path self.old) }
         ensures fault { IsErrOf result LogOpen.Failed ↔ (fails_next self.old.openings ≡ true) }
         ensures openings { self.new.openings ≡ after_call self.old.openings }
         ensures faults { HasLogCause self.old.faults.count self.new.faults.count result }
@@ -138,7 +138,7 @@ impl MemLogs {
 
     /// Takes the log that was opened last back, and counts its faults too.
     pub fn take_back(&mut self, log: MemLog)
-        ensures files { logs_at self.new.files.items ≡ logs_after (opened_at self.old) (Some (as_stored log)) (logs_at self.old.files.items) }
+        ensures files { logs_at self.new.files.items ≡ logs_after (opened_path self.old) (Some (as_stored log)) (logs_at self.old.files.items) }
         ensures faults { Added self.old.faults.count log.faults.count self.new.faults.count }
         ensures same { self.new ≡ record self.old { files = self.new.files; faults = self.new.faults } }
     {

@@ -8,7 +8,7 @@ use Rattle.state_word.specs.declared.word.StateWord.{StateWord}
 use Rattle.state_word.specs.declared.word.Flag.{Flag}
 use Rattle.state_word.specs.declared.word.Flag.TheVariants.{Locked, Dirty, Valid, TagValid, IoInProgress, IoError, JustDirtied, PinCountWaiter, CheckpointNeeded, Permanent}
 use Rattle.state_word.specs.Fields.{bit, fields, flag_of}
-use Rattle.state_word.specs.Flags.{place_of, with_flag}
+use Rattle.state_word.specs.Flags.{bit_place, with_flag}
 use Rattle.state_word.proofs.Words.{same_record}
 
 -- the test of the larger or the smaller of two bits
@@ -87,7 +87,7 @@ module _ (w m : ℕ) (low : m % 2 ^ 22 ≡ 2 ^ 22 - 1) (high : m / 2 ^ 32 ≡ 2 
       same_record (fields (bit_and w m)) (kept (fields m) (fields w)) (omega arith) (omega arith) (bit-and 22 w m) (bit-and 23 w m) (bit-and 24 w m) (bit-and 25 w m) (bit-and 26 w m) (bit-and 27 w m) (bit-and 28 w m) (bit-and 29 w m) (bit-and 30 w m) (bit-and 31 w m) and_above
 
 -- one flag set
-pub sets_flag : (flag : Flag) (w : ℕ) → fields (bit_or w (2 ^ place_of flag)) ≡ with_flag flag true (fields w)
+pub sets_flag : (flag : Flag) (w : ℕ) → fields (bit_or w (2 ^ bit_place flag)) ≡ with_flag flag true (fields w)
 unfolding fields
 sets_flag Locked w = fields-or w (2 ^ 22) refl refl
 sets_flag Dirty w = fields-or w (2 ^ 23) refl refl
@@ -101,7 +101,7 @@ sets_flag CheckpointNeeded w = fields-or w (2 ^ 30) refl refl
 sets_flag Permanent w = fields-or w (2 ^ 31) refl refl
 
 -- one flag cleared
-pub clears_flag : (flag : Flag) (w : ℕ) → w < 2 ^ 64 → fields (bit_and w (2 ^ 64 - 1 - 2 ^ place_of flag)) ≡ with_flag flag false (fields w)
+pub clears_flag : (flag : Flag) (w : ℕ) → w < 2 ^ 64 → fields (bit_and w (2 ^ 64 - 1 - 2 ^ bit_place flag)) ≡ with_flag flag false (fields w)
 unfolding fields
 clears_flag Locked w h = fields-and w (2 ^ 64 - 1 - 2 ^ 22) refl refl h
 clears_flag Dirty w h = fields-and w (2 ^ 64 - 1 - 2 ^ 23) refl refl h
@@ -122,7 +122,7 @@ has_bit (suc b) p h q = grind arith
 has-place : (place w : ℕ) → (bit_and w (2 ^ place) == 2 ^ place) ≡ bit place w
 has-place place w = ap (λ (n : ℕ). n == 2 ^ place) (and_pow w place) ∙ has_bit (bit_at w place) (2 ^ place) (bit_at-lt w place) (pow_pos place)
 
-pub has_flag : (flag : Flag) (w : ℕ) → (bit_and w (2 ^ place_of flag) == 2 ^ place_of flag) ≡ flag_of flag (fields w)
+pub has_flag : (flag : Flag) (w : ℕ) → (bit_and w (2 ^ bit_place flag) == 2 ^ bit_place flag) ≡ flag_of flag (fields w)
 unfolding fields
 has_flag Locked w = has-place 22 w
 has_flag Dirty w = has-place 23 w

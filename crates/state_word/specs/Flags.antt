@@ -5,17 +5,17 @@ use Rattle.state_word.specs.declared.word.Flag.{Flag}
 use Rattle.state_word.specs.declared.word.Flag.TheVariants.{Locked, Dirty, Valid, TagValid, IoInProgress, IoError, JustDirtied, PinCountWaiter, CheckpointNeeded, Permanent}
 
 -- the place of a flag's bit in the word
-abbrev pub place_of : Flag → ℕ
-place_of Locked = 22
-place_of Dirty = 23
-place_of Valid = 24
-place_of TagValid = 25
-place_of IoInProgress = 26
-place_of IoError = 27
-place_of JustDirtied = 28
-place_of PinCountWaiter = 29
-place_of CheckpointNeeded = 30
-place_of Permanent = 31
+abbrev pub bit_place : Flag → ℕ
+bit_place Locked = 22
+bit_place Dirty = 23
+bit_place Valid = 24
+bit_place TagValid = 25
+bit_place IoInProgress = 26
+bit_place IoError = 27
+bit_place JustDirtied = 28
+bit_place PinCountWaiter = 29
+bit_place CheckpointNeeded = 30
+bit_place Permanent = 31
 
 -- the word with this flag set or cleared
 abbrev pub with_flag : Flag → Bool → StateWord → StateWord

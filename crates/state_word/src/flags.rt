@@ -1,7 +1,7 @@
 //! The masks of the flags, by name.
 
 ghost use Rattle.std.specs.Prelude.{⊤, ◌≡◌, [], ◌∷◌, ◌^◌, codes};
-ghost use Rattle.state_word.specs.Flags.{place_of};
+ghost use Rattle.state_word.specs.Flags.{bit_place};
 
 use crate::word::Flag;
 use bitflags::{Flags, bitflag_items};
@@ -59,7 +59,7 @@ impl Flags for StateFlags {
 }
 
 impl From<Flag> for StateFlags {
-    ghost from_gives = { λ flag flags. flags.0 ≡ 2 ^ place_of flag };
+    ghost from_gives = { λ flag flags. flags.0 ≡ 2 ^ bit_place flag };
 
     fn from(flag: Flag) -> StateFlags {
         match flag {

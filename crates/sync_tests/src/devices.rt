@@ -197,7 +197,7 @@ impl ByteLog {
 
 impl LogDevice for ByteLog {
     ghost use Rattle.std.specs.Prelude.{None};
-    ghost use Rattle.log_device.specs.Calls.{number_of};
+    ghost use Rattle.log_device.specs.Calls.{calls_counted};
 
     ghost bytes = { λ _. None };
 
@@ -205,7 +205,7 @@ impl LogDevice for ByteLog {
 
     ghost faults = { λ l. l.faults.count };
 
-    ghost calls = { λ l. number_of l.history };
+    ghost calls = { λ l. calls_counted l.history };
 
     fn append(&mut self, piece: &[u8]) -> Result<(), Failed> {
         self.history.raise();

@@ -18,7 +18,7 @@ use Rattle.history_core.specs.State.{Lane}
 use Rattle.history_core.specs.Lanes.{IsBlockPage, CanTakeOut}
 use Rattle.table_rule.specs.Shows.{Devices, IsLane, IsPlaced}
 use Rattle.table_rule.specs.LaneCalls.{HoldsTheSame, TookPage, TorePage}
-use Rattle.table_rule.specs.TakenLanes.{IsBlockOf, blocks_in, page_named, mark_named, block_page, page_held, block_pages, taken_lane, HoldsBlocks, lane_devices_of}
+use Rattle.table_rule.specs.TakenLanes.{IsBlockOf, blocks_in_lane, page_named, mark_named, block_page, page_held, block_pages, taken_lane, HoldsBlocks, lane_devices_of}
 use Rattle.table_rule.proofs.Tags.{packed_is, unpacked_is}
 use Rattle.table_rule.proofs.TakenBlocks.{block_listed, block_placed}
 
@@ -59,9 +59,9 @@ module _ {L G : Type 0} (d : Devices L G) (relations : List RelEntry) (lanes q :
         failed = is.failed known word tag told placed ∙ sym (ap (mark_named (d.failed_writes l)) placed.named);
       }
 
-      of_contents : (c : Option Pages) → d.contents l ≡ c → (blocks : List BlockPage) (k : ℕ) (b : BlockPage) → block_pages (blocks_in relations lanes q) c (d.failed_writes l) ≡ Some blocks → get_elem? blocks k ≡ some b → IsBlockPage ln b
+      of_contents : (c : Option Pages) → d.contents l ≡ c → (blocks : List BlockPage) (k : ℕ) (b : BlockPage) → block_pages (blocks_in_lane relations lanes q) c (d.failed_writes l) ≡ Some blocks → get_elem? blocks k ≡ some b → IsBlockPage ln b
       of_contents None e blocks k b told at = absurd (let no : None ≡ Some blocks = told in cc)
-      of_contents (Some known) e blocks k b told at = let found = map_at (block_page known (d.failed_writes l)) (blocks_in relations lanes q) k b (ap (λ (l : List BlockPage). get_elem? l k) (same_Some _ _ told) ∙ at) in
+      of_contents (Some known) e blocks k b told at = let found = map_at (block_page known (d.failed_writes l)) (blocks_in_lane relations lanes q) k b (ap (λ (l : List BlockPage). get_elem? l k) (same_Some _ _ told) ∙ at) in
           let placed = block_placed relations lanes q k found.0 found.1 in subst (IsBlockPage ln) found.2 (of_block known found.0 placed.0 e placed.1)
 
   -- the state has the lane as it was, where its blocks and its counts are what was noted as it went out
@@ -78,7 +78,7 @@ module _ {L G : Type 0} (d : Devices L G) (relations : List RelEntry) (lanes q :
     where
       of_block : (pages : Pages) (word : ℕ) (tag : Tag) → d.contents l ≡ Some pages → IsPlaced relations lanes q word tag → IsBlockPage ln (block_page pages (d.failed_writes l) word)
       of_block pages word tag told placed = let listed = block_listed relations lanes q word tag placed in
-          blocks (map (block_page pages (d.failed_writes l)) (blocks_in relations lanes q)) listed.0 (block_page pages (d.failed_writes l) word) (ap (λ (c : Option Pages). block_pages (blocks_in relations lanes q) c (d.failed_writes l)) told) (at_map (block_page pages (d.failed_writes l)) (blocks_in relations lanes q) listed.0 word listed.1)
+          blocks (map (block_page pages (d.failed_writes l)) (blocks_in_lane relations lanes q)) listed.0 (block_page pages (d.failed_writes l) word) (ap (λ (c : Option Pages). block_pages (blocks_in_lane relations lanes q) c (d.failed_writes l)) told) (at_map (block_page pages (d.failed_writes l)) (blocks_in_lane relations lanes q) listed.0 word listed.1)
 
   module _ (before after : L) (ln ln' : Lane) (is : IsLane d relations lanes q before ln) (known : ln'.known ≡ ln.known) (reads : ln'.read_faults ≡ d.read_faults after) (writes : ln'.write_faults ≡ d.write_faults after) where
     -- after a call that leaves the blocks

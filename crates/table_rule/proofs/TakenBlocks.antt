@@ -12,7 +12,7 @@ use Rattle.block_tag.specs.Names.{unpacked_tag}
 use Rattle.table_rule.specs.Blocks.{has_named, is_block}
 use Rattle.table_rule.specs.Layout.{tag_lane, lane_of_tag}
 use Rattle.table_rule.specs.Shows.{IsPlaced}
-use Rattle.table_rule.specs.TakenLanes.{is_block_of, numbers_below, blocks_in}
+use Rattle.table_rule.specs.TakenLanes.{is_block_of, numbers_below, blocks_in_lane}
 use Rattle.table_rule.proofs.Opens.{left_at, right_at}
 use Rattle.table_rule.proofs.Tags.{unpacked_low}
 
@@ -68,16 +68,16 @@ module _ (relations : List RelEntry) (lanes q : ℕ) where
       ap (λ (b : Bool). b && eqb (tag_lane lanes word) q) listed ∙ eq-eqb (tag_lane lanes word) q placed
 
   -- each block that lies in the lane is among them
-  pub block_listed : (word : ℕ) (tag : Tag) → IsPlaced relations lanes q word tag → (k : ℕ) × (get_elem? (blocks_in relations lanes q) k ≡ some word)
-  unfolding blocks_in
+  pub block_listed : (word : ℕ) (tag : Tag) → IsPlaced relations lanes q word tag → (k : ℕ) × (get_elem? (blocks_in_lane relations lanes q) k ≡ some word)
+  unfolding blocks_in_lane
   block_listed word tag h = listed_below _ (unpacked_low word tag h.named)
     where
       listed_below : (n : ℕ) → word < n → (k : ℕ) × (get_elem? (filter (is_block_of relations lanes q) (numbers_below n)) k ≡ some word)
       listed_below n low = keeps_at (is_block_of relations lanes q) (numbers_below n) word word (number_at n word low) (passes word tag h)
 
   -- and nothing else is
-  pub block_placed : (k word : ℕ) → get_elem? (blocks_in relations lanes q) k ≡ some word → (tag : Tag) × IsPlaced relations lanes q word tag
-  unfolding blocks_in
+  pub block_placed : (k word : ℕ) → get_elem? (blocks_in_lane relations lanes q) k ≡ some word → (tag : Tag) × IsPlaced relations lanes q word tag
+  unfolding blocks_in_lane
   block_placed k word e = placed_among (numbers_below (2 ^ 50)) e
     where
       of_tag : (t : Option Tag) → unpacked_tag word ≡ t → has_named relations t ≡ true → lane_of_tag lanes t ≡ q → (tag : Tag) × IsPlaced relations lanes q word tag

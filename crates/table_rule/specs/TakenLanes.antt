@@ -32,8 +32,8 @@ numbers_below zero = []
 numbers_below (suc n) = numbers_below n ++ n ∷ []
 
 -- the blocks that lie in the lane, by their tags' numbers, which are below 2 to the power 50
-unfoldable pub blocks_in : List RelEntry → ℕ → ℕ → List ℕ
-blocks_in relations lanes q = filter (is_block_of relations lanes q) (numbers_below (2 ^ 50))
+unfoldable pub blocks_in_lane : List RelEntry → ℕ → ℕ → List ℕ
+blocks_in_lane relations lanes q = filter (is_block_of relations lanes q) (numbers_below (2 ^ 50))
 
 -- the page and the mark that stand for a tag
 abbrev pub page_named : Pages → Option Tag → List ℕ
@@ -59,7 +59,7 @@ block_pages blocks (Some known) marks = Some (map (block_page known marks) block
 module _ {L : Type 0} (d : LaneDevices L) (relations : List RelEntry) (lanes q : ℕ) where
   -- what the lane q is
   abbrev pub taken_lane : L → TakenLane
-  taken_lane l = record { pages = block_pages (blocks_in relations lanes q) (d.contents l) (d.failed_writes l); read_faults = d.read_faults l; write_faults = d.write_faults l; calls = d.calls l }
+  taken_lane l = record { pages = block_pages (blocks_in_lane relations lanes q) (d.contents l) (d.failed_writes l); read_faults = d.read_faults l; write_faults = d.write_faults l; calls = d.calls l }
 
   -- where its contents are known it holds each block that lies there
   abbrev pub HoldsBlocks : L → Type 0

@@ -18,7 +18,7 @@ pub struct TestLog {
 
 impl TestLog {
     ghost use Rattle.std.specs.Prelude.{◌≡◌, ◌+◌};
-    ghost use Rattle.log_device.specs.Calls.{number_of};
+    ghost use Rattle.log_device.specs.Calls.{calls_counted};
 
     pub fn new(alloc: Global, failing: u32) -> TestLog {
         TestLog {
@@ -34,7 +34,7 @@ impl TestLog {
     /// Whether this call is the one that fails.
     fn fails(&mut self) -> bool
         ensures faults { self.new.faults ≡ self.old.faults }
-        ensures history { number_of self.new.history ≡ number_of self.old.history + 1 }
+        ensures history { calls_counted self.new.history ≡ calls_counted self.old.history + 1 }
     {
         self.history.raise();
         self.calls = self.calls.saturating_add(1);
@@ -44,7 +44,7 @@ impl TestLog {
 
 impl LogDevice for TestLog {
     ghost use Rattle.std.specs.Prelude.{None};
-    ghost use Rattle.log_device.specs.Calls.{number_of};
+    ghost use Rattle.log_device.specs.Calls.{calls_counted};
 
     ghost bytes = { λ _. None };
 
@@ -52,7 +52,7 @@ impl LogDevice for TestLog {
 
     ghost faults = { λ l. l.faults.count };
 
-    ghost calls = { λ l. number_of l.history };
+    ghost calls = { λ l. calls_counted l.history };
 
     fn append(&mut self, piece: &[u8]) -> Result<(), Failed> {
         if self.fails() || self.bytes.extend_from_slice(piece).is_err() {

@@ -8,7 +8,7 @@ use Rattle.pin_core.specs.declared.view.FailedCalls.{FailedCalls}
 use Rattle.pin_core.specs.declared.view.TakenLog.{TakenLog}
 use Rattle.pin_core.specs.declared.view.View.{View}
 use Rattle.pin_core.specs.State.{Page, no_log, sum_of_met}
-use Rattle.history_core.specs.Device.{LogKind, take_log, leave_log, log_out, append, fail_append, sync_log, fail_sync, log_back, see_down, calls_by, met_by, sees_down, log_hold_after, view_logged}
+use Rattle.history_core.specs.Device.{LogKind, take_log, leave_log, log_out, append, fail_append, sync_log, fail_sync, log_back, see_down, log_calls_by, log_met_by, sees_down, log_hold_after, view_logged}
 use Rattle.history_core.specs.Steps.{has_loaded}
 use Rattle.table_rule.specs.declared.turn.Turn.TheVariants.{Log}
 use Rattle.frame_table.specs.WordSteps.{DidWord, load_end}
@@ -23,7 +23,7 @@ quiet k v = record v { log = log_hold_after k v.log; steps = v.steps + 1 }
 abbrev pub counting : LogKind → List DeviceCall → FailedCalls → Bool → View → View
 counting k calls met down v = record v { log = log_hold_after k v.log; device_calls = calls; met = met; saw_down = down; steps = v.steps + 1 }
 
-counts : (k : LogKind) (v : View) (calls : List DeviceCall) (met : FailedCalls) (down : Bool) → v.device_calls ++ calls_by k ≡ calls → sum_of_met v.met (met_by k) ≡ met → (v.saw_down || sees_down k) ≡ down → view_logged k v ≡ counting k calls met down v
+counts : (k : LogKind) (v : View) (calls : List DeviceCall) (met : FailedCalls) (down : Bool) → v.device_calls ++ log_calls_by k ≡ calls → sum_of_met v.met (log_met_by k) ≡ met → (v.saw_down || sees_down k) ≡ down → view_logged k v ≡ counting k calls met down v
 counts k v calls met down c m d = λ i. record (quiet k v) { device_calls = c i; met = m i; saw_down = d i }
 
 none_met : (m : FailedCalls) → sum_of_met m (record { reads = 0; writes = 0; logs = 0 }) ≡ m
@@ -74,7 +74,7 @@ module _ (v out : View) (went : GoesOutUp v out) where
       ∙ counts sync_log (quiet (log_out went.taken) v) (v.device_calls ++ LogSync true ∷ []) v.met v.saw_down refl (none_met v.met) (or_false v.saw_down))
 
   -- a call that failed
-  failed_view : (k : LogKind) (call : DeviceCall) (w : View) → calls_by k ≡ call ∷ [] → met_by k ≡ record { reads = 0; writes = 0; logs = 0 } → sees_down k ≡ true → DidTwo k (log_back true) out w
+  failed_view : (k : LogKind) (call : DeviceCall) (w : View) → log_calls_by k ≡ call ∷ [] → log_met_by k ≡ record { reads = 0; writes = 0; logs = 0 } → sees_down k ≡ true → DidTwo k (log_back true) out w
       → w ≡ counting (log_back true) (v.device_calls ++ call ∷ []) (record v.met { logs = v.met.logs + 1 }) true (counting k (v.device_calls ++ call ∷ []) v.met true (quiet (log_out went.taken) v))
   failed_view k call w c m s d = faulted_back d.between w d.second ∙ ap (λ (u : View). counting (log_back true) u.device_calls (record u.met { logs = u.met.logs + 1 }) u.saw_down u) (d.first.after ∙ ap (view_logged k) gone
       ∙ counts k (quiet (log_out went.taken) v) (v.device_calls ++ call ∷ []) v.met true (ap (λ (l : List DeviceCall). v.device_calls ++ l) c) (ap (sum_of_met v.met) m ∙ none_met v.met) (ap (λ (b : Bool). v.saw_down || b) s ∙ or_true v.saw_down))

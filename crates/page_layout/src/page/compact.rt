@@ -6,7 +6,7 @@ ghost use Rattle.std.specs.Int.{byte_at};
 ghost use Rattle.byteorder.specs.Endian.{little_bytes};
 ghost use Rattle.page_layout.specs.Compact.{AreNewOffsets, AreSortedKeys, IsCompactable, keys_of};
 ghost use Rattle.page_layout.specs.Fields.{item_count};
-ghost use Rattle.page_layout.specs.Rewritten.{is_normal, is_outside, is_skipped, item_byte, length_at, new_offset, new_pointer, new_upper, offset_at, places_of, pointers_left, rewritten_page, room_at, room_of, special_of, state_at, stays, upper_of};
+ghost use Rattle.page_layout.specs.Rewritten.{is_normal, is_outside, is_skipped, item_byte, length_at, new_offset, new_pointer, new_upper, offset_at, places_of, pointers_left, rewritten_page, room_at, room_of_items, special_of, state_at, stays, upper_of};
 ghost use Rattle.page_layout.specs.Soundness.{is_new_page, is_sound_page};
 
 use super::{Item, Page};
@@ -70,7 +70,7 @@ impl Page {
         requires special_is { special ≡ special_of self.now }
         ensures { result
             ≡ not (list_any (is_outside self.now) (places_of self.now))
-            && not (nat_lt space (room_of self.now)) }
+            && not (nat_lt space (room_of_items self.now)) }
     {
         let mut room: u32 = 0;
         for place in 0..self.items() {

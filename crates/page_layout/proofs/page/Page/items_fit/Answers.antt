@@ -1,7 +1,7 @@
 use Rattle.std.proofs.Common.{◌≡◌, ◌&&◌, ◌||◌, ℕ, Bool, not, ltb, true, false, arith, ap, ap₂, sym, ◌∙◌, add-one}
 use Rattle.std.specs.List.{range_with_len}
 use Rattle.page_layout.specs.Fields.{item_count}
-use Rattle.page_layout.specs.Rewritten.{is_outside, room_at, room_of}
+use Rattle.page_layout.specs.Rewritten.{is_outside, room_at, room_of_items}
 use Rattle.page_layout.proofs.Compactable.{any_more, any_range, fit_is}
 use Rattle.page_layout.proofs.Keys.{sum_range_more}
 use Rattle.page_layout.proofs.Sound.{sound_fits}
@@ -37,7 +37,7 @@ returns-then-is_outside c =
     let page = c.args.self.now in
     let place = c.loop-place.place in
     let out : is_outside page place ≡ true = sym c.is_outside.ensures ∙ c.if-is_outside.true in
-    sym (ap (λ (b : Bool). not b && not (ltb c.args.space (room_of page))) (any_range (is_outside page) (item_count page) place (omega arith) out))
+    sym (ap (λ (b : Bool). not b && not (ltb c.args.space (room_of_items page))) (any_range (is_outside page) (item_count page) place (omega arith) out))
 
 pub returns : goal.returns
 returns c = fit_is c.args.self.now c.loop-place.place c.loop-place.room c.args.space c.from.result (omega arith) c.loop-place.invariant.inside c.loop-place.invariant.room c.from.ensures
