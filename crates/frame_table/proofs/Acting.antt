@@ -12,7 +12,7 @@ use Rattle.history_core.specs.State.{State}
 use Rattle.history_core.proofs.Laws.{laws_kept}
 use Rattle.table_rule.specs.declared.value.Value.{Value}
 use Rattle.table_rule.specs.declared.opening.Opening.{Opening}
-use Rattle.frame_table.specs.Kinds.{FrameWord, state_word, tag_word, content_word, FrameKind, part_of, load_of, view_after, state_after}
+use Rattle.frame_table.specs.Kinds.{FrameWord, state_word, tag_word, content_word, FrameKind, part_of, load_kind, view_after, state_after}
 use Rattle.table_rule.specs.Shows.{ShowsFrame, Devices, Shows, RuleHolds}
 use Rattle.frame_table.specs.FrameSteps.{part_place, SaysOf, Did, Choice, always, if_found, if_unlocked, chosen, choice_part, tells}
 use Rattle.frame_table.proofs.Kept.{frame_step}
@@ -35,7 +35,7 @@ part_says tag_word words f fr h = h.tag
 part_says content_word words f fr h = (h.sharers, h.exclusive, h.copying, h.small)
 
 -- a load is at the same word
-part_load : (p : FrameWord) → part_of (load_of p) ≡ p
+part_load : (p : FrameWord) → part_of (load_kind p) ≡ p
 part_load state_word = refl
 part_load tag_word = refl
 part_load content_word = refl
@@ -44,12 +44,12 @@ part_chosen : (choice : Choice) (first n : ℕ) → part_of (chosen choice first
 part_chosen (always k) first n = refl
 part_chosen (if_found k) first n = of_test (nat_eq n first)
   where
-    of_test : (b : Bool) → part_of (cond b k (load_of (part_of k))) ≡ part_of k
+    of_test : (b : Bool) → part_of (cond b k (load_kind (part_of k))) ≡ part_of k
     of_test true = refl
     of_test false = part_load (part_of k)
 part_chosen (if_unlocked k) first n = of_test (fields n).locked
   where
-    of_test : (b : Bool) → part_of (cond b (load_of (part_of k)) k) ≡ part_of k
+    of_test : (b : Bool) → part_of (cond b (load_kind (part_of k)) k) ≡ part_of k
     of_test true = part_load (part_of k)
     of_test false = refl
 

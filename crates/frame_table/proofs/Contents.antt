@@ -22,7 +22,7 @@ use Rattle.history_core.specs.State.{State}
 use Rattle.table_rule.specs.declared.value.Value.{Value}
 use Rattle.table_rule.specs.declared.opening.Opening.{Opening}
 use Rattle.table_rule.specs.Layout.{content_place}
-use Rattle.frame_table.specs.Kinds.{FrameKind, pages, part_of, load_of, frame_after, link_after, IsAllowed, IsAllowedAround}
+use Rattle.frame_table.specs.Kinds.{FrameKind, pages, part_of, load_kind, frame_after, link_after, IsAllowed, IsAllowedAround}
 use Rattle.table_rule.specs.Shows.{ShowsFrame, Devices, Shows, RuleHolds}
 use Rattle.frame_table.specs.FrameSteps.{Did, SaysOf, part_place, always, if_found, chosen, tells}
 use Rattle.frame_table.specs.Kinds.{content_word}
@@ -164,9 +164,9 @@ module _ {L G : Type 0} (d : Devices L G) (o : Opening L G) where
       of_test : (t : table.State (Value L G) View) (s : State) → Shows d o t s → Laws s → get_elem? s.pool.core.views id ≡ some me.0
           → Asks (chosen (if_found k) was (get_or t.words (3 * f + 2) 0)) t s f (3 * f + 2) (either (eqb (get_or t.words (3 * f + 2) 0) was) new (get_or t.words (3 * f + 2) 0)) me.0
       of_test t s h laws there = let n : ℕ = get_or t.words (3 * f + 2) 0 in dite (ℕ_discrete n was)
-          (λ hit. subst (λ (b : Bool). Asks (cond b k (load_of (part_of k))) t s f (3 * f + 2) (either b new n) me.0) (sym (eq-eqb n was hit))
+          (λ hit. subst (λ (b : Bool). Asks (cond b k (load_kind (part_of k))) t s f (3 * f + 2) (either b new n) me.0) (sym (eq-eqb n was hit))
           (at_content k t s f new me.0 below h (asked s laws (let e = h.fixed.frames in omega arith) (let e = h.fixed.backends in let q = h.fixed.few_backends in omega arith) there (subst (λ (x : ℕ). SaysOf content_word x (s.pool.core.frame f)) hit (says_content t s f below h)))))
-          (λ miss. subst (λ (b : Bool). Asks (cond b k (load_of (part_of k))) t s f (3 * f + 2) (either b new n) me.0) (sym (ne_eqb n was miss)) (subst (λ p. Asks (load_of p) t s f (3 * f + 2) n me.0) (sym part) (looks_content_at t s f me.0 below h)))
+          (λ miss. subst (λ (b : Bool). Asks (cond b k (load_kind (part_of k))) t s f (3 * f + 2) (either b new n) me.0) (sym (ne_eqb n was miss)) (subst (λ p. Asks (load_kind p) t s f (3 * f + 2) n me.0) (sym part) (looks_content_at t s f me.0 below h)))
 
   pub shares_there : (slots id f was : ℕ) (me : Me (Value L G) View) → f < o.config.frames → me.0.emptied ≡ false → CanLock (link me.0 f) → has_exclusive was ≡ false
       → Allows (RuleHolds d o) slots id me (content_place f) (λ n. either (eqb n was) (was + 1) n) (tells (if_found (pages paged.share)) (step slots (content_place f) was (was + 1) none) me)

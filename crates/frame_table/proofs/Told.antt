@@ -18,7 +18,7 @@ use Rattle.pin_core.proofs.Schedules.{few, own_pins}
 use Rattle.page_core.specs.Kinds as paged
 use Rattle.history_core.specs.State.{State}
 use Rattle.history_core.proofs.Trail.{Lists, pins_list, pages_list}
-use Rattle.frame_table.specs.Kinds.{FrameKind, pins, pages, part_of, load_of, block_of_frame, link_after, view_after}
+use Rattle.frame_table.specs.Kinds.{FrameKind, pins, pages, part_of, load_kind, block_of_frame, link_after, view_after}
 use Rattle.frame_table.specs.Seats.{SameSelf, Grows, Touches, Looked, MayUnpin, loaded_link, pinned_link, unpinned_link, locked_link}
 use Rattle.frame_table.specs.FrameSteps.{Choice, choice_part, part_place, Did, Looks, still, again, Tried, Unpinned, if_found, if_unlocked, chosen, has_locked, looking}
 
@@ -148,16 +148,16 @@ some_pins f found v w d pinned = let a = own_pins d.state.pool.core d.laws.invar
 
 -- the two ends of a compare-exchange, and of locking a header
 pub on_hit : (k : FrameKind) (f was now : ℕ) (v w : View) → Did (chosen (if_found k) was now) f v w now → now ≡ was → Did k f v w was
-on_hit k f was now v w d e = subst (λ (n : ℕ). Did k f v w n) e (subst (λ (b : Bool). Did (cond b k (load_of (part_of k))) f v w now) (eq-eqb now was e) d)
+on_hit k f was now v w d e = subst (λ (n : ℕ). Did k f v w n) e (subst (λ (b : Bool). Did (cond b k (load_kind (part_of k))) f v w now) (eq-eqb now was e) d)
 
-pub on_miss : (k : FrameKind) (f was now : ℕ) (v w : View) → Did (chosen (if_found k) was now) f v w now → now ≢ was → Did (load_of (part_of k)) f v w now
-on_miss k f was now v w d n = subst (λ (b : Bool). Did (cond b k (load_of (part_of k))) f v w now) (ne_eqb now was n) d
+pub on_miss : (k : FrameKind) (f was now : ℕ) (v w : View) → Did (chosen (if_found k) was now) f v w now → now ≢ was → Did (load_kind (part_of k)) f v w now
+on_miss k f was now v w d n = subst (λ (b : Bool). Did (cond b k (load_kind (part_of k))) f v w now) (ne_eqb now was n) d
 
 pub on_unlocked : (k : FrameKind) (f first found : ℕ) (v w : View) → Did (chosen (if_unlocked k) first found) f v w found → has_locked found ≡ false → Did k f v w found
-on_unlocked k f first found v w d e = subst (λ (b : Bool). Did (cond b (load_of (part_of k)) k) f v w found) e d
+on_unlocked k f first found v w d e = subst (λ (b : Bool). Did (cond b (load_kind (part_of k)) k) f v w found) e d
 
-pub on_locked : (k : FrameKind) (f first found : ℕ) (v w : View) → Did (chosen (if_unlocked k) first found) f v w found → has_locked found ≡ true → Did (load_of (part_of k)) f v w found
-on_locked k f first found v w d e = subst (λ (b : Bool). Did (cond b (load_of (part_of k)) k) f v w found) e d
+pub on_locked : (k : FrameKind) (f first found : ℕ) (v w : View) → Did (chosen (if_unlocked k) first found) f v w found → has_locked found ≡ true → Did (load_kind (part_of k)) f v w found
+on_locked k f first found v w d e = subst (λ (b : Bool). Did (cond b (load_kind (part_of k)) k) f v w found) e d
 
 -- loads, one after the other
 pub looks_touch : (f : ℕ) (v w : View) → Looks f v w → Touches f v w
@@ -186,7 +186,7 @@ looks_unpin f v w l a = let e = looks_link f v w l in record { pinned = λ r. a.
 pub tried : (k : FrameKind) → part_of k ≡ part_of looking → (f was now : ℕ) (v u w : View) → Did looking f v u was → Did (chosen (if_found k) was now) f u w now → Tried k f v w (nat_eq now was)
 tried k part f was now v u w first second = dite (ℕ_discrete now was)
     (λ e. subst (Tried k f v w) (sym (eq-eqb now was e)) (u, was, again was still first, on_hit k f was now u w second e))
-    (λ n. subst (Tried k f v w) (sym (ne_eqb now was n)) (again now (again was still first) (subst (λ p. Did (load_of p) f u w now) part (on_miss k f was now u w second n))))
+    (λ n. subst (Tried k f v w) (sym (ne_eqb now was n)) (again now (again was still first) (subst (λ p. Did (load_kind p) f u w now) part (on_miss k f was now u w second n))))
 
 pub tried_after : (k : FrameKind) (f : ℕ) (v u w : View) (b : Bool) → Looks f v u → Tried k f u w b → Tried k f v w b
 tried_after k f v u w true first t = (t.0, t.1, looks_on f v u t.0 first t.2, t.3)

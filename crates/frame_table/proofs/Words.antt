@@ -24,7 +24,7 @@ use Rattle.history_core.specs.State.{State}
 use Rattle.table_rule.specs.declared.value.Value.{Value}
 use Rattle.table_rule.specs.declared.opening.Opening.{Opening}
 use Rattle.table_rule.specs.Layout.{tag_partition, state_place}
-use Rattle.frame_table.specs.Kinds.{FrameKind, pins, part_of, load_of, frame_after, link_after, IsAllowed, IsAllowedAround}
+use Rattle.frame_table.specs.Kinds.{FrameKind, pins, part_of, load_kind, frame_after, link_after, IsAllowed, IsAllowedAround}
 use Rattle.table_rule.specs.Shows.{ShowsFrame, Devices, Shows, RuleHolds}
 use Rattle.frame_table.specs.FrameSteps.{part_place, has_locked, has_tag, always, if_found, if_unlocked, chosen, tells, looking}
 use Rattle.frame_table.proofs.Frames.{Asks}
@@ -102,8 +102,8 @@ module _ {L G : Type 0} (d : Devices L G) (o : Opening L G) where
       of_test : (t : table.State (Value L G) View) (s : State) → Shows d o t s → Laws s → get_elem? s.pool.core.views id ≡ some me.0
           → Asks (chosen (if_found k) was (get_or t.words (3 * f) 0)) t s f (3 * f) (either (eqb (get_or t.words (3 * f) 0) was) new (get_or t.words (3 * f) 0)) me.0
       of_test t s h laws there = let n : ℕ = get_or t.words (3 * f) 0 in dite (ℕ_discrete n was)
-          (λ hit. subst (λ (b : Bool). Asks (cond b k (load_of (part_of k))) t s f (3 * f) (either b new n) me.0) (sym (eq-eqb n was hit)) (at_word k t s f new me.0 below h (asked s laws there h.fixed.partition_of (let e = h.fixed.frames in omega arith) (says t s f below h ∙ ap fields hit))))
-          (λ miss. subst (λ (b : Bool). Asks (cond b k (load_of (part_of k))) t s f (3 * f) (either b new n) me.0) (sym (ne_eqb n was miss)) (subst (λ p. Asks (load_of p) t s f (3 * f) n me.0) (sym part) (looks_at t s f me.0 below h)))
+          (λ hit. subst (λ (b : Bool). Asks (cond b k (load_kind (part_of k))) t s f (3 * f) (either b new n) me.0) (sym (eq-eqb n was hit)) (at_word k t s f new me.0 below h (asked s laws there h.fixed.partition_of (let e = h.fixed.frames in omega arith) (says t s f below h ∙ ap fields hit))))
+          (λ miss. subst (λ (b : Bool). Asks (cond b k (load_kind (part_of k))) t s f (3 * f) (either b new n) me.0) (sym (ne_eqb n was miss)) (subst (λ p. Asks (load_kind p) t s f (3 * f) n me.0) (sym part) (looks_at t s f me.0 below h)))
 
   pub pins_there : (ring : Bool) (slots id f was new : ℕ) (me : Me (Value L G) View) → f < o.config.frames → me.0.emptied ≡ false → (link me.0 f).role ≡ Absent → has_locked was ≡ false → has_tag was ≡ true → fields new ≡ pinned_fields ring (fields was)
       → Allows (RuleHolds d o) slots id me (state_place f) (λ n. either (eqb n was) new n) (tells (if_found (pins (pin.pin ring))) (step slots (state_place f) was new none) me)

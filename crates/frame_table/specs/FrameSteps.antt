@@ -17,7 +17,7 @@ use Rattle.frame_table.specs.declared.pin.TryPin.{TryPin}
 use Rattle.frame_table.specs.declared.pin.TryPin.TheVariants.{Locked, Untagged, Changed}
 use Rattle.table_rule.specs.Blocks.{is_block}
 use Rattle.table_rule.specs.Layout.{state_place, tag_place, content_place, tag_partition}
-use Rattle.frame_table.specs.Kinds.{FrameWord, state_word, tag_word, content_word, FrameKind, pins, part_of, load_of, IsAllowed, IsAllowedAround, view_after}
+use Rattle.frame_table.specs.Kinds.{FrameWord, state_word, tag_word, content_word, FrameKind, pins, part_of, load_kind, IsAllowed, IsAllowedAround, view_after}
 
 abbrev pub has_locked : ℕ → Bool
 has_locked w = (fields w).locked
@@ -64,8 +64,8 @@ pub data Choice : Type 0 where
 
 abbrev pub chosen : Choice → ℕ → ℕ → FrameKind
 chosen (always k) first found = k
-chosen (if_found k) first found = cond (nat_eq found first) k (load_of (part_of k))
-chosen (if_unlocked k) first found = cond (has_locked found) (load_of (part_of k)) k
+chosen (if_found k) first found = cond (nat_eq found first) k (load_kind (part_of k))
+chosen (if_unlocked k) first found = cond (has_locked found) (load_kind (part_of k)) k
 
 -- the word that it is at
 abbrev pub choice_part : Choice → FrameWord

@@ -44,10 +44,10 @@ part_of (pins k) = pin_word k
 part_of (pages k) = page_word k
 
 -- a load of the word
-abbrev pub load_of : FrameWord → FrameKind
-load_of state_word = pins pin.load_state
-load_of tag_word = pins pin.load_tag
-load_of content_word = pages paged.load_content
+abbrev pub load_kind : FrameWord → FrameKind
+load_kind state_word = pins pin.load_state
+load_kind tag_word = pins pin.load_tag
+load_kind content_word = pages paged.load_content
 
 -- what is known of the block of the frame f
 abbrev pub block_of_frame : State → ℕ → Block

@@ -12,7 +12,7 @@ use Rattle.pin_core.specs.State.{Frame, Partition, Page, no_tag, idle}
 use Rattle.pin_core.specs.Tallies as pin_tallies
 use Rattle.pin_core.specs.Invariant.{FrameLaw, HasTag}
 use Rattle.pin_core.specs.Maps.{PairLaw}
-use Rattle.pin_core.specs.Turns.{HoldLaw}
+use Rattle.pin_core.specs.Turns.{PartitionHoldLaw}
 use Rattle.pin_core.specs.Kinds as pin_kinds
 use Rattle.page_core.specs.State.{Block}
 use Rattle.page_core.specs.Tallies.{Tally, sharers, weigh}
@@ -99,7 +99,7 @@ tag_goes pin_kinds.assign fr l t c a e = absurd (e refl)
 tag_goes pin_kinds.clear fr l t c a e = absurd (e refl)
 
 -- no frame has a tag that the map lacks, where no pair is in change
-pub lacked : (pt : Partition) (x : PartitionHold) (word tag f : ℕ) → HoldLaw pt x → PairLaw (pt.map tag) pt.owed word tag f → x.held ≡ true → x.changed ≡ false → x.change ≡ NoChange → pt.map tag ≡ None → word ≢ tag
+pub lacked : (pt : Partition) (x : PartitionHold) (word tag f : ℕ) → PartitionHoldLaw pt x → PairLaw (pt.map tag) pt.owed word tag f → x.held ≡ true → x.changed ≡ false → x.change ≡ NoChange → pt.map tag ≡ None → word ≢ tag
 lacked pt x word tag f h p held unchanged settled lacks e = grind (arith, h, p, held, unchanged, settled, lacks, e)
 
 -- under an output right the frame's page is the block's page after the log, where that is known

@@ -14,14 +14,14 @@ use Rattle.history_core.specs.State.{Lane}
 use Rattle.history_core.specs.Lanes as lanes
 use Rattle.history_core.specs.Lanes.{LaneKind, LaneAllowed, lane_after, lane_hold_after, lane_met_by, fault_of, is_failed_read, is_failed_write, LaneLink, LaneColumn, Rises}
 use Rattle.history_core.specs.Device.{HasRisen}
-use Rattle.history_core.specs.Counts.{Known, CountTally, holders, failed_reads, failed_writes, unfailed, count_weigh, CountLaw, LaneCounts, HoldCounts, count_shape, lane_part, count_part}
+use Rattle.history_core.specs.Counts.{Known, CountTally, holders, failed_reads, failed_writes, unfailed, count_weigh, CountLaw, LaneCounts, HoldCounts, count_shape, counted_lane_part, count_part}
 use Rattle.history_core.proofs.Device.{risen_least, risen}
 use Rattle.grid.specs.Shape.{Part, put}
 use Rattle.grid.proofs.Lists.{put_at, put_else}
 use Rattle.grid.proofs.Grids.{Keeps, both}
 
 abbrev pub known : Part count_shape
-known = both lane_part count_part
+known = both counted_lane_part count_part
 
 -- what is known after the views counted d besides
 abbrev pub more : Known → FailedCalls → Known

@@ -10,7 +10,7 @@ use Rattle.pin_core.specs.declared.view.TakenLane.{TakenLane}
 use Rattle.pin_core.specs.declared.view.LaneHold.{LaneHold}
 use Rattle.pin_core.specs.State.{Page, no_lane}
 use Rattle.history_core.specs.State.{Lane}
-use Rattle.history_core.specs.Lanes.{LaneKind, take_lane, leave_lane, lane_out, read_block, fail_read, write_block, fail_write, sync_lane, fail_sync, lane_back, LaneAllowed, lane_after, lane_hold_after, is_failed_read, is_failed_write, LaneTally, holders, LaneColumn, HoldLaw, LaneLink, lane_shape, lane_part}
+use Rattle.history_core.specs.Lanes.{LaneKind, take_lane, leave_lane, lane_out, read_block, fail_read, write_block, fail_write, sync_lane, fail_sync, lane_back, LaneAllowed, lane_after, lane_hold_after, is_failed_read, is_failed_write, LaneTally, holders, LaneColumn, LaneHoldLaw, LaneLink, lane_shape, lane_part}
 use Rattle.grid.proofs.Lists.{put_here}
 use Rattle.grid.proofs.Grids.{Keeps}
 
@@ -23,12 +23,12 @@ abbrev pub Keeps_by : LaneKind → ℕ → ℕ → ℕ → Lane → LaneHold →
 Keeps_by k loaded swept flushed ln h = Keeps lane_shape lane_part lane_part flushed flushed tt tt ln h (lane_after k ln) (lane_hold_after k loaded swept h)
 
 -- only one view has the lane out
-alone : (flushed : ℕ) (ln : Lane) (h m : LaneHold) (t : LaneTally → ℕ) → LaneColumn ln t → HoldLaw flushed ln h → HoldLaw flushed ln m → flag_weight h.held + flag_weight m.held ≤ t holders → h.out ≢ None → m.out ≡ None
+alone : (flushed : ℕ) (ln : Lane) (h m : LaneHold) (t : LaneTally → ℕ) → LaneColumn ln t → LaneHoldLaw flushed ln h → LaneHoldLaw flushed ln m → flag_weight h.held + flag_weight m.held ≤ t holders → h.out ≢ None → m.out ≡ None
 alone flushed ln h m t q c d le o = grind (arith, q, c, d, le, o)
 
 module _ (loaded swept flushed : ℕ) (ln : Lane) (h : LaneHold) (low : loaded ≤ flushed) where
   -- a view that hasn't the lane out is as before, whatever the lane is
-  resting : (ln' : Lane) (m : LaneHold) → HoldLaw flushed ln m → m.out ≡ None → LaneLink flushed ln' m
+  resting : (ln' : Lane) (m : LaneHold) → LaneHoldLaw flushed ln m → m.out ≡ None → LaneLink flushed ln' m
   resting ln' m d e = record { hold = grind (arith, d, e); counts = λ taken o. absurd (cc); blocks = λ taken blocks k b o. absurd (cc) }
 
   take_lane_keeps : LaneAllowed take_lane ln h → Keeps_by take_lane loaded swept flushed ln h

@@ -19,7 +19,7 @@ use Rattle.pin_core.specs.declared.view.Seen.TheVariants as seen
 use Rattle.pin_core.specs.State.{lane_hold, no_lane}
 use Rattle.page_core.specs.Steps as page_steps
 use Rattle.page_core.specs.Steps.{HasNoWriteOut}
-use Rattle.page_core.specs.Sample.{sample_page, sample_entry}
+use Rattle.page_core.specs.Sample.{example_page, sample_entry}
 use Rattle.history_core.specs.State.{State}
 use Rattle.history_core.specs.Lanes.{LaneKind, take_lane, leave_lane, lane_out, read_block, lane_back, CanTakeOut, lane_after}
 use Rattle.history_core.specs.Steps.{Event, aside, pool_after, stepped, looked, laned, has_read, pools, lanes, notes, reads, Run, rests, goes}
@@ -101,10 +101,10 @@ abbrev pub m14 : State
 m14 = at_lane (lane_out sample_lane) m13
 
 abbrev m15 : State
-m15 = at_lane (read_block 7 sample_page) m14
+m15 = at_lane (read_block 7 example_page) m14
 
 abbrev m16 : State
-m16 = noted (note_read sample_page) m15
+m16 = noted (note_read example_page) m15
 
 abbrev m17 : State
 m17 = at_lane leave_lane m16
@@ -113,7 +113,7 @@ abbrev m18 : State
 m18 = paged page_out m17
 
 abbrev m19 : State
-m19 = paged (overwrite_read sample_page) m18
+m19 = paged (overwrite_read example_page) m18
 
 abbrev m20 : State
 m20 = paged page_back m19
@@ -180,11 +180,11 @@ begun = goes (pools (page_steps.cores (pin_steps.turns 0 0 take_turn (view_of m0
 pub filled : Run (miss ++ fill) miss_start m22
 filled = run_append begun (goes (lanes 0 0 take_lane (view_of m12) refl refl (lit< tt) (record { free = refl }) tt)
     (goes (lanes 0 0 (lane_out sample_lane) (view_of m13) refl refl (lit< tt) goes_out tt)
-    (goes (lanes 0 0 (read_block 7 sample_page) (view_of m14) refl refl (lit< tt) (record { call = record { out = λ e. cc; once = refl }; given = λ e. refl }) refl)
-    (goes (notes 0 0 0 false (note_read sample_page) (view_of m15) refl refl (lit< tt) (lit< tt) (record { out = λ e. cc; counts = λ taken e. record { failed = λ z. absurd (cc); all = λ z. absurd (cc); read_rose = λ z. below taken.read_faults z; write_rose = λ z. below taken.write_faults z } }) (record { was_read = refl; lane = refl; right = refl; fresh = refl }))
+    (goes (lanes 0 0 (read_block 7 example_page) (view_of m14) refl refl (lit< tt) (record { call = record { out = λ e. cc; once = refl }; given = λ e. refl }) refl)
+    (goes (notes 0 0 0 false (note_read example_page) (view_of m15) refl refl (lit< tt) (lit< tt) (record { out = λ e. cc; counts = λ taken e. record { failed = λ z. absurd (cc); all = λ z. absurd (cc); read_rose = λ z. below taken.read_faults z; write_rose = λ z. below taken.write_faults z } }) (record { was_read = refl; lane = refl; right = refl; fresh = refl }))
     (goes (lanes 0 0 leave_lane (view_of m16) refl refl (lit< tt) (record { held = refl; home = refl }) tt)
     (goes (pools (page_steps.touches 0 0 page_out (view_of m17) refl refl (lit< tt) (record { page_home = refl; shared = λ e. absurd (cc); unlocked = λ e. refl }) tt) tt)
-    (goes (pools (page_steps.touches 0 0 (overwrite_read sample_page) (view_of m18) refl refl (lit< tt) (record { out = λ e. cc; once = refl; right = refl; read = refl }) tt) tt)
+    (goes (pools (page_steps.touches 0 0 (overwrite_read example_page) (view_of m18) refl refl (lit< tt) (record { out = λ e. cc; once = refl; right = refl; read = refl }) tt) tt)
     (goes (pools (page_steps.touches 0 0 page_back (view_of m19) refl refl (lit< tt) (record { out = λ e. cc }) tt) tt)
     (goes (pools (page_steps.cores (pin_steps.touches 0 0 pins.lock_header (view_of m20) refl refl (lit< tt) (record { unlocked = refl }) (at_frame (λ (l : Link). l.header ≡ None) (view_of m20) _ refl refl refl))) tt)
     (goes (pools (page_steps.touches 0 0 (end_io ReadOk) (view_of m21) refl refl (lit< tt) (record { held = refl; page_home = λ e. refl; ends = record { right = refl; read = λ e. cc; sound = sound_read; home = refl } }) no_write) tt)
@@ -192,13 +192,13 @@ filled = run_append begun (goes (lanes 0 0 take_lane (view_of m12) refl refl (li
 
 pub misses : MissRuns
 misses = (
-  record m28 { pool = aside m28.pool 0 (looked (seen.LogEnd m28.end) (has_read m28.end 7 sample_page (view_of m28))) },
+  record m28 { pool = aside m28.pool 0 (looked (seen.LogEnd m28.end) (has_read m28.end 7 example_page (view_of m28))) },
   run_append filled (goes (pools (page_steps.touches 0 0 share (view_of m22) refl refl (lit< tt) (record { pinned = λ e. cc; seen = refl; none = refl; free = refl }) tt) tt)
       (goes (pools (page_steps.touches 0 0 take_copy (view_of m24) refl refl (lit< tt) (record { right = refl; free = refl }) tt) tt)
       (goes (pools (page_steps.touches 0 0 page_out (view_of m25) refl refl (lit< tt) (record { page_home = refl; shared = λ e. refl; unlocked = λ e. absurd (cc) }) tt) tt)
       (goes (pools (page_steps.touches 0 0 page_back (view_of m26) refl refl (lit< tt) (record { out = λ e. cc }) tt) tt)
       (goes (pools (page_steps.touches 0 0 leave_copy (view_of m27) refl refl (lit< tt) (record { right = refl; page_home = refl }) tt) tt)
-      (goes (reads 0 0 7 sample_page (view_of m28) refl refl (lit< tt) (record { right = λ e. cc; copied = refl; settled = refl; remembered = refl }))
+      (goes (reads 0 0 7 example_page (view_of m28) refl refl (lit< tt) (record { right = λ e. cc; copied = refl; settled = refl; remembered = refl }))
       rests)))))),
   record { held = refl; called = (_, refl, refl, refl) },
 )

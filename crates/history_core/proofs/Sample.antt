@@ -10,7 +10,7 @@ use Rattle.history_core.specs.State.{State}
 use Rattle.history_core.specs.Lanes.{LaneKind, take_lane, leave_lane, lane_out, read_block, lane_back, CanTakeOut, lane_after}
 use Rattle.history_core.specs.Device.{LogKind, take_log, leave_log, log_out, sync_log, log_back, device_after, view_logged}
 use Rattle.history_core.specs.Steps.{aside, stepped, looked, laned, rests, goes, lanes, logs, raises, loads_flushed, loads_end, has_raised}
-use Rattle.history_core.specs.Sample.{sample_page, sample_start, sample_lane, sample_log, SampleRuns}
+use Rattle.history_core.specs.Sample.{short_page, sample_start, sample_lane, sample_log, SampleRuns}
 use Rattle.grid.specs.Shape.{put}
 
 abbrev view_of : State → View
@@ -29,7 +29,7 @@ abbrev s2 : State
 s2 = at_lane (lane_out sample_lane) s1
 
 abbrev s3 : State
-s3 = at_lane (read_block 7 sample_page) s2
+s3 = at_lane (read_block 7 short_page) s2
 
 abbrev s4 : State
 s4 = at_lane (lane_back false) s3
@@ -70,7 +70,7 @@ sample = (
     record s12 { pool = aside s12.pool 0 (looked (seen.LogEnd s12.end) (view_of s12)) },
     (goes (lanes 0 0 take_lane (view_of sample_start) refl refl (lit< tt) (record { free = refl }) tt)
         (goes (lanes 0 0 (lane_out sample_lane) (view_of s1) refl refl (lit< tt) goes_out tt)
-        (goes (lanes 0 0 (read_block 7 sample_page) (view_of s2) refl refl (lit< tt) (record { call = record { out = λ e. cc; once = refl }; given = λ e. refl }) refl)
+        (goes (lanes 0 0 (read_block 7 short_page) (view_of s2) refl refl (lit< tt) (record { call = record { out = λ e. cc; once = refl }; given = λ e. refl }) refl)
         (goes (lanes 0 0 (lane_back false) (view_of s3) refl refl (lit< tt) (record { out = λ e. cc; counts = λ taken e. record { failed = λ z. absurd (cc); all = λ z. absurd (cc); read_rose = λ z. absurd (grind (arith, e, z)); write_rose = λ z. absurd (grind (arith, e, z)) } }) tt)
         (goes (lanes 0 0 leave_lane (view_of s4) refl refl (lit< tt) (record { held = refl; home = refl }) tt)
         rests))))),

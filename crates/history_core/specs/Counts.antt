@@ -43,8 +43,8 @@ abbrev pub count_shape : Shape
 count_shape = record { Column = Lane; Link = LaneHold; View = View; Tally = CountTally; Block = Known; Own = Unit {0}; weigh = count_weigh; link = lane_hold; own = λ _. tt; spot = λ _. 0 }
 
 -- the law of lanes, in this grid
-abbrev pub lane_part : Part count_shape
-lane_part = record { column = λ _ ln t. LaneColumn ln (λ _. t holders); cell = λ k ln _ h. LaneLink k.flushed ln h }
+abbrev pub counted_lane_part : Part count_shape
+counted_lane_part = record { column = λ _ ln t. LaneColumn ln (λ _. t holders); cell = λ k ln _ h. LaneLink k.flushed ln h }
 
 -- A count of a device, from what it was at the start to what it is now, where `out` views have a failed call of it out, and `met` faults are counted
 pub record CountLaw (start now out met : ℕ) : Type 0 where

@@ -205,7 +205,7 @@ pub record CountsOut (taken : TakenLane) (ln : Lane) (change : LaneChange) : Typ
   pub write_failed : is_failed_write change ≡ true → Rises taken.write_faults ln.write_faults
 
 -- What holds of a lane's pages and of what a view has of its latch, where the log is flushed up to `flushed`
-pub record HoldLaw (flushed : ℕ) (ln : Lane) (h : LaneHold) : Type 0 where
+pub record LaneHoldLaw (flushed : ℕ) (ln : Lane) (h : LaneHold) : Type 0 where
   -- a view without the latch doesn't have the lane
   pub resting : h.held ≡ false → h.out ≡ None
   -- a call is noted only while the lane is out
@@ -220,7 +220,7 @@ pub record HoldLaw (flushed : ℕ) (ln : Lane) (h : LaneHold) : Type 0 where
 
 -- and of its counts
 pub record LaneLink (flushed : ℕ) (ln : Lane) (h : LaneHold) : Type 0 where
-  pub hold : HoldLaw flushed ln h
+  pub hold : LaneHoldLaw flushed ln h
   pub counts : (taken : TakenLane) → h.out ≡ Some taken → CountsOut taken ln h.change
   -- until the holder's call its blocks are as they were when it went out
   pub blocks : (taken : TakenLane) (blocks : List BlockPage) (k : ℕ) (b : BlockPage) → h.out ≡ Some taken → h.change ≡ Untouched → taken.pages ≡ Some blocks → get_elem? blocks k ≡ some b → IsBlockPage ln b

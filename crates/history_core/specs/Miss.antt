@@ -10,7 +10,7 @@ use Rattle.pin_core.specs.Turns.{TurnKind, take_turn, leave_turn, map_out, chang
 use Rattle.pin_core.specs.Steps as pin_steps
 use Rattle.page_core.specs.Kinds.{Kind, start_input, note_read, page_out, overwrite_read, page_back, end_io, share, take_copy, leave_copy}
 use Rattle.page_core.specs.Steps as page_steps
-use Rattle.page_core.specs.Sample.{sample_page, sample_entry}
+use Rattle.page_core.specs.Sample.{example_page, sample_entry}
 use Rattle.history_core.specs.State.{State, opening}
 use Rattle.history_core.specs.Lanes.{take_lane, leave_lane, lane_out, read_block, lane_back}
 use Rattle.history_core.specs.Steps as steps
@@ -19,7 +19,7 @@ use Rattle.history_core.specs.Sample.{sample_config, sample_store, sample_lane}
 
 -- the lane holds a sound page for each block
 abbrev pub miss_start : State
-miss_start = opening sample_config (record sample_store { origin = λ _. sample_page }) []
+miss_start = opening sample_config (record sample_store { origin = λ _. example_page }) []
 
 -- a step of backend i at the one frame
 abbrev pub pool_by : ℕ → pins.Kind → Event
@@ -48,7 +48,7 @@ begin_input = pool pins.lock_header ∷ page start_input ∷ []
 
 -- the block is read from its lane, and its page put into the frame
 abbrev pub fill : List Event
-fill = begin_input ++ steps.lane 0 0 take_lane ∷ steps.lane 0 0 (lane_out sample_lane) ∷ steps.lane 0 0 (read_block 7 sample_page) ∷ steps.note 0 0 0 (lane_back false) (note_read sample_page) ∷ steps.lane 0 0 leave_lane ∷ page page_out ∷ page (overwrite_read sample_page) ∷ page page_back ∷ pool pins.lock_header ∷ page (end_io ReadOk) ∷ []
+fill = begin_input ++ steps.lane 0 0 take_lane ∷ steps.lane 0 0 (lane_out sample_lane) ∷ steps.lane 0 0 (read_block 7 example_page) ∷ steps.note 0 0 0 (lane_back false) (note_read example_page) ∷ steps.lane 0 0 leave_lane ∷ page page_out ∷ page (overwrite_read example_page) ∷ page page_back ∷ pool pins.lock_header ∷ page (end_io ReadOk) ∷ []
 
 -- the page is copied under the shared content lock, and the read gets its place
 abbrev pub copy : List Event
@@ -56,8 +56,8 @@ copy = page share ∷ page take_copy ∷ page page_out ∷ page page_back ∷ pa
 
 -- the frame holds the block's page, and the backend's one call is the read of it, at the log's base
 pub record HasRead (t : State) : Type 0 where
-  pub held : (t.pool.core.frame 0).page ≡ sample_page
-  pub called : (v : View) × (get_elem? t.pool.core.views 0 ≡ some v) × (v.calls ≡ Read 0 7 sample_page 0 ∷ []) × (v.front ≡ 0)
+  pub held : (t.pool.core.frame 0).page ≡ example_page
+  pub called : (v : View) × (get_elem? t.pool.core.views 0 ≡ some v) × (v.calls ≡ Read 0 7 example_page 0 ∷ []) × (v.front ≡ 0)
 
 abbrev pub MissRuns : Type 0
 MissRuns = (t : State) × Run (miss ++ fill ++ copy) miss_start t × HasRead t

@@ -14,14 +14,14 @@ abbrev pub sample_config : Config
 sample_config = record { frames = 1; partitions = 1; partition_of = λ _. 0; is_block = λ _. true; lanes = 1; backends = 2; base = 0 }
 
 -- the lane holds a page of three bytes for each block; nothing of the log's head is durable
-abbrev pub sample_page : Page
-sample_page = 1 ∷ 2 ∷ 3 ∷ []
+abbrev pub short_page : Page
+short_page = 1 ∷ 2 ∷ 3 ∷ []
 
 abbrev pub sample_store : Store
 sample_store = record {
   lane_of = λ _. 0;
   known = λ _. true;
-  origin = λ _. sample_page;
+  origin = λ _. short_page;
   names = λ _. 0 ∷ 0 ∷ 0 ∷ 0 ∷ 0 ∷ 0 ∷ 0 ∷ 0 ∷ 0 ∷ 0 ∷ 0 ∷ 0 ∷ 0 ∷ 0 ∷ 0 ∷ 0 ∷ 0 ∷ 0 ∷ 0 ∷ 0 ∷ [];
   read_faults = λ _. 0;
   write_faults = λ _. 0;
@@ -40,7 +40,7 @@ sample_log = record { bytes = Some (head_bytes 0); synced = 0; faults = 0; calls
 
 -- the block 7 is read from the lane
 abbrev pub read_lane : List Event
-read_lane = lane 0 0 take_lane ∷ lane 0 0 (lane_out sample_lane) ∷ lane 0 0 (read_block 7 sample_page) ∷ lane 0 0 (lane_back false) ∷ lane 0 0 leave_lane ∷ []
+read_lane = lane 0 0 take_lane ∷ lane 0 0 (lane_out sample_lane) ∷ lane 0 0 (read_block 7 short_page) ∷ lane 0 0 (lane_back false) ∷ lane 0 0 leave_lane ∷ []
 
 -- the log is made durable, and the flushed position raised
 abbrev pub flush_log : List Event

@@ -17,7 +17,7 @@ use Rattle.page_layout.specs.Soundness.{is_new_page, is_sound_page}
 use Rattle.page_core.specs.State.{State}
 use Rattle.page_core.specs.Kinds.{Kind, start_input, note_read, page_out, overwrite_read, page_back, end_io, share, exclude, take_copy, leave_copy, unshare, unexclude, set_waiter, clear_waiter}
 use Rattle.page_core.specs.Steps.{Event, state_after, HasNoWriteOut, Run, rests, goes, cores, touches}
-use Rattle.page_core.specs.Sample.{sample_start, sample_page, sample_entry, miss, read, SampleRuns, CleanupRuns}
+use Rattle.page_core.specs.Sample.{sample_start, example_page, sample_entry, miss, read, SampleRuns, CleanupRuns}
 
 abbrev view_of : State → View
 view_of s = slice_index_or s.core.views 0 emptied_view
@@ -53,12 +53,12 @@ left_out = λ k tag. gone (nat_eq tag 7) k
 same_page : (p q : Page) → Some p ≡ Some q → q ≡ p
 same_page p q e = cc
 
-sound_sample : is_sound_page sample_page ≡ true
+sound_sample : is_sound_page example_page ≡ true
 unfolding is_sound_page is_new_page header_of lsn_of
 sound_sample = refl
 
-pub sound_read : (p : Page) → Some sample_page ≡ Some p → is_sound_page p ≡ true
-sound_read p e = subst (λ (x : Page). is_sound_page x ≡ true) (sym (same_page sample_page p e)) sound_sample
+pub sound_read : (p : Page) → Some example_page ≡ Some p → is_sound_page p ≡ true
+sound_read p e = subst (λ (x : Page). is_sound_page x ≡ true) (sym (same_page example_page p e)) sound_sample
 
 abbrev s1 : State
 s1 = turned take_turn sample_start
@@ -97,13 +97,13 @@ abbrev s12 : State
 s12 = paged start_input s11
 
 abbrev s13 : State
-s13 = paged (note_read sample_page) s12
+s13 = paged (note_read example_page) s12
 
 abbrev s14 : State
 s14 = paged page_out s13
 
 abbrev s15 : State
-s15 = paged (overwrite_read sample_page) s14
+s15 = paged (overwrite_read example_page) s14
 
 abbrev s16 : State
 s16 = paged page_back s15
@@ -189,9 +189,9 @@ read_in = goes (cores (pin_steps.turns 0 0 take_turn (view_of sample_start) refl
     (goes (cores (pin_steps.turns 0 0 leave_turn (view_of s9) refl refl (lit< tt) (record { held = refl; home = refl; settled = refl })))
     (goes (cores (pin_steps.touches 0 0 pins.lock_header (view_of s10) refl refl (lit< tt) (record { unlocked = refl }) (at_frame (λ (l : Link). l.header ≡ None) (view_of s10) _ refl refl refl)))
     (goes (touches 0 0 start_input (view_of s11) refl refl (lit< tt) (record { held = refl; settled = refl; pinned = λ e. cc; clear = refl; tagged = refl; invalid = refl }) (at_frame (λ (l : Link). l.io ≡ Quiet) (view_of s11) _ refl refl refl))
-    (goes (touches 0 0 (note_read sample_page) (view_of s12) refl refl (lit< tt) (record { right = refl; fresh = refl; given = same_page sample_page }) tt)
+    (goes (touches 0 0 (note_read example_page) (view_of s12) refl refl (lit< tt) (record { right = refl; fresh = refl; given = same_page example_page }) tt)
     (goes (touches 0 0 page_out (view_of s13) refl refl (lit< tt) (record { page_home = refl; shared = λ e. absurd (cc); unlocked = λ e. refl }) tt)
-    (goes (touches 0 0 (overwrite_read sample_page) (view_of s14) refl refl (lit< tt) (record { out = λ e. cc; once = refl; right = refl; read = refl }) tt)
+    (goes (touches 0 0 (overwrite_read example_page) (view_of s14) refl refl (lit< tt) (record { out = λ e. cc; once = refl; right = refl; read = refl }) tt)
     (goes (touches 0 0 page_back (view_of s15) refl refl (lit< tt) (record { out = λ e. cc }) tt)
     (goes (cores (pin_steps.touches 0 0 pins.lock_header (view_of s16) refl refl (lit< tt) (record { unlocked = refl }) (at_frame (λ (l : Link). l.header ≡ None) (view_of s16) _ refl refl refl)))
     (goes (touches 0 0 (end_io ReadOk) (view_of s17) refl refl (lit< tt) (record { held = refl; page_home = λ e. refl; ends = record { right = refl; read = λ e. cc; sound = sound_read; home = refl } }) no_lanes)

@@ -20,11 +20,11 @@ abbrev pub sample_config : Config
 sample_config = record { frames = 1; partitions = 1; partition_of = λ _. 0; is_block = λ _. true; lanes = 0; backends = 2; base = 0 }
 
 -- the page that the lane holds for each block, as far as its header goes: no flags, the line pointers end at 24, and items and special space begin at 8192
-abbrev pub sample_page : Page
-sample_page = 0 ∷ 0 ∷ 0 ∷ 0 ∷ 0 ∷ 0 ∷ 0 ∷ 0 ∷ 0 ∷ 0 ∷ 0 ∷ 0 ∷ 24 ∷ 0 ∷ 0 ∷ 32 ∷ 0 ∷ 32 ∷ 4 ∷ 32 ∷ 0 ∷ 0 ∷ 0 ∷ 0 ∷ []
+abbrev pub example_page : Page
+example_page = 0 ∷ 0 ∷ 0 ∷ 0 ∷ 0 ∷ 0 ∷ 0 ∷ 0 ∷ 0 ∷ 0 ∷ 0 ∷ 0 ∷ 24 ∷ 0 ∷ 0 ∷ 32 ∷ 0 ∷ 32 ∷ 4 ∷ 32 ∷ 0 ∷ 0 ∷ 0 ∷ 0 ∷ []
 
 abbrev pub sample_start : State
-sample_start = opening sample_config (λ _. Some sample_page) []
+sample_start = opening sample_config (λ _. Some example_page) []
 
 abbrev pub sample_entry : MapEntry
 sample_entry = record { tag = 7; frame = 0 }
@@ -55,7 +55,7 @@ miss = turn take_turn ∷ pool pins.lock_header ∷ pool pins.pin_victim ∷ poo
 
 -- the block's page is read into it
 abbrev pub read : List Event
-read = pool pins.lock_header ∷ page start_input ∷ page (note_read sample_page) ∷ page page_out ∷ page (overwrite_read sample_page) ∷ page page_back ∷ pool pins.lock_header ∷ page (end_io ReadOk) ∷ []
+read = pool pins.lock_header ∷ page start_input ∷ page (note_read example_page) ∷ page page_out ∷ page (overwrite_read example_page) ∷ page page_back ∷ pool pins.lock_header ∷ page (end_io ReadOk) ∷ []
 
 -- and copied under the shared content lock
 abbrev pub copy : List Event
@@ -70,11 +70,11 @@ pub record Copied (t : State) : Type 0 where
   -- the frame has the tag, is valid, and holds the block's page
   pub tag : (t.core.frame 0).tag ≡ 7
   pub word : (t.core.frame 0).word ≡ record zero_word { pins = 1; usage = 1; valid = true; tag_valid = true; permanent = true }
-  pub held : (t.core.frame 0).page ≡ sample_page
+  pub held : (t.core.frame 0).page ≡ example_page
   -- one backend shares its content lock
   pub shared : (t.core.frame 0).sharers ≡ 1
   -- and notes the page as the copy that it made
-  pub noted : (v : View) × (get_elem? t.core.views 0 ≡ some v) × ((link v 0).role ≡ HandedOut) × ((link v 0).copied ≡ Some sample_page)
+  pub noted : (v : View) × (get_elem? t.core.views 0 ≡ some v) × ((link v 0).role ≡ HandedOut) × ((link v 0).copied ≡ Some example_page)
 
 -- After the eviction the frame has no tag and no pin, and the map lacks the block
 pub record Evicted (t : State) : Type 0 where

@@ -7,7 +7,7 @@ use Rattle.pin_core.specs.Tallies.{Tally, pins, headers, pendings, settled_pins,
 use Rattle.pin_core.specs.Invariant.{FrameLaw, LinkLaw, live_weight, PinInvariant}
 use Rattle.pin_core.specs.declared.view.MapChange.TheVariants.{NoChange}
 use Rattle.pin_core.specs.Maps.{PairLaw}
-use Rattle.pin_core.specs.Turns.{TurnTally, holders, TurnLaw, HoldLaw, turn_shape}
+use Rattle.pin_core.specs.Turns.{TurnTally, holders, TurnLaw, PartitionHoldLaw, turn_shape}
 use Rattle.grid.specs.Shape.{tallies, total}
 use Rattle.grid.proofs.Lists.{at_only}
 use Rattle.pin_core.proofs.Stepping.{new_none, new_link, new_unheld, new_hold}
@@ -41,7 +41,7 @@ opens c page can = let base = c.base in let n = c.frames in let p = c.partitions
   };
   turns = record {
     columns = λ q below. empty_turn_law (tallies turn_shape (w ∷ []) q) (no_holders base n p m q);
-    cells = λ i v q there below. subst (λ (x : View). HoldLaw empty_partition (hold x q)) (at_only w v i there).0 (new_hold 0 base n p m q empty_partition);
+    cells = λ i v q there below. subst (λ (x : View). PartitionHoldLaw empty_partition (hold x q)) (at_only w v i there).0 (new_hold 0 base n p m q empty_partition);
   };
   apart = λ f g x y named same. absurd (named refl);
   blocks = λ f below named. absurd (named refl);

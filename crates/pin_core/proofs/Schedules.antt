@@ -16,7 +16,7 @@ use Rattle.pin_core.specs.Tallies.{Tally, pins, headers, weigh, pin_weight, some
 use Rattle.pin_core.specs.Invariant.{FrameLaw, HasTag, TagsAgree, PinInvariant}
 use Rattle.pin_core.specs.Kinds.{Kind, load_state, pin, pin_mapped, unpin, lock_header, unlock_header, store_tag, erase_tag, load_tag, pin_victim, lower_usage, assign, clear, Allowed, frame_after, link_after, view_after}
 use Rattle.pin_core.specs.Steps.{HoldsNothing, state_after, Event, at, Step, touches, turns, splits, joins, Run, rests, goes}
-use Rattle.pin_core.specs.Turns.{TurnTally, view_turned, TurnLaw, HoldLaw, turn_shape}
+use Rattle.pin_core.specs.Turns.{TurnTally, view_turned, TurnLaw, PartitionHoldLaw, turn_shape}
 use Rattle.pin_core.specs.Turns.{holders as turn_holders}
 use Rattle.pin_core.specs.Maps.{PairLaw}
 use Rattle.pin_core.specs.declared.view.MapChange.{MapChange}
@@ -130,7 +130,7 @@ module _ (s : State) (h : PinInvariant s) where
   maps_seen i p v entries there below = (h.turns.cells i v p there below).seen entries
 
   -- beside the holder of a latch no view has the map out
-  out_alone : (pt : Partition) (x y : PartitionHold) (t : TurnTally → ℕ) → TurnLaw pt t → HoldLaw pt y → flag_weight x.held + flag_weight y.held ≤ t turn_holders → x.held ≡ true → y.out ≡ None
+  out_alone : (pt : Partition) (x y : PartitionHold) (t : TurnTally → ℕ) → TurnLaw pt t → PartitionHoldLaw pt y → flag_weight x.held + flag_weight y.held ≤ t turn_holders → x.held ≡ true → y.out ≡ None
   out_alone pt x y t q c le held = grind (arith, q, c, le, held)
 
   pub maps_home : MapsAreHome s

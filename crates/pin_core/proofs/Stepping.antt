@@ -13,7 +13,7 @@ use Rattle.pin_core.specs.State.{Frame, Partition, State, no_tag, idle, link, no
 use Rattle.pin_core.specs.Tallies.{Tally, pins, headers, pendings, settled_pins, settled_headers, weigh, flag_weight, frame_shape}
 use Rattle.pin_core.specs.Invariant.{FrameLaw, LinkLaw, TagsAreBlocks, pin_part, PinInvariant}
 use Rattle.pin_core.specs.Maps.{PairLaw, MapLaw}
-use Rattle.pin_core.specs.Turns.{TurnKind, change_map, take_turn, leave_turn, map_out, map_back, TurnAllowed, partition_after, hold_after, view_turned, HoldLaw, turn_shape, turn_part}
+use Rattle.pin_core.specs.Turns.{TurnKind, change_map, take_turn, leave_turn, map_out, map_back, TurnAllowed, partition_after, hold_after, view_turned, PartitionHoldLaw, turn_shape, turn_part}
 use Rattle.pin_core.specs.Kinds.{Kind, store_tag, erase_tag, pin_mapped, CanStoreTag, Allowed, frame_after, link_after, view_after}
 use Rattle.pin_core.specs.Steps.{AllowedAround, Event, HoldsNothingAt, HoldsNothing, state_after, state_turned, Step, touches, turns, splits, joins, Run, rests, goes}
 use Rattle.grid.specs.Shape.{Grid, put, tallies}
@@ -101,7 +101,7 @@ module _ (s : State) (h : PinInvariant s) (i f : ℕ) (v : View) (there : get_el
   unowed : (p : ℕ) → p < s.partitions → (hold v p).held ≡ true → (hold v p).change ≡ NoChange → owed p ≡ NoChange
   unowed p below held settled = settled_owes (s.partition p) (hold v p) (h.turns.cells i v p there below) held settled
     where
-      settled_owes : (pt : Partition) (x : PartitionHold) → HoldLaw pt x → x.held ≡ true → x.change ≡ NoChange → pt.owed ≡ NoChange
+      settled_owes : (pt : Partition) (x : PartitionHold) → PartitionHoldLaw pt x → x.held ≡ true → x.change ≡ NoChange → pt.owed ≡ NoChange
       settled_owes pt x c held settled = grind (arith, c, held, settled)
 
   -- a kind that names the pair c of the partition p, after which the maps are exact
@@ -171,7 +171,7 @@ module _ (s : State) (h : PinInvariant s) (i p : ℕ) (v : View) (there : get_el
       (λ q e. ap (λ (y : Partition). y.map) ((puts s.partition p x q).same e)) (λ q o. ap (λ (y : Partition). y.map) ((puts s.partition p x q).other o))
       (λ q e. ap (λ (y : Partition). y.owed) ((puts s.partition p x q).same e)) (λ q o. ap (λ (y : Partition). y.owed) ((puts s.partition p x q).other o))
     where
-      owes : (pt : Partition) (y : PartitionHold) → HoldLaw pt y → TurnAllowed change_map pt y → pt.owed ≡ y.change
+      owes : (pt : Partition) (y : PartitionHold) → PartitionHoldLaw pt y → TurnAllowed change_map pt y → pt.owed ≡ y.change
       owes pt y c a = grind (arith, c, a)
 
   pub turn_step_keeps : (k : TurnKind) → TurnAllowed k (s.partition p) (hold v p) → PinInvariant (state_turned k s i p v)
@@ -197,7 +197,7 @@ idle_none settled_headers = refl
 pub idle_link : (fr : Frame) → LinkLaw fr idle
 idle_link fr = grind arith
 
-idle_hold : (pt : Partition) → HoldLaw pt no_partition
+idle_hold : (pt : Partition) → PartitionHoldLaw pt no_partition
 idle_hold pt = grind arith
 
 pub new_none : (number base n p m f : ℕ) (k : Tally) → weigh k (link (new_view number base n p m) f) ≡ 0
@@ -209,8 +209,8 @@ new_link number base n p m f fr = subst (LinkLaw fr) (sym (link_new n p m number
 pub new_unheld : (number base n p m q : ℕ) → flag_weight (hold (new_view number base n p m) q).held ≡ 0
 new_unheld number base n p m q = ap (λ (x : PartitionHold). flag_weight x.held) (hold_new n p m number base q)
 
-pub new_hold : (number base n p m q : ℕ) (pt : Partition) → HoldLaw pt (hold (new_view number base n p m) q)
-new_hold number base n p m q pt = subst (HoldLaw pt) (sym (hold_new n p m number base q)) (idle_hold pt)
+pub new_hold : (number base n p m q : ℕ) (pt : Partition) → PartitionHoldLaw pt (hold (new_view number base n p m) q)
+new_hold number base n p m q pt = subst (PartitionHoldLaw pt) (sym (hold_new n p m number base q)) (idle_hold pt)
 
 -- a view that has nothing at a frame may be forgotten there
 forgets : (fr : Frame) (l : Link) → HoldsNothingAt l → Keeps frame_shape pin_part pin_part tt tt tt tt fr l fr idle

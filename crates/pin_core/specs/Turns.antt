@@ -108,7 +108,7 @@ pub record TurnLaw (pt : Partition) (t : TurnTally → ℕ) : Type 0 where
   pub free : pt.taken ≡ false → pt.owed ≡ NoChange
 
 -- What holds of a partition and of what a view has of its latch
-pub record HoldLaw (pt : Partition) (h : PartitionHold) : Type 0 where
+pub record PartitionHoldLaw (pt : Partition) (h : PartitionHold) : Type 0 where
   -- the pair in change is the one that the holder of the latch has named, and not yet entered or left out
   pub owed : h.held ≡ true → owed_by h.changed h.change ≡ pt.owed
   -- a view without the latch has neither the map nor a pair
@@ -123,4 +123,4 @@ pub record HoldLaw (pt : Partition) (h : PartitionHold) : Type 0 where
   pub unseen : h.held ≡ false → h.seen ≡ None
 
 abbrev pub turn_part : Part turn_shape
-turn_part = record { column = λ _ pt t. TurnLaw pt t; cell = λ _ pt _ h. HoldLaw pt h }
+turn_part = record { column = λ _ pt t. TurnLaw pt t; cell = λ _ pt _ h. PartitionHoldLaw pt h }
