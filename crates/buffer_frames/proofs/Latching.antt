@@ -29,11 +29,11 @@ under_partition tag p Work v u x w e takes work leaves = record { took = u; done
 
 latch_left : (p : ℕ) (v w : View) → HasOneLatch p v → IsTurned false (Partition p) v w → HasNoLatch w
 latch_left p v w l turned q = dite (ℕ_discrete q p)
-    (λ e. subst (λ (x : ℕ). hold w x ≡ no_partition) (sym e) (turned.0 ∙ left (hold v p) l.home l.settled))
+    (λ e. subst (λ (x : ℕ). hold w x ≡ no_partition) (sym e) (turned.0 ∙ left (hold v p) l.home l.no_change))
     (λ n. turned.1 q n ∙ l.others q n)
   where
     left : (h : PartitionHold) → h.out ≡ None → h.change ≡ NoChange → held_part false h ≡ no_partition
-    left h home settled = cc
+    left h home no_change = cc
 
 pub latch_left_as : (p q : ℕ) (v w : View) → p ≡ q → HasOneLatch q v → IsTurned false (Partition p) v w → HasNoLatch w
 latch_left_as p q v w e l turned = latch_left p v w (subst (λ (x : ℕ). HasOneLatch x v) (sym e) l) turned
@@ -43,7 +43,7 @@ pub latch_changed : (p : ℕ) (change : MapChange) (entries : List MapEntry) (v 
 latch_changed p change entries v u x y w locked names after step l = record {
   held = ap (λ (h : PartitionHold). h.held) (step.here ∙ ap (back_hold entries) (same_hold x y after p ∙ names.here)) ∙ ap (λ (h : PartitionHold). h.held) (same_hold v u locked p) ∙ l.held;
   home = ap (λ (h : PartitionHold). h.out) step.here;
-  settled = ap (λ (h : PartitionHold). h.change) step.here;
+  no_change = ap (λ (h : PartitionHold). h.change) step.here;
   others = λ q n. step.others q n ∙ same_hold x y after q ∙ names.others q n ∙ same_hold v u locked q ∙ l.others q n;
 }
 
@@ -52,8 +52,8 @@ pub may_change : (p : ℕ) (v w : View) → w.partitions ≡ v.partitions → Ha
 may_change p v w e l h = record {
   held = ap (λ (x : PartitionHold). x.held) (same_hold v w e p) ∙ l.held;
   unchanged = ap (λ (x : PartitionHold). x.changed) (same_hold v w e p) ∙ h.unchanged;
-  settled = λ q. dite (ℕ_discrete q p)
-      (λ same. subst (λ (x : ℕ). (hold w x).change ≡ NoChange) (sym same) (ap (λ (x : PartitionHold). x.change) (same_hold v w e p) ∙ l.settled))
+  no_change = λ q. dite (ℕ_discrete q p)
+      (λ same. subst (λ (x : ℕ). (hold w x).change ≡ NoChange) (sym same) (ap (λ (x : PartitionHold). x.change) (same_hold v w e p) ∙ l.no_change))
       (λ n. ap (λ (x : PartitionHold). x.change) (same_hold v w e q ∙ l.others q n));
 }
 
@@ -80,7 +80,7 @@ lacks_same tag v w e l = let at = same_hold v w e (tag_partition tag) in record 
 pub finds_same : (tag f : ℕ) (v w : View) → w.partitions ≡ v.partitions → Finds v tag f → Finds w tag f
 finds_same tag f v w e l = let at = same_hold v w e (tag_partition tag) in record {
   held = ap (λ (x : PartitionHold). x.held) at ∙ l.held;
-  settled = ap (λ (x : PartitionHold). x.change) at ∙ l.settled;
+  no_change = ap (λ (x : PartitionHold). x.change) at ∙ l.no_change;
   home = ap (λ (x : PartitionHold). x.out) at ∙ l.home;
   seen = λ none. l.seen (sym (ap (λ (x : PartitionHold). x.seen) at) ∙ none);
   finds = λ entries is. l.finds entries (sym (ap (λ (x : PartitionHold). x.seen) at) ∙ is);

@@ -75,7 +75,7 @@ pub sharing_copied : (io : Io) (tag : ℕ) (page : Page) (l m : Link) → IsShar
 sharing_copied io tag page l m s e = subst (IsSharing io tag) (sym e) record { pinned = s.pinned; remembered = s.remembered; shared = s.shared; seen = s.seen; right = s.right; home = s.home; no_header = s.no_header; no_copy = s.no_copy; applied = s.applied; assigned = s.assigned; no_wait = s.no_wait }
 
 pub may_copy : (io : Io) (tag : ℕ) (l : Link) → IsSharing io tag l → CanCopy l
-may_copy io tag l s = record { right = λ none. (let no : Shared ≡ Unlocked = sym s.shared ∙ none in absurd (cc)); settled = s.applied; home = s.home; no_copy = s.no_copy }
+may_copy io tag l s = record { right = λ none. (let no : Shared ≡ Unlocked = sym s.shared ∙ none in absurd (cc)); applied = s.applied; home = s.home; no_copy = s.no_copy }
 
 -- a write is noted
 pub sharing_noted : (tag : ℕ) (done : Bool) (l m : Link) → IsSharing Output tag l → m ≡ write_noted_link done l → IsSharing Output tag m

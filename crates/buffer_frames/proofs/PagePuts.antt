@@ -144,7 +144,7 @@ module _ (f : ℕ) (t : Tokens) (v u : View) (m : Marks f v u) where
     remembered = (rests_marked r f).tag ∙ ap (option_map HeldFrame.tag) i.there ∙ ap Some i.same;
     right = right_marked right;
     dirtied = m.dirtied.dirtied;
-    settled = λ g. (rests_marked r g).calm.applied;
+    applied = λ g. (rests_marked r g).calm.applied;
     sound = sound;
     used = used;
   }

@@ -35,7 +35,7 @@ pub is_copied : (tag : ℕ) (page : Page) (l m : Link) → m ≡ copied_link pag
 is_copied tag page l m e remembered can = record {
   right = λ unlocked. can.right (sym (ap (λ (x : Link). x.content) e) ∙ unlocked);
   copied = λ none. some_none page (sym (ap (λ (x : Link). x.copied) e) ∙ none);
-  settled = ap (λ (x : Link). x.unapplied) e ∙ can.settled;
+  applied = ap (λ (x : Link). x.unapplied) e ∙ can.applied;
   remembered = λ none. some_none tag (sym (ap (λ (x : Link). x.tag) e ∙ remembered) ∙ none);
 }
   where
@@ -130,7 +130,7 @@ pub record SharedRead (f : ℕ) (page : Page) (v a b w : View) : Type 0 where
 pub can_copy : (l m : Link) → m ≡ shared_link l → HasAtMostLock l → CanCopy m
 can_copy l m e c = record {
   right = λ unlocked. differ (sym (ap (λ (x : Link). x.content) e) ∙ unlocked);
-  settled = ap (λ (x : Link). x.unapplied) e ∙ c.applied;
+  applied = ap (λ (x : Link). x.unapplied) e ∙ c.applied;
   home = ap (λ (x : Link). x.out) e ∙ c.page_home;
   no_copy = ap (λ (x : Link). x.copying) e ∙ c.no_copy;
 }
@@ -139,7 +139,7 @@ can_copy l m e c = record {
     differ e = cc
 
 pub can_copy_locked : (o : Option HeldFrame) (l : Link) → l.content ≢ Unlocked → LinkRests o l → CanCopy l
-can_copy_locked o l right r = record { right = right; settled = r.calm.applied; home = r.calm.page_home; no_copy = r.calm.no_copy }
+can_copy_locked o l right r = record { right = right; applied = r.calm.applied; home = r.calm.page_home; no_copy = r.calm.no_copy }
 
 module _ (f : ℕ) (page : Page) (v a b w : View) (r : SharedRead f page v a b w) where
   link_both : link b f ≡ copied_link page (shared_link (link v f))

@@ -152,10 +152,10 @@ kept_out s f laws inside i j v u there at other right = (cleanup_alone s.pool la
 
 -- the exclusive lock may be given up, after loads, and after a wait was noted
 pub drops : (l m : Link) → CanLockForCleanup l → Looked (exclusive_link l) m → CanDropExclusive m
-drops l m c a = record { right = a.content; settled = a.unapplied ∙ c.applied; page_home = a.out ∙ c.page_home }
+drops l m c a = record { right = a.content; applied = a.unapplied ∙ c.applied; page_home = a.out ∙ c.page_home }
 
 pub drops_awaited : (number word : ℕ) (l m n : Link) → CanLockForCleanup l → Looked (locked_link word (exclusive_link l)) m → n ≡ waiting_link number m → CanDropExclusive n
-drops_awaited number word l m n c a e = subst CanDropExclusive (sym e) record { right = a.content; settled = a.unapplied ∙ c.applied; page_home = a.out ∙ c.page_home }
+drops_awaited number word l m n c a e = subst CanDropExclusive (sym e) record { right = a.content; applied = a.unapplied ∙ c.applied; page_home = a.out ∙ c.page_home }
 
 -- the view may become the waiter
 pub may_await : (word : ℕ) (l m : Link) → CanLockForCleanup l → Looked (locked_link word (exclusive_link l)) m → (fields word).awaited ≡ false → CanAwait word m

@@ -101,12 +101,12 @@ module _ (f found : ℕ) (v w : View) (p : Page) (d : Did (pages paged.page_out)
   may_return out fresh = record {
     out = λ none. let no : Some p ≡ None = sym (ap (λ (l : Link). l.out) out) ∙ none in absurd (cc);
     once = fresh;
-    due = ap page_due out ∙ ap (λ (b : Bool). cond b (link v f).image (input_page (link v f).io (link v f).read (Some p))) may.settled ∙ due (link v f).io (link v f).read busy;
+    due = ap page_due out ∙ ap (λ (b : Bool). cond b (link v f).image (input_page (link v f).io (link v f).read (Some p))) may.applied ∙ due (link v f).io (link v f).read busy;
   }
 
   pub copied_back : (u : View) → link w f ≡ page_out_link p (link v f) → link u f ≡ returned_link p (link w f) → link u f ≡ copied_link p (link v f)
   copied_back u out back = back ∙ ap (returned_link p) out
-      ∙ ap (λ (b : Bool). cond b (applied_link p (record (link v f) { out = None })) (read_home (link v f).io (link v f).read (record (link v f) { out = None; copied = paged.copied_after (link v f).content false p (link v f).copied }))) may.settled
+      ∙ ap (λ (b : Bool). cond b (applied_link p (record (link v f) { out = None })) (read_home (link v f).io (link v f).read (record (link v f) { out = None; copied = paged.copied_after (link v f).content false p (link v f).copied }))) may.applied
       ∙ home (link v f).io (link v f).read (record (link v f) { out = None; copied = paged.copied_after (link v f).content false p (link v f).copied }) busy
       ∙ (λ i. record (link v f) { out = sym may.home i; copied = noted (link v f).content (link v f).copied may.right i })
 

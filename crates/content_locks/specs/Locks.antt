@@ -44,14 +44,14 @@ copying_link_if false l = l
 -- The view may copy the page under its content lock: no entry is unapplied, and neither the page nor the copy latch is taken
 pub record CanCopy (l : Link) : Type 0 where
   pub right : l.content ≢ Unlocked
-  pub settled : l.unapplied ≡ false
+  pub applied : l.unapplied ≡ false
   pub home : l.out ≡ None
   pub no_copy : l.copying ≡ false
 
 -- and it has what the page needs to go out
 pub record MayCopy (l : Link) : Type 0 where
   pub right : l.content ≢ Unlocked
-  pub settled : l.unapplied ≡ false
+  pub applied : l.unapplied ≡ false
   pub home : l.out ≡ None
   pub shared : l.content ≡ Shared → l.copying ≡ true
 

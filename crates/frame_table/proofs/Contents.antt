@@ -211,7 +211,7 @@ module _ {L G : Type 0} (d : Devices L G) (o : Opening L G) where
   pub unexcludes_there : (slots id f : ℕ) (me : Me (Value L G) View) → f < o.config.frames → me.0.emptied ≡ false → CanDropExclusive (link me.0 f)
       → Allows (RuleHolds d o) slots id me (content_place f) (λ n. (n + (2 ^ 64 - 262144)) % 2 ^ 64) (tells (always (pages paged.unexclude)) (step slots (content_place f) 262144 0 none) me)
   unexcludes_there slots id f me below live may = changes (pages paged.unexclude) refl slots id f 262144 0 (λ n. (n + (2 ^ 64 - 262144)) % 2 ^ 64) me below live (λ s n laws inside there is. let m = exclusive_cleared n (sym is.1 ∙ own_exclusive s laws f inside id me.0 there may.right) is.3 in record {
-    allowed = (tt, record { right = may.right; settled = may.settled; page_home = may.page_home });
+    allowed = (tt, record { right = may.right; applied = may.applied; page_home = may.page_home });
     around = tt;
     says = (is.0 ∙ sym m.0, sym m.1, is.2 ∙ sym m.2, m.3);
     rest = record { word = refl; tag = refl; page = refl };

@@ -53,8 +53,8 @@ module _ (s : State) (id : ℕ) (v : View) (laws : Laws s) (there : get_elem? s.
   can_log f tag p start e = let inside = inside_of s id f v laws there live e.right in let same = end_is start e.loaded in record {
     inside = inside;
     tagged = ((laws.invariant.pool.core.grid.cells id v f there inside).remembers (packed_tag tag) e.remembered).1;
-    right = record { right = e.right; dirtied = e.dirtied; settled = e.settled f; sound = e.sound; used = e.used };
-    around = e.settled;
+    right = record { right = e.right; dirtied = e.dirtied; applied = e.applied f; sound = e.sound; used = e.used };
+    around = e.applied;
     full = e.full;
     ends = e.ends ∙ ap (λ (n : ℕ). n + record_size) same;
     room = (let z = e.room in omega arith);

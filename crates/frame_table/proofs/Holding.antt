@@ -170,7 +170,7 @@ module _ {L G : Type 0} (d : Devices L G) (o : Opening L G) where
     allowed = record { unlocked = ap (λ (w : StateWord). w.locked) is ∙ unlocked; absent = absent };
     around = record {
       held = subst (λ (p : ℕ). (hold me.0 p).held ≡ true) at finds.held;
-      settled = subst (λ (p : ℕ). (hold me.0 p).change ≡ NoChange) at finds.settled;
+      no_change = subst (λ (p : ℕ). (hold me.0 p).change ≡ NoChange) at finds.no_change;
       given = subst (λ (p : ℕ). (s.pool.core.partition p).map tag ≡ Some f) at (map_there s id me.0 tag (Some f) spread laws there finds.home finds.seen finds.finds);
     };
     word = ap (pinned_fields ring) is ∙ sym made;
@@ -200,7 +200,7 @@ module _ {L G : Type 0} (d : Devices L G) (o : Opening L G) where
       let inside : f < s.pool.core.frames = (let e = h.fixed.frames in omega arith) in let mine = alone_there s id f me.0 laws there inside alone in let at : tag_partition tag ≡ s.pool.core.partition_of tag = ap (λ (g : ℕ → ℕ). g tag) (sym h.fixed.partition_of) in record {
         allowed = record { alone = mine; named = named_there tag (is_tag_of tag t packed); packed = is_tag_of tag t packed; untagged = untagged.knows (s.pool.core.frame f).word mine.held };
         around = record {
-          naming = record { held = subst (λ (p : ℕ). (hold me.0 p).held ≡ true) at may.held; unchanged = subst (λ (p : ℕ). (hold me.0 p).changed ≡ false) at may.unchanged; settled = may.settled };
+          naming = record { held = subst (λ (p : ℕ). (hold me.0 p).held ≡ true) at may.held; unchanged = subst (λ (p : ℕ). (hold me.0 p).changed ≡ false) at may.unchanged; no_change = may.no_change };
           block = ap (λ (g : ℕ → Bool). g tag) h.fixed.is_block ∙ is_block_of o.catalog.value tag t packed listed;
           lacking = subst (λ (p : ℕ). (s.pool.core.partition p).map tag ≡ None) at (map_there s id me.0 tag None h.fixed.partition_of laws there lacks.home lacks.seen lacks.lacks);
         };
@@ -223,7 +223,7 @@ module _ {L G : Type 0} (d : Devices L G) (o : Opening L G) where
       of_tag u s h laws there inside (Some tag) e = let mine = alone_there s id f me.0 laws there inside alone in let known = known_there s id f tag me.0 laws there inside e in let may = can.latch tag e in
           let at : tag_partition tag ≡ s.pool.core.partition_of (s.pool.core.frame f).tag = ap (λ (g : ℕ → ℕ). g tag) (sym h.fixed.partition_of) ∙ ap s.pool.core.partition_of (sym known.1) in record {
             allowed = record { alone = mine; named = known.0; clean = can.word.knows (s.pool.core.frame f).word mine.held };
-            around = record { held = subst (λ (p : ℕ). (hold me.0 p).held ≡ true) at may.held; unchanged = subst (λ (p : ℕ). (hold me.0 p).changed ≡ false) at may.unchanged; settled = may.settled };
+            around = record { held = subst (λ (p : ℕ). (hold me.0 p).held ≡ true) at may.held; unchanged = subst (λ (p : ℕ). (hold me.0 p).changed ≡ false) at may.unchanged; no_change = may.no_change };
             shows = tag_shows u.words f 18446744073709551615 (s.pool.core.frame f) (let wide = h.words in omega arith) (h.frame f below);
             page = refl;
             out = refl;
@@ -312,7 +312,7 @@ module _ {L G : Type 0} (d : Devices L G) (o : Opening L G) where
 pub finds_on : (f tag g : ℕ) (v w : View) → Touches f v w → Finds v tag g → Finds w tag g
 finds_on f tag g v w t h = let same : hold w (tag_partition tag) ≡ hold v (tag_partition tag) = ap (λ (l : List PartitionHold). get_or l (tag_partition tag) no_partition) t.partitions in record {
   held = ap (λ (x : PartitionHold). x.held) same ∙ h.held;
-  settled = ap (λ (x : PartitionHold). x.change) same ∙ h.settled;
+  no_change = ap (λ (x : PartitionHold). x.change) same ∙ h.no_change;
   home = ap (λ (x : PartitionHold). x.out) same ∙ h.home;
   seen = λ e. h.seen (sym (ap (λ (x : PartitionHold). x.seen) same) ∙ e);
   finds = λ entries e. h.finds entries (sym (ap (λ (x : PartitionHold). x.seen) same) ∙ e);

@@ -137,7 +137,7 @@ turned_lane takes Log s i v r = lane_none (s.lane r)
 -- a step at a latch is a step of the state
 turn_step : {L G : Type 0} (d : Devices L G) (o : Opening L G) (takes : Bool) (x : Turn) (s : State) (i : ℕ) (v : View) → KeepsOpening d o s → HasTurn o.config.lanes x → get_elem? s.pool.core.views i ≡ some v → v.emptied ≡ false → LatchAllowed takes x s v → Step (turn_event takes x i) s (state_latched takes x s i v)
 turn_step d o true (Partition p) s i v h has there live a = pools (page_steps.cores (pin_steps.turns i p parts.take_turn v there live (let e = h.partitions in omega arith) (record { free = a }))) tt
-turn_step d o false (Partition p) s i v h has there live a = pools (page_steps.cores (pin_steps.turns i p parts.leave_turn v there live (let e = h.partitions in omega arith) (record { held = a.0; home = a.1; settled = a.2 }))) tt
+turn_step d o false (Partition p) s i v h has there live a = pools (page_steps.cores (pin_steps.turns i p parts.leave_turn v there live (let e = h.partitions in omega arith) (record { held = a.0; home = a.1; no_change = a.2 }))) tt
 turn_step d o true (Lane q) s i v h has there live a = steps.lanes i q (lane_kind true) v there live (let e = h.lanes in omega arith) (record { free = a }) tt
 turn_step d o false (Lane q) s i v h has there live a = steps.lanes i q (lane_kind false) v there live (let e = h.lanes in omega arith) (record { held = a.0; home = a.1 }) tt
 turn_step d o true Log s i v h has there live a = steps.logs i (log_kind true) v there live (record { free = a }) tt

@@ -47,7 +47,7 @@ word_step (read_end f) s i v there live (inside, a) = by_note (link v f).tag (li
     by_note None c e is = absurd (a.remembered e)
     by_note (Some tag) None e is = absurd (a.copied is)
     by_note (Some tag) (Some p) e is = subst (λ (x : Option ℕ × Option Page). Step (word_event (read_end f) i) s (record s { pool = record s.pool { core = record s.pool.core { views = set s.pool.core.views i (view_by x) } } })) (λ j. (sym e j, sym is j))
-        (reads i f tag p v there live inside (record { right = a.right; copied = is; settled = a.settled; remembered = e }))
+        (reads i f tag p v there live inside (record { right = a.right; copied = is; applied = a.applied; remembered = e }))
       where
         view_by : Option ℕ × Option Page → View
         view_by x = looked (seen.LogEnd s.end) (read_of x.0 x.1 s.end v)

@@ -39,7 +39,7 @@ pub record CanDropShare (l : Link) : Type 0 where
 -- whose exclusive lock it gives up
 pub record CanDropExclusive (l : Link) : Type 0 where
   pub right : l.content ≡ Exclusive
-  pub settled : l.unapplied ≡ false
+  pub applied : l.unapplied ≡ false
   pub page_home : l.out ≡ None
 
 -- and whose copy latch it gives up

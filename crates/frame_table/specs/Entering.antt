@@ -33,7 +33,7 @@ pub record MayBecomeEntry (f : ℕ) (tag : Tag) (p : Page) (start : ℕ) (v : Vi
   pub right : (link v f).content ≡ Exclusive
   pub dirtied : (link v f).dirtied ≡ true
   -- no entry of its own is unapplied, here or at another frame
-  pub settled : HasNoneUnapplied v
+  pub applied : HasNoneUnapplied v
   -- the page is whole and sound, isn't new, and has the position of the entry's end
   pub full : length p ≡ 8192
   pub sound : is_sound_page p ≡ true

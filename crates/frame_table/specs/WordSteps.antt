@@ -67,7 +67,7 @@ word_event add_hand i = steps.add_hand i
 pub record IsCopied (l : Link) : Type 0 where
   pub right : l.content ≢ Unlocked
   pub copied : l.copied ≢ None
-  pub settled : l.unapplied ≡ false
+  pub applied : l.unapplied ≡ false
   pub remembered : l.tag ≢ None
 
 -- where a kind is allowed

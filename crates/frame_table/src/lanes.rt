@@ -89,7 +89,7 @@ impl<L: BlockLane, G: LogDevice> FrameTable<L, G> {
         ensures view { seat.new.me.0 ≡ back_view (lane_devices L.contents L.failed_writes L.unsynced L.read_faults L.write_faults L.calls) _lane noted.device noted.call seat.old.me.0 }
         ensures did { DidSteps (back_events (lane_devices L.contents L.failed_writes L.unsynced L.read_faults L.write_faults L.calls) _lane noted.device noted.call) seat.old.me.0 seat.new.me.0 }
     {
-        let home = noted.settled();
+        let home = noted.without_call();
         let away = self.table.shared.exchange(seat, slot, Value::Lane(home));
         let Value::Away = away else { unreachable!() };
         // An exchange of a slot is no step of its own: the load is, and its value tells nothing.

@@ -87,7 +87,7 @@ impl<L: BlockLane, G: LogDevice> FrameTable<L, G> {
         ensures hand { seat.new.me.1 ≡ rest seat.old.me.1 }
         ensures came { LogCame G.bytes G.synced G.faults G.calls log seat.old.me.0 seat.new.me.0 }
     {
-        let home = log.settled();
+        let home = log.without_call();
         let away = self.table.shared.exchange(seat, slot, Value::Log(home));
         let Value::Away = away else { unreachable!() };
         // An exchange of a slot is no step of its own: the load is, and its value tells nothing.

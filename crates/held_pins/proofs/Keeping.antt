@@ -90,7 +90,7 @@ pub latch_same : (p : ℕ) (v w : View) → w.partitions ≡ v.partitions → Ha
 latch_same p v w e r = let same = λ (q : ℕ). ap (λ (l : List PartitionHold). get_or l q no_partition) e in record {
   held = ap (λ (h : PartitionHold). h.held) (same p) ∙ r.held;
   home = ap (λ (h : PartitionHold). h.out) (same p) ∙ r.home;
-  settled = ap (λ (h : PartitionHold). h.change) (same p) ∙ r.settled;
+  no_change = ap (λ (h : PartitionHold). h.change) (same p) ∙ r.no_change;
   others = λ q n. same q ∙ r.others q n;
 }
 

@@ -84,7 +84,7 @@ HasNoLatch v = (p : ℕ) → hold v p ≡ no_partition
 pub record HasOneLatch (p : ℕ) (v : View) : Type 0 where
   pub held : (hold v p).held ≡ true
   pub home : (hold v p).out ≡ None
-  pub settled : (hold v p).change ≡ NoChange
+  pub no_change : (hold v p).change ≡ NoChange
   pub others : (q : ℕ) → q ≢ p → hold v q ≡ no_partition
 
 -- A view between two calls: it has what its tokens say, and nothing else

@@ -100,7 +100,7 @@ tag_goes pin_kinds.clear fr l t c a e = absurd (e refl)
 
 -- no frame has a tag that the map lacks, where no pair is in change
 pub lacked : (pt : Partition) (x : PartitionHold) (word tag f : ℕ) → PartitionHoldLaw pt x → PairLaw (pt.map tag) pt.owed word tag f → x.held ≡ true → x.changed ≡ false → x.change ≡ NoChange → pt.map tag ≡ None → word ≢ tag
-lacked pt x word tag f h p held unchanged settled lacks e = grind (arith, h, p, held, unchanged, settled, lacks, e)
+lacked pt x word tag f h p held unchanged no_change lacks e = grind (arith, h, p, held, unchanged, no_change, lacks, e)
 
 -- under an output right the frame's page is the block's page after the log, where that is known
 pub written_is_logged : (b : Block) (fr : Frame) (l : Link) (t : Tally → ℕ) → PageFrame b fr t → PageLink b fr l → weigh sharers l ≤ t sharers → l.io ≡ Output → HasTag fr × ((p : Page) → b.logged ≡ Some p → p ≡ fr.page)

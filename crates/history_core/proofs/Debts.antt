@@ -16,7 +16,7 @@ use Rattle.page_core.specs.Kinds as kinds
 use Rattle.page_core.specs.Kinds.{Kind, Allowed, frame_after, link_after}
 use Rattle.history_core.specs.Log.{Entry, end_of}
 use Rattle.history_core.specs.Steps.{IsPlain}
-use Rattle.history_core.specs.Debts.{Taken, IsCurrent, IsSettled, LinkDebt, ViewDebts, Debts, has_visited, has_left_to_write}
+use Rattle.history_core.specs.Debts.{Taken, IsCurrent, IsStoredOrLeft, LinkDebt, ViewDebts, Debts, has_visited, has_left_to_write}
 use Rattle.history_core.proofs.Blocks.{unframed_put}
 use Rattle.grid.specs.Shape.{put}
 use Rattle.grid.proofs.Lists.{at_set, put_at, put_else}
@@ -32,9 +32,9 @@ pub data Moves (t : Taken) (fr fr' : Frame) : Type 0 where
   stays : fr'.tag ≡ fr.tag → (fr.word.checkpoint_needed ≡ true → fr'.word.checkpoint_needed ≡ true) → (fr'.word.dirty ≡ false → fr.word.dirty ≡ false) → Moves t fr fr'
 
 module _ (t : Taken) where
-  settled_moves : (fr fr' : Frame) (upto : ℕ) (visited left_to_write : Bool) → Moves t fr fr' → IsSettled t fr upto visited left_to_write → IsSettled t fr' upto visited left_to_write
-  settled_moves fr fr' upto visited left_to_write (settles current) h = λ p named k e at tagged le lt. let x = current named k e at tagged in absurd (omega arith)
-  settled_moves fr fr' upto visited left_to_write (stays same needed dirty) h = λ p named k e at tagged le lt. let x = h p (λ z. named (same ∙ z)) k e at (tagged ∙ same) le (subst (λ (z : ℕ). t.upto z < end_of e) same lt) in (needed x.0, x.1)
+  stored_or_left_moves : (fr fr' : Frame) (upto : ℕ) (visited left_to_write : Bool) → Moves t fr fr' → IsStoredOrLeft t fr upto visited left_to_write → IsStoredOrLeft t fr' upto visited left_to_write
+  stored_or_left_moves fr fr' upto visited left_to_write (settles current) h = λ p named k e at tagged le lt. let x = current named k e at tagged in absurd (omega arith)
+  stored_or_left_moves fr fr' upto visited left_to_write (stays same needed dirty) h = λ p named k e at tagged le lt. let x = h p (λ z. named (same ∙ z)) k e at (tagged ∙ same) le (subst (λ (z : ℕ). t.upto z < end_of e) same lt) in (needed x.0, x.1)
 
   clean_moves : (fr fr' : Frame) → Moves t fr fr' → (fr.tag ≢ no_tag → fr.word.dirty ≡ false → IsCurrent t fr.tag) → fr'.tag ≢ no_tag → fr'.word.dirty ≡ false → IsCurrent t fr'.tag
   clean_moves fr fr' (settles current) h named clean = current named
@@ -48,7 +48,7 @@ module _ (t : Taken) where
 
   pub link_moves : (fr fr' : Frame) (upto : ℕ) (l l' : Link) → Moves t fr fr' → Marks l l' → LinkDebt t fr upto l → LinkDebt t fr' upto l'
   link_moves fr fr' upto l l' m marks h = record {
-    settled = subst (λ (x : Bool). IsSettled t fr' upto x l'.left_to_write) (sym marks.visited) (subst (λ (x : Bool). IsSettled t fr' upto l.visited x) (sym marks.left_to_write) (settled_moves fr fr' upto l.visited l.left_to_write m h.settled));
+    stored_or_left = subst (λ (x : Bool). IsStoredOrLeft t fr' upto x l'.left_to_write) (sym marks.visited) (subst (λ (x : Bool). IsStoredOrLeft t fr' upto l.visited x) (sym marks.left_to_write) (stored_or_left_moves fr fr' upto l.visited l.left_to_write m h.stored_or_left));
     done = λ e named. by_move m e named;
   }
     where
@@ -78,12 +78,12 @@ module _ (t : Taken) where
     pins_move pin_kinds.assign x a = stays refl (λ e. e) (λ e. e)
 
     -- a load passes a frame that isn't dirty, and takes one off the list that doesn't carry BM_CHECKPOINT_NEEDED
-    loaded : (fr.tag ≢ no_tag → fr.word.dirty ≡ false → IsCurrent t fr.tag) → LinkDebt t fr upto l → IsSettled t fr upto (l.visited || not fr.word.dirty) (l.left_to_write && fr.word.checkpoint_needed)
+    loaded : (fr.tag ≢ no_tag → fr.word.dirty ≡ false → IsCurrent t fr.tag) → LinkDebt t fr upto l → IsStoredOrLeft t fr upto (l.visited || not fr.word.dirty) (l.left_to_write && fr.word.checkpoint_needed)
     loaded clean h p named k e at tagged le lt = by_dirty fr.word.dirty refl
       where
         by_dirty : (b : Bool) → fr.word.dirty ≡ b → (fr.word.checkpoint_needed ≡ true) × ((l.left_to_write && fr.word.checkpoint_needed) ≡ true)
         by_dirty false z = let x = clean named z k e at tagged in absurd (omega arith)
-        by_dirty true z = let x = h.settled (or_left l.visited fr.word.dirty p z) named k e at tagged le lt in (x.0, both_true l.left_to_write fr.word.checkpoint_needed x.1 x.0)
+        by_dirty true z = let x = h.stored_or_left (or_left l.visited fr.word.dirty p z) named k e at tagged le lt in (x.0, both_true l.left_to_write fr.word.checkpoint_needed x.1 x.0)
           where
             or_left : (a b : Bool) → (a || not b) ≡ true → b ≡ true → a ≡ true
             or_left true b y w = refl
@@ -96,7 +96,7 @@ module _ (t : Taken) where
             both_true true false y w = absurd (cc)
 
     pub pins_link : (k : pin_kinds.Kind) → Fresh k → pin_kinds.Allowed k fr l → (fr.tag ≢ no_tag → fr.word.dirty ≡ false → IsCurrent t fr.tag) → LinkDebt t fr upto l → LinkDebt t (pin_kinds.frame_after k fr) upto (pin_kinds.link_after k fr l)
-    pins_link pin_kinds.load_state x a clean h = record { settled = loaded clean h; done = h.done }
+    pins_link pin_kinds.load_state x a clean h = record { stored_or_left = loaded clean h; done = h.done }
     pins_link (pin_kinds.pin ring) x a clean h = link_moves fr (pin_kinds.frame_after (pin_kinds.pin ring) fr) upto l (pin_kinds.link_after (pin_kinds.pin ring) fr l) (pins_move (pin_kinds.pin ring) x a) (record { visited = refl; left_to_write = refl; done = λ e. e }) h
     pins_link (pin_kinds.pin_mapped tag ring) x a clean h = link_moves fr (pin_kinds.frame_after (pin_kinds.pin_mapped tag ring) fr) upto l (pin_kinds.link_after (pin_kinds.pin_mapped tag ring) fr l) (pins_move (pin_kinds.pin_mapped tag ring) x a) (record { visited = refl; left_to_write = refl; done = λ e. e }) h
     pins_link pin_kinds.unpin x a clean h = link_moves fr (pin_kinds.frame_after pin_kinds.unpin fr) upto l (pin_kinds.link_after pin_kinds.unpin fr l) (pins_move pin_kinds.unpin x a) (record { visited = refl; left_to_write = refl; done = λ e. e }) h
@@ -140,29 +140,29 @@ module _ (t : Taken) where
     pages_move (kinds.end_io Bad) x a h = stays refl (λ e. e) (λ e. e)
 
     pub pages_link : (k : Kind) → IsPlain k → Allowed k b fr l → LinkDebt t fr upto l → LinkDebt t (frame_after k b fr) upto (link_after k b fr l)
-    pages_link kinds.need_checkpoint x a h = record { settled = λ p named k e at tagged le lt. (refl, refl); done = h.done }
+    pages_link kinds.need_checkpoint x a h = record { stored_or_left = λ p named k e at tagged le lt. (refl, refl); done = h.done }
     pages_link (kinds.end_io end) x a h = link_moves fr (frame_after (kinds.end_io end) b fr) upto l (link_after (kinds.end_io end) b fr l) (pages_move (kinds.end_io end) x a h) (record { visited = refl; left_to_write = refl; done = λ e. absurd (cc) }) h
     pages_link kinds.load_content x a h = h
     pages_link kinds.mark_dirty x a h = link_moves fr (frame_after kinds.mark_dirty b fr) upto l (link_after kinds.mark_dirty b fr l) (pages_move kinds.mark_dirty x a h) (record { visited = refl; left_to_write = refl; done = λ e. e }) h
-    pages_link kinds.share x a h = record { settled = h.settled; done = h.done }
-    pages_link kinds.exclude x a h = record { settled = h.settled; done = h.done }
-    pages_link kinds.unshare x a h = record { settled = h.settled; done = h.done }
-    pages_link kinds.unexclude x a h = record { settled = h.settled; done = h.done }
-    pages_link kinds.take_copy x a h = record { settled = h.settled; done = h.done }
-    pages_link kinds.leave_copy x a h = record { settled = h.settled; done = h.done }
-    pages_link kinds.page_out x a h = record { settled = h.settled; done = h.done }
-    pages_link kinds.overwrite_logged x a h = record { settled = h.settled; done = h.done }
-    pages_link (kinds.overwrite_read p) x a h = record { settled = h.settled; done = h.done }
-    pages_link kinds.page_back x a h = record { settled = h.settled; done = h.done }
+    pages_link kinds.share x a h = record { stored_or_left = h.stored_or_left; done = h.done }
+    pages_link kinds.exclude x a h = record { stored_or_left = h.stored_or_left; done = h.done }
+    pages_link kinds.unshare x a h = record { stored_or_left = h.stored_or_left; done = h.done }
+    pages_link kinds.unexclude x a h = record { stored_or_left = h.stored_or_left; done = h.done }
+    pages_link kinds.take_copy x a h = record { stored_or_left = h.stored_or_left; done = h.done }
+    pages_link kinds.leave_copy x a h = record { stored_or_left = h.stored_or_left; done = h.done }
+    pages_link kinds.page_out x a h = record { stored_or_left = h.stored_or_left; done = h.done }
+    pages_link kinds.overwrite_logged x a h = record { stored_or_left = h.stored_or_left; done = h.done }
+    pages_link (kinds.overwrite_read p) x a h = record { stored_or_left = h.stored_or_left; done = h.done }
+    pages_link kinds.page_back x a h = record { stored_or_left = h.stored_or_left; done = h.done }
     pages_link (kinds.note_read p) x a h = absurd x
     pages_link kinds.begin_write x a h = absurd x
     pages_link (kinds.note_write done) x a h = absurd x
     pages_link (kinds.make_entry p) x a h = absurd x
-    pages_link kinds.start_input x a h = record { settled = h.settled; done = h.done }
-    pages_link kinds.start_output x a h = record { settled = h.settled; done = h.done }
-    pages_link kinds.clear_just_dirtied x a h = record { settled = h.settled; done = h.done }
-    pages_link (kinds.set_waiter number) x a h = record { settled = h.settled; done = h.done }
-    pages_link kinds.clear_waiter x a h = record { settled = h.settled; done = h.done }
+    pages_link kinds.start_input x a h = record { stored_or_left = h.stored_or_left; done = h.done }
+    pages_link kinds.start_output x a h = record { stored_or_left = h.stored_or_left; done = h.done }
+    pages_link kinds.clear_just_dirtied x a h = record { stored_or_left = h.stored_or_left; done = h.done }
+    pages_link (kinds.set_waiter number) x a h = record { stored_or_left = h.stored_or_left; done = h.done }
+    pages_link kinds.clear_waiter x a h = record { stored_or_left = h.stored_or_left; done = h.done }
 
 -- The view w has at the frame f the link l, elsewhere the links of v, and the checkpoints of v
 pub record Touched (v w : View) (f : ℕ) (l : Link) : Type 0 where
@@ -182,7 +182,7 @@ module _ (t : Taken) (n : ℕ) (frame : ℕ → Frame) (end : ℕ) (f : ℕ) (fr
     begun = h.begun;
     kept_begun = h.kept_begun;
     own = λ g below. at_frame (λ k x. LinkDebt t x u.upto (link u k)) g (λ e. link_moves t (frame g) fr u.upto (link u g) (link u g) (subst (λ (k : ℕ). Moves t (frame k) fr) (sym e) moves) (record { visited = refl; left_to_write = refl; done = λ z. z }) (h.own g below)) (λ o. h.own g below);
-    kept = λ k g c at below. at_frame (λ m x. IsSettled t x c.upto (has_visited c m) (has_left_to_write c m)) g (λ e. settled_moves t (frame g) fr c.upto (has_visited c g) (has_left_to_write c g) (subst (λ (m : ℕ). Moves t (frame m) fr) (sym e) moves) (h.kept k g c at below)) (λ o. h.kept k g c at below);
+    kept = λ k g c at below. at_frame (λ m x. IsStoredOrLeft t x c.upto (has_visited c m) (has_left_to_write c m)) g (λ e. stored_or_left_moves t (frame g) fr c.upto (has_visited c g) (has_left_to_write c g) (subst (λ (m : ℕ). Moves t (frame m) fr) (sym e) moves) (h.kept k g c at below)) (λ o. h.kept k g c at below);
   }
 
   -- and one that changes
@@ -234,8 +234,8 @@ module _ (t t' : Taken) (same : t'.entries ≡ t.entries) (grows : (tag : ℕ) �
   current_later : (tag : ℕ) → IsCurrent t tag → IsCurrent t' tag
   current_later tag h k e at tagged = let x = h k e (still_there k e at) tagged in let y = grows tag in omega arith
 
-  settled_later : (fr : Frame) (upto : ℕ) (visited left_to_write : Bool) → IsSettled t fr upto visited left_to_write → IsSettled t' fr upto visited left_to_write
-  settled_later fr upto visited left_to_write h p named k e at tagged le lt = let y = grows fr.tag in h p named k e (still_there k e at) tagged le (omega arith)
+  stored_or_left_later : (fr : Frame) (upto : ℕ) (visited left_to_write : Bool) → IsStoredOrLeft t fr upto visited left_to_write → IsStoredOrLeft t' fr upto visited left_to_write
+  stored_or_left_later fr upto visited left_to_write h p named k e at tagged le lt = let y = grows fr.tag in h p named k e (still_there k e at) tagged le (omega arith)
 
   pub debts_later : (n : ℕ) (frame : ℕ → Frame) (end : ℕ) (logged : ℕ → Option Page) (views : List View) → Debts t n frame end logged views → Debts t' n frame end logged views
   debts_later n frame end logged views h = record {
@@ -247,7 +247,7 @@ module _ (t t' : Taken) (same : t'.entries ≡ t.entries) (grows : (tag : ℕ) �
     each = λ i v there. let d = h.each i v there in record {
       begun = d.begun;
       kept_begun = d.kept_begun;
-      own = λ f below. let x = d.own f below in record { settled = settled_later (frame f) v.upto (link v f).visited (link v f).left_to_write x.settled; done = λ e named. current_later (frame f).tag (x.done e named) };
-      kept = λ k f c at below. settled_later (frame f) c.upto (has_visited c f) (has_left_to_write c f) (d.kept k f c at below);
+      own = λ f below. let x = d.own f below in record { stored_or_left = stored_or_left_later (frame f) v.upto (link v f).visited (link v f).left_to_write x.stored_or_left; done = λ e named. current_later (frame f).tag (x.done e named) };
+      kept = λ k f c at below. stored_or_left_later (frame f) c.upto (has_visited c f) (has_left_to_write c f) (d.kept k f c at below);
     };
   }

@@ -73,12 +73,12 @@ evicts = goes (pools (page_steps.cores (pin_steps.touches 0 0 pins.unpin (view_o
     (goes (pools (page_steps.cores (pin_steps.touches 0 0 pins.pin_victim (view_of e2) refl refl (lit< tt) (record { held = refl; absent = refl; room = λ e. refl }) (at_frame (λ (l : Link). l.role ≢ Victim) (view_of e2) _ refl (λ e. cc) (λ e. cc)))) tt)
     (goes (pools (page_steps.cores (pin_steps.turns 0 0 take_turn (view_of e3) refl refl (lit< tt) (record { free = refl }))) tt)
     (goes (pools (page_steps.cores (pin_steps.touches 0 0 pins.lock_header (view_of e4) refl refl (lit< tt) (record { unlocked = refl }) (at_frame (λ (l : Link). l.header ≡ None) (view_of e4) _ refl refl refl))) tt)
-    (goes (pools (page_steps.cores (pin_steps.touches 0 0 pins.erase_tag (view_of e5) refl refl (lit< tt) (record { alone = record { held = refl; settled = refl; single = refl; victim = refl; no_content = refl; no_io = refl }; named = named; clean = refl }) (record { held = refl; unchanged = refl; settled = at_partition (λ (h : PartitionHold). h.change ≡ NoChange) (view_of e5) _ refl refl refl }))) tt)
+    (goes (pools (page_steps.cores (pin_steps.touches 0 0 pins.erase_tag (view_of e5) refl refl (lit< tt) (record { alone = record { held = refl; settled = refl; single = refl; victim = refl; no_content = refl; no_io = refl }; named = named; clean = refl }) (record { held = refl; unchanged = refl; no_change = at_partition (λ (h : PartitionHold). h.change ≡ NoChange) (view_of e5) _ refl refl refl }))) tt)
     (goes (pools (page_steps.cores (pin_steps.touches 0 0 pins.clear (view_of e6) refl refl (lit< tt) (record { held = refl; erased = refl; unnamed = refl }) tt)) tt)
     (goes (pools (page_steps.cores (pin_steps.turns 0 0 (map_out (sample_entry ∷ [])) (view_of e7) refl refl (lit< tt) (record { held = refl; home = refl; entries_are = one_entry }))) tt)
     (goes (pools (page_steps.cores (pin_steps.turns 0 0 change_map (view_of e8) refl refl (lit< tt) (record { out = λ e. cc; unchanged = refl; named = λ e. cc }))) tt)
     (goes (pools (page_steps.cores (pin_steps.turns 0 0 (map_back []) (view_of e9) refl refl (lit< tt) (record { out = λ e. cc; entries_are = left_out }))) tt)
-    (goes (pools (page_steps.cores (pin_steps.turns 0 0 leave_turn (view_of e10) refl refl (lit< tt) (record { held = refl; home = refl; settled = refl }))) tt)
+    (goes (pools (page_steps.cores (pin_steps.turns 0 0 leave_turn (view_of e10) refl refl (lit< tt) (record { held = refl; home = refl; no_change = refl }))) tt)
     (goes (pools (page_steps.cores (pin_steps.touches 0 0 pins.unpin (view_of e11) refl refl (lit< tt) (record { unlocked = refl; pinned = λ e. cc; no_content = refl; no_io = refl; no_wait = refl }) tt)) tt)
     rests)))))))))))
 
@@ -133,13 +133,13 @@ w15 = second_pooled pins.load_state w14
 waits : Run wait m22 w9
 waits = goes (pools (page_steps.cores (pin_steps.splits (view_of m22) refl (lit< tt))) tt)
     (goes (pools (page_steps.cores (pin_steps.turns 1 0 take_turn (second_of w1) refl refl (lit< tt) (record { free = refl }))) tt)
-    (goes (pools (page_steps.cores (pin_steps.touches 1 0 (pins.pin_mapped 7 false) (second_of w2) refl refl (lit< tt) (record { unlocked = refl; absent = refl }) (record { held = refl; settled = refl; given = refl }))) tt)
-    (goes (pools (page_steps.cores (pin_steps.turns 1 0 leave_turn (second_of w3) refl refl (lit< tt) (record { held = refl; home = refl; settled = refl }))) tt)
+    (goes (pools (page_steps.cores (pin_steps.touches 1 0 (pins.pin_mapped 7 false) (second_of w2) refl refl (lit< tt) (record { unlocked = refl; absent = refl }) (record { held = refl; no_change = refl; given = refl }))) tt)
+    (goes (pools (page_steps.cores (pin_steps.turns 1 0 leave_turn (second_of w3) refl refl (lit< tt) (record { held = refl; home = refl; no_change = refl }))) tt)
     (goes (pools (page_steps.cores (pin_steps.touches 1 0 pins.load_state (second_of w4) refl refl (lit< tt) tt tt)) tt)
     (goes (pools (page_steps.touches 1 0 exclude (second_of w5) refl refl (lit< tt) (record { pinned = λ e. cc; seen = refl; none = refl; free = refl; alone = refl; no_copy = refl }) tt) tt)
     (goes (pools (page_steps.cores (pin_steps.touches 1 0 pins.lock_header (second_of w6) refl refl (lit< tt) (record { unlocked = refl }) (at_frame (λ (l : Link). l.header ≡ None) (second_of w6) _ refl refl refl))) tt)
     (goes (pools (page_steps.touches 1 0 (set_waiter 1) (second_of w7) refl refl (lit< tt) (record { held = refl; settled = refl; pinned = λ e. cc; right = refl; free = refl }) (record { own = refl; nowhere = at_frame (λ (l : Link). l.waits ≡ None) (second_of w7) _ refl refl refl })) tt)
-    (goes (pools (page_steps.touches 1 0 unexclude (second_of w8) refl refl (lit< tt) (record { right = refl; settled = refl; page_home = refl }) tt) tt)
+    (goes (pools (page_steps.touches 1 0 unexclude (second_of w8) refl refl (lit< tt) (record { right = refl; applied = refl; page_home = refl }) tt) tt)
     rests))))))))
 
 wakes : Run wake w9 w15

@@ -166,12 +166,12 @@ begun = goes (pools (page_steps.cores (pin_steps.turns 0 0 take_turn (view_of m0
     (goes (pools (page_steps.cores (pin_steps.touches 0 0 pins.lock_header (view_of m1) refl refl (lit< tt) (record { unlocked = refl }) (at_frame (λ (l : Link). l.header ≡ None) (view_of m1) _ refl refl refl))) tt)
     (goes (pools (page_steps.cores (pin_steps.touches 0 0 pins.pin_victim (view_of m2) refl refl (lit< tt) (record { held = refl; absent = refl; room = λ e. refl }) (at_frame (λ (l : Link). l.role ≢ Victim) (view_of m2) _ refl (λ e. cc) (λ e. cc)))) tt)
     (goes (pools (page_steps.cores (pin_steps.touches 0 0 pins.lock_header (view_of m3) refl refl (lit< tt) (record { unlocked = refl }) (at_frame (λ (l : Link). l.header ≡ None) (view_of m3) _ refl refl refl))) tt)
-    (goes (pools (page_steps.cores (pin_steps.touches 0 0 (pins.store_tag 7) (view_of m4) refl refl (lit< tt) (record { alone = record { held = refl; settled = refl; single = refl; victim = refl; no_content = refl; no_io = refl }; named = named; packed = packed; untagged = refl }) (record { naming = record { held = refl; unchanged = refl; settled = (at_partition (λ (h : PartitionHold). h.change ≡ NoChange) (view_of m4) _ refl refl refl) }; block = refl; lacking = refl }))) tt)
+    (goes (pools (page_steps.cores (pin_steps.touches 0 0 (pins.store_tag 7) (view_of m4) refl refl (lit< tt) (record { alone = record { held = refl; settled = refl; single = refl; victim = refl; no_content = refl; no_io = refl }; named = named; packed = packed; untagged = refl }) (record { naming = record { held = refl; unchanged = refl; no_change = (at_partition (λ (h : PartitionHold). h.change ≡ NoChange) (view_of m4) _ refl refl refl) }; block = refl; lacking = refl }))) tt)
     (goes (pools (page_steps.cores (pin_steps.touches 0 0 pins.assign (view_of m5) refl refl (lit< tt) (record { held = refl; stored = refl; named = named }) tt)) tt)
     (goes (pools (page_steps.cores (pin_steps.turns 0 0 (map_out []) (view_of m6) refl refl (lit< tt) (record { held = refl; home = refl; entries_are = no_entries }))) tt)
     (goes (pools (page_steps.cores (pin_steps.turns 0 0 change_map (view_of m7) refl refl (lit< tt) (record { out = λ e. cc; unchanged = refl; named = λ e. cc }))) tt)
     (goes (pools (page_steps.cores (pin_steps.turns 0 0 (map_back (sample_entry ∷ [])) (view_of m8) refl refl (lit< tt) (record { out = λ e. cc; entries_are = one_entry }))) tt)
-    (goes (pools (page_steps.cores (pin_steps.turns 0 0 leave_turn (view_of m9) refl refl (lit< tt) (record { held = refl; home = refl; settled = refl }))) tt)
+    (goes (pools (page_steps.cores (pin_steps.turns 0 0 leave_turn (view_of m9) refl refl (lit< tt) (record { held = refl; home = refl; no_change = refl }))) tt)
     (goes (pools (page_steps.cores (pin_steps.touches 0 0 pins.lock_header (view_of m10) refl refl (lit< tt) (record { unlocked = refl }) (at_frame (λ (l : Link). l.header ≡ None) (view_of m10) _ refl refl refl))) tt)
     (goes (pools (page_steps.touches 0 0 start_input (view_of m11) refl refl (lit< tt) (record { held = refl; settled = refl; pinned = λ e. cc; clear = refl; tagged = refl; invalid = refl }) (at_frame (λ (l : Link). l.io ≡ Quiet) (view_of m11) _ refl refl refl)) tt)
     rests)))))))))))
@@ -198,7 +198,7 @@ misses = (
       (goes (pools (page_steps.touches 0 0 page_out (view_of m25) refl refl (lit< tt) (record { page_home = refl; shared = λ e. refl; unlocked = λ e. absurd (cc) }) tt) tt)
       (goes (pools (page_steps.touches 0 0 page_back (view_of m26) refl refl (lit< tt) (record { out = λ e. cc }) tt) tt)
       (goes (pools (page_steps.touches 0 0 leave_copy (view_of m27) refl refl (lit< tt) (record { right = refl; page_home = refl }) tt) tt)
-      (goes (reads 0 0 7 example_page (view_of m28) refl refl (lit< tt) (record { right = λ e. cc; copied = refl; settled = refl; remembered = refl }))
+      (goes (reads 0 0 7 example_page (view_of m28) refl refl (lit< tt) (record { right = λ e. cc; copied = refl; applied = refl; remembered = refl }))
       rests)))))),
   record { held = refl; called = (_, refl, refl, refl) },
 )

@@ -36,7 +36,7 @@ use Rattle.history_core.specs.Lanes as lane_kinds
 use Rattle.history_core.specs.Lanes.{LaneKind, lane_after}
 use Rattle.history_core.specs.Device.{view_logged}
 use Rattle.history_core.specs.Invariant.{HistoryInvariant}
-use Rattle.history_core.specs.Debts.{Taken, IsCurrent, IsSettled, LinkDebt, ViewDebts, Debts, has_visited, has_left_to_write, taken_of, DebtsLaw}
+use Rattle.history_core.specs.Debts.{Taken, IsCurrent, IsStoredOrLeft, LinkDebt, ViewDebts, Debts, has_visited, has_left_to_write, taken_of, DebtsLaw}
 use Rattle.history_core.specs.Steps.{Event, IsPlain, MayWriteLane, Notes, CanEnter, has_loaded, has_begun, new_entry, logged_noting, pool_noting, stepped, ticked, looked, paged, laned, has_read, has_written, Step, pools, lanes, writes, notes, logs, enters, reads, loads_end, begins, loads_flushed, raises, adds_hand, loads_hand, Run, rests, goes, has_raised}
 use Rattle.history_core.proofs.Beginning.{BegunHere, link_begun}
 use Rattle.history_core.proofs.Blocks.{plain_block, tag_goes, written_is_logged}
@@ -83,7 +83,7 @@ module _ (s : State) (h : HistoryInvariant s) (d : DebtsLaw s) where
   no_debts w upto kept links = record {
     begun = omega arith;
     kept_begun = λ k c at. absurd (some-ne-none c (sym (subst (λ (y : List JoinedCheckpoint). get_elem? y k ≡ some c) kept at)));
-    own = λ f below. subst (LinkDebt t (frame f) w.upto) (sym (links f)) (record { settled = λ p. absurd (cc); done = λ e. absurd (cc) });
+    own = λ f below. subst (LinkDebt t (frame f) w.upto) (sym (links f)) (record { stored_or_left = λ p. absurd (cc); done = λ e. absurd (cc) });
     kept = λ k f c at below. absurd (some-ne-none c (sym (subst (λ (y : List JoinedCheckpoint). get_elem? y k ≡ some c) kept at)));
   }
 
@@ -105,17 +105,17 @@ module _ (s : State) (h : HistoryInvariant s) (d : DebtsLaw s) where
         begun = x.begun;
         kept_begun = λ k c at. ⊎_elim (λ (z : get_elem? v.kept k ≡ some c). x.kept_begun k c z) (λ (z : (m : ℕ) × (get_elem? (kept_checkpoint u ∷ u.kept) m ≡ some c)). taken_begun z.0 c z.1) (at_both v.kept (kept_checkpoint u ∷ u.kept) k c at);
         own = x.own;
-        kept = λ k f c at below. ⊎_elim (λ (z : get_elem? v.kept k ≡ some c). x.kept k f c z below) (λ (z : (m : ℕ) × (get_elem? (kept_checkpoint u ∷ u.kept) m ≡ some c)). taken_settled z.0 f c z.1 below) (at_both v.kept (kept_checkpoint u ∷ u.kept) k c at);
+        kept = λ k f c at below. ⊎_elim (λ (z : get_elem? v.kept k ≡ some c). x.kept k f c z below) (λ (z : (m : ℕ) × (get_elem? (kept_checkpoint u ∷ u.kept) m ≡ some c)). taken_stored_or_left z.0 f c z.1 below) (at_both v.kept (kept_checkpoint u ∷ u.kept) k c at);
       })) j emptied_view (no_debts emptied_view refl refl (λ f. refl))
     where
       taken_begun : (m : ℕ) (c : JoinedCheckpoint) → get_elem? (kept_checkpoint u ∷ u.kept) m ≡ some c → c.upto ≤ s.end
       taken_begun zero c at = let z = (d.each j u here).begun in let e = ap (λ (y : JoinedCheckpoint). y.upto) (some-injective (kept_checkpoint u) c at) in omega arith
       taken_begun (suc m) c at = (d.each j u here).kept_begun m c at
 
-      taken_settled : (m f : ℕ) (c : JoinedCheckpoint) → get_elem? (kept_checkpoint u ∷ u.kept) m ≡ some c → f < n → IsSettled t (frame f) c.upto (has_visited c f) (has_left_to_write c f)
-      taken_settled zero f c at below = subst (λ (y : JoinedCheckpoint). IsSettled t (frame f) y.upto (has_visited y f) (has_left_to_write y f)) (some-injective (kept_checkpoint u) c at)
-          (subst (λ (y : Bool). IsSettled t (frame f) u.upto y (has_left_to_write (kept_checkpoint u) f)) (sym (map_at (λ (x : Link). x.visited) idle false refl u.links f)) (subst (λ (y : Bool). IsSettled t (frame f) u.upto (link u f).visited y) (sym (map_at (λ (x : Link). x.left_to_write) idle false refl u.links f)) ((d.each j u here).own f below).settled))
-      taken_settled (suc m) f c at below = (d.each j u here).kept m f c at below
+      taken_stored_or_left : (m f : ℕ) (c : JoinedCheckpoint) → get_elem? (kept_checkpoint u ∷ u.kept) m ≡ some c → f < n → IsStoredOrLeft t (frame f) c.upto (has_visited c f) (has_left_to_write c f)
+      taken_stored_or_left zero f c at below = subst (λ (y : JoinedCheckpoint). IsStoredOrLeft t (frame f) y.upto (has_visited y f) (has_left_to_write y f)) (some-injective (kept_checkpoint u) c at)
+          (subst (λ (y : Bool). IsStoredOrLeft t (frame f) u.upto y (has_left_to_write (kept_checkpoint u) f)) (sym (map_at (λ (x : Link). x.visited) idle false refl u.links f)) (subst (λ (y : Bool). IsStoredOrLeft t (frame f) u.upto (link u f).visited y) (sym (map_at (λ (x : Link). x.left_to_write) idle false refl u.links f)) ((d.each j u here).own f below).stored_or_left))
+      taken_stored_or_left (suc m) f c at below = (d.each j u here).kept m f c at below
 
   pages_owe : (i f : ℕ) (k : Kind) (v : View) → get_elem? views i ≡ some v → v.emptied ≡ false → f < n → kinds.Allowed k (block_of s.pool.logged (frame f).tag) (frame f) (link v f) → IsPlain k → DebtsLaw (record s { pool = page_steps.state_after k s.pool i f v })
   pages_owe i f k v there live inside a plain = let fr = frame f in let b = block_of s.pool.logged fr.tag in let l = link v f in let own = (d.each i v there).own f inside in let w : View = paged k s.pool f v in
@@ -144,7 +144,7 @@ module _ (s : State) (h : HistoryInvariant s) (d : DebtsLaw s) where
   -- a frame where only what a view notes of its lane changes
   noted_owe : (i f : ℕ) (v w : View) (l : Link) → get_elem? views i ≡ some v → v.emptied ≡ false → f < n → w.links ≡ set v.links f l → w.upto ≡ v.upto → w.kept ≡ v.kept → l.visited ≡ (link v f).visited → l.left_to_write ≡ (link v f).left_to_write → (l.last_write ≡ Done → (frame f).tag ≢ no_tag → IsCurrent t (frame f).tag) → Debts t n (put frame f (frame f)) s.end s.pool.logged (set views i w)
   noted_owe i f v w l there live inside links upto kept visited left_to_write done = debts_touched t n frame s.end f (frame f) (stays refl (λ e. e) (λ e. e)) s.pool.logged views d inside (λ goes. absurd (goes refl)) i v w l there (touches_at i f v w l there live inside links upto kept)
-      (record { settled = subst (λ (x : Bool). IsSettled t (frame f) v.upto x l.left_to_write) (sym visited) (subst (λ (x : Bool). IsSettled t (frame f) v.upto (link v f).visited x) (sym left_to_write) ((d.each i v there).own f inside).settled); done = done })
+      (record { stored_or_left = subst (λ (x : Bool). IsStoredOrLeft t (frame f) v.upto x l.left_to_write) (sym visited) (subst (λ (x : Bool). IsStoredOrLeft t (frame f) v.upto (link v f).visited x) (sym left_to_write) ((d.each i v there).own f inside).stored_or_left); done = done })
 
   -- The page p of the frame f goes to its lane q, or fails to
   writes_owe : (i q f : ℕ) (k : LaneKind) (v : View) → get_elem? views i ≡ some v → v.emptied ≡ false → f < n → MayWriteLane k s q f (lane_hold v q) (link v f)
@@ -262,8 +262,8 @@ module _ (s : State) (h : HistoryInvariant s) (d : DebtsLaw s) (i f : ℕ) (p : 
   current_longer : (z : ℕ) → z ≢ tag_of → IsCurrent (taken_of s) z → IsCurrent longer z
   current_longer z other c k e at tagged = ⊎_elim (λ (y : get_elem? s.log.entries k ≡ some e). c k e y tagged) (λ (y : (entry ≡ e) × (k ≡ length s.log.entries)). absurd (other (sym tagged ∙ ap (λ (w : Entry). w.tag) (sym y.0)))) (at_end s.log.entries entry e k at)
 
-  settled_longer : (fr : Frame) (upto : ℕ) (visited left_to_write : Bool) → upto ≤ s.end → IsSettled (taken_of s) fr upto visited left_to_write → IsSettled longer fr upto visited left_to_write
-  settled_longer fr upto visited left_to_write begun c been given k e at tagged le lt = ⊎_elim (λ (y : get_elem? s.log.entries k ≡ some e). c been given k e y tagged le lt)
+  stored_or_left_longer : (fr : Frame) (upto : ℕ) (visited left_to_write : Bool) → upto ≤ s.end → IsStoredOrLeft (taken_of s) fr upto visited left_to_write → IsStoredOrLeft longer fr upto visited left_to_write
+  stored_or_left_longer fr upto visited left_to_write begun c been given k e at tagged le lt = ⊎_elim (λ (y : get_elem? s.log.entries k ≡ some e). c been given k e y tagged le lt)
       (λ (y : (entry ≡ e) × (k ≡ length s.log.entries)). let z : s.end + record_size ≡ end_of e = ap end_of y.0 in absurd (omega arith)) (at_end s.log.entries entry e k at)
 
   -- no output of the block is under way
@@ -287,8 +287,8 @@ module _ (s : State) (h : HistoryInvariant s) (d : DebtsLaw s) (i f : ℕ) (p : 
     each = λ j u at. let y = d.each j u at in record {
       begun = (let z = y.begun in omega arith);
       kept_begun = λ k c t. let z = y.kept_begun k c t in omega arith;
-      own = λ g below. let z = y.own g below in record { settled = settled_longer (s.pool.core.frame g) u.upto (link u g).visited (link u g).left_to_write y.begun z.settled; done = λ e given. current_longer (s.pool.core.frame g).tag (no_done j u g at below e) (z.done e given) };
-      kept = λ k g c t below. settled_longer (s.pool.core.frame g) c.upto (has_visited c g) (has_left_to_write c g) (y.kept_begun k c t) (y.kept k g c t below);
+      own = λ g below. let z = y.own g below in record { stored_or_left = stored_or_left_longer (s.pool.core.frame g) u.upto (link u g).visited (link u g).left_to_write y.begun z.stored_or_left; done = λ e given. current_longer (s.pool.core.frame g).tag (no_done j u g at below e) (z.done e given) };
+      kept = λ k g c t below. stored_or_left_longer (s.pool.core.frame g) c.upto (has_visited c g) (has_left_to_write c g) (y.kept_begun k c t) (y.kept k g c t below);
     };
   }
     where
@@ -298,7 +298,7 @@ module _ (s : State) (h : HistoryInvariant s) (d : DebtsLaw s) (i f : ℕ) (p : 
   enters_owe : Debts longer s.pool.core.frames (put s.pool.core.frame f (s.pool.core.frame f)) (s.end + record_size) logged' (set s.pool.core.views i (has_written (s.end + record_size) tag_of p (paged (make_entry p) s.pool f v)))
   enters_owe = let l : Link = link_after (make_entry p) (block_of s.pool.logged tag_of) (s.pool.core.frame f) (link v f) in let own = (entries_longer.each i v there).own f inside in
       debts_touched longer s.pool.core.frames s.pool.core.frame (s.end + record_size) f (s.pool.core.frame f) (stays refl (λ e. e) (λ e. e)) logged' s.pool.core.views entries_longer inside (λ goes. absurd (goes refl)) i v (has_written (s.end + record_size) tag_of p (paged (make_entry p) s.pool f v)) l there
-      (touches_at s h d i f v (has_written (s.end + record_size) tag_of p (paged (make_entry p) s.pool f v)) l there live inside refl refl refl) (record { settled = own.settled; done = own.done })
+      (touches_at s h d i f v (has_written (s.end + record_size) tag_of p (paged (make_entry p) s.pool f v)) l there live inside refl refl refl) (record { stored_or_left = own.stored_or_left; done = own.done })
 
 pub debts_kept : {e : Event} {s t : State} → Step e s t → HistoryInvariant s → DebtsLaw s → DebtsLaw t
 debts_kept (pools {s = s} (page_steps.cores x) a) h d = pins_owe s h d x
@@ -315,7 +315,7 @@ debts_kept (begins {s = s} i v there live) h d = let w : View = has_begun s.end 
     debts_set (taken_of s) s.pool.core.frames s.pool.core.frame s.end s.pool.logged s.pool.core.views d i w (record {
       begun = omega arith;
       kept_begun = x.kept_begun;
-      own = λ f below. subst (LinkDebt (taken_of s) (s.pool.core.frame f) s.end) (sym (link_begun v w begun f)) (record { settled = λ p. absurd (cc); done = (x.own f below).done });
+      own = λ f below. subst (LinkDebt (taken_of s) (s.pool.core.frame f) s.end) (sym (link_begun v w begun f)) (record { stored_or_left = λ p. absurd (cc); done = (x.own f below).done });
       kept = x.kept;
     })
 debts_kept (loads_flushed {s = s} i v there live) h d = aside_owe s h d i v (looked (seen.Flushed s.flushed) (record v { flushed = s.flushed })) there refl refl refl
@@ -337,7 +337,7 @@ debts_open c store page = let w : View = first_view c.base c.frames c.partitions
   each = λ i v there. subst (ViewDebts (taken_of (opening c store page)) c.frames (λ _. empty_frame page) c.base) (at_only w v i there).0 (record {
     begun = omega arith;
     kept_begun = λ k x at. absurd (some-ne-none x (sym at));
-    own = λ f below. subst (LinkDebt (taken_of (opening c store page)) (empty_frame page) 0) (sym (link_new c.frames c.partitions c.lanes 0 c.base f)) (record { settled = λ p. absurd (cc); done = λ e. absurd (cc) });
+    own = λ f below. subst (LinkDebt (taken_of (opening c store page)) (empty_frame page) 0) (sym (link_new c.frames c.partitions c.lanes 0 c.base f)) (record { stored_or_left = λ p. absurd (cc); done = λ e. absurd (cc) });
     kept = λ k f x at. absurd (some-ne-none x (sym at));
   });
 }

@@ -10,7 +10,7 @@ use Rattle.history_core.specs.Log.{Entry, end_of}
 use Rattle.history_core.specs.State.{State, stored_upto, failed}
 use Rattle.history_core.specs.Homes.{IsUnframed}
 use Rattle.history_core.specs.Invariant.{HistoryInvariant}
-use Rattle.history_core.specs.Debts.{has_visited, has_left_to_write, IsSettled, taken_of, DebtsLaw}
+use Rattle.history_core.specs.Debts.{has_visited, has_left_to_write, IsStoredOrLeft, taken_of, DebtsLaw}
 use Rattle.history_core.specs.Promises.{GrantsAreAlone, IsInLane, IsUnwritten, AreStored, AreSynced, SweepsStore, CheckpointsStore}
 use Rattle.pin_core.specs.Steps as pin_steps
 use Rattle.page_core.specs.Steps as page_steps
@@ -38,18 +38,18 @@ module _ (s : State) (h : HistoryInvariant s) (d : DebtsLaw s) where
       (framed s.pool.core.frames s.pool.core.frame e.tag)
 
   -- a checkpoint that has visited every frame, and has none left
-  all_stored : (upto : ℕ) (visited left_to_write : ℕ → Bool) → ((f : ℕ) → f < s.pool.core.frames → IsSettled (taken_of s) (s.pool.core.frame f) upto (visited f) (left_to_write f)) → ((f : ℕ) → f < s.pool.core.frames → (visited f ≡ true) × (left_to_write f ≡ false)) → AreStored s upto
-  all_stored upto visited left_to_write settled ended k e at low = let named = d.named k e at in either (failed s e.tag) (λ bad. inr (unwritten e named bad)) (λ ok. inl (in_lane k e at ok (⊎_elim
+  all_stored : (upto : ℕ) (visited left_to_write : ℕ → Bool) → ((f : ℕ) → f < s.pool.core.frames → IsStoredOrLeft (taken_of s) (s.pool.core.frame f) upto (visited f) (left_to_write f)) → ((f : ℕ) → f < s.pool.core.frames → (visited f ≡ true) × (left_to_write f ≡ false)) → AreStored s upto
+  all_stored upto visited left_to_write stored_or_left ended k e at low = let named = d.named k e at in either (failed s e.tag) (λ bad. inr (unwritten e named bad)) (λ ok. inl (in_lane k e at ok (⊎_elim
       (λ (behind : stored_upto s e.tag < end_of e). ⊎_elim
       (λ (x : (f : ℕ) × (f < s.pool.core.frames) × ((s.pool.core.frame f).tag ≡ e.tag)). let done = ended x.0 x.1 in
-      absurd (apart (settled x.0 x.1 done.0 (λ z. named (sym x.2 ∙ z)) k e at (sym x.2) low (subst (λ (t : ℕ). stored_upto s t < end_of e) (sym x.2) behind)).1 done.1))
+      absurd (apart (stored_or_left x.0 x.1 done.0 (λ z. named (sym x.2 ∙ z)) k e at (sym x.2) low (subst (λ (t : ℕ). stored_upto s t < end_of e) (sym x.2) behind)).1 done.1))
       (λ (none : IsUnframed s.pool.core.frames s.pool.core.frame e.tag). d.unframed e.tag named none k e at refl)
       (framed s.pool.core.frames s.pool.core.frame e.tag))
       (λ (there : end_of e ≤ stored_upto s e.tag). there) (cases_lt (stored_upto s e.tag) (end_of e)))))
 
   pub checkpoints_store : CheckpointsStore s
   checkpoints_store = record {
-    own = λ i v there ended. all_stored v.upto (λ f. (link v f).visited) (λ f. (link v f).left_to_write) (λ f below. ((d.each i v there).own f below).settled) ended;
+    own = λ i v there ended. all_stored v.upto (λ f. (link v f).visited) (λ f. (link v f).left_to_write) (λ f below. ((d.each i v there).own f below).stored_or_left) ended;
     kept = λ i k v c there at ended. all_stored c.upto (has_visited c) (has_left_to_write c) (λ f below. (d.each i v there).kept k f c at below) ended;
   }
 

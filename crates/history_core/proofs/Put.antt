@@ -158,7 +158,7 @@ none_out : (p : Page) → HasNoWriteOut (view_of (q30 p)) 0
 none_out p n out = absurd (out (at_one_lane (λ (h : LaneHold). h.out ≡ None) (view_of (q30 p)) _ refl refl refl n))
 
 may_log : (p : Page) → IsPut p → CanLog (q4 p) 0 7 p (view_of (q4 p))
-may_log p is = record { inside = lit< tt; tagged = refl; right = record { right = refl; dirtied = refl; settled = refl; sound = is.sound; used = is.used }; around = at_frame (λ (l : Link). l.unapplied ≡ false) (view_of (q4 p)) _ refl refl refl; full = is.full; ends = is.ends; room = has_room }
+may_log p is = record { inside = lit< tt; tagged = refl; right = record { right = refl; dirtied = refl; applied = refl; sound = is.sound; used = is.used }; around = at_frame (λ (l : Link). l.unapplied ≡ false) (view_of (q4 p)) _ refl refl refl; full = is.full; ends = is.ends; room = has_room }
 
 pub changes : (p : Page) → IsPut p → Run (change p) m22 (q12 p)
 changes p is = goes (pools (page_steps.touches 0 0 exclude (view_of m22) refl refl (lit< tt) (record { pinned = λ e. cc; seen = refl; none = refl; free = refl; alone = refl; no_copy = refl }) tt) tt)
@@ -167,12 +167,12 @@ changes p is = goes (pools (page_steps.touches 0 0 exclude (view_of m22) refl re
     (goes (logs 0 (log_out sample_log) (view_of (q3 p)) refl refl (record { held = refl; home = refl; faults = refl; synced = refl; down = refl; bytes = λ bytes e. sym (same_Some (head_bytes 0) bytes e) }) tt)
     (goes (logs 0 (append 0 7 p (put_bytes p)) (view_of (q4 p)) refl refl (record { call = record { out = λ e. cc; once = refl; up = refl }; entered = refl; unsynced = refl; full = record_length sample_store.names (put_entry p) refl is.full }) (may_log p is, refl))
     (goes (logs 0 (log_back false) (view_of (q5 p)) refl refl (record { out = λ e. cc; failed = λ z. absurd (cc); rose = λ taken e z. below taken.faults z }) tt)
-    (goes (enters 0 0 p (view_of (q6 p)) refl refl (lit< tt) (record { right = record { right = refl; dirtied = refl; settled = refl; sound = is.sound; used = is.used }; around = at_frame (λ (l : Link). l.unapplied ≡ false) (view_of (q6 p)) _ refl refl refl; full = is.full; ends = is.ends; room = has_room; appended = refl }))
+    (goes (enters 0 0 p (view_of (q6 p)) refl refl (lit< tt) (record { right = record { right = refl; dirtied = refl; applied = refl; sound = is.sound; used = is.used }; around = at_frame (λ (l : Link). l.unapplied ≡ false) (view_of (q6 p)) _ refl refl refl; full = is.full; ends = is.ends; room = has_room; appended = refl }))
     (goes (logs 0 leave_log (view_of (q7 p)) refl refl (record { held = refl; home = refl; entered = refl }) tt)
     (goes (pools (page_steps.touches 0 0 page_out (view_of (q8 p)) refl refl (lit< tt) (record { page_home = refl; shared = λ e. absurd (cc); unlocked = λ e. absurd (cc) }) tt) tt)
     (goes (pools (page_steps.touches 0 0 overwrite_logged (view_of (q9 p)) refl refl (lit< tt) (record { out = λ e. cc; once = refl; unapplied = refl }) tt) tt)
     (goes (pools (page_steps.touches 0 0 page_back (view_of (q10 p)) refl refl (lit< tt) (record { out = λ e. cc }) tt) tt)
-    (goes (pools (page_steps.touches 0 0 unexclude (view_of (q11 p)) refl refl (lit< tt) (record { right = refl; settled = refl; page_home = refl }) tt) tt)
+    (goes (pools (page_steps.touches 0 0 unexclude (view_of (q11 p)) refl refl (lit< tt) (record { right = refl; applied = refl; page_home = refl }) tt) tt)
     rests)))))))))))
 
 pub flushes : (p : Page) → IsPut p → Run (flush p) (q12 p) (q19 p)

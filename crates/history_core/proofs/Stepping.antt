@@ -183,7 +183,7 @@ module _ (s : State) (h : HistoryInvariant s) where
   -- no frame has a tag that a backend may name
   pub unframed_tag : (i f tag : ℕ) (v : View) → get_elem? views i ≡ some v → pin_kinds.Allowed (pin_kinds.store_tag tag) (frame f) (link v f) → pin_steps.AllowedAround (pin_kinds.store_tag tag) s.pool.core v f → IsUnframed n frame tag
   unframed_tag i f tag v there a around g below = let m = around.naming in let p = s.pool.core.partition_of tag in
-      lacked (s.pool.core.partition p) (hold v p) (frame g).tag tag g (h.pool.core.turns.cells i v p there (h.pool.core.placed tag)) (h.pool.core.maps.pairs tag g a.named below) m.held m.unchanged (m.settled p) around.lacking
+      lacked (s.pool.core.partition p) (hold v p) (frame g).tag tag g (h.pool.core.turns.cells i v p there (h.pool.core.placed tag)) (h.pool.core.maps.pairs tag g a.named below) m.held m.unchanged (m.no_change p) around.lacking
 
   -- a tag that no frame has, as a backend names it
   fresh : (i f : ℕ) (k : pin_kinds.Kind) (v : View) → get_elem? views i ≡ some v → pin_kinds.Allowed k (frame f) (link v f) → pin_steps.AllowedAround k s.pool.core v f → IsFresh k (home_of s (pin_kinds.frame_after k (frame f)).tag)

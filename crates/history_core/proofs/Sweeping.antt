@@ -144,7 +144,7 @@ module _ (s : State) (h : HistoryInvariant s) (d : DebtsLaw s) (m : SweptLaw s) 
     where
       in_frame : all_ended v.links ≡ true → end_of e ≤ v.upto → ((f : ℕ) × (f < s.pool.core.frames) × ((s.pool.core.frame f).tag ≡ e.tag)) → end_of e ≤ stored_upto s e.tag
       in_frame ended upto x = let wide = (h.pool.core.views.wide i v there live).0 in let done = ended_at v.links ended x.0 (let y = x.1 in omega arith) in ⊎_elim
-          (λ (behind : stored_upto s e.tag < end_of e). let y = (((d.each i v there).own x.0 x.1).settled done.0 (λ z. d.named k e at (sym x.2 ∙ z)) k e at (sym x.2) upto (subst (λ (z : ℕ). stored_upto s z < end_of e) (sym x.2) behind)).1 in let no = done.1 in absurd (cc))
+          (λ (behind : stored_upto s e.tag < end_of e). let y = (((d.each i v there).own x.0 x.1).stored_or_left done.0 (λ z. d.named k e at (sym x.2 ∙ z)) k e at (sym x.2) upto (subst (λ (z : ℕ). stored_upto s z < end_of e) (sym x.2) behind)).1 in let no = done.1 in absurd (cc))
           (λ (there : end_of e ≤ stored_upto s e.tag). there)
           (cases_lt (stored_upto s e.tag) (end_of e))
 

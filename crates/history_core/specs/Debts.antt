@@ -31,12 +31,12 @@ abbrev pub IsCurrent : Taken → ℕ → Type 0
 IsCurrent t tag = (k : ℕ) (e : Entry) → get_elem? t.entries k ≡ some e → e.tag ≡ tag → end_of e ≤ t.upto tag
 
 -- A frame that a checkpoint has visited, which began where the log ended at `upto`: an entry of the frame's block up to there that isn't in the lane is still to be written. The frame carries BM_CHECKPOINT_NEEDED then, and is one that is left for the checkpoint to write
-abbrev pub IsSettled : Taken → Frame → ℕ → Bool → Bool → Type 0
-IsSettled t fr upto visited left_to_write = visited ≡ true → fr.tag ≢ no_tag → (k : ℕ) (e : Entry) → get_elem? t.entries k ≡ some e → e.tag ≡ fr.tag → end_of e ≤ upto → t.upto fr.tag < end_of e → (fr.word.checkpoint_needed ≡ true) × (left_to_write ≡ true)
+abbrev pub IsStoredOrLeft : Taken → Frame → ℕ → Bool → Bool → Type 0
+IsStoredOrLeft t fr upto visited left_to_write = visited ≡ true → fr.tag ≢ no_tag → (k : ℕ) (e : Entry) → get_elem? t.entries k ≡ some e → e.tag ≡ fr.tag → end_of e ≤ upto → t.upto fr.tag < end_of e → (fr.word.checkpoint_needed ≡ true) × (left_to_write ≡ true)
 
 -- What holds of the checkpoint of a view, which began at `upto`, and of what the view has at a frame
 pub record LinkDebt (t : Taken) (fr : Frame) (upto : ℕ) (l : Link) : Type 0 where
-  pub settled : IsSettled t fr upto l.visited l.left_to_write
+  pub stored_or_left : IsStoredOrLeft t fr upto l.visited l.left_to_write
   -- under an output right whose last write is noted as done all entries of the block are in its lane
   pub done : l.last_write ≡ Done → fr.tag ≢ no_tag → IsCurrent t fr.tag
 
@@ -47,7 +47,7 @@ pub record ViewDebts (t : Taken) (frames : ℕ) (frame : ℕ → Frame) (end : �
   pub kept_begun : (k : ℕ) (c : JoinedCheckpoint) → get_elem? v.kept k ≡ some c → c.upto ≤ end
   -- its own, and those of the views that were joined into it
   pub own : (f : ℕ) → f < frames → LinkDebt t (frame f) v.upto (link v f)
-  pub kept : (k f : ℕ) (c : JoinedCheckpoint) → get_elem? v.kept k ≡ some c → f < frames → IsSettled t (frame f) c.upto (has_visited c f) (has_left_to_write c f)
+  pub kept : (k f : ℕ) (c : JoinedCheckpoint) → get_elem? v.kept k ≡ some c → f < frames → IsStoredOrLeft t (frame f) c.upto (has_visited c f) (has_left_to_write c f)
 
 -- The law of checkpoints, where `logged` is each block's page after the log, as far as it is known
 pub record Debts (t : Taken) (frames : ℕ) (frame : ℕ → Frame) (end : ℕ) (logged : ℕ → Option Page) (views : List View) : Type 0 where

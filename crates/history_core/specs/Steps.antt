@@ -196,7 +196,7 @@ pub record CanEnter (s : State) (f : ℕ) (p : Page) (v : View) : Type 0 where
 pub record CanRead (tag : ℕ) (p : Page) (l : Link) : Type 0 where
   pub right : l.content ≢ Unlocked
   pub copied : l.copied ≡ Some p
-  pub settled : l.unapplied ≡ false
+  pub applied : l.unapplied ≡ false
   pub remembered : l.tag ≡ Some tag
 
 -- the holder of the log's latch keeps the log end that it loads

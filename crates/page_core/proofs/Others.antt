@@ -96,7 +96,7 @@ load_tag_link b fr l h = grind (arith, h)
 
 -- under a content lock, with no entry to apply, the frame's page is the block's page after the log, where that is known
 pub locked_is_logged : (b : Block) (fr : Frame) (l : Link) (t : Tally → ℕ) → PageFrame b fr t → PageLink b fr l → weigh sharers l ≤ t sharers → weigh applied_locks l ≤ t applied_locks → l.content ≢ Unlocked → l.unapplied ≡ false → (p : Page) → b.logged ≡ Some p → p ≡ fr.page
-locked_is_logged b fr l t q c x y right settled p e = grind (arith, q, c, x, y, right, settled, e)
+locked_is_logged b fr l t q c x y right applied p e = grind (arith, q, c, x, y, right, applied, e)
 
 -- a page comes back
 pub page_back_link : (b : Block) (fr : Frame) (l : Link) → PageLink b fr l → CanReturnPage fr l → (l.content ≢ Unlocked → l.unapplied ≡ false → (p : Page) → b.logged ≡ Some p → p ≡ fr.page) → PageLink b fr (page_kinds.link_after page_kinds.page_back b fr l)

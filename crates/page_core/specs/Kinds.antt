@@ -92,7 +92,7 @@ pub record CanUnshare (fr : Frame) (l : Link) : Type 0 where
 
 pub record CanUnexclude (fr : Frame) (l : Link) : Type 0 where
   pub right : l.content ≡ Exclusive
-  pub settled : l.unapplied ≡ false
+  pub applied : l.unapplied ≡ false
   pub page_home : l.out ≡ None
 
 pub record CanTakeCopy (fr : Frame) (l : Link) : Type 0 where
@@ -137,7 +137,7 @@ pub record CanNoteWrite (fr : Frame) (l : Link) : Type 0 where
 pub record CanMakeEntry (p : Page) (fr : Frame) (l : Link) : Type 0 where
   pub right : l.content ≡ Exclusive
   pub dirtied : l.dirtied ≡ true
-  pub settled : l.unapplied ≡ false
+  pub applied : l.unapplied ≡ false
   pub sound : is_sound_page p ≡ true
   pub used : is_new_page p ≡ false
 

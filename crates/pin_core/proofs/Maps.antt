@@ -84,8 +84,8 @@ module _ (n : ℕ) (of : ℕ → ℕ) (gives : ℕ → ℕ → Option ℕ) (owed
     at_else : (p t : ℕ) → p ≢ q → gives' p t ≡ gives p t
     at_else p t o = λ k. ge p o k t
 
-  changing_settled : (q : ℕ) (owed' : ℕ → MapChange) → ((p : ℕ) → p ≡ q → owed' p ≡ NoChange) → ((p : ℕ) → p ≢ q → owed' p ≡ owed p) → (p : ℕ) → OwedLaw n of p (owed' p)
-  changing_settled q owed' oh oe p = dite (ℕ_discrete p q) (λ e. subst (OwedLaw n of p) (sym (oh p e)) tt) (λ o. subst (OwedLaw n of p) (sym (oe p o)) (h.changing p))
+  changing_none : (q : ℕ) (owed' : ℕ → MapChange) → ((p : ℕ) → p ≡ q → owed' p ≡ NoChange) → ((p : ℕ) → p ≢ q → owed' p ≡ owed p) → (p : ℕ) → OwedLaw n of p (owed' p)
+  changing_none q owed' oh oe p = dite (ℕ_discrete p q) (λ e. subst (OwedLaw n of p) (sym (oh p e)) tt) (λ o. subst (OwedLaw n of p) (sym (oe p o)) (h.changing p))
 
   entered_map : (q a b : ℕ) (gives' : ℕ → ℕ → Option ℕ) (owed' : ℕ → MapChange) → owed q ≡ Entering a b → IsPair n of q a b → ((p : ℕ) → p ≡ q → gives' p ≡ map_after (Entering a b) (gives q)) → ((p : ℕ) → p ≢ q → gives' p ≡ gives p)
       → ((p : ℕ) → p ≡ q → owed' p ≡ NoChange) → ((p : ℕ) → p ≢ q → owed' p ≡ owed p) → MapLaw n of gives' owed' word
@@ -96,7 +96,7 @@ module _ (n : ℕ) (of : ℕ → ℕ) (gives : ℕ → ℕ → Option ℕ) (owed
         (λ same. dite (ℕ_discrete p q) (λ is. let bf : b ≡ f = some_is (sym (at_tag q a x gives' gh ge p t is same) ∙ e) in subst (λ (z : ℕ × ℕ × ℕ). IsPair n of z.0 z.1 z.2) (λ k. (sym is k, sym same k, bf k)) pair)
         (λ o. h.mapped p t f (sym (at_else q a x gives' gh ge p t o) ∙ e)))
         (λ o. h.mapped p t f (sym (at_other q a x gives' gh ge p t o) ∙ e));
-    changing = changing_settled q owed' oh oe;
+    changing = changing_none q owed' oh oe;
   }
 
   left_map : (q a b : ℕ) (gives' : ℕ → ℕ → Option ℕ) (owed' : ℕ → MapChange) → owed q ≡ Leaving a b → IsPair n of q a b → ((p : ℕ) → p ≡ q → gives' p ≡ map_after (Leaving a b) (gives q)) → ((p : ℕ) → p ≢ q → gives' p ≡ gives p)
@@ -107,7 +107,7 @@ module _ (n : ℕ) (of : ℕ → ℕ) (gives : ℕ → ℕ → Option ℕ) (owed
     mapped = λ p t f e. dite (ℕ_discrete t a)
         (λ same. dite (ℕ_discrete p q) (λ is. let bad : None ≡ Some f = sym (at_tag q a x gives' gh ge p t is same) ∙ e in absurd (cc)) (λ o. h.mapped p t f (sym (at_else q a x gives' gh ge p t o) ∙ e)))
         (λ o. h.mapped p t f (sym (at_other q a x gives' gh ge p t o) ∙ e));
-    changing = changing_settled q owed' oh oe;
+    changing = changing_none q owed' oh oe;
   }
 
   -- the pair in change in the partition q is entered or left out

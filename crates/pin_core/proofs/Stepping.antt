@@ -78,7 +78,7 @@ module _ (s : State) (h : PinInvariant s) (i f : ℕ) (v : View) (there : get_el
       (record { emptied = refl; number = refl; next = refl; links = length-set v.links f (link_after k (s.frame f) (link v f)); partitions = ap (λ (x : List PartitionHold). length x) holds }) refl holds tag (grid_after k a known)
 
   -- the pair that a kind names, in its partition p
-  module _ (k : Kind) (p : ℕ) (c : MapChange) (below : p < s.partitions) (held : (hold v p).held ≡ true) (unchanged : (hold v p).changed ≡ false) (settled : (hold v p).change ≡ NoChange)
+  module _ (k : Kind) (p : ℕ) (c : MapChange) (below : p < s.partitions) (held : (hold v p).held ≡ true) (unchanged : (hold v p).changed ≡ false) (no_change : (hold v p).change ≡ NoChange)
       (names : (after k s f v).partitions ≡ set v.partitions p (record (hold v p) { change = c })) where
     abbrev named : PartitionHold
     named = record (hold v p) { change = c }
@@ -92,33 +92,33 @@ module _ (s : State) (h : PinInvariant s) (i f : ℕ) (v : View) (there : get_el
 
     turns_after : Grid turn_shape turn_part s.partitions (put s.partition p (record (s.partition p) { owed = c })) (λ _. tt) (set s.views i (after k s f v))
     turns_after = touch turn_shape turn_part turn_part s.partitions s.partition (λ _. tt) (λ _. tt) s.views i p v (after k s f v) (record (s.partition p) { owed = c }) named h.turns h.turns there below renamed (λ g _ other. refl)
-        (naming_keeps (s.partition p) (hold v p) c held unchanged settled)
+        (naming_keeps (s.partition p) (hold v p) c held unchanged no_change)
 
     named_backend : SameBackend v (after k s f v)
     named_backend = record { emptied = refl; number = refl; next = refl; links = length-set v.links f (link_after k (s.frame f) (link v f)); partitions = ap (λ (x : List PartitionHold). length x) names ∙ length-set v.partitions p named }
 
   -- no pair is in change under a latch that the view holds and has named none under
   unowed : (p : ℕ) → p < s.partitions → (hold v p).held ≡ true → (hold v p).change ≡ NoChange → owed p ≡ NoChange
-  unowed p below held settled = settled_owes (s.partition p) (hold v p) (h.turns.cells i v p there below) held settled
+  unowed p below held no_change = no_change_owes (s.partition p) (hold v p) (h.turns.cells i v p there below) held no_change
     where
-      settled_owes : (pt : Partition) (x : PartitionHold) → PartitionHoldLaw pt x → x.held ≡ true → x.change ≡ NoChange → pt.owed ≡ NoChange
-      settled_owes pt x c held settled = grind (arith, c, held, settled)
+      no_change_owes : (pt : Partition) (x : PartitionHold) → PartitionHoldLaw pt x → x.held ≡ true → x.change ≡ NoChange → pt.owed ≡ NoChange
+      no_change_owes pt x c held no_change = grind (arith, c, held, no_change)
 
   -- a kind that names the pair c of the partition p, after which the maps are exact
   naming : (k : Kind) (p : ℕ) (c : MapChange) → Allowed k (s.frame f) (link v f) → TagKnown k (s.frame f) → p < s.partitions → (hold v p).held ≡ true → (hold v p).changed ≡ false → (hold v p).change ≡ NoChange → (after k s f v).partitions ≡ set v.partitions p (record (hold v p) { change = c })
       → MapLaw s.frames s.partition_of gives (λ q. (put s.partition p (record (s.partition p) { owed = c }) q).owed) (λ g. (put s.frame f (frame_after k (s.frame f)) g).tag)
       → ((frame_after k (s.frame f)).tag ≢ no_tag → s.is_block (frame_after k (s.frame f)).tag ≡ true)
       → PinInvariant (record s { frame = put s.frame f (frame_after k (s.frame f)); partition = put s.partition p (record (s.partition p) { owed = c }); views = set s.views i (after k s f v) })
-  naming k p c a known below held unchanged settled names maps block = let part : ℕ → Partition = put s.partition p (record (s.partition p) { owed = c }) in let tag_words : ℕ → ℕ = λ g. (put s.frame f (frame_after k (s.frame f)) g).tag in
+  naming k p c a known below held unchanged no_change names maps block = let part : ℕ → Partition = put s.partition p (record (s.partition p) { owed = c }) in let tag_words : ℕ → ℕ = λ g. (put s.frame f (frame_after k (s.frame f)) g).tag in
       let exact : MapLaw s.frames s.partition_of (λ q. (part q).map) (λ q. (part q).owed) tag_words = maps_same s.frames s.partition_of gives (λ q. (part q).owed) tag_words maps (λ q. (part q).map) (λ q. (part q).owed) tag_words
       (λ q. dite (ℕ_discrete q p) (λ e. ap (λ (x : Partition). x.map) ((puts s.partition p (record (s.partition p) { owed = c }) q).same e) ∙ ap gives (sym e)) (λ o. ap (λ (x : Partition). x.map) ((puts s.partition p (record (s.partition p) { owed = c }) q).other o))) (λ q. refl) (λ g. refl) in record {
         grid = grid_after k a known;
-        turns = turns_after k p c below held unchanged settled names;
+        turns = turns_after k p c below held unchanged no_change names;
         apart = maps_apart s.frames s.partition_of (λ q. (part q).map) (λ q. (part q).owed) tag_words exact;
         blocks = blocks_put s.is_block s.frames s.frame f (frame_after k (s.frame f)) h.blocks block;
         maps = exact;
         placed = h.placed;
-        views = views_set s.frames s.partitions s.backends s.views h.views i v (after k s f v) there (named_backend k p c below held unchanged settled names);
+        views = views_set s.frames s.partitions s.backends s.views h.views i v (after k s f v) there (named_backend k p c below held unchanged no_change names);
         accounted = accounted_set s.views i v (after k s f v) h.accounted there refl refl;
       }
 
@@ -128,26 +128,26 @@ untagged tag fr l t c x le a = grind (arith, c, x, a, le pins, le settled_pins)
 
 -- the frame that a map gives for a tag has it, where no pair is in change
 has_tag : (o : Option ℕ) (owed : MapChange) (word tag f : ℕ) → PairLaw o owed word tag f → o ≡ Some f → owed ≡ NoChange → word ≡ tag
-has_tag o owed word tag f x given settled = dite (ℕ_discrete word tag) (λ e. e) (λ n. let l = x.found given n in absurd (cc))
+has_tag o owed word tag f x given no_change = dite (ℕ_discrete word tag) (λ e. e) (λ n. let l = x.found given n in absurd (cc))
 
 pub kind_step_keeps : (s : State) (i f : ℕ) (k : Kind) (v : View) → PinInvariant s → get_elem? s.views i ≡ some v → v.emptied ≡ false → f < s.frames → Allowed k (s.frame f) (link v f) → AllowedAround k s v f → PinInvariant (state_after k s i f v)
 kind_step_keeps s i f (store_tag tag) v h there live inside a around = let p = s.partition_of tag in let m = around.naming in let c : MapChange = Entering tag f in let x : Partition = record (s.partition p) { owed = c } in let fr : Frame = record (s.frame f) { tag = tag } in
-    let free = unowed s h i f v there live inside p (h.placed tag) m.held (m.settled p) in
+    let free = unowed s h i f v there live inside p (h.placed tag) m.held (m.no_change p) in
     let bare = untagged tag (s.frame f) (link v f) (tallies frame_shape s.views f) (h.grid.columns f inside) (h.grid.cells i v f there inside) (λ y. term_le (λ (u : View). weigh y (link u f)) s.views i v there) a in
-    naming s h i f v there live inside (store_tag tag) p c a tt (h.placed tag) m.held m.unchanged (m.settled p) refl
+    naming s h i f v there live inside (store_tag tag) p c a tt (h.placed tag) m.held m.unchanged (m.no_change p) refl
     (maps_entering s.frames s.partition_of (λ q. (s.partition q).map) (λ q. (s.partition q).owed) (λ g. (s.frame g).tag) h.maps tag f (λ q. (put s.partition p x q).owed) (λ g. (put s.frame f fr g).tag) a.named inside free around.lacking bare
     (λ q e. ap (λ (y : Partition). y.owed) ((puts s.partition p x q).same e)) (λ q o. ap (λ (y : Partition). y.owed) ((puts s.partition p x q).other o))
     (λ g e. ap (λ (y : Frame). y.tag) ((puts s.frame f fr g).same e)) (λ g o. ap (λ (y : Frame). y.tag) ((puts s.frame f fr g).other o)))
     (λ _. around.block)
 kind_step_keeps s i f erase_tag v h there live inside a m = let tag = (s.frame f).tag in let p = s.partition_of tag in let c : MapChange = Leaving tag f in let x : Partition = record (s.partition p) { owed = c } in let fr : Frame = record (s.frame f) { tag = no_tag } in
-    let free = unowed s h i f v there live inside p (h.placed tag) m.held (m.settled p) in
-    naming s h i f v there live inside erase_tag p c a tt (h.placed tag) m.held m.unchanged (m.settled p) refl
+    let free = unowed s h i f v there live inside p (h.placed tag) m.held (m.no_change p) in
+    naming s h i f v there live inside erase_tag p c a tt (h.placed tag) m.held m.unchanged (m.no_change p) refl
     (maps_leaving s.frames s.partition_of (λ q. (s.partition q).map) (λ q. (s.partition q).owed) (λ g. (s.frame g).tag) h.maps tag f (λ q. (put s.partition p x q).owed) (λ g. (put s.frame f fr g).tag) a.named inside free refl
     (λ q e. ap (λ (y : Partition). y.owed) ((puts s.partition p x q).same e)) (λ q o. ap (λ (y : Partition). y.owed) ((puts s.partition p x q).other o))
     (λ g e. ap (λ (y : Frame). y.tag) ((puts s.frame f fr g).same e)) (λ g o. ap (λ (y : Frame). y.tag) ((puts s.frame f fr g).other o)))
     (λ named. absurd (named refl))
 kind_step_keeps s i f (pin_mapped tag ring) v h there live inside a m = let p = s.partition_of tag in let pair = h.maps.mapped p tag f m.given in
-    plain s h i f v there live inside (pin_mapped tag ring) a (has_tag ((s.partition p).map tag) (s.partition p).owed (s.frame f).tag tag f (h.maps.pairs tag f pair.named inside) m.given (unowed s h i f v there live inside p (h.placed tag) m.held m.settled), pair.named) refl refl
+    plain s h i f v there live inside (pin_mapped tag ring) a (has_tag ((s.partition p).map tag) (s.partition p).owed (s.frame f).tag tag f (h.maps.pairs tag f pair.named inside) m.given (unowed s h i f v there live inside p (h.placed tag) m.held m.no_change), pair.named) refl refl
 kind_step_keeps s i f k v h there live inside a around = plain s h i f v there live inside k a tt refl refl
 
 -- Backend i, whose view is v, makes a step at the latch of the partition p

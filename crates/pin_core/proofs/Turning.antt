@@ -47,8 +47,8 @@ naming_keeps pt h new a b e = record {
 
 -- a view without a latch may be left out of the sum there
 pub turn_forgets : (pt : Partition) (h h' : PartitionHold) → h.held ≡ false → h'.held ≡ false → h'.out ≡ None → h'.change ≡ NoChange → h'.changed ≡ false → h'.seen ≡ None → TurnKeeps pt h pt h'
-turn_forgets pt h h' a b out settled unchanged unseen = record {
+turn_forgets pt h h' a b out no_change unchanged unseen = record {
   column = λ t t' q c sums le _. grind (arith, q, c, a, b, sums holders, le holders);
-  cell = λ t q le c. grind (arith, b, out, settled, unchanged, unseen);
+  cell = λ t q le c. grind (arith, b, out, no_change, unchanged, unseen);
   others = λ t n m q c le d. d;
 }

@@ -25,7 +25,7 @@ HasNoVictim v = (f : ℕ) → (link v f).role ≢ Victim
 pub record MayName (s : State) (v : View) (tag : ℕ) : Type 0 where
   pub held : (hold v (s.partition_of tag)).held ≡ true
   pub unchanged : (hold v (s.partition_of tag)).changed ≡ false
-  pub settled : (p : ℕ) → (hold v p).change ≡ NoChange
+  pub no_change : (p : ℕ) → (hold v p).change ≡ NoChange
 
 -- and the map lacks the tag, which is a block's
 pub record MayEnter (s : State) (v : View) (tag : ℕ) : Type 0 where
@@ -36,7 +36,7 @@ pub record MayEnter (s : State) (v : View) (tag : ℕ) : Type 0 where
 -- the view has the latch of the tag's partition, whose map gives the frame, and names no pair in change there
 pub record IsMapped (s : State) (v : View) (tag f : ℕ) : Type 0 where
   pub held : (hold v (s.partition_of tag)).held ≡ true
-  pub settled : (hold v (s.partition_of tag)).change ≡ NoChange
+  pub no_change : (hold v (s.partition_of tag)).change ≡ NoChange
   pub given : (s.partition (s.partition_of tag)).map tag ≡ Some f
 
 -- What a kind at the frame f asks of the whole state and view, beyond the frame

@@ -48,7 +48,7 @@ pub record CanTakeTurn (pt : Partition) (h : PartitionHold) : Type 0 where
 pub record CanLeaveTurn (pt : Partition) (h : PartitionHold) : Type 0 where
   pub held : h.held ≡ true
   pub home : h.out ≡ None
-  pub settled : h.change ≡ NoChange
+  pub no_change : h.change ≡ NoChange
 
 pub record CanTakeMap (entries : List MapEntry) (pt : Partition) (h : PartitionHold) : Type 0 where
   pub held : h.held ≡ true

@@ -58,7 +58,7 @@ impl<L> NotedLane<L> {
     }
 
     /// The lane without the note of a call.
-    pub fn settled(self) -> NotedLane<L>
+    pub fn without_call(self) -> NotedLane<L>
         ensures number { result.number ≡ self.number }
         ensures device { result.device ≡ self.device }
         ensures call { result.call ≡ lane_call.Untouched }

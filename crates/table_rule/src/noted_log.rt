@@ -126,7 +126,7 @@ impl<G> NotedLog<G> {
     }
 
     /// The log without the note of a call.
-    pub fn settled(mut self) -> NotedLog<G>
+    pub fn without_call(mut self) -> NotedLog<G>
         ensures { result ≡ record self { call = log_call.Untouched } }
     {
         self.call = LogCall::Untouched;

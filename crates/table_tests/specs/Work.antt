@@ -36,7 +36,7 @@ pub record HasAtMostPin (l : Link) : Type 0 where
 pub record IsInside (p : ℕ) (v : View) : Type 0 where
   pub held : (hold v p).held ≡ true
   pub home : (hold v p).out ≡ None
-  pub settled : (q : ℕ) → (hold v q).change ≡ NoChange
+  pub no_change : (q : ℕ) → (hold v q).change ≡ NoChange
 
 -- over a call the view keeps what it has of the partitions' latches
 abbrev pub SameLatches : View → View → Type 0

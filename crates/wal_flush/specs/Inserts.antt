@@ -31,7 +31,7 @@ pub record CanInsert (relations : List RelEntry) (f : ℕ) (tag : Tag) (p : Page
   pub right : (link v f).content ≡ Exclusive
   pub dirtied : (link v f).dirtied ≡ true
   -- no entry of its own is unapplied, here or at another frame
-  pub settled : HasNoneUnapplied v
+  pub applied : HasNoneUnapplied v
   -- the page is sound, and isn't new
   pub sound : is_sound_page p ≡ true
   pub used : is_new_page p ≡ false

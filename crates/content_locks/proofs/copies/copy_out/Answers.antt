@@ -9,7 +9,7 @@ use Rattle.content_locks.proofs.copies.copy_out.Goals as goal
 pub copy_page-requires-clause-view : goal.copy_page-requires-clause-view
 copy_page-requires-clause-view g c = let v = c.requires.view in let l = c.look_content.ensures in subst MayCopy (sym l.link) record {
   right = v.right;
-  settled = v.settled;
+  applied = v.applied;
   home = v.home;
   shared = λ e. absurd (is_exclusive_lock _ _ _ _ l.did (sym c.is_exclusive.ensures ∙ c.if-is_exclusive.true) e);
 }
