@@ -19,7 +19,7 @@ use Rattle.frame_table.specs.Opened.{WasSoundAtOpening}
 use Rattle.frame_table.specs.Seats.{OnlyRises, base_of, frames_of, lanes_in, relations_of}
 use Rattle.wal_flush.specs.declared.flushes.FlushLog.TheVariants as log
 use Rattle.held_pins.specs.Tokens.{HeldFrame, IsNew, IsPinnedFor, Tokens, held_at, tokens_more, tokens_of, tokens_with}
-use Rattle.held_pins.specs.Rests.{HasNoDevice, HasNoLatch, LinksRest, Rests, kept_by_calls}
+use Rattle.held_pins.specs.Rests.{HasNoDevice, HasNoLatch, LinksRest, OnlyTokens, kept_by_calls}
 use Rattle.held_pins.proofs.HeldLists.{more_tags, with_here, with_past}
 use Rattle.held_pins.proofs.Keeping.{rests_more, rests_more_pinned}
 use Rattle.buffer_frames.specs.declared.flushing.FrameFlushError.TheVariants as flush
@@ -117,7 +117,7 @@ calls_of_refusal q tag ring v w (block.ReadFault failed) c = c
 calls_of_refusal q tag ring v w (block.Unsound failed) c = c
 
 -- what rests after a read
-pub rests_pinned : (tag f : ℕ) (t : Tokens) (w : View) → HasNoDevice w → HasNoLatch w → Pins tag f t w → (link w f).seen_valid ≡ true → Rests (tokens_with f tag t) w
+pub rests_pinned : (tag f : ℕ) (t : Tokens) (w : View) → HasNoDevice w → HasNoLatch w → Pins tag f t w → (link w f).seen_valid ≡ true → OnlyTokens (tokens_with f tag t) w
 rests_pinned tag f t w quiet latches p seen = record {
   quiet = quiet;
   links = rests_more_pinned f tag t w p.new p.others record {
@@ -130,7 +130,7 @@ rests_pinned tag f t w quiet latches p seen = record {
   latches = latches;
 }
 
-pub rests_again : (f : ℕ) (t : Tokens) (v : View) → Rests t v → Rests (tokens_more f t) v
+pub rests_again : (f : ℕ) (t : Tokens) (v : View) → OnlyTokens t v → OnlyTokens (tokens_more f t) v
 rests_again f t v r = record { quiet = r.quiet; links = rests_more f t v r.links; latches = r.latches }
 
 -- it is the same pass
@@ -143,7 +143,7 @@ same_kept p q table id census e advances = record {
     number = ap (λ (x : View). x.number) e;
     next = ap (λ (x : View). x.next) e;
     joined = ap (λ (x : View). x.joined) e;
-    kept = ap (λ (x : View). x.kept) e;
+    kept = ap (λ (x : View). x.joined_checkpoints) e;
     advances = advances;
   };
   upto = ap (λ (x : View). x.upto) e;

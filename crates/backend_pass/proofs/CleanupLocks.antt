@@ -12,7 +12,7 @@ use Rattle.page_core.specs.Steps.{MayWait}
 use Rattle.frame_table.specs.Content.{exclusive_link}
 use Rattle.frame_table.specs.Seats.{Looked, SameMarks, Touches}
 use Rattle.cleanup_lock.specs.Cleanup.{CanLockForCleanup}
-use Rattle.held_pins.specs.Rests.{LinkRests, Rests}
+use Rattle.held_pins.specs.Rests.{LinkRests, OnlyTokens}
 use Rattle.held_pins.specs.Tokens.{HeldFrame, IsPinnedFor, Tokens, held_at}
 use Rattle.held_pins.proofs.Keeping.{devices_touched, latches_same, link_looked, rests_touched}
 use Rattle.backend_pass.specs.Passes.{IsNumbered}
@@ -38,7 +38,7 @@ link_cleaned h lock l m a r = link_looked (Some h) (record l { content = lock })
     some_none : Some h ≡ None → ⊥
     some_none e = cc
 
-pub rests_cleaned : (f : ℕ) (h : HeldFrame) (t : Tokens) (v w : View) → held_at t f ≡ Some h → Cleans f v w → Rests t v → Rests t w
+pub rests_cleaned : (f : ℕ) (h : HeldFrame) (t : Tokens) (v w : View) → held_at t f ≡ Some h → Cleans f v w → OnlyTokens t v → OnlyTokens t w
 rests_cleaned f h t v w there k r = record {
   quiet = devices_touched f v w k.touches r.quiet;
   links = rests_touched f t v w k.touches
@@ -47,7 +47,7 @@ rests_cleaned f h t v w there k r = record {
 }
 
 -- a frame that is pinned for a block has its tag
-pub rests_tagged : (tag : Tag) (f : ℕ) (t : Tokens) (v : View) → IsPinnedFor tag f t → Rests t v → (link v f).tag ≡ Some (packed_tag tag)
+pub rests_tagged : (tag : Tag) (f : ℕ) (t : Tokens) (v : View) → IsPinnedFor tag f t → OnlyTokens t v → (link v f).tag ≡ Some (packed_tag tag)
 rests_tagged tag f t v pinned r = (r.links f).tag ∙ ap (λ (o : Option HeldFrame). option_map HeldFrame.tag o) pinned.there ∙ ap (λ (n : ℕ). Some n) pinned.same
 
 -- what a lock that was asked for leaves
@@ -61,5 +61,5 @@ pub can_clean : (o : Option HeldFrame) (h : HeldFrame) (l : Link) → o ≡ Some
 can_clean o h l e unlocked r = record { lock = can_lock o h l e unlocked r; settled = r.calm.assigned; applied = r.calm.applied; page_home = r.calm.page_home }
 
 -- and a wait, under the pass's number
-pub may_wait : (number id : ℕ) (t : Tokens) (v : View) → IsNumbered number id v → Rests t v → MayWait number v
+pub may_wait : (number id : ℕ) (t : Tokens) (v : View) → IsNumbered number id v → OnlyTokens t v → MayWait number v
 may_wait number id t v n r = record { own = sym n.number_is; nowhere = λ f. (r.links f).calm.no_wait }

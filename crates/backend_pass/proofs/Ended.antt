@@ -32,7 +32,7 @@ use Rattle.table_rule.specs.declared.opening.Opening.{Opening}
 use Rattle.table_rule.specs.Shows.{Devices}
 use Rattle.frame_table.specs.Closes.{Closes}
 use Rattle.held_pins.specs.Tokens.{no_tokens}
-use Rattle.held_pins.specs.Rests.{Rests}
+use Rattle.held_pins.specs.Rests.{OnlyTokens}
 use Rattle.backend_pass.specs.Passes.{PassState}
 use Rattle.backend_pass.specs.Managers.{AreFronted, IsFirstAt, first_in, others_in}
 use Rattle.backend_pass.specs.Closing.{ClosesAll, ClosesPass, EachPass, NothingPut, NothingWritten, PutNothing, calls_of_passes, joined_views, met_by_passes}
@@ -89,7 +89,7 @@ pub record TookIn (u w : View) : Type 0 where
   pub seen : u.end_seen ≤ w.end_seen
   pub down : u.saw_down ≡ true → w.saw_down ≡ true
   pub output : u.had_output ≡ true → w.had_output ≡ true
-  pub kept : (k : ℕ) × (get_elem? w.kept k ≡ some (kept_checkpoint u))
+  pub kept : (k : ℕ) × (get_elem? w.joined_checkpoints k ≡ some (kept_checkpoint u))
 
 or_right : (a b : Bool) → b ≡ true → (a || b) ≡ true
 or_right true b e = refl
@@ -110,7 +110,7 @@ took_in v (x ∷ xs) zero p e = let r = joins (joined_view v x.view) xs in let s
   seen = let a = r.seen in omega arith;
   down = λ d. r.down (or_right v.saw_down x.view.saw_down d);
   output = λ d. r.output (or_right v.had_output x.view.had_output d);
-  kept = r.kept (length v.kept) (kept_checkpoint x.view) (at_last v.kept (kept_checkpoint x.view) x.view.kept);
+  kept = r.kept (length v.joined_checkpoints) (kept_checkpoint x.view) (at_last v.joined_checkpoints (kept_checkpoint x.view) x.view.joined_checkpoints);
 }
 took_in v (x ∷ xs) (suc j) p e = took_in (joined_view v x.view) xs j p e
 
@@ -269,7 +269,7 @@ module _ (s : State) (h : Laws s) (w : View) (there : get_elem? s.pool.core.view
 
 module _ {L G : Type 0} where
   -- all of that
-  pub closes_all : (d : Devices L G) (o : Opening L G) (ps : List PassState) (lanes : List L) (log : G) (v w : View) (k : ℕ) → IsFirstAt k ps → first_in ps ≡ v → w ≡ joined_views v (others_in ps) → Rests no_tokens v → AreFronted o.base ps → Closes d o w lanes log → ClosesAll d o ps lanes log
+  pub closes_all : (d : Devices L G) (o : Opening L G) (ps : List PassState) (lanes : List L) (log : G) (v w : View) (k : ℕ) → IsFirstAt k ps → first_in ps ≡ v → w ≡ joined_views v (others_in ps) → OnlyTokens no_tokens v → AreFronted o.base ps → Closes d o w lanes log → ClosesAll d o ps lanes log
   closes_all d o ps lanes log v w k at first is r fronts c = record {
     state = s;
     laws = h;

@@ -11,7 +11,7 @@ use Rattle.pin_core.specs.declared.view.LogHold.{LogHold}
 use Rattle.pin_core.specs.State.{emptied_view, joined_view, sum_of_met, no_partition, idle, no_lane}
 use Rattle.pin_core.specs.Steps.{HoldsNothing, HoldsNothingAt}
 use Rattle.held_pins.specs.Tokens.{no_tokens}
-use Rattle.held_pins.specs.Rests.{Rests}
+use Rattle.held_pins.specs.Rests.{OnlyTokens}
 use Rattle.backend_pass.specs.Passes.{PassState}
 use Rattle.history_core.specs.Log.{IsFront}
 use Rattle.backend_pass.specs.Managers.{AreFronted, AreOthers, AreSpent, IsFirstAt, first_in, is_first, others_in}
@@ -20,7 +20,7 @@ use Rattle.pin_core.specs.declared.view.JoinedCheckpoint.{JoinedCheckpoint}
 use Rattle.grid.proofs.Lists.{at_longer}
 
 -- a view that rests without tokens holds nothing
-pub rests_hold_nothing : (v : View) → Rests no_tokens v → HoldsNothing v
+pub rests_hold_nothing : (v : View) → OnlyTokens no_tokens v → HoldsNothing v
 rests_hold_nothing v r = record {
   frames = λ f. let l = r.links f in record { no_pin = l.role; no_header = l.calm.no_header; no_content = l.unlocked refl; no_io = l.calm.no_io; page_home = l.calm.page_home; no_wait = l.calm.no_wait };
   partitions = λ p. ap (λ h. h.held) (r.latches p);
@@ -94,7 +94,7 @@ pub record Joins (v w : View) (ps : List PassState) : Type 0 where
   pub seen : v.end_seen ≤ w.end_seen
   pub down : v.saw_down ≡ true → w.saw_down ≡ true
   pub output : v.had_output ≡ true → w.had_output ≡ true
-  pub kept : (k : ℕ) (c : JoinedCheckpoint) → get_elem? v.kept k ≡ some c → (j : ℕ) × (get_elem? w.kept j ≡ some c)
+  pub kept : (k : ℕ) (c : JoinedCheckpoint) → get_elem? v.joined_checkpoints k ≡ some c → (j : ℕ) × (get_elem? w.joined_checkpoints j ≡ some c)
 
 or_true : (a b : Bool) → a ≡ true → (a || b) ≡ true
 or_true true b e = refl
@@ -143,7 +143,7 @@ joins v (p ∷ ps) = let r = joins (joined_view v p.view) ps in record {
   seen = let a = r.seen in omega arith;
   down = λ e. r.down (or_true v.saw_down p.view.saw_down e);
   output = λ e. r.output (or_true v.had_output p.view.had_output e);
-  kept = λ k c e. r.kept k c (at_longer v.kept _ k c e);
+  kept = λ k c e. r.kept k c (at_longer v.joined_checkpoints _ k c e);
 }
 
 -- the first pass takes in all others, and may close the table

@@ -9,7 +9,7 @@ use Rattle.pin_core.specs.declared.view.View.{View}
 use Rattle.pin_core.specs.State.{Page, link}
 use Rattle.frame_table.specs.Seats.{base_of}
 use Rattle.held_pins.specs.Tokens.{HeldFrame, IsPinnedFor, Tokens, held_at}
-use Rattle.held_pins.specs.Rests.{LinkRests, Rests}
+use Rattle.held_pins.specs.Rests.{LinkRests, OnlyTokens}
 use Rattle.held_pins.proofs.Keeping.{beside, beside_kept, devices_same, latches_same, rests_with}
 use Rattle.backend_pass.specs.declared.manager.Manager.{Manager}
 use Rattle.backend_pass.specs.declared.met.Shown.{Shown}
@@ -24,7 +24,7 @@ pub tag_pinned : (t : Tokens) (v : View) (tag : Tag) (f : ℕ) → IsPinnedFor t
 tag_pinned t v tag f pinned r = r.tag ∙ ap (option_map HeldFrame.tag) pinned.there ∙ ap Some pinned.same
 
 -- what rests after a read
-pub rests_read : (f : ℕ) (h : HeldFrame) (t : Tokens) (v w : View) → held_at t f ≡ Some h → OnlyReads v w → ((g : ℕ) → g ≢ f → link w g ≡ link v g) → beside_lock (link w f) ≡ beside_lock (link v f) → Rests t v → Rests t w
+pub rests_read : (f : ℕ) (h : HeldFrame) (t : Tokens) (v w : View) → held_at t f ≡ Some h → OnlyReads v w → ((g : ℕ) → g ≢ f → link w g ≡ link v g) → beside_lock (link w f) ≡ beside_lock (link v f) → OnlyTokens t v → OnlyTokens t w
 rests_read f h t v w there k others here r = record {
   quiet = devices_same v w (ap (λ (x : View). x.emptied) k.kept) (ap (λ (x : View). x.lanes) k.kept) (ap (λ (x : View). x.log) k.kept) r.quiet;
   links = rests_with f t w (beside_kept f t v w others (beside f t v r.links))
@@ -52,7 +52,7 @@ same_read p q table id census k = let e = k.kept in record {
     number = ap (λ (x : View). x.number) e;
     next = ap (λ (x : View). x.next) e;
     joined = ap (λ (x : View). x.joined) e;
-    kept = ap (λ (x : View). x.kept) e;
+    kept = ap (λ (x : View). x.joined_checkpoints) e;
     advances = k.rises;
   };
   upto = ap (λ (x : View). x.upto) e;

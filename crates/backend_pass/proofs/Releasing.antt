@@ -11,7 +11,7 @@ use Rattle.pin_core.specs.State.{link}
 use Rattle.segment_store.specs.Contents.{Pages}
 use Rattle.frame_table.specs.Seats.{Looked, MayUnpin, OnlyRises, SameMarks, SameSelf, Touches, unpinned_link, base_of, relations_of}
 use Rattle.held_pins.specs.Tokens.{HeldFrame, Tokens, held_at, tokens_less, tokens_more, tokens_of}
-use Rattle.held_pins.specs.Rests.{HasAtMostLock, LinkRests, Rests, role_of}
+use Rattle.held_pins.specs.Rests.{HasAtMostLock, LinkRests, OnlyTokens, role_of}
 use Rattle.held_pins.proofs.HeldLists.{less_others, less_tag, more_tags}
 use Rattle.held_pins.proofs.Keeping.{beside, beside_touched, devices_touched, latches_same, link_looked, rests_less, rests_without}
 use Rattle.frame_table.proofs.Rising.{rises_none, rises_touched}
@@ -53,14 +53,14 @@ unpinned_rests l c unlocked = record {
   unlocked = λ none. unlocked;
 }
 
-pub rests_unpinned : (f : ℕ) (t : Tokens) (v w : View) → Unpins f v w → (link v f).content ≡ Unlocked → held_at (tokens_less f t) f ≡ None → Rests t v → Rests (tokens_less f t) w
+pub rests_unpinned : (f : ℕ) (t : Tokens) (v w : View) → Unpins f v w → (link v f).content ≡ Unlocked → held_at (tokens_less f t) f ≡ None → OnlyTokens t v → OnlyTokens (tokens_less f t) w
 rests_unpinned f t v w u unlocked none r = record {
   quiet = devices_touched f v w u.touches r.quiet;
   links = rests_without f t w none (beside_touched f t v w u.touches (beside f t v r.links)) (link_looked None (unpinned_link (link v f)) (link w f) u.unpinned (unpinned_rests (link v f) (r.links f).calm unlocked));
   latches = latches_same v w u.touches.partitions r.latches;
 }
 
-pub rests_fewer : (f : ℕ) (t : Tokens) (v : View) → tokens_of (held_at t f) ≢ 1 → Rests t v → Rests (tokens_less f t) v
+pub rests_fewer : (f : ℕ) (t : Tokens) (v : View) → tokens_of (held_at t f) ≢ 1 → OnlyTokens t v → OnlyTokens (tokens_less f t) v
 rests_fewer f t v more r = record { quiet = r.quiet; links = rests_less f t v more r.links; latches = r.latches }
 
 -- the number, and what is shown
@@ -85,7 +85,7 @@ same_none p q table id census e = record {
     number = ap (λ (x : View). x.number) e;
     next = ap (λ (x : View). x.next) e;
     joined = ap (λ (x : View). x.joined) e;
-    kept = ap (λ (x : View). x.kept) e;
+    kept = ap (λ (x : View). x.joined_checkpoints) e;
     advances = subst (λ (w : View). OnlyRises p.view w) (sym e) (rises_none p.view);
   };
   upto = ap (λ (x : View). x.upto) e;
@@ -100,7 +100,7 @@ same_touched p q f table id census k = let e = k.self in record {
     number = ap (λ (x : View). x.number) e;
     next = ap (λ (x : View). x.next) e;
     joined = ap (λ (x : View). x.joined) e;
-    kept = ap (λ (x : View). x.kept) e;
+    kept = ap (λ (x : View). x.joined_checkpoints) e;
     advances = rises_touched f p.view q.view k;
   };
   upto = ap (λ (x : View). x.upto) e;

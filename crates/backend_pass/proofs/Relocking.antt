@@ -11,7 +11,7 @@ use Rattle.pin_core.specs.State.{link}
 use Rattle.frame_table.specs.Content.{CanLock}
 use Rattle.frame_table.specs.Seats.{SameMarks, Touches}
 use Rattle.held_pins.specs.Tokens.{HeldFrame, Tokens, held_at}
-use Rattle.held_pins.specs.Rests.{LinkRests, Rests, SameLocks, role_of}
+use Rattle.held_pins.specs.Rests.{LinkRests, OnlyTokens, SameLocks, role_of}
 use Rattle.held_pins.proofs.Keeping.{devices_touched, latches_same, rests_touched}
 use Rattle.backend_pass.proofs.Releasing.{AreHeld}
 
@@ -46,7 +46,7 @@ link_relocked h l m e r = record {
     some_none : Some h ≡ None → ⊥
     some_none e = cc
 
-pub rests_relocked : (f : ℕ) (h : HeldFrame) (t : Tokens) (v w : View) → held_at t f ≡ Some h → Relocks f v w → Rests t v → Rests t w
+pub rests_relocked : (f : ℕ) (h : HeldFrame) (t : Tokens) (v w : View) → held_at t f ≡ Some h → Relocks f v w → OnlyTokens t v → OnlyTokens t w
 rests_relocked f h t v w there k r = record {
   quiet = devices_touched f v w k.touches r.quiet;
   links = rests_touched f t v w k.touches

@@ -11,7 +11,7 @@ use Rattle.clock_sweep.specs.CensusList.{new_census}
 use Rattle.frame_table.specs.FrameSteps.{split_view}
 use Rattle.frame_table.specs.Seats.{base_of, frames_of, lanes_in}
 use Rattle.held_pins.specs.Tokens.{HeldFrame, held_at, no_tokens}
-use Rattle.held_pins.specs.Rests.{LinkRests, Rests}
+use Rattle.held_pins.specs.Rests.{LinkRests, OnlyTokens}
 use Rattle.backend_pass.specs.declared.pass_memory.PassMemory.{PassMemory}
 use Rattle.backend_pass.specs.declared.manager.Manager.{Manager}
 use Rattle.backend_pass.specs.PassMemories.{AreForFrames}
@@ -35,7 +35,7 @@ idle_rests = record {
 }
 
 -- the first view rests
-first_rests : (base frames partitions lanes : ℕ) → Rests no_tokens (first_view base frames partitions lanes)
+first_rests : (base frames partitions lanes : ℕ) → OnlyTokens no_tokens (first_view base frames partitions lanes)
 first_rests base frames partitions lanes = record {
   quiet = record {
     live = refl;

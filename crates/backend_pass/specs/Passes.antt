@@ -6,7 +6,7 @@ use Rattle.pin_core.specs.State.{emptied_view}
 use Rattle.clock_sweep.specs.CensusList.{CensusList}
 use Rattle.held_pins.specs.Tokens.{HeldFrame, no_tokens}
 use Rattle.frame_table.specs.Seats.{OnlyRises}
-use Rattle.held_pins.specs.Rests.{Rests, SameLocks}
+use Rattle.held_pins.specs.Rests.{OnlyTokens, SameLocks}
 use Rattle.wal_flush.specs.declared.inserts.InsertError.{InsertError}
 use Rattle.wal_flush.specs.declared.inserts.InsertError.TheVariants.{LogFull, LogDown, LogFault}
 use Rattle.backend_pass.specs.declared.marked.MarkedFrame.{MarkedFrame}
@@ -47,7 +47,7 @@ pub record IsNumbered (number id : ℕ) (v : View) : Type 0 where
 
 -- The view of a pass that has done nothing, over a log that begins at `base`
 pub record IsFreshView (number id base : ℕ) (v : View) : Type 0 where
-  pub rests : Rests no_tokens v
+  pub rests : OnlyTokens no_tokens v
   pub numbered : IsNumbered number id v
   pub front : v.front ≡ base
   pub met : v.met ≡ record { reads = 0; writes = 0; logs = 0 }
@@ -60,7 +60,7 @@ pub record KeepsPass (p q : PassState) : Type 0 where
   pub number : q.view.number ≡ p.view.number
   pub next : q.view.next ≡ p.view.next
   pub joined : q.view.joined ≡ p.view.joined
-  pub kept : q.view.kept ≡ p.view.kept
+  pub kept : q.view.joined_checkpoints ≡ p.view.joined_checkpoints
   pub advances : OnlyRises p.view q.view
 
 -- and its checkpoint began where it had begun

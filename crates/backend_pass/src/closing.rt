@@ -2,7 +2,7 @@
 ghost use Rattle.std.specs.Prelude.{◌≡◌, ◌<◌, []};
 ghost use Rattle.frame_table.specs.Seats.{Fits, SameSeat};
 ghost use Rattle.held_pins.specs.Tokens.{no_tokens};
-ghost use Rattle.held_pins.specs.Rests.{Rests};
+ghost use Rattle.held_pins.specs.Rests.{OnlyTokens};
 ghost use Rattle.backend_pass.specs.Managers.{AreSpent, IsFirstAt, first_in, is_first};
 ghost use Rattle.backend_pass.specs.Closing.{joined_views};
 
@@ -27,7 +27,7 @@ impl Pass {
         requires { self.tokens ≡ no_tokens }
         ensures table { result.table_id ≡ self.table }
         ensures me { (result.me.0 ≡ self.view) × (result.me.1 ≡ []) }
-        ensures rests { Rests no_tokens self.view }
+        ensures rests { OnlyTokens no_tokens self.view }
         ensures first { self.view.number ≡ 0 → result.id ≡ 0 }
     {
         let Pass {

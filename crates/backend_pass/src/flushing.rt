@@ -5,7 +5,7 @@ ghost use Rattle.pin_core.specs.declared.view.Content.TheVariants.{Unlocked};
 ghost use Rattle.pin_core.specs.State.{link};
 ghost use Rattle.table_rule.specs.Blocks.{has_block, is_block};
 ghost use Rattle.frame_table.specs.Seats.{frames_of, lanes_in, relations_of};
-ghost use Rattle.held_pins.specs.Rests.{Rests};
+ghost use Rattle.held_pins.specs.Rests.{OnlyTokens};
 ghost use Rattle.held_pins.specs.Tokens.{IsPinnedFor};
 ghost use Rattle.buffer_frames.specs.Flushing.{EndedInError, EndedWritten, FlushAnswer, met_flushing};
 ghost use Rattle.buffer_frames.specs.Working.{WorksAt};
@@ -100,7 +100,7 @@ fn flush_seated<L: BlockLane, G: LogDevice, R: Wait>(
 ) -> Result<bool, buffer_frames::FrameFlushError>
     requires table { badge.old.table_id ≡ table.now.table.shared.table_id }
     requires view { badge.old.views ≡ view_in badge.old.views ∷ [] }
-    requires rests { Rests held.now (view_in badge.old.views) }
+    requires rests { OnlyTokens held.now (view_in badge.old.views) }
     requires pinned { IsPinnedFor tag frame held.now }
     requires unlocked { (link (view_in badge.old.views) frame).content ≡ Unlocked }
     requires inside { frame < frames_of table.now }
@@ -109,7 +109,7 @@ fn flush_seated<L: BlockLane, G: LogDevice, R: Wait>(
     ensures table { badge.new.table_id ≡ badge.old.table_id }
     ensures id { badge.new.id ≡ badge.old.id }
     ensures view { badge.new.views ≡ view_in badge.new.views ∷ [] }
-    ensures rests { Rests held.now (view_in badge.new.views) }
+    ensures rests { OnlyTokens held.now (view_in badge.new.views) }
     ensures works { WorksAt frame (view_in badge.old.views) (view_in badge.new.views) }
     ensures unlocked { (link (view_in badge.new.views) frame).content ≡ Unlocked }
     ensures answer { FlushAnswer L.contents table.now (lane_number tag (lanes_in table.now)) tag frame (view_in badge.old.views) (view_in badge.new.views) result }

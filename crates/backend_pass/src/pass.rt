@@ -32,7 +32,7 @@ pub struct Pass {
 impl Model for Pass {
     ghost use Rattle.std.specs.Prelude.{◌≡◌, ◌≤◌, ◌∷◌, [], vec_capacity};
     ghost use Rattle.crossbeam_utils.specs.Padded.{padded_value};
-    ghost use Rattle.held_pins.specs.Rests.{Rests};
+    ghost use Rattle.held_pins.specs.Rests.{OnlyTokens};
     ghost use Rattle.backend_pass.specs.Passes.{IsNumbered, IsShown, PassState, view_in};
 
     ghost Value = { PassState };
@@ -40,7 +40,7 @@ impl Model for Pass {
     ghost view = { λ p. record { table = p.seat.table_id; id = p.seat.id; view = view_in p.seat.views; tokens = p.held; census = p.census; marked = p.marked.items } };
 
     // Its seat has one view, which holds what its tokens say and nothing else. It has room to mark each frame.
-    ghost invariant = { λ p. (p.seat.views ≡ view_in p.seat.views ∷ []) × Rests p.held (view_in p.seat.views) × IsNumbered p.number p.seat.id (view_in p.seat.views) × IsShown (view_in p.seat.views) (padded_value p.shown) × (p.census.frames ≤ vec_capacity p.marked) };
+    ghost invariant = { λ p. (p.seat.views ≡ view_in p.seat.views ∷ []) × OnlyTokens p.held (view_in p.seat.views) × IsNumbered p.number p.seat.id (view_in p.seat.views) × IsShown (view_in p.seat.views) (padded_value p.shown) × (p.census.frames ≤ vec_capacity p.marked) };
 }
 
 impl Pass {

@@ -6,7 +6,7 @@ ghost use Rattle.pin_core.specs.declared.view.Content.TheVariants as content;
 ghost use Rattle.pin_core.specs.State.{link};
 ghost use Rattle.table_rule.specs.Blocks.{has_block};
 ghost use Rattle.frame_table.specs.Seats.{frames_of, relations_of};
-ghost use Rattle.held_pins.specs.Rests.{Rests};
+ghost use Rattle.held_pins.specs.Rests.{OnlyTokens};
 ghost use Rattle.held_pins.specs.Tokens.{IsPinnedFor};
 ghost use Rattle.buffer_frames.specs.Working.{Made};
 ghost use Rattle.buffer_frames.specs.Puts.{PutAnswer, PutsAt, met_put, put_calls};
@@ -55,7 +55,7 @@ fn put_seated<L: BlockLane, G: LogDevice, R: Wait>(
 ) -> Result<Lsn, PutError>
     requires table { badge.old.table_id ≡ table.now.table.shared.table_id }
     requires view { badge.old.views ≡ view_in badge.old.views ∷ [] }
-    requires rests { Rests held.now (view_in badge.old.views) }
+    requires rests { OnlyTokens held.now (view_in badge.old.views) }
     requires pinned { IsPinnedFor tag frame held.now }
     requires right { (link (view_in badge.old.views) frame).content ≡ content.Exclusive }
     requires inside { frame < frames_of table.now }
@@ -66,7 +66,7 @@ fn put_seated<L: BlockLane, G: LogDevice, R: Wait>(
     ensures table { badge.new.table_id ≡ badge.old.table_id }
     ensures id { badge.new.id ≡ badge.old.id }
     ensures view { badge.new.views ≡ view_in badge.new.views ∷ [] }
-    ensures rests { Rests held.now (view_in badge.new.views) }
+    ensures rests { OnlyTokens held.now (view_in badge.new.views) }
     ensures puts { PutsAt frame (view_in badge.old.views) (view_in badge.new.views) }
     ensures right { (link (view_in badge.new.views) frame).content ≡ content.Exclusive }
     ensures marked { (view_in badge.new.views).dirtied_or_synced ≡ true }

@@ -3,7 +3,7 @@ ghost use Rattle.std.specs.Prelude.{◌≡◌, ◌∷◌, [], true, is_some};
 ghost use Rattle.block_tag.specs.Names.{lane_number, names_block};
 ghost use Rattle.table_rule.specs.Blocks.{has_block};
 ghost use Rattle.frame_table.specs.Seats.{OnlyRises, frames_of, lanes_in, relations_of};
-ghost use Rattle.held_pins.specs.Rests.{HasNoDevice, HasNoLatch, Rests, kept_by_calls, SameLocks};
+ghost use Rattle.held_pins.specs.Rests.{HasNoDevice, HasNoLatch, OnlyTokens, kept_by_calls, SameLocks};
 ghost use Rattle.held_pins.specs.Tokens.{IsNew};
 ghost use Rattle.buffer_frames.specs.Outside.{ring_shape};
 ghost use Rattle.buffer_frames.specs.Reads.{CensusRead, ReadAnswer, ReadCalls, met_read_block};
@@ -107,7 +107,7 @@ fn read_seated<L: BlockLane, G: LogDevice, R: Wait>(
 ) -> Result<PinnedBlock, BlockError>
     requires table { badge.old.table_id ≡ manager.now.table.table.shared.table_id }
     requires view { badge.old.views ≡ view_in badge.old.views ∷ [] }
-    requires rests { Rests held.now (view_in badge.old.views) }
+    requires rests { OnlyTokens held.now (view_in badge.old.views) }
     requires census { census.old.frames ≡ frames_of manager.now.table }
     requires tag { names_block tag ≡ true }
     requires block { has_block (relations_of manager.now.table) tag ≡ true }

@@ -3,7 +3,7 @@ ghost use Rattle.std.specs.Prelude.{◌≡◌, ◌∷◌, ◌<◌, []};
 ghost use Rattle.pin_core.specs.declared.view.Content.TheVariants.{Unlocked};
 ghost use Rattle.pin_core.specs.State.{link};
 ghost use Rattle.frame_table.specs.Seats.{frames_of, lanes_in};
-ghost use Rattle.held_pins.specs.Rests.{Rests};
+ghost use Rattle.held_pins.specs.Rests.{OnlyTokens};
 ghost use Rattle.buffer_sync.specs.declared.syncing.SyncOnly.TheVariants.{Needed};
 ghost use Rattle.buffer_sync.specs.Syncs.{AreAlone, SyncsOne};
 ghost use Rattle.backend_pass.specs.FrameFlushes.{frame_answer};
@@ -42,14 +42,14 @@ fn sync_seated<L: BlockLane, G: LogDevice, R: Wait>(
 ) -> Result<Synced, buffer_frames::FrameFlushError>
     requires table { badge.old.table_id ≡ table.now.table.shared.table_id }
     requires view { badge.old.views ≡ view_in badge.old.views ∷ [] }
-    requires rests { Rests held.now (view_in badge.old.views) }
+    requires rests { OnlyTokens held.now (view_in badge.old.views) }
     requires alone { AreAlone held.now }
     requires inside { frame < frames_of table.now }
     requires unlocked { only ≡ Needed → (link (view_in badge.old.views) frame).content ≡ Unlocked }
     ensures table { badge.new.table_id ≡ badge.old.table_id }
     ensures id { badge.new.id ≡ badge.old.id }
     ensures view { badge.new.views ≡ view_in badge.new.views ∷ [] }
-    ensures rests { Rests held.now (view_in badge.new.views) }
+    ensures rests { OnlyTokens held.now (view_in badge.new.views) }
     ensures did { SyncsOne L.contents table.now only frame (view_in badge.old.views) (view_in badge.new.views) result }
 {
     let mut seat = replace(badge, Badge::blank()).into_seat::<Value<L, G>>();
@@ -68,12 +68,12 @@ fn need_seated<L: BlockLane, G: LogDevice, R: Wait>(
 ) -> Option<Tag>
     requires table { badge.old.table_id ≡ table.now.table.shared.table_id }
     requires view { badge.old.views ≡ view_in badge.old.views ∷ [] }
-    requires rests { Rests held.now (view_in badge.old.views) }
+    requires rests { OnlyTokens held.now (view_in badge.old.views) }
     requires inside { frame < frames_of table.now }
     ensures table { badge.new.table_id ≡ badge.old.table_id }
     ensures id { badge.new.id ≡ badge.old.id }
     ensures view { badge.new.views ≡ view_in badge.new.views ∷ [] }
-    ensures rests { Rests held.now (view_in badge.new.views) }
+    ensures rests { OnlyTokens held.now (view_in badge.new.views) }
     ensures did { NeedsOne frame (view_in badge.old.views) (view_in badge.new.views) result }
 {
     let mut seat = replace(badge, Badge::blank()).into_seat::<Value<L, G>>();
@@ -90,11 +90,11 @@ fn load_hand_seated<L: BlockLane, G: LogDevice>(
 ) -> u64
     requires table { badge.old.table_id ≡ table.now.table.shared.table_id }
     requires view { badge.old.views ≡ view_in badge.old.views ∷ [] }
-    requires rests { Rests _held.now (view_in badge.old.views) }
+    requires rests { OnlyTokens _held.now (view_in badge.old.views) }
     ensures table { badge.new.table_id ≡ badge.old.table_id }
     ensures id { badge.new.id ≡ badge.old.id }
     ensures view { badge.new.views ≡ view_in badge.new.views ∷ [] }
-    ensures rests { Rests _held.now (view_in badge.new.views) }
+    ensures rests { OnlyTokens _held.now (view_in badge.new.views) }
     ensures did { LoadsHand (view_in badge.old.views) (view_in badge.new.views) result }
 {
     let mut seat = replace(badge, Badge::blank()).into_seat::<Value<L, G>>();
@@ -111,11 +111,11 @@ fn begin_seated<L: BlockLane, G: LogDevice>(
 ) -> Lsn
     requires table { badge.old.table_id ≡ table.now.table.shared.table_id }
     requires view { badge.old.views ≡ view_in badge.old.views ∷ [] }
-    requires rests { Rests _held.now (view_in badge.old.views) }
+    requires rests { OnlyTokens _held.now (view_in badge.old.views) }
     ensures table { badge.new.table_id ≡ badge.old.table_id }
     ensures id { badge.new.id ≡ badge.old.id }
     ensures view { badge.new.views ≡ view_in badge.new.views ∷ [] }
-    ensures rests { Rests _held.now (view_in badge.new.views) }
+    ensures rests { OnlyTokens _held.now (view_in badge.new.views) }
     ensures did { BeginsCheckpoint (view_in badge.old.views) (view_in badge.new.views) result }
 {
     let mut seat = replace(badge, Badge::blank()).into_seat::<Value<L, G>>();
@@ -134,11 +134,11 @@ fn flush_log_seated<L: BlockLane, G: LogDevice, R: Wait>(
 ) -> Result<(), FlushLog>
     requires table { badge.old.table_id ≡ table.now.table.shared.table_id }
     requires view { badge.old.views ≡ view_in badge.old.views ∷ [] }
-    requires rests { Rests _held.now (view_in badge.old.views) }
+    requires rests { OnlyTokens _held.now (view_in badge.old.views) }
     ensures table { badge.new.table_id ≡ badge.old.table_id }
     ensures id { badge.new.id ≡ badge.old.id }
     ensures view { badge.new.views ≡ view_in badge.new.views ∷ [] }
-    ensures rests { Rests _held.now (view_in badge.new.views) }
+    ensures rests { OnlyTokens _held.now (view_in badge.new.views) }
     ensures did { FlushesLog lsn (view_in badge.old.views) (view_in badge.new.views) result }
 {
     let mut seat = replace(badge, Badge::blank()).into_seat::<Value<L, G>>();
@@ -157,12 +157,12 @@ fn sync_lane_seated<L: BlockLane, G: LogDevice, R: Wait>(
 ) -> Result<(), Failed>
     requires table { badge.old.table_id ≡ table.now.table.shared.table_id }
     requires view { badge.old.views ≡ view_in badge.old.views ∷ [] }
-    requires rests { Rests _held.now (view_in badge.old.views) }
+    requires rests { OnlyTokens _held.now (view_in badge.old.views) }
     requires inside { lane < lanes_in table.now }
     ensures table { badge.new.table_id ≡ badge.old.table_id }
     ensures id { badge.new.id ≡ badge.old.id }
     ensures view { badge.new.views ≡ view_in badge.new.views ∷ [] }
-    ensures rests { Rests _held.now (view_in badge.new.views) }
+    ensures rests { OnlyTokens _held.now (view_in badge.new.views) }
     ensures did { SyncsLane (frames_of table.now) (lanes_in table.now) lane (view_in badge.old.views) (view_in badge.new.views) result }
 {
     let mut seat = replace(badge, Badge::blank()).into_seat::<Value<L, G>>();

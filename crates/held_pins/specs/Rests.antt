@@ -88,7 +88,7 @@ pub record HasOneLatch (p : ℕ) (v : View) : Type 0 where
   pub others : (q : ℕ) → q ≢ p → hold v q ≡ no_partition
 
 -- A view between two calls: it has what its tokens say, and nothing else
-pub record Rests (t : Tokens) (v : View) : Type 0 where
+pub record OnlyTokens (t : Tokens) (v : View) : Type 0 where
   pub quiet : HasNoDevice v
   pub links : LinksRest t v
   pub latches : HasNoLatch v

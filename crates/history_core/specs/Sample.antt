@@ -47,11 +47,11 @@ abbrev pub flush_log : List Event
 flush_log = log 0 take_log ∷ log 0 (log_out sample_log) ∷ log 0 sync_log ∷ log 0 (log_back false) ∷ raise_flushed 0 ∷ log 0 leave_log ∷ load_flushed 0 ∷ load_end 0 ∷ []
 
 -- both latches are free then, and the log's head is durable
-pub record Flushed (t : State) : Type 0 where
+pub record HeadFlushed (t : State) : Type 0 where
   pub lane : (t.lane 0).taken ≡ false
   pub log : t.device.taken ≡ false
   pub synced : t.device.synced ≡ 16
   pub flushed : t.flushed ≡ 0
 
 abbrev pub SampleRuns : Type 0
-SampleRuns = CanOpen sample_config × CanStore sample_config sample_store × ((m : State) × (t : State) × Run read_lane sample_start m × Run flush_log m t × Flushed t)
+SampleRuns = CanOpen sample_config × CanStore sample_config sample_store × ((m : State) × (t : State) × Run read_lane sample_start m × Run flush_log m t × HeadFlushed t)

@@ -11,7 +11,7 @@ use Rattle.frame_table.specs.declared.pin.Pin.{Pin}
 use Rattle.frame_table.specs.declared.table.FrameTable.{FrameTable}
 use Rattle.frame_table.specs.Seats.{Looked, SameSeat, frames_of, mapped_link}
 use Rattle.frame_table.specs.Latches.{SameWork}
-use Rattle.table_tests.specs.Work.{HasAtMostPin, IsQuiet, Keeps, KeepsBeside, OnlyPins, PinsBlock, PinsNone}
+use Rattle.table_tests.specs.Work.{HasAtMostPin, HasAtMostPinsAndLatches, Keeps, KeepsBeside, OnlyPins, PinsBlock, PinsNone}
 use Rattle.table_tests.proofs.Seats.{keeps_on}
 use Rattle.table_tests.proofs.Working.{beside_on, calm_looked, keeps_worked, links_worked, not_victim, only_pins}
 
@@ -52,7 +52,7 @@ module _ {L G : Type 0} (t : FrameTable L G) (tag : Tag) where
     )
 
   -- whether it was found or not, the seat holds pins alone
-  pub found_pins : (s s' : Seat (Value L G) View) (o : Option Pin) → OnlyPins t s → IfSome o (Pins s s') → IfNone o (Lacks s s') → IsQuiet t s' → ((q : ℕ) → (hold s'.me.0 q).held ≡ false) → OnlyPins t s'
+  pub found_pins : (s s' : Seat (Value L G) View) (o : Option Pin) → OnlyPins t s → IfSome o (Pins s s') → IfNone o (Lacks s s') → HasAtMostPinsAndLatches t s' → ((q : ℕ) → (hold s'.me.0 q).held ≡ false) → OnlyPins t s'
   found_pins s s' (Some p) pins (low, block, keeps) lacks quiet free = only_pins t p.frame s s' pins.no_victim keeps (not_victim (link s'.me.0 p.frame) (link s'.me.0 p.frame) refl block.0) quiet free
   found_pins s s' None pins found (none, keeps) quiet free = record {
     quiet = quiet;

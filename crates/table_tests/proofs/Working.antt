@@ -30,7 +30,7 @@ use Rattle.frame_table.specs.Latches.{DidTurn, IsTurned, MapStep, SameWork, back
 use Rattle.map_partitions.specs.Partition.{HoldsLatch}
 use Rattle.frame_table.proofs.Told.{touches_on}
 use Rattle.clock_sweep.proofs.Keeping.{same_on}
-use Rattle.table_tests.specs.Work.{HasAtMostPin, IsInside, IsQuiet, IsQuietBeside, KeepsBeside, KeepsOthers, OnlyPins, PinsNone, SeatHoldsNothing}
+use Rattle.table_tests.specs.Work.{HasAtMostPin, HasAtMostPinsAndLatches, HasAtMostPinsAndLatchesBeside, IsInside, KeepsBeside, KeepsOthers, OnlyPins, PinsNone, SeatHoldsNothing}
 
 -- The link of a frame, before its header was locked and under the lock
 module _ (l m : Link) (word : ℕ) (locked : Looked (locked_link word l) m) where
@@ -78,15 +78,15 @@ free_has_no_change s laws i v there live q free = dite (dec_lt q s.pool.core.par
     (λ high. let wide = laws.invariant.pool.core.views.wide i v there live in ap (λ (h : PartitionHold). h.change) (get_or_past v.partitions q no_partition (omega (arith, wide.1, high))))
 
 module _ {L G : Type 0} (t : FrameTable L G) where
-  pub quiet_beside : (s : Seat (Value L G) View) (f : ℕ) → IsQuiet t s → IsQuietBeside t f s
+  pub quiet_beside : (s : Seat (Value L G) View) (f : ℕ) → HasAtMostPinsAndLatches t s → HasAtMostPinsAndLatchesBeside t f s
   quiet_beside s f q = record { fits = q.fits; live = q.live; hand = q.hand; others = λ g n. q.frames g; lanes = q.lanes; log = q.log }
 
-  pub quiet_at : (s : Seat (Value L G) View) (f : ℕ) → IsQuietBeside t f s → HasAtMostPin (link s.me.0 f) → IsQuiet t s
+  pub quiet_at : (s : Seat (Value L G) View) (f : ℕ) → HasAtMostPinsAndLatchesBeside t f s → HasAtMostPin (link s.me.0 f) → HasAtMostPinsAndLatches t s
   quiet_at s f q c = record { fits = q.fits; live = q.live; hand = q.hand; frames = λ g. dite (ℕ_discrete g f) (λ e. subst (λ (x : ℕ). HasAtMostPin (link s.me.0 x)) (sym e) c) (λ n. q.others g n); lanes = q.lanes; log = q.log }
 
   module _ (s s' : Seat (Value L G) View) (same : SameSeat s s') where
     -- a step at the frame
-    pub beside_still : (f : ℕ) → IsQuietBeside t f s → SameSelf s.me.0 s'.me.0 → ((g : ℕ) → g ≢ f → link s'.me.0 g ≡ link s.me.0 g) → IsQuietBeside t f s'
+    pub beside_still : (f : ℕ) → HasAtMostPinsAndLatchesBeside t f s → SameSelf s.me.0 s'.me.0 → ((g : ℕ) → g ≢ f → link s'.me.0 g ≡ link s.me.0 g) → HasAtMostPinsAndLatchesBeside t f s'
     beside_still f q self others = record {
       fits = same.table ∙ q.fits;
       live = ap (λ (x : View). x.emptied) self ∙ q.live;
@@ -97,7 +97,7 @@ module _ {L G : Type 0} (t : FrameTable L G) where
     }
 
     -- a step under a partition's latch
-    pub quiet_worked : IsQuiet t s → SameWork s.me.0 s'.me.0 → s'.me.0.lanes ≡ s.me.0.lanes → s'.me.0.log ≡ s.me.0.log → IsQuiet t s'
+    pub quiet_worked : HasAtMostPinsAndLatches t s → SameWork s.me.0 s'.me.0 → s'.me.0.lanes ≡ s.me.0.lanes → s'.me.0.log ≡ s.me.0.log → HasAtMostPinsAndLatches t s'
     quiet_worked q work lanes log = record {
       fits = same.table ∙ q.fits;
       live = ap (λ (x : View). x.emptied) work ∙ q.live;
@@ -157,7 +157,7 @@ module _ (p : ℕ) (v w : View) (d : DidTurn true (Partition p) v w) (turned : I
       (λ n. ap (λ (h : PartitionHold). h.held) (left.1 q n ∙ keeps q n ∙ turned.1 q n) ∙ free q)
 
 -- a seat that pins frames for its callers does so still, where at one frame it has no victim's pin
-pub only_pins : {L G : Type 0} (t : FrameTable L G) (f : ℕ) (s s' : Seat (Value L G) View) → HasNoVictim s.me.0 → KeepsBeside f s s' → (link s'.me.0 f).role ≢ Victim → IsQuiet t s' → ((q : ℕ) → (hold s'.me.0 q).held ≡ false) → OnlyPins t s'
+pub only_pins : {L G : Type 0} (t : FrameTable L G) (f : ℕ) (s s' : Seat (Value L G) View) → HasNoVictim s.me.0 → KeepsBeside f s s' → (link s'.me.0 f).role ≢ Victim → HasAtMostPinsAndLatches t s' → ((q : ℕ) → (hold s'.me.0 q).held ≡ false) → OnlyPins t s'
 only_pins t f s s' none keeps here quiet free = record {
   quiet = quiet;
   no_victim = λ g. dite (ℕ_discrete g f) (λ e. subst (λ (x : ℕ). (link s'.me.0 x).role ≢ Victim) (sym e) here) (λ n victim. none g (sym (ap (λ (l : Link). l.role) (keeps.others g n)) ∙ victim));
@@ -169,7 +169,7 @@ pub not_victim : (l m : Link) → m ≡ l → l.role ≡ HandedOut → m.role �
 not_victim l m e out victim = let no : HandedOut ≡ Victim = sym out ∙ sym (ap (λ (x : Link). x.role) e) ∙ victim in absurd (cc)
 
 -- such a seat gives a pin up
-pub pins_given_up : {L G : Type 0} (t : FrameTable L G) (f h : ℕ) (s s' s'' : Seat (Value L G) View) → h ≡ f → HasNoVictim s.me.0 → KeepsBeside f s s' → IsQuiet t s' → ((q : ℕ) → (hold s'.me.0 q).held ≡ false) → SameSeat s' s'' → Touches h s'.me.0 s''.me.0 → Looked (unpinned_link (link s'.me.0 h)) (link s''.me.0 h) → OnlyPins t s''
+pub pins_given_up : {L G : Type 0} (t : FrameTable L G) (f h : ℕ) (s s' s'' : Seat (Value L G) View) → h ≡ f → HasNoVictim s.me.0 → KeepsBeside f s s' → HasAtMostPinsAndLatches t s' → ((q : ℕ) → (hold s'.me.0 q).held ≡ false) → SameSeat s' s'' → Touches h s'.me.0 s''.me.0 → Looked (unpinned_link (link s'.me.0 h)) (link s''.me.0 h) → OnlyPins t s''
 pins_given_up t f h s s' s'' e none keeps quiet free same there given = only_pins t f s s'' none
     (beside_on f s s' s'' keeps (keeps_touched s' s'' same f touches.self touches.others))
     (λ victim. let no : Absent ≡ Victim = sym up.role ∙ victim in absurd (cc))

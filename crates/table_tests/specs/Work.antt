@@ -70,7 +70,7 @@ module _ {L G : Type 0} where
     pub free : HoldsNothing s.me.0
 
   -- It is one of the table, and holds at most pins, and latches of partitions, whatever it has at the frame f
-  pub record IsQuietBeside (t : FrameTable L G) (f : ℕ) (s : Seat (Value L G) View) : Type 0 where
+  pub record HasAtMostPinsAndLatchesBeside (t : FrameTable L G) (f : ℕ) (s : Seat (Value L G) View) : Type 0 where
     pub fits : Fits t s
     pub live : s.me.0.emptied ≡ false
     pub hand : s.me.1 ≡ []
@@ -79,7 +79,7 @@ module _ {L G : Type 0} where
     pub log : s.me.0.log.held ≡ false
 
   -- It is one of the table, and holds at most pins, and latches of partitions
-  pub record IsQuiet (t : FrameTable L G) (s : Seat (Value L G) View) : Type 0 where
+  pub record HasAtMostPinsAndLatches (t : FrameTable L G) (s : Seat (Value L G) View) : Type 0 where
     pub fits : Fits t s
     pub live : s.me.0.emptied ≡ false
     pub hand : s.me.1 ≡ []
@@ -89,7 +89,7 @@ module _ {L G : Type 0} where
 
   -- and pins alone, for its callers
   pub record OnlyPins (t : FrameTable L G) (s : Seat (Value L G) View) : Type 0 where
-    pub quiet : IsQuiet t s
+    pub quiet : HasAtMostPinsAndLatches t s
     pub no_victim : HasNoVictim s.me.0
     pub partitions : (p : ℕ) → (hold s.me.0 p).held ≡ false
 

@@ -8,7 +8,7 @@ ghost use Rattle.pin_core.specs.State.{link};
 ghost use Rattle.map_partitions.specs.Partition.{HoldsLatch};
 ghost use Rattle.frame_table.specs.Closes.{CanClose};
 ghost use Rattle.frame_table.specs.Seats.{Lacks, Touches, frames_of};
-ghost use Rattle.table_tests.specs.Work.{HasBlock, IsInside, IsQuiet, Keeps, KeepsBeside, KeepsOthers, OnlyPins, PinsBlock, PinsNone};
+ghost use Rattle.table_tests.specs.Work.{HasAtMostPinsAndLatches, HasBlock, IsInside, Keeps, KeepsBeside, KeepsOthers, OnlyPins, PinsBlock, PinsNone};
 
 use crate::fixture::{Table, TableSeat};
 use block_tag::Tag;
@@ -22,7 +22,7 @@ fn pin_free<R: Wait>(table: &Table, rt: &R, seat: &mut TableSeat, frame: u32) ->
     requires pins { OnlyPins table.now seat.old }
     requires absent { (link seat.old.me.0 frame).role ≡ Absent }
     requires frame { frame < frames_of table.now }
-    ensures quiet { IsQuiet table.now seat.new }
+    ensures quiet { HasAtMostPinsAndLatches table.now seat.new }
     ensures keeps { KeepsBeside frame seat.old seat.new }
     ensures touches { Touches frame seat.old.me.0 seat.new.me.0 }
     ensures pin { IfSome result (λ p. p.frame ≡ frame) }
@@ -39,14 +39,14 @@ fn pin_free<R: Wait>(table: &Table, rt: &R, seat: &mut TableSeat, frame: u32) ->
 
 /// Stores a block's tag in the frame that the backend has as a victim, and enters it into the map, where the frame is free still.
 fn store_block<R: Wait>(table: &Table, rt: &R, seat: &mut TableSeat, frame: u32, tag: Tag) -> bool
-    requires quiet { IsQuiet table.now seat.old }
+    requires quiet { HasAtMostPinsAndLatches table.now seat.old }
     requires frame { frame < frames_of table.now }
     requires block { HasBlock table.now tag }
     requires victim { (link seat.old.me.0 frame).role ≡ Victim }
     requires inside { IsInside (partition_number tag) seat.old.me.0 }
     requires latch { HoldsLatch NoChange seat.old.me.0 (partition_number tag) }
     requires lacks { Lacks seat.old.me.0 (packed_tag tag) }
-    ensures quiet { IsQuiet table.now seat.new }
+    ensures quiet { HasAtMostPinsAndLatches table.now seat.new }
     ensures keeps { KeepsBeside frame seat.old seat.new }
     ensures inside { IsInside (partition_number tag) seat.new.me.0 }
     ensures latches { KeepsOthers (partition_number tag) seat.old.me.0 seat.new.me.0 }
@@ -72,13 +72,13 @@ fn enter_where_lacking<R: Wait>(
     frame: u32,
     tag: Tag,
 ) -> bool
-    requires quiet { IsQuiet table.now seat.old }
+    requires quiet { HasAtMostPinsAndLatches table.now seat.old }
     requires frame { frame < frames_of table.now }
     requires block { HasBlock table.now tag }
     requires victim { (link seat.old.me.0 frame).role ≡ Victim }
     requires inside { IsInside (partition_number tag) seat.old.me.0 }
     requires latch { HoldsLatch NoChange seat.old.me.0 (partition_number tag) }
-    ensures quiet { IsQuiet table.now seat.new }
+    ensures quiet { HasAtMostPinsAndLatches table.now seat.new }
     ensures keeps { KeepsBeside frame seat.old seat.new }
     ensures inside { IsInside (partition_number tag) seat.new.me.0 }
     ensures latches { KeepsOthers (partition_number tag) seat.old.me.0 seat.new.me.0 }
@@ -148,12 +148,12 @@ pub fn leave_block<R: Wait>(
 
 /// Pins the frame that the map gives for a block, under its partition's latch.
 fn pin_mapped<R: Wait>(table: &Table, rt: &R, seat: &mut TableSeat, tag: Tag) -> Option<Pin>
-    requires quiet { IsQuiet table.now seat.old }
+    requires quiet { HasAtMostPinsAndLatches table.now seat.old }
     requires none { PinsNone seat.old }
     requires block { HasBlock table.now tag }
     requires inside { IsInside (partition_number tag) seat.old.me.0 }
     requires latch { HoldsLatch NoChange seat.old.me.0 (partition_number tag) }
-    ensures quiet { IsQuiet table.now seat.new }
+    ensures quiet { HasAtMostPinsAndLatches table.now seat.new }
     ensures inside { IsInside (partition_number tag) seat.new.me.0 }
     ensures latches { KeepsOthers (partition_number tag) seat.old.me.0 seat.new.me.0 }
     ensures pinned { IfSome result (λ p. (p.frame < frames_of table.now) × PinsBlock tag (link seat.new.me.0 p.frame) × KeepsBeside p.frame seat.old seat.new) }

@@ -2,7 +2,7 @@ use Rattle.std.proofs.Common.{◌≡◌, ◌≢◌, ◌∙◌, ℕ, false, None,
 use Rattle.atomic_table.specs.declared.badge.Badge.{Badge}
 use Rattle.pin_core.specs.declared.view.View.{View}
 use Rattle.pin_core.specs.State.{link}
-use Rattle.held_pins.specs.Rests.{HasNoDevice, HasNoLatch, LinksRest, Rests, Stands}
+use Rattle.held_pins.specs.Rests.{HasNoDevice, HasNoLatch, LinksRest, OnlyTokens, Stands}
 use Rattle.held_pins.proofs.Keeping.{latches_same}
 use Rattle.backend_pass.specs.Passes.{view_in}
 use Rattle.backend_pass.proofs.Seated.{moved, moved_one, one_view, view_of_seat}
@@ -35,8 +35,8 @@ returns-clause-rests g c =
     let e = c.load_log_end-answer.ensures in
     let v = c.into_seat-seat.result.me.0 in
     let w = c.load_log_end-answer.new.seat.me.0 in
-    let r = subst (Rests c.args._held.now) before c.requires.rests in
-    moved_one (Rests c.args._held.now) (view_in c.into_badge.result.views) w after record {
+    let r = subst (OnlyTokens c.args._held.now) before c.requires.rests in
+    moved_one (OnlyTokens c.args._held.now) (view_in c.into_badge.result.views) w after record {
       quiet = devices_same v w (ap (λ (x : View). x.emptied) e.view) (ap (λ (x : View). x.lanes) e.view) (ap (λ (x : View). x.log) e.view) r.quiet;
       links = rests_unmarked c.args._held.now v w (e.unmarked refl) r.links;
       latches = latches_same v w (ap (λ (x : View). x.partitions) e.view) r.latches;

@@ -1,6 +1,6 @@
 use Rattle.std.proofs.Common.{◌≡◌, ◌∙◌, ℕ, inl, Ok, true, ap, refl, sym, subst, ◌<◌, arith}
 use Rattle.held_pins.specs.Tokens.{IsNew, IsPinnedFor, Tokens, count_of, tokens_more}
-use Rattle.held_pins.specs.Rests.{Rests, SameLocks}
+use Rattle.held_pins.specs.Rests.{OnlyTokens, SameLocks}
 use Rattle.backend_pass.specs.Managers.{Belongs}
 use Rattle.backend_pass.specs.Passes.{PassState, view_in}
 use Rattle.backend_pass.proofs.BlockReads.{frame_again, not_both, pinned_more, pinned_read, rests_again, unlocked_read}
@@ -21,7 +21,7 @@ returns-in_default-clause-pinned g c = pinned_read {L = g.row.L.Denot} {G = g.ro
 pub invariant_of-self : goal.invariant_of-self
 invariant_of-self g c =
     let i = c.self.invariant in
-    (i.0, subst (λ (t : Tokens). Rests t (view_in c.self.inside.seat.views)) (sym c.add_token.ensures.tokens) (rests_again c.in-Some.frame c.self.inside.held (view_in c.self.inside.seat.views) i.1), i.2, i.3, i.4)
+    (i.0, subst (λ (t : Tokens). OnlyTokens t (view_in c.self.inside.seat.views)) (sym c.add_token.ensures.tokens) (rests_again c.in-Some.frame c.self.inside.held (view_in c.self.inside.seat.views) i.1), i.2, i.3, i.4)
 
 pub returns-clause-belongs : goal.returns-clause-belongs
 returns-clause-belongs g c =

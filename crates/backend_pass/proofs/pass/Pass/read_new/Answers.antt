@@ -6,7 +6,7 @@ use Rattle.pin_core.specs.declared.view.View.{View}
 use Rattle.frame_table.specs.Seats.{frames_of}
 use Rattle.buffer_frames.specs.Reads.{KeptOrEmptied}
 use Rattle.held_pins.specs.Tokens.{IsNew, Tokens, tokens_less}
-use Rattle.held_pins.specs.Rests.{Rests, SameLocks}
+use Rattle.held_pins.specs.Rests.{OnlyTokens, SameLocks}
 use Rattle.backend_pass.specs.declared.errors.ReadError.{ReadError}
 use Rattle.backend_pass.specs.Managers.{Belongs}
 use Rattle.backend_pass.specs.Passes.{IsNumbered, IsShown, PassState, view_in}
@@ -22,7 +22,7 @@ invariant_of-self g c =
     let v = view_in c.self.inside.seat.views in
     let w = view_in c.read_seated.new.badge.views in (
       e.view,
-      subst (λ (t : Tokens). Rests t w) (sym c.add_pin.ensures.tokens) (rests_pinned (packed_tag c.args.tag) c.in-Ok.field-0.pin.frame c.self.inside.held w e.quiet e.latches e.answer.1 e.answer.2),
+      subst (λ (t : Tokens). OnlyTokens t w) (sym c.add_pin.ensures.tokens) (rests_pinned (packed_tag c.args.tag) c.in-Ok.field-0.pin.frame c.self.inside.held w e.quiet e.latches e.answer.1 e.answer.2),
       subst (λ (id : ℕ). IsNumbered c.self.inside.number id w) (sym e.id) (numbered_kept c.self.inside.number c.self.inside.seat.id v w e.kept i.2),
       shown_met v w (padded_value c.self.inside.shown) (ap (λ (x : View). x.front) e.kept) e.met i.3,
       subst (λ (frames : ℕ). frames ≤ vec_capacity c.self.inside.marked) (sym e.room) i.4,

@@ -7,7 +7,7 @@ use Rattle.pin_core.specs.Steps.{HoldsNoHeader}
 use Rattle.frame_table.specs.Seats.{MayUnpin}
 use Rattle.frame_table.proofs.Rising.{rises_none}
 use Rattle.held_pins.specs.Tokens.{Tokens, held_at, tokens_of}
-use Rattle.held_pins.specs.Rests.{Rests, SameLocks}
+use Rattle.held_pins.specs.Rests.{OnlyTokens, SameLocks}
 use Rattle.held_pins.proofs.HeldLists.{above_one}
 use Rattle.held_pins.proofs.Keeping.{same_locks_at, same_locks_none}
 use Rattle.backend_pass.specs.Managers.{Belongs}
@@ -18,7 +18,7 @@ use Rattle.backend_pass.proofs.pass.Pass.release.Goals as goal
 
 pub invariant_of-self : goal.invariant_of-self
 invariant_of-self g c = let i = c.self.invariant in
-    (i.0, subst (λ (t : Tokens). Rests t (view_in c.self.inside.seat.views)) (sym c.take_token.ensures.tokens) (rests_fewer c.args.pinned.frame c.self.inside.held _ (above_one _ c.in_default.ensures.others.0) i.1), i.2, i.3, i.4)
+    (i.0, subst (λ (t : Tokens). OnlyTokens t (view_in c.self.inside.seat.views)) (sym c.take_token.ensures.tokens) (rests_fewer c.args.pinned.frame c.self.inside.held _ (above_one _ c.in_default.ensures.others.0) i.1), i.2, i.3, i.4)
 
 pub returns-in_default-clause-belongs : goal.returns-in_default-clause-belongs
 returns-in_default-clause-belongs g c =
@@ -49,7 +49,7 @@ invariant_of-self-2 g c =
     let none = subst (λ (t : Tokens). held_at t f ≡ None) c.take_token.ensures.tokens last.2 in
     let same = c.into_badge.ensures.1 ∙ c.unpin_and_wake.ensures.seat.id ∙ c.into_seat-seat.ensures.1 ∙ ap (λ (b : Badge View). b.id) c.replace.ensures.value in (
       one_view c.into_badge.result c.unpin_and_wake.new.seat.me.0 c.into_badge.ensures.2,
-      subst (λ (t : Tokens). Rests t (view_in c.into_badge.result.views)) (sym c.take_token.ensures.tokens) (rests_unpinned f c.self.inside.held _ _ u unlocked none i.1),
+      subst (λ (t : Tokens). OnlyTokens t (view_in c.into_badge.result.views)) (sym c.take_token.ensures.tokens) (rests_unpinned f c.self.inside.held _ _ u unlocked none i.1),
       subst (λ (id : ℕ). IsNumbered c.self.inside.number id (view_in c.into_badge.result.views)) (sym same) (numbered_self c.self.inside.number c.self.inside.seat.id _ _ u.touches.self i.2),
       shown_self _ _ _ u.touches.self i.3,
       i.4,
