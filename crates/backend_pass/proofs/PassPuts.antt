@@ -65,7 +65,7 @@ same_put f p q table id census k = let e = k.kept in record {
     number = ap (λ (x : View). x.number) e;
     next = ap (λ (x : View). x.next) e;
     joined = ap (λ (x : View). x.joined) e;
-    kept = ap (λ (x : View). x.kept) e;
+    kept = ap (λ (x : View). x.joined_checkpoints) e;
     advances = k.advances;
   };
   upto = ap (λ (x : View). x.upto) e;

@@ -73,7 +73,7 @@ callers_begun upto p q table id tokens census e locks = record {
     number = ap (λ (x : View). x.number) e;
     next = ap (λ (x : View). x.next) e;
     joined = ap (λ (x : View). x.joined) e;
-    kept = ap (λ (x : View). x.kept) e;
+    kept = ap (λ (x : View). x.joined_checkpoints) e;
     advances = rises_begun upto p.view q.view e;
   };
   tokens = tokens;
@@ -129,7 +129,7 @@ callers_synced lane done p q table id tokens census e rises locks = record {
     number = ap (λ (x : View). x.number) e;
     next = ap (λ (x : View). x.next) e;
     joined = ap (λ (x : View). x.joined) e;
-    kept = ap (λ (x : View). x.kept) e;
+    kept = ap (λ (x : View). x.joined_checkpoints) e;
     advances = rises;
   };
   tokens = tokens;

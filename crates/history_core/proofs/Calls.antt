@@ -79,20 +79,20 @@ pub record SameCalls (v w : View) : Type 0 where
   pub flushed : w.flushed ≡ v.flushed
   pub emptied : w.emptied ≡ v.emptied
   pub number : w.number ≡ v.number
-  pub kept : w.kept ≡ v.kept
+  pub kept : w.joined_checkpoints ≡ v.joined_checkpoints
 
 -- a view with the same number that keeps these checkpoints and more
-own_longer : (v w : View) (m : List JoinedCheckpoint) → w.number ≡ v.number → w.kept ≡ v.kept ++ m → (n : ℕ) → HasNumber v n → HasNumber w n
-own_longer v w m number kept n has other = let x = has (λ z. other (z ∙ sym number)) in (x.0, x.1, subst (λ (l : List JoinedCheckpoint). get_elem? l x.0 ≡ some x.1) (sym kept) (at_longer v.kept m x.0 x.1 x.2), x.3)
+own_longer : (v w : View) (m : List JoinedCheckpoint) → w.number ≡ v.number → w.joined_checkpoints ≡ v.joined_checkpoints ++ m → (n : ℕ) → HasNumber v n → HasNumber w n
+own_longer v w m number kept n has other = let x = has (λ z. other (z ∙ sym number)) in (x.0, x.1, subst (λ (l : List JoinedCheckpoint). get_elem? l x.0 ≡ some x.1) (sym kept) (at_longer v.joined_checkpoints m x.0 x.1 x.2), x.3)
 
-own_same : (v w : View) → w.number ≡ v.number → w.kept ≡ v.kept → (n : ℕ) → HasNumber v n → HasNumber w n
-own_same v w number kept n x = own_longer v w [] number (kept ∙ sym (append-nil v.kept)) n x
+own_same : (v w : View) → w.number ≡ v.number → w.joined_checkpoints ≡ v.joined_checkpoints → (n : ℕ) → HasNumber v n → HasNumber w n
+own_same v w number kept n x = own_longer v w [] number (kept ∙ sym (append-nil v.joined_checkpoints)) n x
 
 -- the calls of a view that is taken in
 own_joined : (v u : View) (n : ℕ) → HasNumber u n → HasNumber (joined_view v u) n
 own_joined v u n has other = dite (ℕ_discrete n u.number)
-    (λ (z : n ≡ u.number). let y = kept_right v.kept (kept_checkpoint u ∷ u.kept) 0 (kept_checkpoint u) refl in (y.0, kept_checkpoint u, y.1, sym z))
-    (λ (o : n ≢ u.number). let x = has o in let y = kept_right v.kept (kept_checkpoint u ∷ u.kept) (suc x.0) x.1 x.2 in (y.0, x.1, y.1, x.3))
+    (λ (z : n ≡ u.number). let y = kept_right v.joined_checkpoints (kept_checkpoint u ∷ u.joined_checkpoints) 0 (kept_checkpoint u) refl in (y.0, kept_checkpoint u, y.1, sym z))
+    (λ (o : n ≢ u.number). let x = has o in let y = kept_right v.joined_checkpoints (kept_checkpoint u ∷ u.joined_checkpoints) (suc x.0) x.1 x.2 in (y.0, x.1, y.1, x.3))
   where
     kept_right : (l m : List JoinedCheckpoint) (k : ℕ) (c : JoinedCheckpoint) → get_elem? m k ≡ some c → (j : ℕ) × (get_elem? (l ++ m) j ≡ some c)
     kept_right [] m k c at = (k, at)
@@ -107,16 +107,16 @@ order_both (y ∷ l) m a b other (suc j) zero c d lt ec ed same = absurd (omega 
 order_both (y ∷ l) m a b other (suc j) (suc k) c d lt ec ed same = order_both l m (λ p q x z less ex ez. a (suc p) (suc q) x z (omega arith) ex ez) b (λ p q x z ex ez. other (suc p) q x z ex ez) j k c d (omega arith) ec ed same
 
 -- a view changes that keeps what it took in
-kept_set : (views : List View) → KeptLaw views → (i : ℕ) (v w : View) → get_elem? views i ≡ some v → w.kept ≡ v.kept → w.emptied ≡ v.emptied → KeptLaw (set views i w)
+kept_set : (views : List View) → KeptLaw views → (i : ℕ) (v w : View) → get_elem? views i ≡ some v → w.joined_checkpoints ≡ v.joined_checkpoints → w.emptied ≡ v.emptied → KeptLaw (set views i w)
 kept_set views h i v w there kept emptied = record {
-  only_first = λ j u e other. ⊎_elim (λ (t : (j ≡ i) × (w ≡ u)). ap (λ (x : View). x.kept) (sym t.1) ∙ kept ∙ h.only_first i v there (λ z. other (t.0 ∙ z))) (λ (t : (j ≢ i) × (get_elem? views j ≡ some u)). h.only_first j u t.1 other) (at_set views i j w u e);
+  only_first = λ j u e other. ⊎_elim (λ (t : (j ≡ i) × (w ≡ u)). ap (λ (x : View). x.joined_checkpoints) (sym t.1) ∙ kept ∙ h.only_first i v there (λ z. other (t.0 ∙ z))) (λ (t : (j ≢ i) × (get_elem? views j ≡ some u)). h.only_first j u t.1 other) (at_set views i j w u e);
   spent = λ j k u c e at. let x = was j k u c e at in after c.number x.0 x.1 x.2;
-  apart = λ j m n u c d e ec ed same. ⊎_elim (λ (t : (j ≡ i) × (w ≡ u)). let is : u.kept ≡ v.kept = ap (λ (x : View). x.kept) (sym t.1) ∙ kept in h.apart i m n v c d there (subst (λ (l : List JoinedCheckpoint). get_elem? l m ≡ some c) is ec) (subst (λ (l : List JoinedCheckpoint). get_elem? l n ≡ some d) is ed) same)
+  apart = λ j m n u c d e ec ed same. ⊎_elim (λ (t : (j ≡ i) × (w ≡ u)). let is : u.joined_checkpoints ≡ v.joined_checkpoints = ap (λ (x : View). x.joined_checkpoints) (sym t.1) ∙ kept in h.apart i m n v c d there (subst (λ (l : List JoinedCheckpoint). get_elem? l m ≡ some c) is ec) (subst (λ (l : List JoinedCheckpoint). get_elem? l n ≡ some d) is ed) same)
       (λ (t : (j ≢ i) × (get_elem? views j ≡ some u)). h.apart j m n u c d t.1 ec ed same) (at_set views i j w u e);
 }
   where
-    was : (j k : ℕ) (u : View) (c : JoinedCheckpoint) → get_elem? (set views i w) j ≡ some u → get_elem? u.kept k ≡ some c → (x : View) × (get_elem? views c.number ≡ some x) × (x.emptied ≡ true)
-    was j k u c e at = ⊎_elim (λ (t : (j ≡ i) × (w ≡ u)). h.spent i k v c there (subst (λ (l : List JoinedCheckpoint). get_elem? l k ≡ some c) (ap (λ (x : View). x.kept) (sym t.1) ∙ kept) at)) (λ (t : (j ≢ i) × (get_elem? views j ≡ some u)). h.spent j k u c t.1 at) (at_set views i j w u e)
+    was : (j k : ℕ) (u : View) (c : JoinedCheckpoint) → get_elem? (set views i w) j ≡ some u → get_elem? u.joined_checkpoints k ≡ some c → (x : View) × (get_elem? views c.number ≡ some x) × (x.emptied ≡ true)
+    was j k u c e at = ⊎_elim (λ (t : (j ≡ i) × (w ≡ u)). h.spent i k v c there (subst (λ (l : List JoinedCheckpoint). get_elem? l k ≡ some c) (ap (λ (x : View). x.joined_checkpoints) (sym t.1) ∙ kept) at)) (λ (t : (j ≢ i) × (get_elem? views j ≡ some u)). h.spent j k u c t.1 at) (at_set views i j w u e)
 
     after : (n : ℕ) (x : View) → get_elem? views n ≡ some x → x.emptied ≡ true → (y : View) × (get_elem? (set views i w) n ≡ some y) × (y.emptied ≡ true)
     after n x at spent = dite (ℕ_discrete n i)
@@ -124,18 +124,18 @@ kept_set views h i v w there kept emptied = record {
         (λ (o : n ≢ i). (x, set_else views i n w o ∙ at, spent))
 
 -- nothing is kept where the list is empty
-nothing : (u : View) (k : ℕ) (c : JoinedCheckpoint) → u.kept ≡ [] → get_elem? u.kept k ≡ some c → ⊥
+nothing : (u : View) (k : ℕ) (c : JoinedCheckpoint) → u.joined_checkpoints ≡ [] → get_elem? u.joined_checkpoints k ≡ some c → ⊥
 nothing u k c none at = some-ne-none c (sym (subst (λ (l : List JoinedCheckpoint). get_elem? l k ≡ some c) none at))
 
 live_not : {b : Bool} → b ≡ true → b ≡ false → ⊥
 live_not a b = cc
 
 -- one view more, that took in none
-kept_grows : (views : List View) → KeptLaw views → (w : View) → w.kept ≡ [] → KeptLaw (views ++ w ∷ [])
+kept_grows : (views : List View) → KeptLaw views → (w : View) → w.joined_checkpoints ≡ [] → KeptLaw (views ++ w ∷ [])
 kept_grows views h w none = record {
-  only_first = λ j u e other. ⊎_elim (λ (t : get_elem? views j ≡ some u). h.only_first j u t other) (λ (t : (w ≡ u) × (j ≡ length views)). ap (λ (x : View). x.kept) (sym t.0) ∙ none) (at_end views w u j e);
-  spent = λ j k u c e at. ⊎_elim (λ (t : get_elem? views j ≡ some u). let x = h.spent j k u c t at in (x.0, at_longer views (w ∷ []) c.number x.0 x.1, x.2)) (λ (t : (w ≡ u) × (j ≡ length views)). absurd (nothing u k c (ap (λ (x : View). x.kept) (sym t.0) ∙ none) at)) (at_end views w u j e);
-  apart = λ j m n u c d e ec ed same. ⊎_elim (λ (t : get_elem? views j ≡ some u). h.apart j m n u c d t ec ed same) (λ (t : (w ≡ u) × (j ≡ length views)). absurd (nothing u m c (ap (λ (x : View). x.kept) (sym t.0) ∙ none) ec)) (at_end views w u j e);
+  only_first = λ j u e other. ⊎_elim (λ (t : get_elem? views j ≡ some u). h.only_first j u t other) (λ (t : (w ≡ u) × (j ≡ length views)). ap (λ (x : View). x.joined_checkpoints) (sym t.0) ∙ none) (at_end views w u j e);
+  spent = λ j k u c e at. ⊎_elim (λ (t : get_elem? views j ≡ some u). let x = h.spent j k u c t at in (x.0, at_longer views (w ∷ []) c.number x.0 x.1, x.2)) (λ (t : (w ≡ u) × (j ≡ length views)). absurd (nothing u k c (ap (λ (x : View). x.joined_checkpoints) (sym t.0) ∙ none) at)) (at_end views w u j e);
+  apart = λ j m n u c d e ec ed same. ⊎_elim (λ (t : get_elem? views j ≡ some u). h.apart j m n u c d t ec ed same) (λ (t : (w ≡ u) × (j ≡ length views)). absurd (nothing u m c (ap (λ (x : View). x.joined_checkpoints) (sym t.0) ∙ none) ec)) (at_end views w u j e);
 }
 
 -- View j is taken into the first
@@ -146,8 +146,8 @@ module _ (views : List View) (h : KeptLaw views) (j : ℕ) (v u : View) (there :
   abbrev vs : List View
   vs = set views 0 w
 
-  kept_is : w.kept ≡ v.kept ++ kept_checkpoint u ∷ []
-  kept_is = ap (λ (l : List JoinedCheckpoint). v.kept ++ kept_checkpoint u ∷ l) (h.only_first j u here other)
+  kept_is : w.joined_checkpoints ≡ v.joined_checkpoints ++ kept_checkpoint u ∷ []
+  kept_is = ap (λ (l : List JoinedCheckpoint). v.joined_checkpoints ++ kept_checkpoint u ∷ l) (h.only_first j u here other)
 
   by_place : (k : ℕ) (x : View) → get_elem? (set vs j emptied_view) k ≡ some x → (P : View → Type 0) → P emptied_view → P w → ((q : ℕ) (y : View) → get_elem? views q ≡ some y → P y) → P x
   by_place k x e P a b c = ⊎_elim (λ (t : (k ≡ j) × (emptied_view ≡ x)). subst P t.1 a) (λ (t : (k ≢ j) × (get_elem? vs k ≡ some x)). ⊎_elim (λ (y : (k ≡ 0) × (w ≡ x)). subst P y.1 b) (λ (y : (k ≢ 0) × (get_elem? views k ≡ some x)). c k x y.1) (at_set views 0 k w x t.1)) (at_set vs j k emptied_view x e)
@@ -157,7 +157,7 @@ module _ (views : List View) (h : KeptLaw views) (j : ℕ) (v u : View) (there :
   still_spent n x at spent = dite (ℕ_discrete n j) (λ (e : n ≡ j). (emptied_view, ap (get_elem? (set vs j emptied_view)) e ∙ set_here vs j u emptied_view (set_else views 0 j w other ∙ here), refl))
       (λ (o : n ≢ j). dite (ℕ_discrete n 0) (λ (e : n ≡ 0). absurd (live_not (ap (λ (y : View). y.emptied) (some-injective v x (sym there ∙ ap (get_elem? views) (sym e) ∙ at)) ∙ spent) live)) (λ (p : n ≢ 0). (x, set_else vs j n emptied_view o ∙ set_else views 0 n w p ∙ at, spent)))
 
-  taken : (c : JoinedCheckpoint) → ((k : ℕ) × (get_elem? v.kept k ≡ some c)) ⊎ (kept_checkpoint u ≡ c) → (z : View) × (get_elem? (set vs j emptied_view) c.number ≡ some z) × (z.emptied ≡ true)
+  taken : (c : JoinedCheckpoint) → ((k : ℕ) × (get_elem? v.joined_checkpoints k ≡ some c)) ⊎ (kept_checkpoint u ≡ c) → (z : View) × (get_elem? (set vs j emptied_view) c.number ≡ some z) × (z.emptied ≡ true)
   taken c (inl t) = let z = h.spent 0 t.0 v c there t.1 in still_spent c.number z.0 z.1 z.2
   taken c (inr e) = (emptied_view, ap (get_elem? (set vs j emptied_view)) (ap (λ (y : JoinedCheckpoint). y.number) (sym e) ∙ number) ∙ set_here vs j u emptied_view (set_else views 0 j w other ∙ here), refl)
 
@@ -165,23 +165,23 @@ module _ (views : List View) (h : KeptLaw views) (j : ℕ) (v u : View) (there :
   at_last l n c at = ⊎_elim (λ (t : get_elem? l n ≡ some c). inl (n, t)) (λ (t : (kept_checkpoint u ≡ c) × (n ≡ length l)). inr t.0) (at_end l (kept_checkpoint u) c n at)
 
   -- the view j is live, so none that was kept before has its number
-  fresh : (k : ℕ) (c : JoinedCheckpoint) → get_elem? v.kept k ≡ some c → c.number ≢ u.number
+  fresh : (k : ℕ) (c : JoinedCheckpoint) → get_elem? v.joined_checkpoints k ≡ some c → c.number ≢ u.number
   fresh k c at same = let z = h.spent 0 k v c there at in live_not (ap (λ (y : View). y.emptied) (some-injective u z.0 (sym here ∙ ap (get_elem? views) (sym (same ∙ number)) ∙ z.1)) ∙ z.2) going
 
-  ends_apart : (m n : ℕ) (c d : JoinedCheckpoint) → get_elem? (v.kept ++ kept_checkpoint u ∷ []) m ≡ some c → get_elem? (v.kept ++ kept_checkpoint u ∷ []) n ≡ some d → c.number ≡ d.number → m ≡ n
+  ends_apart : (m n : ℕ) (c d : JoinedCheckpoint) → get_elem? (v.joined_checkpoints ++ kept_checkpoint u ∷ []) m ≡ some c → get_elem? (v.joined_checkpoints ++ kept_checkpoint u ∷ []) n ≡ some d → c.number ≡ d.number → m ≡ n
   ends_apart m n c d ec ed same = ⊎_elim
-      (λ (t : get_elem? v.kept m ≡ some c). ⊎_elim (λ (y : get_elem? v.kept n ≡ some d). h.apart 0 m n v c d there t y same) (λ (y : (kept_checkpoint u ≡ d) × (n ≡ length v.kept)). absurd (fresh m c t (same ∙ ap (λ (z : JoinedCheckpoint). z.number) (sym y.0)))) (at_end v.kept (kept_checkpoint u) d n ed))
-      (λ (t : (kept_checkpoint u ≡ c) × (m ≡ length v.kept)). ⊎_elim (λ (y : get_elem? v.kept n ≡ some d). absurd (fresh n d y (sym same ∙ ap (λ (z : JoinedCheckpoint). z.number) (sym t.0)))) (λ (y : (kept_checkpoint u ≡ d) × (n ≡ length v.kept)). t.1 ∙ sym y.1) (at_end v.kept (kept_checkpoint u) d n ed))
-      (at_end v.kept (kept_checkpoint u) c m ec)
+      (λ (t : get_elem? v.joined_checkpoints m ≡ some c). ⊎_elim (λ (y : get_elem? v.joined_checkpoints n ≡ some d). h.apart 0 m n v c d there t y same) (λ (y : (kept_checkpoint u ≡ d) × (n ≡ length v.joined_checkpoints)). absurd (fresh m c t (same ∙ ap (λ (z : JoinedCheckpoint). z.number) (sym y.0)))) (at_end v.joined_checkpoints (kept_checkpoint u) d n ed))
+      (λ (t : (kept_checkpoint u ≡ c) × (m ≡ length v.joined_checkpoints)). ⊎_elim (λ (y : get_elem? v.joined_checkpoints n ≡ some d). absurd (fresh n d y (sym same ∙ ap (λ (z : JoinedCheckpoint). z.number) (sym t.0)))) (λ (y : (kept_checkpoint u ≡ d) × (n ≡ length v.joined_checkpoints)). t.1 ∙ sym y.1) (at_end v.joined_checkpoints (kept_checkpoint u) d n ed))
+      (at_end v.joined_checkpoints (kept_checkpoint u) c m ec)
 
   kept_joined : KeptLaw (set vs j emptied_view)
   kept_joined = record {
-    only_first = λ k x e o. ⊎_elim (λ (t : (k ≡ j) × (emptied_view ≡ x)). ap (λ (y : View). y.kept) (sym t.1)) (λ (t : (k ≢ j) × (get_elem? vs k ≡ some x)). ⊎_elim (λ (y : (k ≡ 0) × (w ≡ x)). absurd (o y.0)) (λ (y : (k ≢ 0) × (get_elem? views k ≡ some x)). h.only_first k x y.1 o) (at_set views 0 k w x t.1)) (at_set vs j k emptied_view x e);
-    spent = λ k n x c e at. by_place k x e (λ (y : View). (n : ℕ) → get_elem? y.kept n ≡ some c → (z : View) × (get_elem? (set vs j emptied_view) c.number ≡ some z) × (z.emptied ≡ true))
+    only_first = λ k x e o. ⊎_elim (λ (t : (k ≡ j) × (emptied_view ≡ x)). ap (λ (y : View). y.joined_checkpoints) (sym t.1)) (λ (t : (k ≢ j) × (get_elem? vs k ≡ some x)). ⊎_elim (λ (y : (k ≡ 0) × (w ≡ x)). absurd (o y.0)) (λ (y : (k ≢ 0) × (get_elem? views k ≡ some x)). h.only_first k x y.1 o) (at_set views 0 k w x t.1)) (at_set vs j k emptied_view x e);
+    spent = λ k n x c e at. by_place k x e (λ (y : View). (n : ℕ) → get_elem? y.joined_checkpoints n ≡ some c → (z : View) × (get_elem? (set vs j emptied_view) c.number ≡ some z) × (z.emptied ≡ true))
         (λ n at. absurd (some-ne-none c (sym at)))
-        (λ n at. taken c (at_last v.kept n c (subst (λ (l : List JoinedCheckpoint). get_elem? l n ≡ some c) kept_is at)))
+        (λ n at. taken c (at_last v.joined_checkpoints n c (subst (λ (l : List JoinedCheckpoint). get_elem? l n ≡ some c) kept_is at)))
         (λ q y t n at. let z = h.spent q n y c t at in still_spent c.number z.0 z.1 z.2) n at;
-    apart = λ k m n x c d e ec ed same. by_place k x e (λ (y : View). get_elem? y.kept m ≡ some c → get_elem? y.kept n ≡ some d → m ≡ n) (λ at. absurd (some-ne-none c (sym at)))
+    apart = λ k m n x c d e ec ed same. by_place k x e (λ (y : View). get_elem? y.joined_checkpoints m ≡ some c → get_elem? y.joined_checkpoints n ≡ some d → m ≡ n) (λ at. absurd (some-ne-none c (sym at)))
         (λ xc xd. ends_apart m n c d (subst (λ (l : List JoinedCheckpoint). get_elem? l m ≡ some c) kept_is xc) (subst (λ (l : List JoinedCheckpoint). get_elem? l n ≡ some d) kept_is xd) same)
         (λ q y t xc xd. h.apart q m n y c d t xc xd same) ec ed;
   }
@@ -227,7 +227,7 @@ module _ (known : ℕ → Bool) (origin : ℕ → Page) (log : Log) (flushed : �
   }
 
   -- a view has loaded the flushed position
-  pub history_loaded : (i : ℕ) (v w : View) → get_elem? views i ≡ some v → w.calls ≡ v.calls → w.front ≡ v.front → w.joined ≡ v.joined → w.emptied ≡ v.emptied → w.number ≡ v.number → w.kept ≡ v.kept → w.flushed ≡ flushed → HistoryLaw known origin log flushed (set views i w)
+  pub history_loaded : (i : ℕ) (v w : View) → get_elem? views i ≡ some v → w.calls ≡ v.calls → w.front ≡ v.front → w.joined ≡ v.joined → w.emptied ≡ v.emptied → w.number ≡ v.number → w.joined_checkpoints ≡ v.joined_checkpoints → w.flushed ≡ flushed → HistoryLaw known origin log flushed (set views i w)
   history_loaded i v w there calls front joined emptied number kept loaded = record {
     calls = λ j u e. ⊎_elim
         (λ (t : (j ≡ i) × (w ≡ u)). let c = h.calls i v there in subst (CallsLaw known origin log flushed) t.1 (let d = calls_same known origin log flushed v (record w { flushed = v.flushed }) (record { calls = calls; front = front; joined = joined; flushed = refl; emptied = emptied; number = number; kept = kept }) c in record {
@@ -256,7 +256,7 @@ module _ (known : ℕ → Bool) (origin : ℕ → Page) (log : Log) (flushed : �
   }
 
   -- a view without calls joins the list
-  pub history_grows : (w : View) → w.kept ≡ [] → w.calls ≡ [] → w.front ≡ log.base → w.front ≤ log_end log → w.flushed ≤ flushed → HistoryLaw known origin log flushed (views ++ w ∷ [])
+  pub history_grows : (w : View) → w.joined_checkpoints ≡ [] → w.calls ≡ [] → w.front ≡ log.base → w.front ≤ log_end log → w.flushed ≤ flushed → HistoryLaw known origin log flushed (views ++ w ∷ [])
   history_grows w unkept none begins front loaded = record {
     calls = λ j u e. ⊎_elim (λ (t : get_elem? views j ≡ some u). h.calls j u t) (λ (t : (w ≡ u) × (j ≡ length views)). subst (CallsLaw known origin log flushed) t.0 (no_calls known origin log flushed w none (λ _. begins) front loaded)) (at_end views w u j e);
     kept = kept_grows views h.kept w unkept;
@@ -290,7 +290,7 @@ module _ (known : ℕ → Bool) (origin : ℕ → Page) (log : Log) (flushed : �
       both : CallsLaw known origin log flushed (joined_view v u)
       both = let c = h.calls 0 v there in let d = h.calls j u here in record {
         legal = λ k x e. ⊎_elim (λ (t : get_elem? v.calls k ≡ some x). c.legal k x t) (λ (t : (n : ℕ) × (get_elem? u.calls n ≡ some x)). d.legal t.0 x t.1) (at_both v.calls u.calls k x e);
-        own = λ k x e. ⊎_elim (λ (t : get_elem? v.calls k ≡ some x). own_longer v (joined_view v u) (kept_checkpoint u ∷ u.kept) refl refl (backend_of x) (c.own k x t)) (λ (t : (n : ℕ) × (get_elem? u.calls n ≡ some x)). own_joined v u (backend_of x) (d.own t.0 x t.1)) (at_both v.calls u.calls k x e);
+        own = λ k x e. ⊎_elim (λ (t : get_elem? v.calls k ≡ some x). own_longer v (joined_view v u) (kept_checkpoint u ∷ u.joined_checkpoints) refl refl (backend_of x) (c.own k x t)) (λ (t : (n : ℕ) × (get_elem? u.calls n ≡ some x)). own_joined v u (backend_of x) (d.own t.0 x t.1)) (at_both v.calls u.calls k x e);
         fronted = λ k x e. ⊎_elim (λ (t : get_elem? v.calls k ≡ some x). let y = c.fronted k x t in omega arith) (λ (t : (n : ℕ) × (get_elem? u.calls n ≡ some x)). let y = d.fronted t.0 x t.1 in omega arith) (at_both v.calls u.calls k x e);
         from_base = λ live. let x = c.from_base live in omega arith;
         reached = λ live. later_front live (cases_lt v.front u.front);
@@ -301,7 +301,7 @@ module _ (known : ℕ → Bool) (origin : ℕ → Page) (log : Log) (flushed : �
 
 -- A read gets its place, the log's end
 module _ (known : ℕ → Bool) (origin : ℕ → Page) (log : Log) (flushed : ℕ) (views : List View) (h : HistoryLaw known origin log flushed views) (logged : LogLaw log) (i : ℕ) (v w : View) (there : get_elem? views i ≡ some v) (tag : ℕ) (page : Page) (is : known tag ≡ true → page ≡ cell origin log.entries tag)
-    (e : Entry) (calls : w.calls ≡ v.calls ++ Read v.number tag page (log_end log) ∷ []) (front : w.front ≡ log_end log) (emptied : w.emptied ≡ v.emptied) (loaded : w.flushed ≡ v.flushed) (number : w.number ≡ v.number) (kept : w.kept ≡ v.kept) where
+    (e : Entry) (calls : w.calls ≡ v.calls ++ Read v.number tag page (log_end log) ∷ []) (front : w.front ≡ log_end log) (emptied : w.emptied ≡ v.emptied) (loaded : w.flushed ≡ v.flushed) (number : w.number ≡ v.number) (kept : w.joined_checkpoints ≡ v.joined_checkpoints) where
   pub history_read : HistoryLaw known origin log flushed (set views i w)
   history_read = record {
     calls = λ j u at. ⊎_elim (λ (t : (j ≡ i) × (w ≡ u)). subst (CallsLaw known origin log flushed) t.1 here) (λ (t : (j ≢ i) × (get_elem? views j ≡ some u)). h.calls j u t.1) (at_set views i j w u at);
@@ -332,7 +332,7 @@ module _ (known : ℕ → Bool) (origin : ℕ → Page) (log : Log) (flushed : �
 
 -- An entry is made, and the write of it gets its end as its place
 module _ (known : ℕ → Bool) (origin : ℕ → Page) (log : Log) (flushed : ℕ) (views : List View) (h : HistoryLaw known origin log flushed views) (logged : LogLaw log) (i : ℕ) (v w : View) (there : get_elem? views i ≡ some v) (e : Entry) (starts : e.start ≡ log_end log)
-    (calls : w.calls ≡ v.calls ++ Write e.backend e.tag e.image (end_of e) ∷ []) (front : w.front ≡ end_of e) (emptied : w.emptied ≡ v.emptied) (loaded : w.flushed ≡ v.flushed) (number : w.number ≡ v.number) (kept : w.kept ≡ v.kept) (maker : e.backend ≡ v.number) where
+    (calls : w.calls ≡ v.calls ++ Write e.backend e.tag e.image (end_of e) ∷ []) (front : w.front ≡ end_of e) (emptied : w.emptied ≡ v.emptied) (loaded : w.flushed ≡ v.flushed) (number : w.number ≡ v.number) (kept : w.joined_checkpoints ≡ v.joined_checkpoints) (maker : e.backend ≡ v.number) where
   abbrev longer : Log
   longer = record log { entries = log.entries ++ e ∷ [] }
 

@@ -167,7 +167,7 @@ module _ (t : Taken) where
 -- The view w has at the frame f the link l, elsewhere the links of v, and the checkpoints of v
 pub record Touched (v w : View) (f : ℕ) (l : Link) : Type 0 where
   pub upto : w.upto ≡ v.upto
-  pub kept : w.kept ≡ v.kept
+  pub kept : w.joined_checkpoints ≡ v.joined_checkpoints
   pub here : link w f ≡ l
   pub others : (g : ℕ) → g ≢ f → link w g ≡ link v g
 
@@ -218,7 +218,7 @@ module _ (t : Taken) (n : ℕ) (frame : ℕ → Frame) (end : ℕ) (logged : ℕ
     each = λ j u at. ⊎_elim (λ (y : (j ≡ i) × (w ≡ u)). subst (ViewDebts t n frame end) y.1 x) (λ (y : (j ≢ i) × (get_elem? views j ≡ some u)). h.each j u y.1) (at_set views i j w u at);
   }
 
-  pub debts_aside : (i : ℕ) (v w : View) → get_elem? views i ≡ some v → w.upto ≡ v.upto → w.kept ≡ v.kept → w.links ≡ v.links → Debts t n frame end logged (set views i w)
+  pub debts_aside : (i : ℕ) (v w : View) → get_elem? views i ≡ some v → w.upto ≡ v.upto → w.joined_checkpoints ≡ v.joined_checkpoints → w.links ≡ v.links → Debts t n frame end logged (set views i w)
   debts_aside i v w there upto kept links = let d = h.each i v there in debts_set i w (record {
     begun = subst (λ (k : ℕ). k ≤ end) (sym upto) d.begun;
     kept_begun = λ k c at. d.kept_begun k c (subst (λ (y : List JoinedCheckpoint). get_elem? y k ≡ some c) kept at);

@@ -60,8 +60,8 @@ opens c store page can stores = let w : View = first_view c.base c.frames c.part
     calls = λ i v there. subst (CallsLaw (is_known store) store.origin log c.base) (at_only w v i there).0 (no_calls (is_known store) store.origin log c.base w refl (λ _. refl) (omega arith) (omega arith));
     kept = record {
       only_first = λ i v there other. absurd (other (at_only w v i there).1);
-      spent = λ i k v c there at. absurd (some-ne-none c (sym (subst (λ (x : View). get_elem? x.kept k ≡ some c) (sym (at_only w v i there).0) at)));
-      apart = λ i j k v c d there at. absurd (some-ne-none c (sym (subst (λ (x : View). get_elem? x.kept j ≡ some c) (sym (at_only w v i there).0) at)));
+      spent = λ i k v c there at. absurd (some-ne-none c (sym (subst (λ (x : View). get_elem? x.joined_checkpoints k ≡ some c) (sym (at_only w v i there).0) at)));
+      apart = λ i j k v c d there at. absurd (some-ne-none c (sym (subst (λ (x : View). get_elem? x.joined_checkpoints j ≡ some c) (sym (at_only w v i there).0) at)));
     };
     counted = one_total (λ (v : View). writes_in v.calls) w (no_total write_weight);
     once = λ k e t. absurd (some-ne-none e (sym t));

@@ -71,7 +71,7 @@ module _ (s : State) (h : HistoryInvariant s) (d : DebtsLaw s) where
   views = s.pool.core.views
 
   -- a step at a frame leaves a view's checkpoints, and its links elsewhere
-  touches_at : (i f : ℕ) (v w : View) (l : Link) → get_elem? views i ≡ some v → v.emptied ≡ false → f < n → w.links ≡ set v.links f l → w.upto ≡ v.upto → w.kept ≡ v.kept → Touched v w f l
+  touches_at : (i f : ℕ) (v w : View) (l : Link) → get_elem? views i ≡ some v → v.emptied ≡ false → f < n → w.links ≡ set v.links f l → w.upto ≡ v.upto → w.joined_checkpoints ≡ v.joined_checkpoints → Touched v w f l
   touches_at i f v w l there live inside links upto kept = let r = relinks s h i f v w l there live inside links in record { upto = upto; kept = kept; here = r.here; others = r.else }
 
   fresh_of : (i f : ℕ) (v : View) (k : pin_kinds.Kind) → get_elem? views i ≡ some v → pin_kinds.Allowed k (frame f) (link v f) → pin_steps.AllowedAround k s.pool.core v f → Fresh t (frame f) (link v f) v.upto k
@@ -79,7 +79,7 @@ module _ (s : State) (h : HistoryInvariant s) (d : DebtsLaw s) where
   fresh_of i f v _ there a around = tt
 
   -- a view that has nothing at any frame, and no checkpoint
-  no_debts : (w : View) → w.upto ≡ 0 → w.kept ≡ [] → ((f : ℕ) → link w f ≡ idle) → ViewDebts t n frame s.end w
+  no_debts : (w : View) → w.upto ≡ 0 → w.joined_checkpoints ≡ [] → ((f : ℕ) → link w f ≡ idle) → ViewDebts t n frame s.end w
   no_debts w upto kept links = record {
     begun = omega arith;
     kept_begun = λ k c at. absurd (some-ne-none c (sym (subst (λ (y : List JoinedCheckpoint). get_elem? y k ≡ some c) kept at)));
@@ -103,16 +103,16 @@ module _ (s : State) (h : HistoryInvariant s) (d : DebtsLaw s) where
   pins_owe (pin_steps.joins j v u there other here live free) = let w : View = joined_view v u in let x = d.each 0 v there in let y = d.each j u here in
       debts_set t n frame s.end s.pool.logged (set views 0 w) (debts_set t n frame s.end s.pool.logged views d 0 w (record {
         begun = x.begun;
-        kept_begun = λ k c at. ⊎_elim (λ (z : get_elem? v.kept k ≡ some c). x.kept_begun k c z) (λ (z : (m : ℕ) × (get_elem? (kept_checkpoint u ∷ u.kept) m ≡ some c)). taken_begun z.0 c z.1) (at_both v.kept (kept_checkpoint u ∷ u.kept) k c at);
+        kept_begun = λ k c at. ⊎_elim (λ (z : get_elem? v.joined_checkpoints k ≡ some c). x.kept_begun k c z) (λ (z : (m : ℕ) × (get_elem? (kept_checkpoint u ∷ u.joined_checkpoints) m ≡ some c)). taken_begun z.0 c z.1) (at_both v.joined_checkpoints (kept_checkpoint u ∷ u.joined_checkpoints) k c at);
         own = x.own;
-        kept = λ k f c at below. ⊎_elim (λ (z : get_elem? v.kept k ≡ some c). x.kept k f c z below) (λ (z : (m : ℕ) × (get_elem? (kept_checkpoint u ∷ u.kept) m ≡ some c)). taken_stored_or_left z.0 f c z.1 below) (at_both v.kept (kept_checkpoint u ∷ u.kept) k c at);
+        kept = λ k f c at below. ⊎_elim (λ (z : get_elem? v.joined_checkpoints k ≡ some c). x.kept k f c z below) (λ (z : (m : ℕ) × (get_elem? (kept_checkpoint u ∷ u.joined_checkpoints) m ≡ some c)). taken_stored_or_left z.0 f c z.1 below) (at_both v.joined_checkpoints (kept_checkpoint u ∷ u.joined_checkpoints) k c at);
       })) j emptied_view (no_debts emptied_view refl refl (λ f. refl))
     where
-      taken_begun : (m : ℕ) (c : JoinedCheckpoint) → get_elem? (kept_checkpoint u ∷ u.kept) m ≡ some c → c.upto ≤ s.end
+      taken_begun : (m : ℕ) (c : JoinedCheckpoint) → get_elem? (kept_checkpoint u ∷ u.joined_checkpoints) m ≡ some c → c.upto ≤ s.end
       taken_begun zero c at = let z = (d.each j u here).begun in let e = ap (λ (y : JoinedCheckpoint). y.upto) (some-injective (kept_checkpoint u) c at) in omega arith
       taken_begun (suc m) c at = (d.each j u here).kept_begun m c at
 
-      taken_stored_or_left : (m f : ℕ) (c : JoinedCheckpoint) → get_elem? (kept_checkpoint u ∷ u.kept) m ≡ some c → f < n → IsStoredOrLeft t (frame f) c.upto (has_visited c f) (has_left_to_write c f)
+      taken_stored_or_left : (m f : ℕ) (c : JoinedCheckpoint) → get_elem? (kept_checkpoint u ∷ u.joined_checkpoints) m ≡ some c → f < n → IsStoredOrLeft t (frame f) c.upto (has_visited c f) (has_left_to_write c f)
       taken_stored_or_left zero f c at below = subst (λ (y : JoinedCheckpoint). IsStoredOrLeft t (frame f) y.upto (has_visited y f) (has_left_to_write y f)) (some-injective (kept_checkpoint u) c at)
           (subst (λ (y : Bool). IsStoredOrLeft t (frame f) u.upto y (has_left_to_write (kept_checkpoint u) f)) (sym (map_at (λ (x : Link). x.visited) idle false refl u.links f)) (subst (λ (y : Bool). IsStoredOrLeft t (frame f) u.upto (link u f).visited y) (sym (map_at (λ (x : Link). x.left_to_write) idle false refl u.links f)) ((d.each j u here).own f below).stored_or_left))
       taken_stored_or_left (suc m) f c at below = (d.each j u here).kept m f c at below
@@ -123,7 +123,7 @@ module _ (s : State) (h : HistoryInvariant s) (d : DebtsLaw s) where
       (debts_touched t n frame s.end f (frame_after k b fr) (pages_move t fr b l v.upto k plain a own) s.pool.logged views d inside (λ goes. absurd (goes (tag_kept k b fr))) i v w (link_after k b fr l) there (touches_at i f v w (link_after k b fr l) there live inside refl refl refl) (pages_link t fr b l v.upto k plain a own))
 
   -- a view changes beside its links and checkpoints
-  aside_owe : (i : ℕ) (v w : View) → get_elem? views i ≡ some v → w.upto ≡ v.upto → w.kept ≡ v.kept → w.links ≡ v.links → Debts t n frame s.end s.pool.logged (set views i w)
+  aside_owe : (i : ℕ) (v w : View) → get_elem? views i ≡ some v → w.upto ≡ v.upto → w.joined_checkpoints ≡ v.joined_checkpoints → w.links ≡ v.links → Debts t n frame s.end s.pool.logged (set views i w)
   aside_owe i v w there upto kept links = debts_aside t n frame s.end s.pool.logged views d i v w there upto kept links
 
   -- a lane takes another's place that holds what this held
@@ -142,7 +142,7 @@ module _ (s : State) (h : HistoryInvariant s) (d : DebtsLaw s) where
           inl (subst (λ (y : Page). end_of e ≤ lsn_of y) same (d.positioned (frame f).tag k p e is at tagged))
 
   -- a frame where only what a view notes of its lane changes
-  noted_owe : (i f : ℕ) (v w : View) (l : Link) → get_elem? views i ≡ some v → v.emptied ≡ false → f < n → w.links ≡ set v.links f l → w.upto ≡ v.upto → w.kept ≡ v.kept → l.visited ≡ (link v f).visited → l.left_to_write ≡ (link v f).left_to_write → (l.last_write ≡ Done → (frame f).tag ≢ no_tag → IsCurrent t (frame f).tag) → Debts t n (put frame f (frame f)) s.end s.pool.logged (set views i w)
+  noted_owe : (i f : ℕ) (v w : View) (l : Link) → get_elem? views i ≡ some v → v.emptied ≡ false → f < n → w.links ≡ set v.links f l → w.upto ≡ v.upto → w.joined_checkpoints ≡ v.joined_checkpoints → l.visited ≡ (link v f).visited → l.left_to_write ≡ (link v f).left_to_write → (l.last_write ≡ Done → (frame f).tag ≢ no_tag → IsCurrent t (frame f).tag) → Debts t n (put frame f (frame f)) s.end s.pool.logged (set views i w)
   noted_owe i f v w l there live inside links upto kept visited left_to_write done = debts_touched t n frame s.end f (frame f) (stays refl (λ e. e) (λ e. e)) s.pool.logged views d inside (λ goes. absurd (goes refl)) i v w l there (touches_at i f v w l there live inside links upto kept)
       (record { stored_or_left = subst (λ (x : Bool). IsStoredOrLeft t (frame f) v.upto x l.left_to_write) (sym visited) (subst (λ (x : Bool). IsStoredOrLeft t (frame f) v.upto (link v f).visited x) (sym left_to_write) ((d.each i v there).own f inside).stored_or_left); done = done })
 

@@ -57,7 +57,7 @@ module _ (s : State) (h : HistoryInvariant s) (d : DebtsLaw s) where
   pub sweeps : SweptLaw s → SweepsStore s
   sweeps m i upto v there low = let covered = all_synced (⊎_elim
       (λ (x : (n : ℕ) → n < s.lanes → upto ≤ (lane_hold v n).swept). λ n below. ((lane_hold v n).swept, x n below, (m.each i v there).own n))
-      (λ (x : (k : ℕ) × (c : JoinedCheckpoint) × (get_elem? v.kept k ≡ some c) × ((n : ℕ) → n < s.lanes → upto ≤ has_swept c n)). λ n below. (has_swept x.1 n, x.3 n below, (m.each i v there).kept x.0 n x.1 x.2)) low) in (
+      (λ (x : (k : ℕ) × (c : JoinedCheckpoint) × (get_elem? v.joined_checkpoints k ≡ some c) × ((n : ℕ) → n < s.lanes → upto ≤ has_swept c n)). λ n below. (has_swept x.1 n, x.3 n below, (m.each i v there).kept x.0 n x.1 x.2)) low) in (
         covered,
         λ k e at upto. let x = covered k e at upto in let y = m.below (s.lane_of e.tag) e.tag in either (failed s e.tag) (λ bad. inr (unwritten e (d.named k e at) bad)) (λ ok. inl (in_lane k e at ok (omega arith))),
       )

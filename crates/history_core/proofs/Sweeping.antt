@@ -74,7 +74,7 @@ module _ {s t : State} (l : Later s t) where
         (l.entries k e at);
   }
 
-  view_later : (v w : View) → w.lanes ≡ v.lanes → w.kept ≡ v.kept → ViewSwept s v → ViewSwept t w
+  view_later : (v w : View) → w.lanes ≡ v.lanes → w.joined_checkpoints ≡ v.joined_checkpoints → ViewSwept s v → ViewSwept t w
   view_later v w holds kept h = record {
     own = λ n. subst (λ (x : List LaneHold). IsSwept t n (slice_index_or x n no_lane).swept) (sym holds) (swept_later n (lane_hold v n).swept (h.own n));
     kept = λ k n c at. swept_later n (has_swept c n) (h.kept k n c (subst (λ (x : List JoinedCheckpoint). get_elem? x k ≡ some c) kept at));
@@ -89,7 +89,7 @@ swept_zero : (s : State) (n upto : ℕ) → upto ≡ 0 → IsSwept s n upto
 swept_zero s n upto z = record { within = omega arith; covered = λ k e at lane low. absurd (omega arith) }
 
 -- a view without a lane
-none_swept : (s : State) (w : View) → ((n : ℕ) → (lane_hold w n).swept ≡ 0) → w.kept ≡ [] → ViewSwept s w
+none_swept : (s : State) (w : View) → ((n : ℕ) → (lane_hold w n).swept ≡ 0) → w.joined_checkpoints ≡ [] → ViewSwept s w
 none_swept s w none kept = record { own = λ n. swept_zero s n (lane_hold w n).swept (none n); kept = λ k n c at. absurd (some-ne-none c (sym (subst (λ (y : List JoinedCheckpoint). get_elem? y k ≡ some c) kept at))) }
 
 -- what a kind at a lane does to what is covered in it
@@ -181,7 +181,7 @@ module _ (s : State) (h : HistoryInvariant s) (d : DebtsLaw s) (m : SweptLaw s) 
   hold_swept i q (lane_kinds.lane_back noted) v t there live lane_of end entries lane = swept_later (lane_later q (lane_kinds.lane_back noted) t lane_of end entries lane) q (lane_hold v q).swept ((m.each i v there).own q)
 
   -- a step at the lane q by backend i
-  laned_swept : (i q : ℕ) (k : LaneKind) (v w : View) (t : State) → get_elem? s.pool.core.views i ≡ some v → v.emptied ≡ false → q < s.lanes → w.lanes ≡ set v.lanes q (lane_hold_after k v.flushed (swept_by v) (lane_hold v q)) → w.kept ≡ v.kept
+  laned_swept : (i q : ℕ) (k : LaneKind) (v w : View) (t : State) → get_elem? s.pool.core.views i ≡ some v → v.emptied ≡ false → q < s.lanes → w.lanes ≡ set v.lanes q (lane_hold_after k v.flushed (swept_by v) (lane_hold v q)) → w.joined_checkpoints ≡ v.joined_checkpoints
       → t.lane_of ≡ s.lane_of → t.end ≡ s.end → t.log.entries ≡ s.log.entries → t.lane ≡ put s.lane q (lane_after k (s.lane q)) → t.pool.core.views ≡ set s.pool.core.views i w → SweptLaw t
   laned_swept i q k v w t there live low holds kept lane_of end entries lane views = let l = lane_later q k t lane_of end entries lane in let x = m.each i v there in let a : LaneHold = lane_hold_after k v.flushed (swept_by v) (lane_hold v q) in record {
     below = λ n tag. subst (λ (f : ℕ → Lane). (f n).synced_upto tag ≤ (f n).stored_upto tag) (sym lane) (below_after q k n tag);
@@ -194,7 +194,7 @@ module _ (s : State) (h : HistoryInvariant s) (d : DebtsLaw s) (m : SweptLaw s) 
   }
 
   -- a step that is at no lane, by backend i
-  aside_swept : (i : ℕ) (v w : View) (t : State) → get_elem? s.pool.core.views i ≡ some v → w.lanes ≡ v.lanes → w.kept ≡ v.kept → t.pool.core.views ≡ set s.pool.core.views i w → Later s t → ((n tag : ℕ) → (t.lane n).synced_upto tag ≤ (t.lane n).stored_upto tag) → SweptLaw t
+  aside_swept : (i : ℕ) (v w : View) (t : State) → get_elem? s.pool.core.views i ≡ some v → w.lanes ≡ v.lanes → w.joined_checkpoints ≡ v.joined_checkpoints → t.pool.core.views ≡ set s.pool.core.views i w → Later s t → ((n tag : ℕ) → (t.lane n).synced_upto tag ≤ (t.lane n).stored_upto tag) → SweptLaw t
   aside_swept i v w t there holds kept views l low = record { below = low; each = λ j u at. each_set l s.pool.core.views m.each i w (view_later l v w holds kept (m.each i v there)) j u (subst (λ (y : List View). get_elem? y j ≡ some u) views at) }
 
   -- where neither lanes nor entries change
@@ -214,11 +214,11 @@ module _ (s : State) (h : HistoryInvariant s) (d : DebtsLaw s) (m : SweptLaw s) 
     each = λ n z at. ⊎_elim (λ (q : (n ≡ j) × (emptied_view ≡ z)). subst (ViewSwept t) q.1 (none_swept t emptied_view (λ g. refl) refl))
         (λ (q : (n ≢ j) × (get_elem? (set s.pool.core.views 0 w) n ≡ some z)). each_set l s.pool.core.views m.each 0 w (record {
           own = λ g. swept_later l g (lane_hold v g).swept (x.own g);
-          kept = λ k g c is. ⊎_elim (λ (r : get_elem? v.kept k ≡ some c). swept_later l g (has_swept c g) (x.kept k g c r)) (λ (r : (a : ℕ) × (get_elem? (kept_checkpoint u ∷ u.kept) a ≡ some c)). swept_later l g (has_swept c g) (taken y r.0 g c r.1)) (at_both v.kept (kept_checkpoint u ∷ u.kept) k c is);
+          kept = λ k g c is. ⊎_elim (λ (r : get_elem? v.joined_checkpoints k ≡ some c). swept_later l g (has_swept c g) (x.kept k g c r)) (λ (r : (a : ℕ) × (get_elem? (kept_checkpoint u ∷ u.joined_checkpoints) a ≡ some c)). swept_later l g (has_swept c g) (taken y r.0 g c r.1)) (at_both v.joined_checkpoints (kept_checkpoint u ∷ u.joined_checkpoints) k c is);
         }) n z q.1) (at_set (set s.pool.core.views 0 w) j n emptied_view z at);
   }
     where
-      taken : ViewSwept s u → (a g : ℕ) (c : JoinedCheckpoint) → get_elem? (kept_checkpoint u ∷ u.kept) a ≡ some c → IsSwept s g (has_swept c g)
+      taken : ViewSwept s u → (a g : ℕ) (c : JoinedCheckpoint) → get_elem? (kept_checkpoint u ∷ u.joined_checkpoints) a ≡ some c → IsSwept s g (has_swept c g)
       taken y zero g c is = subst (λ (z : JoinedCheckpoint). IsSwept s g (has_swept z g)) (some-injective (kept_checkpoint u) c is) (subst (IsSwept s g) (sym (map_at (λ (x : LaneHold). x.swept) no_lane 0 refl u.lanes g)) (y.own g))
       taken y (suc a) g c is = y.kept a g c is
 

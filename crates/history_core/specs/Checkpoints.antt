@@ -50,7 +50,7 @@ pub record HasStored (p : Page) (t : State) : Type 0 where
   -- nothing is left of the second backend
   pub joined : get_elem? t.pool.core.views 1 ≡ some emptied_view
   -- but its checkpoint, the only one that the first keeps: it began at the entry's end, has visited the frame, which is no longer left to write, and has swept the lane up to there
-  pub ended : (v : View) × (c : JoinedCheckpoint) × (get_elem? t.pool.core.views 0 ≡ some v) × (v.kept ≡ c ∷ []) × (c.upto ≡ record_size) × (has_visited c 0 ≡ true) × (has_left_to_write c 0 ≡ false) × (has_swept c 0 ≡ record_size)
+  pub ended : (v : View) × (c : JoinedCheckpoint) × (get_elem? t.pool.core.views 0 ≡ some v) × (v.joined_checkpoints ≡ c ∷ []) × (c.upto ≡ record_size) × (has_visited c 0 ≡ true) × (has_left_to_write c 0 ≡ false) × (has_swept c 0 ≡ record_size)
 
 abbrev pub CheckpointRuns : Type 0
 CheckpointRuns = (p : Page) → IsPut p → (t : State) × Run (miss ++ fill ++ change p ++ flush p ++ begin ++ write p ++ drop ++ sync ++ join) miss_start t × HasStored p t

@@ -44,10 +44,10 @@ pub record LinkDebt (t : Taken) (fr : Frame) (upto : ℕ) (l : Link) : Type 0 wh
 pub record ViewDebts (t : Taken) (frames : ℕ) (frame : ℕ → Frame) (end : ℕ) (v : View) : Type 0 where
   -- each began at the log's end or before it
   pub begun : v.upto ≤ end
-  pub kept_begun : (k : ℕ) (c : JoinedCheckpoint) → get_elem? v.kept k ≡ some c → c.upto ≤ end
+  pub kept_begun : (k : ℕ) (c : JoinedCheckpoint) → get_elem? v.joined_checkpoints k ≡ some c → c.upto ≤ end
   -- its own, and those of the views that were joined into it
   pub own : (f : ℕ) → f < frames → LinkDebt t (frame f) v.upto (link v f)
-  pub kept : (k f : ℕ) (c : JoinedCheckpoint) → get_elem? v.kept k ≡ some c → f < frames → IsStoredOrLeft t (frame f) c.upto (has_visited c f) (has_left_to_write c f)
+  pub kept : (k f : ℕ) (c : JoinedCheckpoint) → get_elem? v.joined_checkpoints k ≡ some c → f < frames → IsStoredOrLeft t (frame f) c.upto (has_visited c f) (has_left_to_write c f)
 
 -- The law of checkpoints, where `logged` is each block's page after the log, as far as it is known
 pub record Debts (t : Taken) (frames : ℕ) (frame : ℕ → Frame) (end : ℕ) (logged : ℕ → Option Page) (views : List View) : Type 0 where

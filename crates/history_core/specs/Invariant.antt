@@ -16,7 +16,7 @@ use Rattle.grid.specs.Shape.{Grid, total}
 
 -- the number is the view's own, or that of a backend whose calls it took in
 abbrev pub HasNumber : View → ℕ → Type 0
-HasNumber v number = number ≢ v.number → (k : ℕ) × (c : JoinedCheckpoint) × (get_elem? v.kept k ≡ some c) × (c.number ≡ number)
+HasNumber v number = number ≢ v.number → (k : ℕ) × (c : JoinedCheckpoint) × (get_elem? v.joined_checkpoints k ≡ some c) × (c.number ≡ number)
 
 -- What holds of the calls of a view
 pub record CallsLaw (known : ℕ → Bool) (origin : ℕ → Page) (log : Log) (flushed : ℕ) (v : View) : Type 0 where
@@ -39,11 +39,11 @@ pub record CallsLaw (known : ℕ → Bool) (origin : ℕ → Page) (log : Log) (
 -- What holds of the backends that were joined into the first
 pub record KeptLaw (views : List View) : Type 0 where
   -- no other view took in a backend
-  pub only_first : (i : ℕ) (v : View) → get_elem? views i ≡ some v → i ≢ 0 → v.kept ≡ []
+  pub only_first : (i : ℕ) (v : View) → get_elem? views i ≡ some v → i ≢ 0 → v.joined_checkpoints ≡ []
   -- what is left of one that was taken in is emptied
-  pub spent : (i k : ℕ) (v : View) (c : JoinedCheckpoint) → get_elem? views i ≡ some v → get_elem? v.kept k ≡ some c → (u : View) × (get_elem? views c.number ≡ some u) × (u.emptied ≡ true)
+  pub spent : (i k : ℕ) (v : View) (c : JoinedCheckpoint) → get_elem? views i ≡ some v → get_elem? v.joined_checkpoints k ≡ some c → (u : View) × (get_elem? views c.number ≡ some u) × (u.emptied ≡ true)
   -- their numbers differ
-  pub apart : (i j k : ℕ) (v : View) (c d : JoinedCheckpoint) → get_elem? views i ≡ some v → get_elem? v.kept j ≡ some c → get_elem? v.kept k ≡ some d → c.number ≡ d.number → j ≡ k
+  pub apart : (i j k : ℕ) (v : View) (c d : JoinedCheckpoint) → get_elem? views i ≡ some v → get_elem? v.joined_checkpoints j ≡ some c → get_elem? v.joined_checkpoints k ≡ some d → c.number ≡ d.number → j ≡ k
 
 -- What holds of the calls of all views
 pub record HistoryLaw (known : ℕ → Bool) (origin : ℕ → Page) (log : Log) (flushed : ℕ) (views : List View) : Type 0 where

@@ -20,7 +20,7 @@ has_swept c n = slice_index_or c.swept n 0
 -- What holds of the positions up to which a view has swept the lanes, and those that were joined into it had
 pub record ViewSwept (s : State) (v : View) : Type 0 where
   pub own : (n : ℕ) → IsSwept s n (lane_hold v n).swept
-  pub kept : (k n : ℕ) (c : JoinedCheckpoint) → get_elem? v.kept k ≡ some c → IsSwept s n (has_swept c n)
+  pub kept : (k n : ℕ) (c : JoinedCheckpoint) → get_elem? v.joined_checkpoints k ≡ some c → IsSwept s n (has_swept c n)
 
 pub record SweptLaw (s : State) : Type 0 where
   -- what a sync has covered is in the lane

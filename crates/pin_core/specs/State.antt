@@ -149,7 +149,7 @@ new_view number base frames partitions lanes = record {
   loads = [];
   changes = [];
   upto = 0;
-  kept = [];
+  joined_checkpoints = [];
   device_calls = [];
   met = record { reads = 0; writes = 0; logs = 0 };
   saw_down = false;
@@ -183,7 +183,7 @@ joined_view v u = record v {
   front = max v.front u.front;
   ticks = v.ticks + u.ticks;
   changes = v.changes ++ u.changes;
-  kept = v.kept ++ kept_checkpoint u ∷ u.kept;
+  joined_checkpoints = v.joined_checkpoints ++ kept_checkpoint u ∷ u.joined_checkpoints;
   met = sum_of_met v.met u.met;
   saw_down = v.saw_down || u.saw_down;
   dirtied_or_synced = v.dirtied_or_synced || u.dirtied_or_synced;

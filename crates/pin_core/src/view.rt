@@ -321,7 +321,7 @@ pub struct View {
     /// The log end at which the backend's checkpoint began, or 0.
     pub upto: u64,
     /// The checkpoints of the backends that were joined into this one.
-    pub kept: [JoinedCheckpoint; 0],
+    pub joined_checkpoints: [JoinedCheckpoint; 0],
     pub device_calls: [DeviceCall; 0],
     pub met: FailedCalls,
     /// Under the log's latch the backend saw the log down, or saw its own call fail.
