@@ -65,7 +65,7 @@ fn rewrite_locked<L: BlockLane, G: LogDevice, R: Wait, T: Gate>(
     worker: u32,
     pass: &mut Pass,
     exclusive: &mut Exclusive,
-    desk: &mut RewriteBuffers,
+    buffers: &mut RewriteBuffers,
 ) -> Result<PageRewrite, PutError>
     requires belongs { Belongs L.contents manager.now pass.old }
     requires pinned { IsPinnedFor exclusive.old.pinned.tag exclusive.old.pinned.frame pass.old.tokens }
@@ -73,14 +73,14 @@ fn rewrite_locked<L: BlockLane, G: LogDevice, R: Wait, T: Gate>(
     ensures same { exclusive.new ≡ exclusive.old }
     ensures rewrites { RewritesLocked L.contents manager.now exclusive.old.pinned.tag pass.old pass.new result }
 {
-    let _place = pass.read_exclusive(manager, rt, exclusive, &mut desk.page);
+    let _place = pass.read_exclusive(manager, rt, exclusive, &mut buffers.page);
     gate.seen(worker, exclusive.pinned());
-    if desk.page.is_new() {
+    if buffers.page.is_new() {
         return Ok(PageRewrite::New);
     }
-    let what = rewritten(&desk.page, &mut desk.after);
+    let what = rewritten(&buffers.page, &mut buffers.after);
     if let Rewrite::Changed { .. } = what {
-        let _lsn = pass.put(manager, rt, exclusive, &desk.after)?;
+        let _lsn = pass.put(manager, rt, exclusive, &buffers.after)?;
     }
     Ok(PageRewrite::Used(what))
 }
@@ -93,7 +93,7 @@ fn rewrite_held<L: BlockLane, G: LogDevice, R: Wait, T: Gate>(
     worker: u32,
     pass: &mut Pass,
     mut exclusive: Exclusive,
-    desk: &mut RewriteBuffers,
+    buffers: &mut RewriteBuffers,
 ) -> Result<PageRewrite, PutError>
     requires belongs { Belongs L.contents manager.now pass.old }
     requires pinned { IsPinnedFor exclusive.pinned.tag exclusive.pinned.frame pass.old.tokens }
@@ -101,7 +101,7 @@ fn rewrite_held<L: BlockLane, G: LogDevice, R: Wait, T: Gate>(
     requires locked { HasLock content.Exclusive exclusive.pinned.frame pass.old }
     ensures rewrites { RewritesHeld L.contents manager.now exclusive.pinned.tag exclusive.pinned.frame pass.old pass.new result }
 {
-    let answer = rewrite_locked(manager, rt, gate, worker, pass, &mut exclusive, desk);
+    let answer = rewrite_locked(manager, rt, gate, worker, pass, &mut exclusive, buffers);
     let pinned = pass.unexclusive(manager, exclusive);
     pass.release(manager, rt, pinned);
     answer
@@ -126,14 +126,14 @@ pub(crate) fn rewrite_block<L: BlockLane, G: LogDevice, R: Wait, T: Gate>(
     worker: u32,
     pass: &mut Pass,
     tag: Tag,
-    desk: &mut RewriteBuffers,
+    buffers: &mut RewriteBuffers,
 ) -> Result<PageRewrite, JobError>
     requires free { HasNoTokens L.contents manager.now pass.old }
     requires block { tag.block < blocks_at (relations_of manager.now.table) tag.rel.0 tag.fork }
     ensures rewrites { RewritesBlock L.contents manager.now tag.rel.0 tag.fork tag.block pass.old pass.new result }
 {
-    match lock_block(manager, rt, pass, tag, &mut desk.ring) {
-        Ok(exclusive) => match rewrite_held(manager, rt, gate, worker, pass, exclusive, desk) {
+    match lock_block(manager, rt, pass, tag, &mut buffers.ring) {
+        Ok(exclusive) => match rewrite_held(manager, rt, gate, worker, pass, exclusive, buffers) {
             Ok(what) => Ok(what),
             Err(why) => Err(fault_of_put(why)),
         },
@@ -152,7 +152,7 @@ fn rewrite_counted<L: BlockLane, G: LogDevice, R: Wait, T: Gate>(
     worker: u32,
     pass: &mut Pass,
     tag: Tag,
-    desk: &mut RewriteBuffers,
+    buffers: &mut RewriteBuffers,
     totals: &mut RewriteTotals,
 ) -> Result<(), JobError>
     requires free { HasNoTokens L.contents manager.now pass.old }
@@ -162,7 +162,7 @@ fn rewrite_counted<L: BlockLane, G: LogDevice, R: Wait, T: Gate>(
     ensures rewrites { RewritesPart L.contents manager.now tag.rel.0 tag.fork tag.block (tag.block + 1) pass.old pass.new totals.entry.now totals.exit.now result }
 {
     gate.before(worker, tag.block);
-    let what = rewrite_block(manager, rt, gate, worker, pass, tag, desk)?;
+    let what = rewrite_block(manager, rt, gate, worker, pass, tag, buffers)?;
     totals.count(&what);
     Ok(())
 }
@@ -178,7 +178,7 @@ fn rewrite_blocks<L: BlockLane, G: LogDevice, R: Wait, T: Gate>(
     fork: Fork,
     from: u32,
     to: u32,
-    desk: &mut RewriteBuffers,
+    buffers: &mut RewriteBuffers,
     totals: &mut RewriteTotals,
 ) -> Result<(), JobError>
     requires free { HasNoTokens L.contents manager.now pass.old }
@@ -188,12 +188,12 @@ fn rewrite_blocks<L: BlockLane, G: LogDevice, R: Wait, T: Gate>(
 {
     for block in from..to {
         let tag = Tag { rel, fork, block };
-        rewrite_counted(manager, rt, gate, worker, pass, tag, desk, totals)?;
+        rewrite_counted(manager, rt, gate, worker, pass, tag, buffers, totals)?;
     }
     Ok(())
 }
 
-/// Rewrites the blocks of a part, with a desk of its own.
+/// Rewrites the blocks of a part, with buffers of its own.
 pub(crate) fn rewrite_part<L: BlockLane, G: LogDevice, R: Wait, T: Gate>(
     manager: &Manager<L, G>,
     rt: &R,
@@ -213,13 +213,13 @@ pub(crate) fn rewrite_part<L: BlockLane, G: LogDevice, R: Wait, T: Gate>(
     requires frames { (16 ≤ frames_of manager.now.table) × (frames_of manager.now.table ≤ 4096) }
     ensures rewrites { RewritesPart L.contents manager.now rel.0 fork from to pass.old pass.new totals.entry.now totals.exit.now result }
 {
-    let mut desk = RewriteBuffers {
+    let mut buffers = RewriteBuffers {
         page: Page::zeroed(alloc)?,
         after: Page::zeroed(alloc)?,
         ring: Some(Ring::build(alloc, RingKind::Vacuum, manager.frames())?),
     };
     rewrite_blocks(
-        manager, rt, gate, worker, pass, rel, fork, from, to, &mut desk, totals,
+        manager, rt, gate, worker, pass, rel, fork, from, to, &mut buffers, totals,
     )
 }
 

@@ -40,7 +40,7 @@ pub(crate) struct Worker {
 
 /// What a worker reads with: room for a page, and the ring of a bulk read.
 #[derive(Drop)]
-struct Desk {
+struct ScanBuffers {
     page: Page,
     ring: Option<Ring>,
 }
@@ -66,7 +66,7 @@ impl Worker {
         alloc: Global,
         gate: &T,
         job: Job,
-        desk: &mut Desk,
+        buffers: &mut ScanBuffers,
         block: u32,
     ) -> Result<(), JobError>
         requires free { HasNoTokens L.contents manager.now self.old.pass }
@@ -89,11 +89,11 @@ impl Worker {
             self.number,
             &mut self.pass,
             tag,
-            &mut desk.ring,
-            &mut desk.page,
+            &mut buffers.ring,
+            &mut buffers.page,
         )?;
         self.printed
-            .add(alloc, job.lines, block, &found, &desk.page)?;
+            .add(alloc, job.lines, block, &found, &buffers.page)?;
         Ok(())
     }
 
@@ -105,7 +105,7 @@ impl Worker {
         alloc: Global,
         gate: &T,
         job: Job,
-        desk: &mut Desk,
+        buffers: &mut ScanBuffers,
     ) -> Result<(), JobError>
         requires free { HasNoTokens L.contents manager.now self.old.pass }
         requires part { (self.old.from ≤ self.old.to) × (self.old.to ≤ blocks_in manager.now job.rel.0 job.fork) }
@@ -115,7 +115,7 @@ impl Worker {
         ensures does { DoesPart L.contents manager.now job.rel.0 job.fork job.lines self.old.from self.old.to self.old.pass self.new.pass self.old.printed.text.items self.new.printed.text.items self.old.printed.totals self.new.printed.totals result }
     {
         for block in self.from..self.to {
-            self.work_block(manager, rt, alloc, gate, job, desk, block)?;
+            self.work_block(manager, rt, alloc, gate, job, buffers, block)?;
         }
         Ok(())
     }
@@ -137,11 +137,11 @@ impl Worker {
         ensures does { DoesPart L.contents manager.now job.rel.0 job.fork job.lines self.old.from self.old.to self.old.pass self.new.pass self.old.printed.text.items self.new.printed.text.items self.old.printed.totals self.new.printed.totals result }
     {
         let blocks = manager.blocks(job.rel, job.fork);
-        let mut desk = Desk {
+        let mut buffers = ScanBuffers {
             page: Page::zeroed(alloc)?,
             ring: ring_for(alloc, blocks, manager.frames())?,
         };
-        self.work_part(manager, rt, alloc, gate, job, &mut desk)
+        self.work_part(manager, rt, alloc, gate, job, &mut buffers)
     }
 
     /// The same, with its end noted.
