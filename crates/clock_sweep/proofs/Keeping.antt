@@ -13,7 +13,7 @@ use Rattle.pin_core.specs.declared.view.Role.TheVariants.{Absent, HandedOut, Vic
 use Rattle.pin_core.specs.State.{link}
 use Rattle.pin_core.proofs.Schedules.{own_pins}
 use Rattle.state_word.specs.declared.word.StateWord.{StateWord}
-use Rattle.pin_core.specs.declared.view.Seen.TheVariants as seen
+use Rattle.pin_core.specs.declared.view.LoadedWord.TheVariants as seen
 use Rattle.pin_core.specs.Kinds as pin
 use Rattle.pin_core.specs.Kinds.{load_of}
 use Rattle.pin_core.specs.Steps.{HoldsNoHeader}

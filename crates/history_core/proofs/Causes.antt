@@ -15,7 +15,7 @@ use Rattle.pin_core.specs.State.{Config, Frame, Page, link, lane_hold, no_lane, 
 use Rattle.pin_core.specs.Tallies.{flag_weight}
 use Rattle.pin_core.specs.Kinds as pin_kinds
 use Rattle.pin_core.specs.Turns.{view_turned}
-use Rattle.pin_core.specs.declared.view.Seen.TheVariants as seen
+use Rattle.pin_core.specs.declared.view.LoadedWord.TheVariants as seen
 use Rattle.pin_core.specs.Steps as pin_steps
 use Rattle.page_core.specs.State.{Block, block_of}
 use Rattle.page_core.specs.Kinds as kinds

@@ -20,7 +20,7 @@ use Rattle.pin_core.specs.declared.view.LaneChange.TheVariants as lane_change
 use Rattle.history_core.specs.Lanes.{swept_by, LaneKind, LaneAllowed, lane_after, lane_hold_after, lane_met_by, fault_of, is_failed_read, is_failed_write}
 use Rattle.history_core.specs.Device.{HasRisen}
 use Rattle.history_core.specs.Counts.{all_met, Known, CountTally, holders, failed_reads, failed_writes, unfailed, count_weigh, HoldCounts, count_shape, count_part, known_of, Counted, CountsLaw}
-use Rattle.pin_core.specs.declared.view.Seen.TheVariants as seen
+use Rattle.pin_core.specs.declared.view.LoadedWord.TheVariants as seen
 use Rattle.page_core.specs.Kinds.{begin_write, make_entry}
 use Rattle.history_core.specs.Log.{record_size}
 use Rattle.history_core.specs.Device as log_kinds

@@ -12,7 +12,7 @@ use Rattle.pin_core.specs.declared.view.View.{View}
 use Rattle.pin_core.specs.declared.view.Call.TheVariants.{Read}
 use Rattle.pin_core.specs.State.{Frame, Page, link, lane_hold, no_lane}
 use Rattle.pin_core.specs.Tallies.{flag_weight, some_weight}
-use Rattle.pin_core.specs.declared.view.Seen.TheVariants as seen
+use Rattle.pin_core.specs.declared.view.LoadedWord.TheVariants as seen
 use Rattle.page_core.specs.Kinds.{make_entry}
 use Rattle.page_core.proofs.Histories as pages
 use Rattle.page_core.proofs.Histories.{flag_count}

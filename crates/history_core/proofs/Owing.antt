@@ -12,7 +12,7 @@ use Rattle.pin_core.specs.declared.view.Content.TheVariants.{Unlocked, Exclusive
 use Rattle.pin_core.specs.declared.view.Io.TheVariants.{Output}
 use Rattle.pin_core.specs.declared.view.LastWrite.TheVariants.{Done}
 use Rattle.pin_core.specs.declared.view.Link.{Link}
-use Rattle.pin_core.specs.declared.view.Seen.TheVariants as seen
+use Rattle.pin_core.specs.declared.view.LoadedWord.TheVariants as seen
 use Rattle.pin_core.specs.declared.view.View.{View}
 use Rattle.pin_core.specs.State.{Config, Frame, Page, no_tag, idle, link, hold, lane_hold, first_view, new_view, emptied_view, joined_view, kept_checkpoint, empty_frame}
 use Rattle.pin_core.specs.State as pins

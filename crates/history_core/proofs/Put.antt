@@ -9,7 +9,7 @@ use Rattle.page_layout.specs.Soundness.{is_new_page, is_sound_page}
 use Rattle.pin_core.specs.declared.view.Io.TheVariants.{Quiet}
 use Rattle.pin_core.specs.declared.view.Link.{Link}
 use Rattle.pin_core.specs.declared.view.LaneHold.{LaneHold}
-use Rattle.pin_core.specs.declared.view.Seen.TheVariants as seen
+use Rattle.pin_core.specs.declared.view.LoadedWord.TheVariants as seen
 use Rattle.pin_core.specs.State.{Page, lane_hold}
 use Rattle.pin_core.specs.Kinds as pins
 use Rattle.pin_core.specs.Steps as pin_steps

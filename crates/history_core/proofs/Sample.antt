@@ -2,7 +2,7 @@
 use Rattle.std.proofs.Common.{false, slice_index_or, lit<, refl, sym, arith}
 use Rattle.std.specs.Prelude.{max}
 use Rattle.std.proofs.lemmas.Option.{same_Some}
-use Rattle.pin_core.specs.declared.view.Seen.TheVariants as seen
+use Rattle.pin_core.specs.declared.view.LoadedWord.TheVariants as seen
 use Rattle.pin_core.specs.declared.view.View.{View}
 use Rattle.pin_core.specs.State.{lane_hold, emptied_view}
 use Rattle.history_core.specs.Log.{head_bytes}

@@ -8,7 +8,7 @@ use native.Mathlib.Decide.{ℕ_discrete}
 use lib.ListN.{get_elem?}
 use Rattle.state_word.specs.declared.word.StateWord.{StateWord}
 use Rattle.state_word.proofs.Words.{same_record}
-use Rattle.pin_core.specs.declared.view.Seen.TheVariants as seen
+use Rattle.pin_core.specs.declared.view.LoadedWord.TheVariants as seen
 use Rattle.pin_core.specs.declared.view.View.{View}
 use Rattle.pin_core.specs.declared.view.WordChange.{WordChange}
 use Rattle.pin_core.specs.State.{Config, Frame, Page, link, hold, first_view, new_view, emptied_view, joined_view}

@@ -9,8 +9,8 @@ use Rattle.pin_core.specs.declared.view.LaneChange.{LaneChange}
 use Rattle.pin_core.specs.declared.view.LaneChange.TheVariants as lane_change
 use Rattle.pin_core.specs.declared.view.LaneHold.{LaneHold}
 use Rattle.pin_core.specs.declared.view.LogHold.{LogHold}
-use Rattle.pin_core.specs.declared.view.Seen.{Seen}
-use Rattle.pin_core.specs.declared.view.Seen.TheVariants as seen
+use Rattle.pin_core.specs.declared.view.LoadedWord.{LoadedWord}
+use Rattle.pin_core.specs.declared.view.LoadedWord.TheVariants as seen
 use Rattle.pin_core.specs.declared.view.Link.{Link}
 use Rattle.pin_core.specs.declared.view.View.{View}
 use Rattle.pin_core.specs.declared.view.Call.TheVariants.{Read, Write}
@@ -74,7 +74,7 @@ abbrev pub ticked : View → View
 ticked v = record v { steps = v.steps + 1; ticks = v.ticks + 1 }
 
 -- a view after a load
-abbrev pub looked : Seen → View → View
+abbrev pub looked : LoadedWord → View → View
 looked seen v = record v { loads = v.loads ++ load_of v seen ∷ [] }
 
 -- the view of backend i changes, and nothing else of the buffer pool

@@ -11,8 +11,8 @@ use Rattle.pin_core.specs.declared.view.Io.{Io}
 use Rattle.pin_core.specs.declared.view.Io.TheVariants.{Quiet, Input, Output}
 use Rattle.pin_core.specs.declared.view.LastWrite.{LastWrite}
 use Rattle.pin_core.specs.declared.view.LastWrite.TheVariants.{Unwritten, Done, Failed}
-use Rattle.pin_core.specs.declared.view.Seen.{Seen}
-use Rattle.pin_core.specs.declared.view.Seen.TheVariants as seen
+use Rattle.pin_core.specs.declared.view.LoadedWord.{LoadedWord}
+use Rattle.pin_core.specs.declared.view.LoadedWord.TheVariants as seen
 use Rattle.pin_core.specs.declared.view.Link.{Link}
 use Rattle.pin_core.specs.declared.view.View.{View}
 use Rattle.pin_core.specs.State.{Frame, Page}
@@ -324,7 +324,7 @@ ended_after (end_io end) fr ended = Some (unlocked_fields (io_ended_fields end f
 ended_after _ fr ended = ended
 
 -- what a load saw
-abbrev pub seen_by : Kind → ℕ → Frame → List Seen
+abbrev pub seen_by : Kind → ℕ → Frame → List LoadedWord
 seen_by load_content f fr = seen.Content f fr.sharers fr.exclusive fr.copying ∷ []
 seen_by _ f fr = []
 

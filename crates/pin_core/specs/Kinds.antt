@@ -9,8 +9,8 @@ use Rattle.pin_core.specs.declared.view.Io.TheVariants.{Quiet}
 use Rattle.pin_core.specs.declared.view.MapChange.{MapChange}
 use Rattle.pin_core.specs.declared.view.MapChange.TheVariants.{NoChange, Entering, Leaving}
 use Rattle.pin_core.specs.declared.view.PartitionHold.{PartitionHold}
-use Rattle.pin_core.specs.declared.view.Seen.{Seen}
-use Rattle.pin_core.specs.declared.view.Seen.TheVariants as seen
+use Rattle.pin_core.specs.declared.view.LoadedWord.{LoadedWord}
+use Rattle.pin_core.specs.declared.view.LoadedWord.TheVariants as seen
 use Rattle.pin_core.specs.declared.view.Load.{Load}
 use Rattle.pin_core.specs.declared.view.WordChange.{WordChange}
 use Rattle.pin_core.specs.declared.view.Link.{Link}
@@ -198,7 +198,7 @@ link_after assign fr l = record l { role = HandedOut; tag = Some fr.tag; header 
 link_after clear fr l = record l { header = None; pending = false }
 
 -- what a load saw
-abbrev pub seen_by : Kind → ℕ → Frame → List Seen
+abbrev pub seen_by : Kind → ℕ → Frame → List LoadedWord
 seen_by load_state f fr = seen.State f fr.word ∷ []
 seen_by load_tag f fr = seen.Tag f fr.tag ∷ []
 seen_by _ f fr = []
@@ -222,8 +222,8 @@ steps_of load_tag = 0
 steps_of _ = 1
 
 -- a load by the view, with what it saw
-abbrev pub load_of : View → Seen → Load
-load_of v what = record { seen = what; pins = map (λ (l : Link). is_pin l.role) v.links; steps = v.steps }
+abbrev pub load_of : View → LoadedWord → Load
+load_of v what = record { loaded_word = what; pins = map (λ (l : Link). is_pin l.role) v.links; steps = v.steps }
 
 -- the pair that a kind at the frame f names in change
 abbrev pub named_by : Kind → ℕ → Frame → MapChange

@@ -14,7 +14,7 @@ mod view;
 
 pub use view::{
     BlockPage, Call, JoinedCheckpoint, Content, DeviceCall, Io, LaneChange, LaneHold, LastWrite, Link,
-    Load, LogChange, LogHold, MapChange, MapEntry, FailedCalls, PartitionHold, Role, Seen, View,
+    Load, LogChange, LogHold, MapChange, MapEntry, FailedCalls, PartitionHold, Role, LoadedWord, View,
 };
 
 /// What every list of events keeps, whatever the backends do and in whatever order.

@@ -195,7 +195,7 @@ pub enum Call {
 }
 
 /// A word as a load saw it.
-pub enum Seen {
+pub enum LoadedWord {
     State {
         frame: u64,
         word: StateWord,
@@ -223,7 +223,7 @@ pub enum Seen {
 
 /// One load, with what the backend had done and pinned by then.
 pub struct Load {
-    pub seen: Seen,
+    pub loaded_word: LoadedWord,
     /// For each frame, whether the backend pinned it.
     pub pins: [bool; 0],
     /// How many steps other than loads the backend had made.
