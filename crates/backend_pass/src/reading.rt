@@ -46,8 +46,9 @@ fn refused(why: BlockError) -> ReadError
         BlockError::NoFrame(VictimError::Flush(FrameFlushError::Log(FlushLog::LogDown { at }))) => {
             ReadError::LogDown { at }
         }
-        BlockError::NoFrame(VictimError::Flush(FrameFlushError::Log(FlushLog::LogShort { lsn, end }))) =>
-            { ReadError::LogShort { lsn, end } }
+        BlockError::NoFrame(
+            VictimError::Flush(FrameFlushError::Log(FlushLog::LogShort { lsn, end })),
+        ) => { ReadError::LogShort { lsn, end } }
         BlockError::ReadFault { tag } => ReadError::ReadFault { tag },
         BlockError::Unsound { tag } => ReadError::Unsound { tag },
     }

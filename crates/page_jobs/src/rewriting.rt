@@ -219,7 +219,17 @@ pub(crate) fn rewrite_part<L: BlockLane, G: LogDevice, R: Wait, T: Gate>(
         ring: Some(Ring::build(alloc, RingKind::Vacuum, manager.frames())?),
     };
     rewrite_blocks(
-        manager, rt, gate, worker, pass, rel, fork, from, to, &mut buffers, totals,
+        manager,
+        rt,
+        gate,
+        worker,
+        pass,
+        rel,
+        fork,
+        from,
+        to,
+        &mut buffers,
+        totals,
     )
 }
 

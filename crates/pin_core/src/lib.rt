@@ -13,8 +13,9 @@ ghost use Rattle.pin_core.specs.Schedules.{IsReached, UsagesAreLow, TagWordsAreT
 mod view;
 
 pub use view::{
-    BlockPage, Call, JoinedCheckpoint, Content, DeviceCall, Io, LaneChange, LaneHold, LastWrite, Link,
-    Load, LogChange, LogHold, MapChange, MapEntry, FailedCalls, PartitionHold, Role, LoadedWord, View,
+    BlockPage, Call, Content, DeviceCall, FailedCalls, Io, JoinedCheckpoint, LaneChange, LaneHold,
+    LastWrite, Link, Load, LoadedWord, LogChange, LogHold, MapChange, MapEntry, PartitionHold,
+    Role, View,
 };
 
 /// What every list of events keeps, whatever the backends do and in whatever order.

@@ -3,7 +3,7 @@ ghost use Rattle.manager_tests.specs.Bench.{IsFree};
 ghost use Rattle.sync_tests.specs.Idle.{IsFreeAndUnlocked};
 
 use crate::bench::start;
-use crate::devices::{ByteLog, TestCall, PageLane, calls_of};
+use crate::devices::{ByteLog, PageLane, TestCall, calls_of};
 use crate::syncing::{checkpoint_once, round_once};
 use backend_pass::{FlushError, Manager, Met, Pass, PutError, ReadError};
 use bg_writer::Round;

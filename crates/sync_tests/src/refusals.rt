@@ -1,7 +1,7 @@
 //! A put, a flush and a checkpoint, of which one device call fails.
 use crate::acts::{Act, Answer, Copied, Played, play};
 use crate::devices::TestCall::{Append, ReadBlock, SyncLane, SyncLog, WriteBlock};
-use crate::devices::{TestCall, Failing};
+use crate::devices::{Failing, TestCall};
 use crate::tests::{checkpoint, devices, put, refused};
 use backend_pass::{FlushError, PutError, ReadError};
 use checkpointer::CheckpointError;

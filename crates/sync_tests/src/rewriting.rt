@@ -1,5 +1,5 @@
 //! A rewrite, and a checkpoint after it.
-use crate::devices::{ByteLog, TestCall, PageLane, calls_of};
+use crate::devices::{ByteLog, PageLane, TestCall, calls_of};
 use backend_pass::{Config, Manager, Pinned, StartRefused};
 use block_tag::{Catalog, CatalogError, Fork, RelEntry, RelNo};
 use checkpointer::{Checkpoint, CheckpointError, checkpoint};
