@@ -121,13 +121,13 @@ refusal_shows relations f tag p (LogDown at) u w e r s = (ap (λ (y : View). y.s
 refusal_shows relations f tag p LogFault u w e r s = ap (λ (y : View). y.saw_down) e
 
 -- The frame f was marked dirty
-pub record Marks (f : ℕ) (v u : View) : Type 0 where
+pub record MarkedFrameDirty (f : ℕ) (v u : View) : Type 0 where
   pub touches : Touches f v u
   pub marks : MarksDirty v u
   pub dirtied : Looked (dirtied_link (link v f)) (link u f)
   pub did : Tried (pages kinds.mark_dirty) f v u true
 
-module _ (f : ℕ) (t : Tokens) (v u : View) (m : Marks f v u) where
+module _ (f : ℕ) (t : Tokens) (v u : View) (m : MarkedFrameDirty f v u) where
   pub rests_marked : LinksRest t v → LinksRest t u
   rests_marked r = rests_with f t u (beside_kept f t v u m.touches.others (beside f t v r)) (link_looked (held_at t f) (dirtied_link (link v f)) (link u f) m.dirtied (marked_rests (held_at t f) (link v f) (r f)))
 

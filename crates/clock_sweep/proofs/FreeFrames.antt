@@ -9,11 +9,11 @@ use Rattle.std.proofs.lemmas.Map.Steps.{length-le_from_distinct_below}
 use Rattle.clock_sweep.specs.FreeFrames.{frames_below}
 
 -- each frame of the list is below n
-abbrev pub AreBelow : ℕ → List ℕ → Type 0
-AreBelow n stack = (f : ℕ) → list_any (nat_eq f) stack ≡ true → f < n
+abbrev pub ListIsBelow : ℕ → List ℕ → Type 0
+ListIsBelow n stack = (f : ℕ) → list_any (nat_eq f) stack ≡ true → f < n
 
 -- all of them, and one more
-pub below_added : (n frame : ℕ) (stack : List ℕ) → AreBelow n stack → frame < n → AreBelow n (stack ++ frame ∷ [])
+pub below_added : (n frame : ℕ) (stack : List ℕ) → ListIsBelow n stack → frame < n → ListIsBelow n (stack ++ frame ∷ [])
 below_added n frame stack below low f found = of_test (list_any (nat_eq f) stack) refl
   where
     of_test : (b : Bool) → list_any (nat_eq f) stack ≡ b → f < n
@@ -25,7 +25,7 @@ below_added n frame stack below low f found = of_test (list_any (nat_eq f) stack
         of_last false q = let no : true ≡ false = sym found ∙ list_any-append (nat_eq f) stack (frame ∷ []) ∙ (λ i. e i || (q i || false)) in absurd (cc)
 
 -- such a list leaves room for a frame that it lacks
-pub room_left : (n frame : ℕ) (stack : List ℕ) → IsDistinct nat_eq stack → AreBelow n stack → frame < n → list_any (nat_eq frame) stack ≡ false → length stack < n
+pub room_left : (n frame : ℕ) (stack : List ℕ) → IsDistinct nat_eq stack → ListIsBelow n stack → frame < n → list_any (nat_eq frame) stack ≡ false → length stack < n
 room_left n frame stack apart below low lacks = let e = length-append stack (frame ∷ []) in let few = length-le_from_distinct_below (stack ++ frame ∷ []) n (IsDistinct-push nat_eq_equiv stack frame apart lacks) (below_added n frame stack below low) in omega arith
 
 -- without the last one
@@ -38,7 +38,7 @@ unfolding IsDistinct
 distinct_front [] ys h = tt
 distinct_front (x ∷ xs) ys h = (all_front (λ y. nat_eq x y ≡ false) xs ys h.0, distinct_front xs ys h.1)
 
-pub below_front : (n : ℕ) (xs ys : List ℕ) → AreBelow n (xs ++ ys) → AreBelow n xs
+pub below_front : (n : ℕ) (xs ys : List ℕ) → ListIsBelow n (xs ++ ys) → ListIsBelow n xs
 below_front n xs ys below f found = below f (list_any-append (nat_eq f) xs ys ∙ ap (λ b. b || list_any (nat_eq f) ys) found)
 
 -- the frames of a pool
@@ -51,7 +51,7 @@ unfolding IsDistinct
 distinct_below zero = tt
 distinct_below (suc n) = (all_apart n n (omega arith), distinct_below n)
 
-pub below_below : (n : ℕ) → AreBelow n (frames_below n)
+pub below_below : (n : ℕ) → ListIsBelow n (frames_below n)
 below_below zero f found = absurd (let no : false ≡ true = found in cc)
 below_below (suc n) f found = of_test (below_below n f) (nat_eq f n) refl
   where

@@ -74,7 +74,7 @@ module _ {L G : Type 0} (d : Devices L G) (o : Opening L G) where
       (record { hold = lane_hold_after (lane_back noted) v.flushed (swept_by v) (lane_hold v q); lanes = refl; partitions = refl; log = refl; outs = λ g. same_at (λ (l : Link). l.out) v.links f g (pages.link_after k b fr (link v f)) idle (note.out b fr (link v f)) }) (leaves_itself (s.lane q))
 
   -- By these steps the state s comes to one in which the lane q is `ln`, and the view v becomes w; the lane's value alone moves
-  pub record Comes (s : State) (id q : ℕ) (v : View) (events : List Event) (w : View) (ln : Lane) : Type 0 where
+  pub record LaneComes (s : State) (id q : ℕ) (v : View) (events : List Event) (w : View) (ln : Lane) : Type 0 where
     pub next : State
     pub run : Run events s next
     pub laws : Laws next
@@ -82,18 +82,18 @@ module _ {L G : Type 0} (d : Devices L G) (o : Opening L G) where
     pub lane : next.lane q ≡ ln
 
   -- A state in which backend id has the view v
-  pub record Stands (s : State) (id q : ℕ) (v : View) : Type 0 where
+  pub record StandsWithLane (s : State) (id q : ℕ) (v : View) : Type 0 where
     pub opened : KeepsOpening d o s
     pub laws : Laws s
     pub there : get_elem? s.pool.core.views id ≡ some v
     pub live : v.emptied ≡ false
     pub below : q < s.lanes
 
-  in_lanes : (s : State) (id q : ℕ) (v : View) → Stands s id q v → q < length v.lanes
+  in_lanes : (s : State) (id q : ℕ) (v : View) → StandsWithLane s id q v → q < length v.lanes
   in_lanes s id q v h = let wide = h.laws.invariant.wide id v h.there h.live in let low = h.below in omega arith
 
   -- a state after the first of two steps
-  stands_on : (s t : State) (id q : ℕ) (v u : View) (e : Event) → Stands s id q v → Step e s t → Moves d o s t id v u (place.Of (turn.Lane q)) → u.emptied ≡ v.emptied → Stands t id q u
+  stands_on : (s t : State) (id q : ℕ) (v u : View) (e : Event) → StandsWithLane s id q v → Step e s t → Moves d o s t id v u (place.Of (turn.Lane q)) → u.emptied ≡ v.emptied → StandsWithLane t id q u
   stands_on s t id q v u e h step moves live = record {
     opened = moves.fixed;
     laws = laws_kept step h.laws;
@@ -102,7 +102,7 @@ module _ {L G : Type 0} (d : Devices L G) (o : Opening L G) where
     below = (let a = moves.fixed.lanes in let b = h.opened.lanes in let low = h.below in omega arith);
   }
 
-  pub one_step : (k : LaneKind) (s : State) (id q : ℕ) (v : View) → Stands s id q v → LaneAllowed k (s.lane q) (lane_hold v q) → LaneAlone k s q (lane_hold v q) → Leaves (s.lane q) (lane_after k (s.lane q)) → Comes s id q v (steps.lane id q k ∷ []) (alone_view k q v) (lane_after k (s.lane q))
+  pub one_step : (k : LaneKind) (s : State) (id q : ℕ) (v : View) → StandsWithLane s id q v → LaneAllowed k (s.lane q) (lane_hold v q) → LaneAlone k s q (lane_hold v q) → Leaves (s.lane q) (lane_after k (s.lane q)) → LaneComes s id q v (steps.lane id q k ∷ []) (alone_view k q v) (lane_after k (s.lane q))
   one_step k s id q v h a alone kept = let step : Step (steps.lane id q k) s (alone_state k s id q v) = steps.lanes id q k v h.there h.live h.below a alone in record {
     next = alone_state k s id q v;
     run = goes step rests;
@@ -112,16 +112,16 @@ module _ {L G : Type 0} (d : Devices L G) (o : Opening L G) where
   }
 
   -- a step before others
-  before_others : (s t : State) (id q : ℕ) (v u w : View) (e : Event) (es : List Event) (ln : Lane) → Step e s t → Moves d o s t id v u (place.Of (turn.Lane q)) → Comes t id q u es w ln → Comes s id q v (e ∷ es) w ln
+  before_others : (s t : State) (id q : ℕ) (v u w : View) (e : Event) (es : List Event) (ln : Lane) → Step e s t → Moves d o s t id v u (place.Of (turn.Lane q)) → LaneComes t id q u es w ln → LaneComes s id q v (e ∷ es) w ln
   before_others s t id q v u w e es ln step moves c = record { next = c.next; run = goes step c.run; laws = c.laws; moves = moves_on d o s t c.next id v u w (place.Of (turn.Lane q)) moves c.moves; lane = c.lane }
 
   -- the return, alone or with a note
-  returns_alone : (noted : Bool) (s : State) (id q : ℕ) (v : View) (ln : Lane) (h : LaneHold) → Stands s id q v → s.lane q ≡ ln → lane_hold v q ≡ h → CanReturnLane noted ln h → NoWrite h.change → Comes s id q v (steps.lane id q (lane_back noted) ∷ []) (alone_view (lane_back noted) q v) ln
+  returns_alone : (noted : Bool) (s : State) (id q : ℕ) (v : View) (ln : Lane) (h : LaneHold) → StandsWithLane s id q v → s.lane q ≡ ln → lane_hold v q ≡ h → CanReturnLane noted ln h → NoWrite h.change → LaneComes s id q v (steps.lane id q (lane_back noted) ∷ []) (alone_view (lane_back noted) q v) ln
   returns_alone noted s id q v ln h stands is hold can none = let c = one_step (lane_back noted) s id q v stands (subst (λ (x : Lane). CanReturnLane noted x (lane_hold v q)) (sym is) (subst (CanReturnLane noted ln) (sym hold) can)) (subst (λ (x : LaneHold). NoWrite x.change) (sym hold) none) (leaves_itself (s.lane q)) in
       record { next = c.next; run = c.run; laws = c.laws; moves = c.moves; lane = c.lane ∙ is }
 
-  returns_noted : (noted : Bool) (k : Kind) (s : State) (id q f : ℕ) (v : View) (ln : Lane) (h : LaneHold) → NotesAlone k → Stands s id q v → f < s.pool.core.frames → s.lane q ≡ ln → lane_hold v q ≡ h → CanReturnLane noted ln h → steps.Notes k s q f (lane_hold v q) (link v f)
-      → Comes s id q v (steps.note id q f (lane_back noted) k ∷ []) (noted_view noted k s q f v) ln
+  returns_noted : (noted : Bool) (k : Kind) (s : State) (id q f : ℕ) (v : View) (ln : Lane) (h : LaneHold) → NotesAlone k → StandsWithLane s id q v → f < s.pool.core.frames → s.lane q ≡ ln → lane_hold v q ≡ h → CanReturnLane noted ln h → steps.Notes k s q f (lane_hold v q) (link v f)
+      → LaneComes s id q v (steps.note id q f (lane_back noted) k ∷ []) (noted_view noted k s q f v) ln
   returns_noted noted k s id q f v ln h note stands inside is hold can notes =
       let step : Step (steps.note id q f (lane_back noted) k) s (noted_state noted k s id q f v) = steps.notes id q f noted k v stands.there stands.live stands.below inside (subst (λ (x : Lane). CanReturnLane noted x (lane_hold v q)) (sym is) (subst (CanReturnLane noted ln) (sym hold) can)) notes in record {
         next = noted_state noted k s id q f v;
@@ -132,16 +132,16 @@ module _ {L G : Type 0} (d : Devices L G) (o : Opening L G) where
       }
 
   -- A call alone, and the return alone
-  pub calls_alone : (k : LaneKind) (noted : Bool) (s : State) (id q : ℕ) (v : View) → Stands s id q v → LaneAllowed k (s.lane q) (lane_hold v q) → LaneAlone k s q (lane_hold v q) → Leaves (s.lane q) (lane_after k (s.lane q)) → CanReturnLane noted (lane_after k (s.lane q)) (lane_hold_after k v.flushed (swept_by v) (lane_hold v q)) → NoWrite (lane_hold_after k v.flushed (swept_by v) (lane_hold v q)).change
-      → Comes s id q v (steps.lane id q k ∷ steps.lane id q (lane_back noted) ∷ []) (alone_view (lane_back noted) q (alone_view k q v)) (lane_after k (s.lane q))
+  pub calls_alone : (k : LaneKind) (noted : Bool) (s : State) (id q : ℕ) (v : View) → StandsWithLane s id q v → LaneAllowed k (s.lane q) (lane_hold v q) → LaneAlone k s q (lane_hold v q) → Leaves (s.lane q) (lane_after k (s.lane q)) → CanReturnLane noted (lane_after k (s.lane q)) (lane_hold_after k v.flushed (swept_by v) (lane_hold v q)) → NoWrite (lane_hold_after k v.flushed (swept_by v) (lane_hold v q)).change
+      → LaneComes s id q v (steps.lane id q k ∷ steps.lane id q (lane_back noted) ∷ []) (alone_view (lane_back noted) q (alone_view k q v)) (lane_after k (s.lane q))
   calls_alone k noted s id q v h a alone kept can none = let t : State = alone_state k s id q v in let u : View = alone_view k q v in let step : Step (steps.lane id q k) s t = steps.lanes id q k v h.there h.live h.below a alone in let moves = alone_moves k s id q v (steps.lane id q k) h.opened step kept in
       before_others s t id q v u (alone_view (lane_back noted) q u) (steps.lane id q k) (steps.lane id q (lane_back noted) ∷ []) (lane_after k (s.lane q)) step moves
       (returns_alone noted t id q u (lane_after k (s.lane q)) (lane_hold_after k v.flushed (swept_by v) (lane_hold v q)) (stands_on s t id q v u (steps.lane id q k) h step moves refl) (put_here s.lane q (lane_after k (s.lane q))) (get_or-set_same v.lanes q (lane_hold_after k v.flushed (swept_by v) (lane_hold v q)) no_lane (in_lanes s id q v h)) can none)
 
   -- A read, and the return with its note
-  pub reads_noted : (tag : ℕ) (p : Page) (s : State) (id q f : ℕ) (v : View) → Stands s id q v → f < s.pool.core.frames → LaneAllowed (read_block tag p) (s.lane q) (lane_hold v q) → s.lane_of tag ≡ q → CanReturnLane false (s.lane q) (record (lane_hold v q) { change = lane_change.Read tag p })
+  pub reads_noted : (tag : ℕ) (p : Page) (s : State) (id q f : ℕ) (v : View) → StandsWithLane s id q v → f < s.pool.core.frames → LaneAllowed (read_block tag p) (s.lane q) (lane_hold v q) → s.lane_of tag ≡ q → CanReturnLane false (s.lane q) (record (lane_hold v q) { change = lane_change.Read tag p })
       → (s.pool.core.frame f).tag ≡ tag → (link v f).io ≡ Input → (link v f).overwritten ≡ None
-      → Comes s id q v (steps.lane id q (read_block tag p) ∷ steps.note id q f (lane_back false) (note_read p) ∷ []) (noted_view false (note_read p) (alone_state (read_block tag p) s id q v) q f (alone_view (read_block tag p) q v)) (s.lane q)
+      → LaneComes s id q v (steps.lane id q (read_block tag p) ∷ steps.note id q f (lane_back false) (note_read p) ∷ []) (noted_view false (note_read p) (alone_state (read_block tag p) s id q v) q f (alone_view (read_block tag p) q v)) (s.lane q)
   reads_noted tag p s id q f v h inside a lane can tagged right fresh = let k : LaneKind = read_block tag p in let t : State = alone_state k s id q v in let u : View = alone_view k q v in
       let step : Step (steps.lane id q k) s t = steps.lanes id q k v h.there h.live h.below a lane in let moves = alone_moves k s id q v (steps.lane id q k) h.opened step (leaves_itself (s.lane q)) in let hold = get_or-set_same v.lanes q (lane_hold_after k v.flushed (swept_by v) (lane_hold v q)) no_lane (in_lanes s id q v h) in
       before_others s t id q v u (noted_view false (note_read p) t q f u) (steps.lane id q k) (steps.note id q f (lane_back false) (note_read p) ∷ []) (s.lane q) step moves
@@ -149,10 +149,10 @@ module _ {L G : Type 0} (d : Devices L G) (o : Opening L G) where
       (record { was_read = ap (λ (x : LaneHold). x.change) hold ∙ ap (λ (n : ℕ). lane_change.Read n p) (sym tagged); lane = ap s.lane_of tagged ∙ lane; right = right; fresh = fresh }))
 
   -- A write, and the return with its note
-  pub writes_noted : (k : LaneKind) (noted : Bool) (s : State) (id q f : ℕ) (v : View) → Stands s id q v → f < s.pool.core.frames → LaneAllowed k (s.lane q) (lane_hold v q) → MayWriteLane k s q f (lane_hold v q) (link v f) → Leaves (s.lane q) (lane_after k (s.lane q))
+  pub writes_noted : (k : LaneKind) (noted : Bool) (s : State) (id q f : ℕ) (v : View) → StandsWithLane s id q v → f < s.pool.core.frames → LaneAllowed k (s.lane q) (lane_hold v q) → MayWriteLane k s q f (lane_hold v q) (link v f) → Leaves (s.lane q) (lane_after k (s.lane q))
       → CanReturnLane noted (lane_after k (s.lane q)) (lane_hold_after k v.flushed (swept_by v) (lane_hold v q)) → (done : Bool)
       → (steps.Notes (note_write done) (written_state k s id q f v) q f (lane_hold (written_view k s q f v) q) (link (written_view k s q f v) f))
-      → Comes s id q v (steps.write id q f k ∷ steps.note id q f (lane_back noted) (note_write done) ∷ []) (noted_view noted (note_write done) (written_state k s id q f v) q f (written_view k s q f v)) (lane_after k (s.lane q))
+      → LaneComes s id q v (steps.write id q f k ∷ steps.note id q f (lane_back noted) (note_write done) ∷ []) (noted_view noted (note_write done) (written_state k s id q f v) q f (written_view k s q f v)) (lane_after k (s.lane q))
   writes_noted k noted s id q f v h inside a writes kept can done notes = let t : State = written_state k s id q f v in let u : View = written_view k s q f v in
       let step : Step (steps.write id q f k) s t = steps.writes id q f k v h.there h.live h.below inside a writes in let moves = written_moves k s id q f v (steps.write id q f k) h.opened step kept in
       let hold = get_or-set_same v.lanes q (lane_hold_after k v.flushed (swept_by v) (lane_hold v q)) no_lane (in_lanes s id q v h) in
@@ -166,7 +166,7 @@ module _ {L G : Type 0} (d : Devices L G) (o : Opening L G) where
   pub written_frame_is : (k : LaneKind) (s : State) (id q f : ℕ) (v : View) → (written_state k s id q f v).pool.core.frame f ≡ s.pool.core.frame f
   written_frame_is k s id q f v = put_here s.pool.core.frame f (s.pool.core.frame f)
 
-  pub written_hold_is : (k : LaneKind) (s : State) (id q f : ℕ) (v : View) → Stands s id q v → lane_hold (written_view k s q f v) q ≡ lane_hold_after k v.flushed (swept_by v) (lane_hold v q)
+  pub written_hold_is : (k : LaneKind) (s : State) (id q f : ℕ) (v : View) → StandsWithLane s id q v → lane_hold (written_view k s q f v) q ≡ lane_hold_after k v.flushed (swept_by v) (lane_hold v q)
   written_hold_is k s id q f v h = get_or-set_same v.lanes q (lane_hold_after k v.flushed (swept_by v) (lane_hold v q)) no_lane (in_lanes s id q v h)
 
 -- Views after two steps

@@ -58,7 +58,7 @@ use Rattle.frame_table.specs.declared.table.FrameTable.{FrameTable}
 use Rattle.frame_table.specs.Seats.{frames_of, relations_of, lanes_in, opened_of}
 use Rattle.frame_table.proofs.Moving.{Moves, shows_out, shows_back}
 use Rattle.frame_table.proofs.LaneWork.{rises}
-use Rattle.frame_table.proofs.LaneRuns.{Comes, Stands, alone_view, written_view, written_state, calls_alone, one_step, reads_noted, writes_noted, written_link_is, written_frame_is, written_hold_is, view_alone, view_read, view_written}
+use Rattle.frame_table.proofs.LaneRuns.{LaneComes, StandsWithLane, alone_view, written_view, written_state, calls_alone, one_step, reads_noted, writes_noted, written_link_is, written_frame_is, written_hold_is, view_alone, view_read, view_written}
 
 -- each lane has a number of a tag
 lane_word : (lanes q : ℕ) → q < lanes → lanes ≤ 16 → (word : ℕ) × (tag_lane lanes word ≡ q)
@@ -113,7 +113,7 @@ module _ {L G : Type 0} (d : Devices L G) (o : Opening L G) where
       low : q < h.state.lanes
       low = let e = h.shows.fixed.lanes in omega arith
 
-      stands : Stands d o h.state id q me.0
+      stands : StandsWithLane d o h.state id q me.0
       stands = record { opened = h.shows.fixed; laws = h.laws; there = here; live = live; below = low }
 
       none_out : IsHome (place.Of (turn.Lane q)) h.state.pool.core.views
@@ -160,7 +160,7 @@ module _ {L G : Type 0} (d : Devices L G) (o : Opening L G) where
           taken : TakenLane
           taken = taken_lane (lane_devices_of d) o.catalog.value o.config.lanes q l.device
 
-          comes : Comes d o h.state id q me.0 (out_events q taken id) (alone_view (lane_out taken) q me.0) (h.state.lane q)
+          comes : LaneComes d o h.state id q me.0 (out_events q taken id) (alone_view (lane_out taken) q me.0) (h.state.lane q)
           comes = one_step d o (lane_out taken) h.state id q me.0 stands (can_go_out d o.catalog.value o.config.lanes q l.device (h.state.lane q) (lane_hold me.0 q) is_lane held out) tt (record { taken = refl; reads = refl; writes = refl })
 
           moves : Moves d o h.state comes.next id me.0 (out_view q taken me.0) (place.Of (turn.Lane q))
@@ -175,19 +175,19 @@ module _ {L G : Type 0} (d : Devices L G) (o : Opening L G) where
       of_value value.Away home gives_it = absurd gives_it
 
   -- By these steps a state comes to one that has the lane as the device l is
-  record Returns (s : State) (id q : ℕ) (v : View) (events : List Event) (w : View) (l : L) : Type 0 where
+  record LaneReturns (s : State) (id q : ℕ) (v : View) (events : List Event) (w : View) (l : L) : Type 0 where
     lane : Lane
-    comes : Comes d o s id q v events w lane
+    comes : LaneComes d o s id q v events w lane
     is : IsLane d o.catalog.value o.config.lanes q l lane
 
-  returns_as : (s : State) (id q : ℕ) (v : View) (events : List Event) (w w' : View) (l : L) → w ≡ w' → Returns s id q v events w l → Returns s id q v events w' l
-  returns_as s id q v events w w' l e r = subst (λ (x : View). Returns s id q v events x l) e r
+  returns_as : (s : State) (id q : ℕ) (v : View) (events : List Event) (w w' : View) (l : L) → w ≡ w' → LaneReturns s id q v events w l → LaneReturns s id q v events w' l
+  returns_as s id q v events w w' l e r = subst (λ (x : View). LaneReturns s id q v events x l) e r
 
   -- a call's block lies in the lane, by the number of its tag
   number_placed : (s : State) (q : ℕ) (tag : Tag) → KeepsOpening d o s → IsBlockOf o.catalog.value o.config.lanes q tag → s.lane_of (packed_tag tag) ≡ q
   number_placed s q tag h b = ap (λ (g : ℕ → ℕ). g (packed_tag tag)) h.lane_of ∙ ap (lane_of_tag o.config.lanes) (packed_is tag b.named) ∙ b.placed
 
-  module _ (s : State) (id q : ℕ) (v : View) (h : Stands d o s id q v) (counted : length o.lanes.value.items ≡ o.config.lanes) (below : q < o.config.lanes) (l : NotedLane L) (m : MayReturn (lane_devices_of d) (was_known (lane_devices_of d) o.lanes.value.items q) o.catalog.value o.config.lanes q v l)
+  module _ (s : State) (id q : ℕ) (v : View) (h : StandsWithLane d o s id q v) (counted : length o.lanes.value.items ≡ o.config.lanes) (below : q < o.config.lanes) (l : NotedLane L) (m : MayReturn (lane_devices_of d) (was_known (lane_devices_of d) o.lanes.value.items q) o.catalog.value o.config.lanes q v l)
       (reads_fit : (x : L) → d.read_faults x < 2 ^ 64) (writes_fit : (x : L) → d.write_faults x < 2 ^ 64) where
     abbrev ln : Lane
     ln = s.lane q
@@ -290,7 +290,7 @@ module _ {L G : Type 0} (d : Devices L G) (o : Opening L G) where
         now_change : (c : LaneChange) → lane_hold_after k v.flushed (swept_by v) hold ≡ record hold { change = c } → (lane_hold (written_view k s q f v) q).change ≡ c
         now_change c e = ap (λ (x : LaneHold). x.change) (written_hold_is d o k s id q f v h ∙ e)
 
-      wrote : LaneDid (lane_devices_of d) m.before after (Written f tag page) → Returns s id q v (back_events (lane_devices_of d) q after (Written f tag page) id) (back_view (lane_devices_of d) q after (Written f tag page) v) after
+      wrote : LaneDid (lane_devices_of d) m.before after (Written f tag page) → LaneReturns s id q v (back_events (lane_devices_of d) q after (Written f tag page) id) (back_view (lane_devices_of d) q after (Written f tag page) v) after
       wrote did = let word : ℕ = packed_tag tag in let k : LaneKind = write_block f word p in returns_as s id q v _ _ _ after (view_written k (lane_change.Written f word p) false true s id q f v in_view write_links refl refl refl) record {
         lane = lane_after k ln;
         comes = writes_noted d o k false s id q f v h write_frames can_call (refl, can_write p refl write_page) (record { taken = refl; reads = refl; writes = refl }) (quiet (lane_after k ln) (lane_change.Written f word p) refl refl refl) true
@@ -298,7 +298,7 @@ module _ {L G : Type 0} (d : Devices L G) (o : Opening L G) where
         is = took_page d o.catalog.value o.config.lanes q m.before after ln (lane_after k ln) was refl (reads_same ∙ sym did.1.reads) (writes_same ∙ sym did.1.writes) tag p block did.0 refl refl;
       }
 
-      write_failed : LaneDid (lane_devices_of d) m.before after (WriteFailed f tag page) → Returns s id q v (back_events (lane_devices_of d) q after (WriteFailed f tag page) id) (back_view (lane_devices_of d) q after (WriteFailed f tag page) v) after
+      write_failed : LaneDid (lane_devices_of d) m.before after (WriteFailed f tag page) → LaneReturns s id q v (back_events (lane_devices_of d) q after (WriteFailed f tag page) id) (back_view (lane_devices_of d) q after (WriteFailed f tag page) v) after
       write_failed did = let word : ℕ = packed_tag tag in let k : LaneKind = fail_write f word (page_held (d.contents after) tag p) (d.write_faults after) in returns_as s id q v _ _ _ after (view_written k (lane_change.WriteFailed f word) true false s id q f v in_view write_links refl refl refl) record {
         lane = lane_after k ln;
         comes = writes_noted d o k true s id q f v h write_frames (record { call = can_call; rises = write_rises did.1.writes }) (refl, can_write (s.pool.core.frame f).page write_page refl) (record { taken = refl; reads = refl; writes = refl }) (faulty (lane_after k ln) (lane_change.WriteFailed f word) refl) false
@@ -307,7 +307,7 @@ module _ {L G : Type 0} (d : Devices L G) (o : Opening L G) where
       }
 
     -- The steps of each call
-    returns : (c : LaneCall) → LaneDid (lane_devices_of d) m.before after c → MayNote o.catalog.value o.config.lanes q c v → Returns s id q v (back_events (lane_devices_of d) q after c id) (back_view (lane_devices_of d) q after c v) after
+    returns : (c : LaneCall) → LaneDid (lane_devices_of d) m.before after c → MayNote o.catalog.value o.config.lanes q c v → LaneReturns s id q v (back_events (lane_devices_of d) q after c id) (back_view (lane_devices_of d) q after c v) after
     returns Untouched did may = record {
       lane = ln;
       comes = one_step d o (lane_back false) s id q v h (quiet ln hold.change (ap is_failed_write m.once) refl refl) (subst (λ (c : LaneChange). steps.NoWrite c) (sym m.once) tt) (record { taken = refl; reads = refl; writes = refl });
@@ -344,8 +344,8 @@ module _ {L G : Type 0} (d : Devices L G) (o : Opening L G) where
       → Allows (RuleHolds d o) slots id (v, (slot_of o.config.frames (place.Of (turn.Lane q)), value.Lane r) ∷ c) (latch_place o.config.frames (turn.Lane q)) (λ n. n) (came_by (back_events (lane_devices_of d) q l.device l.call) (back_view (lane_devices_of d) q l.device l.call) (step slots (latch_place o.config.frames (turn.Lane q)) 0 0 none) (v, (slot_of o.config.frames (place.Of (turn.Lane q)), value.Lane r) ∷ c))
   comes_home slots id q v c l r counted below live numbered same untouched m reads_fit writes_fit t h deep there small = let s : State = h.state in let at : ℕ = latch_place o.config.frames (turn.Lane q) in let w : View = back_view (lane_devices_of d) q l.device l.call v in
       let here : get_elem? s.pool.core.views id ≡ some v = ap (λ (x : List View). get_elem? x id) (sym h.shows.views) ∙ there in
-      let stands : Stands d o s id q v = record { opened = h.shows.fixed; laws = h.laws; there = here; live = live; below = (let e = h.shows.fixed.lanes in omega arith) } in
-      let ret : Returns s id q v (back_events (lane_devices_of d) q l.device l.call id) w l.device = returns s id q v stands counted below l m reads_fit writes_fit l.call m.did m.may in
+      let stands : StandsWithLane d o s id q v = record { opened = h.shows.fixed; laws = h.laws; there = here; live = live; below = (let e = h.shows.fixed.lanes in omega arith) } in
+      let ret : LaneReturns s id q v (back_events (lane_devices_of d) q l.device l.call id) w l.device = returns s id q v stands counted below l m reads_fit writes_fit l.call m.did m.may in
       let moves : Moves d o s ret.comes.next id v w (place.Of (turn.Lane q)) = ret.comes.moves in
       let is : IsLane d o.catalog.value ret.comes.next.lanes q r.device (ret.comes.next.lane q) = subst (λ (n : ℕ). IsLane d o.catalog.value n q r.device (ret.comes.next.lane q)) (sym moves.fixed.lanes) (subst (λ (x : L). IsLane d o.catalog.value o.config.lanes q x (ret.comes.next.lane q)) (sym same) (subst (IsLane d o.catalog.value o.config.lanes q l.device) (sym ret.comes.lane) ret.is)) in (
         w,

@@ -9,12 +9,12 @@ use Rattle.grid.proofs.Lists.{at_set, at_end, put_at, put_else}
 use Rattle.grid.proofs.Sums.{total-set, total-snoc, term_le, terms_le, total-alone}
 
 -- where each other link counts nothing, the sum is this link's
-abbrev pub Alone : (S : Shape) → Part S → S.Block → S.Column → S.Link → (S.Tally → ℕ) → Type 0
-Alone S q b c l t = (k : S.Tally) → ((u : S.Own) (m : S.Link) → q.cell b c u m → ((j : S.Tally) → S.weigh j l + S.weigh j m ≤ t j) → S.weigh k m ≡ 0) → t k ≡ S.weigh k l
+abbrev pub CountsAlone : (S : Shape) → Part S → S.Block → S.Column → S.Link → (S.Tally → ℕ) → Type 0
+CountsAlone S q b c l t = (k : S.Tally) → ((u : S.Own) (m : S.Link) → q.cell b c u m → ((j : S.Tally) → S.weigh j l + S.weigh j m ≤ t j) → S.weigh k m ≡ 0) → t k ≡ S.weigh k l
 
 -- What the column c of the block b, and the link l of the view that steps, may become, where what q says is known
 pub record Keeps (S : Shape) (q p : Part S) (b b' : S.Block) (o o' : S.Own) (c : S.Column) (l : S.Link) (c' : S.Column) (l' : S.Link) : Type 0 where
-  pub column : (t t' : S.Tally → ℕ) → q.column b c t → q.cell b c o l → ((k : S.Tally) → t' k + S.weigh k l ≡ t k + S.weigh k l') → ((k : S.Tally) → S.weigh k l ≤ t k) → Alone S q b c l t → p.column b' c' t'
+  pub column : (t t' : S.Tally → ℕ) → q.column b c t → q.cell b c o l → ((k : S.Tally) → t' k + S.weigh k l ≡ t k + S.weigh k l') → ((k : S.Tally) → S.weigh k l ≤ t k) → CountsAlone S q b c l t → p.column b' c' t'
   pub cell : (t : S.Tally → ℕ) → q.column b c t → ((k : S.Tally) → S.weigh k l ≤ t k) → q.cell b c o l → p.cell b' c' o' l'
   pub others : (t : S.Tally → ℕ) (u : S.Own) (m : S.Link) → q.column b c t → q.cell b c o l → ((k : S.Tally) → S.weigh k l + S.weigh k m ≤ t k) → q.cell b c u m → p.cell b' c' u m
 

@@ -230,24 +230,24 @@ blocks_with [] h named all = (named, tt)
 blocks_with (x ∷ xs) h named all = (all.0, blocks_with xs h named all.1)
 
 -- what the invariant of the list says after a token more, and after one less
-pub record Counts (n : ℕ) (t : Tokens) : Type 0 where
+pub record CountsTokens (n : ℕ) (t : Tokens) : Type 0 where
   pub counts : n ≡ count_of t
   pub counted : TokensAreCounted t
 
-pub counts_with : (n : ℕ) (t u : Tokens) (h : HeldFrame) → u ≡ t ++ h ∷ [] → h.tokens ≡ 1 → held_at t h.frame ≡ None → Counts n t → Counts (n + 1) u
-counts_with n t u h e one none c = subst (Counts (n + 1)) (sym e) record {
+pub counts_with : (n : ℕ) (t u : Tokens) (h : HeldFrame) → u ≡ t ++ h ∷ [] → h.tokens ≡ 1 → held_at t h.frame ≡ None → CountsTokens n t → CountsTokens (n + 1) u
+counts_with n t u h e one none c = subst (CountsTokens (n + 1)) (sym e) record {
   counts = let a = c.counts in let b = count-with t h in omega arith;
   counted = counted_with t h c.counted (omega arith) none;
 }
 
-pub counts_more : (n f : ℕ) (t u : Tokens) → u ≡ tokens_more f t → held_at t f ≢ None → Counts n t → Counts (n + 1) u
-counts_more n f t u e some c = subst (Counts (n + 1)) (sym e) record {
+pub counts_more : (n f : ℕ) (t u : Tokens) → u ≡ tokens_more f t → held_at t f ≢ None → CountsTokens n t → CountsTokens (n + 1) u
+counts_more n f t u e some c = subst (CountsTokens (n + 1)) (sym e) record {
   counts = let a = c.counts in let b = count-more t f some in omega arith;
   counted = counted_more t f c.counted;
 }
 
-pub counts_less : (n f : ℕ) (t u : Tokens) → u ≡ tokens_less f t → held_at t f ≢ None → Counts n t → Counts (n - 1) u
-counts_less n f t u e some c = subst (Counts (n - 1)) (sym e) record {
+pub counts_less : (n f : ℕ) (t u : Tokens) → u ≡ tokens_less f t → held_at t f ≢ None → CountsTokens n t → CountsTokens (n - 1) u
+counts_less n f t u e some c = subst (CountsTokens (n - 1)) (sym e) record {
   counts = let a = c.counts in let b = count-less t f c.counted some in omega arith;
   counted = counted_less t f c.counted;
 }

@@ -62,12 +62,12 @@ plain_block (kinds.make_entry p) b x = absurd x
 plain_block _ b x = refl
 
 -- where a kind of `pin_core` stores a tag, the tag's block is clean
-abbrev pub IsFresh : pin_kinds.Kind → Home → Type 0
-IsFresh (pin_kinds.store_tag tag) h = IsClean h
-IsFresh _ h = Unit {0}
+abbrev pub StoresClean : pin_kinds.Kind → Home → Type 0
+StoresClean (pin_kinds.store_tag tag) h = IsClean h
+StoresClean _ h = Unit {0}
 
 -- A kind of `pin_core` keeps the law of the homes
-pub pins_keep : (k : pin_kinds.Kind) (h h' : Home) (fr : Frame) (l : Link) → pin_kinds.Allowed k fr l → ((pin_kinds.frame_after k fr).tag ≡ fr.tag → h' ≡ h) → IsFresh k h' → Keeps_by_pins k h h' fr l
+pub pins_keep : (k : pin_kinds.Kind) (h h' : Home) (fr : Frame) (l : Link) → pin_kinds.Allowed k fr l → ((pin_kinds.frame_after k fr).tag ≡ fr.tag → h' ≡ h) → StoresClean k h' → Keeps_by_pins k h h' fr l
 pins_keep pin_kinds.load_state h h' fr l a e x = subst (λ (y : Home). Keeps_by_pins pin_kinds.load_state h y fr l) (sym (e refl)) (homes.load_state_keeps h fr l a)
 pins_keep (pin_kinds.pin ring) h h' fr l a e x = subst (λ (y : Home). Keeps_by_pins (pin_kinds.pin ring) h y fr l) (sym (e refl)) (homes.pin_keeps h fr l ring a)
 pins_keep (pin_kinds.pin_mapped tag ring) h h' fr l a e x = subst (λ (y : Home). Keeps_by_pins (pin_kinds.pin_mapped tag ring) h y fr l) (sym (e refl)) (homes.pin_mapped_keeps h fr l tag ring a)

@@ -115,14 +115,14 @@ counted_failed true (lane_change.Written f tag page) = ((λ e. absurd (omega ari
 counted_failed true lane_change.Synced = ((λ e. absurd (omega arith)), λ e. absurd (omega arith))
 counted_failed false c = ((λ e. absurd (omega arith)), λ e. absurd (omega arith))
 
-abbrev ReadRose : Lane → Type 0
-ReadRose ln = HasRisen ln.read_faults_at_start ln.read_faults
+abbrev LaneReadRose : Lane → Type 0
+LaneReadRose ln = HasRisen ln.read_faults_at_start ln.read_faults
 
-abbrev WriteRose : Lane → Type 0
-WriteRose ln = HasRisen ln.write_faults_at_start ln.write_faults
+abbrev LaneWriteRose : Lane → Type 0
+LaneWriteRose ln = HasRisen ln.write_faults_at_start ln.write_faults
 
 -- a count that rose stays so
-rose_later : (k : LaneKind) (ln : Lane) (x : LaneHold) → LaneAllowed k ln x → (ReadRose ln → ReadRose (lane_after k ln)) × (WriteRose ln → WriteRose (lane_after k ln))
+rose_later : (k : LaneKind) (ln : Lane) (x : LaneHold) → LaneAllowed k ln x → (LaneReadRose ln → LaneReadRose (lane_after k ln)) × (LaneWriteRose ln → LaneWriteRose (lane_after k ln))
 rose_later (lane_kinds.fail_read tag faults) ln x a = (risen_later ln.read_faults_at_start ln.read_faults faults a.rises, λ y. y)
 rose_later (lane_kinds.fail_write f tag p faults) ln x a = ((λ y. y), risen_later ln.write_faults_at_start ln.write_faults faults a.rises)
 rose_later (lane_kinds.fail_sync faults) ln x a = ((λ y. y), risen_later ln.write_faults_at_start ln.write_faults faults a.rises)
@@ -162,12 +162,12 @@ laned_counts s h m i q k v w there live low a holds met = let lane' : ℕ → La
     record {
       lanes = laned_grid s h m i q k v w there live low a holds met;
       reads_rose = λ e. ⊎_elim
-          (λ (z : d.reads ≡ 0). let x = m.reads_rose (let y = ap (λ (n : FailedCalls). n.reads) sums in omega arith) in (x.0, x.1, put_rose ReadRose s.lane q (lane_after k (s.lane q)) (rose_later k (s.lane q) (lane_hold v q) a).0 x.0 x.2))
-          (λ (z : 0 < d.reads). (q, low, put_rose ReadRose s.lane q (lane_after k (s.lane q)) (rose_later k (s.lane q) (lane_hold v q) a).0 q (cells.read_rose ((counts_by k (lane_hold v q)).0 z))))
+          (λ (z : d.reads ≡ 0). let x = m.reads_rose (let y = ap (λ (n : FailedCalls). n.reads) sums in omega arith) in (x.0, x.1, put_rose LaneReadRose s.lane q (lane_after k (s.lane q)) (rose_later k (s.lane q) (lane_hold v q) a).0 x.0 x.2))
+          (λ (z : 0 < d.reads). (q, low, put_rose LaneReadRose s.lane q (lane_after k (s.lane q)) (rose_later k (s.lane q) (lane_hold v q) a).0 q (cells.read_rose ((counts_by k (lane_hold v q)).0 z))))
           (zero_or_more d.reads);
       writes_rose = λ e. ⊎_elim
-          (λ (z : d.writes ≡ 0). let x = m.writes_rose (let y = ap (λ (n : FailedCalls). n.writes) sums in omega arith) in (x.0, x.1, put_rose WriteRose s.lane q (lane_after k (s.lane q)) (rose_later k (s.lane q) (lane_hold v q) a).1 x.0 x.2))
-          (λ (z : 0 < d.writes). (q, low, put_rose WriteRose s.lane q (lane_after k (s.lane q)) (rose_later k (s.lane q) (lane_hold v q) a).1 q (cells.write_rose ((counts_by k (lane_hold v q)).1 z))))
+          (λ (z : d.writes ≡ 0). let x = m.writes_rose (let y = ap (λ (n : FailedCalls). n.writes) sums in omega arith) in (x.0, x.1, put_rose LaneWriteRose s.lane q (lane_after k (s.lane q)) (rose_later k (s.lane q) (lane_hold v q) a).1 x.0 x.2))
+          (λ (z : 0 < d.writes). (q, low, put_rose LaneWriteRose s.lane q (lane_after k (s.lane q)) (rose_later k (s.lane q) (lane_hold v q) a).1 q (cells.write_rose ((counts_by k (lane_hold v q)).1 z))))
           (zero_or_more d.writes);
     }
 

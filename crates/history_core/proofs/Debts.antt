@@ -25,34 +25,34 @@ apart : {b : Bool} → b ≡ true → b ≡ false → ⊥
 apart y n = cc
 
 -- How a frame may change
-pub data Moves (t : Taken) (fr fr' : Frame) : Type 0 where
+pub data FrameMoves (t : Taken) (fr fr' : Frame) : Type 0 where
   -- so that all entries of its block are in the lane, or that it has none
-  settles : (fr'.tag ≢ no_tag → IsCurrent t fr'.tag) → Moves t fr fr'
+  settles : (fr'.tag ≢ no_tag → IsCurrent t fr'.tag) → FrameMoves t fr fr'
   -- or so that it keeps its block, and BM_CHECKPOINT_NEEDED where it had it, and doesn't become clean
-  stays : fr'.tag ≡ fr.tag → (fr.word.checkpoint_needed ≡ true → fr'.word.checkpoint_needed ≡ true) → (fr'.word.dirty ≡ false → fr.word.dirty ≡ false) → Moves t fr fr'
+  stays : fr'.tag ≡ fr.tag → (fr.word.checkpoint_needed ≡ true → fr'.word.checkpoint_needed ≡ true) → (fr'.word.dirty ≡ false → fr.word.dirty ≡ false) → FrameMoves t fr fr'
 
 module _ (t : Taken) where
-  stored_or_left_moves : (fr fr' : Frame) (upto : ℕ) (visited left_to_write : Bool) → Moves t fr fr' → IsStoredOrLeft t fr upto visited left_to_write → IsStoredOrLeft t fr' upto visited left_to_write
+  stored_or_left_moves : (fr fr' : Frame) (upto : ℕ) (visited left_to_write : Bool) → FrameMoves t fr fr' → IsStoredOrLeft t fr upto visited left_to_write → IsStoredOrLeft t fr' upto visited left_to_write
   stored_or_left_moves fr fr' upto visited left_to_write (settles current) h = λ p named k e at tagged le lt. let x = current named k e at tagged in absurd (omega arith)
   stored_or_left_moves fr fr' upto visited left_to_write (stays same needed dirty) h = λ p named k e at tagged le lt. let x = h p (λ z. named (same ∙ z)) k e at (tagged ∙ same) le (subst (λ (z : ℕ). t.upto z < end_of e) same lt) in (needed x.0, x.1)
 
-  clean_moves : (fr fr' : Frame) → Moves t fr fr' → (fr.tag ≢ no_tag → fr.word.dirty ≡ false → IsCurrent t fr.tag) → fr'.tag ≢ no_tag → fr'.word.dirty ≡ false → IsCurrent t fr'.tag
+  clean_moves : (fr fr' : Frame) → FrameMoves t fr fr' → (fr.tag ≢ no_tag → fr.word.dirty ≡ false → IsCurrent t fr.tag) → fr'.tag ≢ no_tag → fr'.word.dirty ≡ false → IsCurrent t fr'.tag
   clean_moves fr fr' (settles current) h named clean = current named
   clean_moves fr fr' (stays same needed dirty) h named clean = subst (IsCurrent t) (sym same) (h (λ z. named (same ∙ z)) (dirty clean))
 
   -- What a view has at a frame changes, and its checkpoint's marks stay
-  pub record Marks (l l' : Link) : Type 0 where
+  pub record KeepsCheckpointMarks (l l' : Link) : Type 0 where
     pub visited : l'.visited ≡ l.visited
     pub left_to_write : l'.left_to_write ≡ l.left_to_write
     pub done : l'.last_write ≡ Done → l.last_write ≡ Done
 
-  pub link_moves : (fr fr' : Frame) (upto : ℕ) (l l' : Link) → Moves t fr fr' → Marks l l' → LinkDebt t fr upto l → LinkDebt t fr' upto l'
+  pub link_moves : (fr fr' : Frame) (upto : ℕ) (l l' : Link) → FrameMoves t fr fr' → KeepsCheckpointMarks l l' → LinkDebt t fr upto l → LinkDebt t fr' upto l'
   link_moves fr fr' upto l l' m marks h = record {
     stored_or_left = subst (λ (x : Bool). IsStoredOrLeft t fr' upto x l'.left_to_write) (sym marks.visited) (subst (λ (x : Bool). IsStoredOrLeft t fr' upto l.visited x) (sym marks.left_to_write) (stored_or_left_moves fr fr' upto l.visited l.left_to_write m h.stored_or_left));
     done = λ e named. by_move m e named;
   }
     where
-      by_move : Moves t fr fr' → l'.last_write ≡ Done → fr'.tag ≢ no_tag → IsCurrent t fr'.tag
+      by_move : FrameMoves t fr fr' → l'.last_write ≡ Done → fr'.tag ≢ no_tag → IsCurrent t fr'.tag
       by_move (settles current) e named = current named
       by_move (stays same needed dirty) e named = subst (IsCurrent t) (sym same) (h.done (marks.done e) (λ z. named (same ∙ z)))
 
@@ -62,7 +62,7 @@ module _ (t : Taken) where
     Fresh (pin_kinds.store_tag tag) = IsCurrent t tag
     Fresh _ = Unit {0}
 
-    pub pins_move : (k : pin_kinds.Kind) → Fresh k → pin_kinds.Allowed k fr l → Moves t fr (pin_kinds.frame_after k fr)
+    pub pins_move : (k : pin_kinds.Kind) → Fresh k → pin_kinds.Allowed k fr l → FrameMoves t fr (pin_kinds.frame_after k fr)
     pins_move (pin_kinds.store_tag tag) x a = settles (λ named. x)
     pins_move pin_kinds.erase_tag x a = settles (λ named. absurd (named refl))
     pins_move pin_kinds.clear x a = settles (λ named. absurd (named a.unnamed))
@@ -112,7 +112,7 @@ module _ (t : Taken) where
 
   -- Each plain kind of `page_core`
   module _ (fr : Frame) (b : Block) (l : Link) (upto : ℕ) where
-    pub pages_move : (k : Kind) → IsPlain k → Allowed k b fr l → LinkDebt t fr upto l → Moves t fr (frame_after k b fr)
+    pub pages_move : (k : Kind) → IsPlain k → Allowed k b fr l → LinkDebt t fr upto l → FrameMoves t fr (frame_after k b fr)
     pages_move kinds.load_content x a h = stays refl (λ e. e) (λ e. e)
     pages_move kinds.mark_dirty x a h = stays refl (λ e. e) (λ e. absurd (apart refl e))
     pages_move kinds.share x a h = stays refl (λ e. e) (λ e. e)
@@ -172,7 +172,7 @@ pub record Touched (v w : View) (f : ℕ) (l : Link) : Type 0 where
   pub others : (g : ℕ) → g ≢ f → link w g ≡ link v g
 
 -- A frame changes, and a view there
-module _ (t : Taken) (n : ℕ) (frame : ℕ → Frame) (end : ℕ) (f : ℕ) (fr : Frame) (moves : Moves t (frame f) fr) where
+module _ (t : Taken) (n : ℕ) (frame : ℕ → Frame) (end : ℕ) (f : ℕ) (fr : Frame) (moves : FrameMoves t (frame f) fr) where
   at_frame : (P : ℕ → Frame → Type 0) → (g : ℕ) → (g ≡ f → P g fr) → (g ≢ f → P g (frame g)) → P g (put frame f fr g)
   at_frame P g x y = dite (ℕ_discrete g f) (λ e. subst (P g) (sym (put_at frame f fr g e)) (x e)) (λ o. subst (P g) (sym (put_else frame f fr g o)) (y o))
 
@@ -181,8 +181,8 @@ module _ (t : Taken) (n : ℕ) (frame : ℕ → Frame) (end : ℕ) (f : ℕ) (fr
   view_moves u h = record {
     begun = h.begun;
     kept_begun = h.kept_begun;
-    own = λ g below. at_frame (λ k x. LinkDebt t x u.upto (link u k)) g (λ e. link_moves t (frame g) fr u.upto (link u g) (link u g) (subst (λ (k : ℕ). Moves t (frame k) fr) (sym e) moves) (record { visited = refl; left_to_write = refl; done = λ z. z }) (h.own g below)) (λ o. h.own g below);
-    kept = λ k g c at below. at_frame (λ m x. IsStoredOrLeft t x c.upto (has_visited c m) (has_left_to_write c m)) g (λ e. stored_or_left_moves t (frame g) fr c.upto (has_visited c g) (has_left_to_write c g) (subst (λ (m : ℕ). Moves t (frame m) fr) (sym e) moves) (h.kept k g c at below)) (λ o. h.kept k g c at below);
+    own = λ g below. at_frame (λ k x. LinkDebt t x u.upto (link u k)) g (λ e. link_moves t (frame g) fr u.upto (link u g) (link u g) (subst (λ (k : ℕ). FrameMoves t (frame k) fr) (sym e) moves) (record { visited = refl; left_to_write = refl; done = λ z. z }) (h.own g below)) (λ o. h.own g below);
+    kept = λ k g c at below. at_frame (λ m x. IsStoredOrLeft t x c.upto (has_visited c m) (has_left_to_write c m)) g (λ e. stored_or_left_moves t (frame g) fr c.upto (has_visited c g) (has_left_to_write c g) (subst (λ (m : ℕ). FrameMoves t (frame m) fr) (sym e) moves) (h.kept k g c at below)) (λ o. h.kept k g c at below);
   }
 
   -- and one that changes

@@ -18,22 +18,22 @@ use Rattle.grid.specs.Shape.{Grid, put}
 use Rattle.grid.proofs.Lists.{at_set, at_end, set_else}
 use Rattle.grid.proofs.Grids.{touch, sweep, steady, grows}
 
-abbrev pub IsWide : ℕ → List View → Type 0
-IsWide n views = (i : ℕ) (v : View) → get_elem? views i ≡ some v → v.emptied ≡ false → length v.lanes ≡ n
+abbrev pub ViewsAreWide : ℕ → List View → Type 0
+ViewsAreWide n views = (i : ℕ) (v : View) → get_elem? views i ≡ some v → v.emptied ≡ false → length v.lanes ≡ n
 
 -- The laws of the log's device, of the calls and of the lanes
 pub record Outer (known : ℕ → Bool) (origin : ℕ → Page) (log : Log) (n : ℕ) (lane : ℕ → Lane) (flushed : ℕ) (w : Written) (d : Device) (views : List View) : Type 0 where
   pub device : Grid log_shape log_part 1 (λ _. d) (λ _. w) views
   pub history : HistoryLaw known origin log flushed views
   pub lanes : Grid lane_shape lane_part n lane (λ _. flushed) views
-  pub wide : IsWide n views
+  pub wide : ViewsAreWide n views
 
-pub wide_set : (n : ℕ) (views : List View) → IsWide n views → (i : ℕ) (v w : View) → get_elem? views i ≡ some v → w.emptied ≡ v.emptied → length w.lanes ≡ length v.lanes → IsWide n (set views i w)
+pub wide_set : (n : ℕ) (views : List View) → ViewsAreWide n views → (i : ℕ) (v w : View) → get_elem? views i ≡ some v → w.emptied ≡ v.emptied → length w.lanes ≡ length v.lanes → ViewsAreWide n (set views i w)
 wide_set n views h i v w there emptied long j u e live = ⊎_elim
     (λ (t : (j ≡ i) × (w ≡ u)). ap (λ (x : View). length x.lanes) (sym t.1) ∙ long ∙ h i v there (sym emptied ∙ ap (λ (x : View). x.emptied) t.1 ∙ live))
     (λ (t : (j ≢ i) × (get_elem? views j ≡ some u)). h j u t.1 live) (at_set views i j w u e)
 
-pub wide_emptied : (n : ℕ) (views : List View) → IsWide n views → (i : ℕ) → IsWide n (set views i emptied_view)
+pub wide_emptied : (n : ℕ) (views : List View) → ViewsAreWide n views → (i : ℕ) → ViewsAreWide n (set views i emptied_view)
 wide_emptied n views h i j u e live = ⊎_elim (λ (t : (j ≡ i) × (emptied_view ≡ u)). let x : u.emptied ≡ emptied_view.emptied = ap (λ (x : View). x.emptied) (sym t.1) in absurd (cc)) (λ (t : (j ≢ i) × (get_elem? views j ≡ some u)). h j u t.1 live) (at_set views i j emptied_view u e)
 
 pub lane_new : (n p m number base q : ℕ) → lane_hold (new_view number base n p m) q ≡ no_lane

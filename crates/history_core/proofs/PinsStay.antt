@@ -13,7 +13,7 @@ use Rattle.pin_core.specs.Kinds.{unpin}
 use Rattle.pin_core.specs.Steps as pin_steps
 use Rattle.pin_core.specs.Schedules.{IsHandedOut}
 use Rattle.pin_core.proofs.Stepping.{tags_stay}
-use Rattle.pin_core.proofs.Schedules.{Stays, view_stays, tag_there}
+use Rattle.pin_core.proofs.Schedules.{PinStays, view_stays, tag_there}
 use Rattle.page_core.specs.State.{Block, block_of}
 use Rattle.page_core.specs.Kinds.{Kind, begin_write, make_entry, frame_after, link_after}
 use Rattle.page_core.specs.Steps as page_steps
@@ -44,7 +44,7 @@ module _ (s : State) (h : HistoryInvariant s) (i f : ℕ) (out : IsHandedOut s.p
   tag_same : (g : ℕ) (k : Kind) (b : Block) → (put s.pool.core.frame g (frame_after k b (s.pool.core.frame g)) f).tag ≡ (s.pool.core.frame f).tag
   tag_same g k b = tags_stay s.pool.core.frame g (frame_after k b (s.pool.core.frame g)) (tag_kept k b (s.pool.core.frame g)) f
 
-step_stays : {e : Event} {s t : State} (i f : ℕ) → Step e s t → HistoryInvariant s → IsHandedOut s.pool.core i f → e ≢ pool (page_steps.pins_and_maps (pin_steps.at i f unpin)) → Stays s.pool.core t.pool.core i f
+step_stays : {e : Event} {s t : State} (i f : ℕ) → Step e s t → HistoryInvariant s → IsHandedOut s.pool.core i f → e ≢ pool (page_steps.pins_and_maps (pin_steps.at i f unpin)) → PinStays s.pool.core t.pool.core i f
 step_stays i f (pools x a) h out other = pages.step_stays i f x h.pool out (λ q. other (ap pool q))
 step_stays i f (lanes {s = s} j n k u here live low a alone) h out other = (beside s h i f out j u (stepped (laned k n u u)) here refl, refl)
 step_stays i f (writes {s = s} j n g k u here live low inside a x) h out other = let b : Block = block_of s.pool.logged (s.pool.core.frame g).tag in let w : View = laned k n u (paged begin_write s.pool g u) in
@@ -62,7 +62,7 @@ step_stays i f (raises {s = s} j u here live synced) h out other = (beside s h i
 step_stays i f (adds_hand {s = s} j u here live) h out other = (beside s h i f out j u (ticked u) here refl, refl)
 step_stays i f (loads_hand {s = s} j u here live) h out other = (beside s h i f out j u (looked (seen.Hand s.hand) u) here refl, refl)
 
-run_stays : {es : List Event} {s t : State} (i f : ℕ) → Run es s t → HistoryInvariant s → IsHandedOut s.pool.core i f → HasNoUnpin i f es → Stays s.pool.core t.pool.core i f
+run_stays : {es : List Event} {s t : State} (i f : ℕ) → Run es s t → HistoryInvariant s → IsHandedOut s.pool.core i f → HasNoUnpin i f es → PinStays s.pool.core t.pool.core i f
 run_stays i f rests h out none = (out, refl)
 run_stays i f (goes x r) h out none = let a = step_stays i f x h out none.0 in let b = run_stays i f r (step_keeps x h) a.0 none.1 in (b.0, b.1 ∙ a.1)
 

@@ -55,7 +55,7 @@ use Rattle.history_core.proofs.Homes.{known, home_after, Keeps_by}
 use Rattle.history_core.proofs.Pools.{SameHere, pool_aside, pool_touched}
 use Rattle.history_core.proofs.Beginning.{BegunHere, pool_begun, homes_begun}
 use Rattle.history_core.proofs.Outer.{Outer, outer_same, outer_grows, outer_joins, lanes_touched, wide_set}
-use Rattle.history_core.proofs.Blocks.{plain_keeps, plain_block, IsFresh, pins_keep, tag_goes, lacked, written_is_logged, Blocks, no_link, home_forgets, unframed_put, still_unframed}
+use Rattle.history_core.proofs.Blocks.{plain_keeps, plain_block, StoresClean, pins_keep, tag_goes, lacked, written_is_logged, Blocks, no_link, home_forgets, unframed_put, still_unframed}
 use Rattle.grid.specs.Shape.{Grid, put, tallies}
 use Rattle.grid.proofs.Lists.{put_here, put_at, put_else, put_same, set_else}
 use Rattle.grid.proofs.Sums.{term_le}
@@ -186,7 +186,7 @@ module _ (s : State) (h : HistoryInvariant s) where
       lacked (s.pool.core.partition p) (hold v p) (frame g).tag tag g (h.pool.core.turns.cells i v p there (h.pool.core.placed tag)) (h.pool.core.maps.pairs tag g a.named below) m.held m.unchanged (m.no_change p) around.lacking
 
   -- a tag that no frame has, as a backend names it
-  fresh : (i f : ℕ) (k : pin_kinds.Kind) (v : View) → get_elem? views i ≡ some v → pin_kinds.Allowed k (frame f) (link v f) → pin_steps.AllowedAround k s.pool.core v f → IsFresh k (home_of s (pin_kinds.frame_after k (frame f)).tag)
+  fresh : (i f : ℕ) (k : pin_kinds.Kind) (v : View) → get_elem? views i ≡ some v → pin_kinds.Allowed k (frame f) (link v f) → pin_steps.AllowedAround k s.pool.core v f → StoresClean k (home_of s (pin_kinds.frame_after k (frame f)).tag)
   fresh i f (pin_kinds.store_tag tag) v there a around = h.unframed tag a.named (unframed_tag i f tag v there a around)
   fresh i f _ v there a around = tt
 

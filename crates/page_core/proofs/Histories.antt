@@ -26,7 +26,7 @@ use Rattle.pin_core.specs.Steps as pin_steps
 use Rattle.pin_core.specs.Schedules.{IsHandedOut}
 use Rattle.pin_core.proofs.Stepping.{tags_stay}
 use Rattle.pin_core.proofs.Schedules as pin_schedules
-use Rattle.pin_core.proofs.Schedules.{Stays, view_stays, tag_there}
+use Rattle.pin_core.proofs.Schedules.{PinStays, view_stays, tag_there}
 use Rattle.page_core.specs.Kinds.{CanTakePage, Kind, frame_after, link_after, view_after}
 use Rattle.page_core.specs.Steps.{Event, pins_and_maps, Step, cores, touches, Run, rests, goes}
 use Rattle.page_core.proofs.Cases.{tag_kept, role_kept}
@@ -43,13 +43,13 @@ same_role s f g k b u r = dite (ℕ_discrete f g)
     (λ e. subst (λ (z : ℕ). (link (view_after k g b (s.core.frame g) (link u g) u) z).role ≡ (link u z).role) (sym e) (ap (λ (x : Link). x.role) r.here ∙ role_kept k b (s.core.frame g) (link u g)))
     (λ o. ap (λ (x : Link). x.role) (r.else f o))
 
-pub step_stays : {e : Event} {s t : State} (i f : ℕ) → Step e s t → PageInvariant s → IsHandedOut s.core i f → e ≢ pins_and_maps (pin_steps.at i f unpin) → Stays s.core t.core i f
+pub step_stays : {e : Event} {s t : State} (i f : ℕ) → Step e s t → PageInvariant s → IsHandedOut s.core i f → e ≢ pins_and_maps (pin_steps.at i f unpin) → PinStays s.core t.core i f
 step_stays i f (cores {s = s} x) h out other = pin_schedules.step_stays i f x h.core out (λ q. other (ap pins_and_maps q))
 step_stays i f (touches {s = s} j g k u here live inside a around) h out other = let b = block_of s.logged (s.core.frame g).tag in
     let x = view_stays s.core.views i j f out.0 u (view_after k g b (s.core.frame g) (link u g) u) out.1 out.3 here (same_role s f g k b u (relinked s h j g u here live inside k a)) in
     ((x.0, x.1, out.2, x.2), tags_stay s.core.frame g (frame_after k b (s.core.frame g)) (tag_kept k b (s.core.frame g)) f)
 
-run_stays : {es : List Event} {s t : State} (i f : ℕ) → Run es s t → PageInvariant s → IsHandedOut s.core i f → HasNoUnpin i f es → Stays s.core t.core i f
+run_stays : {es : List Event} {s t : State} (i f : ℕ) → Run es s t → PageInvariant s → IsHandedOut s.core i f → HasNoUnpin i f es → PinStays s.core t.core i f
 run_stays i f rests h out none = (out, refl)
 run_stays i f (goes x r) h out none = let a = step_stays i f x h out none.0 in let b = run_stays i f r (step_keeps x h) a.0 none.1 in (b.0, b.1 ∙ a.1)
 

@@ -180,7 +180,7 @@ module _ {L G : Type 0} (contents : L → Option Pages) (m : Manager L G) (fork 
   new_put_nothing n ps new i p at = ap (λ (v : View). writes_in v.calls) (new.each i p at).view ∙ none_put
 
   -- The pass number i of n, which has done nothing but reads
-  record HasRead (n i : ℕ) (q : PassState) : Type 0 where
+  record HasOnlyRead (n i : ℕ) (q : PassState) : Type 0 where
     given : IsGiven n i q
     mark : q.view.dirtied_or_synced ≡ false
     puts : writes_in q.view.calls ≡ 0
@@ -216,14 +216,14 @@ module _ {L G : Type 0} (contents : L → Option Pages) (m : Manager L G) (fork 
     came_from : (i : ℕ) (q : PassState) → get_elem? qs i ≡ some q → CameFrom contents m ps qs i q
     came_from = came_back contents m ps qs last
 
-    fresh : (i : ℕ) (p : PassState) → get_elem? ps i ≡ some p → HasRead n i p
+    fresh : (i : ℕ) (p : PassState) → get_elem? ps i ≡ some p → HasOnlyRead n i p
     fresh i p at = let h = new.each i p at in record {
       given = new_is_given n i p h;
       mark = ap (λ (v : View). v.dirtied_or_synced) h.view;
       puts = new_put_nothing n ps new i p at;
     }
 
-    worked : (i from to : ℕ) (p q : PassState) → HasRead n i p → ReadsPart contents m 0 fork from to p q → HasRead n i q
+    worked : (i from to : ℕ) (p q : PassState) → HasOnlyRead n i p → ReadsPart contents m 0 fork from to p q → HasOnlyRead n i q
     worked i from to p q h r = record {
       given = worked_given n i p q h.given r.stays.same r.stays.belongs.front r.spent;
       mark = r.stays.mark ∙ h.mark;
@@ -233,14 +233,14 @@ module _ {L G : Type 0} (contents : L → Option Pages) (m : Manager L G) (fork 
           ap writes_in r.calls ∙ omega arith;
     }
 
-    stood_by : (i : ℕ) (p q : PassState) → HasRead n i p → WorksBeside contents m p q → HasRead n i q
+    stood_by : (i : ℕ) (p q : PassState) → HasOnlyRead n i p → WorksBeside contents m p q → HasOnlyRead n i q
     stood_by i p q h w = record {
       given = worked_given n i p q h.given w.same w.belongs.front (w.callers.tokens ∙ h.given.spent);
       mark = w.mark ∙ h.mark;
       puts = ap writes_in w.callers.calls.calls ∙ h.puts;
     }
 
-    each : (i : ℕ) (q : PassState) → get_elem? qs i ≡ some q → HasRead n i q
+    each : (i : ℕ) (q : PassState) → get_elem? qs i ≡ some q → HasOnlyRead n i q
     each i q at = let c = came_from i q at in ⊎_elim
         (λ (w : WorksBeside contents m c.before q). stood_by i c.before q (fresh i c.before c.at) w)
         (λ (t : (get_elem? (workers_in ps) i ≡ some c.before) × (get_elem? (workers_in qs) i ≡ some q)). worked i _ _ c.before q (fresh i c.before c.at) (parts.each i c.before q t.0 t.1))

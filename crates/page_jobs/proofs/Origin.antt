@@ -129,7 +129,7 @@ module _ {L G : Type 0} (contents : L → Option Pages) (m : Manager L G) (rel :
       ap₂ (λ (a : PageSummary) (b : List PageSummary). a ∷ b) one.1 (summaries_origin (block + 1) rs pages at.1 o.2 (omega arith))
 
   -- What was read and printed, up to the first fault
-  record Told (lines : Lines) (from to : ℕ) (xs : List Worker) : Type 0 where
+  record ToldUntilFault (lines : Lines) (from to : ℕ) (xs : List Worker) : Type 0 where
     pub reads : List BlockRead
     pub at : AtBase from reads
     pub text : job_text [] xs ≡ reads_lines lines from reads
@@ -146,7 +146,7 @@ module _ {L G : Type 0} (contents : L → Option Pages) (m : Manager L G) (rel :
   first_part P from (r ∷ rs) ss a = (a.0, first_part P (from + 1) rs ss a.1)
 
   told_one : (lines : Lines) (from next to : ℕ) (p : PassState) (x : Worker) (xs : List Worker) (end : Result Unit JobError) → x.end ≡ end → next ≤ to → DoesPart contents m rel fork lines from next p x.pass [] x.printed.text.items no_totals x.printed.totals end
-      → x.pass.view.front ≡ base_of m.table → Told lines next to xs → Told lines from to (x ∷ xs)
+      → x.pass.view.front ≡ base_of m.table → ToldUntilFault lines next to xs → ToldUntilFault lines from to (x ∷ xs)
   told_one lines from next to p x xs (Err e) ended le d front t =
       let printed = at_base x.pass.view.front (base_of m.table) from (d.printed ++ d.unprinted) refl front d.known d.places in
       record {
@@ -175,7 +175,7 @@ module _ {L G : Type 0} (contents : L → Option Pages) (m : Manager L G) (rel :
       }
 
   told : (lines : Lines) (n k number : ℕ) (ps : List PassState) (xs : List Worker) → 0 < k → number + length ps ≡ k → DoParts contents m rel fork lines n k number ps xs → AllAtBase (base_of m.table) (map (λ (x : Worker). x.pass) xs)
-      → Told lines (part_start n k number) n xs
+      → ToldUntilFault lines (part_start n k number) n xs
   told lines n k number [] [] many count d at =
       let e : part_start n k number ≡ n = ap (part_start n k) (let s : number ≡ k = omega arith in s) ∙ start_last n k many in
       record { reads = []; at = tt; text = refl; within = omega (arith, e); all = λ done. (omega (arith, e), refl) }
@@ -186,7 +186,7 @@ module _ {L G : Type 0} (contents : L → Option Pages) (m : Manager L G) (rel :
       told_one lines (part_start n k number) (part_start n k (number + 1)) n p x xs x.end refl (let w = t.within in omega arith) d.0 at.0 t
 
   -- the text of the pages begins with what was printed up to the first fault
-  text_begins : (lines : Lines) (n : ℕ) (xs : List Worker) (pages : List Page) (t : Told lines 0 n xs) → n ≡ length pages → Origins 0 pages
+  text_begins : (lines : Lines) (n : ℕ) (xs : List Worker) (pages : List Page) (t : ToldUntilFault lines 0 n xs) → n ≡ length pages → Origins 0 pages
       → text_of_pages lines pages ≡ job_text [] xs ++ (lines_from lines (0 + length t.reads) (drop (length t.reads) pages) ++ totals_line (totals_of pages))
   text_begins lines n xs pages t size o =
       let first = lines_origin lines 0 t.reads pages t.at o (let w = t.within in omega arith) in
@@ -202,7 +202,7 @@ module _ {L G : Type 0} (contents : L → Option Pages) (m : Manager L G) (rel :
   drop_all (x ∷ l) (suc i) e = drop_all l i (omega arith)
 
   -- and is the whole text where all are done
-  text_ends : (lines : Lines) (n : ℕ) (xs : List Worker) (pages : List Page) → Told lines 0 n xs → n ≡ length pages → Origins 0 pages → AllDone xs → text_of_pages lines pages ≡ job_text (totals_line (job_totals xs)) xs
+  text_ends : (lines : Lines) (n : ℕ) (xs : List Worker) (pages : List Page) → ToldUntilFault lines 0 n xs → n ≡ length pages → Origins 0 pages → AllDone xs → text_of_pages lines pages ≡ job_text (totals_line (job_totals xs)) xs
   text_ends lines n xs pages t size o done =
       let all = t.all done in
       let long : length t.reads ≡ length pages = let a = all.0 in omega arith in
@@ -212,7 +212,7 @@ module _ {L G : Type 0} (contents : L → Option Pages) (m : Manager L G) (rel :
       ∙ ap (λ (u : ScanTotals). job_text [] xs ++ totals_line u) totals
       ∙ sym (text_last (totals_line (job_totals xs)) xs done)
 
-  put_origin : {A : Type 0} (lines : Lines) (n : ℕ) (xs : List Worker) (pages : List Page) (old new : Option (List ℕ)) (r : Result A JobError) → Told lines 0 n xs → n ≡ length pages → Origins 0 pages → OnOk r (AllDone xs)
+  put_origin : {A : Type 0} (lines : Lines) (n : ℕ) (xs : List Worker) (pages : List Page) (old new : Option (List ℕ)) (r : Result A JobError) → ToldUntilFault lines 0 n xs → n ≡ length pages → Origins 0 pages → OnOk r (AllDone xs)
       → AllDone xs ⊎ (job_text (totals_line (job_totals xs)) xs ≡ job_text [] xs) → Puts (job_text (totals_line (job_totals xs)) xs) old new (as_done r) → Puts (text_of_pages lines pages) old new (as_done r)
   put_origin lines n xs pages old new (Ok a) t size o ok f puts =
       subst (λ (l : List ℕ). Puts {E = JobError} l old new (Ok tt)) (sym (text_ends lines n xs pages t size o ok)) puts
@@ -231,7 +231,7 @@ module _ {L G : Type 0} (contents : L → Option Pages) (m : Manager L G) (rel :
       → Puts (job_text (totals_line (job_totals xs)) xs) old new (as_done r) → Puts (text_of_pages lines pages) old new (as_done r)
   text_of_origin lines n ps xs pages old new r size many named d ok origin at puts =
       let t0 = told lines n (length ps) 0 ps xs many (omega arith) d at in
-      let t : Told lines 0 n xs = subst (λ (b : ℕ). Told lines b n xs) (start_first n (length ps)) t0 in
+      let t : ToldUntilFault lines 0 n xs = subst (λ (b : ℕ). ToldUntilFault lines b n xs) (start_first n (length ps)) t0 in
       let count : n ≡ length pages = size ∙ sym origin.counted in
       let block : (b : ℕ) → b < 0 + length pages → IsBlockOf (relations_of m.table) (lanes_in m.table) (lane_number (tag_of_parts rel fork b) (lanes_in m.table)) (tag_of_parts rel fork b) =
       λ b lt. record { named = named b (omega arith); listed = below_test b (blocks_in m rel fork) (let c = origin.counted in omega arith); placed = refl } in

@@ -27,7 +27,7 @@ some_of None e = absurd (let no : false ≡ true = e in cc)
 some_of (Some p) e = (p, refl)
 
 -- What a lane has of a block: this page, and no write that failed
-pub record HasBlock {L G : Type 0} (d : Devices L G) (tag : Tag) (page : Page) (l : L) : Type 0 where
+pub record LaneHasBlock {L G : Type 0} (d : Devices L G) (tag : Tag) (page : Page) (l : L) : Type 0 where
   pub pages : Pages
   pub known : d.contents l ≡ Some pages
   pub page_is : pages tag ≡ Some page
@@ -41,7 +41,7 @@ module _ {L G : Type 0} (d : Devices L G) (o : Opening L G) (ps : List PassState
       ∙ ap (λ (es : List Entry). cell c.state.origin (cut (stored_upto c.state word) es) word) n.entries
 
   pub block_left : (q : ℕ) (l l' : L) (tag : Tag) (pages : Pages) (page : Page) → IsBlockOf o.catalog.value o.config.lanes q tag → get_elem? o.lanes.value.items q ≡ some l
-      → d.contents l ≡ Some pages → pages tag ≡ Some page → get_elem? lanes q ≡ some l' → HasBlock d tag page l'
+      → d.contents l ≡ Some pages → pages tag ≡ Some page → get_elem? lanes q ≡ some l' → LaneHasBlock d tag page l'
   block_left q l l' tag pages page block at known is at' =
       let word = packed_tag tag in
       let placed : IsPlaced o.catalog.value o.config.lanes q word tag = record { named = packed_is tag block.named; listed = block.listed; placed = block.placed } in
@@ -65,7 +65,7 @@ module _ {L G : Type 0} (d : Devices L G) (o : Opening L G) (ps : List PassState
       (pages : List Page) (held : HoldPages fork pages (map d.contents o.lanes.value.items)) (all : blocks ≡ length pages) where
     -- the lane of a block of the relation has its page still
     lane_left : (block : ℕ) → block < length pages
-        → (l : L) × (get_elem? lanes (lane_number (tag_at fork block) o.config.lanes) ≡ some l) × HasBlock d (tag_at fork block) (get_or pages block []) l
+        → (l : L) × (get_elem? lanes (lane_number (tag_at fork block) o.config.lanes) ≡ some l) × LaneHasBlock d (tag_at fork block) (get_or pages block []) l
     lane_left block below =
         let tag = tag_at fork block in
         let q = lane_number tag o.config.lanes in

@@ -14,12 +14,12 @@ use Rattle.page_jobs.proofs.PartRewrites.{from_append}
 use Rattle.page_jobs.proofs.RewriteCounts.{test_else, test_same}
 
 -- How often a block is among outcomes from a on, up to e
-record Counts (b a e : ℕ) (os : List Outcome) : Type 0 where
+record CountsBlock (b a e : ℕ) (os : List Outcome) : Type 0 where
   below : b < a → times b os ≡ 0
   inside : a ≤ b → b < e → times b os ≡ 1
   behind : e ≤ b → times b os ≡ 0
 
-times_range : (b a : ℕ) (os : List Outcome) → AreFrom a os → Counts b a (a + length os) os
+times_range : (b a : ℕ) (os : List Outcome) → AreFrom a os → CountsBlock b a (a + length os) os
 unfolding total
 times_range b a [] h = record { below = λ l. refl; inside = λ l m. absurd (omega arith); behind = λ l. refl }
 times_range b a (o ∷ os) h =

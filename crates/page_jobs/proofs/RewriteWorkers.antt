@@ -195,14 +195,14 @@ module _ {L G : Type 0} (contents : L → Option Pages) (m : Manager L G) (rel :
 
   module _ (n : ℕ) (ps : List PassState) (xs : List Worker) (p q : PassState) (end : Result Unit JobError)
       (size : n ≡ blocks_in m rel fork) (d : DoRewrites contents m rel fork n (length ps) 0 ps xs) (beside : EndsBeside contents m p q end) where
-    abbrev Ends : JobError → Type 0
-    Ends e = (e ≡ Memory) ⊎ (FailsFirst contents m rel fork (length ps) 0 ps (map (λ (x : Worker). x.pass) xs) e
+    abbrev RewriteEndsFor : JobError → Type 0
+    RewriteEndsFor e = (e ≡ Memory) ⊎ (FailsFirst contents m rel fork (length ps) 0 ps (map (λ (x : Worker). x.pass) xs) e
         ⊎ (((totals : Totals) × RewritesFork contents m rel fork ps (map (λ (x : Worker). x.pass) xs) totals) × WorkIsRefused contents m p q e))
 
-    cause_of : (e : JobError) → EndsFirst e xs ⊎ (AllDone xs × (end ≡ Err e)) → Ends e
+    cause_of : (e : JobError) → EndsFirst e xs ⊎ (AllDone xs × (end ≡ Err e)) → RewriteEndsFor e
     cause_of e (inl ends) = of (fails_first n (length ps) 0 ps xs e size d ends)
       where
-        of : (e ≡ Memory) ⊎ FailsFirst contents m rel fork (length ps) 0 ps (map (λ (x : Worker). x.pass) xs) e → Ends e
+        of : (e ≡ Memory) ⊎ FailsFirst contents m rel fork (length ps) 0 ps (map (λ (x : Worker). x.pass) xs) e → RewriteEndsFor e
         of (inl memory) = inl memory
         of (inr fails) = inr (inl fails)
     cause_of e (inr t) = inr (inr (
@@ -210,6 +210,6 @@ module _ {L G : Type 0} (contents : L → Option Pages) (m : Manager L G) (rel :
       subst (λ (r : Result Unit JobError). IfErr r (WorkIsRefused contents m p q)) t.1 beside.cause,
     ))
 
-    pub rewrite_cause : {A : Type 0} (r : Result A JobError) → IfErr r (λ e. EndsFirst e xs ⊎ (AllDone xs × (end ≡ Err e))) → IfErr r Ends
+    pub rewrite_cause : {A : Type 0} (r : Result A JobError) → IfErr r (λ e. EndsFirst e xs ⊎ (AllDone xs × (end ≡ Err e))) → IfErr r RewriteEndsFor
     rewrite_cause (Ok a) c = tt
     rewrite_cause (Err e) c = cause_of e c

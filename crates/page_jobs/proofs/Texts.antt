@@ -70,18 +70,18 @@ pub stopped_at : {F : Type 0} (text part rest : List ℕ) (old new : Option (Lis
 stopped_at text part rest old new f split is = record { ok = tt; failed = gains_whole text part rest old new split is }
 
 -- The text of the workers, of which the first so many were put
-pub record HasPut (ws : List Worker) (i : ℕ) (old new : Option (List ℕ)) : Type 0 where
+pub record HasPutText (ws : List Worker) (i : ℕ) (old new : Option (List ℕ)) : Type 0 where
   pub part : List ℕ
   pub whole : job_text [] ws ≡ part ++ job_text [] (drop i ws)
   pub out : new ≡ option_map (λ b. b ++ part) old
 
-pub put_none : (ws : List Worker) (old : Option (List ℕ)) → HasPut ws 0 old old
+pub put_none : (ws : List Worker) (old : Option (List ℕ)) → HasPutText ws 0 old old
 put_none ws old = record { part = []; whole = refl; out = put_nothing old }
 
 next_text : (ws : List Worker) (i : ℕ) (w : Worker) → get_elem? ws i ≡ some w → job_text [] (drop i ws) ≡ w.printed.text.items ++ text_if_done w.end (job_text [] (drop (i + 1) ws))
 next_text ws i w at = ap (job_text []) (drop_at ws i w at) ∙ ap (λ (n : ℕ). w.printed.text.items ++ text_if_done w.end (job_text [] (drop n ws))) (let e : suc i ≡ i + 1 = omega arith in e)
 
-pub put_next : (ws : List Worker) (i : ℕ) (w : Worker) (old mid new : Option (List ℕ)) → get_elem? ws i ≡ some w → w.end ≡ Ok tt → HasPut ws i old mid → new ≡ option_map (λ b. b ++ w.printed.text.items) mid → HasPut ws (i + 1) old new
+pub put_next : (ws : List Worker) (i : ℕ) (w : Worker) (old mid new : Option (List ℕ)) → get_elem? ws i ≡ some w → w.end ≡ Ok tt → HasPutText ws i old mid → new ≡ option_map (λ b. b ++ w.printed.text.items) mid → HasPutText ws (i + 1) old new
 put_next ws i w old mid new at ok h is = record {
   part = h.part ++ w.printed.text.items;
   whole = h.whole
@@ -90,7 +90,7 @@ put_next ws i w old mid new at ok h is = record {
   out = put_twice h.part w.printed.text.items old mid new h.out is;
 }
 
-pub put_failed : {E F : Type 0} (ws : List Worker) (i : ℕ) (w : Worker) (old mid new : Option (List ℕ)) (r : Result Unit E) (f : F) → get_elem? ws i ≡ some w → HasPut ws i old mid → Puts w.printed.text.items mid new r → Puts {E = F} (job_text [] ws) old new (Err f)
+pub put_failed : {E F : Type 0} (ws : List Worker) (i : ℕ) (w : Worker) (old mid new : Option (List ℕ)) (r : Result Unit E) (f : F) → get_elem? ws i ≡ some w → HasPutText ws i old mid → Puts w.printed.text.items mid new r → Puts {E = F} (job_text [] ws) old new (Err f)
 put_failed ws i w old mid new r f at h puts =
     stopped_after (job_text [] ws) h.part w.printed.text.items (text_if_done w.end (job_text [] (drop (i + 1) ws))) old mid new r f (h.whole ∙ ap (λ (l : List ℕ). h.part ++ l) (next_text ws i w at)) h.out puts
 
@@ -100,7 +100,7 @@ drop_all [] (suc i) le = refl
 drop_all (x ∷ l) zero le = absurd (omega arith)
 drop_all (x ∷ l) (suc i) le = drop_all l i (omega arith)
 
-pub put_each : (ws : List Worker) (i : ℕ) (old new : Option (List ℕ)) → length ws ≤ i → HasPut ws i old new → Puts {E = JobError} (job_text [] ws) old new (Ok tt)
+pub put_each : (ws : List Worker) (i : ℕ) (old new : Option (List ℕ)) → length ws ≤ i → HasPutText ws i old new → Puts {E = JobError} (job_text [] ws) old new (Ok tt)
 put_each ws i old new all h = record {
   ok = h.out ∙ ap (λ (l : List ℕ). option_map (λ b. b ++ l) old) (sym (h.whole ∙ ap (λ (l : List Worker). h.part ++ job_text [] l) (drop_all ws i all) ∙ append-nil h.part));
   failed = tt;

@@ -216,20 +216,20 @@ module _ {L G : Type 0} (contents : L → Option Pages) (m : Manager L G) (rel :
 
   module _ (lines : Lines) (n : ℕ) (ps : List PassState) (xs : List Worker) (p q : PassState) (end : Result Unit JobError) (outs outs_now : ℕ)
       (d : DoParts contents m rel fork lines n (length ps) 0 ps xs) (beside : EndsBeside contents m p q end) where
-    abbrev Ends : JobError → Type 0
-    Ends e = (e ≡ Memory) ⊎ (AnyMeets contents m rel fork ps (map (λ (x : Worker). x.pass) xs) e ⊎ (WorkIsRefused contents m p q e ⊎ ((e ≡ OutFault) × Rose outs outs_now)))
+    abbrev JobEndsFor : JobError → Type 0
+    JobEndsFor e = (e ≡ Memory) ⊎ (AnyMeets contents m rel fork ps (map (λ (x : Worker). x.pass) xs) e ⊎ (WorkIsRefused contents m p q e ⊎ ((e ≡ OutFault) × Rose outs outs_now)))
 
-    cause_of : (e : JobError) → (e ≡ Memory) ⊎ (AnyEnds e xs ⊎ ((end ≡ Err e) ⊎ ((e ≡ OutFault) × Rose outs outs_now))) → Ends e
+    cause_of : (e : JobError) → (e ≡ Memory) ⊎ (AnyEnds e xs ⊎ ((end ≡ Err e) ⊎ ((e ≡ OutFault) × Rose outs outs_now))) → JobEndsFor e
     cause_of e (inl memory) = inl memory
     cause_of e (inr (inl ends)) = of (any_meets lines n (length ps) 0 ps xs e d ends)
       where
-        of : (e ≡ Memory) ⊎ AnyMeets contents m rel fork ps (map (λ (x : Worker). x.pass) xs) e → Ends e
+        of : (e ≡ Memory) ⊎ AnyMeets contents m rel fork ps (map (λ (x : Worker). x.pass) xs) e → JobEndsFor e
         of (inl memory) = inl memory
         of (inr meets) = inr (inl meets)
     cause_of e (inr (inr (inl refused))) = inr (inr (inl (subst (λ (r : Result Unit JobError). IfErr r (WorkIsRefused contents m p q)) refused beside.cause)))
     cause_of e (inr (inr (inr out))) = inr (inr (inr out))
 
-    pub job_cause : {A : Type 0} (r : Result A JobError) → IfErr r (λ e. (e ≡ Memory) ⊎ (AnyEnds e xs ⊎ ((end ≡ Err e) ⊎ ((e ≡ OutFault) × Rose outs outs_now)))) → IfErr r Ends
+    pub job_cause : {A : Type 0} (r : Result A JobError) → IfErr r (λ e. (e ≡ Memory) ⊎ (AnyEnds e xs ⊎ ((end ≡ Err e) ⊎ ((e ≡ OutFault) × Rose outs outs_now)))) → IfErr r JobEndsFor
     job_cause (Ok a) c = tt
     job_cause (Err e) c = cause_of e c
 

@@ -9,7 +9,7 @@ use Rattle.page_layout.specs.Fields.{item_count}
 use Rattle.page_layout.specs.Rewritten.{HasItemsOf, byte_in_room, is_at_or_above, is_in_room, is_normal, item_byte, length_at, new_byte, new_lower, new_offset, new_upper, offset_at, places_of, rewritten_page, room_at, room_of_items, special_of}
 use Rattle.page_layout.proofs.After.{byte_of}
 use Rattle.page_layout.proofs.Final.{new_ends}
-use Rattle.page_layout.proofs.Pointers.{IsPut, above_itself, offset_bounds, part_of_room, room_normal, unless, when}
+use Rattle.page_layout.proofs.Pointers.{IsPutItem, above_itself, offset_bounds, part_of_room, room_normal, unless, when}
 
 sum_add : (a b : ℕ → ℕ) (xs : List ℕ) → sum_by (λ x. a x + b x) xs ≡ sum_by a xs + sum_by b xs
 sum_add a b [] = refl
@@ -90,7 +90,7 @@ no_other page fits p at (suc n) below within from to =
     ap (λ (b : Bool). cond b (byte_in_room page at n) (item_byte page at n)) not_it ∙ no_other page fits p at n below (omega arith) from to
 
 -- so the bytes after an item are 0 once it is put
-pub padding_is_zero : (page : List ℕ) (fits : IsCompactable page) (n at from len room : ℕ) (is : IsPut page n at from len) → room ≡ (len + 7) / 8 * 8 → n < item_count page → (old now new : List ℕ) → ((k : ℕ) → get_or now k 0 ≡ cond (ltb k (new_upper page)) (get_or old k 0) (item_byte page k n)) → ((k : ℕ) → get_or new k 0 ≡ cond (leb at k && ltb k (at + len)) (get_or page (from + (k - at)) 0) (get_or now k 0)) → (k : ℕ) → get_or new k 0 ≡ cond (leb (at + len) k && ltb k (at + room)) 0 (get_or new k 0)
+pub padding_is_zero : (page : List ℕ) (fits : IsCompactable page) (n at from len room : ℕ) (is : IsPutItem page n at from len) → room ≡ (len + 7) / 8 * 8 → n < item_count page → (old now new : List ℕ) → ((k : ℕ) → get_or now k 0 ≡ cond (ltb k (new_upper page)) (get_or old k 0) (item_byte page k n)) → ((k : ℕ) → get_or new k 0 ≡ cond (leb at k && ltb k (at + len)) (get_or page (from + (k - at)) 0) (get_or now k 0)) → (k : ℕ) → get_or new k 0 ≡ cond (leb (at + len) k && ltb k (at + room)) 0 (get_or new k 0)
 padding_is_zero page fits n at from len room is rounded below old now new before copied k =
     let test = leb (at + len) k && ltb k (at + room) in
     elim (cases_Bool test) [

@@ -112,7 +112,7 @@ moved : (k at len room up new mid now o b p : ℕ) → new ≡ cond (leb (at + l
 moved k at len room up new mid now o b p cleared copied before above fits = grind (arith, nat_tests)
 
 -- an item of this length that is put at a place
-pub record IsPut (page : List ℕ) (n at from len : ℕ) : Type 0 where
+pub record IsPutItem (page : List ℕ) (n at from len : ℕ) : Type 0 where
   pub normal : is_normal page n ≡ true
   pub at_is : at ≡ new_offset page n
   pub from_is : from ≡ offset_at page n
@@ -122,7 +122,7 @@ pub record IsPut (page : List ℕ) (n at from len : ℕ) : Type 0 where
   pub lowest : new_upper page ≤ at
   pub source : from + len ≤ 8192
 
-pub put : (page offsets : List ℕ) (n m state from len : ℕ) (fits : IsCompactable page) → ((place : ℕ) → place < item_count page → is_normal page place ≡ true → get_or offsets place 0 ≡ new_offset page place) → n < item_count page → m ≡ n → state ≡ 1 → state ≡ state_at page n → from ≡ offset_at page n → len ≡ length_at page n → IsPut page n (get_or offsets m 0) from len
+pub put : (page offsets : List ℕ) (n m state from len : ℕ) (fits : IsCompactable page) → ((place : ℕ) → place < item_count page → is_normal page place ≡ true → get_or offsets place 0 ≡ new_offset page place) → n < item_count page → m ≡ n → state ≡ 1 → state ≡ state_at page n → from ≡ offset_at page n → len ≡ length_at page n → IsPutItem page n (get_or offsets m 0) from len
 put page offsets n m state from len fits offsets_are below same one state_is from_is len_is =
     let normal : is_normal page n ≡ true = ap (λ (s : ℕ). eqb s 1) (sym state_is ∙ one) in
     let at_is : get_or offsets m 0 ≡ new_offset page n = ap (λ (k : ℕ). get_or offsets k 0) same ∙ offsets_are n below normal in
@@ -140,7 +140,7 @@ put page offsets n m state from len fits offsets_are below same one state_is fro
       source = omega arith;
     }
 
-pub items_step : (page : List ℕ) (n at from len room : ℕ) (is : IsPut page n at from len) → room ≡ (len + 7) / 8 * 8 → (old now mid new : List ℕ) → ((k : ℕ) → get_or now k 0 ≡ cond (ltb k (new_upper page)) (get_or old k 0) (item_byte page k n)) → ((k : ℕ) → get_or mid k 0 ≡ cond (leb at k && ltb k (at + len)) (get_or page (from + (k - at)) 0) (get_or now k 0)) → ((k : ℕ) → get_or new k 0 ≡ cond (leb (at + len) k && ltb k (at + room)) 0 (get_or mid k 0)) → (k : ℕ) → get_or new k 0 ≡ cond (ltb k (new_upper page)) (get_or old k 0) (item_byte page k (n + 1))
+pub items_step : (page : List ℕ) (n at from len room : ℕ) (is : IsPutItem page n at from len) → room ≡ (len + 7) / 8 * 8 → (old now mid new : List ℕ) → ((k : ℕ) → get_or now k 0 ≡ cond (ltb k (new_upper page)) (get_or old k 0) (item_byte page k n)) → ((k : ℕ) → get_or mid k 0 ≡ cond (leb at k && ltb k (at + len)) (get_or page (from + (k - at)) 0) (get_or now k 0)) → ((k : ℕ) → get_or new k 0 ≡ cond (leb (at + len) k && ltb k (at + room)) 0 (get_or mid k 0)) → (k : ℕ) → get_or new k 0 ≡ cond (ltb k (new_upper page)) (get_or old k 0) (item_byte page k (n + 1))
 items_step page n at from len room is rounded old now mid new before copied cleared k =
     let lowest = is.lowest in
     let step = moved k at len room (new_upper page) _ _ _ _ _ _ (cleared k) (copied k) (before k) lowest (omega arith) in

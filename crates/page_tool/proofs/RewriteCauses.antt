@@ -139,7 +139,7 @@ module _ {L G : Type 0} (contents : L → Option Pages) (m : Manager L G) where
   meets_since u v w (OverLimit (OfLog end)) since x = x
 
   -- One of the passes ended the rewrite, as it met this; it had seen the log's beginning
-  pub record AnyMeets (zs : List PassState) (e : RewriteError) : Type 0 where
+  pub record SomePassMeets (zs : List PassState) (e : RewriteError) : Type 0 where
     pub place : ℕ
     pub before : View
     pub pass : PassState
@@ -151,7 +151,7 @@ module _ {L G : Type 0} (contents : L → Option Pages) (m : Manager L G) where
   AllSeen ps = (i : ℕ) (p : PassState) → get_elem? ps i ≡ some p → base_of m.table ≤ p.view.end_seen
 
   module _ (fork : Fork) where
-    first_meets : (workers number : ℕ) (ps qs : List PassState) (e : JobError) → AllSeen ps → FailsFirst contents m 0 fork workers number ps qs e → AnyMeets qs (rewrite_error e)
+    first_meets : (workers number : ℕ) (ps qs : List PassState) (e : JobError) → AllSeen ps → FailsFirst contents m 0 fork workers number ps qs e → SomePassMeets qs (rewrite_error e)
     first_meets workers number [] [] e seen fails = absurd fails
     first_meets workers number [] (q ∷ qs) e seen fails = absurd fails
     first_meets workers number (p ∷ ps) [] e seen fails = absurd fails
@@ -160,7 +160,7 @@ module _ {L G : Type 0} (contents : L → Option Pages) (m : Manager L G) where
     first_meets workers number (p ∷ ps) (q ∷ qs) e seen (inr later) = let x = first_meets workers (number + 1) ps qs e (λ i. seen (suc i)) later.1 in
         record { place = suc x.place; before = x.before; pass = x.pass; at = x.at; meets = x.meets; seen = x.seen }
 
-    job_meets : (ps qs : List PassState) (e : JobError) → AllSeen ps → EndsRewrite contents m 0 fork ps qs e → (e ≡ job.Memory) ⊎ AnyMeets qs (rewrite_error e)
+    job_meets : (ps qs : List PassState) (e : JobError) → AllSeen ps → EndsRewrite contents m 0 fork ps qs e → (e ≡ job.Memory) ⊎ SomePassMeets qs (rewrite_error e)
     job_meets ps qs e seen (inl short) = inl short
     job_meets ps qs e seen (inr (inl fails)) =
         let x = first_meets (length (workers_in ps)) 0 (workers_in ps) (workers_in qs) e (λ i p at. seen i p (taken_from (length ps - 1) i ps p at)) fails in
@@ -168,18 +168,18 @@ module _ {L G : Type 0} (contents : L → Option Pages) (m : Manager L G) where
     job_meets ps qs e seen (inr (inr (whole, x))) =
         inr record { place = length ps - 1; before = x.before.view; pass = x.after; at = x.is; meets = frame_meets x.before x.after x.refused.why e x.refused.fault x.refused.refuses; seen = seen (length ps - 1) x.before x.was }
 
-    last_meets : (qs zs : List PassState) (e : RewriteError) → 0 < length qs → length zs ≡ length qs → AllSeen qs → LastMeets contents m.table qs zs e → AnyMeets zs e
+    last_meets : (qs zs : List PassState) (e : RewriteError) → 0 < length qs → length zs ≡ length qs → AllSeen qs → LastMeets contents m.table qs zs e → SomePassMeets zs e
     last_meets qs zs e some_ long seen meets =
         let q = there qs (length qs - 1) (omega arith) in
         let z = there zs (length qs - 1) (omega arith) in
         record { place = length qs - 1; before = q.0.view; pass = z.0; at = z.1; meets = meets q.0 z.0 q.1 z.1; seen = seen (length qs - 1) q.0 q.1 }
 
-    pub any_meets : (ps qs zs : List PassState) (e : RewriteError) → 0 < length qs → length zs ≡ length qs → AllSeen ps → AllSeen qs → EndsEarly contents m fork ps qs zs e → (e ≡ Memory) ⊎ AnyMeets zs e
+    pub any_meets : (ps qs zs : List PassState) (e : RewriteError) → 0 < length qs → length zs ≡ length qs → AllSeen ps → AllSeen qs → EndsEarly contents m fork ps qs zs e → (e ≡ Memory) ⊎ SomePassMeets zs e
     any_meets ps qs zs e some_ long seen_ps seen_qs (inl (why, is, same, ends)) = ⊎_elim
         (λ (short : why ≡ job.Memory). inl (is ∙ ap rewrite_error short))
-        (λ (x : AnyMeets qs (rewrite_error why)). inr (subst (λ (l : List PassState). AnyMeets l e) (sym same) (subst (λ (y : RewriteError). AnyMeets qs y) (sym is) x)))
+        (λ (x : SomePassMeets qs (rewrite_error why)). inr (subst (λ (l : List PassState). SomePassMeets l e) (sym same) (subst (λ (y : RewriteError). SomePassMeets qs y) (sym is) x)))
         (job_meets ps qs why seen_ps ends)
-    any_meets ps qs zs e some_ long seen_ps seen_qs (inr (why, is, meets, whole)) = inr (subst (λ (y : RewriteError). AnyMeets zs y) (sym is) (last_meets qs zs (checkpoint_error why) some_ long seen_qs meets))
+    any_meets ps qs zs e some_ long seen_ps seen_qs (inr (why, is, meets, whole)) = inr (subst (λ (y : RewriteError). SomePassMeets zs y) (sym is) (last_meets qs zs (checkpoint_error why) some_ long seen_qs meets))
 
 -- what one pass met is met by all in all, and where none met anything nothing is
 met_by_one : (f : FailedCalls → ℕ) → ((a b : FailedCalls) → f (sum_of_met a b) ≡ f a + f b) → (ps : List PassState) (i : ℕ) (p : PassState) → get_elem? ps i ≡ some p → 0 < f p.view.met → 0 < f (met_by_passes ps)
@@ -217,7 +217,7 @@ module _ {L G : Type 0} (d : Devices L G) (m : Manager L G) (r : RelationFork) (
       below : (block count : ℕ) → nat_lt block count ≡ true → count ≡ r.blocks → block < r.blocks
       below block count listed is = grind arith
 
-  pub no_position : (e : RewriteError) → AnyMeets d.contents m zs e → ((end : ℕ) → e ≡ OverLimit (OfLog end) → ⊥) → (pages : List Page) → ArePages d.contents r base (opened_of m.table) pages → HasPositionsLeft e
+  pub no_position : (e : RewriteError) → SomePassMeets d.contents m zs e → ((end : ℕ) → e ≡ OverLimit (OfLog end) → ⊥) → (pages : List Page) → ArePages d.contents r base (opened_of m.table) pages → HasPositionsLeft e
   no_position ReadFault x not_full pages are = tt
   no_position WriteFault x not_full pages are = tt
   no_position LogFault x not_full pages are = tt
@@ -235,7 +235,7 @@ module _ {L G : Type 0} (d : Devices L G) (m : Manager L G) (r : RelationFork) (
         let last = c.device.faults in
         omega arith
 
-    cause_at : (e : RewriteError) → AnyMeets d.contents m zs e → IsRewriteCause (sum_by d.read_faults lanes) (sum_by d.write_faults lanes) (d.log_faults (log_of m)) (d.log_faults log) e
+    cause_at : (e : RewriteError) → SomePassMeets d.contents m zs e → IsRewriteCause (sum_by d.read_faults lanes) (sum_by d.write_faults lanes) (d.log_faults (log_of m)) (d.log_faults log) e
     cause_at ReadFault x = some_read_failed d m.table.table.shared.key zs lanes log c started.counted reads (met_by_one (λ (k : FailedCalls). k.reads) (λ a b. refl) zs x.place x.pass x.at x.meets)
     cause_at WriteFault x = some_write_failed d m.table.table.shared.key zs lanes log c started.counted writes (met_by_one (λ (k : FailedCalls). k.writes) (λ a b. refl) zs x.place x.pass x.at x.meets)
     cause_at LogFault x = risen_rose (d.log_faults (log_of m)) (d.log_faults log)
@@ -271,6 +271,6 @@ module _ {L G : Type 0} (d : Devices L G) (m : Manager L G) (r : RelationFork) (
       );
     }
 
-    pub err_cause : (e : RewriteError) → (e ≡ Memory) ⊎ AnyMeets d.contents m zs e
+    pub err_cause : (e : RewriteError) → (e ≡ Memory) ⊎ SomePassMeets d.contents m zs e
         → HasRewriteCause (sum_by d.read_faults lanes) (sum_by d.write_faults lanes) (d.log_faults (log_of m)) (d.log_faults log) (Err e)
     err_cause e why = record { logs_later = logs_later; cause = ⊎_elim (memory_cause e) (cause_at e) why }

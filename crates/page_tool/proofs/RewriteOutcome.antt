@@ -31,7 +31,7 @@ use Rattle.page_tool.specs.Checkpointing.{StoresRewrite}
 use Rattle.page_tool.specs.Rewriting.{ArePages, HasPositionsLeft, HasRewriteCause, LeavesRewritten, checkpoint_error, rewrite_error, rewrite_totals_in}
 use Rattle.page_tool.specs.Starting.{IsStarted, log_of}
 use Rattle.page_tool.proofs.PagesAfter.{StaysUsed}
-use Rattle.page_tool.proofs.RewriteCauses.{AnyMeets, any_meets, err_cause, met_by_none, no_position, ok_cause}
+use Rattle.page_tool.proofs.RewriteCauses.{SomePassMeets, any_meets, err_cause, met_by_none, no_position, ok_cause}
 use Rattle.page_tool.proofs.RewriteLeaves.{leaves_either, pages_held}
 use Rattle.page_tool.proofs.RewritePasses.{all_seen, all_seen_after}
 use Rattle.page_tool.proofs.RewriteWhole.{is_rewritten, unfailed}
@@ -68,7 +68,7 @@ module _ {L G : Type 0} (d : Devices L G) (m : Manager L G) (r : RelationFork) (
       let p = there ps i (omega arith) in
       s.whole.met i p.0 z p.1 at ∙ ap (λ (v : View). v.met) (started.passes.each i p.0 p.1).view)
 
-  why_early : (e : RewriteError) (s : StoresRewrite d.contents m r.fork ps zs (Err e)) → (e ≡ Memory) ⊎ AnyMeets d.contents m zs e
+  why_early : (e : RewriteError) (s : StoresRewrite d.contents m r.fork ps zs (Err e)) → (e ≡ Memory) ⊎ SomePassMeets d.contents m zs e
   why_early e s =
       let several = started.several.0 in
       let counted = s.alone.beside.counted in
@@ -124,7 +124,7 @@ module _ {L G : Type 0} (d : Devices L G) (m : Manager L G) (r : RelationFork) (
     positions_left : (e : RewriteError) → StoresRewrite d.contents m r.fork ps zs (Err e) → (pages : List Page) → ArePages d.contents r base (opened_of m.table) pages → HasPositionsLeft e
     positions_left e s pages are = ⊎_elim
         (λ (short : e ≡ Memory). subst HasPositionsLeft (sym short) tt)
-        (λ (x : AnyMeets d.contents m zs e). no_position d m r base ps zs started few lanes log c e x (not_full e s) pages are)
+        (λ (x : SomePassMeets d.contents m zs e). no_position d m r base ps zs started few lanes log c e x (not_full e s) pages are)
         (why_early e s)
 
     pub leaves : (end : Result RewriteTotals RewriteError) → StoresRewrite d.contents m r.fork ps zs end → LeavesRewritten d.contents d.failed_writes d.bytes d.synced r base (opened_of m.table) lanes log end

@@ -231,8 +231,8 @@ module _ (s : State) (h : PinInvariant s) (i f : ℕ) (v : View) (there : get_el
           (subst (λ (z : ℕ). (link v z).role ≡ HandedOut) same pinned))
 
 -- what a step leaves of a handed-out pin and of its frame's tag word
-abbrev pub Stays : State → State → ℕ → ℕ → Type 0
-Stays s t i f = IsHandedOut t i f × ((t.frame f).tag ≡ (s.frame f).tag)
+abbrev pub PinStays : State → State → ℕ → ℕ → Type 0
+PinStays s t i f = IsHandedOut t i f × ((t.frame f).tag ≡ (s.frame f).tag)
 
 -- the view of backend j changes, and its links stay
 pub view_stays : (views : List View) (i j f : ℕ) (v u w : View) → get_elem? views i ≡ some v → (link v f).role ≡ HandedOut → get_elem? views j ≡ some u → (link w f).role ≡ (link u f).role → (x : View) × (get_elem? (set views j w) i ≡ some x) × ((link x f).role ≡ HandedOut)
@@ -248,7 +248,7 @@ view_stays views i j f v u w there pinned here same = dite (ℕ_discrete i j)
 not_joined : (views : List View) (i j f : ℕ) (v u : View) → get_elem? views i ≡ some v → (link v f).role ≡ HandedOut → get_elem? views j ≡ some u → HoldsNothing u → i ≢ j
 not_joined views i j f v u there pinned here free e = let same : v ≡ u = some-injective v u (sym there ∙ ap (λ (z : ℕ). get_elem? views z) e ∙ here) in let r : (link u f).role ≡ HandedOut = subst (λ (x : View). (link x f).role ≡ HandedOut) same pinned in let n = (free.frames f).no_pin in cc
 
-pub step_stays : {e : Event} {s t : State} (i f : ℕ) → Step e s t → PinInvariant s → IsHandedOut s i f → e ≢ at i f unpin → Stays s t i f
+pub step_stays : {e : Event} {s t : State} (i f : ℕ) → Step e s t → PinInvariant s → IsHandedOut s i f → e ≢ at i f unpin → PinStays s t i f
 step_stays i f (touches {s = s} j g k u here live inside a around) h out other = (pin_stays s h i f out.0 out.1 out.2 out.3 j g k u here live inside a other, tag_stays s h i f out.0 out.1 out.2 out.3 j g k u here live inside a)
 step_stays i f (turns {s = s} j p k u here live below a) h out other = let x = view_stays s.views i j f out.0 u (view_turned k p (hold u p) u) out.1 out.3 here refl in ((x.0, x.1, out.2, x.2), refl)
 step_stays i f (splits {s = s} v here room) h out other = let w : View = record v { next = v.next + 1 } in let b : View = new_view v.next s.base (length v.links) (length v.partitions) (length v.lanes) in let x = view_stays s.views i 0 f out.0 v w out.1 out.3 here refl in
@@ -259,7 +259,7 @@ step_stays i f (joins {s = s} j v u first nonzero here live free) h out other = 
 pub tag_there : (s : State) (i f : ℕ) → PinInvariant s → IsHandedOut s i f → HasTag (s.frame f)
 tag_there s i f h out = (h.grid.cells i out.0 f out.1 out.2).handed_out out.3
 
-run_stays : {es : List Event} {s t : State} (i f : ℕ) → Run es s t → PinInvariant s → IsHandedOut s i f → HasNoUnpin i f es → Stays s t i f
+run_stays : {es : List Event} {s t : State} (i f : ℕ) → Run es s t → PinInvariant s → IsHandedOut s i f → HasNoUnpin i f es → PinStays s t i f
 run_stays i f rests h out none = (out, refl)
 run_stays i f (goes x r) h out none = let a = step_stays i f x h out none.0 in let b = run_stays i f r (step_keeps x h) a.0 none.1 in (b.0, b.1 ∙ a.1)
 

@@ -17,8 +17,8 @@ pub not_missing : (block : Option MemBlock) → None ≡ block → is_some (opti
 not_missing block none there = let bad : false ≡ true = ap (λ (b : Option MemBlock). is_some (option_map (λ b. b.page) b)) none ∙ there in absurd (cc bad)
 
 -- the map has this block at the tag, and its others as before
-abbrev pub Puts : tree.BTreeMap Tag MemBlock → tree.BTreeMap Tag MemBlock → Tag → MemBlock → Type 0
-Puts old new tag block = (q : Tag) → tree.get tags.ghosts.cmp new q ≡ cond (tree.is_at (tags.ghosts.cmp tag) q) (Some block) (tree.get tags.ghosts.cmp old q)
+abbrev pub PutsBlock : tree.BTreeMap Tag MemBlock → tree.BTreeMap Tag MemBlock → Tag → MemBlock → Type 0
+PutsBlock old new tag block = (q : Tag) → tree.get tags.ghosts.cmp new q ≡ cond (tree.is_at (tags.ghosts.cmp tag) q) (Some block) (tree.get tags.ghosts.cmp old q)
 
 page_there : (test same : Bool) (block : MemBlock) (old new : Option MemBlock) → test ≡ same → new ≡ cond test (Some block) old
     → option_map (λ b. b.page) new ≡ cond same (Some block.page) (option_map (λ b. b.page) old)
@@ -34,10 +34,10 @@ mark_there true false block old new is at = cc is
 mark_there false true block old new is at = cc is
 mark_there false false block old new is at = ap (λ b. option_map_or (λ b. b.failed) b false) at
 
-pub pages_put : (old new : tree.BTreeMap Tag MemBlock) (tag : Tag) (block : MemBlock) → Puts old new tag block
+pub pages_put : (old new : tree.BTreeMap Tag MemBlock) (tag : Tag) (block : MemBlock) → PutsBlock old new tag block
     → (λ q. option_map (λ b. b.page) (tree.get tags.ghosts.cmp new q)) ≡ with_page tag block.page (λ q. option_map (λ b. b.page) (tree.get tags.ghosts.cmp old q))
 pages_put old new tag block put = λ i q. page_there _ _ block _ _ (same_tag tag q) (put q) i
 
-pub marks_put : (old new : tree.BTreeMap Tag MemBlock) (tag : Tag) (block : MemBlock) → Puts old new tag block
+pub marks_put : (old new : tree.BTreeMap Tag MemBlock) (tag : Tag) (block : MemBlock) → PutsBlock old new tag block
     → (λ q. option_map_or (λ b. b.failed) (tree.get tags.ghosts.cmp new q) false) ≡ with_mark tag block.failed (λ q. option_map_or (λ b. b.failed) (tree.get tags.ghosts.cmp old q) false)
 marks_put old new tag block put = λ i q. mark_there _ _ block _ _ (same_tag tag q) (put q) i

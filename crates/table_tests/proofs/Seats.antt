@@ -16,13 +16,13 @@ use Rattle.frame_table.specs.Seats.{CanStep, Fits, HoldsHeader, Looked, SameSeat
 use Rattle.frame_table.proofs.Resting.{rests_on, free_unpinned, new_rests}
 use Rattle.frame_table.proofs.Told.{looks_link, touches_on}
 use Rattle.clock_sweep.proofs.Keeping.{same_on}
-use Rattle.table_tests.specs.Work.{Keeps, SeatHoldsNothing}
+use Rattle.table_tests.specs.Work.{KeepsSeat, SeatHoldsNothing}
 
 module _ {L G : Type 0} (t : FrameTable L G) where
   pub rests_first : (s : Seat (Value L G) View) → CanClose t s → SeatHoldsNothing t s
   rests_first s c = record { fits = c.fits; live = c.live; hand = c.hand; free = c.free }
 
-  pub closes_still : (s s' : Seat (Value L G) View) → CanClose t s → Keeps s s' → SeatHoldsNothing t s' → CanClose t s'
+  pub closes_still : (s s' : Seat (Value L G) View) → CanClose t s → KeepsSeat s s' → SeatHoldsNothing t s' → CanClose t s'
   closes_still s s' c k r = record { fits = r.fits; first = k.id ∙ c.first; hand = r.hand; live = r.live; free = r.free; joined = ap (λ (n : ℕ). n + 1) k.joined ∙ c.joined ∙ sym k.next }
 
   pub steps_there : (s : Seat (Value L G) View) (f : ℕ) → SeatHoldsNothing t s → f < frames_of t → CanStep t s f
@@ -34,7 +34,7 @@ module _ {L G : Type 0} (t : FrameTable L G) where
   pub rests_still : (s s' : Seat (Value L G) View) (f : ℕ) → SeatHoldsNothing t s → SameSeat s s' → Touches f s.me.0 s'.me.0 → HoldsNothingAt (link s'.me.0 f) → SeatHoldsNothing t s'
   rests_still s s' f r same touches free = record { fits = same.table ∙ r.fits; live = ap (λ (x : View). x.emptied) touches.self ∙ r.live; hand = same.hand ∙ r.hand; free = rests_on f s.me.0 s'.me.0 touches free r.free }
 
-pub keeps_on : {L G : Type 0} (s s' s'' : Seat (Value L G) View) → Keeps s s' → Keeps s' s'' → Keeps s s''
+pub keeps_on : {L G : Type 0} (s s' s'' : Seat (Value L G) View) → KeepsSeat s s' → KeepsSeat s' s'' → KeepsSeat s s''
 keeps_on s s' s'' a b = record { table = b.table ∙ a.table; id = b.id ∙ a.id; joined = b.joined ∙ a.joined; next = b.next ∙ a.next }
 
 -- a pin that was taken and given up leaves a seat that holds nothing
@@ -83,7 +83,7 @@ module _ {L G : Type 0} (t : FrameTable L G) where
   }
 
   -- once the one other backend is taken in, the table may be closed
-  pub closes_joined : (s s' s'' : Seat (Value L G) View) (u : View) → CanClose t s → s.me.0.next ≡ 1 → SameSeat s s' → s'.me.0 ≡ kept_view s.me.0 → (k : Seat (Value L G) View) → Keeps s' k → SeatHoldsNothing t k → SameSeat k s'' → s''.me.0 ≡ joined_view k.me.0 u → CanClose t s''
+  pub closes_joined : (s s' s'' : Seat (Value L G) View) (u : View) → CanClose t s → s.me.0.next ≡ 1 → SameSeat s s' → s'.me.0 ≡ kept_view s.me.0 → (k : Seat (Value L G) View) → KeepsSeat s' k → SeatHoldsNothing t k → SameSeat k s'' → s''.me.0 ≡ joined_view k.me.0 u → CanClose t s''
   closes_joined s s' s'' u c one same kept k keeps rests again joined = record {
     fits = again.table ∙ rests.fits;
     first = again.id ∙ keeps.id ∙ same.id ∙ c.first;

@@ -16,7 +16,7 @@ use Rattle.frame_table.specs.declared.table.FrameTable.{FrameTable}
 use Rattle.frame_table.specs.Seats.{HoldsHeader, Looked, SameSeat, SameSelf, Touches, unlocked_link, unpinned_link}
 use Rattle.clock_sweep.specs.Keeping.{GetsHeader}
 use Rattle.clock_sweep.specs.Keeping as sweeping
-use Rattle.table_tests.specs.Work.{HasAtMostPin, Keeps, KeepsBeside, OnlyPins, SeatHasSamePins}
+use Rattle.table_tests.specs.Work.{HasAtMostPin, KeepsBeside, KeepsSeat, OnlyPins, SeatHasSamePins}
 use Rattle.table_tests.proofs.Working.{calm_looked, calm_unlocked, same_hold}
 
 module _ {L G : Type 0} (t : FrameTable L G) (s s' : Seat (Value L G) View) (p : OnlyPins t s) (same : SameSeat s s') where
@@ -65,10 +65,10 @@ module _ {L G : Type 0} (t : FrameTable L G) (s s' : Seat (Value L G) View) (p :
     )
 
 -- what such a call keeps of the seat
-pub keeps_aside : {L G : Type 0} (s s' : Seat (Value L G) View) → SameSeat s s' → SameSelf s.me.0 s'.me.0 → Keeps s s'
+pub keeps_aside : {L G : Type 0} (s s' : Seat (Value L G) View) → SameSeat s s' → SameSelf s.me.0 s'.me.0 → KeepsSeat s s'
 keeps_aside s s' same self = record { table = same.table; id = same.id; joined = ap (λ (x : View). x.joined) self; next = ap (λ (x : View). x.next) self }
 
-pub keeps_beside : {L G : Type 0} (s s' : Seat (Value L G) View) → SameSeat s s' → sweeping.SameAside s.me.0 s'.me.0 → Keeps s s'
+pub keeps_beside : {L G : Type 0} (s s' : Seat (Value L G) View) → SameSeat s s' → sweeping.SameAside s.me.0 s'.me.0 → KeepsSeat s s'
 keeps_beside s s' same aside = record { table = same.table; id = same.id; joined = ap (λ (x : View). x.joined) aside; next = ap (λ (x : View). x.next) aside }
 
 -- A frame is pinned, other steps keep the pins, and the pin is given up: the seat pins what it pinned

@@ -102,7 +102,7 @@ module _ {L G : Type 0} where
   SeatHasSamePins s s' = (f : ℕ) → (link s'.me.0 f).role ≡ (link s.me.0 f).role
 
   -- after a call the seat is the one before it, and its backend took no seat in or out
-  pub record Keeps (s s' : Seat (Value L G) View) : Type 0 where
+  pub record KeepsSeat (s s' : Seat (Value L G) View) : Type 0 where
     pub table : s'.table_id ≡ s.table_id
     pub id : s'.id ≡ s.id
     pub joined : s'.me.0.joined ≡ s.me.0.joined
@@ -110,5 +110,5 @@ module _ {L G : Type 0} where
 
   -- and it has at other frames what it had
   pub record KeepsBeside (f : ℕ) (s s' : Seat (Value L G) View) : Type 0 where
-    pub self : Keeps s s'
+    pub self : KeepsSeat s s'
     pub others : (g : ℕ) → g ≢ f → link s'.me.0 g ≡ link s.me.0 g

@@ -4,7 +4,7 @@ ghost use Rattle.pin_core.specs.declared.view.Role.TheVariants.{Absent};
 ghost use Rattle.pin_core.specs.State.{link};
 ghost use Rattle.frame_table.specs.Closes.{CanClose};
 ghost use Rattle.frame_table.specs.Seats.{frames_of};
-ghost use Rattle.table_tests.specs.Work.{IsSmall, Keeps, OnlyPins, PinsNone, SeatHasSamePins};
+ghost use Rattle.table_tests.specs.Work.{IsSmall, KeepsSeat, OnlyPins, PinsNone, SeatHasSamePins};
 
 use crate::entering::{enter_block, leave_block};
 use crate::fixture::{Table, TableSeat, block};
@@ -25,7 +25,7 @@ fn choose<R: Wait>(
     requires census { census.old.frames ≡ frames_of table.now }
     ensures pins { OnlyPins table.now seat.new }
     ensures same { SeatHasSamePins seat.old seat.new }
-    ensures keeps { Keeps seat.old seat.new }
+    ensures keeps { KeepsSeat seat.old seat.new }
     ensures census { census.new.frames ≡ census.old.frames }
 {
     match victim(table, rt, seat, sweep, census, ring) {
@@ -54,7 +54,7 @@ fn choose_beneath<R: Wait>(
     requires census { census.old.frames ≡ frames_of table.now }
     ensures pins { OnlyPins table.now seat.new }
     ensures same { SeatHasSamePins seat.old seat.new }
-    ensures keeps { Keeps seat.old seat.new }
+    ensures keeps { KeepsSeat seat.old seat.new }
     ensures census { census.new.frames ≡ census.old.frames }
 {
     if frame == 16 {
@@ -134,7 +134,7 @@ fn touch<R: Wait>(table: &Table, rt: &R, seat: &mut TableSeat, frame: u32) -> bo
     requires pins { OnlyPins table.now seat.old × PinsNone seat.old }
     requires frame { frame < frames_of table.now }
     ensures pins { OnlyPins table.now seat.new × PinsNone seat.new }
-    ensures keeps { Keeps seat.old seat.new }
+    ensures keeps { KeepsSeat seat.old seat.new }
 {
     let Ok(pin) = table.try_pin(seat, frame, false) else {
         return false;

@@ -8,7 +8,7 @@ ghost use Rattle.pin_core.specs.State.{link};
 ghost use Rattle.map_partitions.specs.Partition.{HoldsLatch};
 ghost use Rattle.frame_table.specs.Closes.{CanClose};
 ghost use Rattle.frame_table.specs.Seats.{Lacks, Touches, frames_of};
-ghost use Rattle.table_tests.specs.Work.{HasAtMostPinsAndLatches, HasBlock, IsInside, Keeps, KeepsBeside, KeepsOthers, OnlyPins, PinsBlock, PinsNone};
+ghost use Rattle.table_tests.specs.Work.{HasAtMostPinsAndLatches, HasBlock, IsInside, KeepsBeside, KeepsOthers, KeepsSeat, OnlyPins, PinsBlock, PinsNone};
 
 use crate::fixture::{Table, TableSeat};
 use block_tag::Tag;
@@ -136,7 +136,7 @@ pub fn leave_block<R: Wait>(
     requires block { HasBlock table.now tag }
     ensures closes { CanClose table.now seat.new }
     ensures pins { OnlyPins table.now seat.new × PinsNone seat.new }
-    ensures keeps { Keeps seat.old seat.new }
+    ensures keeps { KeepsSeat seat.old seat.new }
 {
     let Some(pin) = enter_block(table, rt, seat, frame, tag) else {
         return false;
@@ -157,7 +157,7 @@ fn pin_mapped<R: Wait>(table: &Table, rt: &R, seat: &mut TableSeat, tag: Tag) ->
     ensures inside { IsInside (partition_number tag) seat.new.me.0 }
     ensures latches { KeepsOthers (partition_number tag) seat.old.me.0 seat.new.me.0 }
     ensures pinned { IfSome result (λ p. (p.frame < frames_of table.now) × PinsBlock tag (link seat.new.me.0 p.frame) × KeepsBeside p.frame seat.old seat.new) }
-    ensures lacking { IfNone result (PinsNone seat.new × Keeps seat.old seat.new) }
+    ensures lacking { IfNone result (PinsNone seat.new × KeepsSeat seat.old seat.new) }
 {
     let frame = find(table, seat, &tag)?;
     Some(table.pin(rt, seat, tag, frame, false))
@@ -169,7 +169,7 @@ pub fn pin_found<R: Wait>(table: &Table, rt: &R, seat: &mut TableSeat, tag: Tag)
     requires block { HasBlock table.now tag }
     ensures pins { OnlyPins table.now seat.new }
     ensures pinned { IfSome result (λ p. (p.frame < frames_of table.now) × PinsBlock tag (link seat.new.me.0 p.frame) × KeepsBeside p.frame seat.old seat.new) }
-    ensures lacking { IfNone result (PinsNone seat.new × Keeps seat.old seat.new) }
+    ensures lacking { IfNone result (PinsNone seat.new × KeepsSeat seat.old seat.new) }
 {
     let partition = tag.partition();
     take_turn(table, rt, seat, partition);

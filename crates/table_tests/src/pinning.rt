@@ -3,7 +3,7 @@ ghost use Rattle.std.specs.Prelude.{◌≡◌, ◌<◌};
 ghost use Rattle.std.specs.Thread.{IsSync};
 ghost use Rattle.frame_table.specs.Closes.{CanClose};
 ghost use Rattle.frame_table.specs.Seats.{frames_of};
-ghost use Rattle.table_tests.specs.Work.{Keeps, SeatHoldsNothing, backends_of};
+ghost use Rattle.table_tests.specs.Work.{KeepsSeat, SeatHoldsNothing, backends_of};
 
 use crate::fixture::{Table, TableSeat};
 use frame_table::TryPin;
@@ -15,7 +15,7 @@ pub fn refusal<R: Wait>(table: &Table, rt: &R, seat: &mut TableSeat, frame: u32)
     requires rests { SeatHoldsNothing table.now seat.old }
     requires frame { frame < frames_of table.now }
     ensures rests { SeatHoldsNothing table.now seat.new }
-    ensures keeps { Keeps seat.old seat.new }
+    ensures keeps { KeepsSeat seat.old seat.new }
 {
     match table.try_pin(seat, frame, false) {
         Ok(pin) => {
@@ -38,7 +38,7 @@ pub fn refusal_beside<R: Wait>(
     requires rests { SeatHoldsNothing table.now seat.old × SeatHoldsNothing table.now other.old }
     requires frame { frame < frames_of table.now }
     ensures rests { SeatHoldsNothing table.now seat.new × SeatHoldsNothing table.now other.new }
-    ensures keeps { Keeps seat.old seat.new × Keeps other.old other.new }
+    ensures keeps { KeepsSeat seat.old seat.new × KeepsSeat other.old other.new }
 {
     table.lock_header(rt, other, frame);
     let refused = refusal(table, rt, seat, frame);
@@ -57,7 +57,7 @@ pub fn pin_often<R: Wait>(
     requires rests { SeatHoldsNothing table.now seat.old }
     requires frame { frame < frames_of table.now }
     ensures rests { SeatHoldsNothing table.now seat.new }
-    ensures keeps { Keeps seat.old seat.new }
+    ensures keeps { KeepsSeat seat.old seat.new }
 {
     let mut refused = 0;
     for _ in 0..times {
@@ -98,17 +98,17 @@ fn pin_pair<R: Threads + Wait + Sync>(
     requires rests { SeatHoldsNothing table.now first.old × SeatHoldsNothing table.now second.old }
     requires frame { frame < frames_of table.now }
     ensures rests { SeatHoldsNothing table.now first.new × SeatHoldsNothing table.now second.new }
-    ensures keeps { Keeps first.old first.new × Keeps second.old second.new }
+    ensures keeps { KeepsSeat first.old first.new × KeepsSeat second.old second.new }
 {
     join_mut(
         rt,
         &mut || -> u32
             requires { IsSync R.row × SeatHoldsNothing table.now first.now × (frame < frames_of table.now) }
-            ensures { SeatHoldsNothing table.entry.now first.exit.now × Keeps first.entry.now first.exit.now }
+            ensures { SeatHoldsNothing table.entry.now first.exit.now × KeepsSeat first.entry.now first.exit.now }
         { pin_often(table, rt, first, frame, times) },
         &mut || -> u32
             requires { IsSync R.row × SeatHoldsNothing table.now second.now × (frame < frames_of table.now) }
-            ensures { SeatHoldsNothing table.entry.now second.exit.now × Keeps second.entry.now second.exit.now }
+            ensures { SeatHoldsNothing table.entry.now second.exit.now × KeepsSeat second.entry.now second.exit.now }
         { pin_often(table, rt, second, frame, times) },
     )
 }
@@ -145,17 +145,17 @@ fn pin_three<R: Threads + Wait + Sync>(
     requires rests { SeatHoldsNothing table.now first.old × SeatHoldsNothing table.now second.old × SeatHoldsNothing table.now third.old }
     requires frame { frame < frames_of table.now }
     ensures rests { SeatHoldsNothing table.now first.new × SeatHoldsNothing table.now second.new × SeatHoldsNothing table.now third.new }
-    ensures keeps { Keeps first.old first.new × Keeps second.old second.new × Keeps third.old third.new }
+    ensures keeps { KeepsSeat first.old first.new × KeepsSeat second.old second.new × KeepsSeat third.old third.new }
 {
     join_mut(
         rt,
         &mut || -> u32
             requires { IsSync R.row × SeatHoldsNothing table.now first.now × (frame < frames_of table.now) }
-            ensures { SeatHoldsNothing table.entry.now first.exit.now × Keeps first.entry.now first.exit.now }
+            ensures { SeatHoldsNothing table.entry.now first.exit.now × KeepsSeat first.entry.now first.exit.now }
         { pin_often(table, rt, first, frame, times) },
         &mut || -> (u32, u32)
             requires { IsSync R.row × SeatHoldsNothing table.now second.now × SeatHoldsNothing table.now third.now × (frame < frames_of table.now) }
-            ensures { SeatHoldsNothing table.entry.now second.exit.now × Keeps second.entry.now second.exit.now × SeatHoldsNothing table.entry.now third.exit.now × Keeps third.entry.now third.exit.now }
+            ensures { SeatHoldsNothing table.entry.now second.exit.now × KeepsSeat second.entry.now second.exit.now × SeatHoldsNothing table.entry.now third.exit.now × KeepsSeat third.entry.now third.exit.now }
         { pin_pair(table, rt, second, third, frame, times) },
     )
 }
@@ -180,11 +180,11 @@ pub fn pin_by_four<R: Threads + Wait + Sync>(
         rt,
         &mut || -> u32
             requires { IsSync R.row × SeatHoldsNothing table.now seat.now × (frame < frames_of table.now) }
-            ensures { SeatHoldsNothing table.entry.now seat.exit.now × Keeps seat.entry.now seat.exit.now }
+            ensures { SeatHoldsNothing table.entry.now seat.exit.now × KeepsSeat seat.entry.now seat.exit.now }
         { pin_often(table, rt, seat, frame, times) },
         &mut || -> (u32, (u32, u32))
             requires { IsSync R.row × SeatHoldsNothing table.now second × SeatHoldsNothing table.now third × SeatHoldsNothing table.now fourth × (frame < frames_of table.now) }
-            ensures { SeatHoldsNothing table.entry.now second.exit × Keeps second.entry second.exit × SeatHoldsNothing table.entry.now third.exit × Keeps third.entry third.exit × SeatHoldsNothing table.entry.now fourth.exit × Keeps fourth.entry fourth.exit }
+            ensures { SeatHoldsNothing table.entry.now second.exit × KeepsSeat second.entry second.exit × SeatHoldsNothing table.entry.now third.exit × KeepsSeat third.entry third.exit × SeatHoldsNothing table.entry.now fourth.exit × KeepsSeat fourth.entry fourth.exit }
         {
             pin_three(
                 table,
