@@ -61,8 +61,8 @@ laws_logged : (k : LogKind) (s : State) (i : ℕ) (v : View) → Laws s → get_
 laws_logged k s i v laws there live a r = laws_kept (steps.logs i k v there live a r) laws
 
 -- the state with other views and another device
-abbrev with_log : State → List View → Device → State
-with_log s views dev = record s { pool = record s.pool { core = record s.pool.core { views = views } }; device = dev }
+abbrev with_log_device : State → List View → Device → State
+with_log_device s views dev = record s { pool = record s.pool { core = record s.pool.core { views = views } }; device = dev }
 
 -- a view and the one after it, which has the same out but for the log
 record SameButLog (v w : View) : Type 0 where
@@ -72,7 +72,7 @@ record SameButLog (v w : View) : Type 0 where
 
 module _ {L G : Type 0} (d : Devices L G) (o : Opening L G) where
   -- the log alone moves
-  log_moves : (s : State) (id : ℕ) (v w : View) (views : List View) (dev : Device) → KeepsOpening d o s → views ≡ set s.pool.core.views id w → dev.taken ≡ s.device.taken → SameButLog v w → Moves d o s (with_log s views dev) id v w (place.Of turn.Log)
+  log_moves : (s : State) (id : ℕ) (v w : View) (views : List View) (dev : Device) → KeepsOpening d o s → views ≡ set s.pool.core.views id w → dev.taken ≡ s.device.taken → SameButLog v w → Moves d o s (with_log_device s views dev) id v w (place.Of turn.Log)
   log_moves s id v w views dev f are taken same = record {
     fixed = record { frames = f.frames; backends = f.backends; base = f.base; partitions = f.partitions; partition_of = f.partition_of; is_block = f.is_block; names = f.names; lanes = f.lanes; lane_of = f.lane_of; few_backends = f.few_backends; few_lanes = f.few_lanes; known = f.known; origin = f.origin; reads = f.reads; writes = f.writes; log_faults = f.log_faults };
     views = are;
@@ -85,7 +85,7 @@ module _ {L G : Type 0} (d : Devices L G) (o : Opening L G) where
     values = values_of;
   }
     where
-      latches_of : (x : Turn) → is_taken x (with_log s views dev) ≡ is_taken x s
+      latches_of : (x : Turn) → is_taken x (with_log_device s views dev) ≡ is_taken x s
       latches_of (turn.Partition p) = refl
       latches_of (turn.Lane q) = refl
       latches_of turn.Log = taken
@@ -96,7 +96,7 @@ module _ {L G : Type 0} (d : Devices L G) (o : Opening L G) where
       outs_of (place.Of (turn.Lane q)) n = ap (λ l. is_some (get_or l q no_lane).out) same.lanes
       outs_of (place.Of turn.Log) n = absurd (n refl)
 
-      values_of : (x : Place) (z : Value L G) → x ≢ place.Of turn.Log → Gives d o s x z → Gives d o (with_log s views dev) x z
+      values_of : (x : Place) (z : Value L G) → x ≢ place.Of turn.Log → Gives d o s x z → Gives d o (with_log_device s views dev) x z
       values_of (place.Page f) z n h = h
       values_of (place.Of (turn.Partition p)) z n h = h
       values_of (place.Of (turn.Lane q)) z n h = h
@@ -157,14 +157,14 @@ module _ {L G : Type 0} (d : Devices L G) (o : Opening L G) (slots id : ℕ) (me
           is_taken_so : IsTakenLog d.bytes d.synced d.log_faults d.log_calls x.device taken
           is_taken_so = record { told = refl; durable = gives_it.0.synced; counted = gives_it.0.faults; called = refl }
 
-          result : (w : View) (views : List View) → views ≡ set h.state.pool.core.views id w → SameButLog me.0 w → is_some w.log.out ≡ true → w ≡ view_out taken me.0 → Laws (with_log h.state views h.state.device) → GoesOut taken x.down me.0 w → Acts t (log_went d.bytes d.synced d.log_faults d.log_calls (o.config.frames + 144) at_latch me)
+          result : (w : View) (views : List View) → views ≡ set h.state.pool.core.views id w → SameButLog me.0 w → is_some w.log.out ≡ true → w ≡ view_out taken me.0 → Laws (with_log_device h.state views h.state.device) → GoesOut taken x.down me.0 w → Acts t (log_went d.bytes d.synced d.log_faults d.log_calls (o.config.frames + 144) at_latch me)
           result w views are same away is laws did = (
             w,
             takes (o.config.frames + 144) (value.Log x),
             home,
             record {
-              state = with_log h.state views h.state.device;
-              shows = shows_out d o (set t.words (latch_place o.config.frames turn.Log) (get_or t.words (latch_place o.config.frames turn.Log) 0)) t h.state (with_log h.state views h.state.device) id me.0 w (place.Of turn.Log) (set-get_or t.words (latch_place o.config.frames turn.Log) 0) h.shows here
+              state = with_log_device h.state views h.state.device;
+              shows = shows_out d o (set t.words (latch_place o.config.frames turn.Log) (get_or t.words (latch_place o.config.frames turn.Log) 0)) t h.state (with_log_device h.state views h.state.device) id me.0 w (place.Of turn.Log) (set-get_or t.words (latch_place o.config.frames turn.Log) 0) h.shows here
                   (log_moves d o h.state id me.0 w views h.state.device h.shows.fixed are refl same) tt (λ home_x. let no : true ≡ false = sym away ∙ home_x id w (grid.set_here h.state.pool.core.views id me.0 w here) in absurd (cc));
               laws = laws;
             },
@@ -224,15 +224,15 @@ module _ {L G : Type 0} (d : Devices L G) (o : Opening L G) (slots id : ℕ) (me
       stands : (dev : Device) → dev.faults ≡ h.state.device.faults → may.taken.faults < dev.faults → false ≡ true
       stands dev e lt = absurd (omega (arith, faults_same))
 
-      home : (call : LogCall) (w : View) (views : List View) (dev : Device) → views ≡ set h.state.pool.core.views id w → dev.taken ≡ h.state.device.taken → SameButLog me.0 w → IsLog d x.device x.down dev → Laws (with_log h.state views dev) → ComesHome may.taken (d.bytes x.device) (d.log_faults x.device) call me.0 w
+      home : (call : LogCall) (w : View) (views : List View) (dev : Device) → views ≡ set h.state.pool.core.views id w → dev.taken ≡ h.state.device.taken → SameButLog me.0 w → IsLog d x.device x.down dev → Laws (with_log_device h.state views dev) → ComesHome may.taken (d.bytes x.device) (d.log_faults x.device) call me.0 w
           → Acts d o slots id me live t (log_came (d.bytes x.device) (d.log_faults x.device) call (at_latch d o slots id me live) me)
       home call w views dev are latch same is laws did = (
         w,
         gives,
         tt,
         subst (λ (c : List (ℕ × Value L G)). RuleHolds d o (stepped t (latch_place o.config.frames turn.Log) (get_or t.words (latch_place o.config.frames turn.Log) 0) id c w gives)) (sym hand) record {
-          state = with_log h.state views dev;
-          shows = shows_back d o (set t.words (latch_place o.config.frames turn.Log) (get_or t.words (latch_place o.config.frames turn.Log) 0)) t h.state (with_log h.state views dev) id me.0 w (place.Of turn.Log) (value.Log (record x { call = log_call.Untouched })) (set-get_or t.words (latch_place o.config.frames turn.Log) 0) h.shows here
+          state = with_log_device h.state views dev;
+          shows = shows_back d o (set t.words (latch_place o.config.frames turn.Log) (get_or t.words (latch_place o.config.frames turn.Log) 0)) t h.state (with_log_device h.state views dev) id me.0 w (place.Of turn.Log) (value.Log (record x { call = log_call.Untouched })) (set-get_or t.words (latch_place o.config.frames turn.Log) 0) h.shows here
               (log_moves d o h.state id me.0 w views dev h.shows.fixed are latch same) tt (is, refl, room);
           laws = laws;
         },

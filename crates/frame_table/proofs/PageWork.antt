@@ -231,8 +231,8 @@ module _ {L G : Type 0} (d : Devices L G) (o : Opening L G) where
       same = set-get_or t.words (content_place f) 0
 
       -- the page comes back in a state whose step so far moved that page alone, into this one
-      Comes : Option paged.Kind → Type 0
-      Comes x = (w : View) × (a : table.Act (Value L G)) × table.Valid t.homes me.1 a × RuleHolds d o (stepped t (content_place f) (get_or t.words (content_place f) 0) id me.1 w a)
+      ContentComes : Option paged.Kind → Type 0
+      ContentComes x = (w : View) × (a : table.Act (Value L G)) × table.Valid t.homes me.1 a × RuleHolds d o (stepped t (content_place f) (get_or t.words (content_place f) 0) id me.1 w a)
           × (table.carried_after me.1 a ≡ rest me.1) × ReturnsBy x f me.0 w (get_or t.words (content_place f) 0)
 
       home_held : (s' : State) (w : View) → Moves d o s s' id me.0 w (place.Page f) → Laws s' → page ≡ (s'.pool.core.frame f).page → RuleHolds d o (stepped t (content_place f) (get_or t.words (content_place f) 0) id me.1 w gives)

@@ -23,13 +23,13 @@ use Rattle.history_core.specs.Log.{Log}
 use Rattle.history_core.specs.Homes.{Home, IsClean, HomeLink, home_shape, home_part, IsUnframed, IsFlushedCell}
 use Rattle.history_core.specs.Steps.{IsPlain}
 use Rattle.history_core.proofs.Homes as homes
-use Rattle.history_core.proofs.Homes.{known, home_after, Keeps_by, Keeps_by_pins}
+use Rattle.history_core.proofs.Homes.{known, pages_home_after, Keeps_by, Keeps_by_pins}
 use Rattle.grid.specs.Shape.{Grid, put}
 use Rattle.grid.proofs.Lists.{put_here, put_else}
 use Rattle.grid.proofs.Grids.{Keeps}
 
 -- A kind that is plain keeps the law of the homes; the block's page after the log is known where its lane's contents are
-pub plain_keeps : (k : Kind) (h : Home) (fr : Frame) (l : Link) (p : Page) → (h.known ≡ true → h.block.logged ≡ Some p) → IsPlain k → Allowed k h.block fr l → Keeps_by k h (home_after k h) fr l
+pub plain_keeps : (k : Kind) (h : Home) (fr : Frame) (l : Link) (p : Page) → (h.known ≡ true → h.block.logged ≡ Some p) → IsPlain k → Allowed k h.block fr l → Keeps_by k h (pages_home_after k h) fr l
 plain_keeps kinds.load_content h fr l q is x a = homes.load_content_keeps h fr l a
 plain_keeps kinds.mark_dirty h fr l q is x a = homes.mark_dirty_keeps h fr l a
 plain_keeps kinds.share h fr l q is x a = homes.share_keeps h fr l a

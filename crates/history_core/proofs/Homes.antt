@@ -18,8 +18,8 @@ abbrev pub known : Part home_shape
 known = both (of_pages pages.known) home_part
 
 -- the home after a kind, where the lane holds what it held
-abbrev pub home_after : Kind → Home → Home
-home_after k h = record h { block = block_after k h.block }
+abbrev pub pages_home_after : Kind → Home → Home
+pages_home_after k h = record h { block = block_after k h.block }
 
 abbrev pub Keeps_by : Kind → Home → Home → Frame → Link → Type 0
 Keeps_by k h h' fr l = Keeps home_shape known home_part h h' tt tt fr l (frame_after k h.block fr) (link_after k h.block fr l)
@@ -119,84 +119,84 @@ module _ (h : Home) (fr : Frame) (l : Link) where
     others = λ t n m q c le d. grind (arith, q, c, d, a);
   }
 
-  pub load_content_keeps : Allowed kinds.load_content h.block fr l → Keeps_by kinds.load_content h (home_after kinds.load_content h) fr l
+  pub load_content_keeps : Allowed kinds.load_content h.block fr l → Keeps_by kinds.load_content h (pages_home_after kinds.load_content h) fr l
   load_content_keeps a = record {
     column = λ t t' q c sums le _. grind (arith, q, c, a);
     cell = λ t q le c. grind (arith, q, c, a);
     others = λ t n m q c le d. grind (arith, q, c, d, a);
   }
 
-  pub mark_dirty_keeps : Allowed kinds.mark_dirty h.block fr l → Keeps_by kinds.mark_dirty h (home_after kinds.mark_dirty h) fr l
+  pub mark_dirty_keeps : Allowed kinds.mark_dirty h.block fr l → Keeps_by kinds.mark_dirty h (pages_home_after kinds.mark_dirty h) fr l
   mark_dirty_keeps a = record {
     column = λ t t' q c sums le _. grind (arith, q, c, a);
     cell = λ t q le c. grind (arith, q, c, a);
     others = λ t n m q c le d. grind (arith, q, c, d, a);
   }
 
-  pub share_keeps : Allowed kinds.share h.block fr l → Keeps_by kinds.share h (home_after kinds.share h) fr l
+  pub share_keeps : Allowed kinds.share h.block fr l → Keeps_by kinds.share h (pages_home_after kinds.share h) fr l
   share_keeps a = record {
     column = λ t t' q c sums le _. grind (arith, q, c, a);
     cell = λ t q le c. grind (arith, q, c, a);
     others = λ t n m q c le d. grind (arith, q, c, d, a);
   }
 
-  pub exclude_keeps : Allowed kinds.exclude h.block fr l → Keeps_by kinds.exclude h (home_after kinds.exclude h) fr l
+  pub exclude_keeps : Allowed kinds.exclude h.block fr l → Keeps_by kinds.exclude h (pages_home_after kinds.exclude h) fr l
   exclude_keeps a = record {
     column = λ t t' q c sums le _. grind (arith, q, c, a);
     cell = λ t q le c. grind (arith, q, c, a);
     others = λ t n m q c le d. grind (arith, q, c, d, a);
   }
 
-  pub unshare_keeps : Allowed kinds.unshare h.block fr l → Keeps_by kinds.unshare h (home_after kinds.unshare h) fr l
+  pub unshare_keeps : Allowed kinds.unshare h.block fr l → Keeps_by kinds.unshare h (pages_home_after kinds.unshare h) fr l
   unshare_keeps a = record {
     column = λ t t' q c sums le _. grind (arith, q, c, a);
     cell = λ t q le c. grind (arith, q, c, a);
     others = λ t n m q c le d. grind (arith, q, c, d, a);
   }
 
-  pub unexclude_keeps : Allowed kinds.unexclude h.block fr l → Keeps_by kinds.unexclude h (home_after kinds.unexclude h) fr l
+  pub unexclude_keeps : Allowed kinds.unexclude h.block fr l → Keeps_by kinds.unexclude h (pages_home_after kinds.unexclude h) fr l
   unexclude_keeps a = record {
     column = λ t t' q c sums le _. grind (arith, q, c, a);
     cell = λ t q le c. grind (arith, q, c, a);
     others = λ t n m q c le d. grind (arith, q, c, d, a);
   }
 
-  pub take_copy_keeps : Allowed kinds.take_copy h.block fr l → Keeps_by kinds.take_copy h (home_after kinds.take_copy h) fr l
+  pub take_copy_keeps : Allowed kinds.take_copy h.block fr l → Keeps_by kinds.take_copy h (pages_home_after kinds.take_copy h) fr l
   take_copy_keeps a = record {
     column = λ t t' q c sums le _. grind (arith, q, c, a);
     cell = λ t q le c. grind (arith, q, c, a);
     others = λ t n m q c le d. grind (arith, q, c, d, a);
   }
 
-  pub leave_copy_keeps : Allowed kinds.leave_copy h.block fr l → Keeps_by kinds.leave_copy h (home_after kinds.leave_copy h) fr l
+  pub leave_copy_keeps : Allowed kinds.leave_copy h.block fr l → Keeps_by kinds.leave_copy h (pages_home_after kinds.leave_copy h) fr l
   leave_copy_keeps a = record {
     column = λ t t' q c sums le _. grind (arith, q, c, a);
     cell = λ t q le c. grind (arith, q, c, a);
     others = λ t n m q c le d. grind (arith, q, c, d, a);
   }
 
-  pub page_out_keeps : Allowed kinds.page_out h.block fr l → Keeps_by kinds.page_out h (home_after kinds.page_out h) fr l
+  pub page_out_keeps : Allowed kinds.page_out h.block fr l → Keeps_by kinds.page_out h (pages_home_after kinds.page_out h) fr l
   page_out_keeps a = record {
     column = λ t t' q c sums le _. grind (arith, q, c, a);
     cell = λ t q le c. grind (arith, q, c, a);
     others = λ t n m q c le d. grind (arith, q, c, d, a);
   }
 
-  pub overwrite_logged_keeps : Allowed kinds.overwrite_logged h.block fr l → Keeps_by kinds.overwrite_logged h (home_after kinds.overwrite_logged h) fr l
+  pub overwrite_logged_keeps : Allowed kinds.overwrite_logged h.block fr l → Keeps_by kinds.overwrite_logged h (pages_home_after kinds.overwrite_logged h) fr l
   overwrite_logged_keeps a = record {
     column = λ t t' q c sums le _. grind (arith, q, c, a);
     cell = λ t q le c. grind (arith, q, c, a);
     others = λ t n m q c le d. grind (arith, q, c, d, a);
   }
 
-  pub overwrite_read_keeps : (p : Page) → Allowed (kinds.overwrite_read p) h.block fr l → Keeps_by (kinds.overwrite_read p) h (home_after (kinds.overwrite_read p) h) fr l
+  pub overwrite_read_keeps : (p : Page) → Allowed (kinds.overwrite_read p) h.block fr l → Keeps_by (kinds.overwrite_read p) h (pages_home_after (kinds.overwrite_read p) h) fr l
   overwrite_read_keeps p a = record {
     column = λ t t' q c sums le _. grind (arith, q, c, a);
     cell = λ t q le c. grind (arith, q, c, a);
     others = λ t n m q c le d. grind (arith, q, c, d, a);
   }
 
-  pub page_back_keeps : Allowed kinds.page_back h.block fr l → Keeps_by kinds.page_back h (home_after kinds.page_back h) fr l
+  pub page_back_keeps : Allowed kinds.page_back h.block fr l → Keeps_by kinds.page_back h (pages_home_after kinds.page_back h) fr l
   page_back_keeps a = record {
     column = λ t t' q c sums le _. grind (arith, q, c, a);
     cell = λ t q le c. grind (arith, q, c, a);
@@ -218,84 +218,84 @@ module _ (h : Home) (fr : Frame) (l : Link) where
     others = λ t n m q c le d. grind (arith, q, c, d, a, same);
   }
 
-  pub make_entry_keeps : (p : Page) → Allowed (kinds.make_entry p) h.block fr l → Keeps_by (kinds.make_entry p) h (home_after (kinds.make_entry p) h) fr l
+  pub make_entry_keeps : (p : Page) → Allowed (kinds.make_entry p) h.block fr l → Keeps_by (kinds.make_entry p) h (pages_home_after (kinds.make_entry p) h) fr l
   make_entry_keeps p a = record {
     column = λ t t' q c sums le _. grind (arith, q, c, a);
     cell = λ t q le c. grind (arith, q, c, a);
     others = λ t n m q c le d. grind (arith, q, c, d, a);
   }
 
-  pub start_input_keeps : Allowed kinds.start_input h.block fr l → Keeps_by kinds.start_input h (home_after kinds.start_input h) fr l
+  pub start_input_keeps : Allowed kinds.start_input h.block fr l → Keeps_by kinds.start_input h (pages_home_after kinds.start_input h) fr l
   start_input_keeps a = record {
     column = λ t t' q c sums le _. grind (arith, q, c, a);
     cell = λ t q le c. grind (arith, q, c, a);
     others = λ t n m q c le d. grind (arith, q, c, d, a);
   }
 
-  pub start_output_keeps : Allowed kinds.start_output h.block fr l → Keeps_by kinds.start_output h (home_after kinds.start_output h) fr l
+  pub start_output_keeps : Allowed kinds.start_output h.block fr l → Keeps_by kinds.start_output h (pages_home_after kinds.start_output h) fr l
   start_output_keeps a = record {
     column = λ t t' q c sums le _. grind (arith, q, c, a);
     cell = λ t q le c. grind (arith, q, c, a);
     others = λ t n m q c le d. grind (arith, q, c, d, a);
   }
 
-  pub clear_just_dirtied_keeps : Allowed kinds.clear_just_dirtied h.block fr l → Keeps_by kinds.clear_just_dirtied h (home_after kinds.clear_just_dirtied h) fr l
+  pub clear_just_dirtied_keeps : Allowed kinds.clear_just_dirtied h.block fr l → Keeps_by kinds.clear_just_dirtied h (pages_home_after kinds.clear_just_dirtied h) fr l
   clear_just_dirtied_keeps a = record {
     column = λ t t' q c sums le _. grind (arith, q, c, a);
     cell = λ t q le c. grind (arith, q, c, a);
     others = λ t n m q c le d. grind (arith, q, c, d, a);
   }
 
-  pub end_read_keeps : Allowed (kinds.end_io ReadOk) h.block fr l → Keeps_by (kinds.end_io ReadOk) h (home_after (kinds.end_io ReadOk) h) fr l
+  pub end_read_keeps : Allowed (kinds.end_io ReadOk) h.block fr l → Keeps_by (kinds.end_io ReadOk) h (pages_home_after (kinds.end_io ReadOk) h) fr l
   end_read_keeps a = record {
     column = λ t t' q c sums le _. grind (arith, q, c, a);
     cell = λ t q le c. grind (arith, q, c, a);
     others = λ t n m q c le d. grind (arith, q, c, d, a, le works);
   }
 
-  pub end_write_keeps : (p : Page) → (h.known ≡ true → h.block.logged ≡ Some p) → Allowed (kinds.end_io WriteOk) h.block fr l → Keeps_by (kinds.end_io WriteOk) h (home_after (kinds.end_io WriteOk) h) fr l
+  pub end_write_keeps : (p : Page) → (h.known ≡ true → h.block.logged ≡ Some p) → Allowed (kinds.end_io WriteOk) h.block fr l → Keeps_by (kinds.end_io WriteOk) h (pages_home_after (kinds.end_io WriteOk) h) fr l
   end_write_keeps p is a = record {
     column = λ t t' q c sums le _. let same = q.0.1.page p in grind (arith, q, c, a, is, same);
     cell = λ t q le c. grind (arith, q, c, a);
     others = λ t n m q c le d. grind (arith, q, c, d, a, le works);
   }
 
-  pub end_badly_keeps : Allowed (kinds.end_io Bad) h.block fr l → Keeps_by (kinds.end_io Bad) h (home_after (kinds.end_io Bad) h) fr l
+  pub end_badly_keeps : Allowed (kinds.end_io Bad) h.block fr l → Keeps_by (kinds.end_io Bad) h (pages_home_after (kinds.end_io Bad) h) fr l
   end_badly_keeps a = record {
     column = λ t t' q c sums le _. grind (arith, q, c, a);
     cell = λ t q le c. grind (arith, q, c, a);
     others = λ t n m q c le d. grind (arith, q, c, d, a, le works);
   }
 
-  pub note_done_keeps : h.failed ≡ false → h.stored ≡ fr.page → Allowed (kinds.note_write true) h.block fr l → Keeps_by (kinds.note_write true) h (home_after (kinds.note_write true) h) fr l
+  pub note_done_keeps : h.failed ≡ false → h.stored ≡ fr.page → Allowed (kinds.note_write true) h.block fr l → Keeps_by (kinds.note_write true) h (pages_home_after (kinds.note_write true) h) fr l
   note_done_keeps done stored a = record {
     column = λ t t' q c sums le _. grind (arith, q, c, a);
     cell = λ t q le c. grind (arith, q, c, a, done, stored);
     others = λ t n m q c le d. grind (arith, d);
   }
 
-  pub note_failed_keeps : Allowed (kinds.note_write false) h.block fr l → Keeps_by (kinds.note_write false) h (home_after (kinds.note_write false) h) fr l
+  pub note_failed_keeps : Allowed (kinds.note_write false) h.block fr l → Keeps_by (kinds.note_write false) h (pages_home_after (kinds.note_write false) h) fr l
   note_failed_keeps a = record {
     column = λ t t' q c sums le _. grind (arith, q, c, a);
     cell = λ t q le c. grind (arith, q, c, a);
     others = λ t n m q c le d. grind (arith, d);
   }
 
-  pub set_waiter_keeps : (number : ℕ) → Allowed (kinds.set_waiter number) h.block fr l → Keeps_by (kinds.set_waiter number) h (home_after (kinds.set_waiter number) h) fr l
+  pub set_waiter_keeps : (number : ℕ) → Allowed (kinds.set_waiter number) h.block fr l → Keeps_by (kinds.set_waiter number) h (pages_home_after (kinds.set_waiter number) h) fr l
   set_waiter_keeps number a = record {
     column = λ t t' q c sums le _. grind (arith, q, c, a);
     cell = λ t q le c. grind (arith, q, c, a);
     others = λ t n m q c le d. grind (arith, q, c, d, a);
   }
 
-  pub clear_waiter_keeps : Allowed kinds.clear_waiter h.block fr l → Keeps_by kinds.clear_waiter h (home_after kinds.clear_waiter h) fr l
+  pub clear_waiter_keeps : Allowed kinds.clear_waiter h.block fr l → Keeps_by kinds.clear_waiter h (pages_home_after kinds.clear_waiter h) fr l
   clear_waiter_keeps a = record {
     column = λ t t' q c sums le _. grind (arith, q, c, a);
     cell = λ t q le c. grind (arith, q, c, a);
     others = λ t n m q c le d. grind (arith, q, c, d, a);
   }
 
-  pub need_checkpoint_keeps : Allowed kinds.need_checkpoint h.block fr l → Keeps_by kinds.need_checkpoint h (home_after kinds.need_checkpoint h) fr l
+  pub need_checkpoint_keeps : Allowed kinds.need_checkpoint h.block fr l → Keeps_by kinds.need_checkpoint h (pages_home_after kinds.need_checkpoint h) fr l
   need_checkpoint_keeps a = record {
     column = λ t t' q c sums le _. grind (arith, q, c, a);
     cell = λ t q le c. grind (arith, q, c, a);

@@ -46,8 +46,8 @@ entered p s = let tag = (s.pool.core.frame 0).tag in let end = s.end + record_si
   end = end;
 }
 
-abbrev raised : State → State
-raised s = record s { pool = aside s.pool 0 (has_raised s.end (view_of s)); flushed = max s.flushed s.end }
+abbrev state_raised : State → State
+state_raised s = record s { pool = aside s.pool 0 (has_raised s.end (view_of s)); flushed = max s.flushed s.end }
 
 abbrev pub loaded_by : ℕ → State → State
 loaded_by i s = record s { pool = aside s.pool i (looked (seen.Flushed s.flushed) (record (view_at i s) { flushed = s.flushed })) }
@@ -104,7 +104,7 @@ abbrev q16 : Page → State
 q16 p = at_log (log_back false) (q15 p)
 
 abbrev q17 : Page → State
-q17 p = raised (q16 p)
+q17 p = state_raised (q16 p)
 
 abbrev q18 : Page → State
 q18 p = at_log leave_log (q17 p)

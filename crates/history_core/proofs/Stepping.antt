@@ -51,7 +51,7 @@ use Rattle.history_core.proofs.Logs.{bytes_longer, bytes_length, cell_longer, cu
 use Rattle.history_core.proofs.Lanes.{lane_later}
 use Rattle.history_core.proofs.Forgetting.{forgets}
 use Rattle.history_core.proofs.Homes as homes
-use Rattle.history_core.proofs.Homes.{known, home_after, Keeps_by}
+use Rattle.history_core.proofs.Homes.{known, pages_home_after, Keeps_by}
 use Rattle.history_core.proofs.Pools.{SameHere, pool_aside, pool_touched}
 use Rattle.history_core.proofs.Beginning.{BegunHere, pool_begun, homes_begun}
 use Rattle.history_core.proofs.Outer.{Outer, outer_same, outer_grows, outer_joins, lanes_touched, wide_set}
@@ -215,8 +215,8 @@ module _ (s : State) (h : HistoryInvariant s) where
     pub logged_same : logged_after k s.pool.logged (frame f).tag ≡ s.pool.logged
     logged_same = λ j g. put_same s.pool.logged (frame f).tag (block_after k b).logged g (ap (λ (x : Block). x.logged) stays) j
 
-    pub blocks_touched : (w : View) → w.links ≡ set v.links f l → Keeps_by k (home_of s (frame f).tag) (home_after k (home_of s (frame f).tag)) (frame f) (link v f) → Blocks n (put frame f fr) (set views i w) s.origin s.log s.flushed (home_of s)
-    blocks_touched w e keeps = let is : home_after k (home_of s (frame f).tag) ≡ home_of s fr.tag = ap (λ (x : Block). record (home_of s (frame f).tag) { block = x }) stays ∙ ap (home_of s) (sym (tag_kept k b (frame f))) in record {
+    pub blocks_touched : (w : View) → w.links ≡ set v.links f l → Keeps_by k (home_of s (frame f).tag) (pages_home_after k (home_of s (frame f).tag)) (frame f) (link v f) → Blocks n (put frame f fr) (set views i w) s.origin s.log s.flushed (home_of s)
+    blocks_touched w e keeps = let is : pages_home_after k (home_of s (frame f).tag) ≡ home_of s fr.tag = ap (λ (x : Block). record (home_of s (frame f).tag) { block = x }) stays ∙ ap (home_of s) (sym (tag_kept k b (frame f))) in record {
       homes = touched i f v w fr l there live inside e (home_of s) (λ g below other. refl) (subst (λ (x : Home). Keeps home_shape known home_part (home_of s (frame f).tag) x tt tt (frame f) (link v f) fr l) is keeps);
       unframed = unframed_put (λ (t : ℕ). IsClean (home_of s t)) n frame f fr inside h.unframed (clean_at f inside) (λ goes. absurd (goes (tag_kept k b (frame f))));
       flushed_cells = h.flushed_cells;
@@ -587,7 +587,7 @@ module _ (s : State) (h : HistoryInvariant s) (i f : ℕ) (p : Page) (v : View) 
   block_else : (t : ℕ) → t ≢ tag_of → home_of entered t ≡ home_of s t
   block_else t other = let e : logged_after (make_entry p) s.pool.logged tag_of t ≡ s.pool.logged t = put_else s.pool.logged tag_of (Some p) t other in ap (λ (o : Option Page). record (home_of s t) { block = record { logged = o } }) e
 
-  block_here : home_of entered tag_of ≡ home_after (make_entry p) (home_of s tag_of)
+  block_here : home_of entered tag_of ≡ pages_home_after (make_entry p) (home_of s tag_of)
   block_here = let e : logged_after (make_entry p) s.pool.logged tag_of tag_of ≡ Some p = put_here s.pool.logged tag_of (Some p) in ap (λ (o : Option Page). record (home_of s tag_of) { block = record { logged = o } }) e
 
   logged_longer : (t : ℕ) → s.known t ≡ true → put s.pool.logged tag_of (Some p) t ≡ Some (cell s.origin (s.log.entries ++ entry ∷ []) t)

@@ -194,9 +194,9 @@ module _ {L G : Type 0} (contents : L → Option Pages) (m : Manager L G) (rel :
   }
 
   -- what was found of a block
-  abbrev read_of : PageRead → Page → ℕ → BlockRead
-  read_of Sound page front = copied page front
-  read_of Unsound page front = unsound
+  abbrev read_found : PageRead → Page → ℕ → BlockRead
+  read_found Sound page front = copied page front
+  read_found Unsound page front = unsound
 
   record ReadsOne (block : ℕ) (p q : PassState) (r : BlockRead) : Type 0 where
     pub stays : Stays contents m p q
@@ -206,7 +206,7 @@ module _ {L G : Type 0} (contents : L → Option Pages) (m : Manager L G) (rel :
     pub place : IsWithinFront q.view.front r
     pub met : q.view.met ≡ p.view.met
 
-  one_read : (block : ℕ) (p q : PassState) (found : PageRead) (page : Page) → HasNoTokens contents m p → CopiesOrFindsUnsound contents m (tag_of_parts rel fork block) page p q found → ReadsOne block p q (read_of found page q.view.front)
+  one_read : (block : ℕ) (p q : PassState) (found : PageRead) (page : Page) → HasNoTokens contents m p → CopiesOrFindsUnsound contents m (tag_of_parts rel fork block) page p q found → ReadsOne block p q (read_found found page q.view.front)
   one_read block p q Sound page free c = record {
     stays = c.stays;
     spent = c.spent;
@@ -217,18 +217,18 @@ module _ {L G : Type 0} (contents : L → Option Pages) (m : Manager L G) (rel :
   }
   one_read block p q Unsound page free c = record { stays = c.stays; spent = c.spent; calls = c.calls ∙ sym (append-nil p.view.calls); known = c.unsound; place = tt; met = c.met }
 
-  lines_of_one : (lines : Lines) (block : ℕ) (found : PageRead) (page : Page) (front : ℕ) → found_lines lines block found page ≡ reads_lines lines block (read_of found page front ∷ [])
+  lines_of_one : (lines : Lines) (block : ℕ) (found : PageRead) (page : Page) (front : ℕ) → found_lines lines block found page ≡ reads_lines lines block (read_found found page front ∷ [])
   lines_of_one lines block Sound page front = sym (append-nil (found_lines lines block Sound page))
   lines_of_one lines block Unsound page front = sym (append-nil (found_lines lines block Unsound page))
 
-  summary_of_one : (found : PageRead) (page : Page) (front : ℕ) → found_summary found page ≡ read_summary (read_of found page front)
+  summary_of_one : (found : PageRead) (page : Page) (front : ℕ) → found_summary found page ≡ read_summary (read_found found page front)
   summary_of_one Sound page front = refl
   summary_of_one Unsound page front = refl
 
   -- the block was read, and printed
   pub block_done : (lines : Lines) (block : ℕ) (p q : PassState) (found : PageRead) (page : Page) (text text' : List ℕ) (t u : ScanTotals) → HasNoTokens contents m p → CopiesOrFindsUnsound contents m (tag_of_parts rel fork block) page p q found
       → text' ≡ text ++ found_lines lines block found page → u ≡ counted t (found_summary found page) → IsWithin u u.blocks → DoesPart contents m rel fork lines block (block + 1) p q text text' t u (Ok tt)
-  block_done lines block p q found page text text' t u free reads line total within = let o = one_read block p q found page free reads in let r = read_of found page q.view.front in record {
+  block_done lines block p q found page text text' t u free reads line total within = let o = one_read block p q found page free reads in let r = read_found found page q.view.front in record {
     stays = o.stays;
     spent = o.spent;
     printed = r ∷ [];
@@ -247,7 +247,7 @@ module _ {L G : Type 0} (contents : L → Option Pages) (m : Manager L G) (rel :
   -- it was read, and there was no memory to print it
   pub block_short : (lines : Lines) (block : ℕ) (p q : PassState) (found : PageRead) (page : Page) (text text' : List ℕ) (t u : ScanTotals) → HasNoTokens contents m p → CopiesOrFindsUnsound contents m (tag_of_parts rel fork block) page p q found
       → text' ≡ text → u ≡ t → IsWithin t t.blocks → DoesPart contents m rel fork lines block (block + 1) p q text text' t u (Err Memory)
-  block_short lines block p q found page text text' t u free reads line total within = let o = one_read block p q found page free reads in let r = read_of found page q.view.front in record {
+  block_short lines block p q found page text text' t u free reads line total within = let o = one_read block p q found page free reads in let r = read_found found page q.view.front in record {
     stays = o.stays;
     spent = o.spent;
     printed = [];

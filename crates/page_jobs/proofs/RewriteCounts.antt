@@ -140,8 +140,8 @@ sum_add zero g h = refl
 sum_add (suc n) g h = omega (arith, sum_add n g h)
 
 -- g at the block of an outcome, and 0 elsewhere
-abbrev weigh : (ℕ → ℕ) → ℕ → Outcome → ℕ
-weigh g b o = cond (nat_eq (outcome_block o) b) (g b) 0
+abbrev weigh_block : (ℕ → ℕ) → ℕ → Outcome → ℕ
+weigh_block g b o = cond (nat_eq (outcome_block o) b) (g b) 0
 
 sum_none : (n a : ℕ) (g : ℕ → ℕ) → n ≤ a → sum_below n (λ b. cond (nat_eq a b) (g b) 0) ≡ 0
 unfolding sum_below
@@ -161,19 +161,19 @@ sum_zero zero = refl
 sum_zero (suc n) = omega (arith, sum_zero n)
 
 -- the sums over outcomes, block by block
-swapped : (n : ℕ) (g : ℕ → ℕ) (os : List Outcome) → ((k : ℕ) (o : Outcome) → get_elem? os k ≡ some o → outcome_block o < n) → total (λ (o : Outcome). g (outcome_block o)) os ≡ sum_below n (λ b. total (weigh g b) os)
+swapped : (n : ℕ) (g : ℕ → ℕ) (os : List Outcome) → ((k : ℕ) (o : Outcome) → get_elem? os k ≡ some o → outcome_block o < n) → total (λ (o : Outcome). g (outcome_block o)) os ≡ sum_below n (λ b. total (weigh_block g b) os)
 unfolding total
 swapped n g [] h = sym (sum_zero n)
-swapped n g (o ∷ os) h = let x = sum_one n (outcome_block o) g (h zero o refl) in let y = swapped n g os (λ k q t. h (suc k) q t) in let z = sum_add n (λ b. weigh g b o) (λ b. total (weigh g b) os) in omega arith
+swapped n g (o ∷ os) h = let x = sum_one n (outcome_block o) g (h zero o refl) in let y = swapped n g os (λ k q t. h (suc k) q t) in let z = sum_add n (λ b. weigh_block g b o) (λ b. total (weigh_block g b) os) in omega arith
 
-weighed_none : (g : ℕ → ℕ) (b : ℕ) (os : List Outcome) → times b os ≡ 0 → total (weigh g b) os ≡ 0
+weighed_none : (g : ℕ → ℕ) (b : ℕ) (os : List Outcome) → times b os ≡ 0 → total (weigh_block g b) os ≡ 0
 unfolding total
 weighed_none g b [] h = refl
 weighed_none g b (o ∷ os) h = dite (ℕ_discrete (outcome_block o) b)
     (λ e. let x = test_same (outcome_block o) b 1 0 e in absurd (omega arith))
     (λ n. let x = test_else (outcome_block o) b 1 0 n in let y = test_else (outcome_block o) b (g b) 0 n in let z = weighed_none g b os (omega arith) in omega arith)
 
-weighed_one : (g : ℕ → ℕ) (b : ℕ) (os : List Outcome) → times b os ≡ 1 → total (weigh g b) os ≡ g b
+weighed_one : (g : ℕ → ℕ) (b : ℕ) (os : List Outcome) → times b os ≡ 1 → total (weigh_block g b) os ≡ g b
 unfolding total
 weighed_one g b [] h = absurd (omega arith)
 weighed_one g b (o ∷ os) h = dite (ℕ_discrete (outcome_block o) b)
@@ -182,4 +182,4 @@ weighed_one g b (o ∷ os) h = dite (ℕ_discrete (outcome_block o) b)
 
 -- where each block below n is done once
 pub total_blocks : (n : ℕ) (g : ℕ → ℕ) (os : List Outcome) → ((k : ℕ) (o : Outcome) → get_elem? os k ≡ some o → outcome_block o < n) → ((b : ℕ) → b < n → times b os ≡ 1) → total (λ (o : Outcome). g (outcome_block o)) os ≡ sum_below n g
-total_blocks n g os below all = swapped n g os below ∙ sum_same n (λ b. total (weigh g b) os) g (λ b t. weighed_one g b os (all b t))
+total_blocks n g os below all = swapped n g os below ∙ sum_same n (λ b. total (weigh_block g b) os) g (λ b t. weighed_one g b os (all b t))

@@ -7,7 +7,7 @@ use Rattle.segment_store.specs.Contents.{Pages}
 use Rattle.segment_store.specs.Relation.{segment_pages, first_blocks}
 use Rattle.segment_store.specs.Restored.{given_back, pages_in, restored, with_pages}
 use Rattle.segment_store.proofs.GivenBack.{drop-pages_in, take-pages_in}
-use Rattle.segment_store.proofs.Segments.{counted, restored_none, splits}
+use Rattle.segment_store.proofs.Segments.{counted_blocks, restored_none, splits}
 
 -- the first segment and the others, where pages are put from a block on
 pub record PutsFirst (fork : Fork) (lanes : List (Option Pages)) (seg_blocks : ℕ) (bytes : List ℕ) (segments : List (List ℕ)) (first left count : ℕ) : Type 0 where
@@ -16,7 +16,7 @@ pub record PutsFirst (fork : Fork) (lanes : List (Option Pages)) (seg_blocks : �
   pub short : count < seg_blocks → restored seg_blocks (bytes ∷ segments) (pages_in fork lanes first (take left (segment_pages seg_blocks (bytes ∷ segments))))
       ≡ with_pages (pages_in fork lanes first (first_blocks bytes count)) bytes ∷ segments
 
-pub puts_first : (fork : Fork) (lanes : List (Option Pages)) (seg_blocks : ℕ) (bytes : List ℕ) (segments : List (List ℕ)) (first left count : ℕ) → count ≡ counted seg_blocks bytes left
+pub puts_first : (fork : Fork) (lanes : List (Option Pages)) (seg_blocks : ℕ) (bytes : List ℕ) (segments : List (List ℕ)) (first left count : ℕ) → count ≡ counted_blocks seg_blocks bytes left
     → PutsFirst fork lanes seg_blocks bytes segments first left count
 puts_first fork lanes seg_blocks bytes segments first left count is =
     let all = take left (segment_pages seg_blocks (bytes ∷ segments)) in
@@ -45,7 +45,7 @@ module _ (fork : Fork) (lanes : List (Option Pages)) (seg_blocks : ℕ) (old now
   pub record WritesNext : Type 0 where
     pub within : index < length now
     pub bytes_are : bytes ≡ get_or now index []
-    pub count_is : count ≡ counted seg_blocks bytes (2 ^ 32 - 1 - first)
+    pub count_is : count ≡ counted_blocks seg_blocks bytes (2 ^ 32 - 1 - first)
     pub written_is : written ≡ with_pages (pages_in fork lanes first (first_blocks bytes count)) bytes
 
   behind : WritesNext → IsUnderway fork lanes seg_blocks old now index first → drop (index + 1) now ≡ drop (index + 1) old

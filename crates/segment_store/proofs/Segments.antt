@@ -47,21 +47,21 @@ pub with_first : (bytes : List ℕ) (count : ℕ) → with_pages (first_blocks b
 with_first bytes count = ap (λ (n : ℕ). concat (first_blocks bytes count) ++ drop (8192 * n) bytes) (length-first bytes count) ∙ concat-first bytes count
 
 -- how many blocks of a segment are counted where so many are left
-abbrev pub counted : ℕ → List ℕ → ℕ → ℕ
-counted seg_blocks bytes left = min (min (length bytes / 8192) seg_blocks) left
+abbrev pub counted_blocks : ℕ → List ℕ → ℕ → ℕ
+counted_blocks seg_blocks bytes left = min (min (length bytes / 8192) seg_blocks) left
 
 -- the first segment's counted blocks, and the others'
 pub record Splits (seg_blocks : ℕ) (bytes : List ℕ) (segments : List (List ℕ)) (left : ℕ) : Type 0 where
-  pub prefix : take seg_blocks (take left (segment_pages seg_blocks (bytes ∷ segments))) ≡ first_blocks bytes (counted seg_blocks bytes left)
-  pub full : counted seg_blocks bytes left ≡ seg_blocks → drop seg_blocks (take left (segment_pages seg_blocks (bytes ∷ segments))) ≡ take (left - seg_blocks) (segment_pages seg_blocks segments)
-  pub short : counted seg_blocks bytes left < seg_blocks → drop seg_blocks (take left (segment_pages seg_blocks (bytes ∷ segments))) ≡ []
+  pub prefix : take seg_blocks (take left (segment_pages seg_blocks (bytes ∷ segments))) ≡ first_blocks bytes (counted_blocks seg_blocks bytes left)
+  pub full : counted_blocks seg_blocks bytes left ≡ seg_blocks → drop seg_blocks (take left (segment_pages seg_blocks (bytes ∷ segments))) ≡ take (left - seg_blocks) (segment_pages seg_blocks segments)
+  pub short : counted_blocks seg_blocks bytes left < seg_blocks → drop seg_blocks (take left (segment_pages seg_blocks (bytes ∷ segments))) ≡ []
 
 -- all blocks are the first ones of one segment
 splits_one : (seg_blocks : ℕ) (bytes : List ℕ) (segments : List (List ℕ)) (left count : ℕ) → take left (segment_pages seg_blocks (bytes ∷ segments)) ≡ first_blocks bytes count
-    → count ≡ counted seg_blocks bytes left → count < seg_blocks → Splits seg_blocks bytes segments left
+    → count ≡ counted_blocks seg_blocks bytes left → count < seg_blocks → Splits seg_blocks bytes segments left
 splits_one seg_blocks bytes segments left count all is below = record {
   prefix = ap (λ (l : List (List ℕ)). take seg_blocks l) all ∙ take-first bytes seg_blocks count
-      ∙ (let least : min seg_blocks count ≡ counted seg_blocks bytes left = omega arith in ap (λ (n : ℕ). first_blocks bytes n) least);
+      ∙ (let least : min seg_blocks count ≡ counted_blocks seg_blocks bytes left = omega arith in ap (λ (n : ℕ). first_blocks bytes n) least);
   full = λ e. absurd (omega arith);
   short = λ h. ap (λ (l : List (List ℕ)). drop seg_blocks l) all ∙ drop_all seg_blocks (first_blocks bytes count) (rw length-first (omega arith));
 }
@@ -69,7 +69,7 @@ splits_one seg_blocks bytes segments left count all is below = record {
 -- the first segment is full, and some blocks of others may follow
 splits_more : (seg_blocks : ℕ) (bytes : List ℕ) (segments : List (List ℕ)) (left : ℕ)
     → take left (segment_pages seg_blocks (bytes ∷ segments)) ≡ first_blocks bytes seg_blocks ++ take (left - seg_blocks) (segment_pages seg_blocks segments)
-    → counted seg_blocks bytes left ≡ seg_blocks → Splits seg_blocks bytes segments left
+    → counted_blocks seg_blocks bytes left ≡ seg_blocks → Splits seg_blocks bytes segments left
 splits_more seg_blocks bytes segments left all is =
     let firsts = first_blocks bytes seg_blocks in
     let others = take (left - seg_blocks) (segment_pages seg_blocks segments) in
@@ -77,7 +77,7 @@ splits_more seg_blocks bytes segments left all is =
     let fits : seg_blocks ≤ length firsts = omega arith in
     record {
       prefix = ap (λ (l : List (List ℕ)). take seg_blocks l) all ∙ take-append-le seg_blocks firsts others fits ∙ take-first bytes seg_blocks seg_blocks
-          ∙ (let least : min seg_blocks seg_blocks ≡ counted seg_blocks bytes left = omega arith in ap (λ (n : ℕ). first_blocks bytes n) least);
+          ∙ (let least : min seg_blocks seg_blocks ≡ counted_blocks seg_blocks bytes left = omega arith in ap (λ (n : ℕ). first_blocks bytes n) least);
       full = λ e. ap (λ (l : List (List ℕ)). drop seg_blocks l) all
           ∙ (let at : seg_blocks ≡ length firsts + 0 = omega arith in ap (λ (n : ℕ). drop n (firsts ++ others)) at) ∙ drop-append-add firsts others 0;
       short = λ h. absurd (omega arith);
@@ -120,8 +120,8 @@ restored_same seg_blocks (bytes ∷ segments) left =
     let split = splits seg_blocks bytes segments left in
     let all = take left (segment_pages seg_blocks (bytes ∷ segments)) in
     ap₂ (λ (l : List ℕ) (ls : List (List ℕ)). l ∷ ls)
-    (ap (λ (pages : List (List ℕ)). with_pages pages bytes) split.prefix ∙ with_first bytes (counted seg_blocks bytes left))
-    (elim (cases_lt (counted seg_blocks bytes left) seg_blocks) [
+    (ap (λ (pages : List (List ℕ)). with_pages pages bytes) split.prefix ∙ with_first bytes (counted_blocks seg_blocks bytes left))
+    (elim (cases_lt (counted_blocks seg_blocks bytes left) seg_blocks) [
       | inl below ↦ ap (λ (pages : List (List ℕ)). restored seg_blocks segments pages) (split.short below) ∙ restored_none seg_blocks segments
       | inr above ↦ ap (λ (pages : List (List ℕ)). restored seg_blocks segments pages) (split.full (omega arith)) ∙ restored_same seg_blocks segments (left - seg_blocks)
     ])

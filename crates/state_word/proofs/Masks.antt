@@ -25,8 +25,8 @@ bit-and : (place w m : ℕ) → bit place (bit_and w m) ≡ (bit place m && bit 
 bit-and place w m = ap (λ (n : ℕ). n == 1) (bit_at_and w m place) ∙ one_min (bit_at w place) (bit_at m place) (bit_at-lt w place) (bit_at-lt m place)
 
 -- a word with the flags of another set too
-abbrev joined : StateWord → StateWord → StateWord
-joined m s = record {
+abbrev or_words : StateWord → StateWord → StateWord
+or_words m s = record {
   pins = s.pins;
   usage = s.usage;
   locked = m.locked || s.locked;
@@ -68,10 +68,10 @@ module _ (w m : ℕ) (low : m % 2 ^ 22 ≡ 0) (high : m / 2 ^ 32 ≡ 0) where
   or_above : bit_or w m / 2 ^ 32 ≡ w / 2 ^ 32
   or_above = or_shr w m 32 ∙ ap (λ (n : ℕ). bit_or (w / 2 ^ 32) n) high ∙ or_zero_r (w / 2 ^ 32)
 
-  fields-or : fields (bit_or w m) ≡ joined (fields m) (fields w)
+  fields-or : fields (bit_or w m) ≡ or_words (fields m) (fields w)
   unfolding fields
   fields-or = let below = or_below in
-      same_record (fields (bit_or w m)) (joined (fields m) (fields w)) (omega arith) (omega arith) (bit-or 22 w m) (bit-or 23 w m) (bit-or 24 w m) (bit-or 25 w m) (bit-or 26 w m) (bit-or 27 w m) (bit-or 28 w m) (bit-or 29 w m) (bit-or 30 w m) (bit-or 31 w m) or_above
+      same_record (fields (bit_or w m)) (or_words (fields m) (fields w)) (omega arith) (omega arith) (bit-or 22 w m) (bit-or 23 w m) (bit-or 24 w m) (bit-or 25 w m) (bit-or 26 w m) (bit-or 27 w m) (bit-or 28 w m) (bit-or 29 w m) (bit-or 30 w m) (bit-or 31 w m) or_above
 
 -- `&` with a mask that has all bits but flags leaves them too
 module _ (w m : ℕ) (low : m % 2 ^ 22 ≡ 2 ^ 22 - 1) (high : m / 2 ^ 32 ≡ 2 ^ 32 - 1) (fits : w < 2 ^ 64) where

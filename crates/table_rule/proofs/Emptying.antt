@@ -167,15 +167,15 @@ module _ {L G : Type 0} where
   list_in l (value.Lanes v) = v
   list_in l _ = l
 
-  abbrev log_in : NotedLog G → Value L G → NotedLog G
-  log_in g (value.Log h) = h
-  log_in g _ = g
+  abbrev noted_log_in : NotedLog G → Value L G → NotedLog G
+  noted_log_in g (value.Log h) = h
+  noted_log_in g _ = g
 
   pub list_room : (list l : Vec L Global) (xs : List (Value L G)) (y : Value L G) → y ≡ value.Lanes list → y ≡ value.Lanes l → list.items ≡ [] → length (lanes_among xs) ≤ vec_capacity list → (l.items ≡ []) × (length (lanes_among xs) ≤ vec_capacity l)
   list_room list l xs y a b none room = let same : list ≡ l = ap (list_in list) (sym a ∙ b) in (subst (λ (v : Vec L Global). v.items ≡ []) same none, subst (λ (v : Vec L Global). length (lanes_among xs) ≤ vec_capacity v) same room)
 
   pub log_same : (g h : NotedLog G) (y : Value L G) → y ≡ value.Log g → y ≡ value.Log h → h.device ≡ g.device
-  log_same g h y a b = ap (λ (x : NotedLog G). x.device) (ap (log_in g) (sym b ∙ a))
+  log_same g h y a b = ap (λ (x : NotedLog G). x.device) (ap (noted_log_in g) (sym b ∙ a))
 
   -- once none are left
   pub all_left : (xs : List (Value L G)) (filled : List Bool) (i : ℕ) (lanes : List L) → Left xs filled i lanes → i ≡ 0 → reverse lanes ≡ lanes_among xs

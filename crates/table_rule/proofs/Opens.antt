@@ -139,13 +139,13 @@ given_some None h = absurd (let no : false ≡ true = h in cc)
 given_some (Some p) h = refl
 
 module _ {L G : Type 0} (d : Devices L G) (relations : List RelEntry) (lanes : List L) (g : G) (base : ℕ) where
-  abbrev page_in : slot.Option L → Tag → Page
-  page_in none tag = zero_page
-  page_in (some l) tag = known_page (d.contents l) tag
+  abbrev page_in_slot : slot.Option L → Tag → Page
+  page_in_slot none tag = zero_page
+  page_in_slot (some l) tag = known_page (d.contents l) tag
 
   abbrev origin_of : Option Tag → Page
   origin_of None = zero_page
-  origin_of (Some tag) = page_in (get_elem? lanes (lane_number tag (length lanes))) tag
+  origin_of (Some tag) = page_in_slot (get_elem? lanes (lane_number tag (length lanes))) tag
 
   abbrev known_in : slot.Option L → Bool
   known_in none = false
@@ -156,7 +156,7 @@ module _ {L G : Type 0} (d : Devices L G) (relations : List RelEntry) (lanes : L
   faults_in faults (some l) = faults l
 
   origin_is : AreLanes d relations lanes → (q : ℕ) (l : L) (known : Pages) (word : ℕ) (tag : Tag) → get_elem? lanes q ≡ some l → d.contents l ≡ Some known → IsPlaced relations (length lanes) q word tag → known tag ≡ Some (origin_of (unpacked_tag word))
-  origin_is are q l known word tag at told h = given_some (known tag) (are.held q l known word tag at told h) ∙ ap (λ (p : Page). Some p) (sym (ap origin_of h.named ∙ ap (λ (x : slot.Option L). page_in x tag) (ap (get_elem? lanes) h.placed ∙ at) ∙ ap (λ (c : Option Pages). known_page c tag) told))
+  origin_is are q l known word tag at told h = given_some (known tag) (are.held q l known word tag at told h) ∙ ap (λ (p : Page). Some p) (sym (ap origin_of h.named ∙ ap (λ (x : slot.Option L). page_in_slot x tag) (ap (get_elem? lanes) h.placed ∙ at) ∙ ap (λ (c : Option Pages). known_page c tag) told))
 
   abbrev store_of : Store
   store_of = record {
@@ -371,8 +371,8 @@ module _ {L G : Type 0} (n : ℕ) (lanes : List L) (log : G) (ys : List (Value L
   lanes_are xs e = sym (lanes_before xs before_log (home_log h.room log) h.list (e ∙ h.is)) ∙ lanes_there
 
   pub log_is : (xs : List (Value L G)) (g : NotedLog G) (list : Vec L Global) → xs ≡ ys → EndsWith g list xs → g.device ≡ log
-  log_is xs g list e ends = ap log_in (snoc_same ends.others before_log (value.Log g) (value.Log (home_log h.room log)) (snoc_same (ends.others ++ value.Log g ∷ []) (before_log ++ value.Log (home_log h.room log) ∷ []) (value.Lanes list) (value.Lanes h.list) (sym ends.is ∙ e ∙ h.is)).0).1
+  log_is xs g list e ends = ap device_of_value (snoc_same ends.others before_log (value.Log g) (value.Log (home_log h.room log)) (snoc_same (ends.others ++ value.Log g ∷ []) (before_log ++ value.Log (home_log h.room log) ∷ []) (value.Lanes list) (value.Lanes h.list) (sym ends.is ∙ e ∙ h.is)).0).1
     where
-      log_in : Value L G → G
-      log_in (value.Log x) = x.device
-      log_in _ = log
+      device_of_value : Value L G → G
+      device_of_value (value.Log x) = x.device
+      device_of_value _ = log

@@ -100,14 +100,14 @@ found_view lsn end v w u free = let none = free_log v u.opens.held u.opens.takes
     looked_as v w big (around end (FindsFlushed lsn end) v w u (after_look s.found) s.did.after) (λ i. record big { log = opened_left v none i })
 
 -- and raised to the log's end
-abbrev raised : View → View
-raised v = view_of raise_flushed 0 v
+abbrev raised_view : View → View
+raised_view v = view_of raise_flushed 0 v
 
 once_synced : (lsn end : ℕ) (v w : View) → UnderLatch end (StillUnflushed lsn end SyncsLog) v w → v.log.held ≡ false → w ≡ as_looked (flushed_view OneSync v) w
 once_synced lsn end v w u free = let none = free_log v u.opens.held u.opens.takes free in let a = u.work in let b = a.work in
-    let done : View → View = λ x. raised (quiet (log_back false) (counting sync_log (x.device_calls ++ LogSync true ∷ []) x.met x.saw_down (quiet (log_out b.went.taken) x))) in
+    let done : View → View = λ x. raised_view (quiet (log_back false) (counting sync_log (x.device_calls ++ LogSync true ∷ []) x.met x.saw_down (quiet (log_out b.went.taken) x))) in
     let big : View = quiet leave_log (done (after_look a.second.found (opened end v))) in
-    looked_as (flushed_view OneSync v) w big (around end (StillUnflushed lsn end SyncsLog) v w u (λ x. done (after_look a.second.found x)) (b.raises.after ∙ ap raised (after_sync a.looked b.out b.went b.home b.syncs) ∙ ap done a.second.did.after)) (λ i. record big { log = (left_hold v v.log.appended none refl) i })
+    looked_as (flushed_view OneSync v) w big (around end (StillUnflushed lsn end SyncsLog) v w u (λ x. done (after_look a.second.found x)) (b.raises.after ∙ ap raised_view (after_sync a.looked b.out b.went b.home b.syncs) ∙ ap done a.second.did.after)) (λ i. record big { log = (left_hold v v.log.appended none refl) i })
 
 unsynced : (lsn end : ℕ) (why : FlushLog) (v w : View) → UnderLatch end (HolderRefused lsn end why) v w → v.log.held ≡ false → w ≡ as_looked (unflushed_view why v) w
 unsynced lsn end (flush_log.LogShort l at) v w u free = let none = free_log v u.opens.held u.opens.takes free in
