@@ -7,7 +7,7 @@ use Rattle.block_tag.specs.Names.{partition_number}
 use Rattle.pin_core.specs.declared.view.PartitionHold.{PartitionHold}
 use Rattle.pin_core.specs.declared.view.MapEntry.{MapEntry}
 use Rattle.pin_core.specs.declared.view.MapChange.{MapChange}
-use Rattle.pin_core.specs.declared.view.MapChange.TheVariants.{NoChange}
+use Rattle.pin_core.specs.declared.view.MapChange.TheVariants.{Stable}
 use Rattle.pin_core.specs.declared.view.Link.{Link}
 use Rattle.pin_core.specs.declared.view.View.{View}
 use Rattle.pin_core.specs.State.{hold, link, no_partition}
@@ -32,7 +32,7 @@ latch_left p v w l turned q = dite (ℕ_discrete q p)
     (λ e. subst (λ (x : ℕ). hold w x ≡ no_partition) (sym e) (turned.0 ∙ left (hold v p) l.home l.no_change))
     (λ n. turned.1 q n ∙ l.others q n)
   where
-    left : (h : PartitionHold) → h.out ≡ None → h.change ≡ NoChange → held_part false h ≡ no_partition
+    left : (h : PartitionHold) → h.out ≡ None → h.change ≡ Stable → held_part false h ≡ no_partition
     left h home no_change = cc
 
 pub latch_left_as : (p q : ℕ) (v w : View) → p ≡ q → HasOneLatch q v → IsTurned false (Partition p) v w → HasNoLatch w
@@ -48,12 +48,12 @@ latch_changed p change entries v u x y w locked names after step l = record {
 }
 
 -- what the holder of the latch may name
-pub may_change : (p : ℕ) (v w : View) → w.partitions ≡ v.partitions → HasOneLatch p v → HoldsLatch NoChange v p → MayChange w p
+pub may_change : (p : ℕ) (v w : View) → w.partitions ≡ v.partitions → HasOneLatch p v → HoldsLatch Stable v p → MayChange w p
 may_change p v w e l h = record {
   held = ap (λ (x : PartitionHold). x.held) (same_hold v w e p) ∙ l.held;
   unchanged = ap (λ (x : PartitionHold). x.changed) (same_hold v w e p) ∙ h.unchanged;
   no_change = λ q. dite (ℕ_discrete q p)
-      (λ same. subst (λ (x : ℕ). (hold w x).change ≡ NoChange) (sym same) (ap (λ (x : PartitionHold). x.change) (same_hold v w e p) ∙ l.no_change))
+      (λ same. subst (λ (x : ℕ). (hold w x).change ≡ Stable) (sym same) (ap (λ (x : PartitionHold). x.change) (same_hold v w e p) ∙ l.no_change))
       (λ n. ap (λ (x : PartitionHold). x.change) (same_hold v w e q ∙ l.others q n));
 }
 
@@ -61,8 +61,8 @@ pub holds_same : (c : MapChange) (p : ℕ) (v w : View) → w.partitions ≡ v.p
 holds_same c p v w e h = let at = same_hold v w e p in record { held = ap (λ (x : PartitionHold). x.held) at ∙ h.held; home = ap (λ (x : PartitionHold). x.out) at ∙ h.home; unchanged = ap (λ (x : PartitionHold). x.changed) at ∙ h.unchanged; named = ap (λ (x : PartitionHold). x.change) at ∙ h.named }
 
 -- the pair that was named is named still
-pub holds_named : (p : ℕ) (change : MapChange) (v u x y : View) → u.partitions ≡ v.partitions → NamesIn p change u x → y.partitions ≡ x.partitions → HoldsLatch NoChange v p → HoldsLatch change y p
-holds_named p change v u x y locked names after h = let was = holds_same NoChange p v u locked h in holds_same change p x y after record {
+pub holds_named : (p : ℕ) (change : MapChange) (v u x y : View) → u.partitions ≡ v.partitions → NamesIn p change u x → y.partitions ≡ x.partitions → HoldsLatch Stable v p → HoldsLatch change y p
+holds_named p change v u x y locked names after h = let was = holds_same Stable p v u locked h in holds_same change p x y after record {
   held = ap (λ (x : PartitionHold). x.held) names.here ∙ was.held;
   home = ap (λ (x : PartitionHold). x.out) names.here ∙ was.home;
   unchanged = ap (λ (x : PartitionHold). x.changed) names.here ∙ was.unchanged;

@@ -2,7 +2,7 @@
 ghost use Rattle.std.specs.Prelude.{◌≡◌, ◌<◌, ℕ, true, IfNone, IfSome};
 ghost use Rattle.std.specs.Bool.{OnFalse, OnTrue};
 ghost use Rattle.block_tag.specs.Names.{names_block, packed_tag, partition_number};
-ghost use Rattle.pin_core.specs.declared.view.MapChange.TheVariants.{NoChange};
+ghost use Rattle.pin_core.specs.declared.view.MapChange.TheVariants.{Stable};
 ghost use Rattle.table_rule.specs.Blocks.{has_block};
 ghost use Rattle.pin_core.specs.State.{link};
 ghost use Rattle.frame_table.specs.Seats.{Finds, Grows, Lacks, RemembersNoOther, SameSeat, frames_of, relations_of};
@@ -38,7 +38,7 @@ fn store_latched<L: BlockLane, G: LogDevice, R: Wait>(
 ) -> bool
     requires stands { Stands table.now seat.old }
     requires latch { HasOneLatch (partition_number tag) seat.old.me.0 }
-    requires holds { HoldsLatch NoChange seat.old.me.0 (partition_number tag) }
+    requires holds { HoldsLatch Stable seat.old.me.0 (partition_number tag) }
     requires victim { HasVictim frame _held.now seat.old.me.0 }
     requires inside { frame < frames_of table.now }
     requires tag { names_block tag ≡ true }
@@ -137,7 +137,7 @@ fn enter_latched<L: BlockLane, G: LogDevice, R: Wait>(
 ) -> Option<Pin>
     requires stands { Stands table.now seat.old }
     requires latch { HasOneLatch (partition_number tag) seat.old.me.0 }
-    requires holds { HoldsLatch NoChange seat.old.me.0 (partition_number tag) }
+    requires holds { HoldsLatch Stable seat.old.me.0 (partition_number tag) }
     requires victim { HasVictim victim.frame held.now seat.old.me.0 }
     requires inside { victim.frame < frames_of table.now }
     requires tag { names_block tag ≡ true }

@@ -1,7 +1,7 @@
 //! A victim loses its tag.
 ghost use Rattle.std.specs.Prelude.{◌≡◌, ◌<◌, Some, true};
 ghost use Rattle.block_tag.specs.Names.{names_block, packed_tag, partition_number};
-ghost use Rattle.pin_core.specs.declared.view.MapChange.TheVariants.{NoChange};
+ghost use Rattle.pin_core.specs.declared.view.MapChange.TheVariants.{Stable};
 ghost use Rattle.pin_core.specs.State.{link};
 ghost use Rattle.frame_table.specs.Seats.{Grows, SameSeat, frames_of};
 ghost use Rattle.map_partitions.specs.Partition.{HoldsLatch};
@@ -31,7 +31,7 @@ fn erase_latched<L: BlockLane, G: LogDevice, R: Wait>(
 ) -> bool
     requires stands { Stands table.now seat.old }
     requires latch { HasOneLatch (partition_number tag.now) seat.old.me.0 }
-    requires holds { HoldsLatch NoChange seat.old.me.0 (partition_number tag.now) }
+    requires holds { HoldsLatch Stable seat.old.me.0 (partition_number tag.now) }
     requires victim { HasVictim frame _held.now seat.old.me.0 }
     requires inside { frame < frames_of table.now }
     requires tag { names_block tag.now ≡ true }

@@ -1,7 +1,7 @@
 //! A block is looked up.
 ghost use Rattle.std.specs.Prelude.{◌≡◌, ◌<◌, true, IfSome, IfNone, MatchOption};
 ghost use Rattle.block_tag.specs.Names.{names_block, packed_tag, partition_number};
-ghost use Rattle.pin_core.specs.declared.view.MapChange.TheVariants.{NoChange};
+ghost use Rattle.pin_core.specs.declared.view.MapChange.TheVariants.{Stable};
 ghost use Rattle.pin_core.specs.State.{link};
 ghost use Rattle.pin_core.specs.Kinds as kinds;
 ghost use Rattle.frame_table.specs.Kinds.{pins};
@@ -66,7 +66,7 @@ pub(crate) fn pin_mapped<L: BlockLane, G: LogDevice, R: Wait>(
     requires stands { Stands table.now seat.old }
     requires rests { LinksRest held.now seat.old.me.0 }
     requires latch { HasOneLatch (partition_number tag) seat.old.me.0 }
-    requires holds { HoldsLatch NoChange seat.old.me.0 (partition_number tag) }
+    requires holds { HoldsLatch Stable seat.old.me.0 (partition_number tag) }
     requires tag { names_block tag ≡ true }
     requires new { IsNew tag held.now }
     ensures seat { SameSeat seat.old seat.new }

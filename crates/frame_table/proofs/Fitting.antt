@@ -12,7 +12,7 @@ use lib.ListN.{get_elem?}
 use Rattle.pin_core.specs.declared.view.View.{View}
 use Rattle.pin_core.specs.declared.view.MapEntry.{MapEntry}
 use Rattle.pin_core.specs.declared.view.MapChange.{MapChange}
-use Rattle.pin_core.specs.declared.view.MapChange.TheVariants.{NoChange, Entering, Leaving}
+use Rattle.pin_core.specs.declared.view.MapChange.TheVariants.{Stable, Entering, Leaving}
 use Rattle.pin_core.specs.State.{hold}
 use Rattle.pin_core.specs.Turns.{found, owed_by}
 use Rattle.pin_core.specs.Maps.{IsPair, OwedLaw, PairLaw}
@@ -98,7 +98,7 @@ module _ (s : State) (id p : ℕ) (v : View) (laws : Laws s) (there : get_elem? 
   has_named entries is = of_change (hold v p).change refl
     where
       of_change : (c : MapChange) → (hold v p).change ≡ c → HasNamed c entries
-      of_change NoChange e = tt
+      of_change Stable e = tt
       of_change (Entering tag f) e = let pair = subst (OwedLaw s.pool.core.frames s.pool.core.partition_of p) e named in ap (λ (m : ℕ → Option ℕ). m tag) is ∙ ((pair_law tag f pair).entering e).1
       of_change (Leaving tag f) e = let pair = subst (OwedLaw s.pool.core.frames s.pool.core.partition_of p) e named in ap (λ (m : ℕ → Option ℕ). m tag) is ∙ ((pair_law tag f pair).leaving e).1
 

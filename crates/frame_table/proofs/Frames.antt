@@ -14,7 +14,7 @@ use Rattle.pin_core.specs.declared.view.PartitionHold.{PartitionHold}
 use Rattle.pin_core.specs.declared.view.LaneHold.{LaneHold}
 use Rattle.pin_core.specs.declared.view.LogHold.{LogHold}
 use Rattle.pin_core.specs.declared.view.MapChange.{MapChange}
-use Rattle.pin_core.specs.declared.view.MapChange.TheVariants.{NoChange, Entering, Leaving}
+use Rattle.pin_core.specs.declared.view.MapChange.TheVariants.{Stable, Entering, Leaving}
 use Rattle.pin_core.specs.declared.view.View.{View}
 use Rattle.pin_core.specs.State.{Frame, Partition, Page, link, hold, idle, no_partition, no_lane}
 use Rattle.pin_core.specs.Kinds.{partitions_owing, holds_naming}
@@ -82,12 +82,12 @@ put_keeps g h f x k e = dite (ℕ_discrete k f) (λ is. ap g (put_at h f x k is)
 
 -- naming a pair leaves a partition's latch and its map, and what is out
 owing_same : {B : Type 0} (g : Partition → B) (c : MapChange) (partition_of : ℕ → ℕ) (parts : ℕ → Partition) (p : ℕ) → ((x : Partition) (d : MapChange) → g (record x { owed = d }) ≡ g x) → g (partitions_owing c partition_of parts p) ≡ g (parts p)
-owing_same g NoChange partition_of parts p e = refl
+owing_same g Stable partition_of parts p e = refl
 owing_same g (Entering tag f) partition_of parts p e = put_keeps g parts (partition_of tag) (record (parts (partition_of tag)) { owed = Entering tag f }) p (e (parts (partition_of tag)) (Entering tag f))
 owing_same g (Leaving tag f) partition_of parts p e = put_keeps g parts (partition_of tag) (record (parts (partition_of tag)) { owed = Leaving tag f }) p (e (parts (partition_of tag)) (Leaving tag f))
 
 naming_out : (c : MapChange) (partition_of : ℕ → ℕ) (v : View) (p : ℕ) → (hold (record v { partitions = holds_naming c partition_of v }) p).out ≡ (hold v p).out
-naming_out NoChange partition_of v p = refl
+naming_out Stable partition_of v p = refl
 naming_out (Entering tag f) partition_of v p = same_at (λ (h : PartitionHold). h.out) v.partitions (partition_of tag) p (record (hold v (partition_of tag)) { change = Entering tag f }) no_partition refl
 naming_out (Leaving tag f) partition_of v p = same_at (λ (h : PartitionHold). h.out) v.partitions (partition_of tag) p (record (hold v (partition_of tag)) { change = Leaving tag f }) no_partition refl
 

@@ -19,7 +19,7 @@ use Rattle.pin_core.specs.declared.view.View.{View}
 use Rattle.pin_core.specs.declared.view.Link.{Link}
 use Rattle.pin_core.specs.declared.view.MapEntry.{MapEntry}
 use Rattle.pin_core.specs.declared.view.MapChange.{MapChange}
-use Rattle.pin_core.specs.declared.view.MapChange.TheVariants.{NoChange, Entering, Leaving}
+use Rattle.pin_core.specs.declared.view.MapChange.TheVariants.{Stable, Entering, Leaving}
 use Rattle.pin_core.specs.declared.view.PartitionHold.{PartitionHold}
 use Rattle.pin_core.specs.declared.view.Role.TheVariants.{Absent, Victim}
 use Rattle.pin_core.specs.State.{Frame, link, hold, idle, no_partition, no_tag, is_tag}
@@ -170,7 +170,7 @@ module _ {L G : Type 0} (d : Devices L G) (o : Opening L G) where
     allowed = record { unlocked = ap (λ (w : StateWord). w.locked) is ∙ unlocked; absent = absent };
     around = record {
       held = subst (λ (p : ℕ). (hold me.0 p).held ≡ true) at finds.held;
-      no_change = subst (λ (p : ℕ). (hold me.0 p).change ≡ NoChange) at finds.no_change;
+      no_change = subst (λ (p : ℕ). (hold me.0 p).change ≡ Stable) at finds.no_change;
       given = subst (λ (p : ℕ). (s.pool.core.partition p).map tag ≡ Some f) at (map_there s id me.0 tag (Some f) spread laws there finds.home finds.seen finds.finds);
     };
     word = ap (pinned_fields ring) is ∙ sym made;
@@ -237,15 +237,15 @@ assigned_after f word v w d = subst (λ (m : Link). m ≡ assigned_link m.tag (l
 entering_there : (s : State) (id f p tag : ℕ) (v : View) → Laws s → get_elem? s.pool.core.views id ≡ some v → v.emptied ≡ false → f < s.pool.core.frames → (hold v p).change ≡ Entering tag f → (hold v p).changed ≡ false → (s.pool.core.frame f).tag ≡ tag
 entering_there s id f p tag v laws there live inside enters unchanged = dite (dec_lt p (length v.partitions))
     (λ low. let in_range : p < s.pool.core.partitions = (let w = (laws.invariant.pool.core.views.wide id v there live).1 in omega arith) in let law = laws.invariant.pool.core.turns.cells id v p there in_range in of_held law.owed law.resting in_range (hold v p).held refl)
-    (λ high. let none : (hold v p).change ≡ NoChange = ap (λ (h : PartitionHold). h.change) (get_or_past v.partitions p no_partition (omega arith)) in let no : Entering tag f ≡ NoChange = sym enters ∙ none in absurd (cc))
+    (λ high. let none : (hold v p).change ≡ Stable = ap (λ (h : PartitionHold). h.change) (get_or_past v.partitions p no_partition (omega arith)) in let no : Entering tag f ≡ Stable = sym enters ∙ none in absurd (cc))
   where
     of_owed : p < s.pool.core.partitions → (s.pool.core.partition p).owed ≡ Entering tag f → (s.pool.core.frame f).tag ≡ tag
     of_owed low owed = let maps = laws.invariant.pool.core.maps in let pair = subst (OwedLaw s.pool.core.frames s.pool.core.partition_of p) owed (maps.changing p) in
         ((maps.pairs tag f pair.named inside).entering (ap (λ (q : ℕ). (s.pool.core.partition q).owed) pair.placed ∙ owed)).0
 
-    of_held : ((hold v p).held ≡ true → owed_by (hold v p).changed (hold v p).change ≡ (s.pool.core.partition p).owed) → ((hold v p).held ≡ false → ((hold v p).out ≡ None) × ((hold v p).change ≡ NoChange) × ((hold v p).changed ≡ false)) → p < s.pool.core.partitions → (b : Bool) → (hold v p).held ≡ b → (s.pool.core.frame f).tag ≡ tag
+    of_held : ((hold v p).held ≡ true → owed_by (hold v p).changed (hold v p).change ≡ (s.pool.core.partition p).owed) → ((hold v p).held ≡ false → ((hold v p).out ≡ None) × ((hold v p).change ≡ Stable) × ((hold v p).changed ≡ false)) → p < s.pool.core.partitions → (b : Bool) → (hold v p).held ≡ b → (s.pool.core.frame f).tag ≡ tag
     of_held owed resting low true e = of_owed low (sym (owed e) ∙ ap (λ (c : Bool). owed_by c (hold v p).change) unchanged ∙ enters)
-    of_held owed resting low false e = let no : Entering tag f ≡ NoChange = sym enters ∙ (resting e).1 in absurd (cc)
+    of_held owed resting low false e = let no : Entering tag f ≡ Stable = sym enters ∙ (resting e).1 in absurd (cc)
 
 pub assigned_tag : (f word : ℕ) (v w : View) → Did (pins pin.assign) f v w word → (p tag : ℕ) → (hold v p).change ≡ Entering tag f → (hold v p).changed ≡ false → (link w f).tag ≡ Some tag
 assigned_tag f word v w d p tag enters unchanged = ap (λ (l : Link). l.tag) (link_is (pins pin.assign) f word v w d) ∙ ap (λ (t : ℕ). Some t) (entering_there d.state d.seat f p tag v d.laws d.there d.live d.inside enters unchanged)

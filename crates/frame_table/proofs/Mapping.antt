@@ -11,7 +11,7 @@ use Rattle.atomic_table.specs.Table as table
 use Rattle.pin_core.specs.declared.view.View.{View}
 use Rattle.pin_core.specs.declared.view.MapEntry.{MapEntry}
 use Rattle.pin_core.specs.declared.view.MapChange.{MapChange}
-use Rattle.pin_core.specs.declared.view.MapChange.TheVariants.{NoChange, Entering, Leaving}
+use Rattle.pin_core.specs.declared.view.MapChange.TheVariants.{Stable, Entering, Leaving}
 use Rattle.pin_core.specs.declared.view.PartitionHold.{PartitionHold}
 use Rattle.pin_core.specs.State.{hold, no_partition}
 use Rattle.pin_core.specs.State as pool
@@ -204,13 +204,13 @@ module _ {L G : Type 0} (d : Devices L G) (o : Opening L G) where
       u_is : hold (view_mapped parts.change_map p me.0) p ≡ record (hold me.0 p) { changed = true; seen = None }
       u_is = get_or-set_same me.0.partitions p (parts.hold_after parts.change_map (hold me.0 p)) no_partition in_view
 
-      record_of : (hold me.0 p).change ≢ NoChange → parts.TurnAllowed parts.change_map (h.state.pool.core.partition p) (hold me.0 p)
+      record_of : (hold me.0 p).change ≢ Stable → parts.TurnAllowed parts.change_map (h.state.pool.core.partition p) (hold me.0 p)
       record_of named = record { out = may.out; unchanged = may.unchanged; named = named }
 
-      changed_step : (hold me.0 p).change ≢ NoChange → DidMap parts.change_map p me.0 (view_mapped parts.change_map p me.0)
+      changed_step : (hold me.0 p).change ≢ Stable → DidMap parts.change_map p me.0 (view_mapped parts.change_map p me.0)
       changed_step named = record { state = h.state; laws = h.laws; spread = h.shows.fixed.partition_of; seat = id; there = here; live = live; inside = low; allowed = record_of named; after = refl }
 
-      changed_laws : (hold me.0 p).change ≢ NoChange → Laws (mapped parts.change_map h.state id p me.0)
+      changed_laws : (hold me.0 p).change ≢ Stable → Laws (mapped parts.change_map h.state id p me.0)
       changed_laws named = laws_kept (map_step parts.change_map h.state id p me.0 here live low (record_of named)) h.laws
 
       changed_shows : Shows d o record { words = t.words; homes = t.homes; views = set t.views id (view_mapped parts.change_map p me.0) } (mapped parts.change_map h.state id p me.0)
@@ -225,13 +225,13 @@ module _ {L G : Type 0} (d : Devices L G) (o : Opening L G) where
       can_return : parts.TurnAllowed (parts.map_back entries) ((mapped parts.change_map h.state id p me.0).pool.core.partition p) (hold (view_mapped parts.change_map p me.0) p)
       can_return = record { out = λ e. may.out (sym (ap (λ (x : PartitionHold). x.out) u_is) ∙ e); entries_are = changed_map }
 
-      back_step : (hold me.0 p).change ≢ NoChange → DidMap (parts.map_back entries) p (view_mapped parts.change_map p me.0) (view_mapped (parts.map_back entries) p (view_mapped parts.change_map p me.0))
+      back_step : (hold me.0 p).change ≢ Stable → DidMap (parts.map_back entries) p (view_mapped parts.change_map p me.0) (view_mapped (parts.map_back entries) p (view_mapped parts.change_map p me.0))
       back_step named = record { state = mapped parts.change_map h.state id p me.0; laws = changed_laws named; spread = h.shows.fixed.partition_of; seat = id; there = changed_here; live = live; inside = low; allowed = can_return; after = refl }
 
       abbrev_words : set t.words (latch_place o.config.frames (Partition p)) (get_or t.words (latch_place o.config.frames (Partition p)) 0) ≡ t.words
       abbrev_words = set-get_or t.words (latch_place o.config.frames (Partition p)) 0
 
-      held_changed : (hold me.0 p).change ≢ NoChange → RuleHolds d o (stepped t (latch_place o.config.frames (Partition p)) (get_or t.words (latch_place o.config.frames (Partition p)) 0) id me.1 (view_mapped (parts.map_back entries) p (view_mapped parts.change_map p me.0)) gives)
+      held_changed : (hold me.0 p).change ≢ Stable → RuleHolds d o (stepped t (latch_place o.config.frames (Partition p)) (get_or t.words (latch_place o.config.frames (Partition p)) 0) id me.1 (view_mapped (parts.map_back entries) p (view_mapped parts.change_map p me.0)) gives)
       held_changed named = subst (λ (x : List (ℕ × Value L G)). RuleHolds d o (stepped t (latch_place o.config.frames (Partition p)) (get_or t.words (latch_place o.config.frames (Partition p)) 0) id x (view_mapped (parts.map_back entries) p (view_mapped parts.change_map p me.0)) gives)) (sym hand) record {
         state = mapped (parts.map_back entries) (mapped parts.change_map h.state id p me.0) id p (view_mapped parts.change_map p me.0);
         shows = subst (λ (l : List View). Shows d o record { words = set t.words (latch_place o.config.frames (Partition p)) (get_or t.words (latch_place o.config.frames (Partition p)) 0); homes = set t.homes (o.config.frames + p) (some y); views = l } (mapped (parts.map_back entries) (mapped parts.change_map h.state id p me.0) id p (view_mapped parts.change_map p me.0)))
@@ -244,7 +244,7 @@ module _ {L G : Type 0} (d : Devices L G) (o : Opening L G) where
       of_change : (c : MapChange) → (hold me.0 p).change ≡ c
           → (w : View) × (a : table.Act (Value L G)) × table.Valid t.homes me.1 a × RuleHolds d o (stepped t (latch_place o.config.frames (Partition p)) (get_or t.words (latch_place o.config.frames (Partition p)) 0) id me.1 w a)
           × map_came p entries (step slots (latch_place o.config.frames (Partition p)) 0 0 none) me (get_or t.words (latch_place o.config.frames (Partition p)) 0) (w, table.carried_after me.1 a)
-      of_change NoChange e = let same : found entries ≡ (h.state.pool.core.partition p).map = map_is ∙ ap (λ (c : MapChange). map_after c (h.state.pool.core.partition p).map) e in
+      of_change Stable e = let same : found entries ≡ (h.state.pool.core.partition p).map = map_is ∙ ap (λ (c : MapChange). map_after c (h.state.pool.core.partition p).map) e in
           let a : parts.TurnAllowed (parts.map_back entries) (h.state.pool.core.partition p) (hold me.0 p) = record { out = may.out; entries_are = same } in (
             view_mapped (parts.map_back entries) p me.0,
             gives,
@@ -256,14 +256,14 @@ module _ {L G : Type 0} (d : Devices L G) (o : Opening L G) where
             },
             (refl, subst (ComesBack entries p me.0 (view_mapped (parts.map_back entries) p me.0)) (sym e) (as_it_was (record { state = h.state; laws = h.laws; spread = h.shows.fixed.partition_of; seat = id; there = here; live = live; inside = low; allowed = a; after = refl }))),
           )
-      of_change (Entering tag f) e = let named : (hold me.0 p).change ≢ NoChange = (λ z. let no : Entering tag f ≡ NoChange = sym e ∙ z in absurd (cc)) in (
+      of_change (Entering tag f) e = let named : (hold me.0 p).change ≢ Stable = (λ z. let no : Entering tag f ≡ Stable = sym e ∙ z in absurd (cc)) in (
         view_mapped (parts.map_back entries) p (view_mapped parts.change_map p me.0),
         gives,
         tt,
         held_changed named,
         (refl, subst (ComesBack entries p me.0 (view_mapped (parts.map_back entries) p (view_mapped parts.change_map p me.0))) (sym e) (entered (view_mapped parts.change_map p me.0) (changed_step named) (back_step named))),
       )
-      of_change (Leaving tag f) e = let named : (hold me.0 p).change ≢ NoChange = (λ z. let no : Leaving tag f ≡ NoChange = sym e ∙ z in absurd (cc)) in (
+      of_change (Leaving tag f) e = let named : (hold me.0 p).change ≢ Stable = (λ z. let no : Leaving tag f ≡ Stable = sym e ∙ z in absurd (cc)) in (
         view_mapped (parts.map_back entries) p (view_mapped parts.change_map p me.0),
         gives,
         tt,
@@ -294,17 +294,17 @@ steps_on : (p : ℕ) (h h' : PartitionHold) (v u w : View) → MapStep p h v u �
 steps_on p h h' v u w a b = record { here = b.here; others = λ q n. b.others q n ∙ a.others q n; lanes = b.lanes ∙ a.lanes; log = b.log ∙ a.log }
 
 pub back_work : (entries : List MapEntry) (p : ℕ) (v w : View) (c : MapChange) → ComesBack entries p v w c → SameWork v w
-back_work entries p v w NoChange (as_it_was d) = map_work (parts.map_back entries) p v w d
+back_work entries p v w Stable (as_it_was d) = map_work (parts.map_back entries) p v w d
 back_work entries p v w (Entering tag f) (entered u d e) = work_on v u w (map_work parts.change_map p v u d) (map_work (parts.map_back entries) p u w e)
 back_work entries p v w (Leaving tag f) (left_out u d e) = work_on v u w (map_work parts.change_map p v u d) (map_work (parts.map_back entries) p u w e)
 
 after_change : (entries : List MapEntry) (p : ℕ) (v u w : View) → is_named (hold v p).change ≡ true → DidMap parts.change_map p v u → DidMap (parts.map_back entries) p u w → MapStep p (back_hold entries (hold v p)) v w
 after_change entries p v u w named d e = let a = map_stepped parts.change_map p v u d in let b = map_stepped (parts.map_back entries) p u w e in
-    let same : parts.hold_after (parts.map_back entries) (hold u p) ≡ back_hold entries (hold v p) = ap (parts.hold_after (parts.map_back entries)) a.here ∙ (λ i. record (hold v p) { out = None; change = NoChange; changed = sym named i; seen = Some entries }) in
+    let same : parts.hold_after (parts.map_back entries) (hold u p) ≡ back_hold entries (hold v p) = ap (parts.hold_after (parts.map_back entries)) a.here ∙ (λ i. record (hold v p) { out = None; change = Stable; changed = sym named i; seen = Some entries }) in
     subst (λ (h : PartitionHold). MapStep p h v w) same (steps_on p (parts.hold_after parts.change_map (hold v p)) (parts.hold_after (parts.map_back entries) (hold u p)) v u w a b)
 
 back_steps : (entries : List MapEntry) (p : ℕ) (v w : View) (c : MapChange) → (hold v p).change ≡ c → (hold v p).changed ≡ false → ComesBack entries p v w c → MapStep p (back_hold entries (hold v p)) v w
-back_steps entries p v w NoChange is unchanged (as_it_was d) = let same : parts.hold_after (parts.map_back entries) (hold v p) ≡ back_hold entries (hold v p) = (λ i. record (hold v p) { out = None; change = (ap (λ (b : Bool). owed_by b (hold v p).change) unchanged ∙ is) i; changed = (unchanged ∙ sym (ap is_named is)) i; seen = Some entries }) in
+back_steps entries p v w Stable is unchanged (as_it_was d) = let same : parts.hold_after (parts.map_back entries) (hold v p) ≡ back_hold entries (hold v p) = (λ i. record (hold v p) { out = None; change = (ap (λ (b : Bool). owed_by b (hold v p).change) unchanged ∙ is) i; changed = (unchanged ∙ sym (ap is_named is)) i; seen = Some entries }) in
     subst (λ (h : PartitionHold). MapStep p h v w) same (map_stepped (parts.map_back entries) p v w d)
 back_steps entries p v w (Entering tag f) is unchanged (entered u d e) = after_change entries p v u w (ap is_named is) d e
 back_steps entries p v w (Leaving tag f) is unchanged (left_out u d e) = after_change entries p v u w (ap is_named is) d e

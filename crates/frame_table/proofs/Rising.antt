@@ -8,7 +8,7 @@ use Rattle.pin_core.specs.declared.view.WordChange.{WordChange}
 use Rattle.pin_core.specs.declared.view.TakenLane.{TakenLane}
 use Rattle.pin_core.specs.declared.view.MapEntry.{MapEntry}
 use Rattle.pin_core.specs.declared.view.MapChange.{MapChange}
-use Rattle.pin_core.specs.declared.view.MapChange.TheVariants.{NoChange, Entering, Leaving}
+use Rattle.pin_core.specs.declared.view.MapChange.TheVariants.{Stable, Entering, Leaving}
 use Rattle.pin_core.specs.declared.view.View.{View}
 use Rattle.pin_core.specs.State.{hold, lane_hold, no_lane}
 use Rattle.pin_core.specs.Turns as parts
@@ -108,7 +108,7 @@ steps_mapped : (k : parts.TurnKind) (p : ℕ) (v w : View) → DidMap k p v w �
 steps_mapped k p v w d = let a = ap (λ (u : View). u.steps) d.after in omega arith
 
 pub steps_back : (entries : List MapEntry) (p : ℕ) (v w : View) (c : MapChange) → ComesBack entries p v w c → v.steps ≤ w.steps
-steps_back entries p v w NoChange (as_it_was d) = steps_mapped (parts.map_back entries) p v w d
+steps_back entries p v w Stable (as_it_was d) = steps_mapped (parts.map_back entries) p v w d
 steps_back entries p v w (Entering tag f) (entered u d e) = let a = steps_mapped parts.change_map p v u d in let b = steps_mapped (parts.map_back entries) p u w e in omega arith
 steps_back entries p v w (Leaving tag f) (left_out u d e) = let a = steps_mapped parts.change_map p v u d in let b = steps_mapped (parts.map_back entries) p u w e in omega arith
 

@@ -6,7 +6,7 @@ use lib.ListN.{get_elem?}
 use Rattle.atomic_table.specs.Table.{Me, Step, rest}
 use Rattle.pin_core.specs.declared.view.MapEntry.{MapEntry}
 use Rattle.pin_core.specs.declared.view.MapChange.{MapChange}
-use Rattle.pin_core.specs.declared.view.MapChange.TheVariants.{NoChange, Entering, Leaving}
+use Rattle.pin_core.specs.declared.view.MapChange.TheVariants.{Stable, Entering, Leaving}
 use Rattle.pin_core.specs.declared.view.PartitionHold.{PartitionHold}
 use Rattle.pin_core.specs.declared.view.View.{View}
 use Rattle.pin_core.specs.State.{hold, lane_hold, no_log}
@@ -30,7 +30,7 @@ use Rattle.table_rule.specs.Shows.{is_taken, AreApart, entry_of}
 
 -- The view may leave the latch: it has it, its value is home, and nothing under it is left to do
 abbrev pub MayLeave : Turn → View → Type 0
-MayLeave (Partition p) v = ((hold v p).held ≡ true) × ((hold v p).out ≡ None) × ((hold v p).change ≡ NoChange)
+MayLeave (Partition p) v = ((hold v p).held ≡ true) × ((hold v p).out ≡ None) × ((hold v p).change ≡ Stable)
 MayLeave (Lane q) v = ((lane_hold v q).held ≡ true) × ((lane_hold v q).out ≡ None)
 MayLeave Log v = (v.log.held ≡ true) × (v.log.out ≡ None) × (v.log.appended ≡ None)
 
@@ -126,7 +126,7 @@ pub record DidMap (k : parts.TurnKind) (p : ℕ) (v w : View) : Type 0 where
 
 -- the map of a partition comes back with these entries: where the view has named a pair that isn't entered or left out yet, this is done
 pub data ComesBack (entries : List MapEntry) (p : ℕ) (v w : View) : MapChange → Type 0 where
-  as_it_was : DidMap (parts.map_back entries) p v w → ComesBack entries p v w NoChange
+  as_it_was : DidMap (parts.map_back entries) p v w → ComesBack entries p v w Stable
   entered : {tag f : ℕ} (u : View) → DidMap parts.change_map p v u → DidMap (parts.map_back entries) p u w → ComesBack entries p v w (Entering tag f)
   left_out : {tag f : ℕ} (u : View) → DidMap parts.change_map p v u → DidMap (parts.map_back entries) p u w → ComesBack entries p v w (Leaving tag f)
 
@@ -138,7 +138,7 @@ pub record MayComeBack (entries : List MapEntry) (p : ℕ) (v : View) : Type 0 w
 
 -- what entries have of the pair that the view has named: one that enters is not there, and one that leaves is
 abbrev pub HasNamed : MapChange → List MapEntry → Type 0
-HasNamed NoChange entries = Unit {0}
+HasNamed Stable entries = Unit {0}
 HasNamed (Entering tag f) entries = parts.found entries tag ≡ None
 HasNamed (Leaving tag f) entries = parts.found entries tag ≡ Some f
 
@@ -175,7 +175,7 @@ module _ {L G : Type 0} where
 
 -- whether a change was made, that the view had named
 abbrev pub is_named : MapChange → Bool
-is_named NoChange = false
+is_named Stable = false
 is_named (Entering tag f) = true
 is_named (Leaving tag f) = true
 
@@ -184,7 +184,7 @@ abbrev pub out_hold : List MapEntry → PartitionHold → PartitionHold
 out_hold entries h = record h { out = Some entries; seen = Some entries }
 
 abbrev pub back_hold : List MapEntry → PartitionHold → PartitionHold
-back_hold entries h = record h { out = None; change = NoChange; changed = is_named h.change; seen = Some entries }
+back_hold entries h = record h { out = None; change = Stable; changed = is_named h.change; seen = Some entries }
 
 -- The view has at the partition p what is said, and at all others, and at lanes and the log, what it had
 pub record MapStep (p : ℕ) (h : PartitionHold) (v w : View) : Type 0 where

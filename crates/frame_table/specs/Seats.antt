@@ -15,7 +15,7 @@ use Rattle.pin_core.specs.declared.view.Content.TheVariants.{Unlocked}
 use Rattle.pin_core.specs.declared.view.Io.TheVariants.{Quiet, Output}
 use Rattle.pin_core.specs.declared.view.MapEntry.{MapEntry}
 use Rattle.pin_core.specs.declared.view.MapChange.{MapChange}
-use Rattle.pin_core.specs.declared.view.MapChange.TheVariants.{NoChange, Entering, Leaving}
+use Rattle.pin_core.specs.declared.view.MapChange.TheVariants.{Stable, Entering, Leaving}
 use Rattle.pin_core.specs.State.{link, hold, lane_hold, idle, no_partition, no_lane, no_log, no_tag}
 use Rattle.pin_core.specs.declared.view.PartitionHold.{PartitionHold}
 use Rattle.pin_core.specs.Kinds.{tag_after, seen_valid_after, wait_after, holds_naming}
@@ -198,7 +198,7 @@ pub record MayChange (v : View) (p : ℕ) : Type 0 where
   pub held : (hold v p).held ≡ true
   pub unchanged : (hold v p).changed ≡ false
   -- it names no pair, in any partition
-  pub no_change : (q : ℕ) → (hold v q).change ≡ NoChange
+  pub no_change : (q : ℕ) → (hold v q).change ≡ Stable
 
 -- a pin that remembers a tag remembers this one
 abbrev pub RemembersNoOther : ℕ → Link → Type 0
@@ -213,7 +213,7 @@ pub record Lacks (v : View) (tag : ℕ) : Type 0 where
 -- The view has the latch of the tag's partition, no pair named there, and it has seen the map, which is home again, and gives the frame for the tag
 pub record Finds (v : View) (tag f : ℕ) : Type 0 where
   pub held : (hold v (tag_partition tag)).held ≡ true
-  pub no_change : (hold v (tag_partition tag)).change ≡ NoChange
+  pub no_change : (hold v (tag_partition tag)).change ≡ Stable
   pub home : (hold v (tag_partition tag)).out ≡ None
   pub seen : (hold v (tag_partition tag)).seen ≢ None
   pub finds : (entries : List MapEntry) → (hold v (tag_partition tag)).seen ≡ Some entries → found entries tag ≡ Some f

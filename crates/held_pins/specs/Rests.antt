@@ -7,7 +7,7 @@ use Rattle.pin_core.specs.declared.view.Role.{Role}
 use Rattle.pin_core.specs.declared.view.Role.TheVariants.{Absent, HandedOut}
 use Rattle.pin_core.specs.declared.view.Content.TheVariants.{Unlocked}
 use Rattle.pin_core.specs.declared.view.Io.TheVariants.{Quiet}
-use Rattle.pin_core.specs.declared.view.MapChange.TheVariants.{NoChange}
+use Rattle.pin_core.specs.declared.view.MapChange.TheVariants.{Stable}
 use Rattle.pin_core.specs.State.{hold, lane_hold, link, no_log, no_partition}
 use Rattle.table_rule.specs.declared.value.Value.{Value}
 use Rattle.frame_table.specs.declared.table.FrameTable.{FrameTable}
@@ -84,7 +84,7 @@ HasNoLatch v = (p : ℕ) → hold v p ≡ no_partition
 pub record HasOneLatch (p : ℕ) (v : View) : Type 0 where
   pub held : (hold v p).held ≡ true
   pub home : (hold v p).out ≡ None
-  pub no_change : (hold v p).change ≡ NoChange
+  pub no_change : (hold v p).change ≡ Stable
   pub others : (q : ℕ) → q ≢ p → hold v q ≡ no_partition
 
 -- A view between two calls: it has what its tokens say, and nothing else

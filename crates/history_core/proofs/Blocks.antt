@@ -4,7 +4,7 @@ use mathlib.Core.Logic.{dite}
 use native.Mathlib.Decide.{ℕ_discrete}
 use Rattle.state_word.specs.declared.word.IoEnd.TheVariants.{ReadOk, WriteOk, Bad}
 use Rattle.pin_core.specs.declared.view.Io.TheVariants.{Output}
-use Rattle.pin_core.specs.declared.view.MapChange.TheVariants.{NoChange}
+use Rattle.pin_core.specs.declared.view.MapChange.TheVariants.{Stable}
 use Rattle.pin_core.specs.declared.view.PartitionHold.{PartitionHold}
 use Rattle.pin_core.specs.declared.view.Link.{Link}
 use Rattle.pin_core.specs.declared.view.View.{View}
@@ -99,7 +99,7 @@ tag_goes pin_kinds.assign fr l t c a e = absurd (e refl)
 tag_goes pin_kinds.clear fr l t c a e = absurd (e refl)
 
 -- no frame has a tag that the map lacks, where no pair is in change
-pub lacked : (pt : Partition) (x : PartitionHold) (word tag f : ℕ) → PartitionHoldLaw pt x → PairLaw (pt.map tag) pt.owed word tag f → x.held ≡ true → x.changed ≡ false → x.change ≡ NoChange → pt.map tag ≡ None → word ≢ tag
+pub lacked : (pt : Partition) (x : PartitionHold) (word tag f : ℕ) → PartitionHoldLaw pt x → PairLaw (pt.map tag) pt.owed word tag f → x.held ≡ true → x.changed ≡ false → x.change ≡ Stable → pt.map tag ≡ None → word ≢ tag
 lacked pt x word tag f h p held unchanged no_change lacks e = grind (arith, h, p, held, unchanged, no_change, lacks, e)
 
 -- under an output right the frame's page is the block's page after the log, where that is known

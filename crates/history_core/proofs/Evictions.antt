@@ -1,7 +1,7 @@
 -- The events of the eviction and of the wait are steps.
 use Rattle.std.proofs.Common.{◌≡◌, ◌≢◌, false, [], ◌∷◌, None, lit<, refl}
 use Rattle.pin_core.specs.declared.view.Role.TheVariants.{Victim}
-use Rattle.pin_core.specs.declared.view.MapChange.TheVariants.{NoChange}
+use Rattle.pin_core.specs.declared.view.MapChange.TheVariants.{Stable}
 use Rattle.pin_core.specs.declared.view.PartitionHold.{PartitionHold}
 use Rattle.pin_core.specs.declared.view.Link.{Link}
 use Rattle.pin_core.specs.declared.view.View.{View}
@@ -73,7 +73,7 @@ evicts = goes (pools (page_steps.cores (pin_steps.touches 0 0 pins.unpin (view_o
     (goes (pools (page_steps.cores (pin_steps.touches 0 0 pins.pin_victim (view_of e2) refl refl (lit< tt) (record { held = refl; absent = refl; room = λ e. refl }) (at_frame (λ (l : Link). l.role ≢ Victim) (view_of e2) _ refl (λ e. cc) (λ e. cc)))) tt)
     (goes (pools (page_steps.cores (pin_steps.turns 0 0 take_turn (view_of e3) refl refl (lit< tt) (record { free = refl }))) tt)
     (goes (pools (page_steps.cores (pin_steps.touches 0 0 pins.lock_header (view_of e4) refl refl (lit< tt) (record { unlocked = refl }) (at_frame (λ (l : Link). l.header ≡ None) (view_of e4) _ refl refl refl))) tt)
-    (goes (pools (page_steps.cores (pin_steps.touches 0 0 pins.erase_tag (view_of e5) refl refl (lit< tt) (record { alone = record { held = refl; settled = refl; single = refl; victim = refl; no_content = refl; no_io = refl }; named = named; clean = refl }) (record { held = refl; unchanged = refl; no_change = at_partition (λ (h : PartitionHold). h.change ≡ NoChange) (view_of e5) _ refl refl refl }))) tt)
+    (goes (pools (page_steps.cores (pin_steps.touches 0 0 pins.erase_tag (view_of e5) refl refl (lit< tt) (record { alone = record { held = refl; settled = refl; single = refl; victim = refl; no_content = refl; no_io = refl }; named = named; clean = refl }) (record { held = refl; unchanged = refl; no_change = at_partition (λ (h : PartitionHold). h.change ≡ Stable) (view_of e5) _ refl refl refl }))) tt)
     (goes (pools (page_steps.cores (pin_steps.touches 0 0 pins.clear (view_of e6) refl refl (lit< tt) (record { held = refl; erased = refl; unnamed = refl }) tt)) tt)
     (goes (pools (page_steps.cores (pin_steps.turns 0 0 (map_out (sample_entry ∷ [])) (view_of e7) refl refl (lit< tt) (record { held = refl; home = refl; entries_are = one_entry }))) tt)
     (goes (pools (page_steps.cores (pin_steps.turns 0 0 change_map (view_of e8) refl refl (lit< tt) (record { out = λ e. cc; unchanged = refl; named = λ e. cc }))) tt)

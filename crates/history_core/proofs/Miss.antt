@@ -3,7 +3,7 @@ use Rattle.std.proofs.Common.{◌≡◌, ◌≢◌, ◌<◌, ℕ, zero, suc, tru
 use Rattle.state_word.specs.declared.word.IoEnd.TheVariants.{ReadOk}
 use Rattle.pin_core.specs.declared.view.Role.TheVariants.{Victim}
 use Rattle.pin_core.specs.declared.view.Io.TheVariants.{Quiet}
-use Rattle.pin_core.specs.declared.view.MapChange.TheVariants.{NoChange}
+use Rattle.pin_core.specs.declared.view.MapChange.TheVariants.{Stable}
 use Rattle.pin_core.specs.declared.view.PartitionHold.{PartitionHold}
 use Rattle.pin_core.specs.declared.view.Link.{Link}
 use Rattle.pin_core.specs.declared.view.View.{View}
@@ -166,7 +166,7 @@ begun = goes (pools (page_steps.cores (pin_steps.turns 0 0 take_turn (view_of m0
     (goes (pools (page_steps.cores (pin_steps.touches 0 0 pins.lock_header (view_of m1) refl refl (lit< tt) (record { unlocked = refl }) (at_frame (λ (l : Link). l.header ≡ None) (view_of m1) _ refl refl refl))) tt)
     (goes (pools (page_steps.cores (pin_steps.touches 0 0 pins.pin_victim (view_of m2) refl refl (lit< tt) (record { held = refl; absent = refl; room = λ e. refl }) (at_frame (λ (l : Link). l.role ≢ Victim) (view_of m2) _ refl (λ e. cc) (λ e. cc)))) tt)
     (goes (pools (page_steps.cores (pin_steps.touches 0 0 pins.lock_header (view_of m3) refl refl (lit< tt) (record { unlocked = refl }) (at_frame (λ (l : Link). l.header ≡ None) (view_of m3) _ refl refl refl))) tt)
-    (goes (pools (page_steps.cores (pin_steps.touches 0 0 (pins.store_tag 7) (view_of m4) refl refl (lit< tt) (record { alone = record { held = refl; settled = refl; single = refl; victim = refl; no_content = refl; no_io = refl }; named = named; packed = packed; untagged = refl }) (record { naming = record { held = refl; unchanged = refl; no_change = (at_partition (λ (h : PartitionHold). h.change ≡ NoChange) (view_of m4) _ refl refl refl) }; block = refl; lacking = refl }))) tt)
+    (goes (pools (page_steps.cores (pin_steps.touches 0 0 (pins.store_tag 7) (view_of m4) refl refl (lit< tt) (record { alone = record { held = refl; settled = refl; single = refl; victim = refl; no_content = refl; no_io = refl }; named = named; packed = packed; untagged = refl }) (record { naming = record { held = refl; unchanged = refl; no_change = (at_partition (λ (h : PartitionHold). h.change ≡ Stable) (view_of m4) _ refl refl refl) }; block = refl; lacking = refl }))) tt)
     (goes (pools (page_steps.cores (pin_steps.touches 0 0 pins.assign (view_of m5) refl refl (lit< tt) (record { held = refl; stored = refl; named = named }) tt)) tt)
     (goes (pools (page_steps.cores (pin_steps.turns 0 0 (map_out []) (view_of m6) refl refl (lit< tt) (record { held = refl; home = refl; entries_are = no_entries }))) tt)
     (goes (pools (page_steps.cores (pin_steps.turns 0 0 change_map (view_of m7) refl refl (lit< tt) (record { out = λ e. cc; unchanged = refl; named = λ e. cc }))) tt)

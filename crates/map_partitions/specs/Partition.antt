@@ -3,7 +3,7 @@ use Rattle.std.specs.Prelude.{◌≡◌, ℕ, true, false, List, [], Option, Non
 use Rattle.pin_core.specs.declared.view.View.{View}
 use Rattle.pin_core.specs.declared.view.MapEntry.{MapEntry}
 use Rattle.pin_core.specs.declared.view.MapChange.{MapChange}
-use Rattle.pin_core.specs.declared.view.MapChange.TheVariants.{NoChange, Entering, Leaving}
+use Rattle.pin_core.specs.declared.view.MapChange.TheVariants.{Stable, Entering, Leaving}
 use Rattle.pin_core.specs.State.{hold}
 use Rattle.pin_core.specs.Turns.{found, map_out}
 use Rattle.grid.specs.Shape.{put}
@@ -18,7 +18,7 @@ pub record HoldsLatch (change : MapChange) (v : View) (p : ℕ) : Type 0 where
 
 -- a pair of the tag is named as one that leaves
 abbrev pub NamesLeaving : ℕ → MapChange → Type 0
-NamesLeaving tag NoChange = ⊥
+NamesLeaving tag Stable = ⊥
 NamesLeaving tag (Entering t f) = ⊥
 NamesLeaving tag (Leaving t f) = t ≡ tag
 

@@ -1,6 +1,6 @@
 //! The latches of the partitions (`BufMappingPartitionLock`).
 ghost use Rattle.std.specs.Prelude.{true, false};
-ghost use Rattle.pin_core.specs.declared.view.MapChange.TheVariants.{NoChange};
+ghost use Rattle.pin_core.specs.declared.view.MapChange.TheVariants.{Stable};
 ghost use Rattle.table_rule.specs.declared.turn.Turn.TheVariants.{Partition};
 ghost use Rattle.frame_table.specs.Seats.{CanTurn, Grows, SameSeat};
 ghost use Rattle.frame_table.specs.Latches.{DidTurn, IsTurned, MayLeave, SameWork};
@@ -26,7 +26,7 @@ pub fn take_turn<L: BlockLane, G: LogDevice, R: Wait>(
     ensures work { SameWork seat.old.me.0 seat.new.me.0 }
     ensures grows { Grows seat.old.me.0 seat.new.me.0 }
     ensures turned { IsTurned true (Partition partition) seat.old.me.0 seat.new.me.0 }
-    ensures holds { HoldsLatch NoChange seat.new.me.0 partition }
+    ensures holds { HoldsLatch Stable seat.new.me.0 partition }
     ensures did { DidTurn true (Partition partition) seat.old.me.0 seat.new.me.0 }
 {
     table.take_turn(rt, seat, Turn::Partition(partition));

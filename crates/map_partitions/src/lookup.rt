@@ -2,7 +2,7 @@
 ghost use Rattle.std.specs.Prelude.{◌≡◌, ◌<◌, List, Some, true, IfSome, IfNone};
 ghost use Rattle.block_tag.specs.Names.{names_block, packed_tag, partition_number};
 ghost use Rattle.pin_core.specs.declared.view.MapEntry.{MapEntry};
-ghost use Rattle.pin_core.specs.declared.view.MapChange.TheVariants.{NoChange};
+ghost use Rattle.pin_core.specs.declared.view.MapChange.TheVariants.{Stable};
 ghost use Rattle.pin_core.specs.State.{hold, link};
 ghost use Rattle.pin_core.specs.Turns.{found};
 ghost use Rattle.table_rule.specs.declared.turn.Turn.TheVariants.{Partition};
@@ -27,7 +27,7 @@ pub fn find<L: BlockLane, G: LogDevice>(
 ) -> Option<u32>
     requires seat { CanTurn table.now seat.old (Partition (partition_number tag.now)) }
     requires tag { names_block tag.now ≡ true }
-    requires holds { HoldsLatch NoChange seat.old.me.0 (partition_number tag.now) }
+    requires holds { HoldsLatch Stable seat.old.me.0 (partition_number tag.now) }
     ensures seat { SameSeat seat.old seat.new }
     ensures work { SameWork seat.old.me.0 seat.new.me.0 }
     ensures grows { Grows seat.old.me.0 seat.new.me.0 }
@@ -36,7 +36,7 @@ pub fn find<L: BlockLane, G: LogDevice>(
     ensures finds { IfSome result (λ frame. Finds seat.new.me.0 (packed_tag tag.now) frame) }
     ensures remembers { IfSome result (λ frame. RemembersNoOther (packed_tag tag.now) (link seat.new.me.0 frame)) }
     ensures lacks { IfNone result (Lacks seat.new.me.0 (packed_tag tag.now)) }
-    ensures holds { HoldsLatch NoChange seat.new.me.0 (partition_number tag.now) }
+    ensures holds { HoldsLatch Stable seat.new.me.0 (partition_number tag.now) }
     ensures step { MapStep (partition_number tag.now) (back_hold (entries_seen seat.new.me.0 (partition_number tag.now)) (hold seat.old.me.0 (partition_number tag.now))) seat.old.me.0 seat.new.me.0 }
     ensures before { (entries : List MapEntry) → (hold seat.old.me.0 (partition_number tag.now)).seen ≡ Some entries → found (entries_seen seat.new.me.0 (partition_number tag.now)) ≡ found entries }
     ensures did { WentAndCame (entries_seen seat.new.me.0 (partition_number tag.now)) (entries_seen seat.new.me.0 (partition_number tag.now)) (partition_number tag.now) seat.old.me.0 seat.new.me.0 }

@@ -3,7 +3,7 @@ use Rattle.std.proofs.Common.{◌≡◌, ◌≢◌, ℕ, zero, suc, true, false,
 use Rattle.state_word.specs.declared.word.IoEnd.TheVariants.{ReadOk}
 use Rattle.pin_core.specs.declared.view.Role.TheVariants.{Victim}
 use Rattle.pin_core.specs.declared.view.Io.TheVariants.{Quiet}
-use Rattle.pin_core.specs.declared.view.MapChange.TheVariants.{NoChange, Entering, Leaving}
+use Rattle.pin_core.specs.declared.view.MapChange.TheVariants.{Stable, Entering, Leaving}
 use Rattle.pin_core.specs.declared.view.PartitionHold.{PartitionHold}
 use Rattle.pin_core.specs.declared.view.Link.{Link}
 use Rattle.pin_core.specs.declared.view.View.{View}
@@ -181,7 +181,7 @@ read_in = goes (cores (pin_steps.turns 0 0 take_turn (view_of sample_start) refl
     (goes (cores (pin_steps.touches 0 0 pins.lock_header (view_of s1) refl refl (lit< tt) (record { unlocked = refl }) (at_frame (λ (l : Link). l.header ≡ None) (view_of s1) _ refl refl refl)))
     (goes (cores (pin_steps.touches 0 0 pins.pin_victim (view_of s2) refl refl (lit< tt) (record { held = refl; absent = refl; room = λ e. refl }) (at_frame (λ (l : Link). l.role ≢ Victim) (view_of s2) _ refl (λ e. cc) (λ e. cc))))
     (goes (cores (pin_steps.touches 0 0 pins.lock_header (view_of s3) refl refl (lit< tt) (record { unlocked = refl }) (at_frame (λ (l : Link). l.header ≡ None) (view_of s3) _ refl refl refl)))
-    (goes (cores (pin_steps.touches 0 0 (pins.store_tag 7) (view_of s4) refl refl (lit< tt) (record { alone = record { held = refl; settled = refl; single = refl; victim = refl; no_content = refl; no_io = refl }; named = named; packed = packed; untagged = refl }) (record { naming = record { held = refl; unchanged = refl; no_change = (at_partition (λ (h : PartitionHold). h.change ≡ NoChange) (view_of s4) _ refl refl refl) }; block = refl; lacking = refl })))
+    (goes (cores (pin_steps.touches 0 0 (pins.store_tag 7) (view_of s4) refl refl (lit< tt) (record { alone = record { held = refl; settled = refl; single = refl; victim = refl; no_content = refl; no_io = refl }; named = named; packed = packed; untagged = refl }) (record { naming = record { held = refl; unchanged = refl; no_change = (at_partition (λ (h : PartitionHold). h.change ≡ Stable) (view_of s4) _ refl refl refl) }; block = refl; lacking = refl })))
     (goes (cores (pin_steps.touches 0 0 pins.assign (view_of s5) refl refl (lit< tt) (record { held = refl; stored = refl; named = named }) tt))
     (goes (cores (pin_steps.turns 0 0 (map_out []) (view_of s6) refl refl (lit< tt) (record { held = refl; home = refl; entries_are = no_entries })))
     (goes (cores (pin_steps.turns 0 0 change_map (view_of s7) refl refl (lit< tt) (record { out = λ e. cc; unchanged = refl; named = λ e. cc })))
@@ -216,7 +216,7 @@ sample = (
         (goes (cores (pin_steps.touches 0 0 pins.pin_victim (view_of s27) refl refl (lit< tt) (record { held = refl; absent = refl; room = λ e. refl }) (at_frame (λ (l : Link). l.role ≢ Victim) (view_of s27) _ refl (λ e. cc) (λ e. cc))))
         (goes (cores (pin_steps.turns 0 0 take_turn (view_of s28) refl refl (lit< tt) (record { free = refl })))
         (goes (cores (pin_steps.touches 0 0 pins.lock_header (view_of s29) refl refl (lit< tt) (record { unlocked = refl }) (at_frame (λ (l : Link). l.header ≡ None) (view_of s29) _ refl refl refl)))
-        (goes (cores (pin_steps.touches 0 0 pins.erase_tag (view_of s30) refl refl (lit< tt) (record { alone = record { held = refl; settled = refl; single = refl; victim = refl; no_content = refl; no_io = refl }; named = named; clean = refl }) (record { held = refl; unchanged = refl; no_change = (at_partition (λ (h : PartitionHold). h.change ≡ NoChange) (view_of s30) _ refl refl refl) })))
+        (goes (cores (pin_steps.touches 0 0 pins.erase_tag (view_of s30) refl refl (lit< tt) (record { alone = record { held = refl; settled = refl; single = refl; victim = refl; no_content = refl; no_io = refl }; named = named; clean = refl }) (record { held = refl; unchanged = refl; no_change = (at_partition (λ (h : PartitionHold). h.change ≡ Stable) (view_of s30) _ refl refl refl) })))
         (goes (cores (pin_steps.touches 0 0 pins.clear (view_of s31) refl refl (lit< tt) (record { held = refl; erased = refl; unnamed = refl }) tt))
         (goes (cores (pin_steps.turns 0 0 (map_out (sample_entry ∷ [])) (view_of s32) refl refl (lit< tt) (record { held = refl; home = refl; entries_are = one_entry })))
         (goes (cores (pin_steps.turns 0 0 change_map (view_of s33) refl refl (lit< tt) (record { out = λ e. cc; unchanged = refl; named = λ e. cc })))

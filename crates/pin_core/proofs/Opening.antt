@@ -5,7 +5,7 @@ use Rattle.pin_core.specs.declared.view.View.{View}
 use Rattle.pin_core.specs.State.{Config, CanOpen, Page, no_tag, link, hold, idle, no_partition, first_view, empty_frame, empty_partition, opening}
 use Rattle.pin_core.specs.Tallies.{Tally, pins, headers, pendings, settled_pins, settled_headers, weigh, frame_shape}
 use Rattle.pin_core.specs.Invariant.{FrameLaw, LinkLaw, live_weight, PinInvariant}
-use Rattle.pin_core.specs.declared.view.MapChange.TheVariants.{NoChange}
+use Rattle.pin_core.specs.declared.view.MapChange.TheVariants.{Stable}
 use Rattle.pin_core.specs.Maps.{PairLaw}
 use Rattle.pin_core.specs.Turns.{TurnTally, holders, TurnLaw, PartitionHoldLaw, turn_shape}
 use Rattle.grid.specs.Shape.{tallies, total}
@@ -26,7 +26,7 @@ no_holders base n p m q k = let e = new_unheld 0 base n p m q in omega arith
 empty_turn_law : (t : TurnTally → ℕ) → ((k : TurnTally) → t k ≡ 0) → TurnLaw empty_partition t
 empty_turn_law t e = grind (arith, e holders)
 
-empty_pair : (tag f : ℕ) → tag ≢ no_tag → PairLaw None NoChange no_tag tag f
+empty_pair : (tag f : ℕ) → tag ≢ no_tag → PairLaw None Stable no_tag tag f
 empty_pair tag f named = grind (arith, named)
 
 one_backend : (base n p m : ℕ) (v : View) → first_view base n p m ≡ v → total (λ (u : View). live_weight u.emptied) (first_view base n p m ∷ []) + v.joined ≡ 1

@@ -1,7 +1,7 @@
 -- The sample's events are steps.
 use Rattle.std.proofs.Common.{◌≡◌, ◌≢◌, ℕ, zero, suc, true, false, [], ◌∷◌, List, slice_index_or, None, lit<, refl, sym, subst, arith}
 use Rattle.pin_core.specs.declared.view.Role.TheVariants.{Victim}
-use Rattle.pin_core.specs.declared.view.MapChange.TheVariants.{NoChange, Entering}
+use Rattle.pin_core.specs.declared.view.MapChange.TheVariants.{Stable, Entering}
 use Rattle.pin_core.specs.declared.view.PartitionHold.{PartitionHold}
 use Rattle.pin_core.specs.declared.view.Link.{Link}
 use Rattle.pin_core.specs.declared.view.View.{View}
@@ -107,7 +107,7 @@ sample = (
         (goes (touches 0 0 lock_header (view_at s1 0) refl refl (lit< tt) (record { unlocked = refl }) (at_two (λ (l : Link). l.header ≡ None) (view_at s1 0) _ _ refl refl refl refl))
         (goes (touches 0 0 pin_victim (view_at s2 0) refl refl (lit< tt) (record { held = refl; absent = refl; room = λ _. refl }) (at_two (λ (l : Link). l.role ≢ Victim) (view_at s2 0) _ _ refl (λ e. cc) (λ e. cc) (λ e. cc)))
         (goes (touches 0 0 lock_header (view_at s3 0) refl refl (lit< tt) (record { unlocked = refl }) (at_two (λ (l : Link). l.header ≡ None) (view_at s3 0) _ _ refl refl refl refl))
-        (goes (touches 0 0 (store_tag 7) (view_at s4 0) refl refl (lit< tt) (record { alone = record { held = refl; settled = refl; single = refl; victim = refl; no_content = refl; no_io = refl }; named = named; packed = packed; untagged = refl }) (record { naming = record { held = refl; unchanged = refl; no_change = at_partition (λ (h : PartitionHold). h.change ≡ NoChange) (view_at s4 0) _ refl refl refl }; block = refl; lacking = refl }))
+        (goes (touches 0 0 (store_tag 7) (view_at s4 0) refl refl (lit< tt) (record { alone = record { held = refl; settled = refl; single = refl; victim = refl; no_content = refl; no_io = refl }; named = named; packed = packed; untagged = refl }) (record { naming = record { held = refl; unchanged = refl; no_change = at_partition (λ (h : PartitionHold). h.change ≡ Stable) (view_at s4 0) _ refl refl refl }; block = refl; lacking = refl }))
         (goes (touches 0 0 assign (view_at s5 0) refl refl (lit< tt) (record { held = refl; stored = refl; named = named }) tt)
         (goes (turns 0 0 (map_out []) (view_at s6 0) refl refl (lit< tt) (record { held = refl; home = refl; entries_are = no_entries }))
         (goes (turns 0 0 change_map (view_at s7 0) refl refl (lit< tt) (record { out = λ e. cc; unchanged = refl; named = λ e. cc }))

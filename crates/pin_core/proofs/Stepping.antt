@@ -7,7 +7,7 @@ use lib.ListN.{get_elem?}
 use Rattle.pin_core.specs.declared.view.Link.{Link}
 use Rattle.pin_core.specs.declared.view.PartitionHold.{PartitionHold}
 use Rattle.pin_core.specs.declared.view.MapChange.{MapChange}
-use Rattle.pin_core.specs.declared.view.MapChange.TheVariants.{NoChange, Entering, Leaving}
+use Rattle.pin_core.specs.declared.view.MapChange.TheVariants.{Stable, Entering, Leaving}
 use Rattle.pin_core.specs.declared.view.View.{View}
 use Rattle.pin_core.specs.State.{Frame, Partition, State, no_tag, idle, link, no_partition, hold, local, new_view, emptied_view, joined_view, split_state, joined_state}
 use Rattle.pin_core.specs.Tallies.{Tally, pins, headers, pendings, settled_pins, settled_headers, weigh, flag_weight, frame_shape}
@@ -78,7 +78,7 @@ module _ (s : State) (h : PinInvariant s) (i f : ℕ) (v : View) (there : get_el
       (record { emptied = refl; number = refl; next = refl; links = length-set v.links f (link_after k (s.frame f) (link v f)); partitions = ap (λ (x : List PartitionHold). length x) holds }) refl holds tag (grid_after k a known)
 
   -- the pair that a kind names, in its partition p
-  module _ (k : Kind) (p : ℕ) (c : MapChange) (below : p < s.partitions) (held : (hold v p).held ≡ true) (unchanged : (hold v p).changed ≡ false) (no_change : (hold v p).change ≡ NoChange)
+  module _ (k : Kind) (p : ℕ) (c : MapChange) (below : p < s.partitions) (held : (hold v p).held ≡ true) (unchanged : (hold v p).changed ≡ false) (no_change : (hold v p).change ≡ Stable)
       (names : (after k s f v).partitions ≡ set v.partitions p (record (hold v p) { change = c })) where
     abbrev named : PartitionHold
     named = record (hold v p) { change = c }
@@ -98,14 +98,14 @@ module _ (s : State) (h : PinInvariant s) (i f : ℕ) (v : View) (there : get_el
     named_backend = record { emptied = refl; number = refl; next = refl; links = length-set v.links f (link_after k (s.frame f) (link v f)); partitions = ap (λ (x : List PartitionHold). length x) names ∙ length-set v.partitions p named }
 
   -- no pair is in change under a latch that the view holds and has named none under
-  unowed : (p : ℕ) → p < s.partitions → (hold v p).held ≡ true → (hold v p).change ≡ NoChange → owed p ≡ NoChange
+  unowed : (p : ℕ) → p < s.partitions → (hold v p).held ≡ true → (hold v p).change ≡ Stable → owed p ≡ Stable
   unowed p below held no_change = no_change_owes (s.partition p) (hold v p) (h.turns.cells i v p there below) held no_change
     where
-      no_change_owes : (pt : Partition) (x : PartitionHold) → PartitionHoldLaw pt x → x.held ≡ true → x.change ≡ NoChange → pt.owed ≡ NoChange
+      no_change_owes : (pt : Partition) (x : PartitionHold) → PartitionHoldLaw pt x → x.held ≡ true → x.change ≡ Stable → pt.owed ≡ Stable
       no_change_owes pt x c held no_change = grind (arith, c, held, no_change)
 
   -- a kind that names the pair c of the partition p, after which the maps are exact
-  naming : (k : Kind) (p : ℕ) (c : MapChange) → Allowed k (s.frame f) (link v f) → TagKnown k (s.frame f) → p < s.partitions → (hold v p).held ≡ true → (hold v p).changed ≡ false → (hold v p).change ≡ NoChange → (after k s f v).partitions ≡ set v.partitions p (record (hold v p) { change = c })
+  naming : (k : Kind) (p : ℕ) (c : MapChange) → Allowed k (s.frame f) (link v f) → TagKnown k (s.frame f) → p < s.partitions → (hold v p).held ≡ true → (hold v p).changed ≡ false → (hold v p).change ≡ Stable → (after k s f v).partitions ≡ set v.partitions p (record (hold v p) { change = c })
       → MapLaw s.frames s.partition_of gives (λ q. (put s.partition p (record (s.partition p) { owed = c }) q).owed) (λ g. (put s.frame f (frame_after k (s.frame f)) g).tag)
       → ((frame_after k (s.frame f)).tag ≢ no_tag → s.is_block (frame_after k (s.frame f)).tag ≡ true)
       → PinInvariant (record s { frame = put s.frame f (frame_after k (s.frame f)); partition = put s.partition p (record (s.partition p) { owed = c }); views = set s.views i (after k s f v) })
@@ -127,7 +127,7 @@ untagged : (tag : ℕ) (fr : Frame) (l : Link) (t : Tally → ℕ) → FrameLaw 
 untagged tag fr l t c x le a = grind (arith, c, x, a, le pins, le settled_pins)
 
 -- the frame that a map gives for a tag has it, where no pair is in change
-has_tag : (o : Option ℕ) (owed : MapChange) (word tag f : ℕ) → PairLaw o owed word tag f → o ≡ Some f → owed ≡ NoChange → word ≡ tag
+has_tag : (o : Option ℕ) (owed : MapChange) (word tag f : ℕ) → PairLaw o owed word tag f → o ≡ Some f → owed ≡ Stable → word ≡ tag
 has_tag o owed word tag f x given no_change = dite (ℕ_discrete word tag) (λ e. e) (λ n. let l = x.found given n in absurd (cc))
 
 pub kind_step_keeps : (s : State) (i f : ℕ) (k : Kind) (v : View) → PinInvariant s → get_elem? s.views i ≡ some v → v.emptied ≡ false → f < s.frames → Allowed k (s.frame f) (link v f) → AllowedAround k s v f → PinInvariant (state_after k s i f v)

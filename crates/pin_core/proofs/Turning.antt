@@ -1,7 +1,7 @@
 -- Each kind of step at a latch keeps the law of latches, and so does a pair that is named.
 use Rattle.std.proofs.Common.{◌≡◌, true, false, arith, None}
 use Rattle.pin_core.specs.declared.view.MapChange.{MapChange}
-use Rattle.pin_core.specs.declared.view.MapChange.TheVariants.{NoChange}
+use Rattle.pin_core.specs.declared.view.MapChange.TheVariants.{Stable}
 use Rattle.pin_core.specs.declared.view.PartitionHold.{PartitionHold}
 use Rattle.pin_core.specs.State.{Partition}
 use Rattle.pin_core.specs.Turns.{TurnKind, take_turn, leave_turn, map_out, change_map, map_back, TurnAllowed, partition_after, hold_after, holders, turn_shape, turn_part}
@@ -38,7 +38,7 @@ turn_keeps (map_back entries) pt h a = record {
 }
 
 -- the holder names a pair
-pub naming_keeps : (pt : Partition) (h : PartitionHold) (c : MapChange) → h.held ≡ true → h.changed ≡ false → h.change ≡ NoChange → TurnKeeps pt h (record pt { owed = c }) (record h { change = c })
+pub naming_keeps : (pt : Partition) (h : PartitionHold) (c : MapChange) → h.held ≡ true → h.changed ≡ false → h.change ≡ Stable → TurnKeeps pt h (record pt { owed = c }) (record h { change = c })
 naming_keeps pt h new a b e = record {
   column = λ t t' q c sums le _. grind (arith, q, c, a, b, e, sums holders, le holders);
   cell = λ t q le c. grind (arith, q, c, a, b, e, le holders);
@@ -46,7 +46,7 @@ naming_keeps pt h new a b e = record {
 }
 
 -- a view without a latch may be left out of the sum there
-pub turn_forgets : (pt : Partition) (h h' : PartitionHold) → h.held ≡ false → h'.held ≡ false → h'.out ≡ None → h'.change ≡ NoChange → h'.changed ≡ false → h'.seen ≡ None → TurnKeeps pt h pt h'
+pub turn_forgets : (pt : Partition) (h h' : PartitionHold) → h.held ≡ false → h'.held ≡ false → h'.out ≡ None → h'.change ≡ Stable → h'.changed ≡ false → h'.seen ≡ None → TurnKeeps pt h pt h'
 turn_forgets pt h h' a b out no_change unchanged unseen = record {
   column = λ t t' q c sums le _. grind (arith, q, c, a, b, sums holders, le holders);
   cell = λ t q le c. grind (arith, b, out, no_change, unchanged, unseen);

@@ -7,7 +7,7 @@ use Rattle.pin_core.specs.declared.view.Role.TheVariants.{Absent, HandedOut, Vic
 use Rattle.pin_core.specs.declared.view.Content.TheVariants.{Unlocked}
 use Rattle.pin_core.specs.declared.view.Io.TheVariants.{Quiet}
 use Rattle.pin_core.specs.declared.view.MapChange.{MapChange}
-use Rattle.pin_core.specs.declared.view.MapChange.TheVariants.{NoChange, Entering, Leaving}
+use Rattle.pin_core.specs.declared.view.MapChange.TheVariants.{Stable, Entering, Leaving}
 use Rattle.pin_core.specs.declared.view.PartitionHold.{PartitionHold}
 use Rattle.pin_core.specs.declared.view.LoadedWord.{LoadedWord}
 use Rattle.pin_core.specs.declared.view.LoadedWord.TheVariants as seen
@@ -229,17 +229,17 @@ load_of v what = record { loaded_word = what; pins = map (λ (l : Link). is_pin 
 abbrev pub named_by : Kind → ℕ → Frame → MapChange
 named_by (store_tag tag) f fr = Entering tag f
 named_by erase_tag f fr = Leaving fr.tag f
-named_by _ f fr = NoChange
+named_by _ f fr = Stable
 
 -- the partitions, where the holder of a latch has named the pair
 abbrev pub partitions_owing : MapChange → (ℕ → ℕ) → (ℕ → Partition) → ℕ → Partition
-partitions_owing NoChange partition_of parts = parts
+partitions_owing Stable partition_of parts = parts
 partitions_owing (Entering tag f) partition_of parts = put parts (partition_of tag) (record (parts (partition_of tag)) { owed = Entering tag f })
 partitions_owing (Leaving tag f) partition_of parts = put parts (partition_of tag) (record (parts (partition_of tag)) { owed = Leaving tag f })
 
 -- what a view has of the latches, where it has named the pair
 abbrev pub holds_naming : MapChange → (ℕ → ℕ) → View → List PartitionHold
-holds_naming NoChange partition_of v = v.partitions
+holds_naming Stable partition_of v = v.partitions
 holds_naming (Entering tag f) partition_of v = slice_set v.partitions (partition_of tag) (record (hold v (partition_of tag)) { change = Entering tag f })
 holds_naming (Leaving tag f) partition_of v = slice_set v.partitions (partition_of tag) (record (hold v (partition_of tag)) { change = Leaving tag f })
 

@@ -1,7 +1,7 @@
 -- The maps of the partitions and the tag words of the frames.
 use Rattle.std.specs.Prelude.{◌≡◌, ◌≢◌, ℕ, ◌<◌, Option, Some, None}
 use Rattle.pin_core.specs.declared.view.MapChange.{MapChange}
-use Rattle.pin_core.specs.declared.view.MapChange.TheVariants.{NoChange, Entering, Leaving}
+use Rattle.pin_core.specs.declared.view.MapChange.TheVariants.{Stable, Entering, Leaving}
 use Rattle.pin_core.specs.State.{no_tag}
 
 -- What holds of a tag and a frame, where `gives` is what the map gives for the tag, `owed` the pair in change in its partition, and `word` the tag word of the frame
@@ -22,7 +22,7 @@ pub record IsPair (frames : ℕ) (partition_of : ℕ → ℕ) (p tag f : ℕ) : 
   pub inside : f < frames
 
 abbrev pub OwedLaw : ℕ → (ℕ → ℕ) → ℕ → MapChange → Type 0
-OwedLaw frames partition_of p NoChange = Unit {0}
+OwedLaw frames partition_of p Stable = Unit {0}
 OwedLaw frames partition_of p (Entering tag f) = IsPair frames partition_of p tag f
 OwedLaw frames partition_of p (Leaving tag f) = IsPair frames partition_of p tag f
 

@@ -4,7 +4,7 @@ use mathlib.Core.Option.{some}
 use lib.ListN.{get_elem?}
 use Rattle.state_word.specs.declared.word.StateWord.{StateWord}
 use Rattle.pin_core.specs.declared.view.Role.TheVariants.{Absent, HandedOut}
-use Rattle.pin_core.specs.declared.view.MapChange.TheVariants.{NoChange, Entering, Leaving}
+use Rattle.pin_core.specs.declared.view.MapChange.TheVariants.{Stable, Entering, Leaving}
 use Rattle.pin_core.specs.declared.view.MapEntry.{MapEntry}
 use Rattle.pin_core.specs.declared.view.View.{View}
 use Rattle.pin_core.specs.State.{Page, State, Config, CanOpen, no_tag, is_tag, link, hold, pins_frame, opening}
@@ -116,7 +116,7 @@ holds_turn p v = (hold v p).held
 
 -- one view holds a latch that is taken, and none one that is free, where no pair is in change
 abbrev pub TurnsAreHeld : State → Type 0
-TurnsAreHeld s = (p : ℕ) → p < s.partitions → (count_by (holds_turn p) s.views ≡ (if (s.partition p).taken then 1 else 0)) × ((s.partition p).taken ≡ false → (s.partition p).owed ≡ NoChange)
+TurnsAreHeld s = (p : ℕ) → p < s.partitions → (count_by (holds_turn p) s.views ≡ (if (s.partition p).taken then 1 else 0)) × ((s.partition p).taken ≡ false → (s.partition p).owed ≡ Stable)
 
 -- a map that isn't out has the entries that the holder of its latch saw last
 abbrev pub MapsAreAsSeen : State → Type 0

@@ -7,7 +7,7 @@ use Rattle.pin_core.specs.declared.view.Content.TheVariants.{Unlocked}
 use Rattle.pin_core.specs.declared.view.Io.TheVariants.{Quiet}
 use Rattle.pin_core.specs.declared.view.LastWrite.TheVariants.{Unwritten}
 use Rattle.pin_core.specs.declared.view.MapChange.{MapChange}
-use Rattle.pin_core.specs.declared.view.MapChange.TheVariants.{NoChange}
+use Rattle.pin_core.specs.declared.view.MapChange.TheVariants.{Stable}
 use Rattle.pin_core.specs.declared.view.LaneChange.TheVariants as lane_change
 use Rattle.pin_core.specs.declared.view.LogChange.TheVariants as log_change
 use Rattle.pin_core.specs.declared.view.Link.{Link}
@@ -97,7 +97,7 @@ idle = record {
 }
 
 abbrev pub no_partition : PartitionHold
-no_partition = record { held = false; change = NoChange; out = None; changed = false; seen = None }
+no_partition = record { held = false; change = Stable; out = None; changed = false; seen = None }
 
 abbrev pub no_lane : LaneHold
 no_lane = record { held = false; out = None; change = lane_change.Untouched; flushed = 0; swept = 0 }
@@ -212,7 +212,7 @@ empty_frame p = record { word = zero_word; tag = no_tag; sharers = 0; exclusive 
 
 -- a partition at the start: its map is empty
 abbrev pub empty_partition : Partition
-empty_partition = record { taken = false; map = λ _. None; owed = NoChange }
+empty_partition = record { taken = false; map = λ _. None; owed = Stable }
 
 -- what a buffer pool is made of
 pub record Config : Type 0 where

@@ -7,7 +7,7 @@ use Rattle.pin_core.specs.declared.view.Content.TheVariants.{Unlocked}
 use Rattle.pin_core.specs.declared.view.Io.TheVariants.{Quiet}
 use Rattle.pin_core.specs.declared.view.Link.{Link}
 use Rattle.pin_core.specs.declared.view.View.{View}
-use Rattle.pin_core.specs.declared.view.MapChange.TheVariants.{NoChange}
+use Rattle.pin_core.specs.declared.view.MapChange.TheVariants.{Stable}
 use Rattle.pin_core.specs.State.{State, link, hold, lane_hold, split_state, joined_state}
 use Rattle.grid.specs.Shape.{put}
 use Rattle.pin_core.specs.Kinds.{Kind, lock_header, store_tag, erase_tag, pin_mapped, pin_victim, Allowed, frame_after, named_by, partitions_owing, view_after}
@@ -25,7 +25,7 @@ HasNoVictim v = (f : ℕ) → (link v f).role ≢ Victim
 pub record MayName (s : State) (v : View) (tag : ℕ) : Type 0 where
   pub held : (hold v (s.partition_of tag)).held ≡ true
   pub unchanged : (hold v (s.partition_of tag)).changed ≡ false
-  pub no_change : (p : ℕ) → (hold v p).change ≡ NoChange
+  pub no_change : (p : ℕ) → (hold v p).change ≡ Stable
 
 -- and the map lacks the tag, which is a block's
 pub record MayEnter (s : State) (v : View) (tag : ℕ) : Type 0 where
@@ -36,7 +36,7 @@ pub record MayEnter (s : State) (v : View) (tag : ℕ) : Type 0 where
 -- the view has the latch of the tag's partition, whose map gives the frame, and names no pair in change there
 pub record IsMapped (s : State) (v : View) (tag f : ℕ) : Type 0 where
   pub held : (hold v (s.partition_of tag)).held ≡ true
-  pub no_change : (hold v (s.partition_of tag)).change ≡ NoChange
+  pub no_change : (hold v (s.partition_of tag)).change ≡ Stable
   pub given : (s.partition (s.partition_of tag)).map tag ≡ Some f
 
 -- What a kind at the frame f asks of the whole state and view, beyond the frame

@@ -2,7 +2,7 @@
 use Rattle.std.specs.Prelude.{◌≡◌, ◌≢◌, ℕ, ◌+◌, Bool, true, false, List, [], ◌∷◌, Option, Some, None, nat_eq, slice_set, if◌then◌else◌}
 use Rattle.pin_core.specs.declared.view.MapEntry.{MapEntry}
 use Rattle.pin_core.specs.declared.view.MapChange.{MapChange}
-use Rattle.pin_core.specs.declared.view.MapChange.TheVariants.{NoChange, Entering, Leaving}
+use Rattle.pin_core.specs.declared.view.MapChange.TheVariants.{Stable, Entering, Leaving}
 use Rattle.pin_core.specs.declared.view.PartitionHold.{PartitionHold}
 use Rattle.pin_core.specs.declared.view.View.{View}
 use Rattle.pin_core.specs.State.{Partition, hold}
@@ -28,13 +28,13 @@ found (e ∷ es) tag = if nat_eq tag e.tag then Some e.frame else found es tag
 
 -- a map after a change
 abbrev pub map_after : MapChange → (ℕ → Option ℕ) → ℕ → Option ℕ
-map_after NoChange m = m
+map_after Stable m = m
 map_after (Entering tag f) m = put m tag (Some f)
 map_after (Leaving tag f) m = put m tag None
 
 -- the pair that is still to be entered or left out, and that stays named once the map is back: none where the change under this latch is made
 abbrev pub owed_by : Bool → MapChange → MapChange
-owed_by true change = NoChange
+owed_by true change = Stable
 owed_by false change = change
 
 -- the map that is out, which went out as m
@@ -48,7 +48,7 @@ pub record CanTakeTurn (pt : Partition) (h : PartitionHold) : Type 0 where
 pub record CanLeaveTurn (pt : Partition) (h : PartitionHold) : Type 0 where
   pub held : h.held ≡ true
   pub home : h.out ≡ None
-  pub no_change : h.change ≡ NoChange
+  pub no_change : h.change ≡ Stable
 
 pub record CanTakeMap (entries : List MapEntry) (pt : Partition) (h : PartitionHold) : Type 0 where
   pub held : h.held ≡ true
@@ -59,7 +59,7 @@ pub record CanTakeMap (entries : List MapEntry) (pt : Partition) (h : PartitionH
 pub record CanChangeMap (pt : Partition) (h : PartitionHold) : Type 0 where
   pub out : h.out ≢ None
   pub unchanged : h.changed ≡ false
-  pub named : h.change ≢ NoChange
+  pub named : h.change ≢ Stable
 
 pub record CanReturnMap (entries : List MapEntry) (pt : Partition) (h : PartitionHold) : Type 0 where
   pub out : h.out ≢ None
@@ -77,7 +77,7 @@ abbrev pub partition_after : TurnKind → Partition → PartitionHold → Partit
 partition_after take_turn pt h = record pt { taken = true }
 partition_after leave_turn pt h = record pt { taken = false }
 partition_after (map_out entries) pt h = pt
-partition_after change_map pt h = record pt { map = map_after h.change pt.map; owed = NoChange }
+partition_after change_map pt h = record pt { map = map_after h.change pt.map; owed = Stable }
 partition_after (map_back entries) pt h = pt
 
 -- What a kind makes of what the view has of the latch
@@ -105,18 +105,18 @@ pub record TurnLaw (pt : Partition) (t : TurnTally → ℕ) : Type 0 where
   -- the latch is taken exactly where one view holds it
   pub taken : flag_weight pt.taken ≡ t holders
   -- no pair is in change where it is free
-  pub free : pt.taken ≡ false → pt.owed ≡ NoChange
+  pub free : pt.taken ≡ false → pt.owed ≡ Stable
 
 -- What holds of a partition and of what a view has of its latch
 pub record PartitionHoldLaw (pt : Partition) (h : PartitionHold) : Type 0 where
   -- the pair in change is the one that the holder of the latch has named, and not yet entered or left out
   pub owed : h.held ≡ true → owed_by h.changed h.change ≡ pt.owed
   -- a view without the latch has neither the map nor a pair
-  pub resting : h.held ≡ false → (h.out ≡ None) × (h.change ≡ NoChange) × (h.changed ≡ false)
+  pub resting : h.held ≡ false → (h.out ≡ None) × (h.change ≡ Stable) × (h.changed ≡ false)
   -- the map that is out is the map as it went out, with the change that was made
   pub out : (entries : List MapEntry) → h.out ≡ Some entries → pt.map ≡ map_now h.changed h.change (found entries)
   -- a pair is named with the change made only while the map is out
-  pub made : h.changed ≡ true → h.out ≡ None → h.change ≡ NoChange
+  pub made : h.changed ≡ true → h.out ≡ None → h.change ≡ Stable
   -- a map that isn't out is as the holder saw it last
   pub seen : (entries : List MapEntry) → h.seen ≡ Some entries → h.out ≡ None → pt.map ≡ found entries
   -- a view without the latch knows nothing of the map

@@ -82,7 +82,7 @@ pub struct MapEntry {
 
 /// The change of a partition's map that its holder owes since it stored a tag word.
 pub enum MapChange {
-    NoChange,
+    Stable,
     Entering { tag: u64, frame: u64 },
     Leaving { tag: u64, frame: u64 },
 }

@@ -14,7 +14,7 @@ use Rattle.pin_core.specs.declared.view.LaneHold.{LaneHold}
 use Rattle.pin_core.specs.declared.view.LogHold.{LogHold}
 use Rattle.pin_core.specs.declared.view.PartitionHold.{PartitionHold}
 use Rattle.pin_core.specs.declared.view.MapChange.{MapChange}
-use Rattle.pin_core.specs.declared.view.MapChange.TheVariants.{NoChange}
+use Rattle.pin_core.specs.declared.view.MapChange.TheVariants.{Stable}
 use Rattle.pin_core.specs.declared.view.MapEntry.{MapEntry}
 use Rattle.pin_core.specs.declared.view.Role.TheVariants.{Absent, HandedOut, Victim}
 use Rattle.pin_core.specs.Steps.{HasNoVictim}
@@ -72,7 +72,7 @@ pub may_unpin : (l : Link) → HasAtMostPin l → l.role ≡ HandedOut → MayUn
 may_unpin l c out = record { pinned = λ none. (let no : HandedOut ≡ Absent = sym out ∙ none in absurd (cc)); no_content = c.no_content; no_io = c.no_io; no_wait = c.no_wait }
 
 -- a view without a latch names no pair there
-pub free_has_no_change : (s : State) → Laws s → (i : ℕ) (v : View) → get_elem? s.pool.core.views i ≡ some v → v.emptied ≡ false → (q : ℕ) → (hold v q).held ≡ false → (hold v q).change ≡ NoChange
+pub free_has_no_change : (s : State) → Laws s → (i : ℕ) (v : View) → get_elem? s.pool.core.views i ≡ some v → v.emptied ≡ false → (q : ℕ) → (hold v q).held ≡ false → (hold v q).change ≡ Stable
 free_has_no_change s laws i v there live q free = dite (dec_lt q s.pool.core.partitions)
     (λ low. ((laws.invariant.pool.core.turns.cells i v q there low).resting free).1)
     (λ high. let wide = laws.invariant.pool.core.views.wide i v there live in ap (λ (h : PartitionHold). h.change) (get_or_past v.partitions q no_partition (omega (arith, wide.1, high))))
@@ -135,18 +135,18 @@ module _ (p : ℕ) (c : MapChange) (entries : List MapEntry) (v u x y w : View) 
     held = ap (λ (h : PartitionHold). h.held) enters.here ∙ ap (λ (h : PartitionHold). h.held) (same_hold x y assigned p ∙ names.here) ∙ ap (λ (h : PartitionHold). h.held) (same_hold v u locked p) ∙ i.held;
     home = ap (λ (h : PartitionHold). h.out) enters.here;
     no_change = λ q. dite (ℕ_discrete q p)
-        (λ e. subst (λ (z : ℕ). (hold w z).change ≡ NoChange) (sym e) (ap (λ (h : PartitionHold). h.change) enters.here))
+        (λ e. subst (λ (z : ℕ). (hold w z).change ≡ Stable) (sym e) (ap (λ (h : PartitionHold). h.change) enters.here))
         (λ n. ap (λ (h : PartitionHold). h.change) (entered_others q n) ∙ i.no_change q);
   }
 
 -- A view that held no latch takes one
 module _ (p : ℕ) (v w : View) (d : DidTurn true (Partition p) v w) (turned : IsTurned true (Partition p) v w) (free : (q : ℕ) → (hold v q).held ≡ false) where
-  pub inside_taken : HoldsLatch NoChange w p → IsInside p w
+  pub inside_taken : HoldsLatch Stable w p → IsInside p w
   inside_taken h = record {
     held = h.held;
     home = h.home;
     no_change = λ q. dite (ℕ_discrete q p)
-        (λ e. subst (λ (z : ℕ). (hold w z).change ≡ NoChange) (sym e) h.named)
+        (λ e. subst (λ (z : ℕ). (hold w z).change ≡ Stable) (sym e) h.named)
         (λ n. ap (λ (x : PartitionHold). x.change) (turned.1 q n) ∙ free_has_no_change d.state d.laws d.seat v d.there d.live q (free q));
   }
 

@@ -7,7 +7,7 @@ use Rattle.block_tag.specs.Names.{names_block, packed_tag}
 use Rattle.pin_core.specs.declared.view.Content.TheVariants.{Unlocked}
 use Rattle.pin_core.specs.declared.view.Io.TheVariants.{Quiet}
 use Rattle.pin_core.specs.declared.view.Link.{Link}
-use Rattle.pin_core.specs.declared.view.MapChange.TheVariants.{NoChange}
+use Rattle.pin_core.specs.declared.view.MapChange.TheVariants.{Stable}
 use Rattle.pin_core.specs.declared.view.Role.TheVariants.{Absent, HandedOut}
 use Rattle.pin_core.specs.declared.view.View.{View}
 use Rattle.pin_core.specs.State.{hold, lane_hold, link}
@@ -36,7 +36,7 @@ pub record HasAtMostPin (l : Link) : Type 0 where
 pub record IsInside (p : ℕ) (v : View) : Type 0 where
   pub held : (hold v p).held ≡ true
   pub home : (hold v p).out ≡ None
-  pub no_change : (q : ℕ) → (hold v q).change ≡ NoChange
+  pub no_change : (q : ℕ) → (hold v q).change ≡ Stable
 
 -- over a call the view keeps what it has of the partitions' latches
 abbrev pub SameLatches : View → View → Type 0

@@ -2,7 +2,7 @@
 ghost use Rattle.std.specs.Prelude.{◌≡◌, ◌<◌, IfSome, IfNone};
 ghost use Rattle.std.specs.Bool.{OnFalse, OnTrue};
 ghost use Rattle.block_tag.specs.Names.{packed_tag, partition_number};
-ghost use Rattle.pin_core.specs.declared.view.MapChange.TheVariants.{NoChange};
+ghost use Rattle.pin_core.specs.declared.view.MapChange.TheVariants.{Stable};
 ghost use Rattle.pin_core.specs.declared.view.Role.TheVariants.{Absent, Victim};
 ghost use Rattle.pin_core.specs.State.{link};
 ghost use Rattle.map_partitions.specs.Partition.{HoldsLatch};
@@ -44,7 +44,7 @@ fn store_block<R: Wait>(table: &Table, rt: &R, seat: &mut TableSeat, frame: u32,
     requires block { HasBlock table.now tag }
     requires victim { (link seat.old.me.0 frame).role ≡ Victim }
     requires inside { IsInside (partition_number tag) seat.old.me.0 }
-    requires latch { HoldsLatch NoChange seat.old.me.0 (partition_number tag) }
+    requires latch { HoldsLatch Stable seat.old.me.0 (partition_number tag) }
     requires lacks { Lacks seat.old.me.0 (packed_tag tag) }
     ensures quiet { HasAtMostPinsAndLatches table.now seat.new }
     ensures keeps { KeepsBeside frame seat.old seat.new }
@@ -77,7 +77,7 @@ fn enter_where_lacking<R: Wait>(
     requires block { HasBlock table.now tag }
     requires victim { (link seat.old.me.0 frame).role ≡ Victim }
     requires inside { IsInside (partition_number tag) seat.old.me.0 }
-    requires latch { HoldsLatch NoChange seat.old.me.0 (partition_number tag) }
+    requires latch { HoldsLatch Stable seat.old.me.0 (partition_number tag) }
     ensures quiet { HasAtMostPinsAndLatches table.now seat.new }
     ensures keeps { KeepsBeside frame seat.old seat.new }
     ensures inside { IsInside (partition_number tag) seat.new.me.0 }
@@ -152,7 +152,7 @@ fn pin_mapped<R: Wait>(table: &Table, rt: &R, seat: &mut TableSeat, tag: Tag) ->
     requires none { PinsNone seat.old }
     requires block { HasBlock table.now tag }
     requires inside { IsInside (partition_number tag) seat.old.me.0 }
-    requires latch { HoldsLatch NoChange seat.old.me.0 (partition_number tag) }
+    requires latch { HoldsLatch Stable seat.old.me.0 (partition_number tag) }
     ensures quiet { HasAtMostPinsAndLatches table.now seat.new }
     ensures inside { IsInside (partition_number tag) seat.new.me.0 }
     ensures latches { KeepsOthers (partition_number tag) seat.old.me.0 seat.new.me.0 }
