@@ -1,9 +1,13 @@
-//! Passes over a small table, which tests run and must-fail edits turn.
+//! Tests of pins, the map and victims over a small table, without a manager.
 #![tactic(auto)]
 
-pub mod choosing;
-pub mod entering;
-pub mod fixture;
-pub mod pinning;
+#[cfg(test)]
+mod choosing;
+#[cfg(test)]
+mod entering;
+#[cfg(test)]
+mod fixture;
+#[cfg(test)]
+mod pinning;
 #[cfg(test)]
 mod tests;
