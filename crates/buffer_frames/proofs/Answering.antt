@@ -34,6 +34,8 @@ use Rattle.frame_table.proofs.Rising.{rises_none, rises_on}
 use Rattle.held_pins.proofs.Keeping.{beside_kept}
 use Rattle.buffer_frames.specs.declared.flushing.FrameFlushError.{FrameFlushError}
 use Rattle.buffer_frames.specs.declared.flushing.FrameFlushError.TheVariants.{Log, WriteFault}
+use Rattle.buffer_frames.specs.declared.flushing.FlushedPage.{FlushedPage}
+use Rattle.buffer_frames.specs.declared.flushing.FlushedPage.TheVariants.{Written, Clean}
 use Rattle.buffer_frames.specs.Flushing.{ClearsJust, CopiesAnd, EndedInError, EndedWritten, EndsWrite, FlushAnswer, LogRefuses, LogShows, RejectsVictim, WriteAnswer, WentToLane, log_syncs, syncs_refused}
 use Rattle.buffer_frames.specs.Stages.{HasVictim, IsPinned}
 use Rattle.buffer_frames.specs.Working.{Calls, IsFlushCall, Made, WorksAt}
@@ -94,12 +96,12 @@ written_between f v u x w before e m after = record {
 }
 
 -- so it is with an answer
-pub error_after : (f : ℕ) (v u w : View) (r : Result Bool FrameFlushError) → OnlyRises v u → IfErr r (λ _. EndedInError f u w) → IfErr r (λ _. EndedInError f v w)
-error_after f v u w (Ok wrote) before e = tt
+pub error_after : (f : ℕ) (v u w : View) (r : Result FlushedPage FrameFlushError) → OnlyRises v u → IfErr r (λ _. EndedInError f u w) → IfErr r (λ _. EndedInError f v w)
+error_after f v u w (Ok flushed) before e = tt
 error_after f v u w (Err why) before e = error_between f v u w w before e refl (rises_none w)
 
-pub written_after : (f : ℕ) (v u w : View) (r : Result Bool FrameFlushError) → OnlyRises v u → IfOk r (λ wrote. wrote ≡ true → EndedWritten f u w) → IfOk r (λ wrote. wrote ≡ true → EndedWritten f v w)
-written_after f v u w (Ok wrote) before e = λ same. written_between f v u w w before (e same) refl (rises_none w)
+pub written_after : (f : ℕ) (v u w : View) (r : Result FlushedPage FrameFlushError) → OnlyRises v u → IfOk r (λ flushed. flushed ≡ Written → EndedWritten f u w) → IfOk r (λ flushed. flushed ≡ Written → EndedWritten f v w)
+written_after f v u w (Ok flushed) before e = λ same. written_between f v u w w before (e same) refl (rises_none w)
 written_after f v u w (Err why) before e = tt
 
 -- a write, where no device is called before or after it
@@ -145,9 +147,9 @@ module _ {L G : Type 0} (contents : L → Option Pages) (t : FrameTable L G) whe
   }
 
   -- and of a flush
-  pub flush_between : (q : ℕ) (tag : Tag) (f : ℕ) (v u x w : View) (r : Result Bool FrameFlushError) → u.device_calls ≡ v.device_calls → OnlyRises v u → FlushAnswer contents t q tag f u x r → SameSelf x w → OnlyRises x w → FlushAnswer contents t q tag f v w r
-  flush_between q tag f v u x w (Ok true) before a c self b = copies_between q tag f v u x w (Ok tt) before a c self b
-  flush_between q tag f v u x w (Ok false) before a c self b = record { finds = within_on (FindsNothing false f) v u x w a c.finds b; calls = ap (λ (y : View). y.device_calls) self ∙ c.calls ∙ before }
+  pub flush_between : (q : ℕ) (tag : Tag) (f : ℕ) (v u x w : View) (r : Result FlushedPage FrameFlushError) → u.device_calls ≡ v.device_calls → OnlyRises v u → FlushAnswer contents t q tag f u x r → SameSelf x w → OnlyRises x w → FlushAnswer contents t q tag f v w r
+  flush_between q tag f v u x w (Ok Written) before a c self b = copies_between q tag f v u x w (Ok tt) before a c self b
+  flush_between q tag f v u x w (Ok Clean) before a c self b = record { finds = within_on (FindsNothing false f) v u x w a c.finds b; calls = ap (λ (y : View). y.device_calls) self ∙ c.calls ∙ before }
   flush_between q tag f v u x w (Err why) before a c self b = copies_between q tag f v u x w (Err why) before a c self b
 
 -- A frame of which callers have tokens, and whose content is unlocked
@@ -190,9 +192,9 @@ module _ {L G : Type 0} (contents : L → Option Pages) (t : FrameTable L G) whe
   write_makes_flush_calls q tag page v w (Err (Log why)) e = record { made = syncs_refused why; calls = e.calls; each = refused_by_flush_calls why }
   write_makes_flush_calls q tag page v w (Err (WriteFault failed)) e = wrote_makes_flush_calls false q (packed_tag tag) page v w e.1
 
-  pub flush_makes_flush_calls : (q : ℕ) (tag : Tag) (f : ℕ) (v w : View) (r : Result Bool FrameFlushError) → FlushAnswer contents t q tag f v w r → Calls IsFlushCall v w
-  flush_makes_flush_calls q tag f v w (Ok true) c = write_makes_flush_calls q tag c.page v w (Ok tt) c.work
-  flush_makes_flush_calls q tag f v w (Ok false) c = none_made v w (made_none v w c.calls)
+  pub flush_makes_flush_calls : (q : ℕ) (tag : Tag) (f : ℕ) (v w : View) (r : Result FlushedPage FrameFlushError) → FlushAnswer contents t q tag f v w r → Calls IsFlushCall v w
+  flush_makes_flush_calls q tag f v w (Ok Written) c = write_makes_flush_calls q tag c.page v w (Ok tt) c.work
+  flush_makes_flush_calls q tag f v w (Ok Clean) c = none_made v w (made_none v w c.calls)
   flush_makes_flush_calls q tag f v w (Err why) c = write_makes_flush_calls q tag c.page v w (Err why) c.work
 
 -- A victim

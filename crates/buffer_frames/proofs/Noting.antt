@@ -2,7 +2,7 @@
 use Rattle.std.proofs.Common.{◌≡◌, ℕ, List, [], ◌++◌, inr, refl, sym, ap, ◌∙◌, append_assoc}
 use Rattle.std.proofs.lemmas.List.{append-nil}
 use Rattle.std.proofs.lemmas.List.Elements.{All-append, All-nil}
-use Rattle.std.specs.Prelude.{Ok, Err, Option, Bool, true, false, Result}
+use Rattle.std.specs.Prelude.{Ok, Err, Option, Bool, Result}
 use Rattle.segment_store.specs.Contents.{Pages}
 use Rattle.block_tag.specs.declared.tag.Tag.{Tag}
 use Rattle.pin_core.specs.declared.view.DeviceCall.{DeviceCall}
@@ -16,6 +16,8 @@ use Rattle.held_pins.specs.Rests.{LinksRest}
 use Rattle.held_pins.specs.Tokens.{Tokens}
 use Rattle.frame_table.proofs.Rising.{rises_none, rises_on}
 use Rattle.buffer_frames.specs.declared.flushing.FrameFlushError.{FrameFlushError}
+use Rattle.buffer_frames.specs.declared.flushing.VictimPage.{VictimPage}
+use Rattle.buffer_frames.specs.declared.flushing.VictimPage.TheVariants.{Clean, Spared}
 use Rattle.buffer_frames.specs.declared.victims.VictimError.{VictimError}
 use Rattle.buffer_frames.specs.declared.victims.VictimError.TheVariants.{Flush, NoUnpinned}
 use Rattle.buffer_frames.specs.Flushing.{VictimAnswer, locked, rejected}
@@ -39,10 +41,10 @@ pub calls_through : (P : DeviceCall → Type 0) (v u x w : View) → outside_of 
 calls_through P v u x w before a after = record { made = a.made; calls = calls_outside x w after ∙ a.calls ∙ ap (λ (l : List DeviceCall). l ++ a.made) (calls_outside v u before); each = a.each }
 
 -- a ring that a flush of a victim leaves
-pub shape_answered : {L G : Type 0} (contents : L → Option Pages) (t : FrameTable L G) (q : ℕ) (tag : Tag) (f : ℕ) (from_ring : Bool) (before after : Option RingState) (v w : View) (r : Result Bool FrameFlushError) → VictimAnswer contents t q tag f from_ring before after v w r → ring_shape after ≡ ring_shape before
-shape_answered contents t q tag f from_ring before after v w (Ok true) a = ap ring_shape a.0
-shape_answered contents t q tag f from_ring before after v w (Ok false) (locked why refuses same calls) = ap ring_shape same
-shape_answered contents t q tag f from_ring before after v w (Ok false) (rejected r calls) = shape_rejected before after r.ring r.was r.empty
+pub shape_answered : {L G : Type 0} (contents : L → Option Pages) (t : FrameTable L G) (q : ℕ) (tag : Tag) (f : ℕ) (from_ring : Bool) (before after : Option RingState) (v w : View) (r : Result VictimPage FrameFlushError) → VictimAnswer contents t q tag f from_ring before after v w r → ring_shape after ≡ ring_shape before
+shape_answered contents t q tag f from_ring before after v w (Ok Clean) a = ap ring_shape a.0
+shape_answered contents t q tag f from_ring before after v w (Ok Spared) (locked why refuses same calls) = ap ring_shape same
+shape_answered contents t q tag f from_ring before after v w (Ok Spared) (rejected r calls) = shape_rejected before after r.ring r.was r.empty
 shape_answered contents t q tag f from_ring before after v w (Err why) a = ap ring_shape a.0
 
 -- what tries to free a frame leave of the census

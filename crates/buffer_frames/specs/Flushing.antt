@@ -31,6 +31,10 @@ use Rattle.wal_flush.specs.Flushes.{FlushRefused}
 use Rattle.frame_table.specs.Seats.{OnlyRises}
 use Rattle.buffer_frames.specs.declared.flushing.FrameFlushError.{FrameFlushError}
 use Rattle.buffer_frames.specs.declared.flushing.FrameFlushError.TheVariants.{Log, WriteFault}
+use Rattle.buffer_frames.specs.declared.flushing.FlushedPage.{FlushedPage}
+use Rattle.buffer_frames.specs.declared.flushing.FlushedPage.TheVariants as flush
+use Rattle.buffer_frames.specs.declared.flushing.VictimPage.{VictimPage}
+use Rattle.buffer_frames.specs.declared.flushing.VictimPage.TheVariants.{Clean, Spared}
 use Rattle.buffer_frames.specs.Working.{Made, Within, met_log, met_write}
 
 -- the faults that were met by a write of a lane that was done, or wasn't
@@ -158,15 +162,15 @@ module _ {L G : Type 0} (contents : L → Option Pages) (t : FrameTable L G) whe
   WriteAnswer q tag page v w (Err (WriteFault failed)) = (failed ≡ tag) × WentToLane false q (packed_tag tag) page v w
 
   -- what came of a flush of the frame f
-  abbrev pub FlushAnswer : ℕ → Tag → ℕ → View → View → Result Bool FrameFlushError → Type 0
-  FlushAnswer q tag f v w (Ok true) = CopiesAnd (λ page a b. WriteAnswer q tag page a b (Ok tt)) f v w
-  FlushAnswer q tag f v w (Ok false) = FindsClean f v w
+  abbrev pub FlushAnswer : ℕ → Tag → ℕ → View → View → Result FlushedPage FrameFlushError → Type 0
+  FlushAnswer q tag f v w (Ok flush.Written) = CopiesAnd (λ page a b. WriteAnswer q tag page a b (Ok tt)) f v w
+  FlushAnswer q tag f v w (Ok flush.Clean) = FindsClean f v w
   FlushAnswer q tag f v w (Err why) = CopiesAnd (λ page a b. WriteAnswer q tag page a b (Err why)) f v w
 
   -- A victim may be taken: it was clean by a word that was loaded in this call, or it was flushed
   pub data FreesVictim (q : ℕ) (tag : Tag) (f : ℕ) (v w : View) : Type 0 where
     clean : (word : ℕ) → Within (λ a b. Did looking f a b word) v w → (fields word).dirty ≡ false → Made [] v w → FreesVictim q tag f v w
-    flushed : (wrote : Bool) → FlushAnswer q tag f v w (Ok wrote) → FreesVictim q tag f v w
+    flushed : (page : FlushedPage) → FlushAnswer q tag f v w (Ok page) → FreesVictim q tag f v w
 
   -- It is spared: its content lock was refused, or the ring gave it up
   pub data SparesVictim (f : ℕ) (from_ring : Bool) (before after : Option RingState) (v w : View) : Type 0 where
@@ -174,7 +178,7 @@ module _ {L G : Type 0} (contents : L → Option Pages) (t : FrameTable L G) whe
     rejected : RejectsVictim f from_ring before after v w → Made [] v w → SparesVictim f from_ring before after v w
 
   -- what came of a dirty victim
-  abbrev pub VictimAnswer : ℕ → Tag → ℕ → Bool → Option RingState → Option RingState → View → View → Result Bool FrameFlushError → Type 0
-  VictimAnswer q tag f from_ring before after v w (Ok true) = (after ≡ before) × FreesVictim q tag f v w
-  VictimAnswer q tag f from_ring before after v w (Ok false) = SparesVictim f from_ring before after v w
+  abbrev pub VictimAnswer : ℕ → Tag → ℕ → Bool → Option RingState → Option RingState → View → View → Result VictimPage FrameFlushError → Type 0
+  VictimAnswer q tag f from_ring before after v w (Ok Clean) = (after ≡ before) × FreesVictim q tag f v w
+  VictimAnswer q tag f from_ring before after v w (Ok Spared) = SparesVictim f from_ring before after v w
   VictimAnswer q tag f from_ring before after v w (Err why) = (after ≡ before) × FlushAnswer q tag f v w (Err why)

@@ -11,6 +11,8 @@ use Rattle.frame_table.specs.declared.table.FrameTable.{FrameTable}
 use Rattle.frame_table.specs.Opened.{WasAtOpening, WasSoundAtOpening}
 use Rattle.buffer_frames.specs.declared.loading.LoadError.{LoadError}
 use Rattle.buffer_frames.specs.declared.loading.LoadError.TheVariants.{ReadFault, Unsound}
+use Rattle.buffer_frames.specs.declared.loading.Loaded.{Loaded}
+use Rattle.buffer_frames.specs.declared.loading.Loaded.TheVariants.{Hit, Read}
 use Rattle.buffer_frames.specs.Working.{met_read}
 
 -- the faults that were met by a read of a lane that was done, or wasn't
@@ -25,11 +27,16 @@ reading_calls q tag (Err Unsound) = LaneRead q tag true ∷ []
 reading_calls q tag (Err ReadFault) = LaneRead q tag false ∷ []
 
 -- and that of a load, which makes none where the page is there already
-abbrev pub loading_calls : ℕ → ℕ → Result Bool LoadError → List DeviceCall
-loading_calls q tag (Ok true) = []
-loading_calls q tag (Ok false) = LaneRead q tag true ∷ []
+abbrev pub loading_calls : ℕ → ℕ → Result Loaded LoadError → List DeviceCall
+loading_calls q tag (Ok Hit) = []
+loading_calls q tag (Ok Read) = LaneRead q tag true ∷ []
 loading_calls q tag (Err Unsound) = LaneRead q tag true ∷ []
 loading_calls q tag (Err ReadFault) = LaneRead q tag false ∷ []
+
+-- what a load answered of a page that was there already, or wasn't
+abbrev pub loaded_by : Bool → Loaded
+loaded_by true = Hit
+loaded_by false = Read
 
 -- the faults that were met, by the answer
 abbrev pub met_loading : {A : Type 0} → Result A LoadError → FailedCalls → FailedCalls

@@ -20,7 +20,7 @@ use Rattle.buffer_frames.specs.declared.reading.BlockError.{BlockError}
 use Rattle.buffer_frames.specs.declared.reading.BlockError.TheVariants.{NoFrame, ReadFault, Unsound}
 use Rattle.buffer_frames.specs.declared.reading.PinnedBlock.{PinnedBlock}
 use Rattle.buffer_frames.specs.declared.victims.VictimError.{VictimError}
-use Rattle.buffer_frames.specs.Loading.{WasUnsoundAtOpening, loading_calls}
+use Rattle.buffer_frames.specs.Loading.{WasUnsoundAtOpening, loaded_by, loading_calls}
 use Rattle.buffer_frames.specs.Lookups.{SeesAndPins, SeesNone, UnderPartition}
 use Rattle.buffer_frames.specs.Stages.{Pins}
 use Rattle.buffer_frames.specs.Victims.{CensusRefused, VictimRefused, met_victim}
@@ -51,7 +51,7 @@ PinAnswer tag ring v w (Err why) = Misses tag [] v w
 
 -- and read: the lane q was read where the answer says so, and no lane else
 abbrev pub ReadCalls : ℕ → Tag → Bool → View → View → Result PinnedBlock BlockError → Type 0
-ReadCalls q tag ring v w (Ok block) = Locates tag block.pin.frame ring (loading_calls q (packed_tag tag) (Ok block.hit)) v w
+ReadCalls q tag ring v w (Ok block) = Locates tag block.pin.frame ring (loading_calls q (packed_tag tag) (Ok (loaded_by block.hit))) v w
 ReadCalls q tag ring v w (Err (NoFrame why)) = Misses tag [] v w
 ReadCalls q tag ring v w (Err (ReadFault failed)) = (f : ℕ) × Locates tag f ring (loading_calls q (packed_tag tag) (Err load.ReadFault)) v w
 ReadCalls q tag ring v w (Err (Unsound failed)) = (f : ℕ) × Locates tag f ring (loading_calls q (packed_tag tag) (Err load.Unsound)) v w

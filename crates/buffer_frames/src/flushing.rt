@@ -11,6 +11,7 @@ ghost use Rattle.table_rule.specs.Blocks.{has_block};
 ghost use Rattle.frame_table.specs.Seats.{SameMarks, SameSeat, frames_of, lanes_in, relations_of};
 ghost use Rattle.held_pins.specs.Rests.{HasNoLatch, LinksRest, LinksRestBeside, Stands};
 ghost use Rattle.held_pins.specs.Tokens.{IsPinnedFor};
+ghost use Rattle.buffer_frames.specs.declared.flushing.FlushedPage.TheVariants.{Written};
 ghost use Rattle.buffer_frames.specs.Flushing.{CallsLane, CopiesAnd, EndedInError, EndedWritten, FlushAnswer, ClearsJust, RejectsVictim, VictimAnswer, WriteAnswer, met_flushing, met_lane_write};
 ghost use Rattle.buffer_frames.specs.Stages.{HasVictim, IsPinned, IsSharing};
 ghost use Rattle.buffer_frames.specs.Working.{Calls, IsFlushCall, KeepsNotes, Made, Within, WorksAt};
@@ -18,7 +19,7 @@ ghost use Rattle.buffer_frames.specs.Working.{Calls, IsFlushCall, KeepsNotes, Ma
 use access_rings::{Ring, RingKind};
 use atomic_table::Seat;
 use block_tag::{Tag, lane_of};
-use content_locks::{IoRight, copy_out, end_io, share, start_io, try_share, unshare};
+use content_locks::{Direction, IoRight, copy_out, end_io, share, start_io, try_share, unshare};
 use frame_table::{FrameTable, Turn, Value};
 use held_pins::HeldPins;
 use log_device::LogDevice;
@@ -39,6 +40,24 @@ pub enum FrameFlushError {
     /// The lane failed to write the page of this block.
     #[error("a page was not written")]
     WriteFault { tag: Tag },
+}
+
+/// What a flush did with the page of a frame.
+#[derive(Clone, Copy, PartialEq, Eq, Debug)]
+pub enum FlushedPage {
+    /// It went to its lane.
+    Written,
+    /// It was clean, and nothing was written.
+    Clean,
+}
+
+/// What a flush leaves of a victim that was chosen.
+#[derive(Clone, Copy, PartialEq, Eq, Debug)]
+pub enum VictimPage {
+    /// It may be taken: its page was clean, or was written.
+    Clean,
+    /// Its content lock was refused, or the ring gave it up: another one is to be chosen.
+    Spared,
 }
 
 /// Clears BM_JUST_DIRTIED under the header, so that a change of the page from now on shows when the write ends.
@@ -184,7 +203,7 @@ fn write_out<L: BlockLane, G: LogDevice, R: Wait>(
     }
 }
 
-/// Writes the page of a frame whose content lock the backend shares, where it is dirty, and gives the lock up. False where it is clean.
+/// Writes the page of a frame whose content lock the backend shares, where it is dirty, and gives the lock up.
 fn flush_shared<L: BlockLane, G: LogDevice, R: Wait>(
     table: &FrameTable<L, G>,
     rt: &R,
@@ -193,7 +212,7 @@ fn flush_shared<L: BlockLane, G: LogDevice, R: Wait>(
     frame: u32,
     tag: Tag,
     page: &mut Page,
-) -> Result<bool, FrameFlushError>
+) -> Result<FlushedPage, FrameFlushError>
     requires stands { Stands table.now seat.old }
     requires others { LinksRestBeside frame held.now seat.old.me.0 }
     requires inside { frame < frames_of table.now }
@@ -210,21 +229,21 @@ fn flush_shared<L: BlockLane, G: LogDevice, R: Wait>(
     ensures answer { FlushAnswer L.contents table.now (lane_number tag (lanes_in table.now)) tag frame seat.old.me.0 seat.new.me.0 result }
     ensures met { seat.new.me.0.met ≡ met_flushing result seat.old.me.0.met }
     ensures ended { IfErr result (λ _. EndedInError frame seat.old.me.0 seat.new.me.0) }
-    ensures written { IfOk result (λ wrote. wrote ≡ true → EndedWritten frame seat.old.me.0 seat.new.me.0) }
+    ensures written { IfOk result (λ flushed. flushed ≡ Written → EndedWritten frame seat.old.me.0 seat.new.me.0) }
 {
-    let Some(right) = start_io(table, rt, seat, frame, false) else {
+    let Some(right) = start_io(table, rt, seat, frame, Direction::Output) else {
         unshare(table, seat, frame);
-        return Ok(false);
+        return Ok(FlushedPage::Clean);
     };
     let written = write_out(table, rt, seat, held, right, tag, page);
     unshare(table, seat, frame);
     match written {
-        Ok(()) => Ok(true),
+        Ok(()) => Ok(FlushedPage::Written),
         Err(why) => Err(why),
     }
 }
 
-/// Writes the page of a frame that the backend pins if it is dirty, after flushing the log up to the page's position (`FlushBuffer`). Returns false if it is clean.
+/// Writes the page of a frame that the backend pins if it is dirty, after flushing the log up to the page's position (`FlushBuffer`).
 pub fn flush_pinned<L: BlockLane, G: LogDevice, R: Wait>(
     table: &FrameTable<L, G>,
     rt: &R,
@@ -233,7 +252,7 @@ pub fn flush_pinned<L: BlockLane, G: LogDevice, R: Wait>(
     frame: u32,
     tag: Tag,
     page: &mut Page,
-) -> Result<bool, FrameFlushError>
+) -> Result<FlushedPage, FrameFlushError>
     requires stands { Stands table.now seat.old }
     requires others { LinksRestBeside frame held.now seat.old.me.0 }
     requires inside { frame < frames_of table.now }
@@ -251,13 +270,13 @@ pub fn flush_pinned<L: BlockLane, G: LogDevice, R: Wait>(
     ensures answer { FlushAnswer L.contents table.now (lane_number tag (lanes_in table.now)) tag frame seat.old.me.0 seat.new.me.0 result }
     ensures met { seat.new.me.0.met ≡ met_flushing result seat.old.me.0.met }
     ensures ended { IfErr result (λ _. EndedInError frame seat.old.me.0 seat.new.me.0) }
-    ensures written { IfOk result (λ wrote. wrote ≡ true → EndedWritten frame seat.old.me.0 seat.new.me.0) }
+    ensures written { IfOk result (λ flushed. flushed ≡ Written → EndedWritten frame seat.old.me.0 seat.new.me.0) }
 {
     share(table, rt, seat, frame);
     flush_shared(table, rt, seat, held, frame, tag, page)
 }
 
-/// Writes the page of a frame of which callers have tokens if it is dirty (`FlushOneBuffer`). Returns false if it is clean.
+/// Writes the page of a frame of which callers have tokens if it is dirty (`FlushOneBuffer`).
 pub fn flush_frame<L: BlockLane, G: LogDevice, R: Wait>(
     table: &FrameTable<L, G>,
     rt: &R,
@@ -266,7 +285,7 @@ pub fn flush_frame<L: BlockLane, G: LogDevice, R: Wait>(
     frame: u32,
     tag: Tag,
     page: &mut Page,
-) -> Result<bool, FrameFlushError>
+) -> Result<FlushedPage, FrameFlushError>
     requires stands { Stands table.now seat.old }
     requires latches { HasNoLatch seat.old.me.0 }
     requires rests { LinksRest held.now seat.old.me.0 }
@@ -285,7 +304,7 @@ pub fn flush_frame<L: BlockLane, G: LogDevice, R: Wait>(
     ensures answer { FlushAnswer L.contents table.now (lane_number tag (lanes_in table.now)) tag frame seat.old.me.0 seat.new.me.0 result }
     ensures met { seat.new.me.0.met ≡ met_flushing result seat.old.me.0.met }
     ensures ended { IfErr result (λ _. EndedInError frame seat.old.me.0 seat.new.me.0) }
-    ensures written { IfOk result (λ wrote. wrote ≡ true → EndedWritten frame seat.old.me.0 seat.new.me.0) }
+    ensures written { IfOk result (λ flushed. flushed ≡ Written → EndedWritten frame seat.old.me.0 seat.new.me.0) }
 {
     flush_pinned(table, rt, seat, held, frame, tag, page)
 }
@@ -327,7 +346,7 @@ fn is_rejected<L: BlockLane, G: LogDevice, R: Wait>(
     ring.reject(frame)
 }
 
-/// Writes a dirty victim, unless its content lock is refused or the ring gives it up. Whether it may be taken; else another one is to be chosen.
+/// Writes a dirty victim, unless its content lock is refused or the ring gives it up.
 pub fn flush_victim<L: BlockLane, G: LogDevice, R: Wait>(
     table: &FrameTable<L, G>,
     rt: &R,
@@ -338,7 +357,7 @@ pub fn flush_victim<L: BlockLane, G: LogDevice, R: Wait>(
     page: &mut Page,
     ring: &mut Option<Ring>,
     from_ring: bool,
-) -> Result<bool, FrameFlushError>
+) -> Result<VictimPage, FrameFlushError>
     requires stands { Stands table.now seat.old }
     requires latches { HasNoLatch seat.old.me.0 }
     requires victim { HasVictim frame held.now seat.old.me.0 }
@@ -358,18 +377,18 @@ pub fn flush_victim<L: BlockLane, G: LogDevice, R: Wait>(
     ensures ended { IfErr result (λ _. EndedInError frame seat.old.me.0 seat.new.me.0) }
 {
     if !has(table.look(seat, frame), Flag::Dirty) {
-        return Ok(true);
+        return Ok(VictimPage::Clean);
     }
     if let Err(_why) = try_share(table, seat, frame) {
-        return Ok(false);
+        return Ok(VictimPage::Spared);
     }
     if is_rejected(table, rt, seat, frame, tag, page, ring, from_ring) {
         unshare(table, seat, frame);
-        return Ok(false);
+        return Ok(VictimPage::Spared);
     }
     match flush_shared(table, rt, seat, held, frame, tag, page) {
         // Whether it was written now, or was clean by then, it may be taken.
-        Ok(_written) => Ok(true),
+        Ok(_written) => Ok(VictimPage::Clean),
         Err(why) => Err(why),
     }
 }

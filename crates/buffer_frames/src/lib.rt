@@ -12,8 +12,10 @@ mod puts;
 mod reading;
 mod victims;
 
-pub use flushing::{FrameFlushError, flush_frame, flush_pinned, flush_victim};
-pub use loading::{LoadError, load};
+pub use flushing::{
+    FlushedPage, FrameFlushError, VictimPage, flush_frame, flush_pinned, flush_victim,
+};
+pub use loading::{LoadError, Loaded, load};
 pub use page_reads::{read_copy, share_to_read};
 pub use puts::put_locked;
 pub use reading::{BlockError, PinnedBlock, read_block};

@@ -14,7 +14,7 @@ ghost use Rattle.buffer_frames.specs.Working.{Made, WorksAt};
 
 use atomic_table::Seat;
 use block_tag::{Tag, lane_of};
-use content_locks::{IoRight, end_io, page_back, page_out, start_io};
+use content_locks::{Direction, IoRight, end_io, page_back, page_out, start_io};
 use frame_table::{FrameTable, Turn, Value};
 use held_pins::HeldPins;
 use log_device::LogDevice;
@@ -32,6 +32,15 @@ pub enum LoadError {
     ReadFault,
     /// The lane gave a page that isn't sound.
     Unsound,
+}
+
+/// How a page is in the frame that was pinned for its block.
+#[derive(Clone, Copy, PartialEq, Eq, Debug)]
+pub enum Loaded {
+    /// It was there already: no lane was read.
+    Hit,
+    /// It was read from its lane.
+    Read,
 }
 
 /// Reads a block from its lane, for the frame. Whether the lane gave a page.
@@ -156,7 +165,7 @@ fn read_in<L: BlockLane, G: LogDevice, R: Wait>(
     Ok(())
 }
 
-/// Reads a block into the frame that is pinned for it, unless the page is there already (`ReadBuffer_common`). Whether it was there: no lane was read then.
+/// Reads a block into the frame that is pinned for it, unless the page is there already (`ReadBuffer_common`).
 pub fn load<L: BlockLane, G: LogDevice, R: Wait>(
     table: &FrameTable<L, G>,
     rt: &R,
@@ -165,7 +174,7 @@ pub fn load<L: BlockLane, G: LogDevice, R: Wait>(
     frame: u32,
     tag: Tag,
     page: &mut Page,
-) -> Result<bool, LoadError>
+) -> Result<Loaded, LoadError>
     requires stands { Stands table.now seat.old }
     requires latches { HasNoLatch seat.old.me.0 }
     requires pinned { Pins (packed_tag tag) frame held.now seat.old.me.0 }
@@ -183,12 +192,12 @@ pub fn load<L: BlockLane, G: LogDevice, R: Wait>(
     ensures shows { LoadShows L.contents table.now tag result }
 {
     if has(table.look(seat, frame), Flag::Valid) {
-        return Ok(true);
+        return Ok(Loaded::Hit);
     }
-    let Some(right) = start_io(table, rt, seat, frame, true) else {
+    let Some(right) = start_io(table, rt, seat, frame, Direction::Input) else {
         see_page(table, seat, frame, tag);
-        return Ok(true);
+        return Ok(Loaded::Hit);
     };
     read_in(table, rt, seat, held, right, tag, page)?;
-    Ok(false)
+    Ok(Loaded::Read)
 }

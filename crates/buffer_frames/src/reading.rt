@@ -11,7 +11,7 @@ ghost use Rattle.buffer_frames.specs.Reads.{CensusPinned, CensusRead, PinAnswer,
 ghost use Rattle.buffer_frames.specs.Stages.{Pins};
 ghost use Rattle.buffer_frames.specs.Victims.{ClaimAnswer, met_claimed};
 
-use crate::loading::{LoadError, load};
+use crate::loading::{LoadError, Loaded, load};
 use crate::lookup::look_up;
 use crate::victims::{VictimError, claim};
 use access_rings::Ring;
@@ -150,7 +150,8 @@ pub fn read_block<L: BlockLane, G: LogDevice, R: Wait>(
     };
     let frame = pin.frame();
     match load(table, rt, seat, held, frame, tag, page) {
-        Ok(hit) => Ok(PinnedBlock { pin, hit }),
+        Ok(Loaded::Hit) => Ok(PinnedBlock { pin, hit: true }),
+        Ok(Loaded::Read) => Ok(PinnedBlock { pin, hit: false }),
         Err(LoadError::ReadFault) => {
             give_back(table, rt, seat, held, pin, tag);
             Err(BlockError::ReadFault { tag })

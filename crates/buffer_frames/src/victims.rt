@@ -14,7 +14,7 @@ ghost use Rattle.buffer_frames.specs.Working.{Calls, IsFlushCall};
 use crate::choosing::{Chosen, choose};
 use crate::entering::{enter_or_pin, give_up};
 use crate::erasing::erase;
-use crate::flushing::{FrameFlushError, flush_victim};
+use crate::flushing::{FrameFlushError, VictimPage, flush_victim};
 use access_rings::Ring;
 use atomic_table::Seat;
 use block_tag::Tag;
@@ -112,8 +112,8 @@ fn make_victim<L: BlockLane, G: LogDevice, R: Wait>(
         return Freed::Ready(pin);
     };
     match flush_victim(table, rt, seat, held, frame, tag, page, ring, from_ring) {
-        Ok(true) => {}
-        Ok(false) => {
+        Ok(VictimPage::Clean) => {}
+        Ok(VictimPage::Spared) => {
             give_up(table, rt, seat, held, pin);
             return Freed::Again;
         }

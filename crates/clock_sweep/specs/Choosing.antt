@@ -14,6 +14,8 @@ use Rattle.access_rings.specs.RingState.{RingState, frame_at_current, ring_after
 use Rattle.clock_sweep.specs.declared.held.LockedFrame.{LockedFrame}
 use Rattle.clock_sweep.specs.declared.clock.Treated.{Treated}
 use Rattle.clock_sweep.specs.declared.clock.Treated.TheVariants.{Chosen, Passed}
+use Rattle.clock_sweep.specs.declared.taking.Source.{Source}
+use Rattle.clock_sweep.specs.declared.taking.Source.TheVariants.{Ring, Pool}
 use Rattle.clock_sweep.specs.Keeping.{SamePins}
 
 -- The header of the frame f was locked, after loads, and this word is held: the word found, locked (`LocksHeader` of `content_locks` names the word found alone)
@@ -46,6 +48,11 @@ pub record LeavesFrame (limit f : ℕ) (v w : View) : Type 0 where
   pub locks : TakesHeader f v under word
   pub unfit : IsUnfit limit (fields word)
   pub unlocks : Did (pins unlock_header) f under w found
+
+-- whether a frame comes from the ring
+abbrev pub is_ring : Source → Bool
+is_ring Ring = true
+is_ring Pool = false
 
 -- the usage count that a frame of the ring may have, and one from elsewhere
 abbrev pub usage_allowed : Bool → ℕ

@@ -15,7 +15,7 @@ use crate::census::Census;
 use crate::clock::from_clock;
 use crate::held::{LockedFrame, NoUnpinned};
 use crate::sweep::Sweep;
-use crate::taking::try_frame;
+use crate::taking::{Source, try_frame};
 use access_rings::Ring;
 use atomic_table::Seat;
 use frame_table::{FrameTable, Value};
@@ -61,7 +61,7 @@ fn from_ring<L: BlockLane, G: LogDevice, R: Wait>(
     ensures takes { IfSome result (λ held. Takes 1 held seat.old.me.0 seat.new.me.0) }
     ensures leaves { IfNone result (LeavesRing (frames_of table.now) place seat.old.me.0 seat.new.me.0) }
 {
-    try_frame(table, rt, seat, place?, true)
+    try_frame(table, rt, seat, place?, Source::Ring)
 }
 
 /// Takes the first frame of the free list that is fit. Those before it are off the list.
@@ -80,7 +80,7 @@ fn from_free_list<L: BlockLane, G: LogDevice, R: Wait>(
 {
     for _ in rt.forever() {
         let frame = sweep.take(rt)?;
-        if let Some(held) = try_frame(table, rt, seat, frame, false) {
+        if let Some(held) = try_frame(table, rt, seat, frame, Source::Pool) {
             return Some(held);
         }
     }

@@ -4,7 +4,7 @@ ghost use Rattle.std.specs.Bool.{OnFalse, OnTrue};
 ghost use Rattle.state_word.specs.Fields.{fields};
 ghost use Rattle.pin_core.specs.Steps.{HoldsNoHeader};
 ghost use Rattle.frame_table.specs.Seats.{IsSeat, SameSeat, frames_of};
-ghost use Rattle.clock_sweep.specs.Choosing.{IsFit, IsUnfit, Skips, Takes, usage_allowed};
+ghost use Rattle.clock_sweep.specs.Choosing.{IsFit, IsUnfit, Skips, Takes, is_ring, usage_allowed};
 
 use crate::held::LockedFrame;
 use atomic_table::Seat;
@@ -15,12 +15,35 @@ use segment_store::BlockLane;
 use state_word::{pins, usage};
 use std::sync::Wait;
 
+/// Where a frame that may be taken comes from.
+#[derive(Clone, Copy)]
+pub(crate) enum Source {
+    /// The ring's current place.
+    Ring,
+    /// Elsewhere in the pool.
+    Pool,
+}
+
+impl Source {
+    ghost use Rattle.std.specs.Prelude.{◌≡◌};
+    ghost use Rattle.clock_sweep.specs.Choosing.{is_ring};
+
+    fn is_ring(self) -> bool
+        ensures { result ≡ is_ring self }
+    {
+        match self {
+            Source::Ring => true,
+            Source::Pool => false,
+        }
+    }
+}
+
 /// Whether no backend pins a frame, and its usage count is low enough: 0, or at most 1 where it comes from the ring.
-fn is_fit(word: u64, from_ring: bool) -> bool
-    ensures fit { OnTrue result (IsFit (usage_allowed from_ring) (fields word)) }
-    ensures unfit { OnFalse result (IsUnfit (usage_allowed from_ring) (fields word)) }
+fn is_fit(word: u64, source: Source) -> bool
+    ensures fit { OnTrue result (IsFit (usage_allowed (is_ring source)) (fields word)) }
+    ensures unfit { OnFalse result (IsUnfit (usage_allowed (is_ring source)) (fields word)) }
 {
-    let most = if from_ring { 1 } else { 0 };
+    let most = if source.is_ring() { 1 } else { 0 };
     pins(word) == 0 && usage(word) <= most
 }
 
@@ -30,25 +53,25 @@ pub(crate) fn try_frame<L: BlockLane, G: LogDevice, R: Wait>(
     rt: &R,
     seat: &mut Seat<Value<L, G>, View>,
     frame: u32,
-    from_ring: bool,
+    source: Source,
 ) -> Option<LockedFrame>
     requires seat { IsSeat table.now seat.old }
     requires headless { HoldsNoHeader seat.old.me.0 }
     ensures seat { SameSeat seat.old seat.new }
-    ensures frame { IfSome result (λ held. (held.frame ≡ frame) × (held.from_ring ≡ from_ring)) }
+    ensures frame { IfSome result (λ held. (held.frame ≡ frame) × (held.from_ring ≡ is_ring source)) }
     ensures inside { IfSome result (λ _. frame < frames_of table.now) }
-    ensures takes { IfSome result (λ held. Takes (usage_allowed from_ring) held seat.old.me.0 seat.new.me.0) }
-    ensures skips { IfNone result (Skips (frames_of table.now) (usage_allowed from_ring) frame seat.old.me.0 seat.new.me.0) }
+    ensures takes { IfSome result (λ held. Takes (usage_allowed (is_ring source)) held seat.old.me.0 seat.new.me.0) }
+    ensures skips { IfNone result (Skips (frames_of table.now) (usage_allowed (is_ring source)) frame seat.old.me.0 seat.new.me.0) }
 {
     if frame >= table.frames() {
         return None;
     }
     let word = table.lock_header(rt, seat, frame);
-    if is_fit(word, from_ring) {
+    if is_fit(word, source) {
         return Some(LockedFrame {
             frame,
             word,
-            from_ring,
+            from_ring: source.is_ring(),
         });
     }
     table.unlock_header(seat, frame);

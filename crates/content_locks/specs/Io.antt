@@ -5,7 +5,7 @@ use Rattle.state_word.specs.declared.word.StateWord.{StateWord}
 use Rattle.state_word.specs.Fields.{fields, io_ended_fields, unlocked_fields}
 use Rattle.pin_core.specs.declared.view.Content.TheVariants.{Shared}
 use Rattle.pin_core.specs.declared.view.Role.TheVariants.{HandedOut, Absent}
-use Rattle.pin_core.specs.declared.view.Io.TheVariants.{Input}
+use Rattle.pin_core.specs.declared.view.Io.TheVariants as io
 use Rattle.pin_core.specs.declared.view.Link.{Link}
 use Rattle.pin_core.specs.declared.view.View.{View}
 use Rattle.pin_core.specs.State.{link}
@@ -16,8 +16,15 @@ use Rattle.frame_table.specs.Kinds.{pages, pins}
 use Rattle.frame_table.specs.Seats.{IsWordOf, Looked, MarksBegun, MarksEnded, SameMarks}
 use Rattle.frame_table.specs.FrameSteps.{Did, Looks, looking}
 use Rattle.frame_table.specs.Content.{begun_link, start_of}
+use Rattle.content_locks.specs.declared.io.Direction.{Direction}
+use Rattle.content_locks.specs.declared.io.Direction.TheVariants.{Input, Output}
 use Rattle.content_locks.specs.declared.io.TryIo.{TryIo}
 use Rattle.content_locks.specs.declared.io.TryIo.TheVariants.{InProgress, Nothing, Begun}
+
+-- whether a page is read, and not written
+abbrev pub is_input : Direction → Bool
+is_input Input = true
+is_input Output = false
 
 -- whether a word shows nothing to do: for a read the page is valid, and for a write it isn't dirty
 abbrev pub is_nothing : Bool → StateWord → Bool
@@ -33,7 +40,7 @@ pub record CanStartIo (input : Bool) (l : Link) : Type 0 where
 
 -- it may end: for a read the page is home
 pub record MayEndIo (end : IoEnd) (l : Link) : Type 0 where
-  pub home : l.io ≡ Input → l.out ≡ None
+  pub home : l.io ≡ io.Input → l.out ≡ None
   pub ends : EndsAs end l
 
 -- Loads of the state word of f, and then its header was locked, where the word found was `was` (`TakesHeader` of `clock_sweep` names the word that is held then, too)

@@ -7,7 +7,7 @@ ghost use Rattle.pin_core.specs.Steps.{HoldsNoHeader};
 ghost use Rattle.page_core.specs.Steps.{HasNoIo, HasNoWriteOut};
 ghost use Rattle.frame_table.specs.Seats.{CanStep, Looked, MarksBegun, MarksEnded, SameMarks, SameSeat, Touches};
 ghost use Rattle.frame_table.specs.Content.{begun_link, finished_link};
-ghost use Rattle.content_locks.specs.Io.{BeginsIo, MayEndIo, CanStartIo, EndsIo, FindsNothing, TriedIo, is_nothing};
+ghost use Rattle.content_locks.specs.Io.{BeginsIo, MayEndIo, CanStartIo, EndsIo, FindsNothing, TriedIo, is_input, is_nothing};
 
 use atomic_table::Seat;
 use frame_table::{FrameTable, IoRight, Value};
@@ -17,6 +17,30 @@ use segment_store::BlockLane;
 use state_word::{Flag, IoEnd, has};
 use std::sync::Wait;
 use std::thread;
+
+/// Whether a page is read or written (`forInput` of `StartBufferIO`).
+#[derive(Clone, Copy)]
+pub enum Direction {
+    /// The page is read: from its lane into its frame.
+    Input,
+    /// The page is written: from its frame to its lane.
+    Output,
+}
+
+impl Direction {
+    ghost use Rattle.std.specs.Prelude.{◌≡◌};
+    ghost use Rattle.content_locks.specs.Io.{is_input};
+
+    /// Whether the page is read.
+    fn is_input(self) -> bool
+        ensures { result ≡ is_input self }
+    {
+        match self {
+            Direction::Input => true,
+            Direction::Output => false,
+        }
+    }
+}
 
 /// What came of one try to begin.
 enum TryIo {
@@ -28,13 +52,12 @@ enum TryIo {
 }
 
 /// Whether a state word shows nothing to do: a page that is valid, or for a write one that isn't dirty.
-fn shows_nothing(word: u64, input: bool) -> bool
-    ensures { result ≡ is_nothing input (fields word) }
+fn shows_nothing(word: u64, direction: Direction) -> bool
+    ensures { result ≡ is_nothing (is_input direction) (fields word) }
 {
-    if input {
-        has(word, Flag::Valid)
-    } else {
-        !has(word, Flag::Dirty)
+    match direction {
+        Direction::Input => has(word, Flag::Valid),
+        Direction::Output => !has(word, Flag::Dirty),
     }
 }
 
@@ -43,29 +66,29 @@ fn try_io<L: BlockLane, G: LogDevice, R: Wait>(
     rt: &R,
     seat: &mut Seat<Value<L, G>, View>,
     frame: u32,
-    input: bool,
+    direction: Direction,
 ) -> TryIo
     requires seat { CanStep table.now seat.old frame }
     requires headless { HoldsNoHeader seat.old.me.0 }
     requires quiet { HasNoIo seat.old.me.0 }
-    requires view { CanStartIo input (link seat.old.me.0 frame) }
+    requires view { CanStartIo (is_input direction) (link seat.old.me.0 frame) }
     ensures seat { SameSeat seat.old seat.new }
     ensures touches { Touches frame seat.old.me.0 seat.new.me.0 }
-    ensures tried { TriedIo input frame seat.old.me.0 seat.new.me.0 result }
+    ensures tried { TriedIo (is_input direction) frame seat.old.me.0 seat.new.me.0 result }
 {
     let word = table.lock_header(rt, seat, frame);
     if has(word, Flag::IoInProgress) {
         table.unlock_header(seat, frame);
         return TryIo::InProgress;
     }
-    if shows_nothing(word, input) {
+    if shows_nothing(word, direction) {
         // The word is held already. But to lock a header shows a pin no flag, and this load does:
         // a backend that finds nothing to read has a pin that has seen BM_VALID.
         table.look(seat, frame);
         table.unlock_header(seat, frame);
         return TryIo::Nothing;
     }
-    TryIo::Begun(table.begin_io(seat, frame, word, input))
+    TryIo::Begun(table.begin_io(seat, frame, word, direction.is_input()))
 }
 
 /// Waits until no other backend reads or writes the page, and begins to read it, or to write it. It answers None where the word that it held shows nothing to do: the page is valid, or for a write it isn't dirty.
@@ -74,24 +97,24 @@ pub fn start_io<L: BlockLane, G: LogDevice, R: Wait>(
     rt: &R,
     seat: &mut Seat<Value<L, G>, View>,
     frame: u32,
-    input: bool,
+    direction: Direction,
 ) -> Option<IoRight>
     requires seat { CanStep table.now seat.old frame }
     requires headless { HoldsNoHeader seat.old.me.0 }
     requires quiet { HasNoIo seat.old.me.0 }
-    requires view { CanStartIo input (link seat.old.me.0 frame) }
+    requires view { CanStartIo (is_input direction) (link seat.old.me.0 frame) }
     ensures seat { SameSeat seat.old seat.new }
     ensures touches { Touches frame seat.old.me.0 seat.new.me.0 }
-    ensures marks { MatchOption result (SameMarks seat.old.me.0 seat.new.me.0) (λ _. MarksBegun input seat.old.me.0 seat.new.me.0) }
-    ensures right { IfSome result (λ r. (r.frame ≡ frame) × (r.input ≡ input)) }
-    ensures begun { IfSome result (λ _. Looked (begun_link input (link seat.old.me.0 frame)) (link seat.new.me.0 frame)) }
+    ensures marks { MatchOption result (SameMarks seat.old.me.0 seat.new.me.0) (λ _. MarksBegun (is_input direction) seat.old.me.0 seat.new.me.0) }
+    ensures right { IfSome result (λ r. (r.frame ≡ frame) × (r.input ≡ is_input direction)) }
+    ensures begun { IfSome result (λ _. Looked (begun_link (is_input direction) (link seat.old.me.0 frame)) (link seat.new.me.0 frame)) }
     ensures left { IfNone result (Looked (link seat.old.me.0 frame) (link seat.new.me.0 frame)) }
-    ensures seen { IfNone result (input ≡ true → (link seat.new.me.0 frame).seen_valid ≡ true) }
-    ensures did { IfSome result (λ _. BeginsIo input frame seat.old.me.0 seat.new.me.0) }
-    ensures cause { IfNone result (FindsNothing input frame seat.old.me.0 seat.new.me.0) }
+    ensures seen { IfNone result (is_input direction ≡ true → (link seat.new.me.0 frame).seen_valid ≡ true) }
+    ensures did { IfSome result (λ _. BeginsIo (is_input direction) frame seat.old.me.0 seat.new.me.0) }
+    ensures cause { IfNone result (FindsNothing (is_input direction) frame seat.old.me.0 seat.new.me.0) }
 {
     for _ in rt.forever() {
-        match try_io(table, rt, seat, frame, input) {
+        match try_io(table, rt, seat, frame, direction) {
             TryIo::InProgress => thread::yield_now(),
             TryIo::Nothing => return None,
             TryIo::Begun(right) => return Some(right),

@@ -7,5 +7,5 @@ mod locks;
 
 pub use copies::{copy_out, page_back, page_out};
 pub use frame_table::IoRight;
-pub use io::{end_io, start_io};
+pub use io::{Direction, end_io, start_io};
 pub use locks::{TryLock, exclusive, share, try_exclusive, try_share, unexclusive, unshare};

@@ -10,6 +10,7 @@ use Rattle.content_locks.specs.Io.{FindsNothing}
 use Rattle.held_pins.specs.Rests.{LinksRestBeside}
 use Rattle.frame_table.proofs.Rising.{rises_none, rises_touched}
 use Rattle.held_pins.proofs.Keeping.{beside_kept, stands_self}
+use Rattle.buffer_frames.specs.declared.flushing.FlushedPage.TheVariants.{Written, Clean}
 use Rattle.buffer_frames.specs.Flushing.{CopiesAnd, EndedInError, EndedWritten, WriteAnswer, met_refused}
 use Rattle.buffer_frames.specs.Stages.{IsSharing}
 use Rattle.buffer_frames.specs.Working.{KeepsNotes, WorksAt}
@@ -134,7 +135,7 @@ returns-in_default-clause-notes g c = let f = c.args.frame in let e = c.unshare.
     notes_on (link c.args.seat.now.me.0 f) (link c.start_io.new.seat.me.0 f) (link c.unshare.new.seat.me.0 f) (notes_looked (link c.args.seat.now.me.0 f) (link c.start_io.new.seat.me.0 f) c.in_default.ensures.left) (notes_by (link c.start_io.new.seat.me.0 f) (link c.unshare.new.seat.me.0 f) (ap (λ (l : Link). l.visited) e) (ap (λ (l : Link). l.left_to_write) e))
 
 pub returns-in_default-clause-written : goal.returns-in_default-clause-written
-returns-in_default-clause-written g c = λ same. (let no : false ≡ true = same in absurd (cc))
+returns-in_default-clause-written g c = λ same. (let no : Clean ≡ Written = same in absurd (cc))
 
 pub returns-in-Ok-clause-notes : goal.returns-in-Ok-clause-notes
 returns-in-Ok-clause-notes g c = let f = c.args.frame in let v = c.args.seat.now.me.0 in let u = c.start_io.new.seat.me.0 in let w = c.write_out-written.new.seat.me.0 in let e = c.unshare-2.ensures.unshared in

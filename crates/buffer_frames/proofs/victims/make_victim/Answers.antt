@@ -11,8 +11,8 @@ use Rattle.buffer_frames.proofs.victims.make_victim.Goals as goal
 pub returns-in-Err-clause-answer : goal.returns-in-Err-clause-answer
 returns-in-Err-clause-answer g c = let e = c.in-Err.ensures in (e.rests, (e.frames, all_pinned_now _ _ c.args.seat.now.me.0 c.choose.new.seat.me.0 _ e.cause))
 
-pub returns-in-Ok-false-clause-advances : goal.returns-in-Ok-false-clause-advances
-returns-in-Ok-false-clause-advances g c =
+pub returns-in-Ok-Spared-clause-advances : goal.returns-in-Ok-Spared-clause-advances
+returns-in-Ok-Spared-clause-advances g c =
     let a = grows_outside c.args.seat.now.me.0 c.tag_of_victim.new.seat.me.0 (grows_on _ c.choose.new.seat.me.0 _ c.choose.ensures.grows c.tag_of_victim.ensures.grows) (c.tag_of_victim.ensures.same ∙ c.choose.ensures.same) in
     let b = rises_on c.args.seat.now.me.0 c.tag_of_victim.new.seat.me.0 c.flush_victim.new.seat.me.0 a c.flush_victim.ensures.works.advances in
     rises_on c.args.seat.now.me.0 c.flush_victim.new.seat.me.0 c.give_up.new.seat.me.0 b (grows_outside c.flush_victim.new.seat.me.0 c.give_up.new.seat.me.0 c.give_up.ensures.grows c.give_up.ensures.same)
@@ -57,8 +57,8 @@ returns-clause-advances g c =
 pub returns-in_default-clause-locks : goal.returns-in_default-clause-locks
 returns-in_default-clause-locks g c = same_locks_on c.args.seat.now.me.0 c.choose.new.seat.me.0 c.tag_of_victim.new.seat.me.0 c.choose.ensures.locks c.tag_of_victim.ensures.locks
 
-pub returns-in-Ok-false-clause-locks : goal.returns-in-Ok-false-clause-locks
-returns-in-Ok-false-clause-locks g c = same_locks_on c.args.seat.now.me.0 c.flush_victim.new.seat.me.0 c.give_up.new.seat.me.0 (same_locks_on c.args.seat.now.me.0 c.tag_of_victim.new.seat.me.0 c.flush_victim.new.seat.me.0 (same_locks_on c.args.seat.now.me.0 c.choose.new.seat.me.0 c.tag_of_victim.new.seat.me.0 c.choose.ensures.locks c.tag_of_victim.ensures.locks) (same_locks_victim c.args.held.now c.frame-frame.result c.tag_of_victim.new.seat.me.0 c.flush_victim.new.seat.me.0 c.flush_victim.ensures.works c.tag_of_victim.ensures.victim c.flush_victim.ensures.victim)) c.give_up.ensures.locks
+pub returns-in-Ok-Spared-clause-locks : goal.returns-in-Ok-Spared-clause-locks
+returns-in-Ok-Spared-clause-locks g c = same_locks_on c.args.seat.now.me.0 c.flush_victim.new.seat.me.0 c.give_up.new.seat.me.0 (same_locks_on c.args.seat.now.me.0 c.tag_of_victim.new.seat.me.0 c.flush_victim.new.seat.me.0 (same_locks_on c.args.seat.now.me.0 c.choose.new.seat.me.0 c.tag_of_victim.new.seat.me.0 c.choose.ensures.locks c.tag_of_victim.ensures.locks) (same_locks_victim c.args.held.now c.frame-frame.result c.tag_of_victim.new.seat.me.0 c.flush_victim.new.seat.me.0 c.flush_victim.ensures.works c.tag_of_victim.ensures.victim c.flush_victim.ensures.victim)) c.give_up.ensures.locks
 
 pub returns-in-Err-flush_victim-clause-locks : goal.returns-in-Err-flush_victim-clause-locks
 returns-in-Err-flush_victim-clause-locks g c = same_locks_on c.args.seat.now.me.0 c.flush_victim.new.seat.me.0 c.give_up-in-Err-flush_victim.new.seat.me.0 (same_locks_on c.args.seat.now.me.0 c.tag_of_victim.new.seat.me.0 c.flush_victim.new.seat.me.0 (same_locks_on c.args.seat.now.me.0 c.choose.new.seat.me.0 c.tag_of_victim.new.seat.me.0 c.choose.ensures.locks c.tag_of_victim.ensures.locks) (same_locks_victim c.args.held.now c.frame-frame.result c.tag_of_victim.new.seat.me.0 c.flush_victim.new.seat.me.0 c.flush_victim.ensures.works c.tag_of_victim.ensures.victim c.flush_victim.ensures.victim)) c.give_up-in-Err-flush_victim.ensures.locks

@@ -2,7 +2,7 @@ use Rattle.std.proofs.Common.{refl, ap, ◌∙◌}
 use Rattle.pin_core.specs.declared.view.View.{View}
 use Rattle.frame_table.proofs.Told.{touches_none, touches_on, looked_on}
 use Rattle.content_locks.proofs.InOut.{headless_still, quiet_still, can_still, begun_on, begins_on, nothing_on, looked_none}
-use Rattle.content_locks.specs.Io.{still, again}
+use Rattle.content_locks.specs.Io.{still, again, is_input}
 use Rattle.std.specs.Prelude.{not, ◌||◌}
 use Rattle.frame_table.specs.Seats.{ViewMarks}
 use Rattle.content_locks.proofs.io.start_io.Goals as goal
@@ -50,7 +50,7 @@ loop-preserved g c = let i = c.loop.invariant in let b = c.try_io.ensures in let
 }
 
 pub returns-in-Begun-clause-marks : goal.returns-in-Begun-clause-marks
-returns-in-Begun-clause-marks g c = c.in-Begun.ensures.tried.4 ∙ ap (λ (m : ViewMarks). record m { had_output = m.had_output || not c.args.input }) c.loop.invariant.marks
+returns-in-Begun-clause-marks g c = c.in-Begun.ensures.tried.4 ∙ ap (λ (m : ViewMarks). record m { had_output = m.had_output || not (is_input c.args.direction) }) c.loop.invariant.marks
 
 pub returns-in-Nothing-clause-marks : goal.returns-in-Nothing-clause-marks
 returns-in-Nothing-clause-marks g c = c.in-Nothing.ensures.tried.3 ∙ c.loop.invariant.marks

@@ -1,10 +1,14 @@
 use Rattle.std.proofs.Common.{◌≡◌, true, sym, ap, subst, ◌∙◌, Bool}
 use Rattle.state_word.specs.Fields.{fields}
 use Rattle.pin_core.specs.declared.view.Link.{Link}
-use Rattle.content_locks.specs.Io.{is_nothing}
+use Rattle.pin_core.specs.State.{link}
+use Rattle.frame_table.specs.Kinds.{pages}
+use Rattle.content_locks.specs.Io.{is_input, is_nothing}
 use Rattle.content_locks.proofs.InOut.{unlocked_back, begun_back, can_begin, tag_there, begins, finds, quiet_locked, sees}
 use Rattle.std.specs.Prelude.{not, ◌||◌}
-use Rattle.frame_table.specs.Seats.{ViewMarks}
+use Rattle.frame_table.specs.Seats.{MarksBegun, ViewMarks}
+use Rattle.frame_table.specs.FrameSteps.{Did}
+use Rattle.frame_table.specs.Content.{CanBeginIo, begun_link, start_of}
 use Rattle.frame_table.proofs.Told.{touches_on}
 use Rattle.content_locks.proofs.io.try_io.Goals as goal
 
@@ -17,10 +21,18 @@ returns-then-shows_nothing-clause-tried g c = let k = c.lock_header-word.ensures
 )
 
 pub begin_io-requires-clause-view : goal.begin_io-requires-clause-view
-begin_io-requires-clause-view g c = let k = c.lock_header-word.ensures in can_begin _ _ _ k.locked _ c.requires.view (sym c.has.ensures ∙ c.if-has.false) (sym c.shows_nothing.ensures ∙ c.if-shows_nothing.false) (tag_there _ _ _ _ k.did k.locked)
+begin_io-requires-clause-view g c = let k = c.lock_header-word.ensures in
+    subst (λ (input : Bool). CanBeginIo input c.lock_header-word.result (link c.lock_header-word.new.seat.me.0 c.args.frame)) (sym c.is_input.ensures)
+    (can_begin _ _ _ k.locked _ c.requires.view (sym c.has.ensures ∙ c.if-has.false) (sym c.shows_nothing.ensures ∙ c.if-shows_nothing.false) (tag_there _ _ _ _ k.did k.locked))
 
 pub returns-clause-tried : goal.returns-clause-tried
-returns-clause-tried g c = let b = c.begin_io.ensures in (b.right.0, b.right.1, begun_back _ _ _ c.lock_header-word.ensures.locked _ _ b.begun, begins _ _ _ _ c.lock_header-word.ensures.did _ _ b.did, b.marks ∙ ap (λ (m : ViewMarks). record m { had_output = m.had_output || not c.args.input }) c.lock_header-word.ensures.marks)
+returns-clause-tried g c = let k = c.lock_header-word.ensures in let b = c.begin_io.ensures in let e = c.is_input.ensures in (
+  b.right.0,
+  b.right.1 ∙ e,
+  begun_back _ _ _ k.locked _ _ (b.begun ∙ ap (λ (input : Bool). begun_link input (link c.lock_header-word.new.seat.me.0 c.args.frame)) e),
+  begins _ _ _ _ k.did _ _ (subst (λ (input : Bool). Did (pages (start_of input)) c.args.frame c.lock_header-word.new.seat.me.0 c.begin_io.new.seat.me.0 c.lock_header-word.result) e b.did),
+  subst (λ (input : Bool). MarksBegun input c.lock_header-word.new.seat.me.0 c.begin_io.new.seat.me.0) e b.marks ∙ ap (λ (m : ViewMarks). record m { had_output = m.had_output || not (is_input c.args.direction) }) k.marks,
+)
 
 pub begin_io-requires-clause-quiet : goal.begin_io-requires-clause-quiet
 begin_io-requires-clause-quiet g c = let k = c.lock_header-word.ensures in quiet_locked _ _ _ _ k.touches k.locked c.requires.quiet
