@@ -22,7 +22,7 @@ use Rattle.backend_pass.specs.declared.errors.FlushError.TheVariants.{WriteFault
 use Rattle.backend_pass.specs.declared.manager.Manager.{Manager}
 use Rattle.backend_pass.specs.declared.met.Shown.{Shown}
 use Rattle.held_pins.proofs.Keeping.{same_locks_at}
-use Rattle.backend_pass.specs.FrameFlushes.{WasWithin, frame_answer, frame_refusal, shown_unflushed}
+use Rattle.backend_pass.specs.FrameFlushes.{WasWithin, frame_refusal, page_answer, shown_unflushed}
 use Rattle.backend_pass.specs.Managers.{Belongs}
 use Rattle.backend_pass.specs.Passes.{IsShown, PassState, shown_count, shown_log}
 use Rattle.backend_pass.proofs.BlockReads.{count_on, shown_met}
@@ -68,7 +68,7 @@ one_more : (m : FailedCalls) → m.writes + 1 ≢ m.writes
 one_more m e = omega arith
 
 module _ {L G : Type 0} (contents : L → Option Pages) (t : FrameTable L G) where
-  pub flush_complete : (lane : ℕ) (tag : Tag) (f : ℕ) (v w : View) (r : Result Bool FlushError) → FlushAnswer contents t lane tag f v w (frame_answer r) → w.met ≡ met_flushing (frame_answer r) v.met
+  pub flush_complete : (lane : ℕ) (tag : Tag) (f : ℕ) (v w : View) (r : Result Bool FlushError) → FlushAnswer contents t lane tag f v w (page_answer r) → w.met ≡ met_flushing (page_answer r) v.met
       → WasWithin contents t tag v.end_seen → w.saw_down ≡ false → w.met ≡ v.met → IsOk r
   flush_complete lane tag f v w (Ok wrote) a met within up none = refl
   flush_complete lane tag f v w (Err (WriteFault failed)) a met within up none = absurd (one_more v.met (ap (λ (m : FailedCalls). m.writes) (sym met ∙ none)))

@@ -1,5 +1,5 @@
 -- How a pass writes the page of a frame, and what it is refused for.
-use Rattle.std.specs.Prelude.{◌≡◌, ◌≤◌, ℕ, true, Option, Result, Ok, Err}
+use Rattle.std.specs.Prelude.{◌≡◌, ◌≤◌, ℕ, Bool, true, false, Option, Result, Ok, Err}
 use Rattle.block_tag.specs.declared.tag.Tag.{Tag}
 use Rattle.page_layout.specs.Fields.{lsn_of}
 use Rattle.page_layout.specs.Soundness.{is_sound_page}
@@ -12,6 +12,8 @@ use Rattle.frame_table.specs.Opened.{WasAtOpening}
 use Rattle.wal_flush.specs.declared.flushes.FlushLog.TheVariants as log
 use Rattle.buffer_frames.specs.declared.flushing.FrameFlushError as frames
 use Rattle.buffer_frames.specs.declared.flushing.FrameFlushError.TheVariants as flush
+use Rattle.buffer_frames.specs.declared.flushing.FlushedPage.{FlushedPage}
+use Rattle.buffer_frames.specs.declared.flushing.FlushedPage.TheVariants as flushed
 use Rattle.buffer_frames.specs.Flushing.{EndedInError, met_refused}
 use Rattle.buffer_sync.specs.Syncs.{WritesBlock}
 use Rattle.backend_pass.specs.declared.errors.FlushError.{FlushError}
@@ -29,6 +31,12 @@ frame_refusal (LogShort lsn end) = flush.Log (log.LogShort lsn end)
 abbrev pub frame_answer : {A : Type 0} → Result A FlushError → Result A frames.FrameFlushError
 frame_answer (Ok done) = Ok done
 frame_answer (Err why) = Err (frame_refusal why)
+
+-- so it is with a page that was written, or was clean
+abbrev pub page_answer : Result Bool FlushError → Result FlushedPage frames.FrameFlushError
+page_answer (Ok true) = Ok flushed.Written
+page_answer (Ok false) = Ok flushed.Clean
+page_answer (Err why) = Err (frame_refusal why)
 
 -- what is shown after a refusal
 abbrev pub shown_unflushed : FlushError → Shown → Shown

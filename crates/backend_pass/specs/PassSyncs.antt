@@ -21,7 +21,7 @@ use Rattle.wal_flush.specs.Flushes.{FlushRefused, FlushSeesEnd, Flushed, as_look
 use Rattle.wal_flush.specs.Latched.{KeepsWork}
 use Rattle.buffer_frames.specs.Working.{Within}
 use Rattle.buffer_sync.specs.declared.syncing.Synced.{Synced}
-use Rattle.buffer_sync.specs.Syncs.{LeavesLane, SeesNotDirty, synced_work}
+use Rattle.buffer_sync.specs.Syncs.{LeavesLane, NotesBlock, SeesNotDirty, synced_work}
 use Rattle.backend_pass.specs.declared.errors.FlushError.{FlushError}
 use Rattle.backend_pass.specs.declared.met.Shown.{Shown}
 use Rattle.backend_pass.specs.FrameFlushes.{shown_unflushed}
@@ -63,6 +63,7 @@ pub record NeedsOne (f : ℕ) (v w : View) (r : Option Tag) : Type 0 where
   pub clean : IfNone r (SeesNotDirty f v w)
   pub not_left_to_write : IfNone r ((link v f).left_to_write ≡ false → (link w f).left_to_write ≡ false)
   pub needed : IfSome r (λ _. Within (λ a b. (word : ℕ) × Did (pages need_checkpoint) f a b word) v w)
+  pub noted : IfSome r (λ tag. NotesBlock f tag v w)
   pub named : IfSome r (λ tag. names_block tag ≡ true)
 
 -- The log was flushed up to `lsn`, or this is why not

@@ -21,7 +21,7 @@ use Rattle.buffer_frames.specs.declared.flushing.FrameFlushError.TheVariants as 
 use Rattle.buffer_frames.specs.declared.victims.VictimError.TheVariants as victim
 use Rattle.buffer_frames.specs.declared.reading.BlockError.{BlockError}
 use Rattle.buffer_frames.specs.declared.reading.BlockError.TheVariants as block
-use Rattle.buffer_frames.specs.Loading.{WasUnsoundAtOpening, loading_calls}
+use Rattle.buffer_frames.specs.Loading.{WasUnsoundAtOpening, loaded_by, loading_calls}
 use Rattle.buffer_frames.specs.Reads.{KeptOrEmptied, Locates, Misses}
 use Rattle.buffer_frames.specs.Victims.{FindsAllPinned, LeavesDirty}
 use Rattle.buffer_frames.specs.Working.{met_log, met_read, met_write}
@@ -101,7 +101,7 @@ ReadingCensus n c d (Err (Unsound failed)) = KeptOrEmptied n c d
 
 -- The lane q was read for the block where the answer says so, and no lane else. Where the map gave no frame for it at first, all else was done after that
 abbrev pub ReadingCalls : ℕ → Tag → Bool → View → View → Result Pinned ReadError → Type 0
-ReadingCalls q tag ring v w (Ok pinned) = Locates tag pinned.frame ring (loading_calls q (packed_tag tag) (Ok pinned.hit)) v w
+ReadingCalls q tag ring v w (Ok pinned) = Locates tag pinned.frame ring (loading_calls q (packed_tag tag) (Ok (loaded_by pinned.hit))) v w
 ReadingCalls q tag ring v w (Err (ReadFault failed)) = (f : ℕ) × Locates tag f ring (LaneRead q (packed_tag tag) false ∷ []) v w
 ReadingCalls q tag ring v w (Err (Unsound failed)) = (f : ℕ) × Locates tag f ring (LaneRead q (packed_tag tag) true ∷ []) v w
 ReadingCalls q tag ring v w (Err why) = Misses tag [] v w

@@ -7,6 +7,7 @@ ghost use Rattle.table_rule.specs.Blocks.{has_block, is_block};
 ghost use Rattle.frame_table.specs.Seats.{frames_of, lanes_in, relations_of};
 ghost use Rattle.held_pins.specs.Rests.{OnlyTokens};
 ghost use Rattle.held_pins.specs.Tokens.{IsPinnedFor};
+ghost use Rattle.buffer_frames.specs.declared.flushing.FlushedPage.TheVariants.{Written};
 ghost use Rattle.buffer_frames.specs.Flushing.{EndedInError, EndedWritten, FlushAnswer, met_flushing};
 ghost use Rattle.buffer_frames.specs.Working.{WorksAt};
 ghost use Rattle.backend_pass.specs.Passes.{view_in, shown_log, shown_write};
@@ -19,6 +20,7 @@ use crate::pass::Pass;
 use crate::pinned::Pinned;
 use atomic_table::Badge;
 use block_tag::Tag;
+use buffer_frames::FlushedPage;
 use crossbeam_utils::CachePadded;
 use frame_table::{FrameTable, Value};
 use held_pins::HeldPins;
@@ -97,7 +99,7 @@ fn flush_seated<L: BlockLane, G: LogDevice, R: Wait>(
     page: &mut Page,
     frame: u32,
     tag: Tag,
-) -> Result<bool, buffer_frames::FrameFlushError>
+) -> Result<FlushedPage, buffer_frames::FrameFlushError>
     requires table { badge.old.table_id ≡ table.now.table.shared.table_id }
     requires view { badge.old.views ≡ view_in badge.old.views ∷ [] }
     requires rests { OnlyTokens held.now (view_in badge.old.views) }
@@ -115,7 +117,7 @@ fn flush_seated<L: BlockLane, G: LogDevice, R: Wait>(
     ensures answer { FlushAnswer L.contents table.now (lane_number tag (lanes_in table.now)) tag frame (view_in badge.old.views) (view_in badge.new.views) result }
     ensures met { (view_in badge.new.views).met ≡ met_flushing result (view_in badge.old.views).met }
     ensures ended { IfErr result (λ _. EndedInError frame (view_in badge.old.views) (view_in badge.new.views)) }
-    ensures written { IfOk result (λ wrote. wrote ≡ true → EndedWritten frame (view_in badge.old.views) (view_in badge.new.views)) }
+    ensures written { IfOk result (λ flushed. flushed ≡ Written → EndedWritten frame (view_in badge.old.views) (view_in badge.new.views)) }
 {
     let mut seat = replace(badge, Badge::blank()).into_seat::<Value<L, G>>();
     let answer = buffer_frames::flush_frame(table, rt, &mut seat, held, frame, tag, page);
@@ -133,7 +135,7 @@ impl Pass {
     ghost use Rattle.buffer_frames.specs.Flushing.{EndedInError, EndedWritten, FlushAnswer, met_flushing};
     ghost use Rattle.backend_pass.specs.Managers.{Belongs};
     ghost use Rattle.backend_pass.specs.Passes.{KeepsCalls, KeepsLocks, KeepsMark, SamePass};
-    ghost use Rattle.backend_pass.specs.FrameFlushes.{WasWithin, frame_answer};
+    ghost use Rattle.backend_pass.specs.FrameFlushes.{WasWithin, page_answer};
 
     /// Writes the page of a token's frame if the frame is dirty, after flushing the log up to the page's position (`FlushOneBuffer`). The caller doesn't have the content lock. Returns false if the frame is clean.
     pub fn flush_frame<L: BlockLane, G: LogDevice, R: Wait>(
@@ -155,8 +157,8 @@ impl Pass {
         ensures others { (g : ℕ) → g ≢ pinned.now.frame → link self.new.view g ≡ link self.old.view g }
 
         // The page went to its lane after the log was flushed up to it, or the frame was clean; or this is why not, and which devices were called.
-        ensures answer { FlushAnswer L.contents manager.now.table (lane_number pinned.now.tag (lanes_in manager.now.table)) pinned.now.tag pinned.now.frame self.old.view self.new.view (frame_answer result) }
-        ensures met { self.new.view.met ≡ met_flushing (frame_answer result) self.old.view.met }
+        ensures answer { FlushAnswer L.contents manager.now.table (lane_number pinned.now.tag (lanes_in manager.now.table)) pinned.now.tag pinned.now.frame self.old.view self.new.view (page_answer result) }
+        ensures met { self.new.view.met ≡ met_flushing (page_answer result) self.old.view.met }
         ensures ended { IfErr result (λ _. EndedInError pinned.now.frame self.old.view self.new.view) }
         ensures written { IfOk result (λ wrote. wrote ≡ true → EndedWritten pinned.now.frame self.old.view self.new.view) }
 
@@ -175,7 +177,8 @@ impl Pass {
             frame,
             tag,
         ) {
-            Ok(wrote) => Ok(wrote),
+            Ok(FlushedPage::Written) => Ok(true),
+            Ok(FlushedPage::Clean) => Ok(false),
             Err(cause) => {
                 let why = refused(cause);
                 let shown = self.shown.after_flush(&why);

@@ -233,7 +233,7 @@ impl Pass {
     ghost use Rattle.buffer_frames.specs.Working.{KeepsNotes, Within};
     ghost use Rattle.buffer_sync.specs.declared.syncing.SyncOnly.TheVariants.{Needed};
     ghost use Rattle.buffer_sync.specs.declared.syncing.Synced.TheVariants.{Skipped};
-    ghost use Rattle.buffer_sync.specs.Syncs.{EndsSync, LeavesLane, SeesNotDirty, SyncsFrame, synced_work};
+    ghost use Rattle.buffer_sync.specs.Syncs.{EndsSync, LeavesLane, NotesBlock, SeesNotDirty, SyncsFrame, synced_work};
     ghost use Rattle.backend_pass.specs.FrameFlushes.{frame_answer};
     ghost use Rattle.backend_pass.specs.Locks.{HasLock};
     ghost use Rattle.backend_pass.specs.Managers.{Belongs};
@@ -329,6 +329,9 @@ impl Pass {
         ensures clean { IfNone result (SeesNotDirty frame self.old.view self.new.view) }
         ensures not_left_to_write { IfNone result ((link self.old.view frame).left_to_write ≡ false → (link self.new.view frame).left_to_write ≡ false) }
         ensures needed { IfSome result (λ _. Within (λ a b. (word : ℕ) × Did (pages kinds.need_checkpoint) frame a b word) self.old.view self.new.view) }
+
+        // The tag is the one that the frame had under the header that was locked for it.
+        ensures noted { IfSome result (λ tag. NotesBlock frame tag self.old.view self.new.view) }
         ensures named { IfSome result (λ tag. names_block tag ≡ true) }
     {
         need_seated(&manager.table, rt, &mut self.seat, &self.held, frame)

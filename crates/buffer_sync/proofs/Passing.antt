@@ -30,6 +30,8 @@ use Rattle.held_pins.specs.Rests.{HasAtMostLock, LinkRests, LinksRest, LinksRest
 use Rattle.held_pins.specs.Tokens.{HeldFrame, IsPinnedFor, Tokens, held_at}
 use Rattle.held_pins.proofs.Keeping.{beside_kept, calm_looked, rests_with}
 use Rattle.buffer_frames.specs.declared.flushing.FrameFlushError.{FrameFlushError}
+use Rattle.buffer_frames.specs.declared.flushing.FlushedPage.{FlushedPage}
+use Rattle.buffer_frames.specs.declared.flushing.FlushedPage.TheVariants as flush
 use Rattle.buffer_frames.specs.Flushing.{EndedInError, EndedWritten, FlushAnswer, met_flushing}
 use Rattle.buffer_frames.specs.Stages.{HasVictim, IsPinned}
 use Rattle.buffer_frames.specs.Working.{KeepsNotes, Made, Within, WorksAt}
@@ -205,13 +207,13 @@ clean_between f v u x w before a (by_load s made) self b = by_load
 clean_between f v u x w before a (by_word s) self b = by_word record { finds = within_on (FindsNothing false f) v u x w a s.finds b; calls = ap (λ (y : View). y.device_calls) self ∙ s.calls ∙ before }
 
 module _ {L G : Type 0} (contents : L → Option Pages) (t : FrameTable L G) where
-  block_between : (f : ℕ) (v u x w : View) (r : Result Bool FrameFlushError) → u.device_calls ≡ v.device_calls → OnlyRises v u → WritesBlock contents t f u x r → SameSelf x w → OnlyRises x w → WritesBlock contents t f v w r
+  block_between : (f : ℕ) (v u x w : View) (r : Result FlushedPage FrameFlushError) → u.device_calls ≡ v.device_calls → OnlyRises v u → WritesBlock contents t f u x r → SameSelf x w → OnlyRises x w → WritesBlock contents t f v w r
   block_between f v u x w r before a s self b = record { tag = s.tag; named = s.named; listed = s.listed; answer = flush_between contents t (lane_number s.tag (lanes_in t)) s.tag f v u x w r before a s.answer self b }
 
   pub pinned_between : (f : ℕ) (v u x w : View) (r : Result Synced FrameFlushError) → u.device_calls ≡ v.device_calls → OnlyRises v u → PinnedAnswer contents t f u x r → SameSelf x w → OnlyRises x w → PinnedAnswer contents t f v w r
   pinned_between f v u x w (Ok Skipped) before a s self b = absurd s
   pinned_between f v u x w (Ok Clean) before a s self b = clean_between f v u x w before a s self b
-  pinned_between f v u x w (Ok Written) before a s self b = block_between f v u x w (Ok true) before a s self b
+  pinned_between f v u x w (Ok Written) before a s self b = block_between f v u x w (Ok flush.Written) before a s self b
   pinned_between f v u x w (Err why) before a s self b = block_between f v u x w (Err why) before a s self b
 
   clean_made : (f : ℕ) (v w : View) → SeesClean f v w → Made [] v w
@@ -267,22 +269,22 @@ module _ {L G : Type 0} (contents : L → Option Pages) (t : FrameTable L G) whe
   }
 
   -- and one that was flushed
-  flushed_answer : (f : ℕ) (tag : Tag) (v w : View) (r : Result Bool FrameFlushError) → names_block tag ≡ true → has_block (relations_of t) tag ≡ true → FlushAnswer contents t (lane_number tag (lanes_in t)) tag f v w r → PinnedAnswer contents t f v w (synced_of r)
-  flushed_answer f tag v w (Ok true) named listed a = record { tag = tag; named = named; listed = listed; answer = a }
-  flushed_answer f tag v w (Ok false) named listed a = by_word a
+  flushed_answer : (f : ℕ) (tag : Tag) (v w : View) (r : Result FlushedPage FrameFlushError) → names_block tag ≡ true → has_block (relations_of t) tag ≡ true → FlushAnswer contents t (lane_number tag (lanes_in t)) tag f v w r → PinnedAnswer contents t f v w (synced_of r)
+  flushed_answer f tag v w (Ok flush.Written) named listed a = record { tag = tag; named = named; listed = listed; answer = a }
+  flushed_answer f tag v w (Ok flush.Clean) named listed a = by_word a
   flushed_answer f tag v w (Err why) named listed a = record { tag = tag; named = named; listed = listed; answer = a }
 
-  flushed_met : (v w : View) (r : Result Bool FrameFlushError) → w.met ≡ met_flushing r v.met → w.met ≡ met_flushing (synced_of r) v.met
-  flushed_met v w (Ok true) e = e
-  flushed_met v w (Ok false) e = e
+  flushed_met : (v w : View) (r : Result FlushedPage FrameFlushError) → w.met ≡ met_flushing r v.met → w.met ≡ met_flushing (synced_of r) v.met
+  flushed_met v w (Ok flush.Written) e = e
+  flushed_met v w (Ok flush.Clean) e = e
   flushed_met v w (Err why) e = e
 
-  flushed_ended : (f : ℕ) (v w : View) (r : Result Bool FrameFlushError) → IfErr r (λ _. EndedInError f v w) → IfOk r (λ wrote. wrote ≡ true → EndedWritten f v w) → EndsSync f v w (synced_of r)
-  flushed_ended f v w (Ok true) error written = written refl
-  flushed_ended f v w (Ok false) error written = tt
+  flushed_ended : (f : ℕ) (v w : View) (r : Result FlushedPage FrameFlushError) → IfErr r (λ _. EndedInError f v w) → IfOk r (λ flushed. flushed ≡ flush.Written → EndedWritten f v w) → EndsSync f v w (synced_of r)
+  flushed_ended f v w (Ok flush.Written) error written = written refl
+  flushed_ended f v w (Ok flush.Clean) error written = tt
   flushed_ended f v w (Err why) error written = error
 
-  pub flushes_flushed : (f : ℕ) (tag : Tag) (v w : View) (r : Result Bool FrameFlushError) → names_block tag ≡ true → has_block (relations_of t) tag ≡ true → WorksAt f v w → KeepsNotes (link v f) (link w f) → FlushAnswer contents t (lane_number tag (lanes_in t)) tag f v w r → w.met ≡ met_flushing r v.met → IfErr r (λ _. EndedInError f v w) → IfOk r (λ wrote. wrote ≡ true → EndedWritten f v w) → FlushesPinned contents t f v w (synced_of r)
+  pub flushes_flushed : (f : ℕ) (tag : Tag) (v w : View) (r : Result FlushedPage FrameFlushError) → names_block tag ≡ true → has_block (relations_of t) tag ≡ true → WorksAt f v w → KeepsNotes (link v f) (link w f) → FlushAnswer contents t (lane_number tag (lanes_in t)) tag f v w r → w.met ≡ met_flushing r v.met → IfErr r (λ _. EndedInError f v w) → IfOk r (λ flushed. flushed ≡ flush.Written → EndedWritten f v w) → FlushesPinned contents t f v w (synced_of r)
   flushes_flushed f tag v w r named listed works notes a met error written = record { works = works; notes = notes; answer = flushed_answer f tag v w r named listed a; met = flushed_met v w r met; ended = flushed_ended f v w r error written }
 
   -- what came of it, with the look before

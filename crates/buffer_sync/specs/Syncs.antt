@@ -4,7 +4,7 @@ use Rattle.std.specs.List.{All}
 use Rattle.state_word.specs.declared.word.StateWord.{StateWord}
 use Rattle.state_word.specs.Fields.{fields}
 use Rattle.block_tag.specs.declared.tag.Tag.{Tag}
-use Rattle.block_tag.specs.Names.{lane_number, names_block}
+use Rattle.block_tag.specs.Names.{lane_number, names_block, packed_tag}
 use Rattle.segment_store.specs.Contents.{Pages}
 use Rattle.pin_core.specs.declared.view.DeviceCall.{DeviceCall}
 use Rattle.pin_core.specs.declared.view.DeviceCall.TheVariants.{LaneWrite, LaneSync}
@@ -13,12 +13,13 @@ use Rattle.pin_core.specs.declared.view.Content.TheVariants.{Unlocked}
 use Rattle.pin_core.specs.declared.view.Role.TheVariants.{Absent}
 use Rattle.pin_core.specs.declared.view.View.{View}
 use Rattle.pin_core.specs.State.{link}
-use Rattle.pin_core.specs.Kinds.{pin_victim}
+use Rattle.pin_core.specs.Kinds.{load_tag, pin_victim}
+use Rattle.page_core.specs.Kinds.{need_checkpoint}
 use Rattle.table_rule.specs.Blocks.{has_block}
 use Rattle.table_rule.specs.declared.turn.Turn.TheVariants.{Lane}
 use Rattle.frame_table.specs.declared.table.FrameTable.{FrameTable}
 use Rattle.frame_table.specs.FrameSteps.{Did, looking}
-use Rattle.frame_table.specs.Kinds.{pins}
+use Rattle.frame_table.specs.Kinds.{pages, pins}
 use Rattle.frame_table.specs.Latches.{DidTurn, IsTurned, work_of}
 use Rattle.frame_table.specs.Seats.{HasFlag, HoldsWord, OnlyRises, lanes_in, relations_of}
 use Rattle.content_locks.specs.Io.{LocksHeader}
@@ -26,6 +27,8 @@ use Rattle.clock_sweep.specs.Keeping.{SamePins}
 use Rattle.held_pins.specs.Rests.{HasAtMostLock}
 use Rattle.held_pins.specs.Tokens.{HeldFrame, Tokens, held_at}
 use Rattle.buffer_frames.specs.declared.flushing.FrameFlushError.{FrameFlushError}
+use Rattle.buffer_frames.specs.declared.flushing.FlushedPage.{FlushedPage}
+use Rattle.buffer_frames.specs.declared.flushing.FlushedPage.TheVariants as flush
 use Rattle.buffer_frames.specs.Flushing.{EndedInError, EndedWritten, FindsClean, FlushAnswer, met_flushing, met_lane_write}
 use Rattle.buffer_frames.specs.Working.{IsFlushCall, KeepsNotes, Made, Within, WorksAt}
 use Rattle.buffer_sync.specs.declared.syncing.SyncOnly.{SyncOnly}
@@ -52,15 +55,26 @@ pub record SeesNotDirty (f : ℕ) (v w : View) : Type 0 where
   pub looks : Within (λ a b. Did looking f a b word) v w
   pub clean : (fields word).dirty ≡ false
 
+-- The header of the frame f was locked; under it the frame's tag was loaded, which was this one,
+-- and BM_CHECKPOINT_NEEDED was set as the header was unlocked
+pub record NotesBlock (f : ℕ) (tag : Tag) (v w : View) : Type 0 where
+  pub under : View
+  pub loaded : View
+  pub was : ℕ
+  pub word : ℕ
+  pub locks : LocksHeader f v under was
+  pub loads : Did (pins load_tag) f under loaded (packed_tag tag)
+  pub notes : Did (pages need_checkpoint) f loaded w word
+
 -- It isn't, by a load, or by the word that was held as a write was to start; no device was called
 pub data SeesClean (f : ℕ) (v w : View) : Type 0 where
   by_load : SeesNotDirty f v w → Made [] v w → SeesClean f v w
   by_word : FindsClean f v w → SeesClean f v w
 
 -- what came of a frame, by what came of its flush
-abbrev pub synced_of : Result Bool FrameFlushError → Result Synced FrameFlushError
-synced_of (Ok true) = Ok Written
-synced_of (Ok false) = Ok Clean
+abbrev pub synced_of : Result FlushedPage FrameFlushError → Result Synced FrameFlushError
+synced_of (Ok flush.Written) = Ok Written
+synced_of (Ok flush.Clean) = Ok Clean
 synced_of (Err why) = Err why
 
 -- The frame f was pinned as its header was unlocked, whose word was `word`, with no more usage; or the view pinned it before
@@ -107,7 +121,7 @@ pub data ShowsTag (l : Link) : Type 0 where
 
 module _ {L G : Type 0} (contents : L → Option Pages) (t : FrameTable L G) where
   -- The page of the frame f, of a block of the relations, went to the block's lane, or this is why not
-  pub record WritesBlock (f : ℕ) (v w : View) (r : Result Bool FrameFlushError) : Type 0 where
+  pub record WritesBlock (f : ℕ) (v w : View) (r : Result FlushedPage FrameFlushError) : Type 0 where
     pub tag : Tag
     pub named : names_block tag ≡ true
     pub listed : has_block (relations_of t) tag ≡ true
@@ -117,14 +131,14 @@ module _ {L G : Type 0} (contents : L → Option Pages) (t : FrameTable L G) whe
   abbrev pub PinnedAnswer : ℕ → View → View → Result Synced FrameFlushError → Type 0
   PinnedAnswer f v w (Ok Skipped) = ⊥
   PinnedAnswer f v w (Ok Clean) = SeesClean f v w
-  PinnedAnswer f v w (Ok Written) = WritesBlock f v w (Ok true)
+  PinnedAnswer f v w (Ok Written) = WritesBlock f v w (Ok flush.Written)
   PinnedAnswer f v w (Err why) = WritesBlock f v w (Err why)
 
   -- what came of the frame f, whose state word was `word` at the look that led to the view `looked`
   abbrev pub SyncAnswer : SyncOnly → ℕ → ℕ → View → View → View → Result Synced FrameFlushError → Type 0
   SyncAnswer only word f v looked w (Ok Skipped) = (passes_over only (fields word) ≡ true) × Made [] v w
   SyncAnswer only word f v looked w (Ok Clean) = (passes_over only (fields word) ≡ false) × (((fields word).dirty ≡ false) ⊎ SeesClean f looked w) × Made [] v w
-  SyncAnswer only word f v looked w (Ok Written) = (passes_over only (fields word) ≡ false) × PinsUnder f word looked w × WritesBlock f v w (Ok true)
+  SyncAnswer only word f v looked w (Ok Written) = (passes_over only (fields word) ≡ false) × PinsUnder f word looked w × WritesBlock f v w (Ok flush.Written)
   SyncAnswer only word f v looked w (Err why) = (passes_over only (fields word) ≡ false) × PinsUnder f word looked w × WritesBlock f v w (Err why)
 
   -- The state word of the frame f was looked at under its header, and by that the frame was passed over or written (`SyncOneBuffer`)

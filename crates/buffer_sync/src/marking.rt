@@ -9,7 +9,7 @@ ghost use Rattle.frame_table.specs.Kinds.{pages};
 ghost use Rattle.frame_table.specs.Seats.{SameMarks, SameSeat, Touches, frames_of, relations_of};
 ghost use Rattle.held_pins.specs.Rests.{LinksRest, Stands};
 ghost use Rattle.buffer_frames.specs.Working.{Within};
-ghost use Rattle.buffer_sync.specs.Syncs.{SeesNotDirty};
+ghost use Rattle.buffer_sync.specs.Syncs.{NotesBlock, SeesNotDirty};
 
 use crate::tags::tag_shown;
 use atomic_table::Seat;
@@ -43,6 +43,7 @@ pub fn need_checkpoint<L: BlockLane, G: LogDevice, R: Wait>(
     ensures clean { IfNone result (SeesNotDirty frame seat.old.me.0 seat.new.me.0) }
     ensures not_left_to_write { IfNone result ((link seat.old.me.0 frame).left_to_write ≡ false → (link seat.new.me.0 frame).left_to_write ≡ false) }
     ensures needed { IfSome result (λ _. Within (λ a b. (word : ℕ) × Did (pages kinds.need_checkpoint) frame a b word) seat.old.me.0 seat.new.me.0) }
+    ensures noted { IfSome result (λ tag. NotesBlock frame tag seat.old.me.0 seat.new.me.0) }
     ensures named { IfSome result (λ tag. names_block tag ≡ true) }
     ensures listed { IfSome result (λ tag. has_block (relations_of table.now) tag ≡ true) }
 {

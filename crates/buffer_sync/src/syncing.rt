@@ -14,7 +14,7 @@ ghost use Rattle.buffer_sync.specs.Syncs.{AreAlone, ComesAtOnce, FlushesPinned, 
 use crate::tags::tag_shown;
 use atomic_table::Seat;
 use block_tag::Tag;
-use buffer_frames::{FrameFlushError, flush_pinned};
+use buffer_frames::{FlushedPage, FrameFlushError, flush_pinned};
 use cleanup_lock::unpin_and_wake;
 use frame_table::{FrameTable, Value};
 use held_pins::HeldPins;
@@ -95,12 +95,12 @@ fn look_under<L: BlockLane, G: LogDevice, R: Wait>(
 }
 
 /// What came of a frame, by what came of its flush.
-fn synced_by(flushed: Result<bool, FrameFlushError>) -> Result<Synced, FrameFlushError>
+fn synced_by(flushed: Result<FlushedPage, FrameFlushError>) -> Result<Synced, FrameFlushError>
     ensures { result ≡ synced_of flushed }
 {
     match flushed {
-        Ok(true) => Ok(Synced::Written),
-        Ok(false) => Ok(Synced::Clean),
+        Ok(FlushedPage::Written) => Ok(Synced::Written),
+        Ok(FlushedPage::Clean) => Ok(Synced::Clean),
         Err(why) => Err(why),
     }
 }

@@ -3,7 +3,10 @@ ghost use Rattle.std.specs.Prelude.{◌≡◌, ◌≢◌, ℕ, true, false, Some
 ghost use Rattle.block_tag.specs.Names.{names_block, packed_tag};
 ghost use Rattle.pin_core.specs.declared.view.Role.TheVariants.{Absent};
 ghost use Rattle.pin_core.specs.State.{link};
+ghost use Rattle.pin_core.specs.Kinds as kinds;
 ghost use Rattle.table_rule.specs.Blocks.{has_block};
+ghost use Rattle.frame_table.specs.FrameSteps.{Did};
+ghost use Rattle.frame_table.specs.Kinds.{pins};
 ghost use Rattle.frame_table.specs.Seats.{CanStep, SameMarks, SameSeat, Touches, read_link, relations_of};
 ghost use Rattle.buffer_sync.specs.Syncs.{ShowsTag};
 
@@ -30,6 +33,7 @@ pub(crate) fn tag_shown<L: BlockLane, G: LogDevice>(
     ensures listed { has_block (relations_of table.now) result ≡ true }
     ensures read { link seat.new.me.0 frame ≡ read_link (Some result) (link seat.old.me.0 frame) }
     ensures remembered { (link seat.old.me.0 frame).role ≢ Absent → (link seat.new.me.0 frame).tag ≡ Some (packed_tag result) }
+    ensures did { Did (pins kinds.load_tag) frame seat.old.me.0 seat.new.me.0 (packed_tag result) }
     ensures same { (tag : ℕ) → (link seat.old.me.0 frame).tag ≡ Some tag → tag ≡ packed_tag result }
 {
     let Some(tag) = table.load_tag(seat, frame) else {

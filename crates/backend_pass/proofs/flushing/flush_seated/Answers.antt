@@ -1,5 +1,5 @@
 use Rattle.std.proofs.Common.{◌≡◌, ◌∙◌, ap, subst}
-use Rattle.std.specs.Prelude.{IfErr, IfOk, true}
+use Rattle.std.specs.Prelude.{IfErr, IfOk}
 use Rattle.atomic_table.specs.declared.badge.Badge.{Badge}
 use Rattle.block_tag.specs.Names.{lane_number}
 use Rattle.pin_core.specs.declared.view.Content.TheVariants.{Unlocked}
@@ -7,6 +7,7 @@ use Rattle.pin_core.specs.declared.view.View.{View}
 use Rattle.pin_core.specs.State.{link}
 use Rattle.frame_table.specs.Seats.{lanes_in}
 use Rattle.held_pins.specs.Rests.{HasNoDevice, HasNoLatch, LinksRest}
+use Rattle.buffer_frames.specs.declared.flushing.FlushedPage.TheVariants.{Written}
 use Rattle.buffer_frames.specs.Flushing.{EndedInError, EndedWritten, FlushAnswer, met_flushing}
 use Rattle.buffer_frames.specs.Working.{WorksAt}
 use Rattle.backend_pass.specs.Passes.{view_in}
@@ -81,4 +82,4 @@ returns-clause-ended g c =
 pub returns-clause-written : goal.returns-clause-written
 returns-clause-written g c =
     let before = view_of_seat c.args.badge.now c.replace.result c.into_seat-seat.result.me.0 c.replace.ensures.value c.into_seat-seat.ensures.2 in
-    moved (λ v w. IfOk c.flush_frame-answer.result (λ wrote. wrote ≡ true → EndedWritten c.args.frame v w)) (view_in c.args.badge.now.views) (view_in c.into_badge.result.views) c.into_seat-seat.result.me.0 c.flush_frame-answer.new.seat.me.0 before (ap view_in c.into_badge.ensures.2) c.flush_frame-answer.ensures.written
+    moved (λ v w. IfOk c.flush_frame-answer.result (λ flushed. flushed ≡ Written → EndedWritten c.args.frame v w)) (view_in c.args.badge.now.views) (view_in c.into_badge.result.views) c.into_seat-seat.result.me.0 c.flush_frame-answer.new.seat.me.0 before (ap view_in c.into_badge.ensures.2) c.flush_frame-answer.ensures.written

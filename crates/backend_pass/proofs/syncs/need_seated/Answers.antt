@@ -50,4 +50,4 @@ pub returns-clause-did : goal.returns-clause-did
 returns-clause-did g c =
     let before = view_of_seat c.args.badge.now c.replace.result c.into_seat-seat.result.me.0 c.replace.ensures.value c.into_seat-seat.ensures.2 in
     let e = c.need_checkpoint-answer.ensures in
-    moved (λ v w. NeedsOne c.args.frame v w c.need_checkpoint-answer.result) (view_in c.args.badge.now.views) (view_in c.into_badge.result.views) c.into_seat-seat.result.me.0 c.need_checkpoint-answer.new.seat.me.0 before (ap view_in c.into_badge.ensures.2) record { touches = e.touches; marks = e.marks; lock = e.lock; visited = e.visited; clean = e.clean; not_left_to_write = e.not_left_to_write; needed = e.needed; named = e.named }
+    moved (λ v w. NeedsOne c.args.frame v w c.need_checkpoint-answer.result) (view_in c.args.badge.now.views) (view_in c.into_badge.result.views) c.into_seat-seat.result.me.0 c.need_checkpoint-answer.new.seat.me.0 before (ap view_in c.into_badge.ensures.2) record { touches = e.touches; marks = e.marks; lock = e.lock; visited = e.visited; clean = e.clean; not_left_to_write = e.not_left_to_write; needed = e.needed; noted = e.noted; named = e.named }

@@ -67,3 +67,21 @@ returns-clause-needed g c =
     let x = c.tag_shown-tag.new.seat.me.0 in
     let w = c.need_checkpoint.new.seat.me.0 in
     within_on (λ a b. (word : ℕ) × Did (pages kinds.need_checkpoint) f a b word) v x w w (rises_touched f v x (touches_on f v u x c.lock_header-word.ensures.touches c.tag_shown-tag.ensures.touches)) (within_all (λ a b. (word : ℕ) × Did (pages kinds.need_checkpoint) f a b word) x w (c.lock_header-word.result, c.need_checkpoint.ensures.did)) (rises_none w)
+
+pub returns-clause-noted : goal.returns-clause-noted
+returns-clause-noted g c = let d = c.lock_header-word.ensures.did in record {
+  under = c.lock_header-word.new.seat.me.0;
+  loaded = c.tag_shown-tag.new.seat.me.0;
+  was = d.1;
+  word = c.lock_header-word.result;
+  locks = record { before = d.0; looks = d.2; did = d.3 };
+  loads = c.tag_shown-tag.ensures.did;
+  notes = c.need_checkpoint.ensures.did;
+}
+
+pub returns-clause-stands : goal.returns-clause-stands
+returns-clause-stands g c =
+    let a = c.lock_header-word.ensures in
+    let b = c.tag_shown-tag.ensures in
+    let e = c.need_checkpoint.ensures in
+    stands_self _ c.tag_shown-tag.new.seat c.need_checkpoint.new.seat e.seat e.touches.self (stands_self _ c.lock_header-word.new.seat c.tag_shown-tag.new.seat b.seat b.touches.self (stands_self _ c.args.seat.now c.lock_header-word.new.seat a.seat a.touches.self c.requires.stands))

@@ -12,3 +12,6 @@ unreachable-requires g c = shown_tag c.args.frame no_tag c.args.seat.now.me.0 c.
 
 pub returns-clause-same : goal.returns-clause-same
 returns-clause-same g c tag is = kept_tag c.args.frame (packed_tag c.in-Some.tag) tag c.args.seat.now.me.0 c.load_tag.new.seat.me.0 c.in-Some.ensures.did is
+
+pub returns-clause-did : goal.returns-clause-did
+returns-clause-did g c = c.in-Some.ensures.did

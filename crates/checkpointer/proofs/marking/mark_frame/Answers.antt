@@ -1,5 +1,7 @@
-use Rattle.std.proofs.Common.{refl, subst, sym}
+use Rattle.std.proofs.Common.{◌≡◌, ◌≢◌, ℕ, refl, subst, sym}
+use Rattle.pin_core.specs.State.{link}
 use Rattle.frame_table.specs.Seats.{frames_of}
+use Rattle.backend_pass.specs.Passes.{PassState}
 use Rattle.checkpointer.specs.Marked.{AreMarked}
 use Rattle.checkpointer.proofs.Keeping.{marks_as, marks_needed, marks_on}
 use Rattle.checkpointer.proofs.MarkedFrames.{marked_clean, noted_inside, noted_marked}
@@ -27,3 +29,7 @@ returns-clause-marked g c = let n = c.need_checkpoint.ensures in noted_marked c.
 
 pub returns-clause-inside : goal.returns-clause-inside
 returns-clause-inside g c = let n = c.need_checkpoint.ensures in noted_inside c.args.frame c.args.pass.now c.need_checkpoint.new.self c.note_marked.new.self _ n.touches.others n.marked c.note_marked.ensures refl (frames_of c.args.manager.now.table) c.requires.inside
+
+pub returns-clause-others : goal.returns-clause-others
+returns-clause-others g c =
+    subst (λ (p : PassState). (h : ℕ) → h ≢ c.args.frame → link p.view h ≡ link c.args.pass.now.view h) (sym c.note_marked.ensures) c.need_checkpoint.ensures.touches.others

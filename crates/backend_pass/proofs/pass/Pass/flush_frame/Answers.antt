@@ -1,4 +1,4 @@
-use Rattle.std.proofs.Common.{◌≡◌, ◌≢◌, ◌∙◌, ℕ, Bool, Err, ap, refl, sym, subst}
+use Rattle.std.proofs.Common.{◌≡◌, ◌≢◌, ◌∙◌, ℕ, Bool, true, false, Ok, Err, ap, refl, sym, subst}
 use Rattle.crossbeam_utils.specs.Padded.{padded_value}
 use Rattle.block_tag.specs.Names.{lane_number}
 use Rattle.pin_core.specs.declared.view.Content.TheVariants.{Unlocked}
@@ -7,24 +7,37 @@ use Rattle.pin_core.specs.State.{link}
 use Rattle.frame_table.specs.Seats.{lanes_in}
 use Rattle.held_pins.specs.Rests.{SameLocks}
 use Rattle.buffer_frames.specs.declared.flushing.FrameFlushError as frames
+use Rattle.buffer_frames.specs.declared.flushing.FlushedPage.{FlushedPage}
+use Rattle.buffer_frames.specs.declared.flushing.FlushedPage.TheVariants.{Written, Clean}
 use Rattle.buffer_frames.specs.Flushing.{EndedInError, EndedWritten, FlushAnswer, met_flushing}
 use Rattle.backend_pass.specs.Managers.{Belongs}
 use Rattle.backend_pass.specs.Passes.{IsNumbered, IsShown, PassState, SamePass, view_in}
 use Rattle.backend_pass.specs.FrameFlushes.{frame_refusal, shown_unflushed}
-use Rattle.backend_pass.proofs.BlockReads.{numbered_kept, same_kept}
+use Rattle.backend_pass.proofs.BlockReads.{numbered_kept, same_kept, shown_met}
 use Rattle.backend_pass.proofs.Flushed.{flush_complete, locks_worked, shown_not_flushed}
 use Rattle.backend_pass.proofs.Releasing.{belongs_held}
 use Rattle.backend_pass.proofs.pass.Pass.flush_frame.Goals as goal
 
-pub returns-in-Ok-clause-belongs : goal.returns-in-Ok-clause-belongs
-returns-in-Ok-clause-belongs g c =
-    let e = c.in-Ok.ensures in
+pub returns-in-Ok-Written-clause-belongs : goal.returns-in-Ok-Written-clause-belongs
+returns-in-Ok-Written-clause-belongs g c =
+    let e = c.in-Ok-Written.ensures in
     belongs_held {L = g.row.L.Denot} {G = g.row.G.Denot} g.L.BlockLane.contents c.args.manager.now _ _ e.table refl (ap (λ (x : View). x.calls) e.works.kept) (ap (λ (x : View). x.front) e.works.kept) e.works.advances.end_seen (λ f h at. (h, at, refl))
     (subst (Belongs {L = g.row.L.Denot} {G = g.row.G.Denot} g.L.BlockLane.contents c.args.manager.now) (sym c.self.view_is) c.requires.belongs)
 
-pub returns-in-Ok-clause-locks : goal.returns-in-Ok-clause-locks
-returns-in-Ok-clause-locks g c =
-    let e = c.in-Ok.ensures in
+pub returns-in-Ok-Clean-clause-belongs : goal.returns-in-Ok-Clean-clause-belongs
+returns-in-Ok-Clean-clause-belongs g c =
+    let e = c.in-Ok-Clean.ensures in
+    belongs_held {L = g.row.L.Denot} {G = g.row.G.Denot} g.L.BlockLane.contents c.args.manager.now _ _ e.table refl (ap (λ (x : View). x.calls) e.works.kept) (ap (λ (x : View). x.front) e.works.kept) e.works.advances.end_seen (λ f h at. (h, at, refl))
+    (subst (Belongs {L = g.row.L.Denot} {G = g.row.G.Denot} g.L.BlockLane.contents c.args.manager.now) (sym c.self.view_is) c.requires.belongs)
+
+pub returns-in-Ok-Written-clause-locks : goal.returns-in-Ok-Written-clause-locks
+returns-in-Ok-Written-clause-locks g c =
+    let e = c.in-Ok-Written.ensures in
+    subst (λ (p : PassState). SameLocks p.view (view_in c.flush_seated.new.badge.views)) c.self.view_is (locks_worked c.args.pinned.now.frame _ _ e.works (subst (λ (p : PassState). (link p.view c.args.pinned.now.frame).content ≡ Unlocked) (sym c.self.view_is) c.requires.unlocked) e.unlocked)
+
+pub returns-in-Ok-Clean-clause-locks : goal.returns-in-Ok-Clean-clause-locks
+returns-in-Ok-Clean-clause-locks g c =
+    let e = c.in-Ok-Clean.ensures in
     subst (λ (p : PassState). SameLocks p.view (view_in c.flush_seated.new.badge.views)) c.self.view_is (locks_worked c.args.pinned.now.frame _ _ e.works (subst (λ (p : PassState). (link p.view c.args.pinned.now.frame).content ≡ Unlocked) (sym c.self.view_is) c.requires.unlocked) e.unlocked)
 
 pub returns-in-Err-clause-belongs : goal.returns-in-Err-clause-belongs
@@ -37,6 +50,16 @@ pub returns-in-Err-clause-locks : goal.returns-in-Err-clause-locks
 returns-in-Err-clause-locks g c =
     let e = c.in-Err.ensures in
     subst (λ (p : PassState). SameLocks p.view (view_in c.flush_seated.new.badge.views)) c.self.view_is (locks_worked c.args.pinned.now.frame _ _ e.works (subst (λ (p : PassState). (link p.view c.args.pinned.now.frame).content ≡ Unlocked) (sym c.self.view_is) c.requires.unlocked) e.unlocked)
+
+pub returns-in-Ok-Written-clause-answer : goal.returns-in-Ok-Written-clause-answer
+returns-in-Ok-Written-clause-answer g c =
+    subst (λ (p : PassState). FlushAnswer {L = g.row.L.Denot} {G = g.row.G.Denot} g.L.BlockLane.contents c.args.manager.now.table (lane_number c.args.pinned.now.tag (lanes_in c.args.manager.now.table)) c.args.pinned.now.tag c.args.pinned.now.frame p.view (view_in c.flush_seated.new.badge.views) (Ok Written)) c.self.view_is
+    (subst (λ (y : FlushedPage). FlushAnswer {L = g.row.L.Denot} {G = g.row.G.Denot} g.L.BlockLane.contents c.args.manager.now.table (lane_number c.args.pinned.now.tag (lanes_in c.args.manager.now.table)) c.args.pinned.now.tag c.args.pinned.now.frame (view_in c.self.inside.seat.views) (view_in c.flush_seated.new.badge.views) (Ok y)) c.in-Ok-Written.field-0-is c.in-Ok-Written.ensures.answer)
+
+pub returns-in-Ok-Clean-clause-answer : goal.returns-in-Ok-Clean-clause-answer
+returns-in-Ok-Clean-clause-answer g c =
+    subst (λ (p : PassState). FlushAnswer {L = g.row.L.Denot} {G = g.row.G.Denot} g.L.BlockLane.contents c.args.manager.now.table (lane_number c.args.pinned.now.tag (lanes_in c.args.manager.now.table)) c.args.pinned.now.tag c.args.pinned.now.frame p.view (view_in c.flush_seated.new.badge.views) (Ok Clean)) c.self.view_is
+    (subst (λ (y : FlushedPage). FlushAnswer {L = g.row.L.Denot} {G = g.row.G.Denot} g.L.BlockLane.contents c.args.manager.now.table (lane_number c.args.pinned.now.tag (lanes_in c.args.manager.now.table)) c.args.pinned.now.tag c.args.pinned.now.frame (view_in c.self.inside.seat.views) (view_in c.flush_seated.new.badge.views) (Ok y)) c.in-Ok-Clean.field-0-is c.in-Ok-Clean.ensures.answer)
 
 pub returns-in-Err-clause-answer : goal.returns-in-Err-clause-answer
 returns-in-Err-clause-answer g c =
@@ -68,19 +91,64 @@ invariant_of-self-in-Err g c =
       i.4,
     )
 
+same_from : (a p q : PassState) → a ≡ p → SamePass a q → SamePass p q
+same_from a p q same s = subst (λ (x : PassState). SamePass x q) same s
+
 pub returns-in-Err-clause-same : goal.returns-in-Err-clause-same
 returns-in-Err-clause-same g c =
     let e = c.in-Err.ensures in
-    from _ _ _ c.self.view_is (same_kept _ _ e.table e.id refl e.works.kept e.works.advances)
-  where
-    from : (a p q : PassState) → a ≡ p → SamePass a q → SamePass p q
-    from a p q same s = subst (λ (x : PassState). SamePass x q) same s
+    same_from _ _ _ c.self.view_is (same_kept _ _ e.table e.id refl e.works.kept e.works.advances)
 
 pub returns-in-Err-clause-ended : goal.returns-in-Err-clause-ended
 returns-in-Err-clause-ended g c = subst (λ (p : PassState). EndedInError c.args.pinned.now.frame p.view (view_in c.flush_seated.new.badge.views)) c.self.view_is c.in-Err.ensures.ended
 
-pub returns-in-Ok-clause-written : goal.returns-in-Ok-clause-written
-returns-in-Ok-clause-written g c = λ wrote. subst (λ (p : PassState). EndedWritten c.args.pinned.now.frame p.view (view_in c.flush_seated.new.badge.views)) c.self.view_is (c.in-Ok.ensures.written wrote)
+pub returns-in-Ok-Written-clause-written : goal.returns-in-Ok-Written-clause-written
+returns-in-Ok-Written-clause-written g c = λ _. subst (λ (p : PassState). EndedWritten c.args.pinned.now.frame p.view (view_in c.flush_seated.new.badge.views)) c.self.view_is (c.in-Ok-Written.ensures.written c.in-Ok-Written.field-0-is)
+
+pub returns-in-Ok-Clean-clause-written : goal.returns-in-Ok-Clean-clause-written
+returns-in-Ok-Clean-clause-written g c = λ same. (let no : false ≡ true = same in absurd (cc))
 
 pub returns-in-Err-clause-others : goal.returns-in-Err-clause-others
 returns-in-Err-clause-others g c = subst (λ (p : PassState). (h : ℕ) → h ≢ c.args.pinned.now.frame → link (view_in c.flush_seated.new.badge.views) h ≡ link p.view h) c.self.view_is c.in-Err.ensures.works.others
+
+pub invariant_of-self : goal.invariant_of-self
+invariant_of-self g c =
+    let i = c.self.invariant in
+    let e = c.in-Ok-Written.ensures in
+    let v = view_in c.self.inside.seat.views in
+    let w = view_in c.flush_seated.new.badge.views in (
+      e.view,
+      e.rests,
+      subst (λ (id : ℕ). IsNumbered c.self.inside.number id w) (sym e.id) (numbered_kept c.self.inside.number c.self.inside.seat.id v w e.works.kept i.2),
+      shown_met v w (padded_value c.self.inside.shown) (ap (λ (x : View). x.front) e.works.kept) e.met i.3,
+      i.4,
+    )
+
+pub invariant_of-self-in-Ok-Clean : goal.invariant_of-self-in-Ok-Clean
+invariant_of-self-in-Ok-Clean g c =
+    let i = c.self.invariant in
+    let e = c.in-Ok-Clean.ensures in
+    let v = view_in c.self.inside.seat.views in
+    let w = view_in c.flush_seated.new.badge.views in (
+      e.view,
+      e.rests,
+      subst (λ (id : ℕ). IsNumbered c.self.inside.number id w) (sym e.id) (numbered_kept c.self.inside.number c.self.inside.seat.id v w e.works.kept i.2),
+      shown_met v w (padded_value c.self.inside.shown) (ap (λ (x : View). x.front) e.works.kept) e.met i.3,
+      i.4,
+    )
+
+pub returns-in-Ok-Written-clause-same : goal.returns-in-Ok-Written-clause-same
+returns-in-Ok-Written-clause-same g c =
+    let e = c.in-Ok-Written.ensures in
+    same_from _ _ _ c.self.view_is (same_kept _ _ e.table e.id refl e.works.kept e.works.advances)
+
+pub returns-in-Ok-Clean-clause-same : goal.returns-in-Ok-Clean-clause-same
+returns-in-Ok-Clean-clause-same g c =
+    let e = c.in-Ok-Clean.ensures in
+    same_from _ _ _ c.self.view_is (same_kept _ _ e.table e.id refl e.works.kept e.works.advances)
+
+pub returns-in-Ok-Written-clause-others : goal.returns-in-Ok-Written-clause-others
+returns-in-Ok-Written-clause-others g c = subst (λ (p : PassState). (h : ℕ) → h ≢ c.args.pinned.now.frame → link (view_in c.flush_seated.new.badge.views) h ≡ link p.view h) c.self.view_is c.in-Ok-Written.ensures.works.others
+
+pub returns-in-Ok-Clean-clause-others : goal.returns-in-Ok-Clean-clause-others
+returns-in-Ok-Clean-clause-others g c = subst (λ (p : PassState). (h : ℕ) → h ≢ c.args.pinned.now.frame → link (view_in c.flush_seated.new.badge.views) h ≡ link p.view h) c.self.view_is c.in-Ok-Clean.ensures.works.others

@@ -14,6 +14,7 @@ use Rattle.page_core.specs.Kinds as kinds
 use Rattle.frame_table.specs.FrameSteps.{Did}
 use Rattle.frame_table.specs.Kinds.{pages}
 use Rattle.buffer_frames.specs.Working.{Within}
+use Rattle.buffer_sync.specs.Syncs.{NotesBlock}
 use Rattle.frame_table.specs.Seats.{Touches}
 use Rattle.frame_table.proofs.Rising.{rises_touched}
 use Rattle.held_pins.proofs.Keeping.{kept_self}
@@ -57,3 +58,7 @@ returns-clause-touches g c =
 pub returns-clause-needed : goal.returns-clause-needed
 returns-clause-needed g c =
     subst (λ (p : PassState). IfSome c.need_seated.result (λ _. Within (λ a b. (word : ℕ) × Did (pages kinds.need_checkpoint) c.args.frame a b word) p.view (view_in c.need_seated.new.badge.views))) c.self.view_is (c.need_seated.ensures.did.needed)
+
+pub returns-clause-noted : goal.returns-clause-noted
+returns-clause-noted g c =
+    subst (λ (p : PassState). IfSome c.need_seated.result (λ tag. NotesBlock c.args.frame tag p.view (view_in c.need_seated.new.badge.views))) c.self.view_is (c.need_seated.ensures.did.noted)
