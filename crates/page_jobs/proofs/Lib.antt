@@ -2,11 +2,11 @@ mod Staying
 mod Blocks
 mod Sums
 mod BlockWork
-mod Deals
+pub mod Deals
 mod BesideWork
 mod Texts
 mod Whole
-mod Origin
+pub mod Origin
 mod Crossing
 pub mod Standing
 pub mod ReadersLeave

@@ -81,7 +81,7 @@ module _ {L G : Type 0} (contents : L → Option Pages) (m : Manager L G) where
   one_page tag page other block was known = let e : Some page ≡ Some other = sym (was (lane_number tag (lanes_in m.table)) known.lane known.pages block known.opened known.known) ∙ known.is in cc
 
   -- what was read at the log's base
-  abbrev IsAtBase : Tag → BlockRead → Type 0
+  abbrev pub IsAtBase : Tag → BlockRead → Type 0
   IsAtBase tag r = IsKnown contents m tag r × IsWithinFront (base_of m.table) r
 
   read_is : (lines : Lines) (block : ℕ) (tag : Tag) (page : Page) (r : BlockRead) → IsBlockOf (relations_of m.table) (lanes_in m.table) (lane_number tag (lanes_in m.table)) tag → IsAtBase tag r → WasKnownAtOpening contents m tag page
@@ -96,14 +96,14 @@ module _ {L G : Type 0} (contents : L → Option Pages) (m : Manager L G) where
 
 module _ {L G : Type 0} (contents : L → Option Pages) (m : Manager L G) (rel : ℕ) (fork : Fork) where
   -- these pages, from the block on, were there at the opening
-  abbrev Origins : ℕ → List Page → Type 0
+  abbrev pub Origins : ℕ → List Page → Type 0
   Origins block [] = Unit {0}
   Origins block (page ∷ pages) = IsBlockOf (relations_of m.table) (lanes_in m.table) (lane_number (tag_of_parts rel fork block) (lanes_in m.table)) (tag_of_parts rel fork block) × WasKnownAtOpening contents m (tag_of_parts rel fork block) page × Origins (block + 1) pages
 
-  abbrev AtBase : ℕ → List BlockRead → Type 0
+  abbrev pub AtBase : ℕ → List BlockRead → Type 0
   AtBase block rs = AllReads (λ b r. IsAtBase contents m (tag_of_parts rel fork b) r) block rs
 
-  origins : (pages : List Page) (block : ℕ) → ((b : ℕ) → b < block + length pages → IsBlockOf (relations_of m.table) (lanes_in m.table) (lane_number (tag_of_parts rel fork b) (lanes_in m.table)) (tag_of_parts rel fork b))
+  pub origins : (pages : List Page) (block : ℕ) → ((b : ℕ) → b < block + length pages → IsBlockOf (relations_of m.table) (lanes_in m.table) (lane_number (tag_of_parts rel fork b) (lanes_in m.table)) (tag_of_parts rel fork b))
       → ((i b : ℕ) (page : Page) → b ≡ block + i → get_elem? pages i ≡ some page → WasKnownAtOpening contents m (tag_of_parts rel fork b) page) → Origins block pages
   origins [] block named known = tt
   origins (page ∷ pages) block named known =
@@ -120,7 +120,7 @@ module _ {L G : Type 0} (contents : L → Option Pages) (m : Manager L G) (rel :
       ∙ sym (append_assoc (read_lines lines block r) (reads_lines lines (block + 1) rs) (lines_from lines (block + 1 + length rs) (drop (length rs) pages)))
       ∙ ap (λ (k : ℕ). (read_lines lines block r ++ reads_lines lines (block + 1) rs) ++ lines_from lines k (drop (length rs) pages)) n
 
-  summaries_origin : (block : ℕ) (rs : List BlockRead) (pages : List Page) → AtBase block rs → Origins block pages → length rs ≡ length pages → map read_summary rs ≡ map summary_of pages
+  pub summaries_origin : (block : ℕ) (rs : List BlockRead) (pages : List Page) → AtBase block rs → Origins block pages → length rs ≡ length pages → map read_summary rs ≡ map summary_of pages
   summaries_origin block [] [] at o e = refl
   summaries_origin block [] (page ∷ pages) at o e = absurd (omega arith)
   summaries_origin block (r ∷ rs) [] at o e = absurd (omega arith)

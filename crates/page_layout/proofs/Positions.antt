@@ -66,7 +66,7 @@ restores lsn p long small = let x = front p long in
         ∙ ap (λ (l : List ℕ). (l ++ little_bytes 4 low) ++ rest) (four_back a b c d la lb lc ld) ∙ ap (λ (l : List ℕ). ((a ∷ b ∷ c ∷ d ∷ []) ++ l) ++ rest) (four_back e f g h le lf lg lh)
 
 -- the header but for the position, and so whether the page is sound
-same_header : (lsn : ℕ) (p : List ℕ) → 8 ≤ length p → is_sound_header (header_of (with_lsn lsn p)) ≡ is_sound_header (header_of p)
+pub same_header : (lsn : ℕ) (p : List ℕ) → 8 ≤ length p → is_sound_header (header_of (with_lsn lsn p)) ≡ is_sound_header (header_of p)
 unfolding header_of lsn_of with_lsn
 same_header lsn p long = let x = front p long in subst (λ (q : List ℕ). is_sound_header (header_of (with_lsn lsn q)) ≡ is_sound_header (header_of q)) (sym x.is) refl
 
@@ -74,11 +74,11 @@ pub length_with : (lsn : ℕ) (p : List ℕ) → 8 ≤ length p → length (with
 unfolding with_lsn
 length_with lsn p long = let x = front p long in subst (λ (q : List ℕ). length (with_lsn lsn q) ≡ length q) (sym x.is) refl
 
-sound_used : (new : Bool) (h : Bool) → (new || h) ≡ true → new ≡ false → h ≡ true
+pub sound_used : (new : Bool) (h : Bool) → (new || h) ≡ true → new ≡ false → h ≡ true
 sound_used true h sound used = absurd (let no : true ≡ false = used in cc)
 sound_used false h sound used = sound
 
-or_true : (b : Bool) → (b || true) ≡ true
+pub or_true : (b : Bool) → (b || true) ≡ true
 or_true true = refl
 or_true false = refl
 
@@ -86,7 +86,7 @@ upper_some : (h : Header) → is_sound_header h ≡ true → h.upper ≢ 0
 upper_some h sound = grind (arith, nat_tests)
 
 -- a page with a sound header isn't new
-header_used : (p : List ℕ) → is_sound_header (header_of p) ≡ true → is_new_page p ≡ false
+pub header_used : (p : List ℕ) → is_sound_header (header_of p) ≡ true → is_new_page p ≡ false
 unfolding header_of is_new_page
 header_used p sound = of_new (is_new_page p) refl
   where

@@ -256,7 +256,7 @@ module _ {L G : Type 0} (contents : L → Option Pages) (failed : L → Marks) (
   held_by None relation base lanes main relation_is pages = tt
   held_by (Some paths) relation base lanes main relation_is pages =
       subst (λ (f : Fork). HoldPages f (pages_at r paths) (map contents lanes)) (sym main)
-      (subst (λ (rel : RelationFork). HoldPages rel.fork (pages_at r paths) (map contents lanes)) relation_is pages.held)
+      (subst (λ (rel : RelationFork). HoldPages rel.fork (pages_at r paths) (map contents lanes)) relation_is pages.have.held)
 
   -- A log that couldn't be begun was given back, if it was opened, with lanes that were not written
   pub refused : (a b c : Told) (lanes : List L) (base : ℕ) (log : Option G) (logs_before logs_now faults : ℕ) (e : RewriteError) → IsOpen a → All (λ lane. failed lane ≡ no_marks) lanes

@@ -1,74 +1,30 @@
 -- The pages that a rewrite leaves are those that it makes, but for their log positions.
-use Rattle.std.proofs.Common.{◌≡◌, ◌≢◌, ℕ, zero, suc, Bool, true, false, ◌||◌, eqb, List, [], ◌∷◌, drop, get_or, length, map, if◌then◌else◌, Some, refl, sym, ap, ◌∙◌, subst, inl, inr, arith}
+use Rattle.std.proofs.Common.{◌≡◌, ◌≤◌, ℕ, zero, suc, Bool, true, false, ◌||◌, List, [], ◌∷◌, drop, length, map, if◌then◌else◌, Some, refl, sym, ap, ◌∙◌, subst, inl, inr, arith}
 use Rattle.std.specs.Prelude.{slice_get}
-use Rattle.std.specs.List.{list_all, range_with_len}
-use Rattle.std.proofs.lemmas.Bool.Decides.{nat_tests}
-use Rattle.std.proofs.lemmas.List.{get_or-drop, length-drop, length-map}
+use Rattle.std.specs.List.{range_with_len}
+use Rattle.std.proofs.lemmas.List.{length-drop, length-map}
 use Rattle.std.proofs.lemmas.List.FromFn.{length-range_with_len}
 use mathlib.Core.Option.{some}
 use lib.ListN.{get_elem?}
-use Rattle.page_layout.specs.declared.page.Header.{Header}
 use Rattle.page_layout.specs.declared.outcomes.PageRewrite.TheVariants.{Invalid, New, Used}
 use Rattle.page_layout.specs.declared.rewrite.Rewrite.{Rewrite}
 use Rattle.page_layout.specs.declared.rewrite.Rewrite.TheVariants.{Skipped}
-use Rattle.page_layout.specs.Fields.{header_of, number_at, with_lsn}
+use Rattle.page_layout.specs.Fields.{header_of, with_lsn}
 use Rattle.page_layout.specs.Outcomes.{is_changed_outcome, page_rewrite_of}
 use Rattle.page_layout.specs.Positions.{DifferInPositions, DiffersInPosition}
 use Rattle.page_layout.specs.Rewritten.{is_skipped, new_byte, rewrite_of, rewritten_page}
 use Rattle.page_layout.specs.Soundness.{IsUsedPage, is_new_page, is_sound_header, is_sound_page}
-use Rattle.page_layout.proofs.Alike.{drop_after}
-use Rattle.page_layout.proofs.Sound.{zero_at}
+use Rattle.page_layout.proofs.Positions.{header_used, or_true, same_header, sound_used}
 use Rattle.pin_core.specs.State.{Page}
 use Rattle.page_jobs.proofs.Standing.{all_at}
 use Rattle.page_tool.specs.RewriteResults.{AreFull, page_after}
-
--- whether a header is sound doesn't depend on the position
-same_header : (lsn : ℕ) (page : Page) → is_sound_header (header_of (with_lsn lsn page)) ≡ is_sound_header (header_of page)
-unfolding header_of
-same_header lsn page =
-    let flags = drop_after lsn 10 page (omega arith) in
-    let lower = drop_after lsn 12 page (omega arith) in
-    let upper = drop_after lsn 14 page (omega arith) in
-    let special = drop_after lsn 16 page (omega arith) in
-    λ i. is_sound_header (record {
-      lsn = 0;
-      checksum = 0;
-      flags = number_at 0 2 (flags i);
-      lower = number_at 0 2 (lower i);
-      upper = number_at 0 2 (upper i);
-      special = number_at 0 2 (special i);
-      pagesize_version = 0;
-      prune_xid = 0;
-    })
-
-sound_used : (new header : Bool) → (new || header) ≡ true → new ≡ false → header ≡ true
-sound_used true header sound used = absurd (let no : true ≡ false = used in cc)
-sound_used false header sound used = sound
-
-or_true : (b : Bool) → (b || true) ≡ true
-or_true true = refl
-or_true false = refl
-
-upper_some : (h : Header) → is_sound_header h ≡ true → h.upper ≢ 0
-upper_some h sound = grind (arith, nat_tests)
-
--- a page with a sound header isn't new
-header_used : (page : Page) → is_sound_header (header_of page) ≡ true → is_new_page page ≡ false
-unfolding header_of is_new_page
-header_used page sound = of_new (is_new_page page) refl
-  where
-    of_new : (b : Bool) → list_all (λ b. eqb b 0) page ≡ b → list_all (λ b. eqb b 0) page ≡ false
-    of_new false e = e
-    of_new true e =
-        let low = get_or-drop 14 page 0 0 ∙ zero_at page 14 e in
-        let high = get_or-drop 14 page 1 0 ∙ zero_at page 15 e in
-        absurd (upper_some (header_of page) sound (omega (arith, low, high)))
 
 -- a page that is used with one position is used with its own
 used_without : (lsn : ℕ) (page : Page) → IsUsedPage (with_lsn lsn page) → length page ≡ 8192 → IsUsedPage page
 unfolding is_sound_page
 used_without lsn page is size =
-    let header = sym (same_header lsn page) ∙ sound_used (is_new_page (with_lsn lsn page)) (is_sound_header (header_of (with_lsn lsn page))) is.sound is.used in
+    let long : 8 ≤ length page = omega arith in
+    let header = sym (same_header lsn page long) ∙ sound_used (is_new_page (with_lsn lsn page)) (is_sound_header (header_of (with_lsn lsn page))) is.sound is.used in
     record {
       size = size;
       sound = ap (λ (b : Bool). is_new_page page || b) header ∙ or_true (is_new_page page);

@@ -201,7 +201,7 @@ module _ {L G : Type 0} (d : Devices L G) (m : Manager L G) (r : RelationFork) (
   none_past v lsn end seen x pages are =
       let tag_is = started.catalog.alone x.tag x.listed in
       let low : x.tag.block < r.blocks = below x.tag.block (blocks_at (relations_of m.table) x.tag.rel.0 x.tag.fork) x.listed (ap (λ (t : Tag). blocks_at (relations_of m.table) t.rel.0 t.fork) tag_is ∙ started.catalog.counted) in
-      let p = there pages x.tag.block (let e = are.counted in omega arith) in
+      let p = there pages x.tag.block (let e = are.have.counted in omega arith) in
       let l = was_there d m r base ps zs started few lanes log c pages are x.tag.block p.0 p.1 in
       let is : l.2.0 x.tag ≡ Some x.page = x.was (lane_number x.tag (lanes_in m.table)) l.0 l.2.0 record { named = x.named; listed = x.listed; placed = refl }
       (subst (λ (t : Tag). get_elem? (opened_of m.table) (lane_number t (lanes_in m.table)) ≡ some l.0) (sym tag_is) l.1) l.2.1 in

@@ -117,7 +117,7 @@ module _ {L G : Type 0} (d : Devices L G) (m : Manager L G) (r : RelationFork) (
 
   module _ (pages : List Page) (are : ArePages d.contents r base (opened_of m.table) pages) where
     low : (block : ℕ) (page : Page) → get_elem? pages block ≡ some page → block < r.blocks
-    low block page at = let i = inside pages block page at in let e = are.counted in omega arith
+    low block page at = let i = inside pages block page at in let e = are.have.counted in omega arith
 
     -- the lane that has a block's page, as the manager was started
     pub was_there : (block : ℕ) (page : Page) → get_elem? pages block ≡ some page
@@ -127,7 +127,7 @@ module _ {L G : Type 0} (d : Devices L G) (m : Manager L G) (r : RelationFork) (
         let wide : length (map d.contents (opened_of m.table)) ≡ lanes_in m.table = length-map (opened_of m.table) d.contents ∙ started.counted in
         found d.contents (λ before. before tag ≡ Some page) (opened_of m.table) (lane_number tag (lanes_in m.table))
         (subst (λ (p : Page). IsSomeAnd (get_or (map d.contents (opened_of m.table)) (lane_number tag (lanes_in m.table)) None) (λ before. before tag ≡ Some p)) (standing_or pages block page [] at)
-        (subst (λ (k : ℕ). IsSomeAnd (get_or (map d.contents (opened_of m.table)) (lane_number tag k) None) (λ before. before tag ≡ Some (get_or pages block []))) wide (are.held block (inside pages block page at))))
+        (subst (λ (k : ℕ). IsSomeAnd (get_or (map d.contents (opened_of m.table)) (lane_number tag k) None) (λ before. before tag ≡ Some (get_or pages block []))) wide (are.have.held block (inside pages block page at))))
 
     lane_is : (block : ℕ) → block < r.blocks → tag_lane (lanes_in m.table) ((rule_at r).tag block) ≡ lane_number (tag_at r.fork block) (lanes_in m.table)
     lane_is block below = ap (lane_of_tag (lanes_in m.table)) (placed block below).named
@@ -215,7 +215,7 @@ module _ {L G : Type 0} (d : Devices L G) (m : Manager L G) (r : RelationFork) (
       image_of e x =
           let short = x.below in
           let same = blocks_are in
-          let e_count = are.counted in
+          let e_count = are.have.counted in
           let p = there pages x.block (omega arith) in
           let told : c.state.known e.tag ≡ true = ap c.state.known x.tagged ∙ known_at x.block p.0 p.1 in
           let is : c.state.origin e.tag ≡ p.0 = ap c.state.origin x.tagged ∙ sym (origin_at x.block p.0 p.1) in

@@ -105,7 +105,7 @@ module _ {L G : Type 0} (d : Devices L G) (m : Manager L G) (r : RelationFork) (
     totals_are : (pages : List Page) → ArePages d.contents r base (opened_of m.table) pages → (totals : RewriteTotals) → StoresRewrite d.contents m r.fork ps zs (Ok totals) → totals ≡ rewrite_totals_of pages
     totals_are pages are totals s =
         let x = rewritten 0 r.fork ps s.qs zs s.whole.counts s.whole.stores.upto lanes log (stored pages are totals s) c in
-        s.whole.totals_are ∙ ap rewrite_totals_in (x.1 pages (is_origin d.contents m r.fork r.blocks started.catalog started.counted pages are.held are.counted))
+        s.whole.totals_are ∙ ap rewrite_totals_in (x.1 pages (is_origin d.contents m r.fork r.blocks started.catalog started.counted pages are.have.held are.have.counted))
 
     -- a log with room for each block's record isn't full
     not_full : (e : RewriteError) → StoresRewrite d.contents m r.fork ps zs (Err e) → (end : ℕ) → e ≡ OverLimit (OfLog end) → ⊥
@@ -147,7 +147,7 @@ module _ {L G : Type 0} (d : Devices L G) (m : Manager L G) (r : RelationFork) (
           either = λ pages known are told. leaves_either d m r base ps zs started few lanes log c pages are x.1 known told full_pages x.0;
           whole = tt;
           totals = tt;
-          held = tt;
+          held = λ pages are. pages_held d m r base ps zs started few lanes log c pages are;
           unfailed = tt;
           positions = positions_left e s;
         }

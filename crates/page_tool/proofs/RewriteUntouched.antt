@@ -9,10 +9,10 @@ use Rattle.block_tag.specs.Names.{lane_number}
 use Rattle.page_layout.specs.Fields.{lsn_of}
 use Rattle.page_layout.specs.Soundness.{is_sound_page}
 use Rattle.segment_store.specs.Contents.{AreFullPages, Marks, Pages}
-use Rattle.segment_store.specs.Lanes.{lane_at, page_in, tag_at}
+use Rattle.segment_store.specs.Lanes.{HasPage, HoldPages, lane_at, page_in, tag_at}
 use Rattle.pin_core.specs.State.{Page}
 use Rattle.history_core.specs.Log.{head_bytes, log_bytes, records}
-use Rattle.page_jobs.proofs.Standing.{found, inside, standing_or}
+use Rattle.page_jobs.proofs.Standing.{found, inside, standing_or, there}
 use Rattle.page_tool.specs.declared.rewriting.RewriteError.TheVariants.{Memory}
 use Rattle.page_tool.specs.declared.starting.RelationFork.{RelationFork}
 use Rattle.page_tool.specs.RewriteResults.{LeavesEither}
@@ -38,15 +38,26 @@ module _ {L G : Type 0} (contents : L → Option Pages) (failed : L → Marks) (
         let here : 0 + block ≡ block = omega arith in
         let is : x.0 ≡ old = some-injective x.0 old (sym x.1 ∙ was) in
         let has : page_in (map contents lanes) (tag_at r.fork block) ≡ Some old =
-        page_of (lane_at (map contents lanes) (tag_at r.fork block)) (tag_at r.fork block) (get_or pages block []) (are.held block (inside pages block old was))
+        page_of (lane_at (map contents lanes) (tag_at r.fork block)) (tag_at r.fork block) (get_or pages block []) (are.have.held block (inside pages block old was))
         ∙ ap (λ (p : Page). Some p) (standing_or pages block old [] was) in
         x.2 ∙ ap (λ (n : ℕ). unwrap_or (page_in (map contents lanes) (tag_at r.fork n)) x.0) here ∙ ap (λ (p : Option Page). unwrap_or p x.0) has
+
+    still_held : HoldPages r.fork (pages_after contents r lanes pages) (map contents lanes)
+    still_held block below =
+        let after = pages_after contents r lanes pages in
+        let x = there after block below in
+        let old = page_at r.fork (map contents lanes) 0 pages block x.0 x.1 in
+        let kept : get_or pages block [] ≡ get_or after block [] =
+        standing_or pages block old.0 [] old.1
+        ∙ sym (standing_or after block x.0 [] x.1 ∙ same block old.0 x.0 old.1 x.1) in
+        subst (λ (page : Page). HasPage (tag_at r.fork block) page (map contents lanes)) kept
+        (are.have.held block (inside pages block old.0 old.1))
 
     full_at : (block : ℕ) (new : Page) → get_elem? (pages_after contents r lanes pages) block ≡ some new → length new ≡ 8192
     full_at block new at =
         let x = page_at r.fork (map contents lanes) 0 pages block new at in
         let tag = tag_at r.fork block in
-        let l = found contents (λ known. known tag ≡ Some (get_or pages block [])) lanes (lane_number tag (length (map contents lanes))) (are.held block (inside pages block x.0 x.1)) in
+        let l = found contents (λ known. known tag ≡ Some (get_or pages block [])) lanes (lane_number tag (length (map contents lanes))) (are.have.held block (inside pages block x.0 x.1)) in
         let all : AreFullPages l.2.0 = subst (λ (p : Option Pages). IfSome p AreFullPages) l.2.1 (whole l.0) in
         let long : length (get_or pages block []) ≡ 8192 = subst (λ (p : Option Page). IfSome p (λ page. length page ≡ 8192)) l.2.2 (all tag) in
         ap length (same block x.0 new x.1 at ∙ sym (standing_or pages block x.0 [] x.1)) ∙ long
@@ -75,7 +86,7 @@ module _ {L G : Type 0} (contents : L → Option Pages) (failed : L → Marks) (
     either = λ pages known are told. either pages are known told;
     whole = tt;
     totals = tt;
-    held = tt;
+    held = λ pages are. still_held pages are;
     unfailed = tt;
     positions = λ pages are. tt;
   }

@@ -84,7 +84,7 @@ module _ {L G : Type 0} (d : Devices L G) (m : Manager L G) (r : RelationFork) (
     -- no block's last write failed
     pub unfailed : (block : ℕ) → block < r.blocks → failed_after d.failed_writes r lanes block ≡ false
     unfailed block below =
-        let count = are.counted in
+        let count = are.have.counted in
         let p = there pages block (omega arith) in
         let x = in_lanes d m r base ps zs started few lanes log c pages are block p.0 p.1 in
         x.marked ∙ none x
@@ -112,7 +112,7 @@ module _ {L G : Type 0} (d : Devices L G) (m : Manager L G) (r : RelationFork) (
 
       ended : log_end c.state.log ≡ base + record_size * changed_pages pages
       ended =
-          let n : blocks_in m 0 r.fork ≡ length pages = started.catalog.counted ∙ are.counted in
+          let n : blocks_in m 0 r.fork ≡ length pages = started.catalog.counted ∙ are.have.counted in
           has.end
           ∙ ap (λ (b : ℕ). b + record_size * sum_below (blocks_in m 0 r.fork) (change_weight (rule_at r) c.state.origin)) (c.opened.base ∙ started.based)
           ∙ ap (λ (k : ℕ). base + record_size * sum_below k (change_weight (rule_at r) c.state.origin)) n
@@ -122,7 +122,7 @@ module _ {L G : Type 0} (d : Devices L G) (m : Manager L G) (r : RelationFork) (
       changed_at : (block : ℕ) (old new : Page) → get_elem? pages block ≡ some old → get_elem? (pages_after d.contents r lanes pages) block ≡ some new → (rule_at r).changes old ≡ true
           → HasDurableEntry (rule_at r) c.state.log (file_at d.synced log known) block old new
       changed_at block old new was at changes =
-          let low : block < r.blocks = let i = inside pages block old was in let e = are.counted in omega arith in
+          let low : block < r.blocks = let i = inside pages block old was in let e = are.have.counted in omega arith in
           let ok = unfailed block low in
           let x = in_lanes d m r base ps zs started few lanes log c pages are block old was in
           let y = hold.changed block (tag_at r.fork block) x.before x.after x.closed old (let e = started.catalog.counted in omega arith) x.is x.was changes in
@@ -154,7 +154,7 @@ module _ {L G : Type 0} (d : Devices L G) (m : Manager L G) (r : RelationFork) (
       same_at : (block : ℕ) (old new : Page) → get_elem? pages block ≡ some old → get_elem? (pages_after d.contents r lanes pages) block ≡ some new → (rule_at r).changes old ≡ false
           → (HasEntry c.state.log ((rule_at r).tag block) → ⊥) × (new ≡ old)
       same_at block old new was at changes =
-          let low : block < r.blocks = let i = inside pages block old was in let e = are.counted in omega arith in
+          let low : block < r.blocks = let i = inside pages block old was in let e = are.have.counted in omega arith in
           let x = in_lanes d m r base ps zs started few lanes log c pages are block old was in
           let no : HasEntry c.state.log ((rule_at r).tag block) → ⊥ = hold.same block (tag_at r.fork block) x.before x.after x.closed old (let e = started.catalog.counted in omega arith) x.is x.was changes in (
             no,

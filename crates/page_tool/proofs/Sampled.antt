@@ -1,6 +1,6 @@
 -- What the steps of a sample need of the lanes that they are given, and what they leave.
-use Rattle.std.proofs.Common.{◌≡◌, ℕ, ◌+◌, ◌*◌, ◌<◌, ◌≤◌, true, false, List, [], ◌∷◌, ◌++◌, drop, length, map, take, Option, Some, Result, Ok, Err, refl, sym, ap, ◌∙◌, subst, arith}
-use Rattle.std.specs.Prelude.{All, IfErr, IfOk, count_by, is_some, sum_by}
+use Rattle.std.proofs.Common.{◌≡◌, ℕ, ◌+◌, ◌*◌, ◌≤◌, true, List, [], ◌∷◌, ◌++◌, drop, length, map, take, Option, Some, Result, Ok, Err, refl, sym, ap, ◌∙◌, subst, arith}
+use Rattle.std.specs.Prelude.{All, IfOk, count_by, is_some, sum_by}
 use Rattle.std.proofs.lemmas.List.{length-map}
 use Rattle.std.proofs.lemmas.List.Sums.{count_by-le-length, sum_by-cons}
 use Rattle.page_layout.specs.declared.outcomes.RewriteTotals.{RewriteTotals}
@@ -10,24 +10,17 @@ use Rattle.page_layout.specs.Scan.{totals_of}
 use Rattle.segment_store.specs.Contents.{Marks, Pages, no_marks}
 use Rattle.segment_store.specs.Lanes.{HasBlocks, HoldPages}
 use Rattle.segment_store.proofs.Dealing.{held_there}
+use Rattle.segment_store.proofs.PutBlocks.{take_prefix}
 use Rattle.pin_core.specs.State.{Page}
 use Rattle.page_jobs.specs.Survey.{AreOnlyRead}
-use Rattle.command_line.specs.declared.numbers.Options.{Options}
-use Rattle.page_tool.specs.declared.error.ToolError.{ToolError}
-use Rattle.page_tool.specs.declared.error.ToolError.TheVariants.{Usage, Crowded, Missing, ReadFault, WriteFault, LogFault, OutFault, Memory, OverLimit}
 use Rattle.page_tool.specs.declared.rewriting.RewriteError.{RewriteError}
 use Rattle.page_tool.specs.declared.sampling.Rewritten.{Rewritten}
 use Rattle.page_tool.specs.declared.sampling.SampleTotals.{SampleTotals}
 use Rattle.page_tool.specs.declared.starting.RelationFork.{RelationFork}
 use Rattle.page_tool.specs.Limits.{largest_lsn, log_base, rounded_up}
-use Rattle.page_tool.specs.Request.{IsCrowded}
-use Rattle.page_tool.specs.RewriteCommand.{HavePages}
-use Rattle.page_tool.specs.Rewriting.{ArePages, LeavesRewritten, pages_after}
+use Rattle.page_tool.specs.Rewriting.{ArePages, HavePages, LeavesRewritten, pages_after}
 use Rattle.page_tool.specs.RewriteResults.{page_after}
-use Rattle.page_tool.specs.Samples.{IsSampleRefusal}
-use Rattle.page_tool.specs.SampleSteps.{AreFaultless, HaveAll, IsLinesRefusal, IsSampleRewritten, log_span_of, sample_totals_of}
-use Rattle.page_tool.specs.Status.{status_of_error}
-use Rattle.page_tool.proofs.Stepping.{whole_again}
+use Rattle.page_tool.specs.SampleSteps.{AreFaultless, HaveAll, IsSampleRewritten, log_span_of, sample_totals_of}
 
 module _ {L : Type 0} (contents : L → Option Pages) (failed : L → Marks) (reads writes : L → ℕ) (so : AreFaultless contents failed reads writes) where
   sum_none : (faults : L → ℕ) → ((lane : L) → faults lane ≡ 0) → (lanes : List L) → sum_by faults lanes ≡ 0
@@ -66,8 +59,7 @@ module _ {L : Type 0} (contents : L → Option Pages) (r : RelationFork) where
       → ArePages contents r base lanes pages
   unfolding log_base
   are_pages lanes base pages known base_is have = record {
-    held = have.held;
-    counted = have.counted;
+    have = have;
     known = known;
     within = let up = round_up (largest_lsn pages) in omega (arith, base_is, up);
   }
@@ -83,7 +75,7 @@ module _ {L : Type 0} (contents : L → Option Pages) (failed unsynced : L → M
 
   pub have_surveyed : (pages : List Page) → HavePages contents r lanes pages → HavePages contents r (take n (read ++ drop (length read) lanes)) pages
   have_surveyed pages have =
-      subst (λ (ls : List L). HavePages contents r ls pages) (sym (whole_again n lanes read counted)) (have_still contents r lanes read pages (same.contents_same ∙ ap (map contents) is) have)
+      subst (λ (ls : List L). HavePages contents r ls pages) (sym (take_prefix read (drop (length read) lanes) n counted)) (have_still contents r lanes read pages (same.contents_same ∙ ap (map contents) is) have)
 
   pub are_surveyed : (pages : List Page) → HavePages contents r lanes pages → ArePages contents r base (take n (read ++ drop (length read) lanes)) pages
   are_surveyed pages have =
@@ -103,7 +95,7 @@ module _ {L G : Type 0} (contents : L → Option Pages) (failed : L → Marks) (
       let after = pages_after contents r v.lanes.items pages in
       record {
         after = after;
-        have = record { held = leaves.held pages are; counted = are.counted ∙ sym whole.counted };
+        have = record { held = leaves.held pages are; counted = are.have.counted ∙ sym whole.counted };
         alike = same_totals (map page_after pages) after whole.alike;
         totals = totals;
         log = span ∙ λ i. record { base = based i; end = based i + 8224 * (totals i).changed };
@@ -117,7 +109,7 @@ changed_within contents r base lanes end totals ends is pages are =
     let changed = ap (λ (t : RewriteTotals). t.changed) all in
     let most = count_by-le-length is_changed_outcome (map page_rewrite_of pages) in
     let long = length-map pages page_rewrite_of in
-    let counted = are.counted in
+    let counted = are.have.counted in
     omega (arith, changed, most, long, counted)
 
 -- what is known of any pages of the lanes, of these
@@ -130,37 +122,3 @@ of_pages contents r lanes pages (Err why) is have = tt
 pub totals_are : (pages : List Page) (t : SampleTotals) → t.before ≡ totals_of pages → t.rewrite ≡ rewrite_totals_of pages → t.log ≡ log_span_of pages → t.after ≡ totals_of (map page_after pages)
     → t ≡ sample_totals_of pages
 totals_are pages t before rewrite log after = λ i. record { before = before i; rewrite = rewrite i; log = log i; after = after i }
-
-module _ (options : Options) (outs outs_now : ℕ) (roomy : ¬ IsCrowded options) where
-  of_lines : (why : ToolError) → IsLinesRefusal outs outs_now why → IsSampleRefusal options outs outs_now why
-  of_lines Usage is = is
-  of_lines (Crowded crowding) is = absurd is
-  of_lines (Missing path) is = is
-  of_lines ReadFault is = is
-  of_lines WriteFault is = is
-  of_lines LogFault is = is
-  of_lines OutFault is = (is, roomy)
-  of_lines Memory is = tt
-  of_lines (OverLimit limit) is = is
-
-  -- lines that aren't out
-  pub refused : (result : Result Unit ToolError) → IfErr result (IsLinesRefusal outs outs_now) → IfErr result (IsSampleRefusal options outs outs_now)
-  refused (Ok done) is = tt
-  refused (Err why) is = of_lines why is
-
-module _ (outs outs_now : ℕ) where
-  late : (why : ToolError) → IsLinesRefusal outs outs_now why → 3 < status_of_error why
-  late Usage is = absurd is
-  late (Crowded crowding) is = absurd is
-  late (Missing path) is = absurd is
-  late ReadFault is = absurd is
-  late WriteFault is = absurd is
-  late LogFault is = absurd is
-  late OutFault is = omega arith
-  late Memory is = omega arith
-  late (OverLimit limit) is = absurd is
-
-  -- no status of theirs is one that leaves the output as it was
-  pub no_early : (result : Result Unit ToolError) (old new : Option (List ℕ)) → IfErr result (IsLinesRefusal outs outs_now) → IfErr result (λ why. status_of_error why ≤ 3 → new ≡ old)
-  no_early (Ok done) old new is = tt
-  no_early (Err why) old new is = λ early. absurd (let past = late why is in omega (arith, past, early))

@@ -1,5 +1,5 @@
 -- From one step of a rewrite to the next.
-use Rattle.std.proofs.Common.{◌≡◌, ◌≢◌, ℕ, zero, suc, ◌+◌, ◌*◌, ◌/◌, ◌%◌, ◌^◌, ◌<◌, ◌≤◌, Bool, true, false, List, [], ◌∷◌, ◌++◌, drop, get_or, length, map, take, Option, Some, None, Result, Ok, Err, refl, sym, ap, ◌∙◌, subst, is_some, unwrap_or, arith}
+use Rattle.std.proofs.Common.{◌≡◌, ◌≢◌, ℕ, zero, suc, ◌+◌, ◌*◌, ◌/◌, ◌%◌, ◌^◌, ◌<◌, ◌≤◌, Bool, true, false, List, [], ◌∷◌, get_or, length, map, Option, Some, None, Result, Ok, Err, refl, sym, ap, ◌∙◌, subst, is_some, unwrap_or, arith}
 use Rattle.std.specs.Prelude.{All, IfErr, IfOk, IfSome, IsSomeAnd, count_by, option_map, sum_by}
 use Rattle.std.specs.List.{range_with_len}
 use Rattle.std.specs.Str.{bytes_eq}
@@ -30,20 +30,12 @@ use Rattle.page_tool.specs.Answers.{ArePastLimit}
 use Rattle.page_tool.specs.Limits.{largest_lsn, log_base, rounded_up}
 use Rattle.page_tool.specs.Listings.{NoneFails}
 use Rattle.page_tool.specs.Request.{RewriteAsked}
-use Rattle.page_tool.specs.RewriteCommand.{AreSurveyed, HavePages, IsPutRefusal, LeavesByEnd, MeetsLimit, StaysBelowLimit}
+use Rattle.page_tool.specs.RewriteCommand.{AreSurveyed, IsPutRefusal, LeavesByEnd, MeetsLimit, StaysBelowLimit}
 use Rattle.page_tool.specs.RewriteFiles.{BecomesOf, Changes, HostFiles, IsRewrittenAt, KeepsFiles, KeepsPaths, RewriteLeaves, RewritesFiles, files_of, fork_at, log_opened, pages_at, rewrote, untouched}
 use Rattle.page_tool.specs.RewriteTexts.{rewrite_lines, rewrite_text}
-use Rattle.page_tool.specs.Rewriting.{ArePages}
+use Rattle.page_tool.specs.Rewriting.{ArePages, HavePages}
 use Rattle.page_tool.proofs.GivingBack.{same_bytes}
 use Rattle.page_tool.proofs.Putting.{puts_nothing}
-
--- a list that was written in place
-front : {A : Type 0} (ys zs : List A) → take (length ys) (ys ++ zs) ≡ ys
-front [] zs = refl
-front (y ∷ ys) zs = ap (λ l. y ∷ l) (front ys zs)
-
-pub whole_again : {A : Type 0} (n : ℕ) (xs ys : List A) → length ys ≡ n → take n (ys ++ drop (length ys) xs) ≡ ys
-whole_again {A = A} n xs ys counted = subst (λ (k : ℕ). take k (ys ++ drop (length ys) xs) ≡ ys) counted (front ys (drop (length ys) xs))
 
 module _ {L : Type 0} (contents : L → Option Pages) (failed unsynced : L → Marks) (read_faults write_faults : L → ℕ) where
   same_marks : (ls ms : List L) → map failed ms ≡ map failed ls → length ms ≡ length ls → All (λ lane. failed lane ≡ no_marks) ls → All (λ lane. failed lane ≡ no_marks) ms
@@ -110,8 +102,10 @@ module _ {L : Type 0} (contents : L → Option Pages) (failed unsynced : L → M
           → IfSome known (λ paths. ArePages contents relation base lanes (pages_at r paths))
       pages_so None blocks held only = tt
       pages_so (Some paths) blocks held only = record {
-        held = subst (λ (f : Fork). HoldPages f (pages_at r paths) (map contents lanes)) main (still_hold r opened lanes same paths held);
-        counted = blocks;
+        have = record {
+          held = subst (λ (f : Fork). HoldPages f (pages_at r paths) (map contents lanes)) main (still_hold r opened lanes same paths held);
+          counted = blocks;
+        };
         known = all_known (own_pages (fork_of r.path) (pages_at r paths) r.options.lanes) (range_with_len 0 r.options.lanes) lanes (same.contents_same ∙ only);
         within = past_base (pages_at r paths) base (base_so (pages_at r paths) (have_so paths blocks held));
       }
@@ -142,7 +136,7 @@ module _ {L : Type 0} (contents : L → Option Pages) (failed : L → Marks) (re
   below_by : (k : Option Paths) → IfSome k (λ paths. base ≡ log_base (pages_at r paths)) → IfSome k (λ paths. ArePages contents relation base lanes (pages_at r paths))
       → IfSome (option_map (pages_at r) k) (λ pages. ¬ ArePastLimit pages)
   below_by None is pages = tt
-  below_by (Some paths) is pages = not_past (pages_at r paths) is pages.counted
+  below_by (Some paths) is pages = not_past (pages_at r paths) is pages.have.counted
 
   below : IfSome (option_map (pages_at r) known) (λ pages. ¬ ArePastLimit pages)
   below = below_by known so.base_is so.pages
@@ -182,7 +176,7 @@ module _ {L : Type 0} (contents : L → Option Pages) (failed : L → Marks) (re
     text_by : (k : Option Paths) → IfSome k (λ paths. base ≡ log_base (pages_at r paths)) → IfSome k (λ paths. ArePages contents relation base lanes (pages_at r paths))
         → IfSome k (λ paths. totals ≡ rewrite_totals_of (pages_at r paths)) → IfSome k (λ paths. Puts (rewrite_text (pages_at r paths)) old new result)
     text_by None is pages totals_are = tt
-    text_by (Some paths) is pages totals_are = text_of_pages (pages_at r paths) is pages.counted totals_are
+    text_by (Some paths) is pages totals_are = text_of_pages (pages_at r paths) is pages.have.counted totals_are
 
     pub text_so : IfSome known (λ paths. totals ≡ rewrite_totals_of (pages_at r paths)) → IfSome known (λ paths. Puts (rewrite_text (pages_at r paths)) old new result)
     text_so totals_are = text_by known so.base_is so.pages totals_are

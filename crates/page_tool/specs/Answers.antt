@@ -15,10 +15,10 @@ use Rattle.page_tool.specs.declared.limits.PositionLimit.{PositionLimit}
 use Rattle.page_tool.specs.declared.limits.PositionLimit.TheVariants.{OfPages, OfPage, OfLog}
 use Rattle.page_tool.specs.Limits.{PassesLimit, largest_lsn, last_position}
 use Rattle.page_tool.specs.Listings.{NoneFails, text_of}
-use Rattle.page_tool.specs.Request.{Asked, IsCrowded, ListingAsked, is_rewriting, listing, rewriting, sampling, options_of, path_of}
+use Rattle.page_tool.specs.Request.{Asked, IsCrowded, ListingAsked, crowding_of, is_rewriting, listing, rewriting, sampling, options_of, path_of}
 use Rattle.page_tool.specs.RewriteFiles.{HostFiles, RewritesFiles, files_of, pages_at}
 use Rattle.page_tool.specs.RewriteTexts.{rewrite_text}
-use Rattle.page_tool.specs.Samples.{crowding_of, sample_text}
+use Rattle.page_tool.specs.Samples.{sample_text}
 use Rattle.sample_relation.specs.Relations.{sample_relation}
 use Rattle.page_tool.specs.Status.{crowded_text, error_line, limit_text, missing_text, status_of_error, tool_line, usage_text}
 

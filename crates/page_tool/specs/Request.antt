@@ -4,6 +4,7 @@ use Rattle.std.specs.declared.string.String.{String}
 use Rattle.block_tag.specs.declared.tag.Fork.TheVariants.{Main}
 use Rattle.segment_store.specs.Paths.{fork_of}
 use Rattle.command_line.specs.declared.numbers.Options.{Options}
+use Rattle.page_tool.specs.declared.error.Crowding.{Crowding}
 use Rattle.page_tool.specs.declared.request.Request.{Request}
 use Rattle.page_tool.specs.declared.request.Request.TheVariants as request
 use Rattle.page_tool.specs.declared.request.ListRequest.{ListRequest}
@@ -98,3 +99,7 @@ NamesNoPath (Some a) = path_of a ≡ None
 -- the backends need more frames: two are kept besides one for each
 abbrev pub IsCrowded : Options → Type 0
 IsCrowded o = o.frames ≤ o.backends + 2
+
+-- the options that a refusal names
+abbrev pub crowding_of : Options → Crowding
+crowding_of o = record { backends = o.backends; frames = o.frames }

@@ -5,7 +5,7 @@ use Rattle.log_device.specs.Faults.{Rose}
 use Rattle.segment_store.specs.declared.host.LogOpen.{LogOpen}
 use Rattle.segment_store.specs.declared.host.LogOpen.TheVariants as opening
 use Rattle.segment_store.specs.Contents.{Marks, Pages, no_marks}
-use Rattle.segment_store.specs.Lanes.{HasBlocks, HoldPages}
+use Rattle.segment_store.specs.Lanes.{HasBlocks}
 use Rattle.segment_store.specs.Logs.{Logs, empty_log, with_log}
 use Rattle.segment_store.specs.Paths.{Paths}
 use Rattle.pin_core.specs.State.{Page}
@@ -18,21 +18,16 @@ use Rattle.page_tool.specs.Answers.{ArePastLimit, CountsLater, FaultCounts, IsOv
 use Rattle.page_tool.specs.Limits.{PassesLimit, largest_lsn, last_position, log_base}
 use Rattle.page_tool.specs.Request.{RewriteAsked}
 use Rattle.page_tool.specs.RewriteFiles.{HostFiles, RewritesFiles, fork_at, pages_at}
-use Rattle.page_tool.specs.Rewriting.{ArePages}
+use Rattle.page_tool.specs.Rewriting.{ArePages, HavePages}
 use Rattle.page_tool.specs.Status.{rewrite_tool_error, status_of_error}
 
 module _ {L : Type 0} (contents : L → Option Pages) where
-  -- these are the pages of the fork, which the lanes have
-  pub record HavePages (relation : RelationFork) (lanes : List L) (pages : List Page) : Type 0 where
-    pub held : HoldPages relation.fork pages (map contents lanes)
-    pub counted : relation.blocks ≡ length pages
-
   -- why a survey says of no position that the log begins there, by the faults that the lanes then have
   abbrev pub IsSurveyRefusal : RelationFork → List L → ℕ → RewriteError → Type 0
   IsSurveyRefusal relation lanes faults ReadFault = 0 < faults
   IsSurveyRefusal relation lanes faults Memory = faults ≡ 0
   IsSurveyRefusal relation lanes faults (OverLimit (OfPages largest blocks)) = (faults ≡ 0) × PassesLimit largest blocks
-      × ((pages : List Page) → HavePages relation lanes pages → (largest ≡ largest_lsn pages) × (blocks ≡ length pages))
+      × ((pages : List Page) → HavePages contents relation lanes pages → (largest ≡ largest_lsn pages) × (blocks ≡ length pages))
   IsSurveyRefusal relation lanes faults _ = ⊥
 
 module _ {L : Type 0} (contents : L → Option Pages) (failed : L → Marks) (read_faults write_faults : L → ℕ) where

@@ -70,10 +70,14 @@ HasPositionsLeft OutFault = Unit {0}
 HasPositionsLeft Memory = Unit {0}
 
 module _ {L : Type 0} (contents : L → Option Pages) where
-  -- These are the pages of the relation, as its lanes have them, which are all known. None of them is past the log's beginning
-  pub record ArePages (r : RelationFork) (base : ℕ) (lanes : List L) (pages : List Page) : Type 0 where
+  -- these are the pages of the fork, which the lanes have
+  pub record HavePages (r : RelationFork) (lanes : List L) (pages : List Page) : Type 0 where
     pub held : HoldPages r.fork pages (map contents lanes)
     pub counted : r.blocks ≡ length pages
+
+  -- These are its pages, the contents of all lanes are known, and no page is past the log's beginning
+  pub record ArePages (r : RelationFork) (base : ℕ) (lanes : List L) (pages : List Page) : Type 0 where
+    pub have : HavePages r lanes pages
     pub known : All (λ lane. is_some (contents lane) ≡ true) lanes
     pub within : largest_lsn pages ≤ base
 
@@ -94,7 +98,8 @@ module _ {L G : Type 0} (contents : L → Option Pages) (failed : L → Marks) (
         → IsRewrittenFile (rule_of 0 r.fork) (names_of r) base pages (pages_after contents r lanes' pages) (record { bytes = known; synced = synced log' }))
     pub totals : IfOk end (λ totals. (pages : List Page) → ArePages contents r base lanes pages → totals ≡ rewrite_totals_of pages)
     -- each block of the relation is still in its lane
-    pub held : OnOk end ((pages : List Page) → ArePages contents r base lanes pages → HoldPages r.fork (pages_after contents r lanes' pages) (map contents lanes'))
+    pub held : (pages : List Page) → ArePages contents r base lanes pages
+        → HoldPages r.fork (pages_after contents r lanes' pages) (map contents lanes')
     pub unfailed : OnOk end ((pages : List Page) → ArePages contents r base lanes pages → (block : ℕ) → block < r.blocks → failed_after failed r lanes' block ≡ false)
     -- no position is past the last one, or past the log's end
     pub positions : IfErr end (λ e. (pages : List Page) → ArePages contents r base lanes pages → HasPositionsLeft e)

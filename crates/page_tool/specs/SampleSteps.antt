@@ -1,19 +1,16 @@
 -- The steps of a sample over its lanes, and what is printed.
 use Rattle.std.specs.Prelude.{◌≡◌, ℕ, ◌++◌, true, List, map, Option, is_some}
-use Rattle.log_device.specs.Faults.{Rose}
 use Rattle.page_layout.specs.Outcomes.{rewrite_totals_of}
 use Rattle.page_layout.specs.Scan.{totals_of}
 use Rattle.segment_store.specs.Contents.{Marks, Pages, no_marks}
 use Rattle.pin_core.specs.State.{Page}
 use Rattle.page_jobs.specs.Printed.{totals_line}
-use Rattle.page_tool.specs.declared.error.ToolError.{ToolError}
-use Rattle.page_tool.specs.declared.error.ToolError.TheVariants.{OutFault, Memory}
 use Rattle.page_tool.specs.declared.sampling.LogSpan.{LogSpan}
 use Rattle.page_tool.specs.declared.sampling.Rewritten.{Rewritten}
 use Rattle.page_tool.specs.declared.sampling.SampleTotals.{SampleTotals}
 use Rattle.page_tool.specs.declared.starting.RelationFork.{RelationFork}
 use Rattle.page_tool.specs.Limits.{log_base}
-use Rattle.page_tool.specs.RewriteCommand.{HavePages}
+use Rattle.page_tool.specs.Rewriting.{HavePages}
 use Rattle.page_tool.specs.RewriteTexts.{log_end_of, rewrite_lines}
 use Rattle.page_tool.specs.RewriteResults.{page_after}
 
@@ -55,9 +52,3 @@ sample_totals_of pages = record {
 -- its lines
 abbrev pub sample_lines : SampleTotals → List ℕ
 sample_lines t = totals_line t.before ++ (rewrite_lines t.rewrite t.log.base t.log.end ++ totals_line t.after)
-
--- why they aren't out: their put failed, or there was no memory for them
-abbrev pub IsLinesRefusal : ℕ → ℕ → ToolError → Type 0
-IsLinesRefusal outs outs_now OutFault = Rose outs outs_now
-IsLinesRefusal outs outs_now Memory = Unit {0}
-IsLinesRefusal outs outs_now _ = ⊥

@@ -5,10 +5,9 @@ use Rattle.command_line.specs.declared.numbers.Options.{Options}
 use Rattle.page_layout.specs.Scan.{totals_of}
 use Rattle.page_jobs.specs.Printed.{totals_line}
 use Rattle.sample_relation.specs.Relations.{sample_relation}
-use Rattle.page_tool.specs.declared.error.Crowding.{Crowding}
 use Rattle.page_tool.specs.declared.error.ToolError.{ToolError}
 use Rattle.page_tool.specs.declared.error.ToolError.TheVariants.{Crowded, OutFault, Memory}
-use Rattle.page_tool.specs.Request.{IsCrowded}
+use Rattle.page_tool.specs.Request.{IsCrowded, crowding_of}
 use Rattle.page_tool.specs.RewriteResults.{page_after}
 use Rattle.page_tool.specs.RewriteTexts.{rewrite_text}
 
@@ -17,10 +16,6 @@ abbrev pub sample_text : ℕ → ℕ → List ℕ
 sample_text seed blocks =
     let pages = sample_relation seed blocks in
     totals_line (totals_of pages) ++ (rewrite_text pages ++ totals_line (totals_of (map page_after pages)))
-
--- the options that a refusal names
-abbrev pub crowding_of : Options → Crowding
-crowding_of o = record { backends = o.backends; frames = o.frames }
 
 -- the cause of each refusal of a sample: it meets no fault but that of the output
 abbrev pub IsSampleRefusal : Options → ℕ → ℕ → ToolError → Type 0

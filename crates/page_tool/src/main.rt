@@ -8,6 +8,7 @@ mod error;
 #[cfg(test)]
 mod hostile_tests;
 mod limits;
+mod lines;
 mod listing;
 mod request;
 mod rewrite_command;

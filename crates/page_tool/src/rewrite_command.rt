@@ -12,15 +12,17 @@ ghost use Rattle.page_jobs.specs.Survey.{AreOnlyRead};
 ghost use Rattle.page_tool.specs.Answers.{CountsLater, EndsCommand, counts};
 ghost use Rattle.page_tool.specs.Limits.{largest_lsn, log_base};
 ghost use Rattle.page_tool.specs.Request.{asked, rewrite_asked};
-ghost use Rattle.page_tool.specs.RewriteCommand.{AreSurveyed, HasFaultOf, HavePages, IsLogRefusal, IsPutRefusal, IsSurveyRefusal, LeavesByEnd, MeetsLimit, OpensLog, StaysBelowLimit};
+ghost use Rattle.page_tool.specs.RewriteCommand.{AreSurveyed, HasFaultOf, IsLogRefusal, IsPutRefusal, IsSurveyRefusal, LeavesByEnd, MeetsLimit, OpensLog, StaysBelowLimit};
 ghost use Rattle.page_tool.specs.RewriteFiles.{BecomesOf, IsHeadBegun, RewritesFiles, files_of, pages_at};
 ghost use Rattle.page_tool.specs.RewriteTexts.{rewrite_lines, rewrite_text};
+ghost use Rattle.page_tool.specs.Rewriting.{HavePages};
 ghost use Rattle.page_layout.specs.Outcomes.{rewrite_totals_of};
 ghost use Rattle.page_tool.specs.Status.{log_error, status_of, status_of_error};
 ghost use Rattle.block_tag.specs.declared.tag.Fork.TheVariants.{Main};
 
 use crate::error::{ToolError, crowding_in};
 use crate::limits::{RECORD_SIZE, log_base};
+use crate::lines::put_lines;
 use crate::request::{Request, RewriteRequest};
 use crate::rewriting::{RewriteEnd, RewriteError, rewrite_lanes};
 use crate::starting::RelationFork;
@@ -193,13 +195,7 @@ fn put_totals<O: Sink>(
     let end = base.saturating_add(RECORD_SIZE.saturating_mul(totals.changed));
     let base = Position(base);
     let end = Position(end);
-    let Ok(lines) = format!(in alloc; "{totals}\nlog {base} {end}\n") else {
-        return Err(RewriteError::Memory);
-    };
-    match out.put(lines.as_bytes()) {
-        Ok(()) => Ok(()),
-        Err(_) => Err(RewriteError::OutFault),
-    }
+    put_lines(format!(in alloc; "{totals}\nlog {base} {end}\n"), out)
 }
 
 /// Rewrites the relation over its lanes, which were surveyed, gives them back with the log, and prints the totals.

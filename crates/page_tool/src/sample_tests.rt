@@ -1,8 +1,5 @@
 //! Samples, which are made in memory: no host is called.
-use crate::OpenGate;
-use crate::run::run;
-use log_device::{FaultPlan, LogPlan, MemSink};
-use segment_store::{LanePlan, MemHost, MemLogs};
+use crate::test_hosts::{Answer, Failing, NONE_FAIL, answer_of, host_of};
 use std::alloc::Global;
 use std::sync::Wait;
 use std::test::Fail;
@@ -16,46 +13,20 @@ const FOUR_BLOCKS: &str =
 const NO_BLOCKS: &str =
     "blocks 0 used 0 new 0 invalid 0 normal 0 redirect 0 dead 0 unused 0\nblocks 0 changed 0 same 0 skipped 0 new 0 invalid 0 dead 0\nlog 0/0 0/0\nblocks 0 used 0 new 0 invalid 0 normal 0 redirect 0 dead 0 unused 0\n";
 
-fn plan(alloc: Global, failing: &[u64]) -> Result<FaultPlan, Fail> {
-    Ok(FaultPlan::new(failing.to_vec(alloc)?))
-}
-
-/// A host with no files, whose first openings of a relation and of a log fail.
-fn failing_host(alloc: Global) -> Result<MemHost, Fail> {
-    let lanes = LanePlan {
-        reads: plan(alloc, &[])?,
-        writes: plan(alloc, &[])?,
-        syncs: plan(alloc, &[])?,
-    };
-    let logs = MemLogs::new(alloc, 0, plan(alloc, &[1])?, LogPlan::none(alloc));
-    let openings = plan(alloc, &[1])?;
-    Ok(MemHost::new(alloc, Vec::new(alloc), openings, lanes, logs))
-}
-
-/// What a run answered, and what it wrote.
-#[derive(Drop)]
-struct Answer {
-    status: u8,
-    out: MemSink,
-    err: MemSink,
-}
-
-/// Runs a command line, whose words stand apart by blanks; these puts of its output are to fail.
-fn answer_of<R: Threads + Wait + Sync>(
+/// What the tool answers on a host whose first openings fail; these puts of its output are to fail.
+fn sample_answer<R: Threads + Wait + Sync>(
     rt: &R,
     alloc: Global,
     line: &str,
     puts: &[u64],
 ) -> Result<Answer, Fail> {
-    let mut host = failing_host(alloc)?;
-    let mut out = MemSink::new(alloc, 1 << 16, plan(alloc, puts)?)?;
-    let mut err = MemSink::new(alloc, 1 << 16, plan(alloc, &[])?)?;
-    let mut words = Vec::new(alloc);
-    for word in line.split_whitespace() {
-        words.push(String::from_str(alloc, word)?)?;
-    }
-    let status = run(rt, alloc, &words, &mut host, &mut out, &mut err, &OpenGate);
-    Ok(Answer { status, out, err })
+    let failing = Failing {
+        openings: &[1],
+        log_openings: &[1],
+        ..NONE_FAIL
+    };
+    let mut host = host_of(alloc, &[], failing)?;
+    answer_of(rt, alloc, line, &mut host, puts)
 }
 
 #[test]
@@ -68,10 +39,8 @@ fn options_leave_the_text_of_a_sample(rt: HostRuntime) -> Result<(), Fail> {
         "sample --backends 32 --frames 4096 7 4",
     ];
     for line in lines {
-        let answer = answer_of(&rt, rt.alloc(), line, &[])?;
-        assert_eq!(rt; answer.status, 0, "{line}");
-        assert_eq!(rt; answer.out.bytes(), FOUR_BLOCKS.as_bytes(), "{line}");
-        assert_eq!(rt; answer.err.bytes().len(), 0, "{line}");
+        let answer = sample_answer(&rt, rt.alloc(), line, &[])?;
+        answer.check(&rt, 0, FOUR_BLOCKS, "");
     }
     Ok(())
 }
@@ -79,10 +48,8 @@ fn options_leave_the_text_of_a_sample(rt: HostRuntime) -> Result<(), Fail> {
 #[test]
 fn samples_no_blocks(rt: HostRuntime) -> Result<(), Fail> {
     for line in ["sample 7 0", "sample 7 0 --backends 32 --frames 35"] {
-        let answer = answer_of(&rt, rt.alloc(), line, &[])?;
-        assert_eq!(rt; answer.status, 0, "{line}");
-        assert_eq!(rt; answer.out.bytes(), NO_BLOCKS.as_bytes(), "{line}");
-        assert_eq!(rt; answer.err.bytes().len(), 0, "{line}");
+        let answer = sample_answer(&rt, rt.alloc(), line, &[])?;
+        answer.check(&rt, 0, NO_BLOCKS, "");
     }
     Ok(())
 }
@@ -101,10 +68,8 @@ fn refuses_samples(rt: HostRuntime) -> Result<(), Fail> {
         ("sample 7 0 --backends 32 --frames 34", 2, crowded),
     ];
     for (line, status, want) in rows {
-        let answer = answer_of(&rt, rt.alloc(), line, &[])?;
-        assert_eq!(rt; answer.status, status, "{line}");
-        assert_eq!(rt; answer.out.bytes().len(), 0, "{line}");
-        assert_eq!(rt; answer.err.bytes(), want.as_bytes(), "{line}");
+        let answer = sample_answer(&rt, rt.alloc(), line, &[])?;
+        answer.check(&rt, status, "", want);
     }
     Ok(())
 }
@@ -112,7 +77,7 @@ fn refuses_samples(rt: HostRuntime) -> Result<(), Fail> {
 /// After an output fault a prefix of the text is out.
 #[test]
 fn an_output_fault_ends_a_sample(rt: HostRuntime) -> Result<(), Fail> {
-    let answer = answer_of(&rt, rt.alloc(), "sample 7 4 --backends 3", &[1])?;
+    let answer = sample_answer(&rt, rt.alloc(), "sample 7 4 --backends 3", &[1])?;
     assert_eq!(rt; answer.status, 7);
     let begins = FOUR_BLOCKS.as_bytes().starts_with(answer.out.bytes());
     assert!(rt; begins);

@@ -5,19 +5,21 @@ ghost use Rattle.log_device.specs.Bytes.{Puts};
 ghost use Rattle.page_layout.specs.Scan.{totals_of};
 ghost use Rattle.pin_core.specs.State.{Page};
 ghost use Rattle.page_tool.specs.Request.{IsCrowded};
-ghost use Rattle.page_tool.specs.RewriteCommand.{HavePages};
+ghost use Rattle.page_tool.specs.RewriteCommand.{IsPutRefusal};
+ghost use Rattle.page_tool.specs.Rewriting.{HavePages};
 ghost use Rattle.page_tool.specs.Samples.{IsSampleRefusal, sample_text};
-ghost use Rattle.page_tool.specs.SampleSteps.{AreFaultless, HaveAll, IsLinesRefusal, IsSampleRewritten, sample_lines, sample_totals_of};
+ghost use Rattle.page_tool.specs.SampleSteps.{AreFaultless, HaveAll, IsSampleRewritten, sample_lines, sample_totals_of};
 ghost use Rattle.page_tool.specs.Status.{status_of_error};
 ghost use Rattle.sample_relation.specs.Relations.{sample_relation};
 
 use crate::discard::Discard;
 use crate::error::{ToolError, crowding_in};
 use crate::limits::RECORD_SIZE;
+use crate::lines::put_lines;
 use crate::listing::{Listed, Listing, ListingEnd, list};
 use crate::request::SampleRequest;
 use crate::rewrite_command::survey_base;
-use crate::rewriting::{RewriteEnd, rewrite_lanes};
+use crate::rewriting::{RewriteEnd, RewriteError, rewrite_lanes};
 use crate::starting::{RelationFork, new_log};
 use block_tag::Fork;
 use command_line::Options;
@@ -194,15 +196,15 @@ fn total_sample<R: Threads + Wait + Sync, G: Gate + Sync>(
 }
 
 /// Puts the totals.
-fn put_sample<'a, O: Sink>(
+fn put_sample<O: Sink>(
     alloc: Global,
     totals: &SampleTotals,
     out: &mut O,
-) -> Result<(), ToolError<'a>>
+) -> Result<(), RewriteError>
     ensures text { Puts (sample_lines totals.now) (O.bytes out.old) (O.bytes out.new) result }
     ensures later { O.faults out.old ≤ O.faults out.new }
     ensures quiet { OnOk result (O.faults out.new ≡ O.faults out.old) }
-    ensures cause { IfErr result (IsLinesRefusal (O.faults out.old) (O.faults out.new)) }
+    ensures cause { IfErr result (IsPutRefusal (O.faults out.old) (O.faults out.new)) }
 {
     let SampleTotals {
         before,
@@ -212,13 +214,8 @@ fn put_sample<'a, O: Sink>(
     } = totals;
     let base = Position(log.base);
     let end = Position(log.end);
-    let Ok(lines) = format!(in alloc; "{before}\n{rewrite}\nlog {base} {end}\n{after}\n") else {
-        return Err(ToolError::Memory);
-    };
-    match out.put(lines.as_bytes()) {
-        Ok(()) => Ok(()),
-        Err(_) => Err(ToolError::OutFault),
-    }
+    let lines = format!(in alloc; "{before}\n{rewrite}\nlog {base} {end}\n{after}\n");
+    put_lines(lines, out)
 }
 
 /// Makes a sample's relation in memory, scans it, rewrites it with a log and a checkpoint, and scans it again, each with a buffer manager of its own over the same lanes; prints the totals.
@@ -244,7 +241,9 @@ pub(crate) fn sample<'a, R: Threads + Wait + Sync, O: Sink, G: Gate + Sync>(
         return Err(ToolError::Crowded(crowding));
     }
     match total_sample(rt, alloc, request, gate) {
-        Ok(totals) => put_sample(alloc, &totals, out),
+        Ok(totals) => {
+            put_sample(alloc, &totals, out).map_err(|error| ToolError::from_rewrite(error))
+        }
         Err(_) => Err(ToolError::Memory),
     }
 }

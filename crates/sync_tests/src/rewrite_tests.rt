@@ -72,9 +72,10 @@ enum Content {
     TooLong,
 }
 
-/// A lane that keeps the pages of its blocks, whose contents contracts don't know. One of its writes may fail.
+/// A lane of blocks that were filled alike, whose contents contracts don't know. One of its writes
+/// may fail.
 #[derive(Drop)]
-struct PageLane {
+struct FilledLane {
     pages: Vec<Page>,
     writes: u32,
     /// Which write fails, counted from 1; none where this is 0.
@@ -83,14 +84,14 @@ struct PageLane {
     history: LaneHistory,
 }
 
-impl PageLane {
+impl FilledLane {
     /// So many blocks with such pages.
     fn new(
         alloc: Global,
         blocks: u32,
         content: Content,
         failing: u32,
-    ) -> Result<PageLane, AllocError> {
+    ) -> Result<FilledLane, AllocError> {
         let mut pages = Vec::new(alloc);
         for block in 0..blocks {
             let item = (block % 256) as u8;
@@ -102,7 +103,7 @@ impl PageLane {
             }
             pages.push(page)?;
         }
-        Ok(PageLane {
+        Ok(FilledLane {
             pages,
             writes: 0,
             failing,
@@ -112,7 +113,7 @@ impl PageLane {
     }
 }
 
-impl BlockLane for PageLane {
+impl BlockLane for FilledLane {
     ghost use Rattle.std.specs.Prelude.{None, false};
     ghost use Rattle.segment_store.specs.History.{calls_in, unsynced_in};
     ghost use Rattle.std.proofs.Common.{rules};
@@ -169,17 +170,17 @@ impl BlockLane for PageLane {
 #[derive(Drop)]
 struct Rewritten {
     end: Result<Totals, JobError>,
-    lanes: Vec<PageLane>,
+    lanes: Vec<FilledLane>,
     log: TestLog,
 }
 
 /// The passes of a small manager, of which all but one work, rewrite a relation of so many blocks.
-fn run_rewrite<R: Threads + Wait + Sync, T: Gate + Sync, B: Beside<PageLane, TestLog>>(
+fn run_rewrite<R: Threads + Wait + Sync, T: Gate + Sync, B: Beside<FilledLane, TestLog>>(
     rt: &R,
     alloc: Global,
     workers: u32,
     blocks: u32,
-    lane: PageLane,
+    lane: FilledLane,
     log: TestLog,
     gate: &T,
     beside: &mut B,
@@ -243,7 +244,7 @@ fn records_of(log: &[u8], block: u32, page: &mut Page) -> u32 {
 #[test]
 fn dead_line_pointers_are_removed(rt: HostRuntime) -> Result<(), Fail> {
     let gate = Counts::new();
-    let lane = PageLane::new(rt.alloc(), 1, Content::WithDead, 0)?;
+    let lane = FilledLane::new(rt.alloc(), 1, Content::WithDead, 0)?;
     let log = TestLog::new(rt.alloc(), 0);
     let run = run_rewrite(&rt, rt.alloc(), 1, 1, lane, log, &gate, &mut NoBeside)?;
     let totals = run.end.ok().ok_or("the rewrite ended early")?;
@@ -260,14 +261,14 @@ fn dead_line_pointers_are_removed(rt: HostRuntime) -> Result<(), Fail> {
 #[test]
 fn other_pages_are_left(rt: HostRuntime) -> Result<(), Fail> {
     let gate = Counts::new();
-    let lane = PageLane::new(rt.alloc(), 3, Content::OneItem, 0)?;
+    let lane = FilledLane::new(rt.alloc(), 3, Content::OneItem, 0)?;
     let log = TestLog::new(rt.alloc(), 0);
     let run = run_rewrite(&rt, rt.alloc(), 1, 3, lane, log, &gate, &mut NoBeside)?;
     let totals = run.end.ok().ok_or("the rewrite ended early")?;
     assert_eq!(rt; totals.same, 3);
     assert_eq!(rt; totals.changed, 0);
     assert_eq!(rt; run.log.bytes.len(), 0);
-    let lane = PageLane::new(rt.alloc(), 3, Content::TooLong, 0)?;
+    let lane = FilledLane::new(rt.alloc(), 3, Content::TooLong, 0)?;
     let log = TestLog::new(rt.alloc(), 0);
     let run = run_rewrite(&rt, rt.alloc(), 1, 3, lane, log, &gate, &mut NoBeside)?;
     let totals = run.end.ok().ok_or("the rewrite ended early")?;
@@ -286,7 +287,7 @@ fn change_all<R: Threads + Wait + Sync>(
     requires { (1 ≤ workers) × (workers ≤ 60) }
 {
     let gate = Counts::new();
-    let lane = PageLane::new(alloc, 64, Content::WithDead, 0)?;
+    let lane = FilledLane::new(alloc, 64, Content::WithDead, 0)?;
     let log = TestLog::new(alloc, 0);
     let run = run_rewrite(rt, alloc, workers, 64, lane, log, &gate, &mut NoBeside)?;
     let Ok(totals) = run.end else {
@@ -318,12 +319,12 @@ fn any_workers_change_the_same_pages(rt: HostRuntime) -> Result<(), Fail> {
 #[test]
 fn faults_end_a_rewrite(rt: HostRuntime) -> Result<(), Fail> {
     let gate = Counts::new();
-    let lane = PageLane::new(rt.alloc(), 64, Content::WithDead, 0)?;
+    let lane = FilledLane::new(rt.alloc(), 64, Content::WithDead, 0)?;
     let log = TestLog::new(rt.alloc(), 2);
     let run = run_rewrite(&rt, rt.alloc(), 1, 64, lane, log, &gate, &mut NoBeside)?;
     assert_eq!(rt; run.end, Err(JobError::LogFault));
     assert_eq!(rt; run.log.bytes.len(), RECORD);
-    let lane = PageLane::new(rt.alloc(), 64, Content::WithDead, 1)?;
+    let lane = FilledLane::new(rt.alloc(), 64, Content::WithDead, 1)?;
     let log = TestLog::new(rt.alloc(), 0);
     let run = run_rewrite(&rt, rt.alloc(), 1, 64, lane, log, &gate, &mut NoBeside)?;
     let tag = Tag {
@@ -399,7 +400,7 @@ impl<'a, L: BlockLane, G: LogDevice> Beside<L, G> for MeetWorker<'a> {
 #[test]
 fn the_last_pass_works_beside_the_others(rt: HostRuntime) -> Result<(), Fail> {
     let meeting = Meeting::new();
-    let lane = PageLane::new(rt.alloc(), 8, Content::WithDead, 0)?;
+    let lane = FilledLane::new(rt.alloc(), 8, Content::WithDead, 0)?;
     let log = TestLog::new(rt.alloc(), 0);
     let mut beside = MeetWorker { meeting: &meeting };
     let run = run_rewrite(&rt, rt.alloc(), 2, 8, lane, log, &meeting, &mut beside)?;

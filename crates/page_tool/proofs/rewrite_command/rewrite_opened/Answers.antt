@@ -1,18 +1,20 @@
-use Rattle.std.proofs.Common.{List, Option, ℕ, ◌≡◌, ◌∙◌, ap, length, map, subst, sym, unwrap_or, arith}
+use Rattle.std.proofs.Common.{List, Option, ℕ, ◌≡◌, ◌∙◌, ap, drop, length, map, subst, sym, unwrap_or, arith}
 use Rattle.std.specs.Prelude.{All, IfSome}
 use Rattle.block_tag.specs.declared.tag.Fork.TheVariants.{Main}
 use Rattle.segment_store.specs.Contents.{no_marks}
 use Rattle.segment_store.specs.Lanes.{HoldPages}
 use Rattle.segment_store.specs.Paths.{fork_of}
+use Rattle.segment_store.proofs.PutBlocks.{take_prefix}
 use Rattle.pin_core.specs.State.{Page}
 use Rattle.page_jobs.specs.Survey.{AreOnlyRead}
 use Rattle.page_tool.specs.Limits.{log_base}
 use Rattle.page_tool.specs.Request.{rewrite_asked}
-use Rattle.page_tool.specs.RewriteCommand.{AreSurveyed, HavePages}
+use Rattle.page_tool.specs.RewriteCommand.{AreSurveyed}
 use Rattle.page_tool.specs.RewriteFiles.{pages_at}
+use Rattle.page_tool.specs.Rewriting.{HavePages}
 use Rattle.page_tool.proofs.Counting.{sum_same}
 use Rattle.page_tool.proofs.GivenFiles.{Told, unlogged}
-use Rattle.page_tool.proofs.Stepping.{hold_so, refused_text, still_unmarked, surveyed, whole_again}
+use Rattle.page_tool.proofs.Stepping.{hold_so, refused_text, still_unmarked, surveyed}
 use Rattle.page_tool.proofs.rewrite_command.rewrite_opened.Given as given
 use Rattle.page_tool.proofs.rewrite_command.rewrite_opened.Goals as goal
 
@@ -41,7 +43,7 @@ rewrite_surveyed-requires-clause-surveyed g c κs within =
     (sum_same g.H.Lane.BlockLane.write_faults c.args.opened.lanes.items c.survey_base.new.lanes same.writes_same ∙ opened.writes) c.in-Ok.ensures.within in
     subst (λ (ls : List g.row.H-Lane.Denot). AreSurveyed g.H.Lane.BlockLane.contents g.H.Lane.BlockLane.failed_writes g.H.Lane.BlockLane.read_faults g.H.Lane.BlockLane.write_faults known r
     (record { number = c.unwrap_or.result; fork = Main; blocks = c.args.opened.blocks }) c.in-Ok.base ls)
-    (sym (whole_again c.args.opened.lanes.len c.args.opened.lanes.items c.survey_base.new.lanes counted)) so
+    (sym (take_prefix c.survey_base.new.lanes (drop (length c.survey_base.new.lanes) c.args.opened.lanes.items) c.args.opened.lanes.len counted)) so
 
 pub returns-in-Err-clause-files : goal.returns-in-Err-clause-files
 returns-in-Err-clause-files g c =
@@ -51,7 +53,7 @@ returns-in-Err-clause-files g c =
     let opened = c.requires.opened in
     let back = c.give_back.ensures in
     let same = subst (λ (ls : List g.row.H-Lane.Denot). AreOnlyRead g.H.Lane.BlockLane.contents g.H.Lane.BlockLane.failed_writes g.H.Lane.BlockLane.unsynced g.H.Lane.BlockLane.write_faults ls c.survey_base.new.lanes) c.deref_mut.ensures.value c.in-Err.ensures.same in
-    let whole = sym (whole_again c.args.opened.lanes.len c.args.opened.lanes.items c.survey_base.new.lanes counted) in
+    let whole = sym (take_prefix c.survey_base.new.lanes (drop (length c.survey_base.new.lanes) c.args.opened.lanes.items) c.args.opened.lanes.len counted) in
     let unmarked = subst (λ (ls : List g.row.H-Lane.Denot). All (λ lane. g.H.Lane.BlockLane.failed_writes lane ≡ no_marks) ls) whole
     (still_unmarked g.H.Lane.BlockLane.contents g.H.Lane.BlockLane.failed_writes g.H.Lane.BlockLane.unsynced g.H.Lane.BlockLane.read_faults g.H.Lane.BlockLane.write_faults
     r c.args.opened c.survey_base.new.lanes same opened.unmarked) in

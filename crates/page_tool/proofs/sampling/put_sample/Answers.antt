@@ -1,13 +1,11 @@
-use Rattle.std.proofs.Common.{◌≡◌, List, ℕ, [], ◌∷◌, ◌++◌, append_assoc, subst, Ok, ◌∙◌, rules}
-use Rattle.std.specs.Prelude.{codes}
+use Rattle.std.proofs.Common.{◌≡◌, List, ℕ, [], ◌∷◌, ◌++◌, append_assoc, subst, rules}
+use Rattle.std.specs.Prelude.{IfOk, codes}
 use Rattle.std.specs.String.{string_bytes}
-use Rattle.log_device.specs.Bytes.{Puts}
 use Rattle.page_layout.specs.Outcomes.{rewrite_totals_text}
 use Rattle.page_layout.specs.Scan.{totals_text}
 use Rattle.page_layout.specs.Text.{joined, position_text}
 use Rattle.page_tool.specs.declared.sampling.SampleTotals.{SampleTotals}
 use Rattle.page_tool.specs.SampleSteps.{sample_lines}
-use Rattle.page_tool.proofs.Putting.{puts_nothing}
 use Rattle.page_tool.proofs.sampling.put_sample.Goals as goal
 
 -- the lines, piece by piece
@@ -22,11 +20,11 @@ pieces_are : (t : SampleTotals) → pieces t ≡ sample_lines t
 pieces_are t =
     regrouped (totals_text t.before) (codes "\n") (rewrite_totals_text t.rewrite) (codes "\nlog ") (position_text t.log.base) (codes " ") (position_text t.log.end) (codes "\n") (totals_text t.after) (codes "\n")
 
-pub returns-in-Ok-put-clause-text : goal.returns-in-Ok-put-clause-text
-returns-in-Ok-put-clause-text g c =
-    let text : string_bytes c.in-Ok.lines ≡ pieces c.args.totals.now = search (rules, c.in-Ok.ensures.ok) in
-    let all = c.as_bytes.ensures.value ∙ text ∙ pieces_are c.args.totals.now in
-    record { ok = (subst (λ (bytes : List ℕ). Puts bytes (g.O.Sink.bytes c.args.out.now) (g.O.Sink.bytes c.put.new.self) (Ok c.in-Ok-put.field-0)) all c.in-Ok-put.ensures.bytes).ok; failed = tt }
-
-pub returns-in_default-clause-text : goal.returns-in_default-clause-text
-returns-in_default-clause-text g c = puts_nothing _ _ _
+pub returns-clause-text : goal.returns-clause-text
+returns-clause-text g c =
+    let totals = c.args.totals.now in
+    let text : IfOk c.format-lines.result (λ lines. string_bytes lines ≡ pieces totals) =
+    search (rules, c.format-lines.ensures.ok) in
+    c.put_lines.ensures.text (sample_lines totals)
+    (subst (λ (bytes : List ℕ). IfOk c.format-lines.result (λ lines. string_bytes lines ≡ bytes))
+    (pieces_are totals) text)

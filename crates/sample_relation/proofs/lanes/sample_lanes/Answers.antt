@@ -1,22 +1,19 @@
-use Rattle.std.proofs.Common.{◌≡◌, ◌+◌, ◌++◌, ℕ, List, length, take, drop, map, Some, ap, sym, ◌∙◌, subst, arith}
-use Rattle.std.proofs.Math.Seq.{take-append_seam}
+use Rattle.std.proofs.Common.{◌≡◌, ◌+◌, List, length, drop, map, Some, ap, sym, ◌∙◌, subst, arith}
 use Rattle.std.specs.Prelude.{All}
 use Rattle.block_tag.specs.declared.tag.Fork.TheVariants.{Main}
 use Rattle.segment_store.specs.Contents.{no_marks}
 use Rattle.segment_store.specs.Lanes.{HoldPages}
 use Rattle.segment_store.specs.MemoryLane.{calls_of, pages_of, unsynced_of}
+use Rattle.segment_store.proofs.PutBlocks.{take_prefix}
 use Rattle.sample_relation.specs.Relations.{sample_relation}
 use Rattle.sample_relation.specs.declared.lane.SampleLane.{SampleLane}
 use Rattle.sample_relation.proofs.lanes.sample_lanes.Goals as goal
 
--- all items of a vector were written
-all_written : (count : ℕ) (old new : List SampleLane) → length new ≡ count → take count (new ++ drop (length new) old) ≡ new
-all_written count old new is = ap (λ (n : ℕ). take n (new ++ drop (length new) old)) (sym is) ∙ take-append_seam new (drop (length new) old)
-
 pub loop-block-preserved : goal.loop-block-preserved
 loop-block-preserved c =
     let size : length c.add_block.new.lanes ≡ c.loop-block.made.len = omega arith in
-    let whole = sym (all_written c.loop-block.made.len c.loop-block.made.items c.add_block.new.lanes size) in
+    let written = c.add_block.new.lanes in
+    let whole = sym (take_prefix written (drop (length written) c.loop-block.made.items) c.loop-block.made.len size) in
     let count : length c.add_block.new.lanes ≡ c.args.lanes = omega arith in
     record {
       count = ap (λ (lanes : List SampleLane). length lanes) (sym whole) ∙ count;
