@@ -5,8 +5,6 @@ mod commands;
 mod grammar;
 mod numbers;
 mod relation_path;
-#[cfg(test)]
-mod tests;
 
 pub use commands::{Command, read_command};
 pub use numbers::Options;

@@ -7,8 +7,6 @@ mod files;
 mod memory;
 mod memory_log;
 mod plan;
-#[cfg(test)]
-mod tests;
 
 pub use count::{CallCount, FaultCount};
 pub use device::{Failed, LogDevice, Sink};

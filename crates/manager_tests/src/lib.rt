@@ -3,6 +3,8 @@
 
 pub mod bench;
 #[cfg(test)]
+mod choosing;
+#[cfg(test)]
 mod cleaning;
 #[cfg(test)]
 mod crowding;

@@ -1,5 +1,6 @@
 //! Managers that are run.
 use crate::bench::{Bench, block, start};
+use crate::choosing::read_in_order;
 use crate::cleaning::{
     Asked, NotAlone, OwnPins, try_not_alone, try_twice, try_twice_beside, wait_and_ask,
 };
@@ -137,6 +138,44 @@ fn no_frame_is_left(rt: HostRuntime) -> Result<(), Fail> {
                 hit: false
             }),
         })
+    );
+    Ok(())
+}
+
+/// The free list gives the frames in their order. Then the clock takes the first frame whose usage count it
+/// finds at 0: that of the second block, since the first block was read once more.
+#[test]
+fn fresh_frames_come_before_the_clock(rt: HostRuntime) -> Result<(), Fail> {
+    let Bench {
+        manager,
+        mut first,
+        second,
+        third,
+        passes,
+    } = start(
+        rt.alloc(),
+        64,
+        TestLane::numbered(None),
+        TestLog::new(rt.alloc(), 0),
+        0,
+    )?;
+    let in_order = read_in_order(&manager, &rt, &mut first, 0, 16);
+    let used = read_once(&manager, &rt, &mut first, 0, block(0), &mut None);
+    let next = read_once(&manager, &rt, &mut first, 0, block(16), &mut None);
+    let after = read_once(&manager, &rt, &mut first, 0, block(17), &mut None);
+    let (_lanes, _log) = Bench {
+        manager,
+        first,
+        second,
+        third,
+        passes,
+    }
+    .close();
+    let access = |frame, hit| Ok(Access { frame, hit });
+    assert_eq!(rt; in_order, Ok(16));
+    assert_eq!(rt;
+        (used, next, after),
+        (access(0, true), access(1, false), access(2, false))
     );
     Ok(())
 }

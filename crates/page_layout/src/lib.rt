@@ -19,6 +19,3 @@ pub use rewrite::{Rewrite, rewritten};
 pub use scan::ScanTotals;
 pub use summary::{PageSummary, PointerCounts, UsedPage};
 pub use text::{Position, append_line, scan_line};
-
-#[cfg(test)]
-mod tests;

@@ -4,16 +4,16 @@ use Rattle.std.specs.Prelude.{IfSome, option_map}
 use Rattle.log_device.specs.Faults.{Rose}
 use Rattle.segment_store.specs.Paths.{Paths}
 use Rattle.pin_core.specs.State.{Page}
-use Rattle.page_tool.specs.declared.error.ToolError.{ToolError}
-use Rattle.page_tool.specs.declared.error.ToolError.TheVariants.{Usage, Crowded, Missing, ReadFault, WriteFault, LogFault, OutFault, Memory, OverLimit}
-use Rattle.page_tool.specs.declared.limits.PositionLimit.{PositionLimit}
-use Rattle.page_tool.specs.declared.limits.PositionLimit.TheVariants.{OfPages, OfPage, OfLog}
-use Rattle.page_tool.specs.Answers.{ArePastLimit, Ends, FaultCounts, HasPositions, HasPositionsAt, IsComplete, IsKnownThere, IsMissing, IsOverLimit, IsRefusal, IsThere, LeavesFiles, LimitIf, MissingIf, SaysAs, pages_asked}
-use Rattle.page_tool.specs.Limits.{PassesLimit, largest_lsn}
-use Rattle.page_tool.specs.Request.{Asked, is_rewriting, listing, path_of, rewriting, sampling}
-use Rattle.page_tool.specs.RewriteFiles.{BecomesOf, HostFiles}
-use Rattle.page_tool.specs.Status.{status_of_error}
-use Rattle.page_tool.proofs.Stepping.{becomes_also}
+use Rattle.relation_commands.specs.declared.error.ToolError.{ToolError}
+use Rattle.relation_commands.specs.declared.error.ToolError.TheVariants.{Usage, Crowded, Missing, ReadFault, WriteFault, LogFault, OutFault, Memory, OverLimit}
+use Rattle.relation_commands.specs.declared.limits.PositionLimit.{PositionLimit}
+use Rattle.relation_commands.specs.declared.limits.PositionLimit.TheVariants.{OfPages, OfPage, OfLog}
+use Rattle.relation_commands.specs.Answers.{ArePastLimit, Ends, FaultCounts, HasPositions, HasPositionsAt, IsComplete, IsKnownThere, IsMissing, IsOverLimit, IsRefusal, IsThere, LeavesFiles, LimitIf, MissingIf, SaysAs, pages_asked}
+use Rattle.relation_commands.specs.Limits.{PassesLimit, largest_lsn}
+use Rattle.relation_commands.specs.Request.{Asked, is_rewriting, listing, path_of, rewriting, sampling}
+use Rattle.relation_commands.specs.RewriteFiles.{BecomesOf, HostFiles}
+use Rattle.relation_commands.specs.Status.{status_of_error}
+use Rattle.relation_commands.proofs.Stepping.{becomes_also}
 
 any_some : {A : Type 0} (o : Option A) (P : A → Type 0) → ((x : A) → P x) → IfSome o P
 any_some None P all = tt

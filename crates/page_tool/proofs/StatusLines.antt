@@ -4,13 +4,13 @@ use Rattle.std.specs.Prelude.{IsSomeAnd, option_map, unwrap_or}
 use Rattle.std.proofs.lemmas.List.{append-nil}
 use Rattle.log_device.specs.declared.device.Failed.{Failed}
 use Rattle.segment_store.specs.Paths.{Paths}
-use Rattle.page_tool.specs.declared.error.ToolError.{ToolError}
-use Rattle.page_tool.specs.declared.error.ToolError.TheVariants.{Usage, Crowded, Missing, ReadFault, WriteFault, LogFault, OutFault, Memory, OverLimit}
-use Rattle.page_tool.specs.declared.limits.PositionLimit.{PositionLimit}
-use Rattle.page_tool.specs.declared.limits.PositionLimit.TheVariants.{OfLog}
-use Rattle.page_tool.specs.Answers.{Ends, FaultCounts, IsOverLimit, Said, SaysAs, SaysStatus, pages_asked, status_line}
-use Rattle.page_tool.specs.Request.{Asked}
-use Rattle.page_tool.specs.Status.{crowded_text, error_line, missing_text, status_of_error, tool_line}
+use Rattle.relation_commands.specs.declared.error.ToolError.{ToolError}
+use Rattle.relation_commands.specs.declared.error.ToolError.TheVariants.{Usage, Crowded, Missing, ReadFault, WriteFault, LogFault, OutFault, Memory, OverLimit}
+use Rattle.relation_commands.specs.declared.limits.PositionLimit.{PositionLimit}
+use Rattle.relation_commands.specs.declared.limits.PositionLimit.TheVariants.{OfLog}
+use Rattle.relation_commands.specs.Answers.{Ends, FaultCounts, IsOverLimit, Said, SaysAs, SaysStatus, pages_asked, status_line}
+use Rattle.relation_commands.specs.Request.{Asked}
+use Rattle.relation_commands.specs.Status.{crowded_text, error_line, missing_text, status_of_error, tool_line}
 
 -- the position limit that a refusal names; any where it names none
 abbrev pub limit_of : ToolError → PositionLimit

@@ -2,26 +2,17 @@
 //! `docs/page_tool.1.md` is its manual page.
 #![tactic(auto)]
 
-mod beside;
-mod discard;
-mod error;
+#[cfg(test)]
+mod command_tests;
 #[cfg(test)]
 mod hostile_tests;
-mod limits;
-mod lines;
-mod listing;
-mod request;
-mod rewrite_command;
 #[cfg(test)]
 mod rewrite_fault_tests;
 #[cfg(test)]
 mod rewrite_tests;
-mod rewriting;
 mod run;
 #[cfg(test)]
 mod sample_tests;
-mod sampling;
-mod starting;
 #[cfg(test)]
 mod test_hosts;
 #[cfg(test)]

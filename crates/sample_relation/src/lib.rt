@@ -7,8 +7,6 @@ ghost use Rattle.sample_relation.specs.Samples.{Extends, header_bytes, item_offs
 
 mod lane;
 mod lanes;
-#[cfg(test)]
-mod tests;
 
 use byteorder::{ByteOrder, LittleEndian};
 pub use lane::SampleLane;

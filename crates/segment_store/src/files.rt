@@ -5,9 +5,6 @@ ghost use Rattle.segment_store.specs.Contents.{no_marks};
 ghost use Rattle.segment_store.specs.History.{calls_in, unsynced_in};
 ghost use Rattle.log_device.specs.Faults.{Added};
 
-#[cfg(test)]
-mod tests;
-
 use crate::device::BlockLane;
 use crate::history::LaneHistory;
 use crate::host::{Host, HostError, LogOpen, Opened};

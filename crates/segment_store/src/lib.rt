@@ -12,8 +12,6 @@ mod memory_lane;
 mod memory_logs;
 mod paths;
 mod restore;
-#[cfg(test)]
-mod tests;
 
 pub use device::BlockLane;
 pub use files::{FileHost, FileLane};

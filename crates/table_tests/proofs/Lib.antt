@@ -1,6 +1,1 @@
-pub mod Crossing
-pub mod Finding
 pub mod Seats
-pub mod Sending
-pub mod Victims
-pub mod Working

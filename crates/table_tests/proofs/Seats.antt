@@ -22,20 +22,8 @@ module _ {L G : Type 0} (t : FrameTable L G) where
   pub rests_first : (s : Seat (Value L G) View) → CanClose t s → SeatHoldsNothing t s
   rests_first s c = record { fits = c.fits; live = c.live; hand = c.hand; free = c.free }
 
-  pub closes_still : (s s' : Seat (Value L G) View) → CanClose t s → KeepsSeat s s' → SeatHoldsNothing t s' → CanClose t s'
-  closes_still s s' c k r = record { fits = r.fits; first = k.id ∙ c.first; hand = r.hand; live = r.live; free = r.free; joined = ap (λ (n : ℕ). n + 1) k.joined ∙ c.joined ∙ sym k.next }
-
-  pub steps_there : (s : Seat (Value L G) View) (f : ℕ) → SeatHoldsNothing t s → f < frames_of t → CanStep t s f
-  steps_there s f r low = record { fits = r.fits; live = r.live; inside = low }
-
-  pub steps_on : (s s' : Seat (Value L G) View) (f : ℕ) → CanStep t s f → SameSeat s s' → Touches f s.me.0 s'.me.0 → CanStep t s' f
-  steps_on s s' f c same touches = record { fits = same.table ∙ c.fits; live = ap (λ (x : View). x.emptied) touches.self ∙ c.live; inside = c.inside }
-
   pub rests_still : (s s' : Seat (Value L G) View) (f : ℕ) → SeatHoldsNothing t s → SameSeat s s' → Touches f s.me.0 s'.me.0 → HoldsNothingAt (link s'.me.0 f) → SeatHoldsNothing t s'
   rests_still s s' f r same touches free = record { fits = same.table ∙ r.fits; live = ap (λ (x : View). x.emptied) touches.self ∙ r.live; hand = same.hand ∙ r.hand; free = rests_on f s.me.0 s'.me.0 touches free r.free }
-
-pub keeps_on : {L G : Type 0} (s s' s'' : Seat (Value L G) View) → KeepsSeat s s' → KeepsSeat s' s'' → KeepsSeat s s''
-keeps_on s s' s'' a b = record { table = b.table ∙ a.table; id = b.id ∙ a.id; joined = b.joined ∙ a.joined; next = b.next ∙ a.next }
 
 -- a pin that was taken and given up leaves a seat that holds nothing
 pub rests_unpinned : {L G : Type 0} (t : FrameTable L G) (s s' s'' : Seat (Value L G) View) (f h : ℕ) (ring : Bool) → h ≡ f → SeatHoldsNothing t s → SameSeat s s' → Touches f s.me.0 s'.me.0 → Looked (pinned_link ring (link s.me.0 f)) (link s'.me.0 f) → SameSeat s' s'' → Touches h s'.me.0 s''.me.0 → Looked (unpinned_link (link s'.me.0 h)) (link s''.me.0 h) → SeatHoldsNothing t s''

@@ -1,10 +1,6 @@
-//! Tests of pins, the map and victims over a small table, without a manager.
+//! Tests of the pins of a small table that has no manager.
 #![tactic(auto)]
 
-#[cfg(test)]
-mod choosing;
-#[cfg(test)]
-mod entering;
 #[cfg(test)]
 mod fixture;
 #[cfg(test)]

@@ -1,7 +1,6 @@
 use denote.Exit.{no}
 use denote.Param.Send.{IsSend, param_send, arg_send, mut_send, shr_send}
-use Rattle.table_tests.proofs.Sending.{numbers_shared}
-use Rattle.manager_tests.proofs.Crossing.{globals_shared, managers_shared, passes_sent, six_sent}
+use Rattle.manager_tests.proofs.Crossing.{globals_shared, managers_shared, numbers_shared, passes_sent, six_sent}
 use Rattle.manager_tests.proofs.sharing.copy_beside.Lts.{arg-0-1}
 use Rattle.manager_tests.proofs.sharing.copy_beside.Goals as goal
 

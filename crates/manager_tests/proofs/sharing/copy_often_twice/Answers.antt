@@ -1,12 +1,11 @@
 use denote.Exit.{no}
 use denote.Param.Send.{IsSend, param_send, arg_send, mut_send, shr_send}
-use Rattle.table_tests.proofs.Sending.{captures_send, numbers_shared}
-use Rattle.manager_tests.proofs.Crossing.{globals_shared, managers_shared, passes_sent}
+use Rattle.manager_tests.proofs.Crossing.{five_sent, globals_shared, managers_shared, numbers_shared, passes_sent}
 use Rattle.manager_tests.proofs.sharing.copy_often_twice.Lts.{arg-0-1}
 use Rattle.manager_tests.proofs.sharing.copy_often_twice.Goals as goal
 
 pub join_mut-requires-send-F : goal.join_mut-requires-send-F
 join_mut-requires-send-F g c = λ κs b.
     let X = arg-0-1 g.row.R g.R.laws g.R.Threads-dict g.R.Wait-dict κs in
-    let s : IsSend X = arg_send _ no _ (captures_send _ _ _ _ _ _ (shr_send _ _ _ (managers_shared _ _)) (shr_send _ _ _ c.type_bounds.sync-R) (mut_send _ _ _ passes_sent) (shr_send _ _ _ numbers_shared) (shr_send _ _ _ globals_shared)) in
+    let s : IsSend X = arg_send _ no _ (five_sent _ _ _ _ _ _ (shr_send _ _ _ (managers_shared _ _)) (shr_send _ _ _ c.type_bounds.sync-R) (mut_send _ _ _ passes_sent) (shr_send _ _ _ numbers_shared) (shr_send _ _ _ globals_shared)) in
     param_send 1 X s

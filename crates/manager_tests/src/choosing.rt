@@ -1,0 +1,30 @@
+//! Victims, by the frames that blocks are read into.
+ghost use Rattle.manager_tests.specs.Bench.{IsFree};
+
+use crate::bench::block;
+use crate::reading::read_once;
+use backend_pass::{Manager, Pass, ReadError};
+use log_device::LogDevice;
+use segment_store::BlockLane;
+use std::sync::Wait;
+
+/// Reads so many blocks, from the first on. How many were read into the frame of their own number.
+pub fn read_in_order<L: BlockLane, G: LogDevice, R: Wait>(
+    manager: &Manager<L, G>,
+    rt: &R,
+    pass: &mut Pass,
+    _number: u32,
+    blocks: u32,
+) -> Result<u32, ReadError>
+    requires { IsFree L.contents manager.now _number pass.old }
+    ensures { IsFree L.contents manager.now _number pass.new }
+{
+    let mut own = 0;
+    for number in 0..blocks {
+        let access = read_once(manager, rt, pass, _number, block(number), &mut None)?;
+        if access.frame == number {
+            own += 1;
+        }
+    }
+    Ok(own)
+}

@@ -1,0 +1,377 @@
+-- What the steps of a rewrite leave of a host's files.
+use Rattle.std.proofs.Common.{◌≡◌, ◌≢◌, ℕ, ◌<◌, ◌≤◌, Bool, true, false, List, [], ◌++◌, length, map, Option, Some, None, Result, Ok, Err, refl, sym, ap, ◌∙◌, subst, inl, inr, arith}
+use Rattle.std.specs.Prelude.{All, IfErr, IfOk, IfSome, IsSome, IsSomeAnd, OnOk, option_map}
+use Rattle.std.specs.Str.{bytes_eq}
+use Rattle.std.proofs.lemmas.Bool.{cases_Bool}
+use Rattle.block_tag.specs.declared.tag.Fork.{Fork}
+use Rattle.block_tag.specs.declared.tag.Fork.TheVariants.{Main}
+use Rattle.log_device.specs.Bytes.{Puts}
+use Rattle.log_device.specs.MemoryLog.{StoredLog}
+use Rattle.page_layout.specs.declared.outcomes.RewriteTotals.{RewriteTotals}
+use Rattle.segment_store.specs.Contents.{Marks, Pages, no_marks}
+use Rattle.segment_store.specs.Lanes.{HoldPages, mark_in, tag_at}
+use Rattle.segment_store.specs.Logs.{Logs, empty_log, given_log, logs_after, with_log}
+use Rattle.segment_store.specs.Paths.{OpenAt, PathMarks, Paths, fork_of}
+use Rattle.segment_store.specs.Relation.{relation_of}
+use Rattle.segment_store.specs.Restored.{cleared, marks_after, pages_in, paths_after}
+use Rattle.segment_store.proofs.GivenBack.{paths_same}
+use Rattle.pin_core.specs.State.{Page}
+use Rattle.history_core.specs.Log.{head_bytes}
+use Rattle.page_jobs.specs.Rewrites.{rule_of}
+use Rattle.relation_commands.specs.declared.rewriting.RewriteError.{RewriteError}
+use Rattle.relation_commands.specs.declared.rewriting.RewriteError.TheVariants.{ReadFault, WriteFault, LogFault, OutFault, Memory, OverLimit}
+use Rattle.relation_commands.specs.declared.starting.RelationFork.{RelationFork}
+use Rattle.relation_commands.specs.Limits.{log_base}
+use Rattle.relation_commands.specs.Listings.{NoneFails}
+use Rattle.relation_commands.specs.Request.{RewriteAsked}
+use Rattle.relation_commands.specs.RewriteCommand.{AreSurveyed, IsLogRefusal, IsPutRefusal, IsSurveyRefusal, LeavesByEnd, OpensLog, rewrite_status}
+use Rattle.relation_commands.specs.RewriteFiles.{BecomesOf, Changes, HostFiles, IsHeadBegun, IsRewrittenAt, KeepsFiles, KeepsPaths, RewriteLeaves, RewritesFiles, files_of, fork_at, log_opened, main_rule, pages_at, relation_at, rewrote, untouched, with_blocks}
+use Rattle.relation_commands.specs.RewriteResults.{IsRewrittenFile, LeavesEither}
+use Rattle.relation_commands.specs.Rewriting.{ArePages, HasPositionsLeft, HasRewriteCause, IsRewriteCause, LeavesRewritten, failed_after, pages_after}
+use Rattle.relation_commands.specs.Starting.{names_of}
+use Rattle.relation_commands.specs.Status.{rewrite_tool_error, status_of_error}
+use Rattle.relation_commands.proofs.GivingBack.{given_known, log_stands, marks_elsewhere, marks_here, none_fails, with_lanes}
+
+-- What a host tells of its files, and what it opened last
+pub record Told : Type 0 where
+  pub contents : Option Paths
+  pub failed : PathMarks
+  pub open_at : OpenAt
+  pub logs : Option Logs
+  pub log_at : List ℕ
+
+-- Neither the paths nor what is open changed
+pub record SamePaths (a b : Told) : Type 0 where
+  pub contents : b.contents ≡ a.contents
+  pub failed : IfSome a.contents (λ _. b.failed ≡ a.failed)
+  pub open_at : IfSome a.contents (λ _. b.open_at ≡ a.open_at)
+
+some_known : {X : Type 0} (o : Option X) → IsSome o → (x : X) × (o ≡ Some x)
+some_known None is = absurd (let no : false ≡ true = is in cc)
+some_known (Some x) is = (x, refl)
+
+-- what became of files that are known
+record Became (c : Told) (Leaves : HostFiles → Type 0) : Type 0 where
+  paths : Paths
+  logs : Logs
+  paths_are : c.contents ≡ Some paths
+  logs_are : c.logs ≡ Some logs
+  leaves : Leaves (record { paths = paths; failed = c.failed; logs = logs })
+
+becomes_by : (known : Option Paths) (marks : PathMarks) (told : Option Logs) (c : Told) (Leaves : HostFiles → HostFiles → Type 0)
+    → ((paths : Paths) (logs : Logs) → known ≡ Some paths → told ≡ Some logs → Became c (Leaves (record { paths = paths; failed = marks; logs = logs })))
+    → BecomesOf (files_of known marks told) (files_of c.contents c.failed c.logs) Leaves
+becomes_by None marks told c Leaves all = tt
+becomes_by (Some paths) marks None c Leaves all = tt
+becomes_by (Some paths) marks (Some logs) c Leaves all =
+    let became = all paths logs refl refl in
+    let old : HostFiles = record { paths = paths; failed = marks; logs = logs } in
+    subst (λ (o : Option Paths). IsSomeAnd (files_of o c.failed c.logs) (Leaves old)) (sym became.paths_are)
+    (subst (λ (o : Option Logs). IsSomeAnd (files_of (Some became.paths) c.failed o) (Leaves old)) (sym became.logs_are) became.leaves)
+
+at_some : {A : Type 0} (o : Option A) (P : A → Type 0) (x : A) → o ≡ Some x → IfSome o P → P x
+at_some {A = A} o P x is all = subst (λ (p : Option A). IfSome p P) is all
+
+of_none : {A : Type 0} (o : Option A) (P : A → Type 0) → ((x : A) → P x) → IfSome o P
+of_none None P all = tt
+of_none (Some x) P all = all x
+
+status_some : (e : RewriteError) → status_of_error (rewrite_tool_error e) ≡ 0 → ⊥
+status_some ReadFault zero = omega arith
+status_some WriteFault zero = omega arith
+status_some LogFault zero = omega arith
+status_some OutFault zero = omega arith
+status_some Memory zero = omega arith
+status_some (OverLimit limit) zero = omega arith
+
+log_refusal : (logs logs_now faults : ℕ) (e : RewriteError) → IsLogRefusal logs logs_now faults e → HasPositionsLeft e
+log_refusal logs logs_now faults ReadFault why = tt
+log_refusal logs logs_now faults WriteFault why = tt
+log_refusal logs logs_now faults LogFault why = tt
+log_refusal logs logs_now faults OutFault why = tt
+log_refusal logs logs_now faults Memory why = tt
+log_refusal logs logs_now faults (OverLimit limit) why = why
+
+-- what an empty log has once a put of its head failed
+pub head_begun : {E : Type 0} (base : ℕ) (known known_now : Option (List ℕ)) (why : E) → IfSome known (λ b. b ≡ []) → (known ≡ None → known_now ≡ None)
+    → Puts (head_bytes base) known known_now (Err why) → IfSome known_now (IsHeadBegun base)
+head_begun base None known_now why empty unknown puts = subst (λ (o : Option (List ℕ)). IfSome o (IsHeadBegun base)) (sym (unknown refl)) tt
+head_begun base (Some old) None why empty unknown puts = tt
+head_begun base (Some old) (Some new) why empty unknown puts =
+    let gains = puts.failed in
+    record { more = gains.rest; whole = ap (λ (b : List ℕ). b ++ gains.rest) (gains.is ∙ ap (λ (b : List ℕ). b ++ gains.prefix) empty) ∙ sym gains.whole }
+
+-- the refusals that don't come of a put
+abbrev IsNoOutFault : RewriteError → Type 0
+IsNoOutFault OutFault = ⊥
+IsNoOutFault ReadFault = Unit {0}
+IsNoOutFault WriteFault = Unit {0}
+IsNoOutFault LogFault = Unit {0}
+IsNoOutFault Memory = Unit {0}
+IsNoOutFault (OverLimit limit) = Unit {0}
+
+status_seven : (e : RewriteError) → IsNoOutFault e → status_of_error (rewrite_tool_error e) ≡ 7 → ⊥
+status_seven ReadFault out seven = omega arith
+status_seven WriteFault out seven = omega arith
+status_seven LogFault out seven = omega arith
+status_seven OutFault out seven = out
+status_seven Memory out seven = omega arith
+status_seven (OverLimit limit) out seven = omega arith
+
+log_puts_nothing : (logs logs_now faults : ℕ) (e : RewriteError) → IsLogRefusal logs logs_now faults e → IsNoOutFault e
+log_puts_nothing logs logs_now faults ReadFault why = tt
+log_puts_nothing logs logs_now faults WriteFault why = tt
+log_puts_nothing logs logs_now faults LogFault why = tt
+log_puts_nothing logs logs_now faults OutFault why = why
+log_puts_nothing logs logs_now faults Memory why = tt
+log_puts_nothing logs logs_now faults (OverLimit limit) why = tt
+
+survey_puts_nothing : {L : Type 0} (contents : L → Option Pages) (relation : RelationFork) (lanes : List L) (faults : ℕ) (e : RewriteError) → IsSurveyRefusal contents relation lanes faults e → IsNoOutFault e
+survey_puts_nothing contents relation lanes faults ReadFault why = tt
+survey_puts_nothing contents relation lanes faults WriteFault why = tt
+survey_puts_nothing contents relation lanes faults LogFault why = tt
+survey_puts_nothing contents relation lanes faults OutFault why = why
+survey_puts_nothing contents relation lanes faults Memory why = tt
+survey_puts_nothing contents relation lanes faults (OverLimit limit) why = tt
+
+rewrite_cause : (reads writes logs logs_now : ℕ) (e : RewriteError) → IsRewriteCause reads writes logs logs_now e → IsNoOutFault e
+rewrite_cause reads writes logs logs_now ReadFault why = tt
+rewrite_cause reads writes logs logs_now WriteFault why = tt
+rewrite_cause reads writes logs logs_now LogFault why = tt
+rewrite_cause reads writes logs logs_now OutFault why = why
+rewrite_cause reads writes logs logs_now Memory why = tt
+rewrite_cause reads writes logs logs_now (OverLimit limit) why = tt
+
+rewrite_puts_nothing : (reads writes logs logs_now : ℕ) (end : Result RewriteTotals RewriteError) → HasRewriteCause reads writes logs logs_now end → IfErr end IsNoOutFault
+rewrite_puts_nothing reads writes logs logs_now (Ok totals) has = tt
+rewrite_puts_nothing reads writes logs logs_now (Err e) has = rewrite_cause reads writes logs logs_now e has.cause
+
+module _ (r : RewriteAsked) (old new : HostFiles) where
+  -- nothing was written
+  pub keeps_all : (status : ℕ) → (status ≡ 0 → ⊥) → (status ≡ 7 → ⊥) → KeepsFiles r old new → RewritesFiles r status old new
+  keeps_all status some unput keeps = record {
+    any = untouched keeps;
+    done = λ zero. absurd (some zero);
+    refused = λ least most. keeps;
+    over_limit = λ nine. keeps;
+    out_fault = λ seven. absurd (unput seven);
+  }
+
+  -- by how it ended
+  by_end : (end : Result RewriteTotals RewriteError) → RewriteLeaves r old new → OnOk end (IsRewrittenAt r old new) → IfErr end HasPositionsLeft → IfErr end IsNoOutFault → LeavesByEnd r end old new
+  by_end (Ok totals) any done left unput = record { any = any; done = λ zero. done; refused = λ least most. absurd (omega arith); over_limit = λ nine. absurd (omega arith); out_fault = λ seven. absurd (omega arith) }
+  by_end (Err ReadFault) any done left unput = record { any = any; done = λ zero. absurd (omega arith); refused = λ least most. absurd (omega arith); over_limit = λ nine. absurd (omega arith); out_fault = λ seven. absurd (omega arith) }
+  by_end (Err WriteFault) any done left unput = record { any = any; done = λ zero. absurd (omega arith); refused = λ least most. absurd (omega arith); over_limit = λ nine. absurd (omega arith); out_fault = λ seven. absurd (omega arith) }
+  by_end (Err LogFault) any done left unput = record { any = any; done = λ zero. absurd (omega arith); refused = λ least most. absurd (omega arith); over_limit = λ nine. absurd (omega arith); out_fault = λ seven. absurd (omega arith) }
+  by_end (Err OutFault) any done left unput = absurd unput
+  by_end (Err Memory) any done left unput = record { any = any; done = λ zero. absurd (omega arith); refused = λ least most. absurd (omega arith); over_limit = λ nine. absurd (omega arith); out_fault = λ seven. absurd (omega arith) }
+  by_end (Err (OverLimit limit)) any done left unput = absurd left
+
+  -- what is printed changes no file
+  pub after_put : (totals : RewriteTotals) (faults faults_now : ℕ) (result : Result Unit RewriteError) → IfErr result (IsPutRefusal faults faults_now)
+      → LeavesByEnd {T = RewriteTotals} r (Ok totals) old new → LeavesByEnd r result old new
+  after_put totals faults faults_now (Ok done) why leaves = leaves
+  after_put totals faults faults_now (Err OutFault) why leaves = record { any = leaves.any; done = λ zero. absurd (omega arith); refused = λ least most. absurd (omega arith); over_limit = λ nine. absurd (omega arith); out_fault = λ seven. leaves.done refl }
+  after_put totals faults faults_now (Err Memory) why leaves = record { any = leaves.any; done = λ zero. absurd (omega arith); refused = λ least most. absurd (omega arith); over_limit = λ nine. absurd (omega arith); out_fault = λ seven. absurd (omega arith) }
+  after_put totals faults faults_now (Err ReadFault) why leaves = absurd why
+  after_put totals faults faults_now (Err WriteFault) why leaves = absurd why
+  after_put totals faults faults_now (Err LogFault) why leaves = absurd why
+  after_put totals faults faults_now (Err (OverLimit limit)) why leaves = absurd why
+
+module _ {L G : Type 0} (contents : L → Option Pages) (failed : L → Marks) (bytes : G → Option (List ℕ)) (synced : G → ℕ) (r : RewriteAsked) where
+  -- the relation that is asked for is open
+  abbrev pub IsOpen : Told → Type 0
+  IsOpen a = IfSome a.contents (λ _. a.open_at ≡ relation_at r)
+
+  -- Lanes, and a log if one was opened, were given back
+  pub record GivesBack (b c : Told) (lanes : List L) (log : Option G) : Type 0 where
+    pub paths : c.contents ≡ option_map (paths_after b.open_at (map contents lanes)) b.contents
+    pub marks : IfSome b.contents (λ paths. paths b.open_at.path ≢ [] → c.failed ≡ marks_after b.open_at (map failed lanes) b.failed)
+    pub logs : c.logs ≡ option_map (logs_after b.log_at (given_log bytes synced log)) b.logs
+
+  module _ (a b c : Told) (lanes : List L) (log : Option G) (open_so : IsOpen a) (same : SamePaths a b) (gives : GivesBack b c lanes log)
+      (paths : Paths) (known : a.contents ≡ Some paths) (there : paths r.path ≢ []) where
+    opened_so : b.open_at ≡ relation_at r
+    opened_so = at_some a.contents (λ _. b.open_at ≡ a.open_at) paths known same.open_at ∙ at_some a.contents (λ _. a.open_at ≡ relation_at r) paths known open_so
+
+    given_paths : c.contents ≡ Some (paths_after (relation_at r) (map contents lanes) paths)
+    given_paths = gives.paths ∙ ap (λ (o : Option Paths). option_map (paths_after b.open_at (map contents lanes)) o) (same.contents ∙ known)
+        ∙ ap (λ (at : OpenAt). Some (paths_after at (map contents lanes) paths)) opened_so
+
+    given_marks : c.failed ≡ marks_after (relation_at r) (map failed lanes) a.failed
+    given_marks =
+        let marks = at_some b.contents (λ (ps : Paths). ps b.open_at.path ≢ [] → c.failed ≡ marks_after b.open_at (map failed lanes) b.failed) paths (same.contents ∙ known) gives.marks in
+        subst (λ (at : OpenAt). paths at.path ≢ [] → c.failed ≡ marks_after at (map failed lanes) b.failed) opened_so marks there
+        ∙ ap (λ (m : PathMarks). marks_after (relation_at r) (map failed lanes) m) (at_some a.contents (λ _. b.failed ≡ a.failed) paths known same.failed)
+
+  module _ (a b c : Told) (lanes : List L) (logs : Logs) (known : a.logs ≡ Some logs) where
+    given_none : b.logs ≡ a.logs → GivesBack b c lanes None → c.logs ≡ Some logs
+    given_none same gives = gives.logs ∙ ap (λ (o : Option Logs). option_map (λ (l : Logs). l) o) (same ∙ known)
+
+    module _ (log log' : G) (opens : OpensLog (Some log) r.log a.logs b.logs b.log_at) (told : IfSome b.logs (λ _. IsSome (bytes log'))) (gives : GivesBack b c lanes (Some log')) where
+      opened_logs : b.logs ≡ Some (with_log r.log empty_log logs)
+      opened_logs = opens.0 ∙ ap (λ (o : Option Logs). option_map (with_log r.log empty_log) o) known
+
+      known_bytes : (x : List ℕ) × (bytes log' ≡ Some x)
+      known_bytes = some_known (bytes log') (at_some b.logs (λ _. IsSome (bytes log')) (with_log r.log empty_log logs) opened_logs told)
+
+      given_file : c.logs ≡ Some (with_log r.log (record { bytes = known_bytes.0; synced = synced log' }) logs)
+      given_file = gives.logs
+          ∙ ap (λ (o : Option Logs). option_map (logs_after b.log_at (given_log bytes synced (Some log'))) o) opened_logs
+          ∙ ap (λ (at : List ℕ). Some (logs_after at (given_log bytes synced (Some log')) (with_log r.log empty_log logs))) (at_some a.logs (λ _. b.log_at ≡ r.log) logs known opens.1)
+          ∙ ap (λ (o : Option StoredLog). Some (logs_after r.log o (with_log r.log empty_log logs))) (given_known bytes synced log' known_bytes.0 known_bytes.1)
+          ∙ ap (λ (l : Logs). Some l) (log_stands r.log (record { bytes = known_bytes.0; synced = synced log' }) logs)
+
+  -- lanes that were not written leave the paths as they were
+  module _ (lanes : List L) (paths : Paths) (marks new_marks : PathMarks) (logs new_logs : Logs) (unmarked : All (λ lane. failed lane ≡ no_marks) lanes)
+      (held : HoldPages (fork_of r.path) (pages_at r paths) (map contents lanes)) (marks_are : new_marks ≡ marks_after (relation_at r) (map failed lanes) marks) where
+    kept_paths : KeepsPaths r (record { paths = paths; failed = marks; logs = logs }) (record { paths = paths_after (relation_at r) (map contents lanes) paths; failed = new_marks; logs = new_logs })
+    kept_paths = record {
+      paths = paths_same (relation_at r) (map contents lanes) paths held;
+      failed = none_fails failed (relation_at r) lanes paths marks new_marks unmarked marks_are;
+    }
+
+  -- nothing but the lanes was given back, which were not written
+  pub unlogged : (a c : Told) (relation : RelationFork) (surveyed lanes : List L) (faults : ℕ) (e : RewriteError) → IsSurveyRefusal contents relation surveyed faults e → IsOpen a → All (λ lane. failed lane ≡ no_marks) lanes
+      → IfSome a.contents (λ paths. paths r.path ≢ []) → IfSome a.contents (λ paths. HoldPages (fork_of r.path) (pages_at r paths) (map contents lanes)) → GivesBack a c lanes None
+      → BecomesOf (files_of a.contents a.failed a.logs) (files_of c.contents c.failed c.logs) (LeavesByEnd {T = Unit} r (Err e))
+  unlogged a c relation surveyed lanes faults e why open_so unmarked there held gives = becomes_by a.contents a.failed a.logs c (LeavesByEnd {T = Unit} r (Err e)) (λ paths logs known told.
+      let same : SamePaths a a = record { contents = refl; failed = of_none a.contents (λ _. a.failed ≡ a.failed) (λ _. refl); open_at = of_none a.contents (λ _. a.open_at ≡ a.open_at) (λ _. refl) } in
+      let there_so = at_some a.contents (λ ps. ps r.path ≢ []) paths known there in
+      let held_so = at_some a.contents (λ ps. HoldPages (fork_of r.path) (pages_at r ps) (map contents lanes)) paths known held in
+      record {
+        paths = paths_after (relation_at r) (map contents lanes) paths;
+        logs = logs;
+        paths_are = given_paths a a c lanes None open_so same gives paths known there_so;
+        logs_are = given_none a a c lanes logs told refl gives;
+        leaves = keeps_all r _ _ (status_of_error (rewrite_tool_error e)) (λ zero. status_some e zero) (λ seven. status_seven e (survey_puts_nothing contents relation surveyed faults e why) seven) (record {
+          pages = kept_paths lanes paths a.failed c.failed logs logs unmarked held_so (given_marks a a c lanes None open_so same gives paths known there_so);
+          logs = refl;
+        });
+      })
+
+  -- the lanes that were surveyed hold the pages of the fork that the path names
+  pub held_by : (known : Option Paths) (relation : RelationFork) (base : ℕ) (lanes : List L) → fork_of r.path ≡ Main → IfSome known (λ paths. relation ≡ fork_at r paths)
+      → IfSome known (λ paths. ArePages contents relation base lanes (pages_at r paths)) → IfSome known (λ paths. HoldPages (fork_of r.path) (pages_at r paths) (map contents lanes))
+  held_by None relation base lanes main relation_is pages = tt
+  held_by (Some paths) relation base lanes main relation_is pages =
+      subst (λ (f : Fork). HoldPages f (pages_at r paths) (map contents lanes)) (sym main)
+      (subst (λ (rel : RelationFork). HoldPages rel.fork (pages_at r paths) (map contents lanes)) relation_is pages.have.held)
+
+  -- A log that couldn't be begun was given back, if it was opened, with lanes that were not written
+  pub refused : (a b c : Told) (lanes : List L) (base : ℕ) (log : Option G) (logs_before logs_now faults : ℕ) (e : RewriteError) → IsOpen a → All (λ lane. failed lane ≡ no_marks) lanes
+      → IfSome a.contents (λ paths. paths r.path ≢ []) → IfSome a.contents (λ paths. HoldPages (fork_of r.path) (pages_at r paths) (map contents lanes))
+      → IfSome a.contents (λ paths. base ≡ log_base (pages_at r paths)) → IfSome log (λ l. IfSome (bytes l) (IsHeadBegun base))
+      → SamePaths a b → OpensLog log r.log a.logs b.logs b.log_at → ((l : G) → IfSome b.logs (λ _. IsSome (bytes l))) → IsLogRefusal logs_before logs_now faults e → GivesBack b c lanes log
+      → BecomesOf (files_of a.contents a.failed a.logs) (files_of c.contents c.failed c.logs) (LeavesByEnd {T = RewriteTotals} r (Err e))
+  refused a b c lanes base None logs_before logs_now faults e open_so unmarked there held base_is begun same opens told why gives =
+      becomes_by a.contents a.failed a.logs c (LeavesByEnd {T = RewriteTotals} r (Err e)) (λ paths logs known logs_known.
+      let there_so = at_some a.contents (λ ps. ps r.path ≢ []) paths known there in
+      let held_so = at_some a.contents (λ ps. HoldPages (fork_of r.path) (pages_at r ps) (map contents lanes)) paths known held in
+      record {
+        paths = paths_after (relation_at r) (map contents lanes) paths;
+        logs = logs;
+        paths_are = given_paths a b c lanes None open_so same gives paths known there_so;
+        logs_are = given_none a b c lanes logs logs_known opens gives;
+        leaves = keeps_all r _ _ (status_of_error (rewrite_tool_error e)) (λ zero. status_some e zero) (λ seven. status_seven e (log_puts_nothing logs_before logs_now faults e why) seven) (record {
+          pages = kept_paths lanes paths a.failed c.failed logs logs unmarked held_so (given_marks a b c lanes None open_so same gives paths known there_so);
+          logs = refl;
+        });
+      })
+  refused a b c lanes base (Some log) logs_before logs_now faults e open_so unmarked there held base_is begun same opens told why gives =
+      becomes_by a.contents a.failed a.logs c (LeavesByEnd {T = RewriteTotals} r (Err e)) (λ paths logs known logs_known.
+      let there_so = at_some a.contents (λ ps. ps r.path ≢ []) paths known there in
+      let held_so = at_some a.contents (λ ps. HoldPages (fork_of r.path) (pages_at r ps) (map contents lanes)) paths known held in
+      let file = known_bytes a b c lanes logs logs_known log log opens (told log) gives in
+      record {
+        paths = paths_after (relation_at r) (map contents lanes) paths;
+        logs = with_log r.log (record { bytes = file.0; synced = synced log }) logs;
+        paths_are = given_paths a b c lanes (Some log) open_so same gives paths known there_so;
+        logs_are = given_file a b c lanes logs logs_known log log opens (told log) gives;
+        leaves = by_end r _ _ (Err e) (log_opened (record { bytes = file.0; synced = synced log })
+            (subst (λ (n : ℕ). IsHeadBegun n file.0) (at_some a.contents (λ ps. base ≡ log_base (pages_at r ps)) paths known base_is) (at_some (bytes log) (IsHeadBegun base) file.0 file.1 begun))
+            (kept_paths lanes paths a.failed c.failed logs _ unmarked held_so (given_marks a b c lanes (Some log) open_so same gives paths known there_so)) refl)
+            tt (log_refusal logs_before logs_now faults e why) (log_puts_nothing logs_before logs_now faults e why);
+      })
+
+  module _ (relation : RelationFork) (base : ℕ) (lanes lanes' : List L) (log' : G) (end : Result RewriteTotals RewriteError) (leaves : LeavesRewritten contents failed bytes synced relation base lanes lanes' log' end)
+      (main : fork_of r.path ≡ Main) (paths : Paths) (marks new_marks : PathMarks) (logs : Logs) (x : List ℕ) (bytes_are : bytes log' ≡ Some x)
+      (relation_is : relation ≡ fork_at r paths) (base_is : base ≡ log_base (pages_at r paths)) (pages_so : ArePages contents relation base lanes (pages_at r paths))
+      (marks_are : new_marks ≡ marks_after (relation_at r) (map failed lanes') marks) where
+    abbrev before : List Page
+    before = pages_at r paths
+
+    abbrev after : List Page
+    after = pages_in Main (map contents lanes') 0 (pages_at r paths)
+
+    abbrev old : HostFiles
+    old = record { paths = paths; failed = marks; logs = logs }
+
+    abbrev new : HostFiles
+    new = record { paths = paths_after (relation_at r) (map contents lanes') paths; failed = new_marks; logs = with_log r.log (record { bytes = x; synced = synced log' }) logs }
+
+    marks_so : new_marks r.path ≡ failed_after failed (fork_at r paths) lanes'
+    marks_so = ap (λ (m : PathMarks). m r.path) marks_are ∙ marks_here (relation_at r) (map failed lanes') marks
+        ∙ ap {B = ℕ → Bool} (λ (f : Fork). λ (block : ℕ). mark_in (map failed lanes') (tag_at f block)) main
+
+    changes : Changes r old new after (record { bytes = x; synced = synced log' })
+    changes = record {
+      paths = with_lanes (relation_at r) (map contents lanes') paths ∙ ap (λ (f : Fork). with_blocks (relation_at r) (pages_in f (map contents lanes') 0 (pages_at r paths)) paths) main;
+      logs = refl;
+      failed = λ other not. ap (λ (m : PathMarks). m other) marks_are ∙ marks_elsewhere (relation_at r) (map failed lanes') marks other not;
+    }
+
+    either : LeavesEither main_rule (names_of (fork_at r paths)) (log_base before) before after (new_marks r.path) (record { bytes = x; synced = synced log' })
+    either =
+        let found = leaves.either before x pages_so bytes_are in
+        let of_fork = subst (λ (rel : RelationFork). LeavesEither (rule_of 0 rel.fork) (names_of rel) base before (pages_after contents rel lanes' before) (failed_after failed rel lanes') (record { bytes = x; synced = synced log' })) relation_is found in
+        let of_base = subst (λ (n : ℕ). LeavesEither main_rule (names_of (fork_at r paths)) n before after (failed_after failed (fork_at r paths) lanes') (record { bytes = x; synced = synced log' })) base_is of_fork in
+        subst (λ (f : ℕ → Bool). LeavesEither main_rule (names_of (fork_at r paths)) (log_base before) before after f (record { bytes = x; synced = synced log' })) (sym marks_so) of_base
+
+    rewritten_at : IsRewrittenFile (rule_of 0 relation.fork) (names_of relation) base before (pages_after contents relation lanes' before) (record { bytes = x; synced = synced log' })
+        → ((block : ℕ) → block < relation.blocks → failed_after failed relation lanes' block ≡ false) → IsRewrittenAt r old new
+    rewritten_at found unfailed = record {
+      after = after;
+      file = record { bytes = x; synced = synced log' };
+      changes = changes;
+      rewritten =
+          (let of_fork = subst (λ (rel : RelationFork). IsRewrittenFile (rule_of 0 rel.fork) (names_of rel) base before (pages_after contents rel lanes' before) (record { bytes = x; synced = synced log' })) relation_is found in
+          subst (λ (n : ℕ). IsRewrittenFile main_rule (names_of (fork_at r paths)) n before after (record { bytes = x; synced = synced log' })) base_is of_fork);
+      unfailed = λ block below. ap (λ (f : ℕ → Bool). f block) marks_so
+          ∙ subst (λ (rel : RelationFork). (b : ℕ) → b < rel.blocks → failed_after failed rel lanes' b ≡ false) relation_is unfailed block below;
+    }
+
+    done_by : (e : Result RewriteTotals RewriteError) → IfOk e (λ totals. (pages : List Page) (known : List ℕ) → ArePages contents relation base lanes pages → bytes log' ≡ Some known
+        → IsRewrittenFile (rule_of 0 relation.fork) (names_of relation) base pages (pages_after contents relation lanes' pages) (record { bytes = known; synced = synced log' }))
+        → OnOk e ((pages : List Page) → ArePages contents relation base lanes pages → (block : ℕ) → block < relation.blocks → failed_after failed relation lanes' block ≡ false)
+        → OnOk e (IsRewrittenAt r old new)
+    done_by (Ok totals) whole unfailed = rewritten_at (whole before x pages_so bytes_are) (unfailed before pages_so)
+    done_by (Err why) whole unfailed = tt
+
+    left_by : (e : Result RewriteTotals RewriteError) → IfErr e (λ why. (pages : List Page) → ArePages contents relation base lanes pages → HasPositionsLeft why) → IfErr e HasPositionsLeft
+    left_by (Ok totals) left = tt
+    left_by (Err why) left = left before pages_so
+
+    files_leave : IfErr end IsNoOutFault → LeavesByEnd r end old new
+    files_leave unput = by_end r old new end (rewrote after (record { bytes = x; synced = synced log' }) changes either) (done_by end leaves.whole leaves.unfailed) (left_by end leaves.positions) unput
+
+  -- The relation was rewritten, and its lanes and its log were given back
+  pub rewritten : (reads writes : L → ℕ) (relation : RelationFork) (base : ℕ) (lanes lanes' : List L) (log log' : G) (end : Result RewriteTotals RewriteError) (a b c : Told) → IsOpen a → fork_of r.path ≡ Main
+      → AreSurveyed contents failed reads writes a.contents r relation base lanes → SamePaths a b → OpensLog (Some log) r.log a.logs b.logs b.log_at → IfSome b.logs (λ _. IsSome (bytes log'))
+      → GivesBack b c lanes' (Some log') → LeavesRewritten contents failed bytes synced relation base lanes lanes' log' end → (reads_now writes_now faults faults_now : ℕ) → HasRewriteCause reads_now writes_now faults faults_now end
+      → BecomesOf (files_of a.contents a.failed a.logs) (files_of c.contents c.failed c.logs) (LeavesByEnd r end)
+  rewritten reads writes relation base lanes lanes' log log' end a b c open_so main surveyed same opens told gives leaves reads_now writes_now faults faults_now cause =
+      becomes_by a.contents a.failed a.logs c (LeavesByEnd r end) (λ paths logs known logs_known.
+      let there_so = at_some a.contents (λ ps. ps r.path ≢ []) paths known surveyed.there in
+      let relation_is = at_some a.contents (λ ps. relation ≡ fork_at r ps) paths known surveyed.relation_is in
+      let base_is = at_some a.contents (λ ps. base ≡ log_base (pages_at r ps)) paths known surveyed.base_is in
+      let pages_so = at_some a.contents (λ ps. ArePages contents relation base lanes (pages_at r ps)) paths known surveyed.pages in
+      let x = known_bytes a b c lanes' logs logs_known log log' opens told gives in
+      record {
+        paths = paths_after (relation_at r) (map contents lanes') paths;
+        logs = with_log r.log (record { bytes = x.0; synced = synced log' }) logs;
+        paths_are = given_paths a b c lanes' (Some log') open_so same gives paths known there_so;
+        logs_are = given_file a b c lanes' logs logs_known log log' opens told gives;
+        leaves = files_leave relation base lanes lanes' log' end leaves main paths a.failed c.failed logs x.0 x.1 relation_is base_is pages_so
+            (given_marks a b c lanes' (Some log') open_so same gives paths known there_so) (rewrite_puts_nothing reads_now writes_now faults faults_now end cause);
+      })

@@ -1,0 +1,22 @@
+mod Paths
+mod Counting
+mod Surveyed
+mod MainFork
+mod GivingBack
+mod GivenFiles
+mod Putting
+pub mod Stepping
+mod Listed
+mod ListedTotals
+mod PassesBeside
+mod Fronts
+mod RewriteLeaves
+mod RewriteWhole
+mod RewriteCauses
+mod RewritePasses
+mod RewriteChecks
+mod RewriteStores
+mod RewriteOutcome
+mod RewriteUntouched
+mod PagesAfter
+mod Sampled

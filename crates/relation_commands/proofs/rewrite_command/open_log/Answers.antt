@@ -1,0 +1,5 @@
+use Rattle.relation_commands.proofs.GivenFiles.{head_begun}
+use Rattle.relation_commands.proofs.rewrite_command.open_log.Goals as goal
+
+pub returns-in-Err-begin_log-clause-head : goal.returns-in-Err-begin_log-clause-head
+returns-in-Err-begin_log-clause-head g c = head_begun c.args.base _ _ _ c.in-Ok.ensures.opened.empty c.in-Err-begin_log.ensures.unknown c.in-Err-begin_log.ensures.bytes

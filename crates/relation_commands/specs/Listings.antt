@@ -1,0 +1,36 @@
+-- What a scan and a dump print, start with, and leave.
+use Rattle.std.specs.Prelude.{◌≡◌, ℕ, ◌<◌, ◌≤◌, false, true, List, length, map, Option, sum_by}
+use Rattle.std.specs.Str.{bytes_eq}
+use Rattle.block_tag.specs.declared.tag.Fork.{Fork}
+use Rattle.page_layout.specs.Dump.{dump_text}
+use Rattle.page_layout.specs.Scan.{scan_text}
+use Rattle.log_device.specs.declared.memory_log.MemLog.{MemLog}
+use Rattle.segment_store.specs.Contents.{Marks, Pages}
+use Rattle.segment_store.specs.Lanes.{HoldPages, mark_in, tag_at}
+use Rattle.segment_store.specs.Paths.{PathMarks, Paths}
+use Rattle.segment_store.specs.Relation.{relation_of}
+use Rattle.pin_core.specs.State.{Page}
+use Rattle.frame_table.specs.Seats.{base_of, frames_of, lanes_in, opened_of, relations_of}
+use Rattle.backend_pass.specs.declared.manager.Manager.{Manager}
+use Rattle.backend_pass.specs.Managers.{AreNewPasses}
+use Rattle.backend_pass.specs.Passes.{PassState}
+use Rattle.page_jobs.specs.Relations.{IsCatalogOf}
+use Rattle.relation_commands.specs.declared.listing.Listing.{Listing}
+use Rattle.relation_commands.specs.declared.listing.Listing.TheVariants.{Scan, Dump}
+
+-- the text of a relation of these pages
+abbrev pub text_of : Listing → List Page → List ℕ
+text_of Scan pages = scan_text pages
+text_of Dump pages = dump_text pages
+
+-- Lanes after a listing of the blocks of a fork: where its pages are known they stand in the lanes still, and none of its blocks is one whose last write failed; no write failed
+pub record LeavesLanes {L : Type 0} (contents : L → Option Pages) (failed : L → Marks) (write_faults : L → ℕ) (fork : Fork) (blocks : ℕ) (lanes lanes' : List L) : Type 0 where
+  pub stay : (pages : List Page) → HoldPages fork pages (map contents lanes) → blocks ≡ length pages → HoldPages fork pages (map contents lanes')
+  pub unfailed : (pages : List Page) → HoldPages fork pages (map contents lanes) → blocks ≡ length pages
+      → (block : ℕ) → block < blocks → mark_in (map failed lanes') (tag_at fork block) ≡ false
+  pub writes : sum_by write_faults lanes' ≡ 0
+
+-- No block of the relation at a path came to those whose last write failed; at all other paths these are as they were
+pub record NoneFails (seg_blocks : ℕ) (paths : Paths) (path : List ℕ) (old new : PathMarks) : Type 0 where
+  pub others : (other : List ℕ) → bytes_eq other path ≡ false → new other ≡ old other
+  pub here : (block : ℕ) → block < length (relation_of seg_blocks (paths path)) → new path block ≡ true → old path block ≡ true

@@ -1,0 +1,105 @@
+-- What the words ask of the tool.
+use Rattle.std.specs.Prelude.{◌≡◌, ℕ, ◌+◌, ◌≤◌, Bool, true, false, List, map, Option, Some, None, option_map, string_bytes}
+use Rattle.std.specs.declared.string.String.{String}
+use Rattle.block_tag.specs.declared.tag.Fork.TheVariants.{Main}
+use Rattle.segment_store.specs.Paths.{fork_of}
+use Rattle.command_line.specs.declared.numbers.Options.{Options}
+use Rattle.relation_commands.specs.declared.error.Crowding.{Crowding}
+use Rattle.relation_commands.specs.declared.request.Request.{Request}
+use Rattle.relation_commands.specs.declared.request.Request.TheVariants as request
+use Rattle.relation_commands.specs.declared.request.ListRequest.{ListRequest}
+use Rattle.relation_commands.specs.declared.request.RewriteRequest.{RewriteRequest}
+use Rattle.relation_commands.specs.declared.request.SampleRequest.{SampleRequest}
+use Rattle.relation_commands.specs.declared.listing.Listing.{Listing}
+use Rattle.relation_commands.specs.declared.listing.Listing.TheVariants.{Scan, Dump}
+use Rattle.command_line.specs.Spelled.{Spelled, command_of, scan, dump, rewrite, sample}
+
+-- a scan or a dump of the relation at a path
+pub record ListingAsked : Type 0 where
+  pub path : List ℕ
+  pub options : Options
+  pub listing : Listing
+
+-- a rewrite of the relation at a path, with the log at another
+pub record RewriteAsked : Type 0 where
+  pub path : List ℕ
+  pub log : List ℕ
+  pub options : Options
+
+-- a rewrite in memory of so many blocks of the relation that is made from a seed
+pub record SampleAsked : Type 0 where
+  pub seed : ℕ
+  pub blocks : ℕ
+  pub options : Options
+
+pub data Asked : Type 0 where
+  listing : ListingAsked → Asked
+  rewriting : RewriteAsked → Asked
+  sampling : SampleAsked → Asked
+
+abbrev pub listing_asked : ListRequest → ListingAsked
+listing_asked l = record { path = l.path.now; options = l.options; listing = l.listing }
+
+abbrev pub rewrite_asked : RewriteRequest → RewriteAsked
+rewrite_asked r = record { path = r.path.now; log = r.log.now; options = r.options }
+
+abbrev pub sample_asked : SampleRequest → SampleAsked
+sample_asked s = record { seed = s.seed; blocks = s.blocks; options = s.options }
+
+abbrev pub asked : Request → Asked
+asked (request.List l) = listing (listing_asked l)
+asked (request.Rewrite r) = rewriting (rewrite_asked r)
+asked (request.Sample s) = sampling (sample_asked s)
+
+-- the relation's path; a sample has none
+abbrev pub path_of : Asked → Option (List ℕ)
+path_of (listing l) = Some l.path
+path_of (rewriting r) = Some r.path
+path_of (sampling s) = None
+
+abbrev pub options_of : Asked → Options
+options_of (listing l) = l.options
+options_of (rewriting r) = r.options
+options_of (sampling s) = s.options
+
+-- whether the relation at a path is rewritten
+abbrev pub is_rewriting : Asked → Bool
+is_rewriting (listing l) = false
+is_rewriting (rewriting r) = true
+is_rewriting (sampling s) = false
+
+-- a rewrite is of a relation's main fork
+abbrev pub IsOfMainFork : Asked → Type 0
+IsOfMainFork (listing l) = Unit {0}
+IsOfMainFork (rewriting r) = fork_of r.path ≡ Main
+IsOfMainFork (sampling s) = Unit {0}
+
+-- the most blocks that a sample can have
+abbrev pub HasSampleSize : Asked → Type 0
+HasSampleSize (listing l) = Unit {0}
+HasSampleSize (rewriting r) = Unit {0}
+HasSampleSize (sampling s) = s.blocks ≤ 16384
+
+-- what a command asks for
+abbrev pub asked_by : Spelled → Asked
+asked_by (scan path options) = listing (record { path = path; options = options; listing = Scan })
+asked_by (dump path options) = listing (record { path = path; options = options; listing = Dump })
+asked_by (rewrite path log options) = rewriting (record { path = path; log = log; options = options })
+asked_by (sample seed blocks options) = sampling (record { seed = seed; blocks = blocks; options = options })
+
+-- what the words ask for; nothing where they are no command
+abbrev pub request_in : {Z : Type 0} → List (String Z) → Option Asked
+request_in words = option_map asked_by (command_of (map string_bytes words))
+
+-- no path is asked for: by a sample, or by words that are no command
+abbrev pub NamesNoPath : Option Asked → Type 0
+NamesNoPath None = Unit {0}
+NamesNoPath (Some a) = path_of a ≡ None
+
+-- the backends need more frames: two are kept besides one for each
+abbrev pub IsCrowded : Options → Type 0
+IsCrowded o = o.frames ≤ o.backends + 2
+
+-- the options that a refusal names
+abbrev pub crowding_of : Options → Crowding
+crowding_of o = record { backends = o.backends; frames = o.frames }

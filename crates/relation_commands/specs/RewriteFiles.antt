@@ -1,0 +1,101 @@
+-- What a rewrite leaves of the paths and the logs of a host.
+use Rattle.std.specs.Prelude.{◌≡◌, ◌⊎◌, ℕ, ◌≤◌, ◌<◌, true, false, List, Option, Some, None, IfSome, IsSomeAnd, if◌then◌else◌, unwrap_or, length, ◌++◌}
+use Rattle.std.specs.Str.{bytes_eq}
+use Rattle.block_tag.specs.declared.tag.Fork.TheVariants.{Main}
+use Rattle.command_line.specs.RelationPath.{relation_number}
+use Rattle.log_device.specs.MemoryLog.{StoredLog}
+use Rattle.segment_store.specs.Logs.{Logs, with_log}
+use Rattle.segment_store.specs.Paths.{OpenAt, PathMarks, Paths}
+use Rattle.segment_store.specs.Relation.{relation_of}
+use Rattle.segment_store.specs.Restored.{restored}
+use Rattle.pin_core.specs.State.{Page}
+use Rattle.history_core.specs.Log.{head_bytes}
+use Rattle.page_jobs.specs.Rewrites.{Rule, rule_of}
+use Rattle.relation_commands.specs.declared.starting.RelationFork.{RelationFork}
+use Rattle.relation_commands.specs.Limits.{log_base}
+use Rattle.relation_commands.specs.Listings.{NoneFails}
+use Rattle.relation_commands.specs.Request.{RewriteAsked}
+use Rattle.relation_commands.specs.RewriteResults.{IsRewrittenFile, LeavesEither}
+use Rattle.relation_commands.specs.Starting.{names_of}
+
+-- The files of a host: the segments at each path, the blocks whose last write failed, and the logs
+pub record HostFiles : Type 0 where
+  pub paths : Paths
+  pub failed : PathMarks
+  pub logs : Logs
+
+-- where its paths and its logs are known
+abbrev pub files_of : Option Paths → PathMarks → Option Logs → Option HostFiles
+files_of (Some paths) failed (Some logs) = Some (record { paths = paths; failed = failed; logs = logs })
+files_of (Some paths) failed None = None
+files_of None failed logs = None
+
+-- where the files are known, this became of them
+abbrev pub BecomesOf : Option HostFiles → Option HostFiles → (HostFiles → HostFiles → Type 0) → Type 0
+BecomesOf old new Leaves = IfSome old (λ files. IsSomeAnd new (Leaves files))
+
+-- the relation that was opened has these pages as its blocks; all its other bytes, and all other paths, are as they were
+abbrev pub with_blocks : OpenAt → List Page → Paths → Paths
+with_blocks at pages paths = λ path. if bytes_eq path at.path then restored at.seg_blocks (paths path) pages else paths path
+
+abbrev pub relation_at : RewriteAsked → OpenAt
+relation_at r = record { path = r.path; seg_blocks = r.options.seg_blocks }
+
+-- the pages of the relation
+abbrev pub pages_at : RewriteAsked → Paths → List Page
+pages_at r paths = relation_of r.options.seg_blocks (paths r.path)
+
+-- the main fork of the relation, as the manager and the log name it
+abbrev pub fork_at : RewriteAsked → Paths → RelationFork
+fork_at r paths = record { number = unwrap_or (relation_number r.path) 0; fork = Main; blocks = length (pages_at r paths) }
+
+abbrev pub main_rule : Rule
+main_rule = rule_of 0 Main
+
+-- No page was written: the paths are as they were, and no further block's last write failed
+pub record KeepsPaths (r : RewriteAsked) (old new : HostFiles) : Type 0 where
+  pub paths : new.paths ≡ old.paths
+  pub failed : NoneFails r.options.seg_blocks old.paths r.path old.failed new.failed
+
+-- nothing was written at all
+pub record KeepsFiles (r : RewriteAsked) (old new : HostFiles) : Type 0 where
+  pub pages : KeepsPaths r old new
+  pub logs : new.logs ≡ old.logs
+
+-- The relation has these pages now, and this file is at the log's path; all else is as it was
+pub record Changes (r : RewriteAsked) (old new : HostFiles) (after : List Page) (file : StoredLog) : Type 0 where
+  pub paths : new.paths ≡ with_blocks (relation_at r) after old.paths
+  pub logs : new.logs ≡ with_log r.log file old.logs
+  pub failed : (other : List ℕ) → bytes_eq other r.path ≡ false → new.failed other ≡ old.failed other
+
+-- these are the first bytes of the head of a log that begins there, or all of them
+pub record IsHeadBegun (base : ℕ) (bytes : List ℕ) : Type 0 where
+  pub more : List ℕ
+  pub whole : bytes ++ more ≡ head_bytes base
+
+-- What a rewrite leaves with any end
+pub data RewriteLeaves (r : RewriteAsked) (old new : HostFiles) : Type 0 where
+  untouched : KeepsFiles r old new → RewriteLeaves r old new
+  -- the log was emptied, a prefix of its head put, and no page written
+  log_opened : (file : StoredLog) → IsHeadBegun (log_base (pages_at r old.paths)) file.bytes → KeepsPaths r old new → new.logs ≡ with_log r.log file old.logs
+      → RewriteLeaves r old new
+  -- each page is as before or that of its entry, or its last write failed
+  rewrote : (after : List Page) (file : StoredLog) → Changes r old new after file
+      → LeavesEither main_rule (names_of (fork_at r old.paths)) (log_base (pages_at r old.paths)) (pages_at r old.paths) after (new.failed r.path) file → RewriteLeaves r old new
+
+-- The rewrite was done: the relation is the rewritten one, the file is that of its log, and no block's last write failed
+pub record IsRewrittenAt (r : RewriteAsked) (old new : HostFiles) : Type 0 where
+  pub after : List Page
+  pub file : StoredLog
+  pub changes : Changes r old new after file
+  pub rewritten : IsRewrittenFile main_rule (names_of (fork_at r old.paths)) (log_base (pages_at r old.paths)) (pages_at r old.paths) after file
+  pub unfailed : (block : ℕ) → block < length (pages_at r old.paths) → new.failed r.path block ≡ false
+
+-- What a rewrite leaves by its status: nothing is written before the log is opened, which no refusal of the words, the path or the positions is
+pub record RewritesFiles (r : RewriteAsked) (status : ℕ) (old new : HostFiles) : Type 0 where
+  pub any : RewriteLeaves r old new
+  pub done : status ≡ 0 → IsRewrittenAt r old new
+  pub refused : 1 ≤ status → status ≤ 3 → KeepsFiles r old new
+  pub over_limit : status ≡ 9 → KeepsFiles r old new
+  -- the text is put last
+  pub out_fault : status ≡ 7 → IsRewrittenAt r old new

@@ -1,0 +1,209 @@
+//! The blocks of a relation that is open are listed by the backends of a buffer manager.
+ghost use Rattle.std.specs.Prelude.{◌≡◌, ◌≤◌, ◌%◌, ◌^◌, List, IfOk, IfErr, OnOk, All, length, map, sum_by, vec_len};
+ghost use Rattle.log_device.specs.Bytes.{Puts};
+ghost use Rattle.segment_store.specs.Contents.{no_marks};
+ghost use Rattle.segment_store.specs.Lanes.{HasBlocks, HoldPages};
+ghost use Rattle.pin_core.specs.State.{Page};
+ghost use Rattle.command_line.specs.Numbers.{HasOptionsInRange};
+ghost use Rattle.frame_table.specs.Seats.{base_of, frames_of, opened_of, relations_of};
+ghost use Rattle.page_jobs.specs.Beside.{StaysBeside};
+ghost use Rattle.page_jobs.specs.Ending.{as_done};
+ghost use Rattle.page_jobs.specs.Jobs.{AllAtBase, EndsJob, HaveNoTokens, IsOrigin, ReadParts, workers_in};
+ghost use Rattle.page_jobs.specs.Relations.{IsCatalogOf, MeetNothing};
+ghost use Rattle.page_layout.specs.Scan.{totals_of};
+ghost use Rattle.relation_commands.specs.Causes.{HasListingCause, listing_end, listing_error, scan_totals_in};
+ghost use Rattle.relation_commands.specs.Listings.{LeavesLanes, text_of};
+ghost use Rattle.relation_commands.specs.Starting.{IsStarted};
+
+use crate::beside::Rounds;
+use crate::starting::{RelationFork, new_log, start};
+use backend_pass::{Manager, Pass};
+use block_tag::RelNo;
+use command_line::Options;
+use log_device::{MemLog, Sink};
+use page_jobs::{Gate, JobEnd, JobError, Totals, dump, scan};
+use page_layout::{Lsn, ScanTotals};
+use segment_store::BlockLane;
+use std::alloc::Global;
+use std::sync::Wait;
+use std::thread::Threads;
+
+/// What is printed of each block: a line, or also one of each of its line pointers.
+#[derive(Clone, Copy, PartialEq, Eq, Debug)]
+pub enum Listing {
+    Scan,
+    Dump,
+}
+
+/// Why a listing ended before its end.
+#[derive(Clone, Copy, PartialEq, Eq, Debug)]
+pub enum ListingError {
+    ReadFault,
+    OutFault,
+    Memory,
+}
+
+impl ListingError {
+    /// What the end of a job means to a listing. A listing writes no page and no log record, so no fault of theirs can end it.
+    fn from_job(error: JobError) -> ListingError
+        ensures { result ≡ listing_error error }
+    {
+        match error {
+            JobError::ReadFault { .. } => ListingError::ReadFault,
+            JobError::OutFault => ListingError::OutFault,
+            JobError::Memory
+            | JobError::WriteFault { .. }
+            | JobError::LogFault
+            | JobError::LogDown { .. }
+            | JobError::LogShort { .. }
+            | JobError::LogFull { .. } => ListingError::Memory,
+        }
+    }
+}
+
+/// The totals of a scan among those of a job.
+fn scan_totals(totals: Totals) -> ScanTotals
+    ensures { result ≡ scan_totals_in totals }
+{
+    ScanTotals {
+        blocks: totals.blocks,
+        used: totals.used,
+        new: totals.new,
+        invalid: totals.invalid,
+        normal: totals.normal,
+        redirect: totals.redirect,
+        dead: totals.dead,
+        unused: totals.unused,
+    }
+}
+
+/// The end of a listing, by that of its job.
+fn end_of_job(end: Result<Totals, JobError>) -> Result<ScanTotals, ListingError>
+    ensures { result ≡ listing_end end }
+{
+    match end {
+        Ok(totals) => Ok(scan_totals(totals)),
+        Err(error) => Err(ListingError::from_job(error)),
+    }
+}
+
+/// A fork of a relation, how it is listed, where the log begins meanwhile, and how many rounds the background writer makes.
+#[derive(Clone, Copy)]
+pub(crate) struct Listed {
+    pub(crate) relation: RelationFork,
+    pub(crate) base: Lsn,
+    pub(crate) listing: Listing,
+    pub(crate) rounds: u32,
+}
+
+/// How a listing ended, with the lanes that it was given.
+#[derive(Drop)]
+pub(crate) struct ListingEnd<L> {
+    pub(crate) lanes: Vec<L>,
+    pub(crate) end: Result<ScanTotals, ListingError>,
+}
+
+/// The backends read the blocks, and what is printed of them is put.
+fn list_blocks<L: BlockLane + Send, R: Threads + Wait + Sync, O: Sink, T: Gate + Sync>(
+    manager: &Manager<L, MemLog>,
+    rt: &R,
+    alloc: Global,
+    passes: Vec<Pass>,
+    listed: Listed,
+    out: &mut O,
+    gate: &T,
+) -> JobEnd
+    requires catalog { IsCatalogOf listed.relation.fork listed.relation.blocks
+        (relations_of manager.now.table) }
+    requires several { 2 ≤ vec_len passes }
+    requires few { vec_len passes ≤ 64 }
+    requires free { HaveNoTokens L.contents manager.now passes.items }
+    requires frames { (16 ≤ frames_of manager.now.table) × (frames_of manager.now.table ≤ 4096) }
+    ensures passes { ReadParts L.contents manager.now 0 listed.relation.fork (workers_in passes.items) (workers_in result.passes.items) }
+    ensures last { StaysBeside L.contents manager.now passes.items result.passes.items }
+    ensures met { OnOk result.end (MeetNothing passes.items result.passes.items) }
+    ensures text { (pages : List Page) → IsOrigin L.contents manager.now 0 listed.relation.fork pages → AllAtBase (base_of manager.now.table) (workers_in result.passes.items)
+        → Puts (text_of listed.listing pages) (O.bytes out.old) (O.bytes out.new) (as_done result.end) }
+    ensures totals { (pages : List Page) → IsOrigin L.contents manager.now 0 listed.relation.fork pages → AllAtBase (base_of manager.now.table) (workers_in result.passes.items)
+        → IfOk result.end (λ totals. scan_totals_in totals ≡ totals_of pages) }
+    ensures quiet { OnOk result.end (O.faults out.new ≡ O.faults out.old) }
+    ensures later { O.faults out.old ≤ O.faults out.new }
+    ensures cause { IfErr result.end (EndsJob L.contents manager.now 0 listed.relation.fork passes.items result.passes.items (O.faults out.old) (O.faults out.new)) }
+{
+    let (rel, fork) = (RelNo(0), listed.relation.fork);
+    let mut work = Rounds::new(listed.rounds);
+    match listed.listing {
+        Listing::Scan => scan(manager, rt, alloc, passes, rel, fork, out, gate, &mut work),
+        Listing::Dump => dump(manager, rt, alloc, passes, rel, fork, out, gate, &mut work),
+    }
+}
+
+/// The backends list the blocks, and the manager is closed, which returns its lanes.
+fn list_and_close<L: BlockLane + Send, R: Threads + Wait + Sync, O: Sink, T: Gate + Sync>(
+    manager: Manager<L, MemLog>,
+    rt: &R,
+    alloc: Global,
+    passes: Vec<Pass>,
+    listed: Listed,
+    out: &mut O,
+    gate: &T,
+) -> ListingEnd<L>
+    requires started { IsStarted L.contents listed.relation listed.base manager passes.items }
+    requires reads { sum_by L.read_faults (opened_of manager.table) ≡ 0 }
+    requires writes { sum_by L.write_faults (opened_of manager.table) ≡ 0 }
+    ensures count { length result.lanes.items ≡ length (opened_of manager.table) }
+    ensures leaves { LeavesLanes L.contents L.failed_writes L.write_faults listed.relation.fork listed.relation.blocks (opened_of manager.table) result.lanes.items }
+    ensures cause { HasListingCause 0 (sum_by L.read_faults result.lanes.items) (O.faults out.old) (O.faults out.new) result.end }
+    ensures text { (pages : List Page) → HoldPages listed.relation.fork pages (map L.contents (opened_of manager.table)) → listed.relation.blocks ≡ length pages
+        → Puts (text_of listed.listing pages) (O.bytes out.old) (O.bytes out.new) (as_done result.end) }
+    ensures totals { (pages : List Page) → HoldPages listed.relation.fork pages (map L.contents (opened_of manager.table)) → listed.relation.blocks ≡ length pages
+        → IfOk result.end (λ totals. totals ≡ totals_of pages) }
+{
+    let JobEnd { passes, end } = list_blocks(&manager, rt, alloc, passes, listed, out, gate);
+    let (lanes, _log) = manager.close(passes);
+    ListingEnd {
+        lanes,
+        end: end_of_job(end),
+    }
+}
+
+/// Lists the blocks of a relation from its lanes, by as many backends as the options say, and returns the lanes.
+pub(crate) fn list<L: BlockLane + Send, R: Threads + Wait + Sync, O: Sink, T: Gate + Sync>(
+    rt: &R,
+    alloc: Global,
+    options: &Options,
+    listed: Listed,
+    lanes: Vec<L>,
+    out: &mut O,
+    gate: &T,
+) -> ListingEnd<L>
+    requires range { HasOptionsInRange options.now }
+    requires count { length lanes.items ≡ options.now.lanes }
+    requires reads { sum_by L.read_faults lanes.items ≡ 0 }
+    requires writes { sum_by L.write_faults lanes.items ≡ 0 }
+    requires unmarked { All (λ lane. L.failed_writes lane ≡ no_marks) lanes.items }
+    requires has { HasBlocks listed.relation.fork listed.relation.blocks (map L.contents lanes.items) }
+    requires base { (listed.base % 8 ≡ 0) × (listed.base ≤ 2 ^ 62) }
+    ensures count { length result.lanes.items ≡ length lanes.items }
+    ensures leaves { LeavesLanes L.contents L.failed_writes L.write_faults listed.relation.fork listed.relation.blocks lanes.items result.lanes.items }
+    ensures cause { HasListingCause 0 (sum_by L.read_faults result.lanes.items) (O.faults out.old) (O.faults out.new) result.end }
+    ensures text { (pages : List Page) → HoldPages listed.relation.fork pages (map L.contents lanes.items) → listed.relation.blocks ≡ length pages
+        → Puts (text_of listed.listing pages) (O.bytes out.old) (O.bytes out.new) (as_done result.end) }
+    ensures totals { (pages : List Page) → HoldPages listed.relation.fork pages (map L.contents lanes.items) → listed.relation.blocks ≡ length pages
+        → IfOk result.end (λ totals. totals ≡ totals_of pages) }
+{
+    // A listing appends no record.
+    let Ok(log) = new_log(alloc, listed.base, 0) else {
+        return ListingEnd {
+            lanes,
+            end: Err(ListingError::Memory),
+        };
+    };
+    match start(alloc, options, listed.relation, lanes, log, listed.base) {
+        Ok((manager, passes)) => list_and_close(manager, rt, alloc, passes, listed, out, gate),
+        Err((lanes, _log)) => ListingEnd {
+            lanes,
+            end: Err(ListingError::Memory),
+        },
+    }
+}

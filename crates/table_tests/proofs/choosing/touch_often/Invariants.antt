@@ -1,9 +1,0 @@
-use Rattle.frame_table.specs.Closes.{CanClose}
-use Rattle.table_tests.specs.Work.{OnlyPins, PinsNone}
-use Rattle.table_tests.proofs.choosing.touch_often.Given as goal
-
-abbrev pub invariant-loop : goal.invariant-loop
-invariant-loop g l = record {
-  closes : CanClose l.fn.table l.seat;
-  pins : OnlyPins l.fn.table l.seat × PinsNone l.seat;
-}
