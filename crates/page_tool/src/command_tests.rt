@@ -1,6 +1,7 @@
 //! Words, and the commands that they spell.
 use command_line::{Command, Options, read_command, relation_number};
 use std::alloc::{AllocError, Global};
+use std::process::Abort;
 use std::test::Fail;
 
 /// What is left where no option is given.
@@ -187,15 +188,21 @@ static NONE: [&str; 46] = [
     "sample -1 0",
 ];
 
+/// Fails the test unless the words of a line spell this.
+fn check(rt: &impl Abort, alloc: Global, line: &str, want: &str) -> Result<(), AllocError> {
+    assert_eq!(rt; spelled(alloc, line)?.as_str(), want, "{line}");
+    Ok(())
+}
+
 #[test]
 fn commands(rt: HostRuntime) -> Result<(), Fail> {
     let alloc = rt.alloc();
-    for (line, want) in PLAIN {
+    for (line, want) in &PLAIN {
         let want = format!(in alloc; "{want} {DEFAULTS}")?;
-        assert_eq!(rt; spelled(alloc, line)?.as_str(), want.as_str(), "{line}");
+        check(&rt, alloc, line, want.as_str())?;
     }
-    for line in NONE {
-        assert_eq!(rt; spelled(alloc, line)?.as_str(), "none", "{line}");
+    for line in &NONE {
+        check(&rt, alloc, line, "none")?;
     }
     assert!(rt; read_command(alloc, &[])?.is_none());
     Ok(())
@@ -204,47 +211,38 @@ fn commands(rt: HostRuntime) -> Result<(), Fail> {
 #[test]
 fn options(rt: HostRuntime) -> Result<(), Fail> {
     let alloc = rt.alloc();
-    for (line, want) in GIVEN {
+    for (line, want) in &GIVEN {
         let after = format!(in alloc; "scan 16384 {line}")?;
-        let want = format!(in alloc; "scan 16384 {want}")?;
-        assert_eq!(rt;
-            spelled(alloc, after.as_str())?.as_str(),
-            want.as_str(),
-            "{line}"
-        );
         let before = format!(in alloc; "scan {line} 16384")?;
-        assert_eq!(rt;
-            spelled(alloc, before.as_str())?.as_str(),
-            want.as_str(),
-            "{line}"
-        );
+        let want = format!(in alloc; "scan 16384 {want}")?;
+        check(&rt, alloc, after.as_str(), want.as_str())?;
+        check(&rt, alloc, before.as_str(), want.as_str())?;
     }
-    for line in NOT_GIVEN {
+    for line in &NOT_GIVEN {
         let line = format!(in alloc; "scan 16384 {line}")?;
-        assert_eq!(rt; spelled(alloc, line.as_str())?.as_str(), "none", "{line}");
+        check(&rt, alloc, line.as_str(), "none")?;
     }
     Ok(())
 }
+
+/// Commands, and what they spell before the options.
+static EACH: [(&str, &str); 4] = [
+    ("scan 16384", "scan 16384"),
+    ("dump 16384", "dump 16384"),
+    ("rewrite 16384 --log redo", "rewrite 16384 redo"),
+    ("sample 8 9", "sample 8 9"),
+];
 
 /// Each command takes the options, also those that mean nothing to it.
 #[test]
 fn options_of_each_command(rt: HostRuntime) -> Result<(), Fail> {
     let alloc = rt.alloc();
-    for (line, want) in [
-        ("scan 16384", "scan 16384"),
-        ("dump 16384", "dump 16384"),
-        ("rewrite 16384 --log redo", "rewrite 16384 redo"),
-        ("sample 8 9", "sample 8 9"),
-    ] {
+    for (line, want) in &EACH {
         let line = format!(in alloc;
             "{line} --bgwriter 5 --segment-blocks 4 --lanes 3 --frames 20 --backends 2"
         )?;
         let want = format!(in alloc; "{want} 2 20 3 4 5")?;
-        assert_eq!(rt;
-            spelled(alloc, line.as_str())?.as_str(),
-            want.as_str(),
-            "{line}"
-        );
+        check(&rt, alloc, line.as_str(), want.as_str())?;
     }
     Ok(())
 }

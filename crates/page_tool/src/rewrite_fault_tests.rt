@@ -41,7 +41,7 @@ enum PageLeft {
 
 /// Each call with the status, what the page is then, and the length of the log, which is a prefix of the
 /// whole rewrite's: none where no log is there. The log takes half of a piece whose append fails.
-const FAULTS: [(FailingCall, u8, PageLeft, Option<usize>); 10] = [
+static FAULTS: [(FailingCall, u8, PageLeft, Option<usize>); 10] = [
     (FailingCall::Opening, 4, PageLeft::Kept, None),
     (FailingCall::FirstRead, 4, PageLeft::Kept, None),
     (FailingCall::LogOpening, 6, PageLeft::Kept, None),
@@ -126,8 +126,8 @@ fn check_fault<R: Abort + Threads + Wait + Sync>(
 
 #[test]
 fn one_call_fails(rt: HostRuntime) -> Result<(), Fail> {
-    for (call, status, page, log) in FAULTS {
-        check_fault(&rt, rt.alloc(), call, status, page, log)?;
+    for (call, status, page, log) in &FAULTS {
+        check_fault(&rt, rt.alloc(), *call, *status, *page, *log)?;
     }
     Ok(())
 }

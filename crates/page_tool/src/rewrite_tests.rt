@@ -78,7 +78,7 @@ fn reaches_the_last_position(rt: HostRuntime) -> Result<(), Fail> {
 }
 
 /// Words that are refused, and the status and the line of each.
-const REFUSED_WORDS: [(&str, u8, &str); 8] = [
+static REFUSED_WORDS: [(&str, u8, &str); 8] = [
     ("rewrite base/5/16384", 1, USAGE),
     ("rewrite base/5/16384 --log", 1, USAGE),
     ("rewrite base/5/16384 --log base/5/16384", 1, USAGE),
@@ -118,15 +118,15 @@ fn check_refused<R: Abort + Threads + Wait + Sync>(
 
 #[test]
 fn refuses_words(rt: HostRuntime) -> Result<(), Fail> {
-    for (line, status, err) in REFUSED_WORDS {
-        check_refused(&rt, rt.alloc(), line, status, err)?;
+    for (line, status, err) in &REFUSED_WORDS {
+        check_refused(&rt, rt.alloc(), line, *status, err)?;
     }
     Ok(())
 }
 
 /// Commands that are refused before the log is opened: the relation base/5/16385 has three blocks,
 /// base/5/16386 a page past the last log position, and base/5/16387 isn't there.
-const REFUSED_BEFORE_THE_LOG: [(&str, u8, &str); 5] = [
+static REFUSED_BEFORE_THE_LOG: [(&str, u8, &str); 5] = [
     ("rewrite base/5/16384_vm --log w", 1, USAGE),
     (
         "rewrite base/5/16384 --log w --backends 14 --frames 16",
@@ -187,8 +187,8 @@ fn check_keeps_log<R: Abort + Threads + Wait + Sync>(
 
 #[test]
 fn keeps_an_old_log(rt: HostRuntime) -> Result<(), Fail> {
-    for (line, status, err) in REFUSED_BEFORE_THE_LOG {
-        check_keeps_log(&rt, rt.alloc(), line, status, err)?;
+    for (line, status, err) in &REFUSED_BEFORE_THE_LOG {
+        check_keeps_log(&rt, rt.alloc(), line, *status, err)?;
     }
     Ok(())
 }
@@ -257,7 +257,7 @@ fn check_mixed<R: Abort + Threads + Wait + Sync>(
 }
 
 /// The same rewrite with several numbers of backends, frames and lanes, and with a background writer.
-const SAME_REWRITES: [&str; 6] = [
+static SAME_REWRITES: [&str; 6] = [
     "rewrite base/5/16384 --log w",
     "rewrite base/5/16384 --log w --frames 16 --lanes 1",
     "rewrite base/5/16384 --log w --backends 2 --frames 16",
@@ -270,7 +270,7 @@ const SAME_REWRITES: [&str; 6] = [
 fn options_leave_the_result(rt: HostRuntime) -> Result<(), Fail> {
     let alloc = rt.alloc();
     let want = mixed_relation(alloc, &rewritten_page())?;
-    for line in SAME_REWRITES {
+    for line in &SAME_REWRITES {
         check_mixed(&rt, alloc, line, &want)?;
     }
     Ok(())

@@ -38,7 +38,7 @@ fn options_leave_the_text_of_a_sample(rt: HostRuntime) -> Result<(), Fail> {
         "sample 7 4 --backends 32 --frames 35 --lanes 16 --bgwriter 5",
         "sample --backends 32 --frames 4096 7 4",
     ];
-    for line in lines {
+    for line in &lines {
         let answer = sample_answer(&rt, rt.alloc(), line, &[])?;
         answer.check(&rt, 0, FOUR_BLOCKS, "");
     }
@@ -47,7 +47,7 @@ fn options_leave_the_text_of_a_sample(rt: HostRuntime) -> Result<(), Fail> {
 
 #[test]
 fn samples_no_blocks(rt: HostRuntime) -> Result<(), Fail> {
-    for line in ["sample 7 0", "sample 7 0 --backends 32 --frames 35"] {
+    for line in &["sample 7 0", "sample 7 0 --backends 32 --frames 35"] {
         let answer = sample_answer(&rt, rt.alloc(), line, &[])?;
         answer.check(&rt, 0, NO_BLOCKS, "");
     }
@@ -67,9 +67,9 @@ fn refuses_samples(rt: HostRuntime) -> Result<(), Fail> {
         ("sample 7 4 --backends 32 --frames 34", 2, crowded),
         ("sample 7 0 --backends 32 --frames 34", 2, crowded),
     ];
-    for (line, status, want) in rows {
+    for (line, status, want) in &rows {
         let answer = sample_answer(&rt, rt.alloc(), line, &[])?;
-        answer.check(&rt, status, "", want);
+        answer.check(&rt, *status, "", want);
     }
     Ok(())
 }

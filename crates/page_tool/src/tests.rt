@@ -6,6 +6,7 @@ use log_device::{FaultPlan, LogPlan, MemSink};
 use page_jobs::Gate;
 use segment_store::{LanePlan, MemFile, MemHost, MemLogs};
 use std::alloc::Global;
+use std::process::Abort;
 use std::sync::Wait;
 use std::sync::atomic::{AtomicBool, AtomicU64, Ordering};
 use std::test::Fail;
@@ -179,6 +180,13 @@ fn answer_of<R: Threads + Wait + Sync>(
     Ok((answer, gate.before.load(Ordering::SeqCst)))
 }
 
+/// Fails the test unless the tool answered this status after so many blocks, and printed this.
+fn check<R: Abort>(rt: &R, answer: &(Answer, u64), want: (u8, u64), out: &str, err: &str) {
+    assert_eq!(rt; (answer.0.status, answer.1), want, "{out}{err}");
+    assert_eq!(rt; answer.0.out.bytes(), out.as_bytes());
+    assert_eq!(rt; answer.0.err.bytes(), err.as_bytes());
+}
+
 #[test]
 fn scans_relations(rt: HostRuntime) -> Result<(), Fail> {
     let alloc = rt.alloc();
@@ -210,12 +218,9 @@ fn scans_relations(rt: HostRuntime) -> Result<(), Fail> {
         (&flagged, 1, INVALID),
         (&uneven, 1, INVALID),
     ];
-    for (bytes, blocks, want) in rows {
-        let (answer, heard) = answer_of(&rt, alloc, "scan base/5/16384", &[bytes], NONE_FAIL)?;
-        assert_eq!(rt; answer.status, 0, "{want}");
-        assert_eq!(rt; heard, blocks, "{want}");
-        assert_eq!(rt; answer.out.bytes(), want.as_bytes(), "{want}");
-        assert_eq!(rt; answer.err.bytes().len(), 0);
+    for (bytes, blocks, want) in &rows {
+        let answer = answer_of(&rt, alloc, "scan base/5/16384", &[*bytes], NONE_FAIL)?;
+        check(&rt, &answer, (0, *blocks), want, "");
     }
     Ok(())
 }
@@ -275,12 +280,9 @@ fn refuses_words(rt: HostRuntime) -> Result<(), Fail> {
             "page_tool: crowded: 14 backends, 16 frames\n",
         ),
     ];
-    for (line, status, want) in rows {
-        let (answer, heard) = answer_of(&rt, rt.alloc(), line, &[&[]], NONE_FAIL)?;
-        assert_eq!(rt; answer.status, status, "{line}");
-        assert_eq!(rt; heard, 0, "{line}");
-        assert_eq!(rt; answer.out.bytes().len(), 0, "{line}");
-        assert_eq!(rt; answer.err.bytes(), want.as_bytes(), "{line}");
+    for (line, status, want) in &rows {
+        let answer = answer_of(&rt, rt.alloc(), line, &[&[]], NONE_FAIL)?;
+        check(&rt, &answer, (*status, 0), "", want);
     }
     Ok(())
 }
@@ -321,11 +323,9 @@ fn options_leave_the_text(rt: HostRuntime) -> Result<(), Fail> {
         "scan base/5/16384 --backends 13 --frames 16",
         "scan --backends 32 --frames 128 --bgwriter 1000 base/5/16384",
     ];
-    for line in lines {
-        let (answer, heard) = answer_of(&rt, alloc, line, &[&bytes], NONE_FAIL)?;
-        assert_eq!(rt; answer.status, 0, "{line}");
-        assert_eq!(rt; heard, 64, "{line}");
-        assert_eq!(rt; answer.out.bytes(), text.as_bytes(), "{line}");
+    for line in &lines {
+        let answer = answer_of(&rt, alloc, line, &[&bytes], NONE_FAIL)?;
+        check(&rt, &answer, (0, 64), text.as_str(), "");
     }
     Ok(())
 }
@@ -404,12 +404,9 @@ fn stops_at_a_fault(rt: HostRuntime) -> Result<(), Fail> {
             "page_tool: output fault\n",
         ),
     ];
-    for (line, failing, status, blocks, out, err) in rows {
-        let (answer, heard) = answer_of(&rt, rt.alloc(), line, &[&bytes], failing)?;
-        assert_eq!(rt; answer.status, status, "{err}");
-        assert_eq!(rt; heard, blocks, "{err}");
-        assert_eq!(rt; answer.out.bytes(), out.as_bytes(), "{err}");
-        assert_eq!(rt; answer.err.bytes(), err.as_bytes(), "{err}");
+    for (line, failing, status, blocks, out, err) in &rows {
+        let answer = answer_of(&rt, rt.alloc(), line, &[&bytes], *failing)?;
+        check(&rt, &answer, (*status, *blocks), out, err);
     }
     Ok(())
 }
