@@ -54,6 +54,7 @@ grows_outside v w g e = let end : w.end_seen ≡ v.end_seen = ap (λ (x : View).
   swept = λ q. (let swept : (lane_hold w q).swept ≡ (lane_hold v q).swept = ap (λ (x : View). (lane_hold x q).swept) e in omega arith);
   end_seen = omega arith;
   flushed = omega arith;
+  down = λ d. ap (λ (x : View). x.saw_down) e ∙ d;
 }
 
 -- A ring keeps its kind and its number of places

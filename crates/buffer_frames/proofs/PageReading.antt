@@ -75,6 +75,7 @@ module _ (f : ℕ) (tag : Tag) (page : Page) (place : ℕ) (v u w : View) (r : C
       (ap (λ (x : View). x.lanes) e)
       (let same : w.end_seen ≡ max u.end_seen place = ap (λ (x : View). x.end_seen) e in omega arith)
       (let same : w.flushed ≡ u.flushed = ap (λ (x : View). x.flushed) e in omega arith)
+      (λ d. ap (λ (x : View). x.saw_down) e ∙ d)
 
   pub only_reads : OnlyReads v w
   only_reads = record {

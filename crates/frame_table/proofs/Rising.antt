@@ -24,7 +24,7 @@ use Rattle.frame_table.specs.LaneWork.{LaneStep, back_lane, back_view, out_lane,
 use Rattle.frame_table.proofs.Told.{grows_none, grows_on}
 
 pub rises_none : (v : View) → OnlyRises v v
-rises_none v = record { grows = grows_none v; swept = λ q. omega arith; end_seen = omega arith; flushed = omega arith }
+rises_none v = record { grows = grows_none v; swept = λ q. omega arith; end_seen = omega arith; flushed = omega arith; down = λ d. d }
 
 pub rises_on : (v u w : View) → OnlyRises v u → OnlyRises u w → OnlyRises v w
 rises_on v u w a b = record {
@@ -32,20 +32,22 @@ rises_on v u w a b = record {
   swept = λ q. let x = a.swept q in let y = b.swept q in omega arith;
   end_seen = let x = a.end_seen in let y = b.end_seen in omega arith;
   flushed = let x = a.flushed in let y = b.flushed in omega arith;
+  down = λ d. b.down (a.down d);
 }
 
 -- a view with the same lanes
-pub rises_by : (v w : View) → Grows v w → w.lanes ≡ v.lanes → v.end_seen ≤ w.end_seen → v.flushed ≤ w.flushed → OnlyRises v w
-rises_by v w g lanes e f = record {
+pub rises_by : (v w : View) → Grows v w → w.lanes ≡ v.lanes → v.end_seen ≤ w.end_seen → v.flushed ≤ w.flushed → (v.saw_down ≡ true → w.saw_down ≡ true) → OnlyRises v w
+rises_by v w g lanes e f d = record {
   grows = g;
   swept = λ q. let same : (lane_hold w q).swept ≡ (lane_hold v q).swept = ap (λ (l : List LaneHold). (get_or l q no_lane).swept) lanes in omega arith;
   end_seen = e;
   flushed = f;
+  down = d;
 }
 
 pub rises_self : (v w : View) → SameSelf v w → Grows v w → OnlyRises v w
 rises_self v w e g = rises_by v w g (ap (λ (x : View). x.lanes) e)
-    (let a = ap (λ (x : View). x.end_seen) e in omega arith) (let a = ap (λ (x : View). x.flushed) e in omega arith)
+    (let a = ap (λ (x : View). x.end_seen) e in omega arith) (let a = ap (λ (x : View). x.flushed) e in omega arith) (λ d. ap (λ (x : View). x.saw_down) e ∙ d)
 
 pub rises_touched : (f : ℕ) (v w : View) → Touches f v w → OnlyRises v w
 rises_touched f v w k = rises_self v w k.self k.grows
@@ -72,9 +74,9 @@ abbrev pub listed_of : View → Listed
 listed_of v = record { loads = v.loads; changes = v.changes; lanes = v.lanes; end_seen = v.end_seen; flushed = v.flushed }
 
 -- a step that is counted, and changes none of these
-pub rises_ticked : (v w : View) → listed_of w ≡ listed_of v → w.steps ≡ v.steps + 1 → OnlyRises v w
-rises_ticked v w e steps = rises_by v w (grows_steps v w (ap (λ (x : Listed). x.loads) e) (ap (λ (x : Listed). x.changes) e) (omega arith)) (ap (λ (x : Listed). x.lanes) e)
-    (let a = ap (λ (x : Listed). x.end_seen) e in omega arith) (let a = ap (λ (x : Listed). x.flushed) e in omega arith)
+pub rises_ticked : (v w : View) → listed_of w ≡ listed_of v → w.steps ≡ v.steps + 1 → (v.saw_down ≡ true → w.saw_down ≡ true) → OnlyRises v w
+rises_ticked v w e steps d = rises_by v w (grows_steps v w (ap (λ (x : Listed). x.loads) e) (ap (λ (x : Listed). x.changes) e) (omega arith)) (ap (λ (x : Listed). x.lanes) e)
+    (let a = ap (λ (x : Listed). x.end_seen) e in omega arith) (let a = ap (λ (x : Listed). x.flushed) e in omega arith) d
 
 grows_worked : (v w : View) → SameWork v w → v.steps ≤ w.steps → Grows v w
 grows_worked v w e steps = grows_steps v w (ap (λ (x : View). x.loads) e) (ap (λ (x : View). x.changes) e) steps
@@ -101,6 +103,7 @@ rises_turned takes x v w e t d = record {
   swept = λ q. let same = swept_latched takes x v w t q in omega arith;
   end_seen = let a = ap (λ (u : View). u.end_seen) e in omega arith;
   flushed = let a = ap (λ (u : View). u.flushed) e in omega arith;
+  down = λ d. ap (λ (u : View). u.saw_down) e ∙ d;
 }
 
 -- a map
@@ -114,7 +117,7 @@ steps_back entries p v w (Leaving tag f) (left_out u d e) = let a = steps_mapped
 
 rises_worked : (v w : View) → SameWork v w → w.lanes ≡ v.lanes → v.steps ≤ w.steps → OnlyRises v w
 rises_worked v w e lanes steps = rises_by v w (grows_worked v w e steps) lanes
-    (let a = ap (λ (u : View). u.end_seen) e in omega arith) (let a = ap (λ (u : View). u.flushed) e in omega arith)
+    (let a = ap (λ (u : View). u.end_seen) e in omega arith) (let a = ap (λ (u : View). u.flushed) e in omega arith) (λ d. ap (λ (u : View). u.saw_down) e ∙ d)
 
 pub rises_map_out : (entries : List MapEntry) (p : ℕ) (v w : View) → SameWork v w → w.lanes ≡ v.lanes → DidMap (parts.map_out entries) p v w → OnlyRises v w
 rises_map_out entries p v w e lanes d = rises_worked v w e lanes (steps_mapped (parts.map_out entries) p v w d)
@@ -134,6 +137,7 @@ rises_out q taken v w e s = record {
   swept = swept_stepped q (out_lane taken v.flushed (lane_hold v q)) v w s (omega arith);
   end_seen = let a = ap (λ (x : View). x.end_seen) e in omega arith;
   flushed = let a = ap (λ (x : View). x.flushed) e in omega arith;
+  down = λ d. ap (λ (x : View). x.saw_down) e ∙ d;
 }
 
 swept_up : (call : LaneCall) (v : View) (h : LaneHold) → h.swept ≤ (swept_lane call v h).swept
@@ -151,4 +155,5 @@ rises_back d q after call v w e s = record {
   swept = swept_stepped q (back_lane (swept_lane call v (lane_hold v q))) v w s (swept_up call v (lane_hold v q));
   end_seen = let a = ap (λ (x : View). x.end_seen) e in omega arith;
   flushed = let a = ap (λ (x : View). x.flushed) e in omega arith;
+  down = λ d. ap (λ (x : View). x.saw_down) e ∙ d;
 }

@@ -62,12 +62,13 @@ pub record Grows (v w : View) : Type 0 where
   pub changes : (cs : List WordChange) × (w.changes ≡ v.changes ++ cs)
   pub steps : v.steps ≤ w.steps
 
--- What only rises: what is listed is added to, what is counted doesn't fall, and so with the positions up to which lanes were swept, and those of the log that were seen
+-- What only rises: what is listed is added to, what is counted doesn't fall, and so with the positions up to which lanes were swept, and those of the log that were seen; a log that was seen down stays so
 pub record OnlyRises (v w : View) : Type 0 where
   pub grows : Grows v w
   pub swept : (q : ℕ) → (lane_hold v q).swept ≤ (lane_hold w q).swept
   pub end_seen : v.end_seen ≤ w.end_seen
   pub flushed : v.flushed ≤ w.flushed
+  pub down : v.saw_down ≡ true → w.saw_down ≡ true
 
 -- the link after a load of the state word, which is w: a pin sees BM_VALID, a wait goes on only while its number stands beside BM_PIN_COUNT_WAITER, and the checkpoint passes a frame that isn't dirty, and has no more to write one without BM_CHECKPOINT_NEEDED
 abbrev pub loaded_link : StateWord → Link → Link

@@ -1,5 +1,6 @@
 -- What only rises, over inserts and flushes.
-use Rattle.std.proofs.Common.{◌≡◌, ℕ, Bool, List, [], ◌∷◌, Result, Ok, Err, sym, ap, subst, arith}
+use Rattle.std.proofs.Common.{◌≡◌, ◌∙◌, ℕ, Bool, List, [], ◌∷◌, Result, Ok, Err, sym, ap, subst, arith}
+use Rattle.std.proofs.lemmas.Bool.{or_left}
 use Rattle.std.specs.Prelude.{IfOk, IfErr}
 use Rattle.block_tag.specs.declared.tag.Tag.{Tag}
 use Rattle.block_tag.specs.declared.catalogue.RelEntry.{RelEntry}
@@ -28,13 +29,13 @@ same_rises : (v w : View) → w ≡ v → OnlyRises v w
 same_rises v w e = subst (OnlyRises v) (sym e) (rises_none v)
 
 log_rises : (k : LogKind) (v w : View) → DidLog k v w → OnlyRises v w
-log_rises k v w d = rises_ticked v w (ap listed_of d.after) (ap (λ (x : View). x.steps) d.after)
+log_rises k v w d = rises_ticked v w (ap listed_of d.after) (ap (λ (x : View). x.steps) d.after) (λ e. ap (λ (x : View). x.saw_down) d.after ∙ or_left v.saw_down _ e)
 
 two_rise : (j k : LogKind) (v w : View) → DidTwo j k v w → OnlyRises v w
 two_rise j k v w d = rises_on v d.between w (log_rises j v d.between d.first) (log_rises k d.between w d.second)
 
 turn_rises : (takes : Bool) (v w : View) → DidTurn takes Log v w → OnlyRises v w
-turn_rises takes v w d = rises_ticked v w (ap listed_of d.after) (ap (λ (x : View). x.steps) d.after)
+turn_rises takes v w d = rises_ticked v w (ap listed_of d.after) (ap (λ (x : View). x.steps) d.after) (λ e. ap (λ (x : View). x.saw_down) d.after ∙ or_left v.saw_down _ e)
 
 -- loads of the log's words
 pub end_rises : (found : ℕ) (v w : View) → DidWord load_end v w found → OnlyRises v w
@@ -43,6 +44,7 @@ end_rises found v w d = rises_by v w
     (ap (λ (x : View). x.lanes) d.after)
     (let e = ap (λ (x : View). x.end_seen) d.after in omega arith)
     (let e = ap (λ (x : View). x.flushed) d.after in omega arith)
+    (λ e. ap (λ (x : View). x.saw_down) d.after ∙ e)
 
 pub flushed_rises : (found : ℕ) (v w : View) → DidWord load_flushed v w found → OnlyRises v w
 flushed_rises found v w d = rises_by v w
@@ -50,9 +52,10 @@ flushed_rises found v w d = rises_by v w
     (ap (λ (x : View). x.lanes) d.after)
     (let e = ap (λ (x : View). x.end_seen) d.after in omega arith)
     (let e = ap (λ (x : View). x.flushed) d.after in let below = flushed_below v w found d in omega arith)
+    (λ e. ap (λ (x : View). x.saw_down) d.after ∙ e)
 
 raise_rises : (found : ℕ) (v w : View) → DidWord raise_flushed v w found → OnlyRises v w
-raise_rises found v w d = rises_ticked v w (ap listed_of d.after) (ap (λ (x : View). x.steps) d.after)
+raise_rises found v w d = rises_ticked v w (ap listed_of d.after) (ap (λ (x : View). x.steps) d.after) (λ e. ap (λ (x : View). x.saw_down) d.after ∙ e)
 
 -- under the log's latch
 pub opens_rise : (end : ℕ) (v w : View) → Opens end v w → OnlyRises v w
@@ -76,7 +79,8 @@ module _ (relations : List RelEntry) (f : ℕ) (tag : Tag) where
       (grows_steps e.home w (ap (λ (x : View). x.loads) e.after) (ap (λ (x : View). x.changes) e.after) (let d = ap (λ (x : View). x.steps) e.after in omega arith))
       (ap (λ (x : View). x.lanes) e.after)
       (let d = ap (λ (x : View). x.end_seen) e.after in omega arith)
-      (let d = ap (λ (x : View). x.flushed) e.after in omega arith))
+      (let d = ap (λ (x : View). x.flushed) e.after in omega arith)
+      (λ d. ap (λ (x : View). x.saw_down) e.after ∙ d))
 
   refused_rises : (p : Page) (end : ℕ) (why : InsertError) (v w : View) → EnterRefused relations f tag p end why v w → OnlyRises v w
   refused_rises p end (insert_error.LogFull e) v w r = same_rises v w r.2
