@@ -10,19 +10,19 @@ use Rattle.history_core.specs.State.{State}
 abbrev pub NoneAppended : State → Type 0
 NoneAppended s = (i : ℕ) (v : View) → get_elem? s.pool.core.views i ≡ some v → v.log.appended ≡ None
 
--- the bytes are the first of the record of an entry that starts at the log's end, none, some or all of them
-pub record BeginsRecord (s : State) (bytes : List ℕ) : Type 0 where
+-- the bytes are the first of the record of an entry that starts at the position `end`, none, some or all of them; `names` is how the log names a block
+pub record BeginsRecord (names : ℕ → List ℕ) (end : ℕ) (bytes : List ℕ) : Type 0 where
   pub entry : Entry
-  pub starts : entry.start ≡ s.end
+  pub starts : entry.start ≡ end
   pub image : IsImage entry
   pub more : List ℕ
-  pub begins : bytes ++ more ≡ record_bytes s.names entry
+  pub begins : bytes ++ more ≡ record_bytes names entry
 
--- Behind the log's bytes the device has nothing, or the first bytes of such a record
+-- After the log's bytes the device has nothing, or the first bytes of a record that would be the next
 pub record HasRest (s : State) : Type 0 where
   pub rest : List ℕ
   pub is_bytes : s.device.bytes ≡ log_bytes s.names s.log ++ rest
-  pub begins : rest ≢ [] → BeginsRecord s rest
+  pub begins : rest ≢ [] → BeginsRecord s.names s.end rest
   pub short : length rest ≤ record_size
 
 -- The law of the device's bytes

@@ -17,6 +17,7 @@ use Rattle.segment_store.specs.Lanes.{HoldPages, lane_at, page_in, tag_at}
 use Rattle.segment_store.specs.Restored.{pages_in}
 use Rattle.pin_core.specs.State.{Page}
 use Rattle.history_core.specs.Log.{Entry, end_of, head_size, log_bytes}
+use Rattle.history_core.specs.Rest.{BeginsRecord}
 use Rattle.table_rule.specs.Blocks.{log_name}
 use Rattle.table_rule.specs.Layout.{lane_of_tag, tag_lane}
 use Rattle.table_rule.specs.Shows.{Devices, IsLog, IsPlaced}
@@ -265,10 +266,15 @@ module _ {L G : Type 0} (d : Devices L G) (m : Manager L G) (r : RelationFork) (
 
       -- after the log's bytes there is only what a failure left
       begins_with : (mark : Option ℕ) → IsLog d log mark c.state.device → (mark ≡ None → c.state.device.bytes ≡ log_bytes c.state.names c.state.log) → BeginsWith c.state.names c.state.log (file_at d.synced log known)
-      begins_with None device whole = record { rest = []; short = omega arith; is_bytes = sym (device.bytes known told) ∙ whole refl ∙ sym (append-nil (log_bytes c.state.names c.state.log)) }
+      begins_with None device whole = record { rest = []; begins = λ some. absurd (some refl); short = omega arith; is_bytes = sym (device.bytes known told) ∙ whole refl ∙ sym (append-nil (log_bytes c.state.names c.state.log)) }
       begins_with (Some p) device whole =
-          let left = (c.laws.invariant.device.columns 0 (omega arith)).left (λ none. let no = sym device.down ∙ none in absurd (cc)) in
-          record { rest = left.rest; short = left.short; is_bytes = sym (device.bytes known told) ∙ left.is_bytes }
+          let left = c.laws.rest.behind in
+          record {
+            rest = left.rest;
+            begins = λ some. subst (λ (end : ℕ). BeginsRecord c.state.names end left.rest) c.laws.invariant.ends (left.begins some);
+            short = left.short;
+            is_bytes = sym (device.bytes known told) ∙ left.is_bytes;
+          }
 
       pub leaves_either : ((lane : L) → IfSome (d.contents lane) AreFullPages) → HasRewrites (rule_at r) (blocks_in m 0 r.fork) c.state.known c.state.origin c.state.log
           → LeavesEither (rule_at r) (names_of r) base pages (pages_after d.contents r lanes pages) (failed_after d.failed_writes r lanes) (file_at d.synced log known)

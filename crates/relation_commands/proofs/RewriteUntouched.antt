@@ -67,7 +67,7 @@ module _ {L G : Type 0} (contents : L → Option Pages) (failed : L → Marks) (
       log = record { base = base; entries = [] };
       law = record { chained = λ k e at. absurd (some-ne-none e (sym at)); images = λ k e at. absurd (some-ne-none e (sym at)) };
       based = refl;
-      begins = record { rest = []; short = omega arith; is_bytes = head known told ∙ sym (head_only (names_of r) base) ∙ sym (append-nil (log_bytes (names_of r) (record { base = base; entries = [] }))) };
+      begins = record { rest = []; begins = λ some. absurd (some refl); short = omega arith; is_bytes = head known told ∙ sym (head_only (names_of r) base) ∙ sym (append-nil (log_bytes (names_of r) (record { base = base; entries = [] }))) };
       images = record { each = λ k e at. absurd (some-ne-none e (sym at)); one = λ j k x y at also tagged. absurd (some-ne-none x (sym at)) };
       counted = pages_long r.fork (map contents lanes) 0 pages;
       each = λ block old new was at unfailed. inl (same block old new was at);

@@ -1,5 +1,5 @@
 -- What a rewrite makes of the pages of a relation and of its log.
-use Rattle.std.specs.Prelude.{◌≡◌, ◌⊎◌, ℕ, ◌+◌, ◌*◌, ◌<◌, ◌≤◌, Bool, true, false, All, List, ◌++◌, length, map, if◌then◌else◌}
+use Rattle.std.specs.Prelude.{◌≡◌, ◌≢◌, ◌⊎◌, ℕ, ◌+◌, ◌*◌, ◌<◌, ◌≤◌, Bool, true, false, All, List, [], ◌++◌, length, map, if◌then◌else◌}
 use mathlib.Core.Option.{some}
 use lib.ListN.{get_elem?}
 use Rattle.log_device.specs.MemoryLog.{StoredLog}
@@ -10,6 +10,7 @@ use Rattle.page_layout.specs.Rewritten.{rewritten_page}
 use Rattle.page_layout.specs.Soundness.{is_sound_page}
 use Rattle.pin_core.specs.State.{Page}
 use Rattle.history_core.specs.Log.{Entry, Log, LogLaw, end_of, head_size, log_bytes, log_end, record_size}
+use Rattle.history_core.specs.Rest.{BeginsRecord}
 use Rattle.page_jobs.specs.RewriteEnds.{HasEntry}
 use Rattle.page_jobs.specs.Rewrites.{Rule}
 use Rattle.relation_commands.specs.RewriteTexts.{changed_pages}
@@ -28,10 +29,11 @@ pub record HasImages (r : Rule) (pages : List Page) (log : Log) : Type 0 where
   pub each : (k : ℕ) (e : Entry) → get_elem? log.entries k ≡ some e → IsImageOf r pages e
   pub one : (j k : ℕ) (d e : Entry) → get_elem? log.entries j ≡ some d → get_elem? log.entries k ≡ some e → d.tag ≡ e.tag → j ≡ k
 
--- The bytes of the log's file begin with those of the log, and what a failure left after them is at most a record; `names` is how the log names a block
+-- The bytes of the log's file begin with those of the log, and what a failure left after them are the first bytes of a record that would be the next; `names` is how the log names a block
 pub record BeginsWith (names : ℕ → List ℕ) (log : Log) (file : StoredLog) : Type 0 where
   pub rest : List ℕ
   pub is_bytes : file.bytes ≡ log_bytes names log ++ rest
+  pub begins : rest ≢ [] → BeginsRecord names (log_end log) rest
   pub short : length rest ≤ record_size
 
 -- the record of an entry is durable in the log's file
