@@ -103,16 +103,16 @@ fn read_seated<L: BlockLane, G: LogDevice, R: Wait>(
     held: &HeldPins,
     census: &mut Census,
     page: &mut Page,
-    tag: Tag,
+    tag: &Tag,
     ring: &mut Option<Ring>,
 ) -> Result<PinnedBlock, BlockError>
     requires table { badge.old.table_id ≡ manager.now.table.table.shared.table_id }
     requires view { badge.old.views ≡ view_in badge.old.views ∷ [] }
     requires rests { OnlyTokens held.now (view_in badge.old.views) }
     requires census { census.old.frames ≡ frames_of manager.now.table }
-    requires tag { names_block tag ≡ true }
-    requires block { has_block (relations_of manager.now.table) tag ≡ true }
-    requires new { IsNew tag held.now }
+    requires tag { names_block tag.now ≡ true }
+    requires block { has_block (relations_of manager.now.table) tag.now ≡ true }
+    requires new { IsNew tag.now held.now }
     ensures table { badge.new.table_id ≡ badge.old.table_id }
     ensures id { badge.new.id ≡ badge.old.id }
     ensures view { badge.new.views ≡ view_in badge.new.views ∷ [] }
@@ -123,10 +123,10 @@ fn read_seated<L: BlockLane, G: LogDevice, R: Wait>(
     ensures kept { kept_by_calls (view_in badge.new.views) ≡ kept_by_calls (view_in badge.old.views) }
     ensures advances { OnlyRises (view_in badge.old.views) (view_in badge.new.views) }
     ensures locks { SameLocks (view_in badge.old.views) (view_in badge.new.views) }
-    ensures answer { ReadAnswer L.contents manager.now.table tag held.now census.new.words (view_in badge.old.views) (view_in badge.new.views) result }
+    ensures answer { ReadAnswer L.contents manager.now.table tag.now held.now census.new.words (view_in badge.old.views) (view_in badge.new.views) result }
     ensures census { CensusRead (frames_of manager.now.table) census.old census.new result }
     ensures met { (view_in badge.new.views).met ≡ met_read_block result (view_in badge.old.views).met }
-    ensures calls { ReadCalls (lane_number tag (lanes_in manager.now.table)) tag (is_some ring.old) (view_in badge.old.views) (view_in badge.new.views) result }
+    ensures calls { ReadCalls (lane_number tag.now (lanes_in manager.now.table)) tag.now (is_some ring.old) (view_in badge.old.views) (view_in badge.new.views) result }
 {
     let mut seat = replace(badge, Badge::blank()).into_seat::<Value<L, G>>();
     let answer = read_block(
@@ -167,21 +167,21 @@ impl Pass {
         &mut self,
         manager: &Manager<L, G>,
         rt: &R,
-        tag: Tag,
+        tag: &Tag,
         ring: &mut Option<Ring>,
     ) -> Result<Pinned, ReadError>
         requires belongs { Belongs L.contents manager.now self.old }
         requires room { count_of self.old.tokens < MOST_TOKENS }
-        requires tag { names_block tag ≡ true }
-        requires block { has_block (relations_of manager.now.table) tag ≡ true }
-        requires new { IsNew tag self.old.tokens }
+        requires tag { names_block tag.now ≡ true }
+        requires block { has_block (relations_of manager.now.table) tag.now ≡ true }
+        requires new { IsNew tag.now self.old.tokens }
         ensures belongs { Belongs L.contents manager.now self.new }
         ensures same { SamePass self.old self.new }
         ensures calls { KeepsCalls self.old self.new }
         ensures mark { KeepsMark self.old self.new }
         ensures locks { KeepsLocks self.old self.new }
         ensures ring { ring_shape ring.new ≡ ring_shape ring.old }
-        ensures answer { ReadsBlock L.contents manager.now.table tag (is_some ring.old) self.old self.new result }
+        ensures answer { ReadsBlock L.contents manager.now.table tag.now (is_some ring.old) self.old self.new result }
         ensures census { ReadingCensus (frames_of manager.now.table) self.old.census self.new.census result }
         ensures met { self.new.view.met ≡ met_reading result self.old.view.met }
         ensures back { IfOk result (λ pinned. tokens_less pinned.frame self.new.tokens ≡ self.old.tokens) }
@@ -198,6 +198,7 @@ impl Pass {
         ) {
             Ok(PinnedBlock { pin, hit }) => {
                 let frame = pin.frame();
+                let tag = *tag;
                 self.held.add_pin(pin, tag);
                 Ok(Pinned { frame, tag, hit })
             }
@@ -265,7 +266,7 @@ impl Pass {
             return Err(ReadError::PinsFull);
         }
         let Some(frame) = self.held.frame_of(&tag) else {
-            return self.read_new(manager, rt, tag, ring);
+            return self.read_new(manager, rt, &tag, ring);
         };
         self.held.add_token(frame);
         Ok(Pinned {

@@ -121,7 +121,7 @@ fn pin_other<L: BlockLane, G: LogDevice, R: Wait>(
     let given = victim.frame();
     give_up(table, rt, seat, held, victim);
     sweep.free(rt, given);
-    pin_found(table, rt, seat, held, tag, frame, ring)
+    pin_found(table, rt, seat, held, &tag, frame, ring)
 }
 
 /// Searches the map once more, under the latch, and brings the block into the victim where it has no frame still. None where the victim isn't free any more.

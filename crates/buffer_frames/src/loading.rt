@@ -172,32 +172,32 @@ pub fn load<L: BlockLane, G: LogDevice, R: Wait>(
     seat: &mut Seat<Value<L, G>, View>,
     held: &HeldPins,
     frame: u32,
-    tag: Tag,
+    tag: &Tag,
     page: &mut Page,
 ) -> Result<Loaded, LoadError>
     requires stands { Stands table.now seat.old }
     requires latches { HasNoLatch seat.old.me.0 }
-    requires pinned { Pins (packed_tag tag) frame held.now seat.old.me.0 }
+    requires pinned { Pins (packed_tag tag.now) frame held.now seat.old.me.0 }
     requires inside { frame < frames_of table.now }
-    requires tag { names_block tag ≡ true }
-    requires block { has_block (relations_of table.now) tag ≡ true }
+    requires tag { names_block tag.now ≡ true }
+    requires block { has_block (relations_of table.now) tag.now ≡ true }
     ensures seat { SameSeat seat.old seat.new }
     ensures stands { Stands table.now seat.new }
     ensures latches { HasNoLatch seat.new.me.0 }
     ensures works { WorksAt frame seat.old.me.0 seat.new.me.0 }
-    ensures pinned { Pins (packed_tag tag) frame held.now seat.new.me.0 }
+    ensures pinned { Pins (packed_tag tag.now) frame held.now seat.new.me.0 }
     ensures seen { IfOk result (λ _. (link seat.new.me.0 frame).seen_valid ≡ true) }
-    ensures calls { Made (loading_calls (lane_number tag (lanes_in table.now)) (packed_tag tag) result) seat.old.me.0 seat.new.me.0 }
+    ensures calls { Made (loading_calls (lane_number tag.now (lanes_in table.now)) (packed_tag tag.now) result) seat.old.me.0 seat.new.me.0 }
     ensures met { seat.new.me.0.met ≡ met_loading result seat.old.me.0.met }
-    ensures shows { LoadShows L.contents table.now tag result }
+    ensures shows { LoadShows L.contents table.now tag.now result }
 {
     if has(table.look(seat, frame), Flag::Valid) {
         return Ok(Loaded::Hit);
     }
     let Some(right) = start_io(table, rt, seat, frame, Direction::Input) else {
-        see_page(table, seat, frame, tag);
+        see_page(table, seat, frame, *tag);
         return Ok(Loaded::Hit);
     };
-    read_in(table, rt, seat, held, right, tag, page)?;
+    read_in(table, rt, seat, held, right, *tag, page)?;
     Ok(Loaded::Read)
 }

@@ -30,17 +30,17 @@ pub(crate) fn pin_found<L: BlockLane, G: LogDevice, R: Wait>(
     rt: &R,
     seat: &mut Seat<Value<L, G>, View>,
     _held: &HeldPins,
-    tag: Tag,
+    tag: &Tag,
     frame: u32,
     ring: bool,
 ) -> Pin
     requires stands { Stands table.now seat.old }
     requires rests { LinksRest _held.now seat.old.me.0 }
-    requires tag { names_block tag ≡ true }
-    requires new { IsNew tag _held.now }
+    requires tag { names_block tag.now ≡ true }
+    requires new { IsNew tag.now _held.now }
     requires inside { frame < frames_of table.now }
-    requires finds { Finds seat.old.me.0 (packed_tag tag) frame }
-    requires remembers { RemembersNoOther (packed_tag tag) (link seat.old.me.0 frame) }
+    requires finds { Finds seat.old.me.0 (packed_tag tag.now) frame }
+    requires remembers { RemembersNoOther (packed_tag tag.now) (link seat.old.me.0 frame) }
     ensures seat { SameSeat seat.old seat.new }
     ensures stands { Stands table.now seat.new }
     ensures same { outside_of seat.new.me.0 ≡ outside_of seat.old.me.0 }
@@ -48,10 +48,10 @@ pub(crate) fn pin_found<L: BlockLane, G: LogDevice, R: Wait>(
     ensures grows { Grows seat.old.me.0 seat.new.me.0 }
     ensures locks { SameLocks seat.old.me.0 seat.new.me.0 }
     ensures frame { result.frame ≡ frame }
-    ensures pinned { Pins (packed_tag tag) frame _held.now seat.new.me.0 }
-    ensures did { Tried (pins (kinds.pin_mapped (packed_tag tag) ring)) frame seat.old.me.0 seat.new.me.0 true }
+    ensures pinned { Pins (packed_tag tag.now) frame _held.now seat.new.me.0 }
+    ensures did { Tried (pins (kinds.pin_mapped (packed_tag tag.now) ring)) frame seat.old.me.0 seat.new.me.0 true }
 {
-    table.pin(rt, seat, tag, frame, ring)
+    table.pin(rt, seat, *tag, frame, ring)
 }
 
 /// Searches the map for a block that callers have no pin of, and pins the frame that it gives, under its partition's latch.
@@ -60,28 +60,28 @@ pub(crate) fn pin_mapped<L: BlockLane, G: LogDevice, R: Wait>(
     rt: &R,
     seat: &mut Seat<Value<L, G>, View>,
     held: &HeldPins,
-    tag: Tag,
+    tag: &Tag,
     ring: bool,
 ) -> Option<Pin>
     requires stands { Stands table.now seat.old }
     requires rests { LinksRest held.now seat.old.me.0 }
-    requires latch { HasOneLatch (partition_number tag) seat.old.me.0 }
-    requires holds { HoldsLatch Stable seat.old.me.0 (partition_number tag) }
-    requires tag { names_block tag ≡ true }
-    requires new { IsNew tag held.now }
+    requires latch { HasOneLatch (partition_number tag.now) seat.old.me.0 }
+    requires holds { HoldsLatch Stable seat.old.me.0 (partition_number tag.now) }
+    requires tag { names_block tag.now ≡ true }
+    requires new { IsNew tag.now held.now }
     ensures seat { SameSeat seat.old seat.new }
     ensures stands { Stands table.now seat.new }
     ensures same { outside_of seat.new.me.0 ≡ outside_of seat.old.me.0 }
     ensures grows { Grows seat.old.me.0 seat.new.me.0 }
     ensures locks { SameLocks seat.old.me.0 seat.new.me.0 }
-    ensures latch { HasOneLatch (partition_number tag) seat.new.me.0 }
+    ensures latch { HasOneLatch (partition_number tag.now) seat.new.me.0 }
     ensures inside { IfSome result (λ p. p.frame < frames_of table.now) }
-    ensures pinned { IfSome result (λ p. Pins (packed_tag tag) p.frame held.now seat.new.me.0) }
+    ensures pinned { IfSome result (λ p. Pins (packed_tag tag.now) p.frame held.now seat.new.me.0) }
     ensures rests { IfNone result (LinksRest held.now seat.new.me.0) }
-    ensures lacks { IfNone result (Lacks seat.new.me.0 (packed_tag tag)) }
-    ensures did { MatchOption result (SeesNone tag seat.old.me.0 seat.new.me.0) (λ p. SeesAndPins tag p.frame ring seat.old.me.0 seat.new.me.0) }
+    ensures lacks { IfNone result (Lacks seat.new.me.0 (packed_tag tag.now)) }
+    ensures did { MatchOption result (SeesNone tag.now seat.old.me.0 seat.new.me.0) (λ p. SeesAndPins tag.now p.frame ring seat.old.me.0 seat.new.me.0) }
 {
-    let frame = find(table, seat, &tag)?;
+    let frame = find(table, seat, tag)?;
     Some(pin_found(table, rt, seat, held, tag, frame, ring))
 }
 
@@ -91,14 +91,14 @@ pub(crate) fn look_up<L: BlockLane, G: LogDevice, R: Wait>(
     rt: &R,
     seat: &mut Seat<Value<L, G>, View>,
     held: &HeldPins,
-    tag: Tag,
+    tag: &Tag,
     ring: bool,
 ) -> Option<Pin>
     requires stands { Stands table.now seat.old }
     requires rests { LinksRest held.now seat.old.me.0 }
     requires latches { HasNoLatch seat.old.me.0 }
-    requires tag { names_block tag ≡ true }
-    requires new { IsNew tag held.now }
+    requires tag { names_block tag.now ≡ true }
+    requires new { IsNew tag.now held.now }
     ensures seat { SameSeat seat.old seat.new }
     ensures stands { Stands table.now seat.new }
     ensures same { outside_of seat.new.me.0 ≡ outside_of seat.old.me.0 }
@@ -106,9 +106,9 @@ pub(crate) fn look_up<L: BlockLane, G: LogDevice, R: Wait>(
     ensures locks { SameLocks seat.old.me.0 seat.new.me.0 }
     ensures latches { HasNoLatch seat.new.me.0 }
     ensures inside { IfSome result (λ p. p.frame < frames_of table.now) }
-    ensures pinned { IfSome result (λ p. Pins (packed_tag tag) p.frame held.now seat.new.me.0) }
+    ensures pinned { IfSome result (λ p. Pins (packed_tag tag.now) p.frame held.now seat.new.me.0) }
     ensures rests { IfNone result (LinksRest held.now seat.new.me.0) }
-    ensures did { MatchOption result (UnderPartition tag (SeesNone tag) seat.old.me.0 seat.new.me.0) (λ p. UnderPartition tag (SeesAndPins tag p.frame ring) seat.old.me.0 seat.new.me.0) }
+    ensures did { MatchOption result (UnderPartition tag.now (SeesNone tag.now) seat.old.me.0 seat.new.me.0) (λ p. UnderPartition tag.now (SeesAndPins tag.now p.frame ring) seat.old.me.0 seat.new.me.0) }
 {
     let partition = tag.partition();
     take_turn(table, rt, seat, partition);

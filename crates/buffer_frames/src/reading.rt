@@ -57,16 +57,16 @@ fn pin_block<L: BlockLane, G: LogDevice, R: Wait>(
     sweep: &Sweep,
     census: &mut Census,
     page: &mut Page,
-    tag: Tag,
+    tag: &Tag,
     ring: &mut Option<Ring>,
 ) -> Result<Pin, VictimError>
     requires stands { Stands table.now seat.old }
     requires rests { LinksRest held.now seat.old.me.0 }
     requires latches { HasNoLatch seat.old.me.0 }
     requires census { census.old.frames ≡ frames_of table.now }
-    requires tag { names_block tag ≡ true }
-    requires block { has_block (relations_of table.now) tag ≡ true }
-    requires new { IsNew tag held.now }
+    requires tag { names_block tag.now ≡ true }
+    requires block { has_block (relations_of table.now) tag.now ≡ true }
+    requires new { IsNew tag.now held.now }
     ensures seat { SameSeat seat.old seat.new }
     ensures stands { Stands table.now seat.new }
     ensures latches { HasNoLatch seat.new.me.0 }
@@ -75,16 +75,16 @@ fn pin_block<L: BlockLane, G: LogDevice, R: Wait>(
     ensures kept { kept_by_calls seat.new.me.0 ≡ kept_by_calls seat.old.me.0 }
     ensures advances { OnlyRises seat.old.me.0 seat.new.me.0 }
     ensures locks { SameLocks seat.old.me.0 seat.new.me.0 }
-    ensures answer { ClaimAnswer L.contents table.now (packed_tag tag) held.now census.new.words seat.old.me.0 seat.new.me.0 result }
+    ensures answer { ClaimAnswer L.contents table.now (packed_tag tag.now) held.now census.new.words seat.old.me.0 seat.new.me.0 result }
     ensures census { CensusPinned (frames_of table.now) census.old census.new result }
     ensures met { seat.new.me.0.met ≡ met_claimed result seat.old.me.0.met }
-    ensures calls { PinAnswer tag (is_some ring.old) seat.old.me.0 seat.new.me.0 result }
+    ensures calls { PinAnswer tag.now (is_some ring.old) seat.old.me.0 seat.new.me.0 result }
 {
     let ringed = ring.is_some();
     if let Some(pin) = look_up(table, rt, seat, held, tag, ringed) {
         return Ok(pin);
     }
-    claim(table, rt, seat, held, sweep, census, page, tag, ring)
+    claim(table, rt, seat, held, sweep, census, page, *tag, ring)
 }
 
 /// Gives the pin of a block up whose page didn't come.
@@ -121,16 +121,16 @@ pub fn read_block<L: BlockLane, G: LogDevice, R: Wait>(
     sweep: &Sweep,
     census: &mut Census,
     page: &mut Page,
-    tag: Tag,
+    tag: &Tag,
     ring: &mut Option<Ring>,
 ) -> Result<PinnedBlock, BlockError>
     requires stands { Stands table.now seat.old }
     requires rests { LinksRest held.now seat.old.me.0 }
     requires latches { HasNoLatch seat.old.me.0 }
     requires census { census.old.frames ≡ frames_of table.now }
-    requires tag { names_block tag ≡ true }
-    requires block { has_block (relations_of table.now) tag ≡ true }
-    requires new { IsNew tag held.now }
+    requires tag { names_block tag.now ≡ true }
+    requires block { has_block (relations_of table.now) tag.now ≡ true }
+    requires new { IsNew tag.now held.now }
     ensures seat { SameSeat seat.old seat.new }
     ensures stands { Stands table.now seat.new }
     ensures latches { HasNoLatch seat.new.me.0 }
@@ -139,10 +139,10 @@ pub fn read_block<L: BlockLane, G: LogDevice, R: Wait>(
     ensures kept { kept_by_calls seat.new.me.0 ≡ kept_by_calls seat.old.me.0 }
     ensures advances { OnlyRises seat.old.me.0 seat.new.me.0 }
     ensures locks { SameLocks seat.old.me.0 seat.new.me.0 }
-    ensures answer { ReadAnswer L.contents table.now tag held.now census.new.words seat.old.me.0 seat.new.me.0 result }
+    ensures answer { ReadAnswer L.contents table.now tag.now held.now census.new.words seat.old.me.0 seat.new.me.0 result }
     ensures census { CensusRead (frames_of table.now) census.old census.new result }
     ensures met { seat.new.me.0.met ≡ met_read_block result seat.old.me.0.met }
-    ensures calls { ReadCalls (lane_number tag (lanes_in table.now)) tag (is_some ring.old) seat.old.me.0 seat.new.me.0 result }
+    ensures calls { ReadCalls (lane_number tag.now (lanes_in table.now)) tag.now (is_some ring.old) seat.old.me.0 seat.new.me.0 result }
 {
     let pin = match pin_block(table, rt, seat, held, sweep, census, page, tag, ring) {
         Ok(pin) => pin,
@@ -153,12 +153,12 @@ pub fn read_block<L: BlockLane, G: LogDevice, R: Wait>(
         Ok(Loaded::Hit) => Ok(PinnedBlock { pin, hit: true }),
         Ok(Loaded::Read) => Ok(PinnedBlock { pin, hit: false }),
         Err(LoadError::ReadFault) => {
-            give_back(table, rt, seat, held, pin, tag);
-            Err(BlockError::ReadFault { tag })
+            give_back(table, rt, seat, held, pin, *tag);
+            Err(BlockError::ReadFault { tag: *tag })
         }
         Err(LoadError::Unsound) => {
-            give_back(table, rt, seat, held, pin, tag);
-            Err(BlockError::Unsound { tag })
+            give_back(table, rt, seat, held, pin, *tag);
+            Err(BlockError::Unsound { tag: *tag })
         }
     }
 }

@@ -56,7 +56,7 @@ returns-clause-advances g c =
 pub returns-clause-answer : goal.returns-clause-answer
 returns-clause-answer g c =
     let before = view_of_seat c.args.badge.now c.replace.result c.into_seat-seat.result.me.0 c.replace.ensures.value c.into_seat-seat.ensures.2 in
-    moved (λ v w. ReadAnswer {L = g.row.L.Denot} {G = g.row.G.Denot} g.L.BlockLane.contents c.args.manager.now.table c.args.tag c.args.held.now c.read_block-answer.new.census.words v w c.read_block-answer.result)
+    moved (λ v w. ReadAnswer {L = g.row.L.Denot} {G = g.row.G.Denot} g.L.BlockLane.contents c.args.manager.now.table c.args.tag.now c.args.held.now c.read_block-answer.new.census.words v w c.read_block-answer.result)
     (view_in c.args.badge.now.views) (view_in c.into_badge.result.views) c.into_seat-seat.result.me.0 c.read_block-answer.new.seat.me.0 before (ap view_in c.into_badge.ensures.2) c.read_block-answer.ensures.answer
 
 pub returns-clause-met : goal.returns-clause-met
@@ -67,7 +67,7 @@ returns-clause-met g c =
 pub returns-clause-calls : goal.returns-clause-calls
 returns-clause-calls g c =
     let before = view_of_seat c.args.badge.now c.replace.result c.into_seat-seat.result.me.0 c.replace.ensures.value c.into_seat-seat.ensures.2 in
-    moved (λ v w. ReadCalls (lane_number c.args.tag (lanes_in c.args.manager.now.table)) c.args.tag (is_some c.args.ring.now) v w c.read_block-answer.result)
+    moved (λ v w. ReadCalls (lane_number c.args.tag.now (lanes_in c.args.manager.now.table)) c.args.tag.now (is_some c.args.ring.now) v w c.read_block-answer.result)
     (view_in c.args.badge.now.views) (view_in c.into_badge.result.views) c.into_seat-seat.result.me.0 c.read_block-answer.new.seat.me.0 before (ap view_in c.into_badge.ensures.2) c.read_block-answer.ensures.calls
 
 pub returns-clause-locks : goal.returns-clause-locks

@@ -19,11 +19,11 @@ pub returns-then-has-clause-latches : goal.returns-then-has-clause-latches
 returns-then-has-clause-latches g c = latches_worked c.args.frame c.args.seat.now.me.0 c.look.new.seat.me.0 (returns-then-has-clause-works g c) c.requires.latches
 
 pub returns-then-has-clause-pinned : goal.returns-then-has-clause-pinned
-returns-then-has-clause-pinned g c = pins_worked (packed_tag c.args.tag) c.args.frame c.args.held.now c.args.seat.now.me.0 c.look.new.seat.me.0 c.requires.pinned (returns-then-has-clause-works g c)
-    (read_looked (packed_tag c.args.tag) (link c.args.seat.now.me.0 c.args.frame) (link c.look.new.seat.me.0 c.args.frame) c.look.ensures.link (read_of_pins (packed_tag c.args.tag) c.args.frame c.args.held.now c.args.seat.now.me.0 c.requires.pinned))
+returns-then-has-clause-pinned g c = pins_worked (packed_tag c.args.tag.now) c.args.frame c.args.held.now c.args.seat.now.me.0 c.look.new.seat.me.0 c.requires.pinned (returns-then-has-clause-works g c)
+    (read_looked (packed_tag c.args.tag.now) (link c.args.seat.now.me.0 c.args.frame) (link c.look.new.seat.me.0 c.args.frame) c.look.ensures.link (read_of_pins (packed_tag c.args.tag.now) c.args.frame c.args.held.now c.args.seat.now.me.0 c.requires.pinned))
 
 pub returns-then-has-clause-shows : goal.returns-then-has-clause-shows
-returns-then-has-clause-shows g c = c.look.ensures.opening.valid c.args.tag c.requires.pinned.remembered (sym c.has.ensures ∙ c.if-has.true)
+returns-then-has-clause-shows g c = c.look.ensures.opening.valid c.args.tag.now c.requires.pinned.remembered (sym c.has.ensures ∙ c.if-has.true)
 
 pub start_io-requires-clause-headless : goal.start_io-requires-clause-headless
 start_io-requires-clause-headless g c = let k = c.look.ensures in let p = c.requires.pinned in
@@ -45,7 +45,7 @@ pub returns-in_default-clause-latches : goal.returns-in_default-clause-latches
 returns-in_default-clause-latches g c = latches_worked c.args.frame c.args.seat.now.me.0 c.see_page.new.seat.me.0 (returns-in_default-clause-works g c) c.requires.latches
 
 pub returns-in_default-clause-pinned : goal.returns-in_default-clause-pinned
-returns-in_default-clause-pinned g c = let f = c.args.frame in let tag = packed_tag c.args.tag in
+returns-in_default-clause-pinned g c = let f = c.args.frame in let tag = packed_tag c.args.tag.now in
     pins_worked tag f c.args.held.now c.args.seat.now.me.0 c.see_page.new.seat.me.0 c.requires.pinned (returns-in_default-clause-works g c)
     (read_looked tag (link c.start_io.new.seat.me.0 f) (link c.see_page.new.seat.me.0 f) c.see_page.ensures.link
     (read_looked tag (link c.look.new.seat.me.0 f) (link c.start_io.new.seat.me.0 f) c.in_default.ensures.left
@@ -61,7 +61,7 @@ read_in-requires-clause-others g c = let f = c.args.frame in
     (beside_kept f c.args.held.now c.args.seat.now.me.0 c.start_io.new.seat.me.0 (λ h n. c.start_io.ensures.touches.others h n ∙ c.look.ensures.touches.others h n) c.requires.pinned.others)
 
 pub read_in-requires-clause-reads : goal.read_in-requires-clause-reads
-read_in-requires-clause-reads g c = let f = c.args.frame in let tag = packed_tag c.args.tag in let s = c.in-Some.ensures in
+read_in-requires-clause-reads g c = let f = c.args.frame in let tag = packed_tag c.args.tag.now in let s = c.in-Some.ensures in
     subst (λ (x : ℕ). IsReading tag (link c.start_io.new.seat.me.0 x)) (sym s.right.0)
     (reading_begun tag (link c.look.new.seat.me.0 f) (link c.start_io.new.seat.me.0 f)
     (read_looked tag (link c.args.seat.now.me.0 f) (link c.look.new.seat.me.0 f) c.look.ensures.link (read_of_pins tag f c.args.held.now c.args.seat.now.me.0 c.requires.pinned))
@@ -76,7 +76,7 @@ pub returns-in_err-read_in-clause-latches : goal.returns-in_err-read_in-clause-l
 returns-in_err-read_in-clause-latches g c = latches_worked c.args.frame c.args.seat.now.me.0 c.read_in.new.seat.me.0 (returns-in_err-read_in-clause-works g c) c.requires.latches
 
 pub returns-in_err-read_in-clause-pinned : goal.returns-in_err-read_in-clause-pinned
-returns-in_err-read_in-clause-pinned g c = let f = c.args.frame in let tag = packed_tag c.args.tag in
+returns-in_err-read_in-clause-pinned g c = let f = c.args.frame in let tag = packed_tag c.args.tag.now in
     pins_worked tag f c.args.held.now c.args.seat.now.me.0 c.read_in.new.seat.me.0 c.requires.pinned (returns-in_err-read_in-clause-works g c) (subst (λ (x : ℕ). IsRead tag (link c.read_in.new.seat.me.0 x)) c.in-Some.ensures.right.0 c.read_in.ensures.read)
 
 pub returns-clause-works : goal.returns-clause-works
@@ -88,5 +88,5 @@ pub returns-clause-latches : goal.returns-clause-latches
 returns-clause-latches g c = latches_worked c.args.frame c.args.seat.now.me.0 c.read_in.new.seat.me.0 (returns-clause-works g c) c.requires.latches
 
 pub returns-clause-pinned : goal.returns-clause-pinned
-returns-clause-pinned g c = let f = c.args.frame in let tag = packed_tag c.args.tag in
+returns-clause-pinned g c = let f = c.args.frame in let tag = packed_tag c.args.tag.now in
     pins_worked tag f c.args.held.now c.args.seat.now.me.0 c.read_in.new.seat.me.0 c.requires.pinned (returns-clause-works g c) (subst (λ (x : ℕ). IsRead tag (link c.read_in.new.seat.me.0 x)) c.in-Some.ensures.right.0 c.read_in.ensures.read)

@@ -6,10 +6,10 @@ use Rattle.held_pins.proofs.Keeping.{same_locks_at}
 use Rattle.buffer_frames.proofs.lookup.pin_found.Goals as goal
 
 pub pin-requires-clause-absent : goal.pin-requires-clause-absent
-pin-requires-clause-absent g c = (c.requires.rests c.args.frame).role ∙ ap role_of (none_given c.args._held.now c.args.tag c.args.frame c.args.seat.now.me.0 c.requires.remembers c.requires.new c.requires.rests)
+pin-requires-clause-absent g c = (c.requires.rests c.args.frame).role ∙ ap role_of (none_given c.args._held.now c.args.tag.now c.args.frame c.args.seat.now.me.0 c.requires.remembers c.requires.new c.requires.rests)
 
 pub returns-clause-pinned : goal.returns-clause-pinned
-returns-clause-pinned g c = pins_mapped c.args._held.now (packed_tag c.args.tag) c.args.frame c.args.ring c.args.seat.now.me.0 c.pin.new.seat.me.0 c.requires.rests (none_given c.args._held.now c.args.tag c.args.frame c.args.seat.now.me.0 c.requires.remembers c.requires.new c.requires.rests) c.pin.ensures.touches.others c.pin.ensures.pinned
+returns-clause-pinned g c = pins_mapped c.args._held.now (packed_tag c.args.tag.now) c.args.frame c.args.ring c.args.seat.now.me.0 c.pin.new.seat.me.0 c.requires.rests (none_given c.args._held.now c.args.tag.now c.args.frame c.args.seat.now.me.0 c.requires.remembers c.requires.new c.requires.rests) c.pin.ensures.touches.others c.pin.ensures.pinned
 
 pub returns-clause-locks : goal.returns-clause-locks
 returns-clause-locks g c = same_locks_at c.args.frame c.args.seat.now.me.0 c.pin.new.seat.me.0 c.pin.ensures.touches.others c.pin.ensures.pinned.content

@@ -12,7 +12,7 @@ pub returns-in_err-frame-clause-rests : goal.returns-in_err-frame-clause-rests
 returns-in_err-frame-clause-rests g c = none_if c.from_residual.result (links_same c.args.held.now c.args.seat.now.me.0 c.find.new.seat.me.0 (links_worked c.args.seat.now.me.0 c.find.new.seat.me.0 c.find.ensures.work) c.requires.rests)
 
 pub returns-in_err-frame-clause-did : goal.returns-in_err-frame-clause-did
-returns-in_err-frame-clause-did g c = let e = c.from_residual.ensures in rw e record { entries = entries_seen c.find.new.seat.me.0 (partition_number c.args.tag); did = c.find.ensures.did; none = sym c.find.ensures.found ∙ c.in_err-frame.was }
+returns-in_err-frame-clause-did g c = let e = c.from_residual.ensures in rw e record { entries = entries_seen c.find.new.seat.me.0 (partition_number c.args.tag.now); did = c.find.ensures.did; none = sym c.find.ensures.found ∙ c.in_err-frame.was }
 
 pub returns-clause-grows : goal.returns-clause-grows
 returns-clause-grows g c = grows_on _ c.find.new.seat.me.0 _ c.find.ensures.grows c.pin_found.ensures.grows
