@@ -29,3 +29,4 @@ mod RewriteDevices
 mod RewriteFull
 pub mod RewriteDown
 pub mod RewriteBackends
+mod Completing

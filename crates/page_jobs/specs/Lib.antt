@@ -13,3 +13,4 @@ pub mod RewriteEnds
 pub mod Rewriters
 pub mod RewriteJobs
 pub mod RewriteCloses
+pub mod Completeness

@@ -9,6 +9,7 @@ ghost use Rattle.frame_table.specs.Seats.{base_of, frames_of};
 ghost use Rattle.page_jobs.specs.declared.ending.JobError.TheVariants.{Memory, OutFault};
 ghost use Rattle.page_jobs.specs.declared.printing.Lines.TheVariants.{Dump, Scan};
 ghost use Rattle.page_jobs.specs.Beside.{EndsBeside, StaysBeside, WorkIsRefused, WorksBeside};
+ghost use Rattle.page_jobs.specs.Completeness.{IsDoneOrMemory, NothingFailsIn, OutIsQuiet};
 ghost use Rattle.page_jobs.specs.Dealt.{HaveWorked, IsReady};
 ghost use Rattle.page_jobs.specs.Ending.{as_done};
 ghost use Rattle.page_jobs.specs.Jobs.{AllAtBase, AnyMeets, EndsJob, HaveNoTokens, IsOrigin, ReadParts, ReadsAll, workers_in};
@@ -170,6 +171,8 @@ fn run_job<
     ensures quiet { OnOk result.end (O.faults out.new ≡ O.faults out.old) }
     ensures later { O.faults out.old ≤ O.faults out.new }
     ensures cause { IfErr result.end (EndsJob L.contents manager.now job.rel.0 job.fork passes.items result.passes.items (O.faults out.old) (O.faults out.new)) }
+    ensures complete { NothingFailsIn L.contents manager.now passes.items result.passes.items
+        → OutIsQuiet (O.faults out.old) (O.faults out.new) → IsDoneOrMemory result.end }
 {
     let mut last = passes.take_last();
     let end = work_passes(
@@ -219,6 +222,8 @@ pub fn scan<
     ensures quiet { OnOk result.end (O.faults out.new ≡ O.faults out.old) }
     ensures later { O.faults out.old ≤ O.faults out.new }
     ensures cause { IfErr result.end (EndsJob L.contents manager.now rel.0 fork passes.items result.passes.items (O.faults out.old) (O.faults out.new)) }
+    ensures complete { NothingFailsIn L.contents manager.now passes.items result.passes.items
+        → OutIsQuiet (O.faults out.old) (O.faults out.new) → IsDoneOrMemory result.end }
 {
     let job = Job {
         rel,
@@ -260,6 +265,8 @@ pub fn dump<
     ensures quiet { OnOk result.end (O.faults out.new ≡ O.faults out.old) }
     ensures later { O.faults out.old ≤ O.faults out.new }
     ensures cause { IfErr result.end (EndsJob L.contents manager.now rel.0 fork passes.items result.passes.items (O.faults out.old) (O.faults out.new)) }
+    ensures complete { NothingFailsIn L.contents manager.now passes.items result.passes.items
+        → OutIsQuiet (O.faults out.old) (O.faults out.new) → IsDoneOrMemory result.end }
 {
     let job = Job {
         rel,
