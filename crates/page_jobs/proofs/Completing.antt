@@ -1,5 +1,5 @@
 -- A job ends well where nothing fails, but for memory.
-use Rattle.std.proofs.Common.{◌≡◌, ℕ, suc, ◌+◌, ◌-◌, ◌≤◌, true, false, List, [], ◌∷◌, length, Option, Some, Result, Ok, Err, refl, sym, ap, ◌∙◌, inl, inr, arith}
+use Rattle.std.proofs.Common.{◌≡◌, ℕ, suc, ◌+◌, ◌-◌, ◌≤◌, true, false, List, [], ◌∷◌, length, Option, Some, Result, Ok, Err, refl, sym, ap, ◌∙◌, subst, inl, inr, arith}
 use Rattle.std.specs.Prelude.{IfErr}
 use Rattle.block_tag.specs.declared.tag.Fork.{Fork}
 use Rattle.block_tag.specs.declared.tag.Tag.{Tag}
@@ -8,8 +8,6 @@ use Rattle.log_device.specs.Faults.{Rose}
 use Rattle.segment_store.specs.Contents.{Pages}
 use Rattle.pin_core.specs.declared.view.FailedCalls.{FailedCalls}
 use Rattle.pin_core.specs.declared.view.View.{View}
-use Rattle.history_core.specs.Log.{record_size}
-use Rattle.history_core.specs.State.{last_position}
 use Rattle.frame_table.specs.Seats.{OnlyRises}
 use Rattle.wal_flush.specs.declared.inserts.InsertError.{InsertError}
 use Rattle.wal_flush.specs.declared.inserts.InsertError.TheVariants as put
@@ -26,10 +24,11 @@ use Rattle.page_jobs.specs.declared.ending.JobError.{JobError}
 use Rattle.page_jobs.specs.declared.ending.JobError.TheVariants.{Memory}
 use Rattle.page_jobs.specs.declared.ending.Totals.{Totals}
 use Rattle.page_jobs.specs.Beside.{LastIsRefused}
-use Rattle.page_jobs.specs.Completeness.{IsDoneOrMemory, LogHasRoom, NothingFailsIn, OutIsQuiet}
+use Rattle.page_jobs.specs.Completeness.{IsDoneFullOrMemory, IsDoneOrMemory, NothingFailsIn, OutIsQuiet}
 use Rattle.page_jobs.specs.Jobs.{AnyMeets, EndsJob, workers_in}
 use Rattle.page_jobs.specs.Reads.{fault_of_refusal}
 use Rattle.page_jobs.specs.RewriteJobs.{EndsRewrite, FailsFirst}
+use Rattle.page_jobs.specs.Rewriting.{fault_of_put}
 use Rattle.page_jobs.proofs.Standing.{taken_from}
 
 -- a log isn't seen down, and not
@@ -75,11 +74,11 @@ module _ {L G : Type 0} (contents : L → Option Pages) (m : Manager L G) where
       let seen = shows.2 in
       omega arith
 
-  -- nor a put, where the log has room
-  no_put_refused : (p q : PassState) (why : InsertError) → RefusalShows why q.view → q.view.end_seen + record_size ≤ last_position → NothingFails contents m.table p q → ⊥
-  no_put_refused p q (put.LogFull end) shows room n = let full = shows.0 in let seen = shows.1 in omega arith
-  no_put_refused p q (put.LogDown at) shows room n = not_up q.view shows.0 n.up
-  no_put_refused p q put.LogFault shows room n = not_up q.view shows n.up
+  -- and a put only as the log is full
+  put_ends : (p q : PassState) (why : InsertError) → RefusalShows why q.view → NothingFails contents m.table p q → IsDoneFullOrMemory (Err (fault_of_put why))
+  put_ends p q (put.LogFull end) shows n = shows.0
+  put_ends p q (put.LogDown at) shows n = absurd (not_up q.view shows.0 n.up)
+  put_ends p q put.LogFault shows n = absurd (not_up q.view shows n.up)
 
   workers_fail_not : (ps qs : List PassState) → NothingFailsIn contents m ps qs → NothingFailsIn contents m (workers_in ps) (workers_in qs)
   workers_fail_not ps qs n w p q at after = n w p q (taken_from (length ps - 1) w ps p at) (taken_from (length qs - 1) w qs q after)
@@ -106,20 +105,19 @@ module _ {L G : Type 0} (contents : L → Option Pages) (m : Manager L G) where
     job_complete ps qs outs outs_now (Ok totals) cause n quiet = tt
     job_complete ps qs outs outs_now (Err e) cause n quiet = only_memory ps qs outs outs_now e n quiet cause
 
-    none_fails : (workers number : ℕ) (ps qs : List PassState) (e : JobError) → NothingFailsIn contents m ps qs → LogHasRoom qs → FailsFirst contents m rel fork workers number ps qs e → ⊥
-    none_fails workers number [] [] e n room fails = fails
-    none_fails workers number [] (q ∷ qs) e n room fails = fails
-    none_fails workers number (p ∷ ps) [] e n room fails = fails
-    none_fails workers number (p ∷ ps) (q ∷ qs) e n room (inl (inl x)) = no_read_refused (tag_of_parts rel fork x.block) p x.before q x.why e x.since x.fault x.refused x.met (n 0 p q refl refl)
-    none_fails workers number (p ∷ ps) (q ∷ qs) e n room (inl (inr x)) = no_put_refused p q x.why x.fails.shows (room 0 q refl) (n 0 p q refl refl)
-    none_fails workers number (p ∷ ps) (q ∷ qs) e n room (inr later) = none_fails workers (number + 1) ps qs e (λ w. n (suc w)) (λ w. room (suc w)) later.1
+    fails_full : (workers number : ℕ) (ps qs : List PassState) (e : JobError) → NothingFailsIn contents m ps qs → FailsFirst contents m rel fork workers number ps qs e → IsDoneFullOrMemory (Err e)
+    fails_full workers number [] [] e n fails = absurd fails
+    fails_full workers number [] (q ∷ qs) e n fails = absurd fails
+    fails_full workers number (p ∷ ps) [] e n fails = absurd fails
+    fails_full workers number (p ∷ ps) (q ∷ qs) e n (inl (inl x)) = absurd (no_read_refused (tag_of_parts rel fork x.block) p x.before q x.why e x.since x.fault x.refused x.met (n 0 p q refl refl))
+    fails_full workers number (p ∷ ps) (q ∷ qs) e n (inl (inr x)) = subst (λ (y : JobError). IsDoneFullOrMemory (Err y)) x.fault (put_ends p q x.why x.fails.shows (n 0 p q refl refl))
+    fails_full workers number (p ∷ ps) (q ∷ qs) e n (inr later) = fails_full workers (number + 1) ps qs e (λ w. n (suc w)) later.1
 
-    only_memory_rewrites : (ps qs : List PassState) (e : JobError) → NothingFailsIn contents m ps qs → LogHasRoom (workers_in qs) → EndsRewrite contents m rel fork ps qs e → e ≡ Memory
-    only_memory_rewrites ps qs e n room (inl memory) = memory
-    only_memory_rewrites ps qs e n room (inr (inl fails)) = absurd (none_fails (length (workers_in ps)) 0 (workers_in ps) (workers_in qs) e (workers_fail_not ps qs n) room fails)
-    only_memory_rewrites ps qs e n room (inr (inr last)) = absurd (last_not ps qs e n last.1)
+    full_or_memory : (ps qs : List PassState) (e : JobError) → NothingFailsIn contents m ps qs → EndsRewrite contents m rel fork ps qs e → IsDoneFullOrMemory (Err e)
+    full_or_memory ps qs e n (inl memory) = subst (λ (y : JobError). IsDoneFullOrMemory (Err y)) (sym memory) refl
+    full_or_memory ps qs e n (inr (inl fails)) = fails_full (length (workers_in ps)) 0 (workers_in ps) (workers_in qs) e (workers_fail_not ps qs n) fails
+    full_or_memory ps qs e n (inr (inr last)) = absurd (last_not ps qs e n last.1)
 
-    pub rewrite_complete : (ps qs : List PassState) (r : Result Totals JobError) → IfErr r (EndsRewrite contents m rel fork ps qs)
-        → NothingFailsIn contents m ps qs → LogHasRoom (workers_in qs) → IsDoneOrMemory r
-    rewrite_complete ps qs (Ok totals) cause n room = tt
-    rewrite_complete ps qs (Err e) cause n room = only_memory_rewrites ps qs e n room cause
+    pub rewrite_complete : (ps qs : List PassState) (r : Result Totals JobError) → IfErr r (EndsRewrite contents m rel fork ps qs) → NothingFailsIn contents m ps qs → IsDoneFullOrMemory r
+    rewrite_complete ps qs (Ok totals) cause n = tt
+    rewrite_complete ps qs (Err e) cause n = full_or_memory ps qs e n cause

@@ -1,5 +1,5 @@
 -- Where a job is done to its end.
-use Rattle.std.specs.Prelude.{◌≡◌, ℕ, ◌+◌, ◌-◌, ◌^◌, ◌<◌, ◌≤◌, List, Option, Result, Ok, Err}
+use Rattle.std.specs.Prelude.{◌≡◌, ℕ, ◌+◌, ◌-◌, ◌^◌, ◌<◌, List, Option, Result, Ok, Err}
 use mathlib.Core.Option.{some}
 use lib.ListN.{get_elem?}
 use Rattle.segment_store.specs.Contents.{Pages}
@@ -9,7 +9,7 @@ use Rattle.backend_pass.specs.declared.manager.Manager.{Manager}
 use Rattle.backend_pass.specs.Passes.{PassState}
 use Rattle.backend_pass.specs.Reading.{NothingFails}
 use Rattle.page_jobs.specs.declared.ending.JobError.{JobError}
-use Rattle.page_jobs.specs.declared.ending.JobError.TheVariants.{Memory}
+use Rattle.page_jobs.specs.declared.ending.JobError.TheVariants.{LogFull, Memory}
 use Rattle.page_jobs.specs.declared.ending.Totals.{Totals}
 
 -- the job ended well, or there was no memory
@@ -22,9 +22,11 @@ pub record OutIsQuiet (before now : ℕ) : Type 0 where
   pub same : now ≡ before
   pub below : now < 2 ^ 64 - 1
 
--- the log has room for a record past the last end that each of the passes has seen
-abbrev pub LogHasRoom : List PassState → Type 0
-LogHasRoom qs = (w : ℕ) (q : PassState) → get_elem? qs w ≡ some q → q.view.end_seen + record_size ≤ last_position
+-- a rewrite ended well, or there was no memory, or the log was full: a record at this end would pass the last position
+abbrev pub IsDoneFullOrMemory : Result Totals JobError → Type 0
+IsDoneFullOrMemory (Ok totals) = Unit {0}
+IsDoneFullOrMemory (Err (LogFull end)) = last_position < end + record_size
+IsDoneFullOrMemory (Err e) = e ≡ Memory
 
 -- for none of the passes a device failed, and none could meet a page that can't be written
 abbrev pub NothingFailsIn : {L G : Type 0} → (L → Option Pages) → Manager L G → List PassState → List PassState → Type 0

@@ -4,7 +4,7 @@ ghost use Rattle.frame_table.specs.Seats.{frames_of};
 ghost use Rattle.page_jobs.specs.declared.ending.JobError.TheVariants.{Memory};
 ghost use Rattle.page_jobs.specs.declared.ending.Totals.{Totals};
 ghost use Rattle.page_jobs.specs.Beside.{EndsBeside, StaysBeside, WorkIsRefused, WorksBeside};
-ghost use Rattle.page_jobs.specs.Completeness.{IsDoneOrMemory, LogHasRoom, NothingFailsIn};
+ghost use Rattle.page_jobs.specs.Completeness.{IsDoneFullOrMemory, NothingFailsIn};
 ghost use Rattle.page_jobs.specs.Dealt.{AllDone, IsReady};
 ghost use Rattle.page_jobs.specs.Ending.{totals_of_rewrite};
 ghost use Rattle.page_jobs.specs.Jobs.{HaveNoTokens, workers_in};
@@ -178,7 +178,7 @@ pub fn rewrite<
     ensures done { IfOk result.end (RewritesFork L.contents manager.now rel.0 fork (workers_in passes.items) (workers_in result.passes.items)) }
     ensures cause { IfErr result.end (EndsRewrite L.contents manager.now rel.0 fork passes.items result.passes.items) }
     ensures complete { NothingFailsIn L.contents manager.now passes.items result.passes.items
-        → LogHasRoom (workers_in result.passes.items) → IsDoneOrMemory result.end }
+        → IsDoneFullOrMemory result.end }
 {
     let mut last = passes.take_last();
     let blocks = ForkBlocks { rel, fork };
