@@ -15,6 +15,3 @@
 mod ring;
 
 pub use ring::{Memory, Ring, RingKind};
-
-#[cfg(test)]
-mod tests;

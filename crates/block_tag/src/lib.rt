@@ -6,6 +6,3 @@ mod tag;
 
 pub use catalogue::{Catalog, CatalogError, MAX_RELATIONS, RelEntry};
 pub use tag::{Fork, LAST_BLOCK, PARTITIONS, RelNo, Tag, lane_of, segment_place};
-
-#[cfg(test)]
-mod tests;

@@ -7,6 +7,9 @@ use Rattle.clap.specs.declared.builder.command.Command.TheViews.{out-Command as 
 use Rattle.clap.specs.declared.error.Error.{Error}
 use Rattle.clap.specs.declared.parser.matches.ArgMatches.{ArgMatches}
 use Rattle.std.proofs.lemmas.Result.{IfOk-weaker}
+use Rattle.std.specs.Cmp.Derive.{both_true}
+use Rattle.clap.specs.Simple.{built}
+use Rattle.clap.specs.Faults.{is_free_app}
 use Rattle.command_line.specs.Grammar.{tool_app, with_options}
 
 -- an argument more is a rule more
@@ -25,9 +28,13 @@ tool_is_simple : is_simple tool_app ≡ true
 unfolding tool_app with_options
 tool_is_simple = refl
 
-tool_is_free : is_simple_and_free tool_app ≡ true
+-- no argument has a rule on another; the two are computed apart, each once
+arguments_are_free : is_free_app (built tool_app) ≡ true
 unfolding tool_app with_options
-tool_is_free = refl
+arguments_are_free = refl
+
+tool_is_free : is_simple_and_free tool_app ≡ true
+tool_is_free = both_true tool_is_simple arguments_are_free
 
 pub fails_by_tool : {T : Type 0} (app : App) (words : List Text) (result : Result T Error) → app ≡ tool_app
     → (is_simple_and_free app ≡ true → FailsBy (fault_of app words) result) → FailsBy (fault_of tool_app words) result

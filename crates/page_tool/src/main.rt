@@ -5,14 +5,8 @@
 #[cfg(test)]
 mod command_tests;
 #[cfg(test)]
-mod hostile_tests;
-#[cfg(test)]
 mod rewrite_fault_tests;
-#[cfg(test)]
-mod rewrite_tests;
 mod run;
-#[cfg(test)]
-mod sample_tests;
 #[cfg(test)]
 mod test_hosts;
 #[cfg(test)]

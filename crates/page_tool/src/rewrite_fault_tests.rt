@@ -124,6 +124,36 @@ fn check_fault<R: Abort + Threads + Wait + Sync>(
     Ok(())
 }
 
+/// A host with a page with dead line pointers at base/5/16384, and three blocks at base/5/16385, in which
+/// the third read of each lane fails.
+fn host_of_two(alloc: Global) -> Result<MemHost, Fail> {
+    let failing = Failing {
+        reads: &[3],
+        ..NONE_FAIL
+    };
+    let relations: [(&str, &[u8]); 2] = [
+        (RELATION, &dead_items_page()),
+        ("base/5/16385", &[0; 3 * 8192]),
+    ];
+    host_of(alloc, &relations, failing)
+}
+
+/// The survey's read fault comes before the log is opened, and keeps the log of the rewrite before.
+#[test]
+fn a_read_fault_of_the_survey_keeps_an_old_log(rt: HostRuntime) -> Result<(), Fail> {
+    let alloc = rt.alloc();
+    let mut host = host_of_two(alloc)?;
+    let first = answer_of(&rt, alloc, "rewrite base/5/16384 --log w", &mut host, &[])?;
+    let text =
+        "blocks 1 changed 1 same 0 skipped 0 new 0 invalid 0 dead 2\nlog 0/16B3740 0/16B5760\n";
+    first.check(&rt, 0, text, "");
+    let line = "rewrite base/5/16385 --log w --lanes 1";
+    let second = answer_of(&rt, alloc, line, &mut host, &[])?;
+    second.check(&rt, 4, "", "page_tool: read fault\n");
+    assert!(rt; has_log(&host, "w", Some(&rewrite_log())));
+    Ok(())
+}
+
 #[test]
 fn one_call_fails(rt: HostRuntime) -> Result<(), Fail> {
     for (call, status, page, log) in &FAULTS {

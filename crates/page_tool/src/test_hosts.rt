@@ -2,6 +2,7 @@
 use crate::OpenGate;
 use crate::run::run;
 use log_device::{FaultPlan, LogPlan, MemSink};
+use page_jobs::Gate;
 use segment_store::{LanePlan, MemFile, MemHost, MemLogs};
 use std::alloc::Global;
 use std::process::Abort;
@@ -132,6 +133,22 @@ fn words_of(alloc: Global, line: &str) -> Result<Vec<String>, Fail> {
 }
 
 /// Runs a command line, whose words stand apart by blanks; these puts of its output are to fail.
+pub(crate) fn answer_at<R: Threads + Wait + Sync, G: Gate + Sync>(
+    rt: &R,
+    alloc: Global,
+    line: &str,
+    host: &mut MemHost,
+    puts: &[u64],
+    gate: &G,
+) -> Result<Answer, Fail> {
+    let mut out = MemSink::new(alloc, 1 << 20, plan(alloc, puts)?)?;
+    let mut err = MemSink::new(alloc, 1 << 16, plan(alloc, &[])?)?;
+    let words = words_of(alloc, line)?;
+    let status = run(rt, alloc, &words, host, &mut out, &mut err, gate);
+    Ok(Answer { status, out, err })
+}
+
+/// The same with a gate that lets every block through.
 pub(crate) fn answer_of<R: Threads + Wait + Sync>(
     rt: &R,
     alloc: Global,
@@ -139,9 +156,5 @@ pub(crate) fn answer_of<R: Threads + Wait + Sync>(
     host: &mut MemHost,
     puts: &[u64],
 ) -> Result<Answer, Fail> {
-    let mut out = MemSink::new(alloc, 1 << 16, plan(alloc, puts)?)?;
-    let mut err = MemSink::new(alloc, 1 << 16, plan(alloc, &[])?)?;
-    let words = words_of(alloc, line)?;
-    let status = run(rt, alloc, &words, host, &mut out, &mut err, &OpenGate);
-    Ok(Answer { status, out, err })
+    answer_at(rt, alloc, line, host, puts, &OpenGate)
 }

@@ -271,6 +271,3 @@ fn set_waiter(word: u64, number: u32) -> u64
 {
     word % ONE_WAITER + u64::from(number) * ONE_WAITER
 }
-
-#[cfg(test)]
-mod tests;

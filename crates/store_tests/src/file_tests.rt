@@ -11,7 +11,7 @@ use std::process::Abort;
 use std::rt::Files;
 use std::sync::atomic::{AtomicU32, Ordering};
 use std::test::Fail;
-use std::{fs, io, process};
+use std::{fs, io};
 
 /// Real files, which have their sizes, with syncs that are counted together. One of the syncs fails.
 #[derive(Drop)]
@@ -133,13 +133,14 @@ impl<'a> Files for CountedFiles<'a> {
 }
 
 /// Makes a relation of two segments of two blocks, the second of which has one block.
-fn two_segments(rt: &HostRuntime, name: &str) -> Result<[String; 2], Fail> {
-    let id = process::id(rt.process());
-    let first = format!(in rt.alloc(); "/tmp/counted-files-{name}-{id}")?;
-    let second = format!(in rt.alloc(); "{first}.1")?;
-    fs::write(rt, first.as_str(), [0u8; 16384].as_slice())?;
-    fs::write(rt, second.as_str(), [0u8; 8192].as_slice())?;
-    Ok([first, second])
+fn make_segments(rt: &HostRuntime, [first, second]: [&str; 2]) -> io::Result<()> {
+    fs::write(rt, first, [0u8; 16384].as_slice())?;
+    fs::write(rt, second, [0u8; 8192].as_slice())
+}
+
+fn remove_segments(rt: &HostRuntime, [first, second]: [&str; 2]) -> io::Result<()> {
+    fs::remove_file(rt, first)?;
+    fs::remove_file(rt, second)
 }
 
 /// A sync's answer, and how many syncs of files there were up to then.
@@ -153,7 +154,8 @@ fn sync_lane<F: FileExt + OpenFile + Drop>(
 
 #[test]
 fn a_sync_reaches_each_segment(rt: HostRuntime) -> Result<(), Fail> {
-    let [first, second] = two_segments(&rt, "synced")?;
+    let segments = ["synced", "synced.1"];
+    make_segments(&rt, segments)?;
     let syncs = AtomicU32::new(0);
     let files = CountedFiles {
         rt: &rt,
@@ -161,7 +163,7 @@ fn a_sync_reaches_each_segment(rt: HostRuntime) -> Result<(), Fail> {
         failing: 3,
     };
     let mut host = FileHost::new(&files, rt.alloc());
-    let mut lanes = host.relation(rt.alloc(), &first, 2, 1)?.lanes;
+    let mut lanes = host.relation(rt.alloc(), "synced", 2, 1)?.lanes;
     for lane in &mut lanes {
         assert_eq!(rt; sync_lane(lane, &syncs), (Ok(()), 2));
         assert_eq!(rt; sync_lane(lane, &syncs), (Err(Failed), 3));
@@ -169,8 +171,7 @@ fn a_sync_reaches_each_segment(rt: HostRuntime) -> Result<(), Fail> {
     }
     host.give_back(lanes, None);
     assert_eq!(rt; host.write_faults(), 1);
-    fs::remove_file(&rt, first.as_str())?;
-    fs::remove_file(&rt, second.as_str())?;
+    remove_segments(&rt, segments)?;
     Ok(())
 }
 
@@ -213,7 +214,8 @@ fn use_files(
 
 #[test]
 fn short_reads_and_writes_are_faults(rt: HostRuntime) -> Result<(), Fail> {
-    let [first, second] = two_segments(&rt, "short")?;
+    let segments = ["short", "short.1"];
+    make_segments(&rt, segments)?;
     let syncs = AtomicU32::new(0);
     let files = CountedFiles {
         rt: &rt,
@@ -221,9 +223,8 @@ fn short_reads_and_writes_are_faults(rt: HostRuntime) -> Result<(), Fail> {
         failing: 0,
     };
     let mut host = FileHost::new(&files, rt.alloc());
-    use_files(&rt, rt.alloc(), &mut host, &first)?;
+    use_files(&rt, rt.alloc(), &mut host, "short")?;
     assert_eq!(rt; (host.read_faults(), host.write_faults()), (1, 1));
-    fs::remove_file(&rt, first.as_str())?;
-    fs::remove_file(&rt, second.as_str())?;
+    remove_segments(&rt, segments)?;
     Ok(())
 }

@@ -1,4 +1,5 @@
-//! Tests of pages, logs and hosts, in memory and over real files.
+//! Tests of tags, state words, rings, logs and hosts: values worked out by hand, failures that leave a part,
+//! and real files.
 #![tactic(auto)]
 
 #[cfg(test)]
@@ -8,6 +9,8 @@ mod host_tests;
 #[cfg(test)]
 mod log_tests;
 #[cfg(test)]
-mod page_tests;
+mod ring_tests;
 #[cfg(test)]
-mod sample_tests;
+mod tag_tests;
+#[cfg(test)]
+mod word_tests;

@@ -8,8 +8,6 @@ mod bench;
 #[cfg(test)]
 mod devices;
 #[cfg(test)]
-mod job_tests;
-#[cfg(test)]
 mod refusals;
 #[cfg(test)]
 mod rewrite_tests;

@@ -1,9 +1,9 @@
 //! A rewrite, and a checkpoint after it.
 use crate::devices::{ByteLog, PageLane, TestCall, calls_of};
-use backend_pass::{Config, Manager, Pinned, StartRefused};
+use backend_pass::{Config, Manager, StartRefused};
 use block_tag::{Catalog, CatalogError, Fork, RelEntry, RelNo};
 use checkpointer::{Checkpoint, CheckpointError, checkpoint};
-use page_jobs::{Gate, JobEnd, JobError, NoBeside, Totals, rewrite};
+use page_jobs::{Beside, Gate, JobEnd, JobError, Totals, rewrite};
 use page_layout::Lsn;
 use std::alloc::{AllocError, Global};
 use std::sync::Wait;
@@ -11,16 +11,6 @@ use std::thread::Threads;
 
 /// Where the log begins.
 const BASE: Lsn = 0x16B3740;
-
-/// Hears of no block.
-#[derive(Drop)]
-struct Deaf;
-
-impl Gate for Deaf {
-    fn before(&self, _worker: u32, _block: u32) {}
-
-    fn seen(&self, _worker: u32, _pinned: &Pinned) {}
-}
 
 /// What came of them, and the calls of the devices.
 #[derive(Drop)]
@@ -41,13 +31,21 @@ fn catalog(alloc: Global) -> Result<Catalog, CatalogError> {
     Catalog::build(alloc, &[entry])
 }
 
-/// One pass of a manager of 16 frames rewrites the relation, and the other one makes a checkpoint after that.
-pub fn rewrite_then_checkpoint<R: Threads + Wait + Sync>(
+/// One pass of a manager of 16 frames rewrites the relation, with this work beside it by the other one,
+/// which makes a checkpoint after that.
+pub fn rewrite_then_checkpoint<R, T, B>(
     rt: &R,
     alloc: Global,
     lane: PageLane,
     log: ByteLog,
-) -> Result<Rewritten, AllocError> {
+    gate: &T,
+    beside: &mut B,
+) -> Result<Rewritten, AllocError>
+where
+    R: Threads + Wait + Sync,
+    T: Gate + Sync,
+    B: Beside<PageLane, ByteLog>,
+{
     let Ok(catalog) = catalog(alloc) else {
         return Err(AllocError);
     };
@@ -67,8 +65,8 @@ pub fn rewrite_then_checkpoint<R: Threads + Wait + Sync>(
                 passes,
                 RelNo(0),
                 Fork::Main,
-                &Deaf,
-                &mut NoBeside,
+                gate,
+                beside,
             );
             let mut last = passes.take_last();
             let checkpoint = checkpoint(&manager, rt, &mut last);

@@ -3,7 +3,6 @@ use crate::acts::{Act, Answer, play};
 use crate::bench::BLOCKS;
 use crate::devices::TestCall::{Append, ReadBlock, SyncLane, SyncLog, WriteBlock};
 use crate::devices::{ByteLog, Failing, Journal, PageLane};
-use crate::rewriting::rewrite_then_checkpoint;
 use crate::sharing::{TestJob, Use, run_beside};
 use backend_pass::{FlushError, Met};
 use bg_writer::Round;
@@ -388,67 +387,5 @@ fn rounds_are_made_beside_puts_and_reads(rt: HostRuntime) -> Result<(), Fail> {
     assert_eq!(rt; run.beside.upto, Some(0));
     let lane = run.lanes.first_mut().ok_or("no lane")?;
     assert_eq!(rt; wrong(lane), 0);
-    Ok(())
-}
-
-/// The header and the line pointers of a page with an item between two dead line pointers: log position 0/16B3740, lower 36, upper 8176, special 8192.
-const DEAD_FRONT: [u8; 36] = [
-    0x00, 0x00, 0x00, 0x00, 0x40, 0x37, 0x6b, 0x01, 0x00, 0x00, 0x00, 0x00, 0x24, 0x00, 0xf0, 0x1f,
-    0x00, 0x20, 0x04, 0x20, 0x00, 0x00, 0x00, 0x00, 0x00, 0x80, 0x01, 0x00, 0xf0, 0x9f, 0x08, 0x00,
-    0x00, 0x80, 0x01, 0x00,
-];
-
-/// So many pages with two dead line pointers.
-fn pages_with_dead(alloc: Global, blocks: u32) -> Result<Vec<Page>, AllocError> {
-    let mut bytes = [0u8; 8192];
-    bytes[..36].copy_from_slice(&DEAD_FRONT);
-    bytes[8176..8180].copy_from_slice(&[0x0a, 0x0b, 0x0c, 0x0d]);
-    bytes[8184..8188].copy_from_slice(&[1, 2, 3, 4]);
-    let mut pages = Vec::new(alloc);
-    for _ in 0..blocks {
-        let mut page = Page::zeroed(alloc)?;
-        page.fill(&bytes);
-        pages.push(page)?;
-    }
-    Ok(pages)
-}
-
-#[test]
-fn a_rewrite_writes_what_its_ring_gives_up(rt: HostRuntime) -> Result<(), Fail> {
-    let journal = Journal::new(rt.alloc())?;
-    let pages = pages_with_dead(rt.alloc(), 4)?;
-    let lane = PageLane::new(pages, Failing::None, journal.beside(rt.alloc())?);
-    let log = ByteLog::new(rt.alloc(), Failing::None, journal);
-    let run = rewrite_then_checkpoint(&rt, rt.alloc(), lane, log)?;
-    let totals = run.end.ok().ok_or("the rewrite ended early")?;
-    assert_eq!(rt; (totals.blocks, totals.changed, totals.dead), (4, 4, 8));
-    assert_eq!(rt;
-        run.checkpoint,
-        Ok(Checkpoint {
-            upto: 0x16B_B7C0,
-            written: 2
-        })
-    );
-    assert_eq!(rt;
-        run.calls.as_slice(),
-        [
-            ReadBlock(0),
-            Append,
-            ReadBlock(1),
-            Append,
-            SyncLog,
-            WriteBlock(0),
-            ReadBlock(2),
-            Append,
-            WriteBlock(1),
-            ReadBlock(3),
-            Append,
-            SyncLog,
-            WriteBlock(2),
-            WriteBlock(3),
-            SyncLane
-        ]
-        .as_slice()
-    );
     Ok(())
 }
