@@ -3,8 +3,6 @@
 #![tactic(auto)]
 
 #[cfg(test)]
-mod command_tests;
-#[cfg(test)]
 mod rewrite_fault_tests;
 mod run;
 #[cfg(test)]
