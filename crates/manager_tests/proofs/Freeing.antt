@@ -94,3 +94,7 @@ module _ {L G : Type 0} (contents : L → Option Pages) (m : Manager L G) where
     tokens = subst (λ (x : Pinned). q.tokens ≡ tokens_less x.frame v.tokens) e spent ∙ ap (tokens_less pinned.frame) r.tokens ∙ back;
     locks = λ f. kept f ∙ r.locks f ∙ locks f;
   }
+
+  -- a pin and its release
+  pub released_returns : (pinned : Pinned) (p u q : PassState) → SamePass p u → KeepsLocks p u → tokens_less pinned.frame u.tokens ≡ p.tokens → Belongs contents m q → SamePass u q → q.tokens ≡ tokens_less pinned.frame u.tokens → KeepsLocks u q → Returns contents m p q
+  released_returns pinned p u q same locks back b last spent kept = record { belongs = b; same = same_on p u q same last; tokens = spent ∙ back; locks = λ f. kept f ∙ locks f }

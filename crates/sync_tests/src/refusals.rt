@@ -158,19 +158,18 @@ fn a_log_that_is_not_synced_keeps_the_page_from_its_lane(rt: HostRuntime) -> Res
         Act::Put(0),
         Act::Flush(0),
         Act::Flush(0),
-        Act::Checkpoint,
+        Act::Put(0),
         Act::Checkpoint,
     ];
     let run = run(&rt, rt.alloc(), Failing::None, Failing::Sync(1), &acts)?;
-    let down = CheckpointError::LogDown { at: 8224 };
     assert_eq!(rt;
         run.answers.as_slice(),
         [
             put(8224),
             flush(Err(FlushError::LogFault)),
             flush(Err(FlushError::LogDown { at: 8224 })),
-            refused(down),
-            refused(down)
+            Answer::Put(Some(Err(PutError::LogDown { at: 8224 }))),
+            refused(CheckpointError::LogDown { at: 8224 })
         ]
         .as_slice()
     );
