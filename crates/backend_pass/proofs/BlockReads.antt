@@ -1,6 +1,7 @@
 -- A pass reads a block.
 use Rattle.std.proofs.Common.{◌≡◌, ◌≢◌, ◌<◌, ◌≤◌, ◌+◌, ℕ, Bool, List, Option, Some, None, Result, Ok, Err, refl, sym, ap, ◌∙◌, subst, true, arith}
 use Rattle.std.specs.Prelude.{IfOk, option_map}
+use Rattle.std.proofs.lemmas.Option.{none-some, same_Some}
 use mathlib.Core.Logic.{dite}
 use native.Mathlib.Decide.{ℕ_discrete}
 use Rattle.block_tag.specs.declared.catalogue.RelEntry.{RelEntry}
@@ -37,12 +38,6 @@ use Rattle.backend_pass.specs.Managers.{Belongs}
 use Rattle.backend_pass.proofs.Fronts.{front_kept}
 use Rattle.backend_pass.specs.Passes.{IsNumbered, IsShown, KeepsCalls, PassState, SamePass, shown_count}
 use Rattle.backend_pass.specs.Reading.{ReadingCalls, ReadingCensus, ReadingRefused, ReadsBlock, met_read_refused, read_refusal, shown_after}
-
-some_same : {A : Type 0} (x y : A) → Some x ≡ Some y → x ≡ y
-some_same x y e = cc
-
-some_none : {A : Type 0} (x : A) → Some x ≡ None → ⊥
-some_none x e = cc
 
 -- the number, and what is shown
 pub numbered_kept : (number id : ℕ) (v w : View) → kept_by_calls w ≡ kept_by_calls v → IsNumbered number id v → IsNumbered number id w
@@ -125,7 +120,7 @@ rests_pinned tag f t w quiet latches p seen = record {
     role = p.role;
     tag = p.remembered;
     seen = λ some. seen;
-    unlocked = λ none. absurd (some_none (record { frame = f; tag = tag; tokens = 1 }) none);
+    unlocked = λ none. absurd (none-some (record { frame = f; tag = tag; tokens = 1 }) (sym none));
   };
   latches = latches;
 }
@@ -154,7 +149,7 @@ calls_kept p q e = record { calls = ap (λ (x : View). x.calls) e; front = ap (�
 
 -- the tag of a number
 packed_same : (a b : Tag) → packed_tag a ≡ packed_tag b → names_block a ≡ true → names_block b ≡ true → a ≡ b
-packed_same a b e named other = some_same a b (sym (packed_is a named) ∙ ap unpacked_tag e ∙ packed_is b other)
+packed_same a b e named other = same_Some a b (sym (packed_is a named) ∙ ap unpacked_tag e ∙ packed_is b other)
 
 block_of_tag : (relations : List RelEntry) (tag : Tag) → names_block tag ≡ true → has_block relations tag ≡ true → is_block relations (packed_tag tag) ≡ true
 unfolding is_block
@@ -221,7 +216,7 @@ module _ {L G : Type 0} (contents : L → Option Pages) (m : Manager L G) where
       past g h n e = sym (with_past p.tokens new g n) ∙ ap (λ (t : Tokens). held_at t g) (sym tokens) ∙ e
 
       here : (g : ℕ) (h : HeldFrame) → g ≡ f → held_at q.tokens g ≡ Some h → packed_tag tag ≡ h.tag
-      here g h d e = ap (λ (x : HeldFrame). x.tag) (some_same new h (sym (with_here p.tokens new f refl none) ∙ ap (λ (t : Tokens). held_at t f) (sym tokens) ∙ ap (held_at q.tokens) (sym d) ∙ e))
+      here g h d e = ap (λ (x : HeldFrame). x.tag) (same_Some new h (sym (with_here p.tokens new f refl none) ∙ ap (λ (t : Tokens). held_at t f) (sym tokens) ∙ ap (held_at q.tokens) (sym d) ∙ e))
 
   -- a block that a pass has pinned was sound
   pub sound_again : (p : PassState) (tag : Tag) (f : ℕ) → names_block tag ≡ true → IsPinnedFor tag f p.tokens → Belongs contents m p → WasSoundAtOpening contents m.table tag
@@ -240,8 +235,8 @@ pub pinned_more : (tag : Tag) (f : ℕ) (t : Tokens) → IsPinnedFor tag f t →
 pinned_more tag f t pinned = more (held_at t f) (held_at (tokens_more f t) f) refl refl (more_tags t f f)
   where
     more : (o p : Option HeldFrame) → held_at t f ≡ o → held_at (tokens_more f t) f ≡ p → option_map HeldFrame.tag p ≡ option_map HeldFrame.tag o → IsPinnedFor tag f (tokens_more f t)
-    more o (Some h) x y same = record { held = h; there = y; same = some_same h.tag (packed_tag tag) (same ∙ ap (option_map HeldFrame.tag) (sym x ∙ pinned.there) ∙ ap Some pinned.same) }
-    more o None x y same = absurd (some_none pinned.held.tag (sym (ap (option_map HeldFrame.tag) (sym x ∙ pinned.there)) ∙ sym same))
+    more o (Some h) x y same = record { held = h; there = y; same = same_Some h.tag (packed_tag tag) (same ∙ ap (option_map HeldFrame.tag) (sym x ∙ pinned.there) ∙ ap Some pinned.same) }
+    more o None x y same = absurd (none-some pinned.held.tag (same ∙ ap (option_map HeldFrame.tag) (sym x ∙ pinned.there)))
 
 pub pinned_read : {L G : Type 0} (contents : L → Option Pages) (t : FrameTable L G) (tag : Tag) (ring : Bool) (p q : PassState) (r : Result Pinned ReadError) → ReadsBlock contents t tag ring p q r → IfOk r (λ pinned. IsPinnedFor tag pinned.frame q.tokens)
 pinned_read contents t tag ring p q (Ok pinned) b = subst (IsPinnedFor tag pinned.frame) (sym b.answer.tokens) (pinned_first tag pinned.frame p.tokens b.answer.new)

@@ -1,6 +1,7 @@
 -- A cleanup lock is taken, or refused.
-use Rattle.std.proofs.Common.{◌≡◌, ◌∙◌, ℕ, Option, Some, None, Result, Ok, Err, sym, ap, subst}
+use Rattle.std.proofs.Common.{◌≡◌, ◌∙◌, ℕ, Option, Some, Result, Ok, Err, sym, ap, subst}
 use Rattle.std.specs.Prelude.{IfErr, IfOk, option_map}
+use Rattle.std.proofs.lemmas.Option.{none-some}
 use Rattle.block_tag.specs.declared.tag.Tag.{Tag}
 use Rattle.block_tag.specs.Names.{packed_tag}
 use Rattle.pin_core.specs.declared.view.Content.{Content}
@@ -32,11 +33,8 @@ link_cleaned h lock l m a r = link_looked (Some h) (record l { content = lock })
   role = r.role;
   tag = r.tag;
   seen = r.seen;
-  unlocked = λ none. absurd (some_none none);
+  unlocked = λ none. absurd (none-some h (sym none));
 }
-  where
-    some_none : Some h ≡ None → ⊥
-    some_none e = cc
 
 pub rests_cleaned : (f : ℕ) (h : HeldFrame) (t : Tokens) (v w : View) → held_at t f ≡ Some h → Cleans f v w → OnlyTokens t v → OnlyTokens t w
 rests_cleaned f h t v w there k r = record {

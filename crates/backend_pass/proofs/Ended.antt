@@ -1,7 +1,7 @@
 -- A manager is closed: what holds of the devices, by the view that took in all passes.
 use Rattle.std.proofs.Common.{◌≡◌, ◌≢◌, ◌⊎◌, ◌<◌, ◌≤◌, ◌+◌, ℕ, zero, suc, Bool, true, false, nat_eq, ne_eqb, List, [], ◌∷◌, ◌++◌, length, get_or, refl, sym, ap, ◌∙◌, subst, inl, inr, ⊎_elim, arith, None}
-use Rattle.std.specs.Prelude.{◌||◌}
 use Rattle.std.proofs.Math.ListN.{get_or-map}
+use Rattle.std.proofs.lemmas.Bool.{or_right, or_from}
 use mathlib.Core.Logic.{dite}
 use mathlib.Core.Option.{some, some-injective, some-ne-none}
 use native.Mathlib.Decide.{ℕ_discrete}
@@ -91,14 +91,6 @@ pub record TookIn (u w : View) : Type 0 where
   pub output : u.had_output ≡ true → w.had_output ≡ true
   pub kept : (k : ℕ) × (get_elem? w.joined_checkpoints k ≡ some (kept_checkpoint u))
 
-or_right : (a b : Bool) → b ≡ true → (a || b) ≡ true
-or_right true b e = refl
-or_right false b e = e
-
-or_none : (a b : Bool) → a ≡ false → b ≡ false → (a || b) ≡ false
-or_none true b e f = e
-or_none false b e f = f
-
 none_so : (a b : Bool) → (a ≡ true → b ≡ true) → b ≡ false → a ≡ false
 none_so true b so e = sym (so refl) ∙ e
 none_so false b so e = refl
@@ -121,7 +113,7 @@ fronted_at base (x ∷ xs) zero p a e = subst (λ (y : PassState). IsFront base 
 fronted_at base (x ∷ xs) (suc i) p a e = fronted_at base xs i p a.1 e
 
 -- the writes of all
-writes-both : (xs ys : List Call) → writes_in (xs ++ ys) ≡ writes_in xs + writes_in ys
+pub writes-both : (xs ys : List Call) → writes_in (xs ++ ys) ≡ writes_in xs + writes_in ys
 unfolding total
 writes-both [] ys = omega arith
 writes-both (x ∷ xs) ys = omega (arith, writes-both xs ys)
@@ -133,7 +125,7 @@ none_put (p ∷ ps) none = omega (arith, writes-both p.view.calls (calls_of_pass
 
 unmarked_joined : (v : View) (ps : List PassState) → v.dirtied_or_synced ≡ false → ((j : ℕ) (p : PassState) → get_elem? ps j ≡ some p → p.view.dirtied_or_synced ≡ false) → (joined_views v ps).dirtied_or_synced ≡ false
 unmarked_joined v [] e all = e
-unmarked_joined v (x ∷ xs) e all = unmarked_joined (joined_view v x.view) xs (or_none v.dirtied_or_synced x.view.dirtied_or_synced e (all 0 x refl)) (λ j p at. all (suc j) p at)
+unmarked_joined v (x ∷ xs) e all = unmarked_joined (joined_view v x.view) xs (or_from v.dirtied_or_synced x.view.dirtied_or_synced e (all 0 x refl)) (λ j p at. all (suc j) p at)
 
 no_items : {A : Type 0} (xs : List A) → length xs ≡ 0 → xs ≡ []
 no_items [] e = refl

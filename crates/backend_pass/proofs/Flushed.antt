@@ -6,22 +6,18 @@ use Rattle.block_tag.specs.declared.catalogue.RelEntry.{RelEntry}
 use Rattle.block_tag.specs.declared.tag.Tag.{Tag}
 use Rattle.block_tag.specs.Names.{names_block, packed_tag, tag_if_named, unpacked_tag}
 use Rattle.segment_store.specs.Contents.{Pages}
-use Rattle.pin_core.specs.declared.view.Content.TheVariants.{Unlocked}
 use Rattle.pin_core.specs.declared.view.FailedCalls.{FailedCalls}
 use Rattle.pin_core.specs.declared.view.View.{View}
-use Rattle.pin_core.specs.State.{link}
 use Rattle.table_rule.specs.Blocks.{has_block, has_named, is_block}
 use Rattle.frame_table.specs.declared.table.FrameTable.{FrameTable}
 use Rattle.frame_table.specs.Seats.{frames_of, relations_of}
-use Rattle.held_pins.specs.Rests.{SameLocks}
 use Rattle.held_pins.specs.Tokens.{IsPinnedFor}
 use Rattle.buffer_frames.specs.Flushing.{FlushAnswer, met_flushing}
-use Rattle.buffer_frames.specs.Working.{WorksAt, met_log}
+use Rattle.buffer_frames.specs.Working.{met_log}
 use Rattle.backend_pass.specs.declared.errors.FlushError.{FlushError}
 use Rattle.backend_pass.specs.declared.errors.FlushError.TheVariants.{WriteFault, LogFault, LogDown, LogShort}
 use Rattle.backend_pass.specs.declared.manager.Manager.{Manager}
 use Rattle.backend_pass.specs.declared.met.Shown.{Shown}
-use Rattle.held_pins.proofs.Keeping.{same_locks_at}
 use Rattle.backend_pass.specs.FrameFlushes.{WasWithin, frame_refusal, page_answer, shown_unflushed}
 use Rattle.backend_pass.specs.Managers.{Belongs}
 use Rattle.backend_pass.specs.Passes.{IsShown, PassState, shown_count, shown_log}
@@ -39,10 +35,6 @@ named_and_listed relations tag false e is = absurd (cc)
 pub tag_of_block : (relations : List RelEntry) (tag : Tag) → tag.block < 2 ^ 32 → is_block relations (packed_tag tag) ≡ true → (names_block tag ≡ true) × (has_block relations tag ≡ true)
 unfolding is_block
 tag_of_block relations tag low is = named_and_listed relations tag (names_block tag) refl (ap (has_named relations) (sym (packed_named tag low)) ∙ is)
-
--- the content locks of a view that has none at the frame where it worked
-pub locks_worked : (f : ℕ) (v w : View) → WorksAt f v w → (link v f).content ≡ Unlocked → (link w f).content ≡ Unlocked → SameLocks v w
-locks_worked f v w work before after = same_locks_at f v w work.others (after ∙ sym before)
 
 -- what is shown after a refusal
 pub shown_logged : (v w : View) (s : Shown) → w.front ≡ v.front → w.met ≡ met_log v.met → IsShown v s → IsShown w (shown_log s)

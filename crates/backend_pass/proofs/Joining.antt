@@ -1,6 +1,6 @@
 -- All passes end, the first one last.
-use Rattle.std.proofs.Common.{◌≡◌, ◌<◌, ◌≤◌, ◌+◌, ℕ, zero, suc, Bool, true, false, cond, List, [], ◌∷◌, ◌++◌, append_assoc, append-nil, take, drop, length, get_or, refl, sym, ap, ◌∙◌, subst, arith}
-use Rattle.std.specs.Prelude.{◌||◌}
+use Rattle.std.proofs.Common.{◌≡◌, ◌<◌, ◌≤◌, ◌+◌, ℕ, zero, suc, true, false, cond, List, [], ◌∷◌, ◌++◌, append_assoc, append-nil, take, drop, length, get_or, refl, sym, ap, ◌∙◌, subst, arith}
+use Rattle.std.proofs.lemmas.Bool.{or_left}
 use mathlib.Core.Option.{some}
 use lib.ListN.{get_elem?}
 use Rattle.atomic_table.specs.Seated.{TableId}
@@ -96,10 +96,6 @@ pub record Joins (v w : View) (ps : List PassState) : Type 0 where
   pub output : v.had_output ≡ true → w.had_output ≡ true
   pub kept : (k : ℕ) (c : JoinedCheckpoint) → get_elem? v.joined_checkpoints k ≡ some c → (j : ℕ) × (get_elem? w.joined_checkpoints j ≡ some c)
 
-or_true : (a b : Bool) → a ≡ true → (a || b) ≡ true
-or_true true b e = refl
-or_true false b e = cc
-
 met_sum : (a b c : FailedCalls) → sum_of_met (sum_of_met a b) c ≡ sum_of_met a (sum_of_met b c)
 met_sum a b c = met_same (sum_of_met (sum_of_met a b) c) (sum_of_met a (sum_of_met b c)) (omega arith) (omega arith) (omega arith)
   where
@@ -141,8 +137,8 @@ joins v (p ∷ ps) = let r = joins (joined_view v p.view) ps in record {
   met = r.met ∙ met_sum v.met p.view.met (met_by_passes ps);
   front = let a = r.front in omega arith;
   seen = let a = r.seen in omega arith;
-  down = λ e. r.down (or_true v.saw_down p.view.saw_down e);
-  output = λ e. r.output (or_true v.had_output p.view.had_output e);
+  down = λ e. r.down (or_left v.saw_down p.view.saw_down e);
+  output = λ e. r.output (or_left v.had_output p.view.had_output e);
   kept = λ k c e. r.kept k c (at_longer v.joined_checkpoints _ k c e);
 }
 

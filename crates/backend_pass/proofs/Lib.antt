@@ -1,5 +1,6 @@
 pub mod Fronts
 pub mod Releasing
+pub mod Keeping
 pub mod Seated
 pub mod Starting
 pub mod Joining
@@ -12,3 +13,4 @@ pub mod Flushed
 pub mod PassPuts
 pub mod CleanupLocks
 pub mod PassSyncing
+pub mod Crossing

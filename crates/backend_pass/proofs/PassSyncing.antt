@@ -1,39 +1,32 @@
 -- What a pass keeps as the background writer, or for a checkpoint.
-use Rattle.std.proofs.Common.{◌≡◌, ◌≢◌, ◌≤◌, ◌+◌, ℕ, List, [], ◌∷◌, Bool, true, false, Option, Some, None, Result, Ok, Err, refl, sym, ap, ◌∙◌, subst, max, arith}
-use Rattle.std.specs.Prelude.{IfErr, IfOk, IsOk}
+use Rattle.std.proofs.Common.{◌≡◌, ◌≤◌, ℕ, Bool, true, false, Option, Result, Ok, Err, refl, sym, ap, ◌∙◌, subst, arith}
+use Rattle.std.specs.Prelude.{IsOk}
 use Rattle.std.specs.Result.{is_ok}
-use Rattle.block_tag.specs.declared.tag.Tag.{Tag}
 use Rattle.block_tag.specs.Names.{lane_number}
 use Rattle.log_device.specs.declared.device.Failed.{Failed}
 use Rattle.segment_store.specs.Contents.{Pages}
-use Rattle.pin_core.specs.declared.view.Load.{Load}
 use Rattle.pin_core.specs.declared.view.FailedCalls.{FailedCalls}
 use Rattle.pin_core.specs.declared.view.View.{View}
-use Rattle.pin_core.specs.Kinds.{load_of}
 use Rattle.pin_core.specs.State.{link}
 use Rattle.history_core.specs.Steps.{unmarked}
 use Rattle.frame_table.specs.declared.table.FrameTable.{FrameTable}
 use Rattle.frame_table.specs.Latches.{work_of}
-use Rattle.frame_table.specs.Seats.{Grows, OnlyRises, lanes_in}
+use Rattle.frame_table.specs.Seats.{OnlyRises, lanes_in}
 use Rattle.frame_table.specs.WordSteps.{begin_checkpoint, load_hand, view_of}
 use Rattle.frame_table.proofs.Rising.{grows_loads, rises_by}
 use Rattle.wal_flush.specs.declared.flushes.FlushLog.{FlushLog}
 use Rattle.wal_flush.specs.declared.flushes.FlushLog.TheVariants.{LogShort, LogDown, LogFault}
-use Rattle.wal_flush.specs.declared.flushes.FlushedBy.{FlushedBy}
-use Rattle.wal_flush.specs.declared.flushes.FlushedBy.TheVariants.{NoSync, OneSync}
-use Rattle.wal_flush.specs.Flushes.{as_looked, flushed_view, unflushed_view}
 use Rattle.held_pins.specs.Rests.{LinkRests, LinksRest, SameLocks, kept_by_calls}
-use Rattle.held_pins.specs.Tokens.{HeldFrame, Tokens, held_at}
-use Rattle.buffer_frames.specs.Flushing.{met_flushing, met_lane_write}
-use Rattle.buffer_frames.specs.Working.{met_log, met_write}
+use Rattle.held_pins.specs.Tokens.{Tokens, held_at}
+use Rattle.buffer_frames.specs.Flushing.{met_flushing}
+use Rattle.buffer_frames.proofs.Written.{flushed_met}
 use Rattle.buffer_sync.specs.declared.syncing.Synced.{Synced}
 use Rattle.buffer_sync.specs.declared.syncing.SyncOnly.{SyncOnly}
-use Rattle.buffer_sync.specs.declared.syncing.Synced.TheVariants.{Skipped, Clean, Written}
 use Rattle.buffer_sync.specs.Syncs.{AreAlone, SyncsFrame, synced_work}
 use Rattle.backend_pass.specs.declared.errors.FlushError.{FlushError}
 use Rattle.backend_pass.specs.declared.manager.Manager.{Manager}
 use Rattle.backend_pass.specs.declared.met.Shown.{Shown}
-use Rattle.backend_pass.specs.FrameFlushes.{frame_answer, frame_refusal}
+use Rattle.backend_pass.specs.FrameFlushes.{frame_answer}
 use Rattle.backend_pass.specs.Managers.{Belongs}
 use Rattle.backend_pass.specs.Passes.{IsShown, KeepsCallers, PassState, SamePass, shown_count}
 use Rattle.backend_pass.specs.PassSyncs.{FlushesLog, shown_lane_synced, shown_log_flushed, shown_synced}
@@ -91,12 +84,8 @@ shown_sync v w s (Ok synced) front met n = shown_met v w s front met n
 shown_sync v w s (Err why) front met n = shown_not_flushed v w s why front met n
 
 -- the log to be flushed
-flushed_by : (by : FlushedBy) (v w : View) → w ≡ as_looked (flushed_view by v) w → w.met ≡ v.met
-flushed_by NoSync v w e = ap (λ (x : View). x.met) e
-flushed_by OneSync v w e = ap (λ (x : View). x.met) e
-
 pub shown_flush : (lsn : ℕ) (v w : View) (s : Shown) (r : Result Unit FlushLog) → FlushesLog lsn v w r → IsShown v s → IsShown w (shown_log_flushed r s)
-shown_flush lsn v w s (Ok done) f n = shown_met v w s (ap (λ (x : View). x.front) f.work) (flushed_by f.view.0 v w f.view.1) n
+shown_flush lsn v w s (Ok done) f n = shown_met v w s (ap (λ (x : View). x.front) f.work) (flushed_met f.view.0 v w f.view.1) n
 shown_flush lsn v w s (Err (LogShort l end)) f n = shown_met v w s (ap (λ (x : View). x.front) f.work) (ap (λ (x : View). x.met) f.left) n
 shown_flush lsn v w s (Err (LogDown at)) f n = shown_met v w s (ap (λ (x : View). x.front) f.work) (ap (λ (x : View). x.met) f.left) n
 shown_flush lsn v w s (Err LogFault) f n = shown_logged v w s (ap (λ (x : View). x.front) f.work) (ap (λ (x : View). x.met) f.left) n

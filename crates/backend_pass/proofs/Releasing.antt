@@ -1,6 +1,7 @@
 -- A token comes back.
 use Rattle.std.proofs.Common.{◌≡◌, ◌≢◌, ℕ, Option, Some, None, refl, sym, ap, ◌∙◌, subst, true, arith}
 use Rattle.std.specs.Prelude.{option_map, ◌≤◌}
+use Rattle.std.proofs.lemmas.Option.{none-some, same_Some}
 use mathlib.Core.Logic.{dite}
 use native.Mathlib.Decide.{ℕ_discrete}
 use Rattle.pin_core.specs.declared.view.Content.TheVariants.{Unlocked}
@@ -111,22 +112,13 @@ abbrev pub AreHeld : Tokens → Tokens → Type 0
 AreHeld t u = (g : ℕ) (h : HeldFrame) → held_at u g ≡ Some h → (k : HeldFrame) × (held_at t g ≡ Some k) × (k.tag ≡ h.tag)
 
 tag_held : (o p : Option HeldFrame) (h : HeldFrame) → option_map HeldFrame.tag p ≡ option_map HeldFrame.tag o → p ≡ Some h → (k : HeldFrame) × (o ≡ Some k) × (k.tag ≡ h.tag)
-tag_held (Some k) p h same e = (k, refl, some_tag k.tag h.tag (sym same ∙ ap (option_map HeldFrame.tag) e))
-  where
-    some_tag : (a b : ℕ) → Some a ≡ Some b → a ≡ b
-    some_tag a b e = cc
-tag_held None p h same e = absurd (some_none h.tag (sym (ap (option_map HeldFrame.tag) e) ∙ same))
-  where
-    some_none : (a : ℕ) → Some a ≡ None → ⊥
-    some_none a e = cc
+tag_held (Some k) p h same e = (k, refl, same_Some k.tag h.tag (sym same ∙ ap (option_map HeldFrame.tag) e))
+tag_held None p h same e = absurd (none-some h.tag (sym same ∙ ap (option_map HeldFrame.tag) e))
 
 pub held_last : (f : ℕ) (t : Tokens) → held_at (tokens_less f t) f ≡ None → AreHeld t (tokens_less f t)
 held_last f t none g h e = dite (ℕ_discrete g f)
-    (λ d. absurd (some_none h (sym e ∙ ap (held_at (tokens_less f t)) d ∙ none)))
+    (λ d. absurd (none-some h (sym (ap (held_at (tokens_less f t)) d ∙ none) ∙ e)))
     (λ n. (h, sym (less_others t f g n) ∙ e, refl))
-  where
-    some_none : (x : HeldFrame) → Some x ≡ None → ⊥
-    some_none x e = cc
 
 pub held_several : (f : ℕ) (t : Tokens) → tokens_of (held_at t f) ≢ 1 → AreHeld t (tokens_less f t)
 held_several f t more g h e = dite (ℕ_discrete g f)

@@ -1,8 +1,7 @@
 -- A content lock is taken or given up, or a page is copied under it.
-use Rattle.std.proofs.Common.{◌≡◌, ◌≢◌, ℕ, false, Option, Some, None, Result, Ok, Err, refl, sym, ap, ◌∙◌, subst}
+use Rattle.std.proofs.Common.{◌≡◌, ℕ, false, Option, Some, None, Result, Ok, Err, refl, sym, ap, ◌∙◌, subst}
 use Rattle.std.specs.Prelude.{IfErr, IfOk}
-use mathlib.Core.Logic.{dite}
-use native.Mathlib.Decide.{ℕ_discrete}
+use Rattle.std.proofs.lemmas.Option.{none-some}
 use Rattle.pin_core.specs.declared.view.Content.TheVariants.{Unlocked}
 use Rattle.pin_core.specs.declared.view.Role.TheVariants.{HandedOut, Absent}
 use Rattle.pin_core.specs.declared.view.Link.{Link}
@@ -11,7 +10,7 @@ use Rattle.pin_core.specs.State.{link}
 use Rattle.frame_table.specs.Content.{CanLock}
 use Rattle.frame_table.specs.Seats.{SameMarks, Touches}
 use Rattle.held_pins.specs.Tokens.{HeldFrame, Tokens, held_at}
-use Rattle.held_pins.specs.Rests.{LinkRests, OnlyTokens, SameLocks, role_of}
+use Rattle.held_pins.specs.Rests.{LinkRests, OnlyTokens, role_of}
 use Rattle.held_pins.proofs.Keeping.{devices_touched, latches_same, rests_touched}
 use Rattle.backend_pass.proofs.Releasing.{AreHeld}
 
@@ -40,11 +39,8 @@ link_relocked h l m e r = record {
   role = ap (λ (x : Link). x.role) e ∙ r.role;
   tag = ap (λ (x : Link). x.tag) e ∙ r.tag;
   seen = λ some. ap (λ (x : Link). x.seen_valid) e ∙ r.seen some;
-  unlocked = λ none. absurd (some_none none);
+  unlocked = λ none. absurd (none-some h (sym none));
 }
-  where
-    some_none : Some h ≡ None → ⊥
-    some_none e = cc
 
 pub rests_relocked : (f : ℕ) (h : HeldFrame) (t : Tokens) (v w : View) → held_at t f ≡ Some h → Relocks f v w → OnlyTokens t v → OnlyTokens t w
 rests_relocked f h t v w there k r = record {
@@ -55,27 +51,15 @@ rests_relocked f h t v w there k r = record {
 }
 
 -- what a pinned frame that rests allows
-some_none : (h : HeldFrame) (o : Option HeldFrame) → o ≡ Some h → o ≢ None
-some_none h o e none = differ (sym e ∙ none)
-  where
-    differ : Some h ≡ None → ⊥
-    differ e = cc
-
 pub can_lock : (o : Option HeldFrame) (h : HeldFrame) (l : Link) → o ≡ Some h → l.content ≡ Unlocked → LinkRests o l → CanLock l
 can_lock o h l e unlocked r = record {
   pinned = λ absent. handed (sym absent ∙ r.role ∙ ap (λ (x : Option HeldFrame). role_of x) e);
-  seen = r.seen (some_none h o e);
+  seen = r.seen (λ none. none-some h (sym none ∙ e));
   none = unlocked;
 }
   where
     handed : Absent ≡ HandedOut → ⊥
     handed e = cc
-
--- all content locks are as they were, where that of f is
-pub locks_kept : (f : ℕ) (v w : View) → ((g : ℕ) → g ≢ f → link w g ≡ link v g) → (link w f).content ≡ (link v f).content → SameLocks v w
-locks_kept f v w others here g = dite (ℕ_discrete g f)
-    (λ e. subst (λ (x : ℕ). (link w x).content ≡ (link v x).content) (sym e) here)
-    (λ n. ap (λ (l : Link). l.content) (others g n))
 
 -- the same tokens
 pub held_same : (t : Tokens) → AreHeld t t

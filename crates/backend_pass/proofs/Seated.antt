@@ -2,8 +2,8 @@
 use Rattle.std.proofs.Common.{◌≡◌, [], ◌∷◌, sym, ap, subst, ◌∙◌}
 use Rattle.atomic_table.specs.declared.badge.Badge.{Badge}
 use Rattle.pin_core.specs.declared.view.View.{View}
-use Rattle.frame_table.proofs.Rising.{rises_on}
 use Rattle.backend_pass.specs.Passes.{PassState, SamePass, view_in}
+use Rattle.backend_pass.proofs.Keeping.{pass_on}
 
 -- the view that a badge gives its seat
 pub view_of_seat : (b r : Badge View) (v : View) → r ≡ b → r.views ≡ v ∷ [] → view_in b.views ≡ v
@@ -14,19 +14,7 @@ pub one_view : (b : Badge View) (w : View) → b.views ≡ w ∷ [] → b.views 
 one_view b w one = one ∙ ap (λ (x : View). x ∷ []) (sym (ap view_in one))
 
 pub same_on : (p q r : PassState) → SamePass p q → SamePass q r → SamePass p r
-same_on p q r a b = let c = a.keeps in let d = b.keeps in record {
-  keeps = record {
-    table = d.table ∙ c.table;
-    id = d.id ∙ c.id;
-    frames = d.frames ∙ c.frames;
-    number = d.number ∙ c.number;
-    next = d.next ∙ c.next;
-    joined = d.joined ∙ c.joined;
-    kept = d.kept ∙ c.kept;
-    advances = rises_on p.view q.view r.view c.advances d.advances;
-  };
-  upto = b.upto ∙ a.upto;
-}
+same_on p q r a b = record { keeps = pass_on p q r a.keeps b.keeps; upto = b.upto ∙ a.upto }
 
 pub same_from : (a p q : PassState) → p ≡ a → SamePass p q → SamePass a q
 same_from a p q e same = subst (λ (x : PassState). SamePass x q) e same

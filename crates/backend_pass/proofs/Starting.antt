@@ -1,5 +1,6 @@
 -- Passes at the start.
-use Rattle.std.proofs.Common.{◌≡◌, ◌+◌, ◌-◌, ℕ, zero, suc, List, [], ◌∷◌, ◌++◌, take, drop, ⊎_elim, Option, Some, None, replicate, length, get_or, refl, sym, ap, ◌∙◌, subst, add-one, arith}
+use Rattle.std.proofs.Common.{◌≡◌, ◌+◌, ◌-◌, ℕ, zero, suc, List, [], ◌∷◌, ◌++◌, take, drop, ⊎_elim, Option, Some, None, replicate, length, refl, sym, ap, ◌∙◌, subst, add-one, arith}
+use Rattle.std.proofs.lemmas.Option.{none-some}
 use mathlib.Core.Option.{some, some-injective, some-ne-none}
 use lib.ListN.{get_elem?, length-replicate}
 use Rattle.grid.proofs.Lists.{at_end}
@@ -10,6 +11,7 @@ use Rattle.pin_core.specs.State.{first_view, idle, new_view, no_lane, no_partiti
 use Rattle.clock_sweep.specs.CensusList.{new_census}
 use Rattle.frame_table.specs.FrameSteps.{split_view}
 use Rattle.frame_table.specs.Seats.{base_of, frames_of, lanes_in}
+use Rattle.frame_table.proofs.Resting.{same_all}
 use Rattle.held_pins.specs.Tokens.{HeldFrame, held_at, no_tokens}
 use Rattle.held_pins.specs.Rests.{LinkRests, OnlyTokens}
 use Rattle.backend_pass.specs.declared.pass_memory.PassMemory.{PassMemory}
@@ -18,12 +20,6 @@ use Rattle.backend_pass.specs.PassMemories.{AreForFrames}
 use Rattle.backend_pass.specs.Managers.{AreNewPasses, Belongs, IsNewPass}
 use Rattle.backend_pass.specs.Passes.{IsFreshView, PassState}
 use Rattle.backend_pass.proofs.Fronts.{front_new}
-
--- an item of a list of the same
-same_all : {A : Type 0} (n i : ℕ) (x : A) → get_or (replicate n x) i x ≡ x
-same_all zero i x = refl
-same_all (suc n) zero x = refl
-same_all (suc n) (suc i) x = same_all n i x
 
 idle_rests : LinkRests None idle
 idle_rests = record {
@@ -81,10 +77,7 @@ split_at base frames partitions lanes next =
 
 module _ {L G : Type 0} (contents : L → Option Pages) (m : Manager L G) (count : ℕ) where
   none_held : (t : List HeldFrame) (f : ℕ) (h : HeldFrame) → t ≡ no_tokens → held_at t f ≡ Some h → ⊥
-  none_held t f h none e = some_none h (sym e ∙ ap (λ (x : List HeldFrame). held_at x f) none)
-    where
-      some_none : (x : HeldFrame) → Some x ≡ None → ⊥
-      some_none x e = cc
+  none_held t f h none e = none-some h (ap (λ (x : List HeldFrame). held_at x f) (sym none) ∙ e)
 
   new_belongs : (p : PassState) (base : ℕ) → p.table ≡ m.table.table.shared.table_id → p.census ≡ new_census (frames_of m.table) → p.tokens ≡ no_tokens → p.view.calls ≡ [] → p.view.front ≡ base → p.view.end_seen ≡ base → base ≡ base_of m.table → Belongs contents m p
   new_belongs p base table census tokens calls front end same = record {

@@ -6,7 +6,7 @@ use native.Mathlib.Decide.{ℕ_discrete}
 use Rattle.std.proofs.lemmas.List.Elements.{All-cons, All-head, All-nil, All-tail}
 use Rattle.segment_store.specs.Contents.{Pages}
 use Rattle.pin_core.specs.declared.view.DeviceCall.{DeviceCall}
-use Rattle.pin_core.specs.declared.view.DeviceCall.TheVariants.{LaneRead, LaneWrite, LaneSync, LogAppend, LogSync}
+use Rattle.pin_core.specs.declared.view.DeviceCall.TheVariants.{LaneWrite, LogSync}
 use Rattle.pin_core.specs.declared.view.View.{View}
 use Rattle.pin_core.specs.State.{Page, link}
 use Rattle.frame_table.specs.declared.table.FrameTable.{FrameTable}
@@ -21,6 +21,7 @@ use Rattle.buffer_sync.specs.declared.syncing.SyncOnly.TheVariants.{NotRecentlyU
 use Rattle.buffer_sync.specs.declared.syncing.Synced.{Synced}
 use Rattle.buffer_sync.specs.declared.syncing.Synced.TheVariants.{Skipped, Clean, Written}
 use Rattle.buffer_sync.specs.Syncs.{EndsSync, SyncsFrame, WritesPages, pages_written}
+use Rattle.buffer_sync.proofs.PagesWritten.{pages_written-append}
 use Rattle.backend_pass.specs.declared.errors.FlushError.{FlushError}
 use Rattle.backend_pass.specs.declared.manager.Manager.{Manager}
 use Rattle.backend_pass.specs.FrameFlushes.{RefusesFrame, frame_answer, frame_refusal}
@@ -28,17 +29,8 @@ use Rattle.backend_pass.specs.Managers.{Belongs}
 use Rattle.backend_pass.specs.Passes.{KeepsCallers, KeepsMark, PassState, SamePass}
 use Rattle.backend_pass.specs.Reading.{NothingFails}
 use Rattle.backend_pass.proofs.Seated.{same_on}
+use Rattle.backend_pass.proofs.Keeping.{callers_on}
 use Rattle.bg_writer.specs.Rounds.{LookedInOrder, Rounds, next, none, pages_written_for, pages_written_for_all}
-
--- calls of devices, one after another
-pages_both : (a b : List DeviceCall) → pages_written (a ++ b) ≡ pages_written a + pages_written b
-pages_both [] b = omega arith
-pages_both (LaneRead lane tag done ∷ a) b = pages_both a b
-pages_both (LaneWrite lane tag page true ∷ a) b = let e = pages_both a b in omega arith
-pages_both (LaneWrite lane tag page false ∷ a) b = pages_both a b
-pages_both (LaneSync lane done ∷ a) b = pages_both a b
-pages_both (LogAppend done ∷ a) b = pages_both a b
-pages_both (LogSync done ∷ a) b = pages_both a b
 
 all_append : (P : DeviceCall → Type 0) (a b : List DeviceCall) → All P a → All P b → All P (a ++ b)
 all_append P [] b x y = y
@@ -52,7 +44,7 @@ writes_on m n v u w a b = record {
   made = a.made ++ b.made;
   calls = made_on a.made b.made v u w a.calls b.calls;
   each = all_append IsFlushCall a.made b.made a.each b.each;
-  counted = (let e = pages_both a.made b.made in let x = a.counted in let y = b.counted in omega arith);
+  counted = (let e = pages_written-append a.made b.made in let x = a.counted in let y = b.counted in omega arith);
 }
 
 -- a page went to its lane
@@ -81,16 +73,6 @@ module _ {L G : Type 0} (contents : L → Option Pages) (t : FrameTable L G) whe
 pages_snoc : (came : List Synced) (synced : Synced) → pages_written_for_all (came ++ synced ∷ []) ≡ pages_written_for_all came + pages_written_for synced
 pages_snoc [] synced = omega arith
 pages_snoc (x ∷ came) synced = let e = pages_snoc came synced in omega arith
-
--- what callers have, over two calls
-pub callers_on : (p q r : PassState) → KeepsCallers p q → KeepsCallers q r → SamePass p q → SamePass q r → KeepsCallers p r
-callers_on p q r a b x y = record {
-  keeps = (same_on p q r x y).keeps;
-  tokens = b.tokens ∙ a.tokens;
-  locks = λ f. b.locks f ∙ a.locks f;
-  census = b.census ∙ a.census;
-  calls = record { calls = b.calls.calls ∙ a.calls.calls; front = b.calls.front ∙ a.calls.front; place_loads = b.calls.place_loads ∙ a.calls.place_loads };
-}
 
 module _ {L G : Type 0} (contents : L → Option Pages) (m : Manager L G) where
   -- So many frames were looked at, and so many pages written
@@ -129,7 +111,7 @@ module _ {L G : Type 0} (contents : L → Option Pages) (m : Manager L G) where
   going_on p q r hand places written f synced a at s = record {
     belongs = s.belongs;
     same = same_on p q r a.same s.same;
-    callers = callers_on p q r a.callers s.callers a.same s.same;
+    callers = callers_on p q r a.callers s.callers;
     mark = s.mark ∙ a.mark;
     pins = λ g. s.pins g ∙ a.pins g;
     notes = λ g. notes_on (link p.view g) (link q.view g) (link r.view g) (a.notes g) (notes_held q r f s.others s.notes g);

@@ -110,14 +110,6 @@ impl Catalog {
         Ok(Catalog { entries })
     }
 
-    /// The relations, each at its number's place.
-    pub fn entries(&self) -> &[RelEntry]
-        ensures entries { result.now ≡ self.now }
-        ensures catalogue { IsCatalogue self.now }
-    {
-        self.entries.as_slice()
-    }
-
     /// How many relations there are, at most 1024.
     pub fn len(&self) -> usize
         ensures length { result ≡ length self.now }

@@ -7,10 +7,11 @@ use Rattle.pin_core.specs.declared.view.Role.{Role}
 use Rattle.pin_core.specs.declared.view.Role.TheVariants.{Absent, HandedOut, Victim}
 use Rattle.pin_core.specs.declared.view.Content.TheVariants.{Unlocked}
 use Rattle.pin_core.specs.State.{link}
+use Rattle.pin_core.proofs.Views.{link_same}
 use Rattle.frame_table.specs.Seats.{Looked, unpinned_link}
 use Rattle.held_pins.specs.Rests.{HasAtMostLock, LinkRests, LinksRest, LinksRestBeside, role_of}
 use Rattle.held_pins.specs.Tokens.{HeldFrame, Tokens, held_at}
-use Rattle.held_pins.proofs.Keeping.{beside_kept, calm_looked, link_same, rests_with}
+use Rattle.held_pins.proofs.Keeping.{beside_kept, calm_looked, rests_with}
 use Rattle.buffer_frames.specs.Stages.{HasVictim, Pins}
 
 -- a latch is left, or taken
@@ -69,10 +70,6 @@ none_absent (Some h) e = let no : HandedOut ≡ Absent = e in absurd (cc)
 pub some_to : {A : Type 0} {P Q : A → Type 0} (o : Option A) → ((x : A) → P x → Q x) → IfSome o P → IfSome o Q
 some_to (Some x) to p = to x p
 some_to None to p = p
-
-pub none_to : {A : Type 0} {P Q : Type 0} (o : Option A) → (P → Q) → IfNone o P → IfNone o Q
-none_to (Some x) to p = p
-none_to None to p = to p
 
 pub none_if : {A : Type 0} {P : Type 0} (o : Option A) → P → IfNone o P
 none_if (Some x) p = tt

@@ -28,6 +28,7 @@ use Rattle.frame_table.specs.LaneWork.{IsNoted, IsTakenLane, LaneStep, MayNote, 
 use Rattle.frame_table.specs.Seats.{OnlyRises, SameMarks, view_marks}
 use Rattle.held_pins.specs.Rests.{HasNoDevice, kept_by_calls}
 use Rattle.frame_table.proofs.Rising.{rises_back, rises_on, rises_out, rises_turned}
+use Rattle.frame_table.proofs.LogWork.{met_none}
 use Rattle.buffer_frames.specs.Flushing.{CallsLane, met_lane_write}
 use Rattle.buffer_frames.specs.Loading.{met_lane_read}
 use Rattle.buffer_frames.specs.Stages.{IsReading}
@@ -108,10 +109,6 @@ lane_free q v u n taken = (ap (λ (h : LaneHold). h.held) taken.0, ap (λ (h : L
 pub may_return : {L : Type 0} (d : LaneDevices L) (known : Bool) (relations : List RelEntry) (lanes q flushed : ℕ) (v : View) (h : LaneHold) (before : L) (l : NotedLane L) → l.number ≡ q → lane_hold v q ≡ out_lane (taken_lane d relations lanes q before) flushed h → IsTakenLane d known relations lanes q before → LaneDid d before l.device l.call → MayNote relations lanes q l.call v → MayReturn d known relations lanes q v l
 may_return d known relations lanes q flushed v h before l number out taken did may = record { before = before; number = number; out = ap (λ (k : LaneHold). k.out) out; once = ap (λ (k : LaneHold). k.change) out; taken = taken; did = did; may = may }
 
-no_fault : (m : FailedCalls) → sum_of_met m (record { reads = 0; writes = 0; logs = 0 }) ≡ m
-no_fault m = let at : ℕ → ℕ → ℕ → FailedCalls = λ a b c. record { reads = a; writes = b; logs = c } in
-    ap (λ (n : ℕ). at n (m.writes + 0) (m.logs + 0)) (add-zero m.reads) ∙ ap (λ (n : ℕ). at m.reads n (m.logs + 0)) (add-zero m.writes) ∙ ap (λ (n : ℕ). at m.reads m.writes n) (add-zero m.logs)
-
 read_fault : (m : FailedCalls) → sum_of_met m (record { reads = 1; writes = 0; logs = 0 }) ≡ met_read m
 read_fault m = let at : ℕ → ℕ → ℕ → FailedCalls = λ a b c. record { reads = a; writes = b; logs = c } in
     ap (λ (n : ℕ). at (m.reads + 1) n (m.logs + 0)) (add-zero m.writes) ∙ ap (λ (n : ℕ). at (m.reads + 1) m.writes n) (add-zero m.logs)
@@ -175,7 +172,7 @@ read_made d q after f tag false (lane_call.ReadFailed t) v w e m = subst (λ (x 
 read_made d q after f tag done call v w e m = absurd e
 
 pub read_met : (f : ℕ) (tag : Tag) (done : Bool) (call : LaneCall) (m n : FailedCalls) → IsReadCall f tag done call → n ≡ sum_of_met m (met_of call) → n ≡ met_lane_read done m
-read_met f tag true (lane_call.Read g t p) m n e s = s ∙ no_fault m
+read_met f tag true (lane_call.Read g t p) m n e s = s ∙ met_none m
 read_met f tag false (lane_call.ReadFailed t) m n e s = s ∙ read_fault m
 read_met f tag done call m n e s = absurd e
 
@@ -233,7 +230,7 @@ write_made d q after f tag page false (lane_call.WriteFailed g t p) v w e m = re
 write_made d q after f tag page done call v w e m = absurd e
 
 pub write_met : (f : ℕ) (tag : Tag) (page : Page) (done : Bool) (call : LaneCall) (m n : FailedCalls) → IsWriteCall f tag page done call → n ≡ sum_of_met m (met_of call) → n ≡ met_lane_write done m
-write_met f tag page true (lane_call.Written g t p) m n e s = s ∙ no_fault m
+write_met f tag page true (lane_call.Written g t p) m n e s = s ∙ met_none m
 write_met f tag page false (lane_call.WriteFailed g t p) m n e s = s ∙ write_fault m
 write_met f tag page done call m n e s = absurd e
 

@@ -1,5 +1,5 @@
 -- Latches of partitions are taken and left.
-use Rattle.std.proofs.Common.{◌≡◌, ◌≢◌, ℕ, List, Some, None, true, false, sym, ap, ◌∙◌, subst, get_or}
+use Rattle.std.proofs.Common.{◌≡◌, ◌≢◌, ℕ, List, Some, None, true, false, sym, ap, ◌∙◌, subst}
 use mathlib.Core.Logic.{dite}
 use native.Mathlib.Decide.{ℕ_discrete}
 use Rattle.block_tag.specs.declared.tag.Tag.{Tag}
@@ -11,6 +11,7 @@ use Rattle.pin_core.specs.declared.view.MapChange.TheVariants.{Stable}
 use Rattle.pin_core.specs.declared.view.Link.{Link}
 use Rattle.pin_core.specs.declared.view.View.{View}
 use Rattle.pin_core.specs.State.{hold, link, no_partition}
+use Rattle.pin_core.proofs.Views.{hold_same}
 use Rattle.table_rule.specs.declared.turn.Turn.TheVariants.{Partition}
 use Rattle.table_rule.specs.Layout.{tag_partition}
 use Rattle.frame_table.specs.Seats.{Finds, Lacks, Looked, MayChange, NamesIn, RemembersNoOther, unpinned_link}
@@ -18,10 +19,6 @@ use Rattle.frame_table.specs.Latches.{DidTurn, IsTurned, MapStep, back_hold, hel
 use Rattle.map_partitions.specs.Partition.{HoldsLatch}
 use Rattle.held_pins.specs.Rests.{HasNoLatch, HasOneLatch}
 use Rattle.buffer_frames.specs.Lookups.{UnderPartition}
-
--- what a view has of a partition, where it has the same list
-same_hold : (v w : View) → w.partitions ≡ v.partitions → (q : ℕ) → hold w q ≡ hold v q
-same_hold v w e q = ap (λ (ps : List PartitionHold). get_or ps q no_partition) e
 
 -- Work under a latch: it is taken, the work done, and it is left
 pub under_partition : (tag : Tag) (p : ℕ) (Work : View → View → Type 0) (v u x w : View) → p ≡ partition_number tag → DidTurn true (Partition p) v u → Work u x → DidTurn false (Partition p) x w → UnderPartition tag Work v w
@@ -41,24 +38,24 @@ latch_left_as p q v w e l turned = latch_left p v w (subst (λ (x : ℕ). HasOne
 -- A pair was named in the partition p, and entered or left out: the latch is held still
 pub latch_changed : (p : ℕ) (change : MapChange) (entries : List MapEntry) (v u x y w : View) → u.partitions ≡ v.partitions → NamesIn p change u x → y.partitions ≡ x.partitions → MapStep p (back_hold entries (hold y p)) y w → HasOneLatch p v → HasOneLatch p w
 latch_changed p change entries v u x y w locked names after step l = record {
-  held = ap (λ (h : PartitionHold). h.held) (step.here ∙ ap (back_hold entries) (same_hold x y after p ∙ names.here)) ∙ ap (λ (h : PartitionHold). h.held) (same_hold v u locked p) ∙ l.held;
+  held = ap (λ (h : PartitionHold). h.held) (step.here ∙ ap (back_hold entries) (hold_same x y after p ∙ names.here)) ∙ ap (λ (h : PartitionHold). h.held) (hold_same v u locked p) ∙ l.held;
   home = ap (λ (h : PartitionHold). h.out) step.here;
   no_change = ap (λ (h : PartitionHold). h.change) step.here;
-  others = λ q n. step.others q n ∙ same_hold x y after q ∙ names.others q n ∙ same_hold v u locked q ∙ l.others q n;
+  others = λ q n. step.others q n ∙ hold_same x y after q ∙ names.others q n ∙ hold_same v u locked q ∙ l.others q n;
 }
 
 -- what the holder of the latch may name
 pub may_change : (p : ℕ) (v w : View) → w.partitions ≡ v.partitions → HasOneLatch p v → HoldsLatch Stable v p → MayChange w p
 may_change p v w e l h = record {
-  held = ap (λ (x : PartitionHold). x.held) (same_hold v w e p) ∙ l.held;
-  unchanged = ap (λ (x : PartitionHold). x.changed) (same_hold v w e p) ∙ h.unchanged;
+  held = ap (λ (x : PartitionHold). x.held) (hold_same v w e p) ∙ l.held;
+  unchanged = ap (λ (x : PartitionHold). x.changed) (hold_same v w e p) ∙ h.unchanged;
   no_change = λ q. dite (ℕ_discrete q p)
-      (λ same. subst (λ (x : ℕ). (hold w x).change ≡ Stable) (sym same) (ap (λ (x : PartitionHold). x.change) (same_hold v w e p) ∙ l.no_change))
-      (λ n. ap (λ (x : PartitionHold). x.change) (same_hold v w e q ∙ l.others q n));
+      (λ same. subst (λ (x : ℕ). (hold w x).change ≡ Stable) (sym same) (ap (λ (x : PartitionHold). x.change) (hold_same v w e p) ∙ l.no_change))
+      (λ n. ap (λ (x : PartitionHold). x.change) (hold_same v w e q ∙ l.others q n));
 }
 
 pub holds_same : (c : MapChange) (p : ℕ) (v w : View) → w.partitions ≡ v.partitions → HoldsLatch c v p → HoldsLatch c w p
-holds_same c p v w e h = let at = same_hold v w e p in record { held = ap (λ (x : PartitionHold). x.held) at ∙ h.held; home = ap (λ (x : PartitionHold). x.out) at ∙ h.home; unchanged = ap (λ (x : PartitionHold). x.changed) at ∙ h.unchanged; named = ap (λ (x : PartitionHold). x.change) at ∙ h.named }
+holds_same c p v w e h = let at = hold_same v w e p in record { held = ap (λ (x : PartitionHold). x.held) at ∙ h.held; home = ap (λ (x : PartitionHold). x.out) at ∙ h.home; unchanged = ap (λ (x : PartitionHold). x.changed) at ∙ h.unchanged; named = ap (λ (x : PartitionHold). x.change) at ∙ h.named }
 
 -- the pair that was named is named still
 pub holds_named : (p : ℕ) (change : MapChange) (v u x y : View) → u.partitions ≡ v.partitions → NamesIn p change u x → y.partitions ≡ x.partitions → HoldsLatch Stable v p → HoldsLatch change y p
@@ -70,7 +67,7 @@ holds_named p change v u x y locked names after h = let was = holds_same Stable 
 }
 
 pub lacks_same : (tag : ℕ) (v w : View) → w.partitions ≡ v.partitions → Lacks v tag → Lacks w tag
-lacks_same tag v w e l = let at = same_hold v w e (tag_partition tag) in record {
+lacks_same tag v w e l = let at = hold_same v w e (tag_partition tag) in record {
   home = ap (λ (x : PartitionHold). x.out) at ∙ l.home;
   seen = λ none. l.seen (sym (ap (λ (x : PartitionHold). x.seen) at) ∙ none);
   lacks = λ entries is. l.lacks entries (sym (ap (λ (x : PartitionHold). x.seen) at) ∙ is);
@@ -78,7 +75,7 @@ lacks_same tag v w e l = let at = same_hold v w e (tag_partition tag) in record 
 
 -- what a search found stands while the latch is held
 pub finds_same : (tag f : ℕ) (v w : View) → w.partitions ≡ v.partitions → Finds v tag f → Finds w tag f
-finds_same tag f v w e l = let at = same_hold v w e (tag_partition tag) in record {
+finds_same tag f v w e l = let at = hold_same v w e (tag_partition tag) in record {
   held = ap (λ (x : PartitionHold). x.held) at ∙ l.held;
   no_change = ap (λ (x : PartitionHold). x.change) at ∙ l.no_change;
   home = ap (λ (x : PartitionHold). x.out) at ∙ l.home;

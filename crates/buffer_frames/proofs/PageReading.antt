@@ -1,5 +1,6 @@
 -- A page is read.
-use Rattle.std.proofs.Common.{◌≡◌, ◌≢◌, ◌≤◌, ◌+◌, ◌++◌, ℕ, true, max, [], ◌∷◌, Option, Some, None, append-nil, refl, sym, ap, ◌∙◌, subst, arith}
+use Rattle.std.proofs.Common.{◌≡◌, ◌≢◌, ◌≤◌, ◌+◌, ◌++◌, ℕ, true, max, [], ◌∷◌, Option, Some, append-nil, refl, sym, ap, ◌∙◌, subst, arith}
+use Rattle.std.proofs.lemmas.Option.{none-some}
 use Rattle.block_tag.specs.declared.tag.Tag.{Tag}
 use Rattle.block_tag.specs.Names.{packed_tag}
 use Rattle.page_layout.specs.Soundness.{is_sound_page}
@@ -13,6 +14,7 @@ use Rattle.pin_core.specs.declared.view.LoadedWord.TheVariants as seen
 use Rattle.pin_core.specs.declared.view.View.{View}
 use Rattle.pin_core.specs.State.{Page, link}
 use Rattle.pin_core.specs.Kinds.{load_of}
+use Rattle.pin_core.proofs.Views.{link_same}
 use Rattle.history_core.specs.Steps.{has_read, looked}
 use Rattle.page_core.specs.Kinds as kinds
 use Rattle.frame_table.specs.declared.log_words.EndLoad.TheVariants.{Read}
@@ -27,20 +29,16 @@ use Rattle.content_locks.specs.Locks.{CanCopy, Copies, LocksContent, copied_link
 use Rattle.held_pins.specs.Tokens.{HeldFrame}
 use Rattle.held_pins.specs.Rests.{HasAtMostLock, LinkRests}
 use Rattle.frame_table.proofs.Rising.{rises_by, rises_on, rises_touched}
-use Rattle.held_pins.proofs.Keeping.{link_same}
 use Rattle.buffer_frames.specs.PageReads.{OnlyReads, ReadsPage, ReadsUnder, SharesToRead, kept_by_reads}
 
 -- a page that was copied may be read
 pub is_copied : (tag : ℕ) (page : Page) (l m : Link) → m ≡ copied_link page l → l.tag ≡ Some tag → CanCopy l → IsCopied m
 is_copied tag page l m e remembered can = record {
   right = λ unlocked. can.right (sym (ap (λ (x : Link). x.content) e) ∙ unlocked);
-  copied = λ none. some_none page (sym (ap (λ (x : Link). x.copied) e) ∙ none);
+  copied = λ none. none-some page (sym none ∙ ap (λ (x : Link). x.copied) e);
   applied = ap (λ (x : Link). x.unapplied) e ∙ can.applied;
-  remembered = λ none. some_none tag (sym (ap (λ (x : Link). x.tag) e ∙ remembered) ∙ none);
+  remembered = λ none. none-some tag (sym none ∙ ap (λ (x : Link). x.tag) e ∙ remembered);
 }
-  where
-    some_none : {A : Type 0} (x : A) → Some x ≡ None → ⊥
-    some_none x e = cc
 
 -- The view v became u as the page of the frame f was copied, and w as it was read
 pub record CopyIsRead (f : ℕ) (tag : Tag) (page : Page) (place : ℕ) (v u w : View) : Type 0 where

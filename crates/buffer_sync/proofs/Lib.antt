@@ -1,2 +1,3 @@
 pub mod HasTags
 pub mod Passing
+pub mod PagesWritten

@@ -1,10 +1,10 @@
 -- Calls of devices that flush.
-use Rattle.std.proofs.Common.{◌≡◌, ℕ, ◌+◌, Bool, true, false, List, [], ◌∷◌, ◌++◌, append-nil, append_assoc, refl, ap, ◌∙◌, sym, arith}
+use Rattle.std.proofs.Common.{◌≡◌, ℕ, ◌+◌, Bool, true, false, List, [], ◌∷◌, ◌++◌, refl, ap, arith}
 use Rattle.std.specs.Prelude.{min}
 use Rattle.std.specs.List.{All}
 use Rattle.std.proofs.lemmas.List.Elements.{All-nil, All-cons, All-append}
 use Rattle.pin_core.specs.declared.view.DeviceCall.{DeviceCall}
-use Rattle.pin_core.specs.declared.view.DeviceCall.TheVariants.{LaneRead, LaneWrite, LaneSync, LogAppend, LogSync}
+use Rattle.pin_core.specs.declared.view.DeviceCall.TheVariants.{LaneWrite, LogSync}
 use Rattle.pin_core.specs.declared.view.View.{View}
 use Rattle.pin_core.specs.State.{Page}
 use Rattle.buffer_frames.specs.Working.{Made}
@@ -17,27 +17,13 @@ use Rattle.wal_flush.specs.declared.flushes.FlushedBy.{FlushedBy}
 use Rattle.wal_flush.specs.declared.flushes.FlushedBy.TheVariants.{NoSync, OneSync}
 use Rattle.wal_flush.specs.Flushes.{as_looked, flushed_view}
 use Rattle.buffer_frames.specs.Flushing.{WentToLane, log_syncs}
+use Rattle.buffer_frames.proofs.WorkSteps.{made_none, made_on}
 use Rattle.buffer_sync.specs.declared.syncing.SyncOnly.TheVariants.{Needed}
 use Rattle.buffer_sync.specs.declared.syncing.Synced.{Synced}
 use Rattle.buffer_sync.specs.declared.syncing.Synced.TheVariants.{Skipped, Clean, Written}
 use Rattle.buffer_sync.specs.Syncs.{SyncsFrame, pages_written}
+use Rattle.buffer_sync.proofs.PagesWritten.{pages_written-append}
 use Rattle.checkpointer.specs.Stages.{IsFlush, FlushesPages, pages_by}
-
-writes_append : (xs ys : List DeviceCall) → pages_written (xs ++ ys) ≡ pages_written xs + pages_written ys
-writes_append [] ys = omega arith
-writes_append (LaneWrite lane tag page false ∷ xs) ys = writes_append xs ys
-writes_append (LaneWrite lane tag page true ∷ xs) ys = let more = writes_append xs ys in omega arith
-writes_append (LaneRead lane tag done ∷ xs) ys = writes_append xs ys
-writes_append (LaneSync lane done ∷ xs) ys = writes_append xs ys
-writes_append (LogAppend done ∷ xs) ys = writes_append xs ys
-writes_append (LogSync done ∷ xs) ys = writes_append xs ys
-
--- calls one after the other
-pub made_on : (xs ys : List DeviceCall) (v u w : View) → Made xs v u → Made ys u w → Made (xs ++ ys) v w
-made_on xs ys v u w a b = b ∙ ap (λ (l : List DeviceCall). l ++ ys) a ∙ append_assoc v.device_calls xs ys
-
-pub made_none : (v w : View) → w.device_calls ≡ v.device_calls → Made [] v w
-made_none v w same = same ∙ sym (append-nil v.device_calls)
 
 pub flushes_none : (v w : View) → Made [] v w → FlushesPages 0 v w
 flushes_none v w none = record { made = []; calls = none; each = All-nil IsFlush; counted = refl }
@@ -47,7 +33,7 @@ flushes_on m n k v u w sum a b = record {
   made = a.made ++ b.made;
   calls = made_on a.made b.made v u w a.calls b.calls;
   each = All-append IsFlush a.made b.made a.each b.each;
-  counted = let parts = writes_append a.made b.made in let x = a.counted in let y = b.counted in omega arith;
+  counted = let parts = pages_written-append a.made b.made in let x = a.counted in let y = b.counted in omega arith;
 }
 
 -- a flush of one page
@@ -56,7 +42,7 @@ flushes_page q tag page xs v w each none calls = record {
   made = xs ++ LaneWrite q tag page true ∷ [];
   calls = calls;
   each = All-append IsFlush xs (LaneWrite q tag page true ∷ []) each (All-cons IsFlush (LaneWrite q tag page true) [] refl (All-nil IsFlush));
-  counted = let parts = writes_append xs (LaneWrite q tag page true ∷ []) in omega arith;
+  counted = let parts = pages_written-append xs (LaneWrite q tag page true ∷ []) in omega arith;
 }
 
 -- where a flush of the log made a sync, or none

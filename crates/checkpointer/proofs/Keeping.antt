@@ -4,44 +4,18 @@ use Rattle.std.specs.Prelude.{Ok, Option, min}
 use Rattle.segment_store.specs.Contents.{Pages}
 use Rattle.pin_core.specs.declared.view.View.{View}
 use Rattle.frame_table.specs.Seats.{Touches}
-use Rattle.frame_table.proofs.Rising.{rises_none, rises_on}
+use Rattle.frame_table.proofs.Rising.{rises_none}
 use Rattle.buffer_sync.specs.declared.syncing.SyncOnly.TheVariants.{Needed}
 use Rattle.buffer_sync.specs.declared.syncing.Synced.{Synced}
 use Rattle.buffer_sync.specs.Syncs.{SyncsFrame}
 use Rattle.backend_pass.specs.declared.manager.Manager.{Manager}
 use Rattle.backend_pass.specs.declared.marked.MarkedFrame.{MarkedFrame}
 use Rattle.backend_pass.specs.Managers.{Belongs}
-use Rattle.backend_pass.specs.Passes.{KeepsCallers, KeepsMark, KeepsPass, PassState, SamePass}
+use Rattle.backend_pass.specs.Passes.{KeepsCallers, KeepsMark, PassState, SamePass}
 use Rattle.backend_pass.proofs.Seated.{same_on}
+use Rattle.backend_pass.proofs.Keeping.{callers_none, callers_on, pass_none}
 use Rattle.checkpointer.specs.Stages.{HasNoLock, KeepsBackend, MarksFrames, WritesMarked, pages_by}
 use Rattle.checkpointer.proofs.Flushing.{flushes_none, flushes_on, synced_flushes}
-
-pub pass_none : (p : PassState) → KeepsPass p p
-pass_none p = record { table = refl; id = refl; frames = refl; number = refl; next = refl; joined = refl; kept = refl; advances = rises_none p.view }
-
-pub pass_on : (p q r : PassState) → KeepsPass p q → KeepsPass q r → KeepsPass p r
-pass_on p q r a b = record {
-  table = b.table ∙ a.table;
-  id = b.id ∙ a.id;
-  frames = b.frames ∙ a.frames;
-  number = b.number ∙ a.number;
-  next = b.next ∙ a.next;
-  joined = b.joined ∙ a.joined;
-  kept = b.kept ∙ a.kept;
-  advances = rises_on p.view q.view r.view a.advances b.advances;
-}
-
-pub callers_none : (p : PassState) → KeepsCallers p p
-callers_none p = record { keeps = pass_none p; tokens = refl; locks = λ f. refl; census = refl; calls = record { calls = refl; front = refl; place_loads = refl } }
-
-pub callers_on : (p q r : PassState) → KeepsCallers p q → KeepsCallers q r → KeepsCallers p r
-callers_on p q r a b = record {
-  keeps = pass_on p q r a.keeps b.keeps;
-  tokens = b.tokens ∙ a.tokens;
-  locks = λ f. b.locks f ∙ a.locks f;
-  census = b.census ∙ a.census;
-  calls = record { calls = b.calls.calls ∙ a.calls.calls; front = b.calls.front ∙ a.calls.front; place_loads = b.calls.place_loads ∙ a.calls.place_loads };
-}
 
 pub no_lock_after : (p q : PassState) → KeepsCallers p q → HasNoLock p → HasNoLock q
 no_lock_after p q a none f = a.locks f ∙ none f

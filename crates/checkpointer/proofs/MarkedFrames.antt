@@ -4,6 +4,7 @@ use Rattle.std.specs.List.Sorted.{IsPermutation}
 use Rattle.std.proofs.lemmas.List.{get_or_default}
 use Rattle.std.proofs.lemmas.List.Elements.{All-nil, All-cons, All-append, Contains-append_left, Contains-push}
 use Rattle.std.proofs.lemmas.List.Sorted.{All-permutation, Contains-permutation}
+use Rattle.std.proofs.lemmas.Bool.{both_ways}
 use mathlib.Core.Logic.{dite}
 use native.Mathlib.Decide.{ℕ_discrete}
 use Rattle.pin_core.specs.declared.view.Link.{Link}
@@ -14,16 +15,13 @@ use Rattle.backend_pass.specs.declared.marked.MarkedFrame.{MarkedFrame}
 use Rattle.backend_pass.specs.Passes.{PassState}
 use Rattle.checkpointer.specs.Marked.{AreInside, AreMarked, HasVisited, HasNoneLeft, IsMarked, HasNoneToWrite, KeepsEachNote}
 
-not_both : {b : Bool} → b ≡ true → b ≡ false → ⊥
-not_both e n = absurd (cc)
-
 by_left_to_write : (b : Bool) {A : Type 0} → (b ≡ true → A) → (b ≡ false → A) → A
 by_left_to_write true is isnt = is refl
 by_left_to_write false is isnt = isnt refl
 
 -- a list before the first frame is marked
 pub marked_none : (v : View) → HasNoneToWrite v → AreMarked [] v
-marked_none v none f left_to_write = absurd (not_both left_to_write (none f))
+marked_none v none f left_to_write = absurd (both_ways _ (none f) left_to_write)
 
 pub visited_none : (v : View) → HasVisited 0 v
 visited_none v f low = absurd (omega arith)
@@ -43,7 +41,7 @@ module _ (f : ℕ) (v w : View) (others : (g : ℕ) → g ≢ f → link w g ≡
   -- and the frame isn't one to write
   pub marked_clean : (marked : List MarkedFrame) → ((link v f).left_to_write ≡ false → (link w f).left_to_write ≡ false) → AreMarked marked v → AreMarked marked w
   marked_clean marked clean are g left_to_write = dite (ℕ_discrete g f)
-      (λ (e : g ≡ f). by_left_to_write (link v g).left_to_write (are g) (λ none. absurd (not_both left_to_write (subst (λ (x : ℕ). (link w x).left_to_write ≡ false) (sym e) (clean (subst (λ (x : ℕ). (link v x).left_to_write ≡ false) e none))))))
+      (λ (e : g ≡ f). by_left_to_write (link v g).left_to_write (are g) (λ none. absurd (both_ways _ (subst (λ (x : ℕ). (link w x).left_to_write ≡ false) (sym e) (clean (subst (λ (x : ℕ). (link v x).left_to_write ≡ false) e none))) left_to_write)))
       (λ (n : g ≢ f). are g (sym (ap (λ (l : Link). l.left_to_write) (others g n)) ∙ left_to_write))
 
   -- and it is left to write

@@ -6,6 +6,7 @@ use Rattle.frame_table.specs.declared.table.FrameTable.{FrameTable}
 use Rattle.frame_table.specs.Seats.{OnlyRises}
 use Rattle.frame_table.proofs.Rising.{rises_none, rises_on}
 use Rattle.buffer_frames.specs.Flushing.{EndedInError, met_refused}
+use Rattle.buffer_frames.proofs.WorkSteps.{made_none}
 use Rattle.buffer_sync.specs.declared.syncing.SyncOnly.TheVariants.{Needed}
 use Rattle.buffer_sync.specs.Syncs.{SyncsFrame}
 use Rattle.backend_pass.specs.declared.errors.FlushError.{FlushError}
@@ -15,7 +16,7 @@ use Rattle.backend_pass.specs.Passes.{KeepsMark, PassState}
 use Rattle.backend_pass.specs.Reading.{NothingFails}
 use Rattle.checkpointer.specs.Refusals.{StopsWriting}
 use Rattle.checkpointer.specs.Stages.{KeepsBackend, WritesMarked}
-use Rattle.checkpointer.proofs.Flushing.{flushes_none, flushes_on, made_none}
+use Rattle.checkpointer.proofs.Flushing.{flushes_none, flushes_on}
 use Rattle.checkpointer.proofs.Keeping.{keeps_on}
 
 -- where nothing fails from the first pass on nothing does from a later one on

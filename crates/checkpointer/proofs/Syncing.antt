@@ -10,11 +10,11 @@ use Rattle.history_core.specs.Lanes.{swept_by}
 use Rattle.frame_table.specs.Latches.{work_of}
 use Rattle.frame_table.specs.Seats.{OnlyRises}
 use Rattle.buffer_frames.specs.Working.{Made}
+use Rattle.buffer_frames.proofs.WorkSteps.{made_on}
 use Rattle.buffer_sync.specs.Syncs.{synced_work}
 use Rattle.checkpointer.specs.Marked.{HasNoneLeft}
 use Rattle.checkpointer.specs.Stages.{syncs_below}
 use Rattle.checkpointer.proofs.Ended.{swept_to}
-use Rattle.checkpointer.proofs.Flushing.{made_on}
 
 -- a view with the same links
 pub written_same : (frames : ℕ) (v w : View) → w.links ≡ v.links → HasNoneLeft frames v → HasNoneLeft frames w

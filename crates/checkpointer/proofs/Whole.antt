@@ -14,6 +14,7 @@ use Rattle.wal_flush.specs.declared.flushes.FlushedBy.TheVariants as flushed_by
 use Rattle.wal_flush.specs.Flushes.{FlushRefused, FlushSeesEnd, as_looked, flushed_view, unflushed_view}
 use Rattle.buffer_frames.specs.Flushing.{met_refused, syncs_refused}
 use Rattle.buffer_frames.specs.Working.{Made}
+use Rattle.buffer_frames.proofs.WorkSteps.{made_none, made_on}
 use Rattle.backend_pass.specs.declared.errors.FlushError.{FlushError}
 use Rattle.backend_pass.specs.declared.errors.FlushError.TheVariants as flush
 use Rattle.backend_pass.specs.declared.manager.Manager.{Manager}
@@ -22,13 +23,14 @@ use Rattle.backend_pass.specs.FrameFlushes.{frame_refusal}
 use Rattle.backend_pass.specs.Managers.{Belongs}
 use Rattle.backend_pass.specs.Passes.{KeepsCallers, PassState, SamePass}
 use Rattle.backend_pass.proofs.Seated.{same_on}
+use Rattle.backend_pass.proofs.Keeping.{callers_on}
 use Rattle.checkpointer.specs.declared.ending.CheckpointError.TheVariants.{SyncFault}
 use Rattle.checkpointer.specs.Checkpoints.{Begins, Completes}
 use Rattle.checkpointer.specs.Marked.{HasNoneLeft}
 use Rattle.checkpointer.specs.Refusals.{IsDownOrFault, Stops, StopsSyncing, StopsWriting, at_frame, at_lane, at_log, met_stopping, refusal_of_flush, refusal_of_log}
 use Rattle.checkpointer.specs.Stages.{FlushesPages, MarksFrames, SyncsLanes, WritesMarked}
-use Rattle.checkpointer.proofs.Flushing.{flushes_log, flushes_none, flushes_on, made_none, made_on}
-use Rattle.checkpointer.proofs.Keeping.{callers_on, marks_listed}
+use Rattle.checkpointer.proofs.Flushing.{flushes_log, flushes_none, flushes_on}
+use Rattle.checkpointer.proofs.Keeping.{marks_listed}
 use Rattle.checkpointer.proofs.Storing.{stores}
 use Rattle.checkpointer.proofs.Syncing.{written_same}
 

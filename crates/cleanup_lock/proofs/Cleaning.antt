@@ -24,7 +24,7 @@ use Rattle.frame_table.specs.FrameSteps.{Did, Looks, looking}
 use Rattle.frame_table.specs.FrameSteps as loads
 use Rattle.frame_table.specs.Kinds.{FrameKind, pages, pins}
 use Rattle.frame_table.specs.Seats.{IsWordOf, Looked, Touches, locked_link}
-use Rattle.frame_table.proofs.Told.{loads_link, looked_on}
+use Rattle.frame_table.proofs.Told.{loads_link, looked_on, looked_by, quiet, quiet_link}
 use Rattle.content_locks.specs.Locks.{LocksContent}
 use Rattle.content_locks.proofs.Locking as content
 use Rattle.cleanup_lock.specs.Cleanup.{Alone, CanLockForCleanup, OthersAreKeptOut, UnderExclusive, is_waiter, one_token, unawaited_link}
@@ -49,11 +49,12 @@ bare f v w (u, was, looks, d) none =
 
 -- the exclusive lock is given up again
 pub relocked : (l m n : Link) → l.content ≡ Unlocked → (l.copied ≡ None) × (l.dirtied ≡ false) → Looked (exclusive_link l) m → n ≡ unexclusive_link m → Looked l n
-relocked l m n none b a e = subst (Looked l) (sym e) record { role = a.role; tag = a.tag; ring = a.ring; header = a.header; pending = a.pending; content = sym none; copying = a.copying; dirtied = sym b.1; unapplied = a.unapplied; copied = sym b.0; io = a.io; read = a.read; read_is_home = a.read_is_home; last_write = a.last_write; out = a.out; overwritten = a.overwritten; image = a.image; seen_valid = a.seen_valid; waits = a.waits; visited = a.visited; left_to_write = a.left_to_write }
+relocked l m n none b a e = subst (Looked l) (sym e) (looked_by l (unexclusive_link m) (ap unexclusive_link (quiet (exclusive_link l) m a) ∙ (λ i. record (quiet_link l) { content = sym none i; dirtied = sym b.1 i; copied = sym b.0 i })) a.seen_valid a.waits a.visited a.left_to_write)
 
 -- and so after a wait was noted, and is over
 pub rewaited : (number word : ℕ) (l m n o p : Link) → l.content ≡ Unlocked → l.header ≡ None → (l.copied ≡ None) × (l.dirtied ≡ false) → Looked (locked_link word (exclusive_link l)) m → n ≡ waiting_link number m → o ≡ unexclusive_link n → Looked (unawaited_link o) p → Looked l p
-rewaited number word l m n o p none headless b a noted given over = looked_on l (unawaited_link o) p (subst (λ (x : Link). Looked l (unawaited_link x)) (sym (given ∙ ap unexclusive_link noted)) record { role = a.role; tag = a.tag; ring = a.ring; header = sym headless; pending = a.pending; content = sym none; copying = a.copying; dirtied = sym b.1; unapplied = a.unapplied; copied = sym b.0; io = a.io; read = a.read; read_is_home = a.read_is_home; last_write = a.last_write; out = a.out; overwritten = a.overwritten; image = a.image; seen_valid = a.seen_valid; waits = λ none. refl; visited = a.visited; left_to_write = a.left_to_write }) over
+rewaited number word l m n o p none headless b a noted given over = looked_on l (unawaited_link o) p (subst (λ (x : Link). Looked l (unawaited_link x)) (sym (given ∙ ap unexclusive_link noted))
+    (looked_by l (unawaited_link (unexclusive_link (waiting_link number m))) (ap (λ (x : Link). unexclusive_link (record x { header = None })) (quiet (locked_link word (exclusive_link l)) m a) ∙ (λ i. record (quiet_link l) { header = sym headless i; content = sym none i; dirtied = sym b.1 i; copied = sym b.0 i })) a.seen_valid (λ none. refl) a.visited a.left_to_write)) over
 
 -- both locks, and a load under them, which shows the word that is held
 pub looked_held : (held found : ℕ) (l m n : Link) → Looked (locked_link held l) m → Looked m n → IsWordOf m (fields found) → Looked (locked_link found l) n
@@ -81,7 +82,7 @@ wait_over number f found v w d (inl on) none = ap (λ (l : Link). l.waits) (load
 wait_over number f found v w d (inr off) none = ap (λ (l : Link). l.waits) (loads_link f found v w d) ∙ ap (wait_after (fields found)) off
 
 pub looked_over : (l m : Link) → Looked l m → m.waits ≡ None → Looked (unawaited_link l) m
-looked_over l m a over = record { role = a.role; tag = a.tag; ring = a.ring; header = a.header; pending = a.pending; content = a.content; copying = a.copying; dirtied = a.dirtied; unapplied = a.unapplied; copied = a.copied; io = a.io; read = a.read; read_is_home = a.read_is_home; last_write = a.last_write; out = a.out; overwritten = a.overwritten; image = a.image; seen_valid = a.seen_valid; waits = λ none. over; visited = a.visited; left_to_write = a.left_to_write }
+looked_over l m a over = looked_by (unawaited_link l) m (quiet l m a) a.seen_valid (λ none. over) a.visited a.left_to_write
 
 -- a word with the bit shows its own number as the waiter's
 pub shows_own : (w : StateWord) → w.awaited ≡ true → is_waiter w.waiter w ≡ true
@@ -180,4 +181,4 @@ alone_at f word v w d right pinned single = record { word = word; right = right;
 
 -- the exclusive lock is taken after loads
 pub exclusive_looked : (l m : Link) → Looked l m → Looked (exclusive_link l) (exclusive_link m)
-exclusive_looked l m a = record { role = a.role; tag = a.tag; ring = a.ring; header = a.header; pending = a.pending; content = refl; copying = a.copying; dirtied = a.dirtied; unapplied = a.unapplied; copied = a.copied; io = a.io; read = a.read; read_is_home = a.read_is_home; last_write = a.last_write; out = a.out; overwritten = a.overwritten; image = a.image; seen_valid = a.seen_valid; waits = a.waits; visited = a.visited; left_to_write = a.left_to_write }
+exclusive_looked l m a = looked_by (exclusive_link l) (exclusive_link m) (ap exclusive_link (quiet l m a)) a.seen_valid a.waits a.visited a.left_to_write

@@ -14,6 +14,7 @@ use Rattle.frame_table.specs.Content.{CanWake}
 use Rattle.frame_table.specs.FrameSteps.{Did, Looks}
 use Rattle.frame_table.specs.Kinds.{pins}
 use Rattle.frame_table.specs.Seats.{HoldsHeader, Looked, locked_link, unlocked_link}
+use Rattle.frame_table.proofs.Told.{looked_by, quiet, quiet_link}
 use Rattle.content_locks.specs.Io.{LocksHeader}
 use Rattle.cleanup_lock.specs.Waking.{Wakes, end_of_wake, is_lone_waiter}
 
@@ -40,7 +41,7 @@ may_wake word l m settled a e = let x = lone (fields word) e in record { held = 
 
 -- what the header's lock leaves once it is given up again
 pub unlocked_looked : (word : ℕ) (l m n : Link) → l.header ≡ None → Looked (locked_link word l) m → n ≡ unlocked_link m → Looked l n
-unlocked_looked word l m n none a e = subst (Looked l) (sym e) record { role = a.role; tag = a.tag; ring = a.ring; header = sym none; pending = a.pending; content = a.content; copying = a.copying; dirtied = a.dirtied; unapplied = a.unapplied; copied = a.copied; io = a.io; read = a.read; read_is_home = a.read_is_home; last_write = a.last_write; out = a.out; overwritten = a.overwritten; image = a.image; seen_valid = a.seen_valid; waits = a.waits; visited = a.visited; left_to_write = a.left_to_write }
+unlocked_looked word l m n none a e = subst (Looked l) (sym e) (looked_by l (unlocked_link m) (ap unlocked_link (quiet (locked_link word l) m a) ∙ (λ i. record (quiet_link l) { header = sym none i })) a.seen_valid a.waits a.visited a.left_to_write)
 
 -- the word that is held shows the same as the one that was found
 pub lone_found : (word was : ℕ) → fields word ≡ locked_fields (fields was) → is_lone_waiter (fields was) ≡ is_lone_waiter (fields word)

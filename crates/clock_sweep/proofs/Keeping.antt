@@ -1,5 +1,5 @@
 -- What the steps of a choice leave of the view.
-use Rattle.std.proofs.Common.{◌≡◌, ◌≢◌, ℕ, Option, IfNone, Result, Ok, Err, IfOk, IfErr, ◌<◌, ◌≤◌, List, [], ◌∷◌, append-nil, length, Bool, true, false, Some, None, sym, refl, ap, ◌∙◌, subst, arith, length-append}
+use Rattle.std.proofs.Common.{◌≡◌, ◌≢◌, ℕ, Option, IfNone, Result, Ok, Err, IfOk, ◌<◌, ◌≤◌, List, [], ◌∷◌, append-nil, length, Bool, true, false, Some, None, sym, refl, ap, ◌∙◌, subst, arith, length-append}
 use Rattle.std.specs.List.{All}
 use Rattle.std.proofs.lemmas.List.Elements.{All-nil, All-push}
 use mathlib.Core.Logic.{dite}
@@ -24,7 +24,7 @@ use Rattle.frame_table.specs.Kinds.{pins, view_after}
 use Rattle.frame_table.specs.WordSteps.{DidWord, add_hand, load_hand}
 use Rattle.frame_table.specs.Seats.{CanStep, Grows, HoldsHeader, IsSeat, Looked, SameSeat, frames_of, locked_link, unlocked_link}
 use Rattle.frame_table.specs.FrameSteps.{Did, Looks, still, again, looking}
-use Rattle.frame_table.proofs.Told.{grows, grows_none, grows_on, touches, link_is, looked, looked_on, looked_same, locked_after, looks_touch, looks_link}
+use Rattle.frame_table.proofs.Told.{grows, grows_none, grows_on, touches, link_is, looked, looked_on, looked_same, locked_after, looks_touch, looks_link, looked_by, quiet, quiet_link}
 use Rattle.frame_table.proofs.Rising.{grows_loads}
 use Rattle.clock_sweep.specs.Keeping.{SameAside, aside_of, KeepsFrames, GetsHeader, SamePins}
 use Rattle.clock_sweep.specs.Choosing as choice
@@ -116,29 +116,7 @@ module _ (f word : ℕ) (v w : View) (locks : TakesHeader f v w word) where
   }
 
 pub unlocked_back : (word : ℕ) (l m o : Link) → Looked (locked_link word l) m → Looked (unlocked_link m) o → l.header ≡ None → Looked l o
-unlocked_back word l m o a b none = record {
-  role = b.role ∙ a.role;
-  tag = b.tag ∙ a.tag;
-  ring = b.ring ∙ a.ring;
-  header = b.header ∙ sym none;
-  pending = b.pending ∙ a.pending;
-  content = b.content ∙ a.content;
-  copying = b.copying ∙ a.copying;
-  dirtied = b.dirtied ∙ a.dirtied;
-  unapplied = b.unapplied ∙ a.unapplied;
-  copied = b.copied ∙ a.copied;
-  io = b.io ∙ a.io;
-  read = b.read ∙ a.read;
-  read_is_home = b.read_is_home ∙ a.read_is_home;
-  last_write = b.last_write ∙ a.last_write;
-  out = b.out ∙ a.out;
-  overwritten = b.overwritten ∙ a.overwritten;
-  image = b.image ∙ a.image;
-  seen_valid = λ saw. b.seen_valid (a.seen_valid saw);
-  waits = λ w. b.waits (a.waits w);
-  visited = λ p. b.visited (a.visited p);
-  left_to_write = λ l. b.left_to_write (a.left_to_write l);
-}
+unlocked_back word l m o a b none = looked_by l o (quiet (unlocked_link m) o b ∙ ap unlocked_link (quiet (locked_link word l) m a) ∙ (λ i. record (quiet_link l) { header = sym none i })) (λ saw. b.seen_valid (a.seen_valid saw)) (λ w. b.waits (a.waits w)) (λ p. b.visited (a.visited p)) (λ z. b.left_to_write (a.left_to_write z))
 
 pub gives_up : (f word : ℕ) (v u w : View) → GetsHeader f word v u → HoldsNoHeader v → SameAside u w → Grows u w → ((g : ℕ) → g ≢ f → link w g ≡ link u g) → Looked (unlocked_link (link u f)) (link w f) → KeepsFrames v w
 gives_up f word v u w a none beside more same here = record {
@@ -157,7 +135,7 @@ unlocks_keep f word found v u w locks none d = gives_up f word v u w (gets f wor
     (looked_same (unlocked_link (link u f)) (link w f) (link_is (pins pin.unlock_header) f found u w d))
 
 unlocked_looked : (l m : Link) → Looked l m → Looked (unlocked_link l) (unlocked_link m)
-unlocked_looked l m a = record { role = a.role; tag = a.tag; ring = a.ring; header = refl; pending = a.pending; content = a.content; copying = a.copying; dirtied = a.dirtied; unapplied = a.unapplied; copied = a.copied; io = a.io; read = a.read; read_is_home = a.read_is_home; last_write = a.last_write; out = a.out; overwritten = a.overwritten; image = a.image; seen_valid = a.seen_valid; waits = a.waits; visited = a.visited; left_to_write = a.left_to_write }
+unlocked_looked l m a = looked_by (unlocked_link l) (unlocked_link m) (ap unlocked_link (quiet l m a)) a.seen_valid a.waits a.visited a.left_to_write
 
 pub lowers_keep : (f word : ℕ) (v u w : View) → TakesHeader f v u word → HoldsNoHeader v → Did (pins pin.lower_usage) f u w word → KeepsFrames v w
 lowers_keep f word v u w locks none d = gives_up f word v u w (gets f word v u locks) none
@@ -229,7 +207,7 @@ gets_on f word v u w a b = record {
 }
   where
     relocked : (l m : Link) → Looked l m → Looked (locked_link word l) (locked_link word m)
-    relocked l m c = record { role = c.role; tag = c.tag; ring = c.ring; header = refl; pending = c.pending; content = c.content; copying = c.copying; dirtied = c.dirtied; unapplied = c.unapplied; copied = c.copied; io = c.io; read = c.read; read_is_home = c.read_is_home; last_write = c.last_write; out = c.out; overwritten = c.overwritten; image = c.image; seen_valid = c.seen_valid; waits = c.waits; visited = c.visited; left_to_write = c.left_to_write }
+    relocked l m c = looked_by (locked_link word l) (locked_link word m) (ap (locked_link word) (quiet l m c)) c.seen_valid c.waits c.visited c.left_to_write
 
 pub takes_gets : (limit : ℕ) (held : LockedFrame) (v u w : View) → KeepsFrames v u → Takes limit held u w → GetsHeader held.frame held.word v w
 takes_gets limit held v u w a t = gets_on held.frame held.word v u w a (gets held.frame held.word u w t.locks)
@@ -278,12 +256,6 @@ module _ {L G : Type 0} (t : FrameTable L G) where
   pub steps_at : (s : Seat (Value L G) View) (f : ℕ) → IsSeat t s → f < frames_of t → CanStep t s f
   steps_at s f a low = record { fits = a.fits; live = a.live; inside = low }
 
-pub same_on : {L G : Type 0} (s s' s'' : Seat (Value L G) View) → SameSeat s s' → SameSeat s' s'' → SameSeat s s''
-same_on s s' s'' a b = record { table = b.table ∙ a.table; id = b.id ∙ a.id; hand = b.hand ∙ a.hand }
-
-pub same_none : {L G : Type 0} (s : Seat (Value L G) View) → SameSeat s s
-same_none s = record { table = refl; id = refl; hand = refl }
-
 -- what follows where there is nothing
 pub none_to : {A : Type 0} {P Q : Type 0} (o : Option A) → (P → Q) → IfNone o P → IfNone o Q
 none_to None to p = to p
@@ -305,7 +277,3 @@ finds_none n place v listed started w words none r l (tired, s, c) = let a = rin
   clock = s;
   census = counts_from v tired (same_pins v tired (keeps_on v started tired b (sweeps_keep n started tired 0 s (headless_on v started b none)))) n w words c;
 }
-
-pub err_to : {A E : Type 0} {P Q : E → Type 0} (r : Result A E) → ((e : E) → P e → Q e) → IfErr r P → IfErr r Q
-err_to (Ok x) to p = p
-err_to (Err e) to p = to e p

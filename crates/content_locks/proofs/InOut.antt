@@ -20,7 +20,7 @@ use Rattle.frame_table.specs.Seats.{Looked, Touches, locked_link, unlocked_link}
 use Rattle.frame_table.specs.FrameSteps.{Did, Looks, looking}
 use Rattle.page_core.specs.Kinds.{saw_valid}
 use Rattle.frame_table.specs.Content.{CanBeginIo, CanFinishIo, begun_link, finished_link, start_of}
-use Rattle.frame_table.proofs.Told.{looks_link, looked_on}
+use Rattle.frame_table.proofs.Told.{looks_link, looked_on, looked_by, looked_same, quiet, quiet_link}
 use Rattle.frame_table.proofs.Seeing.{sees_valid}
 use Rattle.content_locks.specs.Io.{BeginsIo, MayEndIo, CanStartIo, FindsNothing, FindsWork, LocksHeader, Waits, still, again, is_nothing}
 
@@ -33,34 +33,12 @@ nothing_locked false w = refl
 module _ (word : ℕ) (l m : Link) (a : Looked (locked_link word l) m) where
   -- unlocked again after a load, with nothing begun
   pub unlocked_back : (n o : Link) → Looked m n → o ≡ unlocked_link n → l.header ≡ None → Looked l o
-  unlocked_back n o b e none = subst (Looked l) (sym e) record {
-    role = b.role ∙ a.role;
-    tag = b.tag ∙ a.tag;
-    ring = b.ring ∙ a.ring;
-    header = sym none;
-    pending = b.pending ∙ a.pending;
-    content = b.content ∙ a.content;
-    copying = b.copying ∙ a.copying;
-    dirtied = b.dirtied ∙ a.dirtied;
-    unapplied = b.unapplied ∙ a.unapplied;
-    copied = b.copied ∙ a.copied;
-    io = b.io ∙ a.io;
-    read = b.read ∙ a.read;
-    read_is_home = b.read_is_home ∙ a.read_is_home;
-    last_write = b.last_write ∙ a.last_write;
-    out = b.out ∙ a.out;
-    overwritten = b.overwritten ∙ a.overwritten;
-    image = b.image ∙ a.image;
-    seen_valid = λ saw. b.seen_valid (a.seen_valid saw);
-    waits = λ w. b.waits (a.waits w);
-    visited = λ was. b.visited (a.visited was);
-    left_to_write = λ none. b.left_to_write (a.left_to_write none);
-  }
+  unlocked_back n o b e none = subst (Looked l) (sym e) (looked_by l (unlocked_link n) (ap unlocked_link (quiet m n b ∙ quiet (locked_link word l) m a) ∙ (λ i. record (quiet_link l) { header = sym none i })) (λ saw. b.seen_valid (a.seen_valid saw)) (λ w. b.waits (a.waits w)) (λ was. b.visited (a.visited was)) (λ z. b.left_to_write (a.left_to_write z)))
 
   -- begun
   pub begun_back : (input : Bool) (o : Link) → o ≡ begun_link input m → Looked (begun_link input l) o
-  begun_back true o e = subst (Looked (begun_link true l)) (sym e) record { role = a.role; tag = a.tag; ring = a.ring; header = refl; pending = a.pending; content = a.content; copying = a.copying; dirtied = a.dirtied; unapplied = a.unapplied; copied = a.copied; io = refl; read = refl; read_is_home = refl; last_write = a.last_write; out = a.out; overwritten = a.overwritten; image = a.image; seen_valid = a.seen_valid; waits = a.waits; visited = a.visited; left_to_write = a.left_to_write }
-  begun_back false o e = subst (Looked (begun_link false l)) (sym e) record { role = a.role; tag = a.tag; ring = a.ring; header = refl; pending = a.pending; content = a.content; copying = a.copying; dirtied = a.dirtied; unapplied = a.unapplied; copied = a.copied; io = refl; read = a.read; read_is_home = a.read_is_home; last_write = a.last_write; out = a.out; overwritten = a.overwritten; image = a.image; seen_valid = a.seen_valid; waits = a.waits; visited = a.visited; left_to_write = a.left_to_write }
+  begun_back true o e = subst (Looked (begun_link true l)) (sym e) (looked_by (begun_link true l) (begun_link true m) (ap (begun_link true) (quiet (locked_link word l) m a)) a.seen_valid a.waits a.visited a.left_to_write)
+  begun_back false o e = subst (Looked (begun_link false l)) (sym e) (looked_by (begun_link false l) (begun_link false m) (ap (begun_link false) (quiet (locked_link word l) m a)) a.seen_valid a.waits a.visited a.left_to_write)
 
   -- the frame of a pin that was handed out has a tag
   tagged : (f was : ℕ) (v u w : View) → Looks f v u → Did (pins lock_header) f u w was → fields word ≡ locked_fields (fields was) → (link v f).role ≡ HandedOut → (fields word).tag_valid ≡ true
@@ -138,8 +116,8 @@ module _ (f : ℕ) (v w : View) (touches : Touches f v w) (a : Looked (link v f)
 
 -- loads, and then a read or a write that began
 pub begun_on : (input : Bool) (l m n : Link) → Looked l m → Looked (begun_link input m) n → Looked (begun_link input l) n
-begun_on true l m n a b = looked_on (begun_link true l) (begun_link true m) n record { role = a.role; tag = a.tag; ring = a.ring; header = refl; pending = a.pending; content = a.content; copying = a.copying; dirtied = a.dirtied; unapplied = a.unapplied; copied = a.copied; io = refl; read = refl; read_is_home = refl; last_write = a.last_write; out = a.out; overwritten = a.overwritten; image = a.image; seen_valid = a.seen_valid; waits = a.waits; visited = a.visited; left_to_write = a.left_to_write } b
-begun_on false l m n a b = looked_on (begun_link false l) (begun_link false m) n record { role = a.role; tag = a.tag; ring = a.ring; header = refl; pending = a.pending; content = a.content; copying = a.copying; dirtied = a.dirtied; unapplied = a.unapplied; copied = a.copied; io = refl; read = a.read; read_is_home = a.read_is_home; last_write = a.last_write; out = a.out; overwritten = a.overwritten; image = a.image; seen_valid = a.seen_valid; waits = a.waits; visited = a.visited; left_to_write = a.left_to_write } b
+begun_on true l m n a b = looked_on (begun_link true l) (begun_link true m) n (looked_by (begun_link true l) (begun_link true m) (ap (begun_link true) (quiet l m a)) a.seen_valid a.waits a.visited a.left_to_write) b
+begun_on false l m n a b = looked_on (begun_link false l) (begun_link false m) n (looked_by (begun_link false l) (begun_link false m) (ap (begun_link false) (quiet l m a)) a.seen_valid a.waits a.visited a.left_to_write) b
 
 -- a read or a write may end under the header as it could before it was locked
 ends_on : (end : IoEnd) (l m : Link) → m.io ≡ l.io → m.read ≡ l.read → m.read_is_home ≡ l.read_is_home → m.last_write ≡ l.last_write → EndsAs end l → EndsAs end m
@@ -160,11 +138,11 @@ saw_still WriteOk saw sees h e = h e
 saw_still Bad saw sees h e = h e
 
 pub finished_back : (end : IoEnd) (word : ℕ) (l m o : Link) → Looked (locked_link word l) m → o ≡ finished_link end m → Looked (finished_link end l) o
-finished_back end word l m o a e = subst (Looked (finished_link end l)) (sym e) record { role = a.role; tag = a.tag; ring = a.ring; header = refl; pending = a.pending; content = a.content; copying = a.copying; dirtied = a.dirtied; unapplied = a.unapplied; copied = a.copied; io = refl; read = refl; read_is_home = refl; last_write = refl; out = a.out; overwritten = a.overwritten; image = a.image; seen_valid = saw_still end l.seen_valid m.seen_valid a.seen_valid; waits = a.waits; visited = a.visited; left_to_write = a.left_to_write }
+finished_back end word l m o a e = subst (Looked (finished_link end l)) (sym e) (looked_by (finished_link end l) (finished_link end m) (ap (λ (x : Link). quiet_link (finished_link end x)) (quiet (locked_link word l) m a)) (saw_still end l.seen_valid m.seen_valid a.seen_valid) a.waits a.visited a.left_to_write)
 
 -- a backend that ended a good read has seen BM_VALID
 pub finished_sees : (end : IoEnd) (l m : Link) → Looked (finished_link end l) m → end ≡ ReadOk → m.seen_valid ≡ true
 finished_sees end l m a e = a.seen_valid (ap (λ (x : IoEnd). saw_valid x l.seen_valid) e)
 
 pub looked_none : (l : Link) → Looked l l
-looked_none l = record { role = refl; tag = refl; ring = refl; header = refl; pending = refl; content = refl; copying = refl; dirtied = refl; unapplied = refl; copied = refl; io = refl; read = refl; read_is_home = refl; last_write = refl; out = refl; overwritten = refl; image = refl; seen_valid = λ e. e; waits = λ e. e; visited = λ e. e; left_to_write = λ e. e }
+looked_none l = looked_same l l refl

@@ -11,14 +11,16 @@ use Rattle.atomic_table.specs.Table as table
 use Rattle.state_word.specs.Fields.{fields, bit}
 use Rattle.pin_core.specs.declared.view.View.{View}
 use Rattle.pin_core.specs.declared.view.Content.{Content}
-use Rattle.pin_core.specs.declared.view.Content.TheVariants.{Unlocked, Shared, Exclusive}
+use Rattle.pin_core.specs.declared.view.Content.TheVariants.{Shared, Exclusive}
 use Rattle.pin_core.specs.State.{Frame, link}
 use Rattle.pin_core.specs.Tallies.{flag_weight, unless_flag}
 use Rattle.page_core.specs.Kinds as paged
 use Rattle.page_core.specs.Tallies.{sharers, applied_locks, unapplied_locks, copies, weigh, share_weight, exclusive_weight}
+use Rattle.page_core.proofs.Histories.{one_share}
 use Rattle.grid.proofs.Sums.{term_le, total-few}
 use Rattle.history_core.specs.Laws.{Laws}
 use Rattle.history_core.specs.State.{State}
+use Rattle.history_core.proofs.Sound.{weighs_flag}
 use Rattle.table_rule.specs.declared.value.Value.{Value}
 use Rattle.table_rule.specs.declared.opening.Opening.{Opening}
 use Rattle.table_rule.specs.Layout.{content_place}
@@ -90,15 +92,6 @@ copy_cleared : (n : ℕ) → bit 19 n ≡ true → n < 2 ^ 20 → let m : ℕ = 
 copy_cleared n on small = let z = bit_set (n / 2 ^ 19 % 2) on in let m : ℕ = (n + (2 ^ 64 - 2 ^ 19)) % 2 ^ 64 in let is : m + 2 ^ 19 ≡ n = omega arith in
     let a : m / 2 ^ 18 % 2 ≡ n / 2 ^ 18 % 2 = omega (arith, is) in let b : m / 2 ^ 19 % 2 ≡ 0 = omega (arith, is) in (omega (arith, is), ap (λ (x : ℕ). x == 1) a, ap (λ (x : ℕ). x == 1) b, omega (arith, is))
 
-flag_on : (b : Bool) → 0 < flag_weight b → b ≡ true
-flag_on true h = refl
-flag_on false h = absurd (omega arith)
-
-one_share : (c : Content) → share_weight c ≤ 1
-one_share Unlocked = omega arith
-one_share Shared = omega arith
-one_share Exclusive = omega arith
-
 some_exclusive : (b : Bool) → 0 < unless_flag b (exclusive_weight Exclusive) + flag_weight b
 some_exclusive true = omega arith
 some_exclusive false = omega arith
@@ -116,10 +109,10 @@ module _ (s : State) (laws : Laws s) (f : ℕ) (below : f < s.pool.core.frames) 
     pub own_exclusive : (link v f).content ≡ Exclusive → (s.pool.core.frame f).exclusive ≡ true
     own_exclusive right = let c = laws.invariant.pool.pages.columns f below in
         let e : unless_flag (link v f).unapplied (exclusive_weight (link v f).content) ≡ unless_flag (link v f).unapplied (exclusive_weight Exclusive) = ap (λ (x : Content). unless_flag (link v f).unapplied (exclusive_weight x)) right in
-        flag_on (s.pool.core.frame f).exclusive (omega (arith, c.exclusive, e, some_exclusive (link v f).unapplied, term_le (λ (u : View). weigh applied_locks (link u f)) s.pool.core.views i v there, term_le (λ (u : View). weigh unapplied_locks (link u f)) s.pool.core.views i v there))
+        weighs_flag (s.pool.core.frame f).exclusive (omega (arith, c.exclusive, e, some_exclusive (link v f).unapplied, term_le (λ (u : View). weigh applied_locks (link u f)) s.pool.core.views i v there, term_le (λ (u : View). weigh unapplied_locks (link u f)) s.pool.core.views i v there))
 
     pub own_copy : (link v f).copying ≡ true → (s.pool.core.frame f).copying ≡ true
-    own_copy right = let c = laws.invariant.pool.pages.columns f below in let e : flag_weight (link v f).copying ≡ 1 = ap flag_weight right in flag_on (s.pool.core.frame f).copying (omega (arith, c.copying, e, term_le (λ (u : View). weigh copies (link u f)) s.pool.core.views i v there))
+    own_copy right = let c = laws.invariant.pool.pages.columns f below in let e : flag_weight (link v f).copying ≡ 1 = ap flag_weight right in weighs_flag (s.pool.core.frame f).copying (omega (arith, c.copying, e, term_le (λ (u : View). weigh copies (link u f)) s.pool.core.views i v there))
 
 module _ {L G : Type 0} (d : Devices L G) (o : Opening L G) where
   at_content : (k : FrameKind) (t : table.State (Value L G) View) (s : State) (f n : ℕ) (v : View) → f < o.config.frames → Shows d o t s → AsksContent k s f n v → Asks k t s f (3 * f + 2) n v

@@ -23,7 +23,7 @@ use Rattle.table_rule.specs.declared.opening.Opening.{Opening}
 use Rattle.table_rule.specs.declared.turn.Place.{Place}
 use Rattle.table_rule.specs.declared.turn.Place.TheVariants as place
 use Rattle.table_rule.specs.declared.turn.Turn.TheVariants as turn
-use Rattle.table_rule.specs.Layout.{slot_of}
+use Rattle.table_rule.specs.Layout.{slot_of, first_lane_slot, log_slot, list_slot, slot_count}
 use Rattle.table_rule.specs.Laid.{lanes_among, HasNoDevices, EndsWith}
 use Rattle.table_rule.specs.Shows.{is_out, IsHome, Devices, Gives, GivesPage, GivesMap, GivesLane, GivesLog, IsLane, IsLog, IsPlaceIn, RuleHolds}
 use Rattle.table_rule.proofs.Emptying.{at_take, two_last, plain_each, LanesAt, AreThose, are_those, same_item, IsOther, other_plain, other_lanes, lane_plain, log_lanes, list_lanes, one_log}
@@ -67,7 +67,7 @@ module _ {L G : Type 0} (d : Devices L G) (o : Opening L G) (t : table.State (Va
     value_at : (x : Place) → IsPlaceIn o x → (y : Value L G) × (get_elem? xs (slot_of n x) ≡ some y) × Gives d o s x y
     value_at x has = let r = h.shows.homes x has (all_home x has) in (r.value, given (slot_of n x) r.value r.home, r.gives)
 
-    wide : length xs ≡ n + 146
+    wide : length xs ≡ slot_count n
     wide = sym long ∙ h.shows.slots
 
     -- what lies in the slots of pages, of maps, and of lanes that aren't there
@@ -93,17 +93,17 @@ module _ {L G : Type 0} (d : Devices L G) (o : Opening L G) (t : table.State (Va
         of_value (value.Lanes l) g = absurd g
         of_value value.Away g = absurd g
 
-    spare_at : (q i : ℕ) (y : Value L G) → i ≡ n + 128 + q → o.config.lanes ≤ q → q < 16 → get_elem? xs i ≡ some y → IsOther y
-    spare_at q i y is from below at = subst IsOther (same_item xs (n + 128 + q) i value.Away y (sym is) (given (n + 128 + q) value.Away (h.shows.list.spare q from below)) at) tt
+    spare_at : (q i : ℕ) (y : Value L G) → i ≡ first_lane_slot n + q → o.config.lanes ≤ q → q < 16 → get_elem? xs i ≡ some y → IsOther y
+    spare_at q i y is from below at = subst IsOther (same_item xs (first_lane_slot n + q) i value.Away y (sym is) (given (first_lane_slot n + q) value.Away (h.shows.list.spare q from below)) at) tt
 
-    other_at : (i : ℕ) (y : Value L G) → i < n + 128 → get_elem? xs i ≡ some y → IsOther y
+    other_at : (i : ℕ) (y : Value L G) → i < first_lane_slot n → get_elem? xs i ≡ some y → IsOther y
     other_at i y low at = dite (dec_lt i n) (λ a. page_at i y a at) (λ a. map_at (i - n) i y (omega arith) (omega arith) at)
 
     -- a lane's slot has it, and the log's slot the log
-    lane_at : (q : ℕ) → q < o.config.lanes → (l : NotedLane L) × (get_elem? xs (n + 128 + q) ≡ some (value.Lane l)) × IsLane {L = L} {G = G} d o.catalog.value s.lanes q l.device (s.lane q)
+    lane_at : (q : ℕ) → q < o.config.lanes → (l : NotedLane L) × (get_elem? xs (first_lane_slot n + q) ≡ some (value.Lane l)) × IsLane {L = L} {G = G} d o.catalog.value s.lanes q l.device (s.lane q)
     lane_at q low = let r = value_at (place.Of (turn.Lane q)) low in of_value r.0 r.1 r.2
       where
-        of_value : (z : Value L G) → get_elem? xs (n + 128 + q) ≡ some z → GivesLane d o.catalog.value s.lanes q z (s.lane q) → (l : NotedLane L) × (get_elem? xs (n + 128 + q) ≡ some (value.Lane l)) × IsLane {L = L} {G = G} d o.catalog.value s.lanes q l.device (s.lane q)
+        of_value : (z : Value L G) → get_elem? xs (first_lane_slot n + q) ≡ some z → GivesLane d o.catalog.value s.lanes q z (s.lane q) → (l : NotedLane L) × (get_elem? xs (first_lane_slot n + q) ≡ some (value.Lane l)) × IsLane {L = L} {G = G} d o.catalog.value s.lanes q l.device (s.lane q)
         of_value (value.Page p) at g = absurd g
         of_value (value.Map m) at g = absurd g
         of_value (value.Lane l) at g = (l, at, g.0)
@@ -111,10 +111,10 @@ module _ {L G : Type 0} (d : Devices L G) (o : Opening L G) (t : table.State (Va
         of_value (value.Lanes l) at g = absurd g
         of_value value.Away at g = absurd g
 
-    pub log_at : (g : NotedLog G) × (get_elem? xs (n + 144) ≡ some (value.Log g)) × IsLog {L = L} {G = G} d g.device g.down s.device
+    pub log_at : (g : NotedLog G) × (get_elem? xs (log_slot n) ≡ some (value.Log g)) × IsLog {L = L} {G = G} d g.device g.down s.device
     log_at = let r = value_at (place.Of turn.Log) tt in of_value r.0 r.1 r.2
       where
-        of_value : (z : Value L G) → get_elem? xs (n + 144) ≡ some z → GivesLog d z s.device → (g : NotedLog G) × (get_elem? xs (n + 144) ≡ some (value.Log g)) × IsLog {L = L} {G = G} d g.device g.down s.device
+        of_value : (z : Value L G) → get_elem? xs (log_slot n) ≡ some z → GivesLog d z s.device → (g : NotedLog G) × (get_elem? xs (log_slot n) ≡ some (value.Log g)) × IsLog {L = L} {G = G} d g.device g.down s.device
         of_value (value.Page p) at g = absurd g
         of_value (value.Map m) at g = absurd g
         of_value (value.Lane l) at g = absurd g
@@ -122,37 +122,37 @@ module _ {L G : Type 0} (d : Devices L G) (o : Opening L G) (t : table.State (Va
         of_value (value.Lanes l) at g = absurd g
         of_value value.Away at g = absurd g
 
-    list_at : get_elem? xs (n + 145) ≡ some (value.Lanes h.shows.list.list)
-    list_at = given (n + 145) (value.Lanes h.shows.list.list) h.shows.list.home
+    list_at : get_elem? xs (list_slot n) ≡ some (value.Lanes h.shows.list.list)
+    list_at = given (list_slot n) (value.Lanes h.shows.list.list) h.shows.list.home
 
-    plain_at : (i : ℕ) (y : Value L G) → i < n + 144 → get_elem? xs i ≡ some y → HasNoDevices (y ∷ [])
-    plain_at i y low at = dite (dec_lt i (n + 128)) (λ a. other_plain y (other_at i y a at))
-        (λ a. dite (dec_lt (i - n - 128) o.config.lanes)
-        (λ b. let r = lane_at (i - n - 128) b in subst (λ (z : Value L G). HasNoDevices (z ∷ [])) (same_item xs (n + 128 + (i - n - 128)) i (value.Lane r.0) y (omega arith) r.1 at) (lane_plain L G r.0))
-        (λ b. other_plain y (spare_at (i - n - 128) i y (omega arith) (omega arith) (omega arith) at)))
+    plain_at : (i : ℕ) (y : Value L G) → i < log_slot n → get_elem? xs i ≡ some y → HasNoDevices (y ∷ [])
+    plain_at i y low at = dite (dec_lt i (first_lane_slot n)) (λ a. other_plain y (other_at i y a at))
+        (λ a. dite (dec_lt (i - first_lane_slot n) o.config.lanes)
+        (λ b. let r = lane_at (i - first_lane_slot n) b in subst (λ (z : Value L G). HasNoDevices (z ∷ [])) (same_item xs (first_lane_slot n + (i - first_lane_slot n)) i (value.Lane r.0) y (omega arith) r.1 at) (lane_plain L G r.0))
+        (λ b. other_plain y (spare_at (i - first_lane_slot n) i y (omega arith) (omega arith) (omega arith) at)))
 
     -- the values end with the log and the list
     pub ends_so : EndsWith log_at.0 h.shows.list.list xs
     ends_so = record {
-      others = take (n + 144) xs;
-      is = two_last xs (n + 144) (value.Log log_at.0) (value.Lanes h.shows.list.list) (let w = wide in omega arith) log_at.1 (ap (get_elem? xs) {x = n + 144 + 1} {y = n + 145} (omega arith) ∙ list_at);
-      plain = plain_each (take (n + 144) xs) (λ i y e. let r = at_take xs (n + 144) i y e in plain_at i y r.0 r.1);
+      others = take (log_slot n) xs;
+      is = two_last xs (log_slot n) (value.Log log_at.0) (value.Lanes h.shows.list.list) (let w = wide in omega arith) log_at.1 (ap (get_elem? xs) {x = log_slot n + 1} {y = list_slot n} (omega arith) ∙ list_at);
+      plain = plain_each (take (log_slot n) xs) (λ i y e. let r = at_take xs (log_slot n) i y e in plain_at i y r.0 r.1);
     }
 
     -- and its lanes are those in the lanes' slots
-    lanes_so : LanesAt (n + 128) o.config.lanes xs
+    lanes_so : LanesAt (first_lane_slot n) o.config.lanes xs
     lanes_so = record {
       before = λ i y at low. other_lanes y (other_at i y low at);
-      there = λ q i y is low at. let r = lane_at q low in (r.0, sym (same_item xs (n + 128 + q) i (value.Lane r.0) y (sym is) r.1 at));
-      behind = λ i y at high. dite (dec_lt i (n + 144)) (λ a. other_lanes y (spare_at (i - n - 128) i y (omega arith) (omega arith) (omega arith) at))
-          (λ a. dite (ℕ_discrete i (n + 144))
-          (λ e. subst (λ (z : Value L G). lanes_among (z ∷ []) ≡ []) (same_item xs (n + 144) i (value.Log log_at.0) y (sym e) log_at.1 at) (log_lanes L G log_at.0))
-          (λ e. subst (λ (z : Value L G). lanes_among (z ∷ []) ≡ []) (same_item xs (n + 145) i (value.Lanes h.shows.list.list) y (let w = wide in let b = length_low xs i y at in omega arith) list_at at) (list_lanes L G h.shows.list.list)));
+      there = λ q i y is low at. let r = lane_at q low in (r.0, sym (same_item xs (first_lane_slot n + q) i (value.Lane r.0) y (sym is) r.1 at));
+      behind = λ i y at high. dite (dec_lt i (log_slot n)) (λ a. other_lanes y (spare_at (i - first_lane_slot n) i y (omega arith) (omega arith) (omega arith) at))
+          (λ a. dite (ℕ_discrete i (log_slot n))
+          (λ e. subst (λ (z : Value L G). lanes_among (z ∷ []) ≡ []) (same_item xs (log_slot n) i (value.Log log_at.0) y (sym e) log_at.1 at) (log_lanes L G log_at.0))
+          (λ e. subst (λ (z : Value L G). lanes_among (z ∷ []) ≡ []) (same_item xs (list_slot n) i (value.Lanes h.shows.list.list) y (let w = wide in let b = length_low xs i y at in omega arith) list_at at) (list_lanes L G h.shows.list.list)));
       long = (let w = wide in let f = h.shows.fixed.few_lanes in omega arith);
     }
 
-    those : AreThose (n + 128) o.config.lanes xs
-    those = are_those xs (n + 128) o.config.lanes lanes_so
+    those : AreThose (first_lane_slot n) o.config.lanes xs
+    those = are_those xs (first_lane_slot n) o.config.lanes lanes_so
 
     pub room_so : length (lanes_among xs) ≤ vec_capacity h.shows.list.list
     room_so = let a = those.counted in let b = h.shows.list.room in omega arith
@@ -167,7 +167,7 @@ module _ {L G : Type 0} (d : Devices L G) (o : Opening L G) (t : table.State (Va
       others = joined_others;
       counted = ap (λ (l : List L). length l) all ∙ those.counted;
       lane = λ q l at. let low : q < o.config.lanes = (let a = length_low lanes q l at in let b = ap (λ (z : List L). length z) all in let c = those.counted in omega arith) in let r = lane_at q low in
-          subst (λ (x : L). IsLane {L = L} {G = G} d o.catalog.value s.lanes q x (s.lane q)) (some-injective r.0.device l (sym (those.each q (n + 128 + q) r.0 refl low r.1) ∙ sym (ap (λ (z : List L). get_elem? z q) all) ∙ at)) r.2;
+          subst (λ (x : L). IsLane {L = L} {G = G} d o.catalog.value s.lanes q x (s.lane q)) (some-injective r.0.device l (sym (those.each q (first_lane_slot n + q) r.0 refl low r.1) ∙ sym (ap (λ (z : List L). get_elem? z q) all) ∙ at)) r.2;
       mark = log_at.0.down;
       device = subst (λ (x : G). IsLog {L = L} {G = G} d x log_at.0.down s.device) (sym (one_log log_at.0 g xs h.shows.list.list list ends_so ends) ∙ sym is) log_at.2;
     }

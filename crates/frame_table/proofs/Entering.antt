@@ -1,5 +1,5 @@
 -- A page becomes an entry of the log: the log's end is stored.
-use Rattle.std.proofs.Common.{◌≡◌, ℕ, ◌+◌, ◌*◌, ◌<◌, ◌≤◌, false, ⊎_elim, Option, Some, List, [], ◌∷◌, ◌++◌, drop, get_or, set, length, length-set, get_or-set_same, get_or-set_other, append-nil, lit<, sym, refl, ap, ◌∙◌, subst, arith}
+use Rattle.std.proofs.Common.{◌≡◌, ℕ, ◌+◌, ◌<◌, ◌≤◌, false, ⊎_elim, Option, Some, List, [], ◌∷◌, ◌++◌, drop, set, length, length-set, get_or-set_other, append-nil, lit<, sym, refl, ap, ◌∙◌, subst, arith}
 use Rattle.std.proofs.lemmas.Bool.{cases_lt}
 use Rattle.std.proofs.lemmas.List.{get_or_past}
 use Rattle.std.proofs.lemmas.Option.{same_Some}
@@ -22,6 +22,7 @@ use Rattle.page_core.specs.Kinds.{make_entry, link_after}
 use Rattle.history_core.specs.Laws.{Laws}
 use Rattle.history_core.specs.Log.{record_size, record_bytes}
 use Rattle.history_core.specs.State.{State}
+use Rattle.history_core.specs.Words.{Word, end_word, word_of, word_set}
 use Rattle.history_core.specs.Steps.{CanLog, CanEnter, new_entry, has_written, paged, pool_after, enters}
 use Rattle.history_core.proofs.Laws.{laws_kept}
 use Rattle.grid.proofs.Lists.{put_same}
@@ -32,8 +33,9 @@ use Rattle.table_rule.specs.declared.turn.Turn.{Turn}
 use Rattle.table_rule.specs.declared.turn.Turn.TheVariants as turn
 use Rattle.table_rule.specs.declared.value.Value.{Value}
 use Rattle.table_rule.specs.Blocks.{log_name}
-use Rattle.table_rule.specs.Layout.{latch_place, end_place}
-use Rattle.table_rule.specs.Shows.{HasTurn, ShowsFrame, ShowsLatches, is_out, is_taken, Devices, Shows, RuleHolds}
+use Rattle.table_rule.specs.Layout.{latch_place, end_place, word_count}
+use Rattle.table_rule.proofs.Places.{latch_apart, said}
+use Rattle.table_rule.specs.Shows.{ShowsFrame, ShowsLatches, is_out, is_taken, Devices, Shows, RuleHolds}
 use Rattle.frame_table.specs.Entering.{MayBecomeEntry, IsRecord, MayStoreEnd, DidEnter, view_entered, tells_end}
 use Rattle.frame_table.proofs.Frames.{frame_else, lane_none, device_none, same_at, home_before, gives_same}
 use Rattle.frame_table.proofs.LogNames.{record_is}
@@ -93,25 +95,27 @@ entered_out f p s v (place.Of (turn.Partition q)) = refl
 entered_out f p s v (place.Of (turn.Lane q)) = refl
 entered_out f p s v (place.Of turn.Log) = refl
 
--- the words of the log and of the hand, and the latches
-latches_entered : (n lanes : ℕ) (words : List ℕ) (id f end : ℕ) (p : Page) (s : State) (v : View) → 3 * n + 148 ≤ length words → lanes ≤ 16 → end ≡ s.end + record_size → ShowsLatches n lanes words s → ShowsLatches n lanes (set words (end_place n) end) (entered id f p s v)
+-- the latches stay as they are
+entered_taken : (id f : ℕ) (p : Page) (s : State) (v : View) (x : Turn) → is_taken x (entered id f p s v) ≡ is_taken x s
+entered_taken id f p s v (turn.Partition q) = refl
+entered_taken id f p s v _ = refl
+
+-- and the other words, but for the log's end
+entered_words : (id f end : ℕ) (p : Page) (s : State) (v : View) → end ≡ s.end + record_size → (x : Word) → word_set end_word end s x ≡ word_of x (entered id f p s v)
+entered_words id f end p s v is end_word = is
+entered_words id f end p s v is _ = refl
+
+latches_entered : (n lanes : ℕ) (words : List ℕ) (id f end : ℕ) (p : Page) (s : State) (v : View) → word_count n ≤ length words → lanes ≤ 16 → end ≡ s.end + record_size → ShowsLatches n lanes words s → ShowsLatches n lanes (set words (end_place n) end) (entered id f p s v)
 latches_entered n lanes words id f end p s v wide few is h = record {
-  latch = latch_of;
-  end = get_or-set_same words (3 * n + 145) end 0 (omega arith) ∙ is;
-  flushed = get_or-set_other words (3 * n + 145) (3 * n + 146) end 0 (omega arith) ∙ h.flushed;
-  hand = get_or-set_other words (3 * n + 145) (3 * n + 147) end 0 (omega arith) ∙ h.hand;
+  latch = λ x here. get_or-set_other words (end_place n) (latch_place n x) end 0 (latch_apart n lanes x end_word few here) ∙ h.latch x here ∙ ap flag_weight (sym (entered_taken id f p s v x));
+  word = λ x here. said n words end_word end s tt wide h.word x here ∙ entered_words id f end p s v is x;
 }
-  where
-    latch_of : (x : Turn) → HasTurn lanes x → get_or (set words (end_place n) end) (latch_place n x) 0 ≡ flag_weight (is_taken x (entered id f p s v))
-    latch_of (turn.Partition q) has = get_or-set_other words (3 * n + 145) (3 * n + q) end 0 (omega arith) ∙ h.latch (turn.Partition q) has
-    latch_of (turn.Lane q) has = get_or-set_other words (3 * n + 145) (3 * n + 128 + q) end 0 (omega arith) ∙ h.latch (turn.Lane q) has
-    latch_of turn.Log has = get_or-set_other words (3 * n + 145) (3 * n + 144) end 0 (omega arith) ∙ h.latch turn.Log has
 
 module _ {L G : Type 0} (d : Devices L G) (o : Opening L G) where
   -- the table shows the state after it
   shows_entered : (t : table.State (Value L G) View) (s : State) (id f end : ℕ) (p : Page) (c : List (ℕ × Value L G)) (v : View) → Shows d o t s → get_elem? s.pool.core.views id ≡ some v → end ≡ s.end + record_size → Shows d o (stepped t (end_place o.config.frames) end id c (written f p s v) keeps) (entered id f p s v)
   shows_entered t s id f end p c v h there is = let n : ℕ = o.config.frames in let w : View = written f p s v in let fr : Frame = s.pool.core.frame f in let long = h.words in record {
-    fixed = let x = h.fixed in record { frames = x.frames; backends = x.backends; base = x.base; partitions = x.partitions; partition_of = x.partition_of; is_block = x.is_block; names = x.names; lanes = x.lanes; lane_of = x.lane_of; few_backends = x.few_backends; few_lanes = x.few_lanes; known = x.known; origin = x.origin; reads = x.reads; writes = x.writes; log_faults = x.log_faults };
+    fixed = h.fixed;
     words = length-set t.words (end_place n) end ∙ h.words;
     slots = h.slots;
     views = ap (λ (l : List View). set l id w) h.views;

@@ -31,7 +31,9 @@ use Rattle.table_rule.specs.declared.turn.Place.{Place}
 use Rattle.table_rule.specs.declared.turn.Place.TheVariants as place
 use Rattle.table_rule.specs.declared.turn.Turn.{Turn}
 use Rattle.table_rule.specs.declared.turn.Turn.TheVariants as turn
-use Rattle.table_rule.specs.Layout.{latch_place}
+use Rattle.table_rule.specs.Layout.{latch_place, word_place}
+use Rattle.table_rule.proofs.Places.{word_behind}
+use Rattle.history_core.specs.Words.{number_in, words_of}
 use Rattle.frame_table.specs.Kinds.{FrameKind, pins, pages, IsAllowed, IsAllowedAround, frame_after, link_after, view_after, state_after}
 use Rattle.table_rule.specs.Shows.{ShowsFrame, ShowsLatches, is_taken, is_out, IsHome, Devices, Gives, GivesPage, GivesMap, GivesLane, GivesLog, KeepsOpening, Shows}
 
@@ -49,12 +51,10 @@ frame_else words i n g fr a b c h = let e0 : get_or (set words i n) (3 * g) 0 �
     }
 
 -- A step leaves the words after those of the frames
-pub latches_else : (n lanes : ℕ) (words : List ℕ) (i m : ℕ) (s s' : State) → i < 3 * n → ((x : Turn) → is_taken x s' ≡ is_taken x s) → s'.end ≡ s.end → s'.flushed ≡ s.flushed → s'.hand ≡ s.hand → ShowsLatches n lanes words s → ShowsLatches n lanes (set words i m) s'
-latches_else n lanes words i m s s' low same end flushed hand h = record {
+pub latches_else : (n lanes : ℕ) (words : List ℕ) (i m : ℕ) (s s' : State) → i < 3 * n → ((x : Turn) → is_taken x s' ≡ is_taken x s) → words_of s' ≡ words_of s → ShowsLatches n lanes words s → ShowsLatches n lanes (set words i m) s'
+latches_else n lanes words i m s s' low same kept h = record {
   latch = λ x has. get_or-set_other words i (latch_place n x) m 0 (behind x) ∙ h.latch x has ∙ ap flag_weight (sym (same x));
-  end = get_or-set_other words i (3 * n + 145) m 0 (omega arith) ∙ h.end ∙ sym end;
-  flushed = get_or-set_other words i (3 * n + 146) m 0 (omega arith) ∙ h.flushed ∙ sym flushed;
-  hand = get_or-set_other words i (3 * n + 147) m 0 (omega arith) ∙ h.hand ∙ sym hand;
+  word = λ w has. get_or-set_other words i (word_place n w) m 0 (λ e. let after = word_behind n w in omega arith) ∙ h.word w has ∙ ap (number_in w) (sym kept);
 }
   where
     behind : (x : Turn) → ¬ (latch_place n x ≡ i)
@@ -211,8 +211,8 @@ module _ {L G : Type 0} where
 
 module _ {L G : Type 0} (d : Devices L G) (o : Opening L G) where
   pub fixed_after : (k : FrameKind) (s : State) (i f : ℕ) (v : View) → KeepsOpening d o s → KeepsOpening d o (state_after k s i f v)
-  fixed_after (pins k) s i f v h = record { frames = h.frames; backends = h.backends; base = h.base; partitions = h.partitions; partition_of = h.partition_of; is_block = h.is_block; names = h.names; lanes = h.lanes; lane_of = h.lane_of; few_backends = h.few_backends; few_lanes = h.few_lanes; known = h.known; origin = h.origin; reads = h.reads; writes = h.writes; log_faults = h.log_faults }
-  fixed_after (pages k) s i f v h = record { frames = h.frames; backends = h.backends; base = h.base; partitions = h.partitions; partition_of = h.partition_of; is_block = h.is_block; names = h.names; lanes = h.lanes; lane_of = h.lane_of; few_backends = h.few_backends; few_lanes = h.few_lanes; known = h.known; origin = h.origin; reads = h.reads; writes = h.writes; log_faults = h.log_faults }
+  fixed_after (pins k) s i f v h = h
+  fixed_after _ s i f v h = h
 
   same_values : (k : FrameKind) (s : State) (i f : ℕ) (v : View) → (frame_after k s f).page ≡ (s.pool.core.frame f).page → SameValues d o s (state_after k s i f v)
   same_values k s i f v e = record {
@@ -234,7 +234,7 @@ module _ {L G : Type 0} (d : Devices L G) (o : Opening L G) where
     frame = λ g inside. subst (ShowsFrame (set t.words i n) g) (sym (frame_is k s id f v g)) (dite (ℕ_discrete g f)
         (λ e. subst (ShowsFrame (set t.words i n) g) (sym (put_at s.pool.core.frame f (frame_after k s f) g e)) (subst (λ (z : ℕ). ShowsFrame (set t.words i n) z (frame_after k s f)) (sym e) a.shows))
         (λ e. subst (ShowsFrame (set t.words i n) g) (sym (put_else s.pool.core.frame f (frame_after k s f) g e)) (frame_else t.words i n g (s.pool.core.frame g) (λ z. e (omega arith)) (λ z. e (omega arith)) (λ z. e (omega arith)) (h.frame g inside))));
-    latches = latches_else o.config.frames o.config.lanes t.words i n s (state_after k s id f v) (omega arith) (taken_same k s id f v) refl refl refl h.latches;
+    latches = latches_else o.config.frames o.config.lanes t.words i n s (state_after k s id f v) (omega arith) (taken_same k s id f v) refl h.latches;
     homes = λ x inside home. let old = h.homes x inside (home_before s.pool.core.views id v w x there (λ e. sym (out_same k s f v a.out x) ∙ e) (subst (IsHome x) (views_are k s id f v) home)) in
         record { value = old.value; home = old.home; gives = gives_same d o s (state_after k s id f v) (same_values k s id f v a.page) x old.value old.gives };
     list = h.list;

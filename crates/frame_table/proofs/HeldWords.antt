@@ -26,7 +26,7 @@ use Rattle.frame_table.specs.Content.{CanAwait, CanBeginIo, CanClearJust, CanFin
 use Rattle.frame_table.proofs.Frames.{Asks}
 use Rattle.frame_table.proofs.Acting.{acts}
 use Rattle.frame_table.proofs.Words.{AsksWord, at_word, swaps}
-use Rattle.frame_table.proofs.Told.{looks_link, link_is}
+use Rattle.frame_table.proofs.Told.{looks_link, link_is, looked_by, quiet}
 
 -- where a view holds the header, the state word is the word that it holds
 pub word_held : (s : State) (id f word : ℕ) (v : View) → Laws s → get_elem? s.pool.core.views id ≡ some v → f < s.pool.core.frames → (link v f).header ≡ Some (fields word) → (s.pool.core.frame f).word ≡ fields word
@@ -148,7 +148,7 @@ begun_after true f found v w d = link_is (pages paged.start_input) f found v w d
 begun_after false f found v w d = link_is (pages paged.start_output) f found v w d
 
 dirtied_looked : (l m : Link) → Looked l m → Looked (dirtied_link l) (dirtied_link m)
-dirtied_looked l m a = record { role = a.role; tag = a.tag; ring = a.ring; header = a.header; pending = a.pending; content = a.content; copying = a.copying; dirtied = refl; unapplied = a.unapplied; copied = a.copied; io = a.io; read = a.read; read_is_home = a.read_is_home; last_write = a.last_write; out = a.out; overwritten = a.overwritten; image = a.image; seen_valid = a.seen_valid; waits = a.waits; visited = a.visited; left_to_write = a.left_to_write }
+dirtied_looked l m a = looked_by (dirtied_link l) (dirtied_link m) (ap dirtied_link (quiet l m a)) a.seen_valid a.waits a.visited a.left_to_write
 
 -- and after the frame was marked dirty
 pub dirtied_after : (f : ℕ) (v w : View) → Tried (pages paged.mark_dirty) f v w true → Looked (dirtied_link (link v f)) (link w f)

@@ -1,6 +1,6 @@
 -- Steps under a header, and at tag words.
-use Rattle.std.proofs.Common.{eqb, ◌≡◌, ◌≢◌, ℕ, ◌+◌, ◌*◌, ◌<◌, ◌/◌, ◌%◌, ◌^◌, Bool, true, false, Option, Some, None, List, get_or, set, length, get_or-set_same, get_or-set_other, sym, refl, ap, ◌∙◌, subst, arith}
-use Rattle.std.specs.Prelude.{is_some, IfSome, nat_eq}
+use Rattle.std.proofs.Common.{eqb, ◌≡◌, ◌≢◌, ℕ, ◌+◌, ◌*◌, ◌<◌, ◌%◌, ◌^◌, Bool, true, false, Option, Some, None, List, get_or, set, length, get_or-set_same, get_or-set_other, sym, refl, ap, ◌∙◌, subst, arith}
+use Rattle.std.specs.Prelude.{is_some, IfSome}
 use Rattle.std.proofs.lemmas.List.{get_or_past}
 use mathlib.Core.Logic.{dite}
 use mathlib.Core.Option.{none, some}
@@ -13,6 +13,7 @@ use Rattle.atomic_table.specs.Table as table
 use Rattle.state_word.specs.declared.word.StateWord.{StateWord}
 use Rattle.state_word.specs.Fields.{pinned_fields, fields, bit, unlocked_fields, assigned_fields, cleared_fields, usage_down_fields}
 use Rattle.state_word.proofs.Words.{same_record}
+use Rattle.state_word.proofs.Counts.{same_bit}
 use Rattle.block_tag.specs.declared.tag.Tag.{Tag}
 use Rattle.block_tag.specs.Names.{unpacked_tag, packed_tag}
 use Rattle.pin_core.specs.declared.view.View.{View}
@@ -45,11 +46,7 @@ use Rattle.frame_table.specs.FrameSteps.{Tried, if_found, Did, always, looking, 
 use Rattle.frame_table.proofs.Frames.{Asks}
 use Rattle.frame_table.proofs.Acting.{acts}
 use Rattle.frame_table.proofs.Words.{swaps, AsksWord, stores}
-use Rattle.frame_table.proofs.Told.{looks_link, self_after, grows, links_after, link_is}
-
--- numbers that are alike at a place have the same bit there
-same_bit : (place v w : ℕ) → v / 2 ^ place % 2 ≡ w / 2 ^ place % 2 → bit place v ≡ bit place w
-same_bit place v w e = ap (λ (n : ℕ). nat_eq n 1) e
+use Rattle.frame_table.proofs.Told.{looks_link, self_after, grows, links_after, link_is, looked_by, quiet}
 
 -- one more pin, the usage count as it was
 pub pin_added : (w : ℕ) → (fields w).pins + 1 < 262144 → fields (w + 1) ≡ record (fields w) { pins = (fields w).pins + 1 }
@@ -319,7 +316,7 @@ finds_on f tag g v w t h = let same : hold w (tag_partition tag) ≡ hold v (tag
 }
 
 mapped_looked : (tag : ℕ) (ring : Bool) (l m : Link) → Looked l m → Looked (mapped_link tag ring l) (mapped_link tag ring m)
-mapped_looked tag ring l m a = record { role = refl; tag = refl; ring = refl; header = a.header; pending = a.pending; content = a.content; copying = a.copying; dirtied = a.dirtied; unapplied = a.unapplied; copied = a.copied; io = a.io; read = a.read; read_is_home = a.read_is_home; last_write = a.last_write; out = a.out; overwritten = a.overwritten; image = a.image; seen_valid = a.seen_valid; waits = a.waits; visited = a.visited; left_to_write = a.left_to_write }
+mapped_looked tag ring l m a = looked_by (mapped_link tag ring l) (mapped_link tag ring m) (ap (mapped_link tag ring) (quiet l m a)) a.seen_valid a.waits a.visited a.left_to_write
 
 pub mapped_after : (tag : ℕ) (ring : Bool) (f : ℕ) (v w : View) → Tried (pins (pin.pin_mapped tag ring)) f v w true → Looked (mapped_link tag ring (link v f)) (link w f)
 mapped_after tag ring f v w t = subst (Looked (mapped_link tag ring (link v f))) (sym (link_is (pins (pin.pin_mapped tag ring)) f t.1 t.0 w t.3)) (mapped_looked tag ring (link v f) (link t.0 f) (looks_link f v t.0 t.2))

@@ -1,6 +1,7 @@
 -- The steps by which a lane goes out and comes back.
-use Rattle.std.proofs.Common.{◌≡◌, ℕ, ◌+◌, ◌<◌, Bool, true, false, Some, None, List, [], ◌∷◌, ◌++◌, get_or, set, length, get_or-set_same, append-nil, sym, refl, ap, ◌∙◌, subst, arith}
+use Rattle.std.proofs.Common.{◌≡◌, ℕ, ◌+◌, ◌<◌, Bool, false, Some, None, List, [], ◌∷◌, ◌++◌, get_or, set, length, get_or-set_same, append-nil, sym, refl, ap, ◌∙◌, subst, arith}
 use Rattle.std.specs.Prelude.{◌||◌}
+use Rattle.std.proofs.Math.Bool.{or-false}
 use mathlib.Core.Option.{some}
 use lib.ListN.{get_elem?}
 use Rattle.pin_core.specs.declared.view.LaneChange.{LaneChange}
@@ -176,10 +177,6 @@ met_after_none m x = λ j. record { reads = none_added m.reads x.reads j; writes
     none_added : (a b : ℕ) → (a + 0) + b ≡ a + b
     none_added a b = omega arith
 
-or_none : (b : Bool) → (b || false) ≡ b
-or_none true = refl
-or_none false = refl
-
 two_more : (n : ℕ) → (n + 1) + 1 ≡ n + 2
 two_more n = omega arith
 
@@ -198,7 +195,7 @@ module _ (k : LaneKind) (a : LaneHold) (c : LaneChange) (noted : Bool) (q : ℕ)
 
 pub view_alone : (k : LaneKind) (a : LaneHold) (c : LaneChange) (noted : Bool) (q : ℕ) (v : View) → q < length v.lanes → lane_hold_after k v.flushed (swept_by v) (lane_hold v q) ≡ record a { change = c } → lane_met_by k (lane_hold v q) ≡ record { reads = 0; writes = 0; logs = 0 }
     → alone_view (lane_back noted) q (alone_view k q v) ≡ record v { lanes = set v.lanes q (back_lane a); steps = v.steps + 2; device_calls = v.device_calls ++ lane_calls_by k q; met = sum_of_met v.met (fault_of noted c); dirtied_or_synced = v.dirtied_or_synced || syncs k }
-view_alone k a c noted q v low hold none = λ j. record v { lanes = lanes_home k a c noted q v low hold j; steps = two_more v.steps j; device_calls = append-nil (v.device_calls ++ lane_calls_by k q) j; met = fault_noted k a c noted q v low hold none j; dirtied_or_synced = or_none (v.dirtied_or_synced || syncs k) j }
+view_alone k a c noted q v low hold none = λ j. record v { lanes = lanes_home k a c noted q v low hold j; steps = two_more v.steps j; device_calls = append-nil (v.device_calls ++ lane_calls_by k q) j; met = fault_noted k a c noted q v low hold none j; dirtied_or_synced = or-false (v.dirtied_or_synced || syncs k) j }
 
 pub view_read : (tag : ℕ) (p : Page) (s : State) (id q f : ℕ) (v : View) → q < length v.lanes
     → noted_view false (note_read p) (alone_state (read_block tag p) s id q v) q f (alone_view (read_block tag p) q v) ≡ record v { links = set v.links f (record (link v f) { read = Some p; read_is_home = false }); lanes = set v.lanes q (back_lane (lane_hold v q)); steps = v.steps + 2; device_calls = v.device_calls ++ lane_calls_by (read_block tag p) q; met = sum_of_met v.met (record { reads = 0; writes = 0; logs = 0 }); dirtied_or_synced = v.dirtied_or_synced || false }
@@ -209,8 +206,8 @@ view_read tag p s id q f v low = λ j. record v {
   steps = two_more v.steps j;
   device_calls = append-nil (v.device_calls ++ lane_calls_by (read_block tag p) q) j;
   met = met_after_none v.met (record { reads = 0; writes = 0; logs = 0 }) j;
-  dirtied_or_synced = (or_none ((v.dirtied_or_synced || false) || false) ∙ or_none (v.dirtied_or_synced || false)) j;
-  had_output = or_none v.had_output j;
+  dirtied_or_synced = (or-false ((v.dirtied_or_synced || false) || false) ∙ or-false (v.dirtied_or_synced || false)) j;
+  had_output = or-false v.had_output j;
 }
 
 pub view_written : (k : LaneKind) (c : LaneChange) (noted done : Bool) (s : State) (id q f : ℕ) (v : View) → q < length v.lanes → f < length v.links → lane_hold_after k v.flushed (swept_by v) (lane_hold v q) ≡ record (lane_hold v q) { change = c } → lane_met_by k (lane_hold v q) ≡ record { reads = 0; writes = 0; logs = 0 } → syncs k ≡ false
@@ -223,7 +220,7 @@ view_written k c noted done s id q f v low inside hold none quiet = λ j. record
   device_calls = append-nil (v.device_calls ++ lane_calls_by k q) j;
   met = fault_noted k (lane_hold v q) c noted q v low hold none j;
   dirtied_or_synced = marks j;
-  had_output = (or_none (v.had_output || false) ∙ or_none v.had_output) j;
+  had_output = (or-false (v.had_output || false) ∙ or-false v.had_output) j;
 }
   where
     links : set (set v.links f (record (link v f) { last_write = Unwritten })) f (record (get_or (set v.links f (record (link v f) { last_write = Unwritten })) f idle) { last_write = pages.write_noted done }) ≡ set v.links f (record (link v f) { last_write = pages.write_noted done })
@@ -231,4 +228,4 @@ view_written k c noted done s id q f v low inside hold none quiet = λ j. record
         ∙ ap (λ (l : Link). set v.links f (record l { last_write = pages.write_noted done })) (get_or-set_same v.links f (record (link v f) { last_write = Unwritten }) idle inside)
 
     marks : ((((v.dirtied_or_synced || false) || syncs k) || false) || false) ≡ (v.dirtied_or_synced || false)
-    marks = or_none (((v.dirtied_or_synced || false) || syncs k) || false) ∙ or_none ((v.dirtied_or_synced || false) || syncs k) ∙ ap (λ (b : Bool). (v.dirtied_or_synced || false) || b) quiet ∙ or_none (v.dirtied_or_synced || false)
+    marks = or-false (((v.dirtied_or_synced || false) || syncs k) || false) ∙ or-false ((v.dirtied_or_synced || false) || syncs k) ∙ ap (λ (b : Bool). (v.dirtied_or_synced || false) || b) quiet ∙ or-false (v.dirtied_or_synced || false)

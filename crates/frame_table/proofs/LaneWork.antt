@@ -109,9 +109,7 @@ module _ {L G : Type 0} (d : Devices L G) (o : Opening L G) where
     views = p.views;
     frames = λ f. same_words (s.pool.core.frame f) (pool'.core.frame f) (p.frames f);
     latches = lane_taken s pool' id q w ln p kept;
-    end = refl;
-    flushed = refl;
-    hand = refl;
+    words = refl;
     outs = λ x n. lane_outs q v w x view n;
     values = λ x z n h. lane_values s pool' id q w ln p x z n h;
   }

@@ -11,6 +11,7 @@ pub mod Marks
 pub mod Splitting
 pub mod Stored
 pub mod Resting
+pub mod SameSeats
 pub mod WordSteps
 pub mod Origins
 pub mod Holding

@@ -41,7 +41,7 @@ use Rattle.table_rule.specs.declared.turn.Turn.{Turn}
 use Rattle.table_rule.specs.declared.turn.Turn.TheVariants as turn
 use Rattle.table_rule.specs.declared.value.Value.{Value}
 use Rattle.table_rule.specs.declared.value.Value.TheVariants as value
-use Rattle.table_rule.specs.Layout.{latch_place, slot_of}
+use Rattle.table_rule.specs.Layout.{latch_place, slot_of, log_slot}
 use Rattle.table_rule.specs.LogCalls.{LogDid}
 use Rattle.table_rule.specs.Shows.{is_out, is_taken, IsHome, Devices, Gives, GivesLog, IsLog, HasValue, RuleHolds, KeepsOpening}
 use Rattle.frame_table.specs.LogWork.{DidLog, DidTwo, GoesOut, out_steps, view_out, IsPart, ComesHome, home_hold, log_device_calls, view_home, MayCall, MarksLogDown, IsLogOut, IsTakenLog, MayComeHome, log_went, log_came}
@@ -74,13 +74,11 @@ module _ {L G : Type 0} (d : Devices L G) (o : Opening L G) where
   -- the log alone moves
   log_moves : (s : State) (id : ℕ) (v w : View) (views : List View) (dev : Device) → KeepsOpening d o s → views ≡ set s.pool.core.views id w → dev.taken ≡ s.device.taken → SameButLog v w → Moves d o s (with_log_device s views dev) id v w (place.Of turn.Log)
   log_moves s id v w views dev f are taken same = record {
-    fixed = record { frames = f.frames; backends = f.backends; base = f.base; partitions = f.partitions; partition_of = f.partition_of; is_block = f.is_block; names = f.names; lanes = f.lanes; lane_of = f.lane_of; few_backends = f.few_backends; few_lanes = f.few_lanes; known = f.known; origin = f.origin; reads = f.reads; writes = f.writes; log_faults = f.log_faults };
+    fixed = f;
     views = are;
     frames = λ g. words_none (s.pool.core.frame g);
     latches = latches_of;
-    end = refl;
-    flushed = refl;
-    hand = refl;
+    words = refl;
     outs = outs_of;
     values = values_of;
   }
@@ -106,7 +104,7 @@ module _ {L G : Type 0} (d : Devices L G) (o : Opening L G) where
 twice : (s : State) (id : ℕ) (j k : LogKind) (v : View) → set (set s.pool.core.views id (view_logged j v)) id (view_logged k (view_logged j v)) ≡ set s.pool.core.views id (view_logged k (view_logged j v))
 twice s id j k v = set_twice s.pool.core.views id (view_logged j v) (view_logged k (view_logged j v))
 
-met_none : (m : FailedCalls) → sum_of_met m (record { reads = 0; writes = 0; logs = 0 }) ≡ m
+pub met_none : (m : FailedCalls) → sum_of_met m (record { reads = 0; writes = 0; logs = 0 }) ≡ m
 met_none m = let a : m.reads + 0 ≡ m.reads = omega arith in let b : m.writes + 0 ≡ m.writes = omega arith in let c : m.logs + 0 ≡ m.logs = omega arith in λ i. record { reads = a i; writes = b i; logs = c i }
 
 -- the view while the log is out
@@ -145,7 +143,7 @@ module _ {L G : Type 0} (d : Devices L G) (o : Opening L G) (slots id : ℕ) (me
       value_there : HasValue d o t.homes h.state (place.Of turn.Log)
       value_there = h.shows.homes (place.Of turn.Log) tt (log_home h.state id me.0 h.laws here held out)
 
-      of_value : (y : Value L G) → get_elem? t.homes (o.config.frames + 144) ≡ some (some y) → GivesLog d y h.state.device → Acts t (log_went d.bytes d.synced d.log_faults d.log_calls (o.config.frames + 144) at_latch me)
+      of_value : (y : Value L G) → get_elem? t.homes (log_slot o.config.frames) ≡ some (some y) → GivesLog d y h.state.device → Acts t (log_went d.bytes d.synced d.log_faults d.log_calls (log_slot o.config.frames) at_latch me)
       of_value (value.Log x) home gives_it = of_mark x.down refl
         where
           taken : TakenLog
@@ -157,10 +155,10 @@ module _ {L G : Type 0} (d : Devices L G) (o : Opening L G) (slots id : ℕ) (me
           is_taken_so : IsTakenLog d.bytes d.synced d.log_faults d.log_calls x.device taken
           is_taken_so = record { told = refl; durable = gives_it.0.synced; counted = gives_it.0.faults; called = refl }
 
-          result : (w : View) (views : List View) → views ≡ set h.state.pool.core.views id w → SameButLog me.0 w → is_some w.log.out ≡ true → w ≡ view_out taken me.0 → Laws (with_log_device h.state views h.state.device) → GoesOut taken x.down me.0 w → Acts t (log_went d.bytes d.synced d.log_faults d.log_calls (o.config.frames + 144) at_latch me)
+          result : (w : View) (views : List View) → views ≡ set h.state.pool.core.views id w → SameButLog me.0 w → is_some w.log.out ≡ true → w ≡ view_out taken me.0 → Laws (with_log_device h.state views h.state.device) → GoesOut taken x.down me.0 w → Acts t (log_went d.bytes d.synced d.log_faults d.log_calls (log_slot o.config.frames) at_latch me)
           result w views are same away is laws did = (
             w,
-            takes (o.config.frames + 144) (value.Log x),
+            takes (log_slot o.config.frames) (value.Log x),
             home,
             record {
               state = with_log_device h.state views h.state.device;
@@ -171,7 +169,7 @@ module _ {L G : Type 0} (d : Devices L G) (o : Opening L G) (slots id : ℕ) (me
             (value.Log x, refl, ((gives_it.1, gives_it.2), record { taken = taken; is_taken = is_taken_so; down = gives_it.0.down; after = is; did = did })),
           )
 
-          of_mark : (m : Option ℕ) → x.down ≡ m → Acts t (log_went d.bytes d.synced d.log_faults d.log_calls (o.config.frames + 144) at_latch me)
+          of_mark : (m : Option ℕ) → x.down ≡ m → Acts t (log_went d.bytes d.synced d.log_faults d.log_calls (log_slot o.config.frames) at_latch me)
           of_mark None e = let w : View = view_logged (log_out taken) me.0 in
               result w (set h.state.pool.core.views id w) refl (record { links = refl; partitions = refl; lanes = refl }) refl (out_view taken me.0 (gives_it.0.down ∙ e)) (laws_logged (log_out taken) h.state id me.0 h.laws here live allowed tt)
               (subst (λ (m : Option ℕ). GoesOut taken m me.0 w) (sym e) (did_log (log_out taken) h.state id me.0 h.laws here live allowed tt))

@@ -77,13 +77,11 @@ module _ {L G : Type 0} (d : Devices L G) (o : Opening L G) where
   -- such a step moves the map of its partition alone
   moves_map : (k : parts.TurnKind) (s : State) (id p : ℕ) (v : View) → KeepsOpening d o s → (parts.partition_after k (s.pool.core.partition p) (hold v p)).taken ≡ (s.pool.core.partition p).taken → Moves d o s (mapped k s id p v) id v (view_mapped k p v) (place.Of (Partition p))
   moves_map k s id p v f kept = record {
-    fixed = record { frames = f.frames; backends = f.backends; base = f.base; partitions = f.partitions; partition_of = f.partition_of; is_block = f.is_block; names = f.names; lanes = f.lanes; lane_of = f.lane_of; few_backends = f.few_backends; few_lanes = f.few_lanes; known = f.known; origin = f.origin; reads = f.reads; writes = f.writes; log_faults = f.log_faults };
+    fixed = f;
     views = refl;
     frames = λ g. words_none (s.pool.core.frame g);
     latches = mapped_taken k s id p v kept;
-    end = refl;
-    flushed = refl;
-    hand = refl;
+    words = refl;
     outs = mapped_out k p v;
     values = mapped_gives d o k s id p v;
   }

@@ -17,7 +17,8 @@ use Rattle.table_rule.specs.declared.turn.Place.{Place}
 use Rattle.table_rule.specs.declared.turn.Place.TheVariants as place
 use Rattle.table_rule.specs.declared.turn.Turn.{Turn}
 use Rattle.table_rule.specs.declared.turn.Turn.TheVariants as turn
-use Rattle.table_rule.specs.Layout.{slot_of, slot_count}
+use Rattle.table_rule.specs.Layout.{slot_of, first_lane_slot, list_slot, slot_count}
+use Rattle.history_core.specs.Words.{number_in, words_of}
 use Rattle.table_rule.specs.Shows.{ShowsFrame, ShowsLatches, is_taken, is_out, IsHome, Devices, Gives, KeepsOpening, IsPlaceIn, HasValue, HasList, Shows}
 use Rattle.frame_table.proofs.Frames.{home_before, set_twice}
 
@@ -41,13 +42,13 @@ same_slot o (place.Of turn.Log) (place.Of (turn.Lane q)) few a b e = absurd (ome
 same_slot o (place.Of turn.Log) (place.Of turn.Log) few a b e = refl
 
 -- no place has the slot of a lane that isn't there, or of the list of lanes
-spare_else : {L G : Type 0} (o : Opening L G) (x : Place) (q : ℕ) → o.config.lanes ≤ 16 → IsPlaceIn o x → o.config.lanes ≤ q → q < 16 → o.config.frames + 128 + q ≢ slot_of o.config.frames x
+spare_else : {L G : Type 0} (o : Opening L G) (x : Place) (q : ℕ) → o.config.lanes ≤ 16 → IsPlaceIn o x → o.config.lanes ≤ q → q < 16 → first_lane_slot o.config.frames + q ≢ slot_of o.config.frames x
 spare_else o (place.Page f) q few has from below e = absurd (omega arith)
 spare_else o (place.Of (turn.Partition p)) q few has from below e = absurd (omega arith)
 spare_else o (place.Of (turn.Lane r)) q few has from below e = absurd (omega arith)
 spare_else o (place.Of turn.Log) q few has from below e = absurd (omega arith)
 
-pub slot_low : {L G : Type 0} (o : Opening L G) (x : Place) → o.config.lanes ≤ 16 → IsPlaceIn o x → slot_of o.config.frames x < o.config.frames + 145
+pub slot_low : {L G : Type 0} (o : Opening L G) (x : Place) → o.config.lanes ≤ 16 → IsPlaceIn o x → slot_of o.config.frames x < list_slot o.config.frames
 slot_low o (place.Page f) few has = omega arith
 slot_low o (place.Of (turn.Partition p)) few has = omega arith
 slot_low o (place.Of (turn.Lane q)) few has = omega arith
@@ -57,10 +58,10 @@ slot_low o (place.Of turn.Log) few has = omega arith
 pub list_stays : {L G : Type 0} (o : Opening L G) (homes : List (slot.Option (Value L G))) (x : Place) (y : slot.Option (Value L G)) → o.config.lanes ≤ 16 → IsPlaceIn o x → HasList o homes → HasList o (set homes (slot_of o.config.frames x) y)
 list_stays o homes x y few has h = record {
   list = h.list;
-  home = set_else homes (slot_of o.config.frames x) (o.config.frames + 145) y (λ e. absurd (let low = slot_low o x few has in omega arith)) ∙ h.home;
+  home = set_else homes (slot_of o.config.frames x) (list_slot o.config.frames) y (λ e. absurd (let low = slot_low o x few has in omega arith)) ∙ h.home;
   empty = h.empty;
   room = h.room;
-  spare = λ q from below. set_else homes (slot_of o.config.frames x) (o.config.frames + 128 + q) y (spare_else o x q few has from below) ∙ h.spare q from below;
+  spare = λ q from below. set_else homes (slot_of o.config.frames x) (first_lane_slot o.config.frames + q) y (spare_else o x q few has from below) ∙ h.spare q from below;
 }
 
 -- A frame's words are the same
@@ -84,9 +85,7 @@ module _ {L G : Type 0} (d : Devices L G) (o : Opening L G) where
     pub views : s'.pool.core.views ≡ set s.pool.core.views id w
     pub frames : (f : ℕ) → SameWords (s.pool.core.frame f) (s'.pool.core.frame f)
     pub latches : (x : Turn) → is_taken x s' ≡ is_taken x s
-    pub end : s'.end ≡ s.end
-    pub flushed : s'.flushed ≡ s.flushed
-    pub hand : s'.hand ≡ s.hand
+    pub words : words_of s' ≡ words_of s
     -- the other values stay out or home, and are what they were
     pub outs : (x : Place) → x ≢ y → is_out x w ≡ is_out x v
     pub values : (x : Place) (z : Value L G) → x ≢ y → Gives d o s x z → Gives d o s' x z
@@ -101,7 +100,7 @@ module _ {L G : Type 0} (d : Devices L G) (o : Opening L G) where
     slots = long;
     views = ap (λ (l : List View). set l id w) h.views ∙ sym m.views;
     frame = λ f inside. frame_moved words f (s.pool.core.frame f) (s'.pool.core.frame f) (m.frames f) (subst (λ (l : List ℕ). ShowsFrame l f (s.pool.core.frame f)) (sym same) (h.frame f inside));
-    latches = subst (λ (l : List ℕ). ShowsLatches o.config.frames o.config.lanes l s') (sym same) (let l = h.latches in record { latch = λ x has. l.latch x has ∙ ap flag_weight (sym (m.latches x)); end = l.end ∙ sym m.end; flushed = l.flushed ∙ sym m.flushed; hand = l.hand ∙ sym m.hand });
+    latches = subst (λ (l : List ℕ). ShowsLatches o.config.frames o.config.lanes l s') (sym same) (let l = h.latches in record { latch = λ x has. l.latch x has ∙ ap flag_weight (sym (m.latches x)); word = λ z has. l.word z has ∙ ap (number_in z) (sym m.words) });
     homes = λ x has none_out. let home : IsHome x (set s.pool.core.views id w) = subst (IsHome x) m.views none_out in dite (ℕ_discrete (slot_of o.config.frames x) (slot_of o.config.frames y))
         (λ e. subst (HasValue d o homes s') (sym (same_slot o x y h.fixed.few_lanes has within e)) (here (subst (λ (z : Place). IsHome z (set s.pool.core.views id w)) (same_slot o x y h.fixed.few_lanes has within e) home)))
         (λ n. let other : x ≢ y = (λ e. n (ap (slot_of o.config.frames) e)) in let old = h.homes x has (home_before s.pool.core.views id v w x there (λ e. sym (m.outs x other) ∙ e) home) in
@@ -129,9 +128,7 @@ module _ {L G : Type 0} (d : Devices L G) (o : Opening L G) where
     views = b.views ∙ ap (λ (l : List View). set l id w) a.views ∙ set_twice s.pool.core.views id u w;
     frames = λ f. let x = a.frames f in let z = b.frames f in record { word = z.word ∙ x.word; tag = z.tag ∙ x.tag; sharers = z.sharers ∙ x.sharers; exclusive = z.exclusive ∙ x.exclusive; copying = z.copying ∙ x.copying };
     latches = λ x. b.latches x ∙ a.latches x;
-    end = b.end ∙ a.end;
-    flushed = b.flushed ∙ a.flushed;
-    hand = b.hand ∙ a.hand;
+    words = b.words ∙ a.words;
     outs = λ x n. b.outs x n ∙ a.outs x n;
     values = λ x z n g. b.values x z n (a.values x z n g);
   }

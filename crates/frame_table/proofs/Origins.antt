@@ -1,6 +1,8 @@
 -- What loads show of the pages that the lanes held at the start.
 use Rattle.std.proofs.Common.{◌≡◌, ◌⊎◌, inl, inr, ℕ, ◌+◌, ◌*◌, ◌<◌, ◌≤◌, Bool, true, false, Option, Some, List, [], ◌∷◌, map, length, get_or, sym, refl, ap, ◌∙◌, subst, ⊎_elim, arith}
 use Rattle.std.specs.Prelude.{is_some}
+use Rattle.std.proofs.lemmas.Option.{same_Some}
+use Rattle.std.proofs.lemmas.Bool.{both_ways}
 use mathlib.Core.Option.{none, some}
 use lib.ListN.{get_elem?}
 use Rattle.atomic_table.specs.Table.{Me, step, Allows}
@@ -18,6 +20,7 @@ use Rattle.pin_core.specs.State.{Page, link}
 use Rattle.history_core.specs.Laws.{Laws}
 use Rattle.history_core.specs.Log.{Entry, cell}
 use Rattle.history_core.specs.State.{State}
+use Rattle.history_core.specs.Words.{end_word}
 use Rattle.history_core.proofs.Logs.{cell_is, ends_below}
 use Rattle.history_core.proofs.Sound.{stay_untouched}
 use Rattle.table_rule.specs.declared.value.Value.{Value}
@@ -47,12 +50,6 @@ no_entries base (x ∷ es) e = absurd (omega (arith, e))
 cell_none : (origin : ℕ → Page) (word : ℕ) → cell origin [] word ≡ origin word
 unfolding cell
 cell_none origin word = refl
-
-some_same : (p q : Page) → Some p ≡ Some q → p ≡ q
-some_same p q e = cc
-
-not_both : {b : Bool} → b ≡ true → b ≡ false → ⊥
-not_both a b = cc
 
 module _ {L G : Type 0} (d : Devices L G) (o : Opening L G) (s : State) (h : KeepsOpening d o s) (laws : Laws s) where
   -- A block of a lane whose contents were known at the start
@@ -101,16 +98,16 @@ module _ {L G : Type 0} (d : Devices L G) (o : Opening L G) (s : State) (h : Kee
       unsound_first : (page : Page) → (link v f).read ≡ Some page → is_sound_page page ≡ false → known tag ≡ Some page
       unsound_first page read unsound = ⊎_elim
           (λ (is : now ≡ s.origin word). first ∙ ap (λ (p : Page). Some p) (sym is ∙ read_is page read))
-          (λ (x : (k : ℕ) × (e : Entry) × (get_elem? s.log.entries k ≡ some e) × (now ≡ e.image)). absurd (not_both (ap is_sound_page (sym (read_is page read) ∙ x.3) ∙ (laws.invariant.log.images x.0 x.1 x.2).sound) unsound))
+          (λ (x : (k : ℕ) × (e : Entry) × (get_elem? s.log.entries k ≡ some e) × (now ≡ e.image)). absurd (both_ways _ unsound (ap is_sound_page (sym (read_is page read) ∙ x.3) ∙ (laws.invariant.log.images x.0 x.1 x.2).sound)))
           (cell_is s.origin s.log.entries word)
 
       -- the page at the start of a block with a valid frame was sound
       valid_first : (s.pool.core.frame f).word.valid ≡ true → (page : Page) → known tag ≡ Some page → is_sound_page page ≡ true
-      valid_first valid page is = subst (λ (p : Page). is_sound_page p ≡ true) (some_same (s.origin word) page (sym first ∙ is)) (of_sound (is_sound_page (s.origin word)) refl)
+      valid_first valid page is = subst (λ (p : Page). is_sound_page p ≡ true) (same_Some (s.origin word) page (sym first ∙ is)) (of_sound (is_sound_page (s.origin word)) refl)
         where
           of_sound : (b : Bool) → is_sound_page (s.origin word) ≡ b → is_sound_page (s.origin word) ≡ true
           of_sound true e = e
-          of_sound false e = absurd (not_both valid ((stay_untouched s laws.invariant laws.sound word (λ none. ((laws.invariant.pool.core.grid.cells id v f there inside).remembers word remembers).0.named (tagged ∙ none)) is_known e).invalid f inside tagged))
+          of_sound false e = absurd (both_ways _ ((stay_untouched s laws.invariant laws.sound word (λ none. ((laws.invariant.pool.core.grid.cells id v f there inside).remembers word remembers).0.named (tagged ∙ none)) is_known e).invalid f inside tagged) valid)
 
   -- while the log has no entry the page is the one at the start
   none_yet : s.end ≡ o.base → s.log.entries ≡ []
@@ -140,7 +137,7 @@ module _ {L G : Type 0} (d : Devices L G) (o : Opening L G) where
   loads_end_held slots id me live what allowed = allows_with (RuleHolds d o) slots id me (end_place o.config.frames) (λ n. n) (tells_word (end_kind what) (step slots (end_place o.config.frames) 0 0 none) me)
       (λ found. (o.base ≤ found) × (found ≡ o.base → ReadsHeld o.catalog.value o.config.lanes (map d.contents o.lanes.value.items) what me.0) × CopiesAreLogged o.catalog.value o.config.lanes (map d.contents o.lanes.value.items) o.config.frames found me.0)
       (loads_end_there d o slots id me live what allowed)
-      (λ t h there. let here : get_elem? h.state.pool.core.views id ≡ some me.0 = ap (λ (l : List View). get_elem? l id) (sym h.shows.views) ∙ there in let says = h.shows.latches.end in (
+      (λ t h there. let here : get_elem? h.state.pool.core.views id ≡ some me.0 = ap (λ (l : List View). get_elem? l id) (sym h.shows.views) ∙ there in let says : get_or t.words (end_place o.config.frames) 0 ≡ h.state.end = h.shows.latches.word end_word tt in (
         (let from = h.laws.invariant.flushed_from in let to = h.laws.invariant.flushed_to in let base = h.shows.fixed.base in omega arith),
         (λ e. reads_held d o h.state h.shows.fixed h.laws id me.0 here what allowed (sym says ∙ e)),
         subst (λ (end : ℕ). CopiesAreLogged o.catalog.value o.config.lanes (map d.contents o.lanes.value.items) o.config.frames end me.0) (sym says) (copies_logged d o h.state h.shows.fixed h.laws id me.0 here),

@@ -6,6 +6,7 @@ use native.Mathlib.Decide.{ℕ_discrete}
 use lib.ListN.{get_elem?}
 use lib.Seq.{set-get_or}
 use Rattle.std.specs.Prelude.{is_some, Option}
+use Rattle.std.proofs.lemmas.Option.{same_Some}
 use Rattle.atomic_table.specs.Table.{Me, step, takes, gives, stepped, Allows, rest}
 use Rattle.atomic_table.specs.Table as table
 use Rattle.pin_core.specs.declared.view.Content.TheVariants.{Unlocked, Exclusive}
@@ -18,7 +19,7 @@ use Rattle.pin_core.specs.Tallies.{some_weight}
 use Rattle.page_core.specs.Kinds as paged
 use Rattle.page_core.specs.Tallies.{outs, weigh}
 use Rattle.grid.proofs.Sums.{terms_le}
-use Rattle.grid.proofs.Lists.{put_here, put_else, put_at}
+use Rattle.grid.proofs.Lists.{put_here, put_else}
 use Rattle.grid.proofs.Lists as grid
 use Rattle.history_core.specs.State.{State}
 use Rattle.history_core.specs.Laws.{Laws}
@@ -48,9 +49,7 @@ module _ {L G : Type 0} (d : Devices L G) (o : Opening L G) where
     views = refl;
     frames = λ g. dite (ℕ_discrete g f) (λ e. subst (λ (x : ℕ). SameWords (s.pool.core.frame x) ((state_after (pages k) s id f v).pool.core.frame x)) (sym e) (subst (SameWords (s.pool.core.frame f)) (sym (put_here s.pool.core.frame f (frame_after (pages k) s f))) same)) (λ n. subst (SameWords (s.pool.core.frame g)) (sym (put_else s.pool.core.frame f (frame_after (pages k) s f) g n)) (words_none (s.pool.core.frame g)));
     latches = taken_same (pages k) s id f v;
-    end = refl;
-    flushed = refl;
-    hand = refl;
+    words = refl;
     outs = outs_of;
     values = values_of;
   }
@@ -200,10 +199,7 @@ module _ (s : State) (id f : ℕ) (v : View) (page : Page) (laws : Laws s) (ther
       taken_is out = (laws.invariant.pool.pages.cells id v f there inside).taken page out can.once
 
       of_io : (io : Io) (read : Option Page) → (link v f).io ≡ io → (link v f).read ≡ read → by_input io read ≡ x → input_page io read (link v f).out ≡ Some page → ((x ≡ None) × ((s.pool.core.frame f).page ≡ page)) ⊎ ((k : paged.Kind) × (x ≡ Some k) × Overwrites k s f v page)
-      of_io Input (Some p) is read kind due = inr (paged.overwrite_read p, sym kind, overwrites_read p is read (some_same p page due))
-        where
-          some_same : (a b : Page) → Some a ≡ Some b → a ≡ b
-          some_same a b z = cc
+      of_io Input (Some p) is read kind due = inr (paged.overwrite_read p, sym kind, overwrites_read p is read (same_Some p page due))
       of_io Input None is read kind due = inl (sym kind, taken_is due)
       of_io Output read is same kind due = inl (sym kind, taken_is due)
       of_io Quiet read is same kind due = inl (sym kind, taken_is due)

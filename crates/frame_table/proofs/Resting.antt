@@ -19,7 +19,7 @@ use Rattle.frame_table.specs.Closes.{CanClose}
 use Rattle.frame_table.specs.Seats.{MayUnpin, Fits, IsIdle, Looked, SameSeat, Touches, pinned_link, unpinned_link}
 
 -- an item of a list of the same
-same_all : {A : Type 0} (n i : ℕ) (x : A) → get_or (replicate n x) i x ≡ x
+pub same_all : {A : Type 0} (n i : ℕ) (x : A) → get_or (replicate n x) i x ≡ x
 same_all zero i x = refl
 same_all (suc n) zero x = refl
 same_all (suc n) (suc i) x = same_all n i x

@@ -42,12 +42,12 @@ module _ {L G : Type 0} (d : Devices L G) (o : Opening L G) where
   -- The table shows it, where no value comes home by it
   shows_views : (t : table.State (Value L G) View) (s : State) (views : List View) → Shows d o t s → ((x : Place) → IsPlaceIn o x → IsHome x views → IsHome x s.pool.core.views) → Shows d o (record t { views = views }) (with_views s views)
   shows_views t s views h home = record {
-    fixed = let f = h.fixed in record { frames = f.frames; backends = f.backends; base = f.base; partitions = f.partitions; partition_of = f.partition_of; is_block = f.is_block; names = f.names; lanes = f.lanes; lane_of = f.lane_of; few_backends = f.few_backends; few_lanes = f.few_lanes; known = f.known; origin = f.origin; reads = f.reads; writes = f.writes; log_faults = f.log_faults };
+    fixed = h.fixed;
     words = h.words;
     slots = h.slots;
     views = refl;
     frame = h.frame;
-    latches = let l = h.latches in record { latch = λ x has. l.latch x has ∙ ap flag_weight (taken_stays s views x); end = l.end; flushed = l.flushed; hand = l.hand };
+    latches = let l = h.latches in record { latch = λ x has. l.latch x has ∙ ap flag_weight (taken_stays s views x); word = l.word };
     homes = λ x inside none_out. let old = h.homes x inside (home x inside none_out) in
         record { value = old.value; home = old.home; gives = gives_same d o s (with_views s views) (record { page = λ f. refl; map = λ p. refl; count = refl; lane = λ q. lane_none (s.lane q); device = device_none s.device }) x old.value old.gives };
     list = h.list;

@@ -10,10 +10,11 @@ use Rattle.pin_core.specs.declared.view.View.{View}
 use Rattle.pin_core.specs.Kinds as pin
 use Rattle.page_core.specs.Kinds as paged
 use Rattle.history_core.specs.State.{State, next_hand}
+use Rattle.history_core.specs.Words.{end_word, flushed_word, hand_word}
 use Rattle.history_core.specs.Trail.{Follows}
 use Rattle.history_core.proofs.Trail.{Ticks, listed_made, next_tick, next_word}
 use Rattle.table_rule.specs.declared.opening.Opening.{Opening}
-use Rattle.table_rule.specs.Layout.{flushed_place, hand_place}
+use Rattle.table_rule.specs.Layout.{end_place, flushed_place, hand_place}
 use Rattle.table_rule.specs.Shows.{Devices}
 use Rattle.frame_table.specs.WordSteps.{DidWord, add_hand, raise_flushed}
 use Rattle.frame_table.specs.Kinds.{FrameWord, state_word, FrameKind, pins, pages, part_of, frame_after, view_after}
@@ -105,8 +106,8 @@ module _ {L G : Type 0} (d : Devices L G) (o : Opening L G) where
       let did : DidWord add_hand me.0 w n = r.4.1 in
       let here : get_elem? h.state.pool.core.views id ≡ some me.0 = ap (λ (l : List View). get_elem? l id) (sym h.shows.views) ∙ h0.there in
       let moved : h'.state.hand ≡ Ticks (set h.state.pool.core.views id w) % 18446744073709551616 = h'.laws.trail.hand ∙ ap (λ (l : List View). Ticks l % 18446744073709551616) (sym h'.shows.views ∙ ap (λ (l : List View). set l id w) h.shows.views) in
-      let shown : g n ≡ h'.state.hand = sym (get_or-set_same t.words at (g n) 0 (let e = h.shows.words in omega arith)) ∙ h'.shows.latches.hand in
-      shown ∙ next_tick h.state.hand h'.state.hand h.state.pool.core.views id me.0 w h.laws.trail.hand moved here (ap (λ (v : View). v.ticks) did.after) ∙ ap next_hand (sym h.shows.latches.hand)
+      let shown : g n ≡ h'.state.hand = sym (get_or-set_same t.words at (g n) 0 (let e = h.shows.words in omega arith)) ∙ h'.shows.latches.word hand_word tt in
+      shown ∙ next_tick h.state.hand h'.state.hand h.state.pool.core.views id me.0 w h.laws.trail.hand moved here (ap (λ (v : View). v.ticks) did.after) ∙ ap next_hand (sym (h.shows.latches.word hand_word tt))
 
   -- and what an operation on the word of the flushed position stores, if it keeps the rule and tells that the position was raised
   pub flushed_rises : FlushedMustRise d o
@@ -124,8 +125,8 @@ module _ {L G : Type 0} (d : Devices L G) (o : Opening L G) where
       ∙ ap (max me.0.raised_to) (((h.laws.invariant.device.cells id me.0 0 here (lit< tt)).end did.state.end did.allowed.1).1) in
       let more : me.0.raised_to ≤ w.raised_to = omega arith in
       let made = (listed_made s h'.state h.laws.trail h'.laws.trail id me.0 w here (sym h'.shows.views ∙ ap (λ (l : List View). set l id w) h.shows.views)).raised more in
-      let shown : g n ≡ h'.state.flushed = sym (get_or-set_same t.words at (g n) 0 (let e = h.shows.words in omega arith)) ∙ h'.shows.latches.flushed in
+      let shown : g n ≡ h'.state.flushed = sym (get_or-set_same t.words at (g n) 0 (let e = h.shows.words in omega arith)) ∙ h'.shows.latches.word flushed_word tt in
       let highest = h.laws.trail.flushed.above id me.0 here in
-      let is_flushed = h.shows.latches.flushed in
-      let is_end = h.shows.latches.end in
+      let is_flushed : n ≡ s.flushed = h.shows.latches.word flushed_word tt in
+      let is_end : get_or t.words (end_place o.config.frames) 0 ≡ s.end = h.shows.latches.word end_word tt in
       omega arith

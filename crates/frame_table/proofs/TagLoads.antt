@@ -1,6 +1,7 @@
 -- Loads of tag words: the tag is of a block of the relations, and a pin remembers it.
 use Rattle.std.proofs.Common.{◌≡◌, ◌≢◌, ℕ, ◌<◌, cond, Bool, true, false, Option, Some, None, List, get_or, sym, refl, ap, ◌∙◌, subst, arith, ne_eqb}
 use Rattle.std.specs.Prelude.{IfSome}
+use Rattle.std.proofs.lemmas.Option.{same_Some}
 use mathlib.Core.Option.{none}
 use Rattle.atomic_table.specs.Table.{Me, step, Allows}
 use Rattle.atomic_table.specs.Table as table
@@ -81,12 +82,9 @@ pub tag_placed : (r : Option Tag) → IfSome r (λ tag. names_block tag ≡ true
 tag_placed None named = tt
 tag_placed (Some tag) named = packed_partition tag named
 
-same_number : (a b : ℕ) → Some a ≡ Some b → a ≡ b
-same_number a b e = cc
-
 -- so a backend whose pin remembers the tag, and that has the latch of the tag's partition, has that of the tag word that it knows
 pub may_erase : (tag : Tag) (f : ℕ) (v : View) → names_block tag ≡ true → (link v f).tag ≡ Some (packed_tag tag) → MayChange v (partition_number tag) → (word : ℕ) → (link v f).tag ≡ Some word → MayChange v (tag_partition word)
-may_erase tag f v named knows may word is = subst (MayChange v) (sym (packed_partition tag named) ∙ ap tag_partition (same_number (packed_tag tag) word (sym knows ∙ is))) may
+may_erase tag f v named knows may word is = subst (MayChange v) (sym (packed_partition tag named) ∙ ap tag_partition (same_Some (packed_tag tag) word (sym knows ∙ is))) may
 
 -- and as it takes the tag away it names the pair in the tag's partition
 pub erase_names : (tag : Tag) (f : ℕ) (v w : View) → names_block tag ≡ true → (link v f).tag ≡ Some (packed_tag tag) → NamesStored None f v w → NamesIn (partition_number tag) (Leaving (packed_tag tag) f) v w

@@ -1,5 +1,5 @@
 -- Steps at latches.
-use Rattle.std.proofs.Common.{◌≡◌, ◌≢◌, ℕ, ◌+◌, ◌*◌, ◌<◌, ◌≤◌, eqb, Bool, true, false, List, [], ◌++◌, get_or, set, length, length-set, append-nil, get_or-set_same, get_or-set_other, sym, refl, ap, ◌∙◌, subst, arith, eq-eqb, ne_eqb}
+use Rattle.std.proofs.Common.{◌≡◌, ◌≢◌, ℕ, ◌+◌, ◌<◌, ◌≤◌, eqb, Bool, true, false, List, [], ◌++◌, get_or, set, length, length-set, append-nil, get_or-set_same, get_or-set_other, sym, refl, ap, ◌∙◌, subst, arith, eq-eqb, ne_eqb}
 use Rattle.std.proofs.Math.Bool.{or-false}
 use Rattle.std.specs.Prelude.{◌||◌}
 use mathlib.Core.Logic.{dite}
@@ -36,7 +36,9 @@ use Rattle.table_rule.specs.declared.turn.Place.{Place}
 use Rattle.table_rule.specs.declared.turn.Place.TheVariants as place
 use Rattle.table_rule.specs.declared.turn.Turn.{Turn}
 use Rattle.table_rule.specs.declared.turn.Turn.TheVariants.{Partition, Lane, Log}
-use Rattle.table_rule.specs.Layout.{latch_place}
+use Rattle.table_rule.specs.Layout.{latch_place, word_place}
+use Rattle.table_rule.proofs.Places.{latch_low, latch_apart}
+use Rattle.history_core.specs.Words.{number_in, words_of}
 use Rattle.history_core.specs.Laws.{Laws}
 use Rattle.table_rule.specs.Shows.{ShowsFrame, ShowsLatches, is_taken, HasTurn, is_out, IsHome, Devices, KeepsOpening, Shows, RuleHolds}
 use Rattle.frame_table.specs.Latches.{MayLeave, LatchAllowed, HasLatch, part_kind, lane_kind, log_kind, view_latched, state_latched, turn_event, DidTurn, SameWork, work_of, IsTurned, took, left}
@@ -151,7 +153,7 @@ turned_device false Log s i v = record { bytes = refl; synced = refl; faults = r
 
 module _ {L G : Type 0} (d : Devices L G) (o : Opening L G) where
   fixed_turned : (takes : Bool) (x : Turn) (s : State) (i : ℕ) (v : View) → KeepsOpening d o s → KeepsOpening d o (state_latched takes x s i v)
-  fixed_turned takes (Partition p) s i v h = record { frames = h.frames; backends = h.backends; base = h.base; partitions = h.partitions; partition_of = h.partition_of; is_block = h.is_block; names = h.names; lanes = h.lanes; lane_of = h.lane_of; few_backends = h.few_backends; few_lanes = h.few_lanes; known = h.known; origin = h.origin; reads = h.reads; writes = h.writes; log_faults = h.log_faults }
+  fixed_turned takes (Partition p) s i v h = h
   fixed_turned takes (Lane q) s i v h = record {
     frames = h.frames;
     backends = h.backends;
@@ -170,7 +172,7 @@ module _ {L G : Type 0} (d : Devices L G) (o : Opening L G) where
     writes = λ r l at. (turned_lane takes (Lane q) s i v r).writes_at_start ∙ h.writes r l at;
     log_faults = h.log_faults;
   }
-  fixed_turned takes Log s i v h = record { frames = h.frames; backends = h.backends; base = h.base; partitions = h.partitions; partition_of = h.partition_of; is_block = h.is_block; names = h.names; lanes = h.lanes; lane_of = h.lane_of; few_backends = h.few_backends; few_lanes = h.few_lanes; known = h.known; origin = h.origin; reads = h.reads; writes = h.writes; log_faults = h.log_faults }
+  fixed_turned takes Log s i v h = h
 
   turned_values : (takes : Bool) (x : Turn) (s : State) (i : ℕ) (v : View) → SameValues d o s (state_latched takes x s i v)
   turned_values takes x s i v = record { page = λ f. ap (λ (fr : Frame). fr.page) (turned_frame takes x s i v f); map = turned_map takes x s i v; count = turned_count takes x s i v; lane = turned_lane takes x s i v; device = turned_device takes x s i v }
@@ -186,50 +188,17 @@ module _ {L G : Type 0} (d : Devices L G) (o : Opening L G) where
     latch = λ y has_y. dite (ℕ_discrete (latch_place n y) at)
         (λ e. ap (λ (z : ℕ). get_or (set words at (flag_weight takes)) z 0) e ∙ get_or-set_same words at (flag_weight takes) 0 low ∙ ap flag_weight (sym (taken_is takes x s i v) ∙ ap (λ (z : Turn). is_taken z (state_latched takes x s i v)) (sym (same_latch n o.config.lanes y x few has_y has e))))
         (λ ne. get_or-set_other words at (latch_place n y) (flag_weight takes) 0 ne ∙ h.latch y has_y ∙ ap flag_weight (sym (taken_else takes x y s i v (λ e. ne (ap (latch_place n) e)))));
-    end = get_or-set_other words at (3 * n + 145) (flag_weight takes) 0 (λ e. past x has few (sym e)) ∙ h.end ∙ end_stays takes x;
-    flushed = get_or-set_other words at (3 * n + 146) (flag_weight takes) 0 (λ e. past_more x has few (sym e)) ∙ h.flushed ∙ flushed_stays takes x;
-    hand = get_or-set_other words at (3 * n + 147) (flag_weight takes) 0 (λ e. past_hand x has few (sym e)) ∙ h.hand ∙ hand_stays takes x;
+    word = λ w has_w. get_or-set_other words at (word_place n w) (flag_weight takes) 0 (λ e. latch_apart n o.config.lanes x w few has (sym e)) ∙ h.word w has_w ∙ ap (number_in w) (words_stay takes x);
   }
     where
-      past : (x : Turn) → HasTurn o.config.lanes x → o.config.lanes ≤ 16 → ¬ (latch_place o.config.frames x ≡ 3 * o.config.frames + 145)
-      past (Partition p) has few e = omega arith
-      past (Lane q) has few e = omega arith
-      past Log has few e = omega arith
-
-      past_more : (x : Turn) → HasTurn o.config.lanes x → o.config.lanes ≤ 16 → ¬ (latch_place o.config.frames x ≡ 3 * o.config.frames + 146)
-      past_more (Partition p) has few e = omega arith
-      past_more (Lane q) has few e = omega arith
-      past_more Log has few e = omega arith
-
-      past_hand : (x : Turn) → HasTurn o.config.lanes x → o.config.lanes ≤ 16 → ¬ (latch_place o.config.frames x ≡ 3 * o.config.frames + 147)
-      past_hand (Partition p) has few e = omega arith
-      past_hand (Lane q) has few e = omega arith
-      past_hand Log has few e = omega arith
-
-      hand_stays : (takes : Bool) (x : Turn) → s.hand ≡ (state_latched takes x s i v).hand
-      hand_stays takes (Partition p) = refl
-      hand_stays takes (Lane q) = refl
-      hand_stays takes Log = refl
-
-      end_stays : (takes : Bool) (x : Turn) → s.end ≡ (state_latched takes x s i v).end
-      end_stays takes (Partition p) = refl
-      end_stays takes (Lane q) = refl
-      end_stays takes Log = refl
-
-      flushed_stays : (takes : Bool) (x : Turn) → s.flushed ≡ (state_latched takes x s i v).flushed
-      flushed_stays takes (Partition p) = refl
-      flushed_stays takes (Lane q) = refl
-      flushed_stays takes Log = refl
-
-  low_latch : (x : Turn) → HasTurn o.config.lanes x → o.config.lanes ≤ 16 → (3 * o.config.frames ≤ latch_place o.config.frames x) × (latch_place o.config.frames x < 3 * o.config.frames + 145)
-  low_latch (Partition p) has few = (omega arith, omega arith)
-  low_latch (Lane q) has few = (omega arith, omega arith)
-  low_latch Log has few = (omega arith, omega arith)
+      words_stay : (takes : Bool) (x : Turn) → words_of s ≡ words_of (state_latched takes x s i v)
+      words_stay takes (Partition p) = refl
+      words_stay takes _ = refl
 
   -- The table shows the state after a step at a latch
   shows_turned : (takes : Bool) (x : Turn) (t : table.State (Value L G) View) (s : State) (id : ℕ) (c : List (ℕ × Value L G)) (v : View) → Shows d o t s → get_elem? s.pool.core.views id ≡ some v → HasTurn o.config.lanes x
       → Shows d o (stepped t (latch_place o.config.frames x) (flag_weight takes) id c (view_latched takes x s v) keeps) (state_latched takes x s id v)
-  shows_turned takes x t s id c v h there has = let w : View = view_latched takes x s v in let at : ℕ = latch_place o.config.frames x in let few = h.fixed.few_lanes in let low = low_latch x has few in record {
+  shows_turned takes x t s id c v h there has = let w : View = view_latched takes x s v in let at : ℕ = latch_place o.config.frames x in let few = h.fixed.few_lanes in let low = latch_low o.config.frames o.config.lanes x few has in record {
     fixed = fixed_turned takes x s id v h.fixed;
     words = length-set t.words at (flag_weight takes) ∙ h.words;
     slots = h.slots;

@@ -81,33 +81,66 @@ touches_on f v u w a b = record { self = b.self ∙ a.self; grows = grows_on v u
 pub touches_none : (f : ℕ) (v : View) → Touches f v v
 touches_none f v = record { self = refl; grows = grows_none v; partitions = refl; others = λ g n. refl }
 
-pub looked_on : (l m n : Link) → Looked l m → Looked m n → Looked l n
-looked_on l m n a b = record {
-  role = b.role ∙ a.role;
-  tag = b.tag ∙ a.tag;
-  ring = b.ring ∙ a.ring;
-  header = b.header ∙ a.header;
-  pending = b.pending ∙ a.pending;
-  content = b.content ∙ a.content;
-  copying = b.copying ∙ a.copying;
-  dirtied = b.dirtied ∙ a.dirtied;
-  unapplied = b.unapplied ∙ a.unapplied;
-  copied = b.copied ∙ a.copied;
-  io = b.io ∙ a.io;
-  read = b.read ∙ a.read;
-  read_is_home = b.read_is_home ∙ a.read_is_home;
-  last_write = b.last_write ∙ a.last_write;
-  out = b.out ∙ a.out;
-  overwritten = b.overwritten ∙ a.overwritten;
-  image = b.image ∙ a.image;
-  seen_valid = λ saw. b.seen_valid (a.seen_valid saw);
-  waits = λ none. b.waits (a.waits none);
-  visited = λ was. b.visited (a.visited was);
-  left_to_write = λ none. b.left_to_write (a.left_to_write none);
+-- all of a link but what a pin has seen, a wait, and the checkpoint's notes
+abbrev pub quiet_link : Link → Link
+quiet_link l = record l { seen_valid = false; waits = None; visited = false; left_to_write = false }
+
+-- loads of the state word leave that
+pub quiet : (l m : Link) → Looked l m → quiet_link m ≡ quiet_link l
+quiet l m a = λ i. record {
+  role = a.role i;
+  tag = a.tag i;
+  ring = a.ring i;
+  header = a.header i;
+  pending = a.pending i;
+  content = a.content i;
+  copying = a.copying i;
+  dirtied = a.dirtied i;
+  unapplied = a.unapplied i;
+  copied = a.copied i;
+  io = a.io i;
+  read = a.read i;
+  read_is_home = a.read_is_home i;
+  last_write = a.last_write i;
+  out = a.out i;
+  overwritten = a.overwritten i;
+  image = a.image i;
+  seen_valid = false;
+  waits = None;
+  visited = false;
+  left_to_write = false;
 }
 
+pub looked_by : (l m : Link) → quiet_link m ≡ quiet_link l → (l.seen_valid ≡ true → m.seen_valid ≡ true) → (l.waits ≡ None → m.waits ≡ None) → (l.visited ≡ true → m.visited ≡ true) → (l.left_to_write ≡ false → m.left_to_write ≡ false) → Looked l m
+looked_by l m e seen_valid waits visited left_to_write = record {
+  role = ap (λ (x : Link). x.role) e;
+  tag = ap (λ (x : Link). x.tag) e;
+  ring = ap (λ (x : Link). x.ring) e;
+  header = ap (λ (x : Link). x.header) e;
+  pending = ap (λ (x : Link). x.pending) e;
+  content = ap (λ (x : Link). x.content) e;
+  copying = ap (λ (x : Link). x.copying) e;
+  dirtied = ap (λ (x : Link). x.dirtied) e;
+  unapplied = ap (λ (x : Link). x.unapplied) e;
+  copied = ap (λ (x : Link). x.copied) e;
+  io = ap (λ (x : Link). x.io) e;
+  read = ap (λ (x : Link). x.read) e;
+  read_is_home = ap (λ (x : Link). x.read_is_home) e;
+  last_write = ap (λ (x : Link). x.last_write) e;
+  out = ap (λ (x : Link). x.out) e;
+  overwritten = ap (λ (x : Link). x.overwritten) e;
+  image = ap (λ (x : Link). x.image) e;
+  seen_valid = seen_valid;
+  waits = waits;
+  visited = visited;
+  left_to_write = left_to_write;
+}
+
+pub looked_on : (l m n : Link) → Looked l m → Looked m n → Looked l n
+looked_on l m n a b = looked_by l n (quiet m n b ∙ quiet l m a) (λ saw. b.seen_valid (a.seen_valid saw)) (λ none. b.waits (a.waits none)) (λ was. b.visited (a.visited was)) (λ none. b.left_to_write (a.left_to_write none))
+
 pub looked_same : (l m : Link) → m ≡ l → Looked l m
-looked_same l m e = subst (Looked l) (sym e) record { role = refl; tag = refl; ring = refl; header = refl; pending = refl; content = refl; copying = refl; dirtied = refl; unapplied = refl; copied = refl; io = refl; read = refl; read_is_home = refl; last_write = refl; out = refl; overwritten = refl; image = refl; seen_valid = λ saw. saw; waits = λ none. none; visited = λ was. was; left_to_write = λ none. none }
+looked_same l m e = subst (Looked l) (sym e) (looked_by l l refl (λ saw. saw) (λ none. none) (λ was. was) (λ none. none))
 
 -- a pin has seen BM_VALID for good
 pub seen_still : (pending valid : Bool) (r : Role) → seen_valid_after pending r valid true ≡ true
@@ -119,7 +152,8 @@ seen_still false true Victim = refl
 seen_still false false Victim = refl
 
 load_looked : (s : State) (f : ℕ) (v : View) → Looked (link v f) (link_after looking s f v)
-load_looked s f v = record { role = refl; tag = refl; ring = refl; header = refl; pending = refl; content = refl; copying = refl; dirtied = refl; unapplied = refl; copied = refl; io = refl; read = refl; read_is_home = refl; last_write = refl; out = refl; overwritten = refl; image = refl; seen_valid = λ saw. ap (seen_valid_after (link v f).pending (link v f).role (s.pool.core.frame f).word.valid) saw ∙ seen_still (link v f).pending (s.pool.core.frame f).word.valid (link v f).role; waits = λ none. ap (wait_after (s.pool.core.frame f).word) none; visited = λ was. ap (λ (b : Bool). b || not (s.pool.core.frame f).word.dirty) was; left_to_write = λ none. ap (λ (b : Bool). b && (s.pool.core.frame f).word.checkpoint_needed) none }
+load_looked s f v = looked_by (link v f) (link_after looking s f v) refl (λ saw. ap (seen_valid_after (link v f).pending (link v f).role (s.pool.core.frame f).word.valid) saw ∙ seen_still (link v f).pending (s.pool.core.frame f).word.valid (link v f).role) (λ none. ap (wait_after (s.pool.core.frame f).word) none)
+    (λ was. ap (λ (b : Bool). b || not (s.pool.core.frame f).word.dirty) was) (λ none. ap (λ (b : Bool). b && (s.pool.core.frame f).word.checkpoint_needed) none)
 
 pub looked : (f found : ℕ) (v w : View) → Did looking f v w found → Looked (link v f) (link w f)
 looked f found v w d = subst (Looked (link v f)) (sym (link_is looking f found v w d)) (load_looked d.state f v)
@@ -130,13 +164,13 @@ loads_link f found v w d = link_is looking f found v w d ∙ ap (λ (word : Stat
 
 -- changes of a link after a load
 pub pinned_looked : (ring : Bool) (l m : Link) → Looked l m → Looked (pinned_link ring l) (pinned_link ring m)
-pinned_looked ring l m a = record { role = refl; tag = a.tag; ring = refl; header = a.header; pending = a.pending; content = a.content; copying = a.copying; dirtied = a.dirtied; unapplied = a.unapplied; copied = a.copied; io = a.io; read = a.read; read_is_home = a.read_is_home; last_write = a.last_write; out = a.out; overwritten = a.overwritten; image = a.image; seen_valid = a.seen_valid; waits = a.waits; visited = a.visited; left_to_write = a.left_to_write }
+pinned_looked ring l m a = looked_by (pinned_link ring l) (pinned_link ring m) (ap (pinned_link ring) (quiet l m a)) a.seen_valid a.waits a.visited a.left_to_write
 
 pub unpinned_looked : (l m : Link) → Looked l m → Looked (unpinned_link l) (unpinned_link m)
-unpinned_looked l m a = record { role = refl; tag = refl; ring = refl; header = a.header; pending = a.pending; content = a.content; copying = a.copying; dirtied = a.dirtied; unapplied = a.unapplied; copied = a.copied; io = a.io; read = a.read; read_is_home = a.read_is_home; last_write = a.last_write; out = a.out; overwritten = a.overwritten; image = a.image; seen_valid = λ saw. saw; waits = a.waits; visited = a.visited; left_to_write = a.left_to_write }
+unpinned_looked l m a = looked_by (unpinned_link l) (unpinned_link m) (ap unpinned_link (quiet l m a)) (λ saw. saw) a.waits a.visited a.left_to_write
 
 pub locked_looked : (word : ℕ) (l m : Link) → Looked l m → Looked (locked_link word l) (locked_link word m)
-locked_looked word l m a = record { role = a.role; tag = a.tag; ring = a.ring; header = refl; pending = a.pending; content = a.content; copying = a.copying; dirtied = a.dirtied; unapplied = a.unapplied; copied = a.copied; io = a.io; read = a.read; read_is_home = a.read_is_home; last_write = a.last_write; out = a.out; overwritten = a.overwritten; image = a.image; seen_valid = a.seen_valid; waits = a.waits; visited = a.visited; left_to_write = a.left_to_write }
+locked_looked word l m a = looked_by (locked_link word l) (locked_link word m) (ap (locked_link word) (quiet l m a)) a.seen_valid a.waits a.visited a.left_to_write
 
 -- what was loaded has few pins
 pub few_pins : (f found : ℕ) (v w : View) → Did looking f v w found → (fields found).pins < 262143

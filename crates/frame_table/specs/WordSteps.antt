@@ -1,5 +1,5 @@
 -- Steps at the words after those of the frames: the log's end, the flushed position, and the clock's hand.
-use Rattle.std.specs.Prelude.{◌≡◌, ◌≢◌, ℕ, ◌<◌, false, true, max, Option, Some, None, unwrap_or}
+use Rattle.std.specs.Prelude.{◌≡◌, ◌≢◌, ℕ, ◌<◌, false, true, Option, Some, None, unwrap_or}
 use mathlib.Core.Option.{some}
 use lib.ListN.{get_elem?}
 use Rattle.atomic_table.specs.Table.{Me, Step}
@@ -8,60 +8,54 @@ use Rattle.pin_core.specs.declared.view.Link.{Link}
 use Rattle.pin_core.specs.declared.view.View.{View}
 use Rattle.pin_core.specs.declared.view.LoadedWord.TheVariants as seen
 use Rattle.pin_core.specs.State.{Page, link}
-use Rattle.history_core.specs.State.{State, next_hand}
+use Rattle.history_core.specs.State.{State}
+use Rattle.history_core.specs.Words as core
+use Rattle.history_core.specs.Words.{Word, end_word, word_of, word_at, WordAllowed, number_after}
 use Rattle.history_core.specs.Laws.{Laws}
-use Rattle.history_core.specs.Steps as steps
-use Rattle.history_core.specs.Steps.{Event, aside, ticked, looked, has_loaded, has_begun, has_raised, has_read}
+use Rattle.history_core.specs.Steps.{Event, word, read, looked, has_read, view_worded, state_set}
 use Rattle.table_rule.specs.declared.value.Value.{Value}
-use Rattle.table_rule.specs.Layout.{end_place, flushed_place, hand_place}
 
 pub data WordKind : Type 0 where
-  -- the log's end is loaded; as the place of a read of the page that was copied from a frame; as the start of a checkpoint
-  load_end : WordKind
+  -- a step at a word, as the protocol has it
+  at_word : core.WordKind → WordKind
+  -- the log's end is loaded as the place of a read of the page that was copied from a frame
   read_end : ℕ → WordKind
-  begin_checkpoint : WordKind
-  -- the flushed position is loaded, and raised to the log's end
-  load_flushed : WordKind
-  raise_flushed : WordKind
-  -- the clock's hand is loaded, and moves on
-  load_hand : WordKind
-  add_hand : WordKind
 
--- the place of the word that a kind is at
-abbrev pub word_place : WordKind → ℕ → ℕ
-word_place load_end n = end_place n
-word_place (read_end f) n = end_place n
-word_place begin_checkpoint n = end_place n
-word_place load_flushed n = flushed_place n
-word_place raise_flushed n = flushed_place n
-word_place load_hand n = hand_place n
-word_place add_hand n = hand_place n
+-- the log's end is loaded; so it is as a checkpoint begins
+abbrev pub load_end : WordKind
+load_end = at_word core.load_end
 
--- the number that the word has
-abbrev pub word_of : WordKind → State → ℕ
-word_of load_end s = s.end
-word_of (read_end f) s = s.end
-word_of begin_checkpoint s = s.end
-word_of load_flushed s = s.flushed
-word_of raise_flushed s = s.flushed
-word_of load_hand s = s.hand
-word_of add_hand s = s.hand
+abbrev pub begin_checkpoint : WordKind
+begin_checkpoint = at_word core.begin_checkpoint
 
--- and after the step
-abbrev pub word_after : WordKind → State → ℕ
-word_after raise_flushed s = max s.flushed s.end
-word_after add_hand s = next_hand s.hand
-word_after k s = word_of k s
+-- the flushed position is loaded, and raised to the log's end
+abbrev pub load_flushed : WordKind
+load_flushed = at_word core.load_flushed
+
+abbrev pub raise_flushed : WordKind
+raise_flushed = at_word core.raise_flushed
+
+-- the clock's hand is loaded, and moves on
+abbrev pub load_hand : WordKind
+load_hand = at_word core.load_hand
+
+abbrev pub add_hand : WordKind
+add_hand = at_word core.add_hand
+
+-- the word that a kind is at
+abbrev pub kind_word : WordKind → Word
+kind_word (at_word k) = word_at k
+kind_word (read_end f) = end_word
+
+-- the number that it leaves there
+abbrev pub number_left : WordKind → State → ℕ
+number_left (at_word k) s = number_after k s
+number_left (read_end f) s = s.end
 
 -- the event that it is
 abbrev pub word_event : WordKind → ℕ → Event
-word_event load_end i = steps.load_end i
-word_event (read_end f) i = steps.read i f
-word_event begin_checkpoint i = steps.begin_checkpoint i
-word_event load_flushed i = steps.load_flushed i
-word_event raise_flushed i = steps.raise_flushed i
-word_event load_hand i = steps.load_hand i
-word_event add_hand i = steps.add_hand i
+word_event (at_word k) i = word i k
+word_event (read_end f) i = read i f
 
 -- A page was copied at a frame under a content lock that is held still, no entry is unapplied there, and the pin remembers the tag
 pub record IsCopied (l : Link) : Type 0 where
@@ -73,8 +67,8 @@ pub record IsCopied (l : Link) : Type 0 where
 -- where a kind is allowed
 abbrev pub IsWordAllowed : WordKind → State → View → Type 0
 IsWordAllowed (read_end f) s v = (f < s.pool.core.frames) × IsCopied (link v f)
-IsWordAllowed raise_flushed s v = (v.log.synced ≡ true) × (v.log.end ≡ Some s.end)
-IsWordAllowed _ s v = Unit {0}
+IsWordAllowed (at_word core.raise_flushed) s v = (v.log.synced ≡ true) × (v.log.end ≡ Some s.end)
+IsWordAllowed (at_word k) s v = WordAllowed k s v
 
 -- a read of the page that was copied, of the block that the pin remembers
 abbrev pub read_of : Option ℕ → Option Page → ℕ → View → View
@@ -87,26 +81,12 @@ end_known v = unwrap_or v.log.end 0
 
 -- What a kind makes of the view, where the number found is `found`
 abbrev pub view_of : WordKind → ℕ → View → View
-view_of load_end found v = has_loaded found v
+view_of (at_word k) found v = view_worded k found (end_known v) v
 view_of (read_end f) found v = looked (seen.LogEnd found) (read_of (link v f).tag (link v f).copied found v)
-view_of begin_checkpoint found v = has_begun found (looked (seen.LogEnd found) v)
-view_of load_flushed found v = looked (seen.Flushed found) (record v { flushed = found })
-view_of raise_flushed found v = has_raised (end_known v) v
-view_of load_hand found v = looked (seen.Hand found) v
-view_of add_hand found v = ticked v
-
--- the flushed position and the hand after it
-abbrev pub flushed_of : WordKind → State → ℕ
-flushed_of raise_flushed s = max s.flushed s.end
-flushed_of _ s = s.flushed
-
-abbrev pub hand_of : WordKind → State → ℕ
-hand_of add_hand s = next_hand s.hand
-hand_of _ s = s.hand
 
 -- the state after it, by backend i, whose view is v
 abbrev pub next_of : WordKind → State → ℕ → View → State
-next_of k s i v = record s { pool = aside s.pool i (view_of k (word_of k s) v); flushed = flushed_of k s; hand = hand_of k s }
+next_of k s i v = state_set (kind_word k) (number_left k s) s i (view_of k (word_of (kind_word k) s) v)
 
 -- The view v became w by a step of the kind k, where its word was `found`
 pub record DidWord (k : WordKind) (v w : View) (found : ℕ) : Type 0 where
@@ -117,7 +97,7 @@ pub record DidWord (k : WordKind) (v w : View) (found : ℕ) : Type 0 where
   pub seat : ℕ
   pub there : get_elem? state.pool.core.views seat ≡ some v
   pub live : v.emptied ≡ false
-  pub says : word_of k state ≡ found
+  pub says : word_of (kind_word k) state ≡ found
   pub allowed : IsWordAllowed k state v
   pub after : w ≡ view_of k found v
 

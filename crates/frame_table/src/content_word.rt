@@ -1,5 +1,5 @@
 //! What a content word shows.
-ghost use Rattle.std.specs.Prelude.{◌≡◌, ◌%◌, ◌^◌};
+ghost use Rattle.std.specs.Prelude.{◌≡◌};
 ghost use Rattle.frame_table.specs.Content.{has_copying, has_exclusive};
 
 /// The bit of an exclusive lock.
@@ -7,13 +7,6 @@ pub(crate) const EXCLUSIVE: u64 = 1 << 18;
 
 /// The bit of a copy latch that is taken.
 pub(crate) const COPYING: u64 = 1 << 19;
-
-/// How many backends share the content lock.
-pub fn sharers(word: u64) -> u64
-    ensures { result ≡ word % 2 ^ 18 }
-{
-    word % EXCLUSIVE
-}
 
 /// Whether a backend has it exclusively.
 pub fn is_exclusive(word: u64) -> bool

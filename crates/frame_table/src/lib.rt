@@ -28,7 +28,7 @@ mod turns;
 mod values;
 mod word_plays;
 
-pub use content_word::{is_copying, is_exclusive, sharers};
+pub use content_word::{is_copying, is_exclusive};
 pub use io_right::IoRight;
 pub use log_words::EndLoad;
 pub use pin::{Pin, TryPin};

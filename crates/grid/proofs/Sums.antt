@@ -1,7 +1,8 @@
 -- Sums over a list.
-use Rattle.std.proofs.Common.{◌≡◌, ℕ, zero, suc, ◌+◌, ◌≤◌, ◌≢◌, Bool, true, false, cond, List, [], ◌∷◌, ◌++◌, length, set, sym, refl, ap, arith}
+use Rattle.std.proofs.Common.{◌≡◌, ℕ, zero, suc, ◌+◌, ◌≤◌, ◌≢◌, Bool, true, false, cond, List, [], ◌∷◌, ◌++◌, length, set, sym, refl, ap, arith, ◌<◌, ⊎_elim}
 use Rattle.std.proofs.lemmas.List.Recursion.{is_count_by}
 use Rattle.std.specs.Prelude.{count_by}
+use Rattle.std.proofs.lemmas.Bool.{cases_lt}
 use mathlib.Core.Option.{some, some-injective, some-ne-none}
 use lib.ListN.{get_elem?}
 use Rattle.grid.specs.Shape.{total}
@@ -18,6 +19,15 @@ module _ {A : Type 0} (g : A → ℕ) where
   term_le [] j v e = absurd (some-ne-none v (sym e))
   term_le (x ∷ xs) zero v e = omega (arith, ap g (some-injective x v e))
   term_le (x ∷ xs) (suc j) v e = omega (arith, term_le xs j v e)
+
+  -- a sum that isn't 0 has a term that isn't 0
+  pub some_term : (l : List A) → 0 < total g l → (j : ℕ) × (a : A) × (get_elem? l j ≡ some a) × (0 < g a)
+  unfolding total
+  some_term [] e = absurd (omega arith)
+  some_term (x ∷ xs) e = ⊎_elim
+      (λ (more : 0 < g x). (zero, x, refl, more))
+      (λ (none : g x ≤ 0). let r = some_term xs (omega arith) in (suc r.0, r.1, r.2, r.3))
+      (cases_lt 0 (g x))
 
   pub terms_le : (l : List A) (j k : ℕ) (v u : A) → k ≢ j → get_elem? l j ≡ some v → get_elem? l k ≡ some u → g v + g u ≤ total g l
   unfolding total

@@ -1,6 +1,7 @@
 -- Lists of pins, and what they show.
 use Rattle.std.proofs.Common.{◌≡◌, ◌≢◌, ℕ, zero, suc, add-one, ◌+◌, ◌-◌, ◌<◌, ◌≤◌, List, [], ◌∷◌, ◌++◌, Option, Some, None, true, false, cond, eq-eqb, ne_eqb, nat_eq, ◌&&◌, take, drop, set, length, get_or, refl, sym, ap, ◌∙◌, subst, arith}
 use Rattle.std.specs.Prelude.{option_map}
+use Rattle.std.proofs.lemmas.Option.{none-some, same_Some}
 use mathlib.Core.Logic.{dite}
 use native.Mathlib.Decide.{ℕ_discrete}
 use denote.Enum.Bare.{sameb}
@@ -13,12 +14,6 @@ use Rattle.table_rule.proofs.Tags.{packed_is}
 use Rattle.held_pins.specs.declared.pins.HeldPin.{HeldPin}
 use Rattle.held_pins.specs.Tokens.{TokensAreCounted, AreOfBlocks, AreOfOthers, HeldFrame, IsPinnedFor, IsOf, StandsAt, Tokens, count_of, held_at, held_in, held_of, tokens_less, tokens_more, tokens_of}
 
-some_none : {A : Type 0} (x : A) → Some x ≡ None → ⊥
-some_none x e = cc
-
-some_same : {A : Type 0} (x y : A) → Some x ≡ Some y → x ≡ y
-some_same x y e = cc
-
 -- the first frame, and those past it
 pub held_here : (h : HeldFrame) (t : Tokens) (f : ℕ) → f ≡ h.frame → held_at (h ∷ t) f ≡ Some h
 held_here h t f e = ap (λ b. cond b (Some h) (held_at t f)) (eq-eqb f h.frame e)
@@ -27,7 +22,7 @@ pub held_past : (h : HeldFrame) (t : Tokens) (f : ℕ) → f ≢ h.frame → hel
 held_past h t f n = ap (λ b. cond b (Some h) (held_at t f)) (ne_eqb f h.frame n)
 
 pub none_past : (h : HeldFrame) (t : Tokens) (f : ℕ) → held_at (h ∷ t) f ≡ None → f ≢ h.frame
-none_past h t f none e = some_none h (sym (held_here h t f e) ∙ none)
+none_past h t f none e = none-some h (sym none ∙ held_here h t f e)
 
 pub none_rest : (h : HeldFrame) (t : Tokens) (f : ℕ) → held_at (h ∷ t) f ≡ None → held_at t f ≡ None
 none_rest h t f none = sym (held_past h t f (none_past h t f none)) ∙ none
@@ -71,7 +66,7 @@ more_tags (h ∷ hs) f g = dite (ℕ_discrete f h.frame)
 
 pub none_of : (o : Option HeldFrame) → option_map HeldFrame.tag o ≡ None → o ≡ None
 none_of None e = refl
-none_of (Some h) e = absurd (some_none h.tag e)
+none_of (Some h) e = absurd (none-some h.tag (sym e))
 
 pub none_alike : (o p : Option HeldFrame) → option_map HeldFrame.tag p ≡ option_map HeldFrame.tag o → o ≡ None → p ≡ None
 none_alike o p same e = none_of p (same ∙ ap (option_map HeldFrame.tag) e)
@@ -205,12 +200,12 @@ pub pinned_for : (hs : List HeldPin) (i : ℕ) (h : HeldPin) (tag : Tag) → Tok
 pinned_for hs i h tag c inside of e = record { held = held_of h; there = held_by_frame hs i h c inside e; same = ap packed_tag (of h e) }
 
 packed_apart : (a b : Tag) → names_block a ≡ true → names_block b ≡ true → packed_tag a ≡ packed_tag b → a ≡ b
-packed_apart a b p q e = some_same a b (sym (packed_is a p) ∙ ap unpacked_tag e ∙ packed_is b q)
+packed_apart a b p q e = same_Some a b (sym (packed_is a p) ∙ ap unpacked_tag e ∙ packed_is b q)
 
 pub new_of_others : (hs : List HeldPin) (tag : Tag) → names_block tag ≡ true → AreOfBlocks hs → AreOfOthers tag hs → (f : ℕ) (h : HeldFrame) → held_at (held_in hs) f ≡ Some h → h.tag ≡ packed_tag tag → ⊥
-new_of_others [] tag named all others f h e same = some_none h (sym e)
+new_of_others [] tag named all others f h e same = none-some h e
 new_of_others (x ∷ xs) tag named all others f h e same = dite (ℕ_discrete f x.pin.frame)
-    (λ d. others.0 (packed_apart x.tag tag all.0 named (ap (λ (y : HeldFrame). y.tag) (some_same (held_of x) h (sym (held_here (held_of x) (held_in xs) f d) ∙ e)) ∙ same)))
+    (λ d. others.0 (packed_apart x.tag tag all.0 named (ap (λ (y : HeldFrame). y.tag) (same_Some (held_of x) h (sym (held_here (held_of x) (held_in xs) f d) ∙ e)) ∙ same)))
     (λ n. new_of_others xs tag named all.1 others.1 f h (sym (held_past (held_of x) (held_in xs) f n) ∙ e) same)
 
 -- each is still of a block
@@ -254,9 +249,9 @@ counts_less n f t u e some c = subst (CountsTokens (n - 1)) (sym e) record {
 
 -- where there are none, or one, or more
 pub not_counted : (t : Tokens) (f : ℕ) (h : HeldFrame) → TokensAreCounted t → held_at t f ≡ Some h → 0 < h.tokens
-not_counted [] f h c e = absurd (some_none h (sym e))
+not_counted [] f h c e = absurd (none-some h e)
 not_counted (x ∷ xs) f h c e = dite (ℕ_discrete f x.frame)
-    (λ d. subst (λ (y : HeldFrame). 0 < y.tokens) (some_same x h (sym (held_here x xs f d) ∙ e)) c.0)
+    (λ d. subst (λ (y : HeldFrame). 0 < y.tokens) (same_Some x h (sym (held_here x xs f d) ∙ e)) c.0)
     (λ n. not_counted xs f h c.2 (sym (held_past x xs f n) ∙ e))
 
 pub still_held : (t : Tokens) (f : ℕ) → tokens_of (held_at t f) ≢ 1 → held_at t f ≢ None → held_at (tokens_less f t) f ≢ None

@@ -8,7 +8,8 @@ use Rattle.pin_core.specs.declared.view.Link.{Link}
 use Rattle.pin_core.specs.declared.view.LaneHold.{LaneHold}
 use Rattle.pin_core.specs.declared.view.PartitionHold.{PartitionHold}
 use Rattle.pin_core.specs.declared.view.View.{View}
-use Rattle.pin_core.specs.State.{idle, link, no_lane, no_partition}
+use Rattle.pin_core.specs.State.{link, no_lane, no_partition}
+use Rattle.pin_core.proofs.Views.{link_same}
 use Rattle.table_rule.specs.declared.value.Value.{Value}
 use Rattle.frame_table.specs.declared.table.FrameTable.{FrameTable}
 use Rattle.frame_table.specs.Seats.{Looked, SameSeat, SameSelf, Stores, Touches, self_of}
@@ -53,10 +54,6 @@ rests_touched f t v w k here r = rests_with f t w (beside_touched f t v w k (bes
 
 pub rests_looked : (f : ℕ) (t : Tokens) (v w : View) → Touches f v w → Looked (link v f) (link w f) → LinksRest t v → LinksRest t w
 rests_looked f t v w k a r = rests_touched f t v w k (link_looked (held_at t f) (link v f) (link w f) a (r f)) r
-
--- a view with the same links
-pub link_same : (v w : View) → w.links ≡ v.links → (g : ℕ) → link w g ≡ link v g
-link_same v w e g = ap (λ (l : List Link). get_or l g idle) e
 
 pub links_same : (t : Tokens) (v w : View) → w.links ≡ v.links → LinksRest t v → LinksRest t w
 links_same t v w e r g = subst (LinkRests (held_at t g)) (sym (link_same v w e g)) (r g)
@@ -117,9 +114,6 @@ kept_self v w e m = ap (λ (x : View). kept_by_calls x) both
     both k = record (e k) { dirtied_or_synced = m k }
 
 -- a seat
-pub same_on : {L G : Type 0} (s s' s'' : Seat (Value L G) View) → SameSeat s s' → SameSeat s' s'' → SameSeat s s''
-same_on s s' s'' a b = record { table = b.table ∙ a.table; id = b.id ∙ a.id; hand = b.hand ∙ a.hand }
-
 pub stands_on : {L G : Type 0} (t : FrameTable L G) (s s' : Seat (Value L G) View) → SameSeat s s' → HasNoDevice s'.me.0 → Stands t s → Stands t s'
 stands_on t s s' same quiet k = record { fits = same.table ∙ k.fits; hand = same.hand ∙ k.hand; quiet = quiet }
 

@@ -1,7 +1,7 @@
 -- A step keeps the law of the calls.
 use Rattle.std.proofs.Common.{◌≡◌, ◌≢◌, ◌⊎◌, ℕ, zero, suc, ◌+◌, ◌<◌, ◌≤◌, Bool, true, false, cond, eq-eqb, ne_eqb, List, [], ◌∷◌, ◌++◌, length, length-append, append-nil, set, sym, refl, ap, ◌∙◌, subst, inl, inr, ⊎_elim, arith}
 use Rattle.std.specs.Prelude.{max}
-use Rattle.std.proofs.lemmas.Bool.{cases_lt}
+use Rattle.std.proofs.lemmas.Bool.{cases_lt, both_ways}
 use mathlib.Core.Logic.{dite}
 use native.Mathlib.Decide.{ℕ_discrete}
 use mathlib.Core.Option.{some, some-ne-none, some-injective}
@@ -127,9 +127,6 @@ kept_set views h i v w there kept emptied = record {
 nothing : (u : View) (k : ℕ) (c : JoinedCheckpoint) → u.joined_checkpoints ≡ [] → get_elem? u.joined_checkpoints k ≡ some c → ⊥
 nothing u k c none at = some-ne-none c (sym (subst (λ (l : List JoinedCheckpoint). get_elem? l k ≡ some c) none at))
 
-live_not : {b : Bool} → b ≡ true → b ≡ false → ⊥
-live_not a b = cc
-
 -- one view more, that took in none
 kept_grows : (views : List View) → KeptLaw views → (w : View) → w.joined_checkpoints ≡ [] → KeptLaw (views ++ w ∷ [])
 kept_grows views h w none = record {
@@ -155,7 +152,7 @@ module _ (views : List View) (h : KeptLaw views) (j : ℕ) (v u : View) (there :
   -- an emptied view is neither of the two
   still_spent : (n : ℕ) (x : View) → get_elem? views n ≡ some x → x.emptied ≡ true → (z : View) × (get_elem? (set vs j emptied_view) n ≡ some z) × (z.emptied ≡ true)
   still_spent n x at spent = dite (ℕ_discrete n j) (λ (e : n ≡ j). (emptied_view, ap (get_elem? (set vs j emptied_view)) e ∙ set_here vs j u emptied_view (set_else views 0 j w other ∙ here), refl))
-      (λ (o : n ≢ j). dite (ℕ_discrete n 0) (λ (e : n ≡ 0). absurd (live_not (ap (λ (y : View). y.emptied) (some-injective v x (sym there ∙ ap (get_elem? views) (sym e) ∙ at)) ∙ spent) live)) (λ (p : n ≢ 0). (x, set_else vs j n emptied_view o ∙ set_else views 0 n w p ∙ at, spent)))
+      (λ (o : n ≢ j). dite (ℕ_discrete n 0) (λ (e : n ≡ 0). absurd (both_ways _ live (ap (λ (y : View). y.emptied) (some-injective v x (sym there ∙ ap (get_elem? views) (sym e) ∙ at)) ∙ spent))) (λ (p : n ≢ 0). (x, set_else vs j n emptied_view o ∙ set_else views 0 n w p ∙ at, spent)))
 
   taken : (c : JoinedCheckpoint) → ((k : ℕ) × (get_elem? v.joined_checkpoints k ≡ some c)) ⊎ (kept_checkpoint u ≡ c) → (z : View) × (get_elem? (set vs j emptied_view) c.number ≡ some z) × (z.emptied ≡ true)
   taken c (inl t) = let z = h.spent 0 t.0 v c there t.1 in still_spent c.number z.0 z.1 z.2
@@ -166,7 +163,7 @@ module _ (views : List View) (h : KeptLaw views) (j : ℕ) (v u : View) (there :
 
   -- the view j is live, so none that was kept before has its number
   fresh : (k : ℕ) (c : JoinedCheckpoint) → get_elem? v.joined_checkpoints k ≡ some c → c.number ≢ u.number
-  fresh k c at same = let z = h.spent 0 k v c there at in live_not (ap (λ (y : View). y.emptied) (some-injective u z.0 (sym here ∙ ap (get_elem? views) (sym (same ∙ number)) ∙ z.1)) ∙ z.2) going
+  fresh k c at same = let z = h.spent 0 k v c there at in both_ways _ going (ap (λ (y : View). y.emptied) (some-injective u z.0 (sym here ∙ ap (get_elem? views) (sym (same ∙ number)) ∙ z.1)) ∙ z.2)
 
   ends_apart : (m n : ℕ) (c d : JoinedCheckpoint) → get_elem? (v.joined_checkpoints ++ kept_checkpoint u ∷ []) m ≡ some c → get_elem? (v.joined_checkpoints ++ kept_checkpoint u ∷ []) n ≡ some d → c.number ≡ d.number → m ≡ n
   ends_apart m n c d ec ed same = ⊎_elim
@@ -285,7 +282,7 @@ module _ (known : ℕ → Bool) (origin : ℕ → Page) (log : Log) (flushed : �
 
       -- and no call of the first is of that backend
       not_both : (n : ℕ) → HasNumber v n → u.number ≡ n → ⊥
-      not_both n has same = let x = has (λ z. other (sym number ∙ same ∙ z ∙ first)) in let y = h.kept.spent 0 x.0 v x.1 there x.2 in live_not (ap (λ (z : View). z.emptied) (some-injective u y.0 (sym here ∙ ap (get_elem? views) (sym (x.3 ∙ sym same ∙ number)) ∙ y.1)) ∙ y.2) going
+      not_both n has same = let x = has (λ z. other (sym number ∙ same ∙ z ∙ first)) in let y = h.kept.spent 0 x.0 v x.1 there x.2 in both_ways _ going (ap (λ (z : View). z.emptied) (some-injective u y.0 (sym here ∙ ap (get_elem? views) (sym (x.3 ∙ sym same ∙ number)) ∙ y.1)) ∙ y.2)
 
       both : CallsLaw known origin log flushed (joined_view v u)
       both = let c = h.calls 0 v there in let d = h.calls j u here in record {

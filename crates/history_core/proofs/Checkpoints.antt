@@ -5,7 +5,6 @@ use Rattle.pin_core.specs.declared.view.Io.TheVariants.{Quiet}
 use Rattle.pin_core.specs.declared.view.Link.{Link}
 use Rattle.pin_core.specs.declared.view.LaneHold.{LaneHold}
 use Rattle.pin_core.specs.declared.view.PartitionHold.{PartitionHold}
-use Rattle.pin_core.specs.declared.view.LoadedWord.TheVariants as seen
 use Rattle.pin_core.specs.State.{Page, split_state, joined_state, kept_checkpoint}
 use Rattle.pin_core.specs.Kinds as pins
 use Rattle.pin_core.specs.Steps as pin_steps
@@ -17,7 +16,8 @@ use Rattle.page_core.specs.Steps as page_steps
 use Rattle.page_core.specs.Steps.{HasNoWriteOut}
 use Rattle.history_core.specs.State.{State}
 use Rattle.history_core.specs.Lanes.{take_lane, leave_lane, lane_out, write_block, sync_lane, lane_back}
-use Rattle.history_core.specs.Steps.{aside, looked, has_begun, pools, lanes, writes, notes, begins, loads_flushed, Run, rests, goes}
+use Rattle.history_core.specs.Steps.{pools, lanes, writes, notes, words, state_worded, Run, rests, goes}
+use Rattle.history_core.specs.Words.{load_flushed, begin_checkpoint}
 use Rattle.history_core.specs.Sample.{sample_lane}
 use Rattle.history_core.specs.Put.{IsPut}
 use Rattle.history_core.specs.Checkpoints.{begin, write, drop, sync, join, HasStored, CheckpointRuns}
@@ -29,7 +29,7 @@ abbrev split_at : State → State
 split_at s = record s { pool = record s.pool { core = split_state s.pool.core (view_of s) } }
 
 abbrev begun_at : State → State
-begun_at s = record s { pool = aside s.pool 1 (has_begun s.end (looked (seen.LogEnd s.end) (second_of s))) }
+begun_at s = state_worded begin_checkpoint s 1 (second_of s)
 
 abbrev joined_at : State → State
 joined_at s = record s { pool = record s.pool { core = joined_state s.pool.core (view_of s) 1 (second_of s) } }
@@ -123,7 +123,7 @@ none_out p n out = absurd (out (at_one_lane (λ (h : LaneHold). h.out ≡ None) 
 
 begins_there : (p : Page) → Run begin (q19 p) (c4 p)
 begins_there p = goes (pools (page_steps.cores (pin_steps.splits (view_of (q19 p)) refl (lit< tt))) tt)
-    (goes (begins 1 (second_of (c1 p)) refl refl)
+    (goes (words 1 begin_checkpoint (second_of (c1 p)) refl refl tt)
     (goes (pools (page_steps.cores (pin_steps.touches 1 0 pins.lock_header (second_of (c2 p)) refl refl (lit< tt) (record { unlocked = refl }) (at_frame (λ (l : Link). l.header ≡ None) (second_of (c2 p)) _ refl refl refl))) tt)
     (goes (pools (page_steps.touches 1 0 need_checkpoint (second_of (c3 p)) refl refl (lit< tt) (record { held = refl; settled = refl; dirty = refl }) tt) tt)
     rests)))
@@ -131,7 +131,7 @@ begins_there p = goes (pools (page_steps.cores (pin_steps.splits (view_of (q19 p
 writes_there : (p : Page) → IsPut p → Run (write p) (c4 p) (c20 p)
 writes_there p is = goes (pools (page_steps.cores (pin_steps.touches 1 0 (pins.pin false) (second_of (c4 p)) refl refl (lit< tt) (record { unlocked = refl; absent = refl; tagged = refl }) tt)) tt)
     (goes (pools (page_steps.cores (pin_steps.touches 1 0 pins.load_state (second_of (c5 p)) refl refl (lit< tt) tt tt)) tt)
-    (goes (loads_flushed 1 (second_of (c6 p)) refl refl)
+    (goes (words 1 load_flushed (second_of (c6 p)) refl refl tt)
     (goes (pools (page_steps.touches 1 0 share (second_of (c7 p)) refl refl (lit< tt) (record { pinned = λ e. cc; seen = refl; none = refl; free = refl }) tt) tt)
     (goes (pools (page_steps.cores (pin_steps.touches 1 0 pins.lock_header (second_of (c8 p)) refl refl (lit< tt) (record { unlocked = refl }) (at_frame (λ (l : Link). l.header ≡ None) (second_of (c8 p)) _ refl refl refl))) tt)
     (goes (pools (page_steps.touches 1 0 start_output (second_of (c9 p)) refl refl (lit< tt) (record { held = refl; settled = refl; pinned = λ e. cc; clear = refl; dirty = refl; right = refl }) (at_frame (λ (l : Link). l.io ≡ Quiet) (second_of (c9 p)) _ refl refl refl)) tt)

@@ -6,7 +6,8 @@ use Rattle.page_core.specs.State as page
 use Rattle.page_core.specs.Steps as page_steps
 use Rattle.history_core.specs.State.{State, Device}
 use Rattle.history_core.specs.Device.{LogKind, take_log, leave_log, log_out, append, fail_append, sync_log, fail_sync, log_back, see_down, LogAllowed, device_after}
-use Rattle.history_core.specs.Steps.{pools, lanes, writes, notes, enters, reads, loads_end, begins, loads_flushed, raises, adds_hand, loads_hand, logs, new_entry}
+use Rattle.history_core.specs.Steps.{pools, enters, logs, new_entry, words}
+use Rattle.history_core.specs.Words.{flushed_word, WordKind, raise_flushed, word_at, number_after, word_set}
 use Rattle.history_core.specs.Laws.{Laws}
 use Rattle.history_core.specs.Lasting.{IsSameOpening, HasGrown, OpeningStays, LogGrows}
 use Rattle.pin_core.specs.declared.view.LogHold.{LogHold}
@@ -34,18 +35,7 @@ of_pool p count lane_of known origin base names faults = record { frames = p.fra
 
 pub opening_stays : (s : State) → OpeningStays s
 opening_stays s e t (pools x a) = of_pool (pages_last x) refl refl refl refl refl refl refl
-opening_stays s e t (lanes i n k u there live low a alone) = of_pool record { frames = refl; backends = refl; partitions = refl; partition_of = refl; is_block = refl } refl refl refl refl refl refl refl
-opening_stays s e t (writes i n f k u there live low inside a x) = of_pool record { frames = refl; backends = refl; partitions = refl; partition_of = refl; is_block = refl } refl refl refl refl refl refl refl
-opening_stays s e t (notes i n f noted k u there live low inside a x) = of_pool record { frames = refl; backends = refl; partitions = refl; partition_of = refl; is_block = refl } refl refl refl refl refl refl refl
-opening_stays s e t (logs i k u there live a record_is) = of_pool record { frames = refl; backends = refl; partitions = refl; partition_of = refl; is_block = refl } refl refl refl refl refl refl refl
-opening_stays s e t (enters i f p u there live inside x) = of_pool record { frames = refl; backends = refl; partitions = refl; partition_of = refl; is_block = refl } refl refl refl refl refl refl refl
-opening_stays s e t (reads i f tag p u there live inside a) = of_pool record { frames = refl; backends = refl; partitions = refl; partition_of = refl; is_block = refl } refl refl refl refl refl refl refl
-opening_stays s e t (loads_end i u there live) = of_pool record { frames = refl; backends = refl; partitions = refl; partition_of = refl; is_block = refl } refl refl refl refl refl refl refl
-opening_stays s e t (begins i u there live) = of_pool record { frames = refl; backends = refl; partitions = refl; partition_of = refl; is_block = refl } refl refl refl refl refl refl refl
-opening_stays s e t (loads_flushed i u there live) = of_pool record { frames = refl; backends = refl; partitions = refl; partition_of = refl; is_block = refl } refl refl refl refl refl refl refl
-opening_stays s e t (raises i u there live synced) = of_pool record { frames = refl; backends = refl; partitions = refl; partition_of = refl; is_block = refl } refl refl refl refl refl refl refl
-opening_stays s e t (adds_hand i u there live) = of_pool record { frames = refl; backends = refl; partitions = refl; partition_of = refl; is_block = refl } refl refl refl refl refl refl refl
-opening_stays s e t (loads_hand i u there live) = of_pool record { frames = refl; backends = refl; partitions = refl; partition_of = refl; is_block = refl } refl refl refl refl refl refl refl
+opening_stays s e t _ = of_pool record { frames = refl; backends = refl; partitions = refl; partition_of = refl; is_block = refl } refl refl refl refl refl refl refl
 
 -- the device after a call
 record DeviceGrows (d d' : Device) : Type 0 where
@@ -72,17 +62,13 @@ device_grows see_down end d h low a = device_same d
 unlogged : {s t : State} → t.log.entries ≡ s.log.entries → t.end ≡ s.end → s.flushed ≤ t.flushed → DeviceGrows s.device t.device → HasGrown s t
 unlogged {s = s} entries end flushed d = record { added = []; entries = entries ∙ sym (append-nil s.log.entries); end = omega arith; flushed = flushed; rest = d.rest; bytes = d.bytes; synced = d.synced; down = d.down }
 
+-- a kind at a word raises the flushed position, or leaves it
+flushed_more : (k : WordKind) (s : State) → s.flushed ≤ word_set (word_at k) (number_after k s) s flushed_word
+flushed_more raise_flushed s = omega arith
+flushed_more _ s = omega arith
+
 pub log_grows : (s : State) → Laws s → LogGrows s
-log_grows s l e t (pools x a) = unlogged refl refl (omega arith) (device_same s.device)
-log_grows s l e t (lanes i n k u there live low a alone) = unlogged refl refl (omega arith) (device_same s.device)
-log_grows s l e t (writes i n f k u there live low inside a x) = unlogged refl refl (omega arith) (device_same s.device)
-log_grows s l e t (notes i n f noted k u there live low inside a x) = unlogged refl refl (omega arith) (device_same s.device)
 log_grows s l e t (logs i k u there live a record_is) = unlogged refl refl (omega arith) (device_grows k s.end s.device u.log (l.invariant.device.columns 0 (lit< tt)).synced a)
 log_grows s l e t (enters i f p u there live inside x) = let d = device_same s.device in record { added = new_entry s u.number (s.pool.core.frame f).tag p ∷ []; entries = refl; end = omega arith; flushed = omega arith; rest = d.rest; bytes = d.bytes; synced = d.synced; down = d.down }
-log_grows s l e t (reads i f tag p u there live inside a) = unlogged refl refl (omega arith) (device_same s.device)
-log_grows s l e t (loads_end i u there live) = unlogged refl refl (omega arith) (device_same s.device)
-log_grows s l e t (begins i u there live) = unlogged refl refl (omega arith) (device_same s.device)
-log_grows s l e t (loads_flushed i u there live) = unlogged refl refl (omega arith) (device_same s.device)
-log_grows s l e t (raises i u there live synced) = unlogged refl refl (omega arith) (device_same s.device)
-log_grows s l e t (adds_hand i u there live) = unlogged refl refl (omega arith) (device_same s.device)
-log_grows s l e t (loads_hand i u there live) = unlogged refl refl (omega arith) (device_same s.device)
+log_grows s l e t (words i k u there live a) = unlogged refl refl (flushed_more k s) (device_same s.device)
+log_grows s l e t _ = unlogged refl refl (omega arith) (device_same s.device)

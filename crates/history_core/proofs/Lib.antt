@@ -6,6 +6,7 @@ pub mod Forgetting
 pub mod Homes
 pub mod Pools
 pub mod Beginning
+pub mod Words
 pub mod Outer
 pub mod Blocks
 pub mod Stepping

@@ -28,7 +28,7 @@ use Rattle.history_core.specs.Device as log_kinds
 use Rattle.history_core.specs.Device.{LogKind, LogAllowed, device_after, view_logged, is_failed, HasRisen, Written, DeviceLaw, LogLink, LogTally, holders, appenders, log_weigh}
 use Rattle.history_core.specs.Counts.{all_met, NoneFailedOut, FaultsOut, LogCounted}
 use Rattle.history_core.specs.Invariant.{HistoryInvariant, written_of}
-use Rattle.history_core.specs.Steps.{Event, stepped, ticked, looked, pool_noting, paged, laned, has_loaded, has_read, has_begun, has_written, Step, pools, lanes, writes, notes, logs, enters, reads, loads_end, begins, loads_flushed, raises, adds_hand, loads_hand, has_raised}
+use Rattle.history_core.specs.Steps.{Event, stepped, looked, pool_noting, paged, laned, has_read, has_written, Step, pools, lanes, writes, notes, logs, enters, reads, words, worded}
 use Rattle.history_core.proofs.Device.{risen}
 use Rattle.history_core.proofs.Opening.{one_total}
 use Rattle.grid.specs.Shape.{total}
@@ -202,12 +202,7 @@ log_counting (notes {s = s} i q f noted k v there live low inside a x) h m = els
 log_counting (logs {s = s} i k v there live a record_is) h m = logged s h i v there k m a
 log_counting (enters {s = s} i f p v there live inside x) h m = elsewhere s h i v there m (has_written (s.end + record_size) (s.pool.core.frame f).tag p (paged (make_entry p) s.pool f v)) refl refl refl
 log_counting (reads {s = s} i f tag p v there live inside a) h m = elsewhere s h i v there m (looked (seen.LogEnd s.end) (has_read s.end tag p v)) refl refl refl
-log_counting (loads_end {s = s} i v there live) h m = elsewhere s h i v there m (has_loaded s.end v) refl refl refl
-log_counting (begins {s = s} i v there live) h m = elsewhere s h i v there m (has_begun s.end (looked (seen.LogEnd s.end) v)) refl refl refl
-log_counting (loads_flushed {s = s} i v there live) h m = elsewhere s h i v there m (looked (seen.Flushed s.flushed) (record v { flushed = s.flushed })) refl refl refl
-log_counting (adds_hand {s = s} i v there live) h m = elsewhere s h i v there m (ticked v) refl refl refl
-log_counting (loads_hand {s = s} i v there live) h m = elsewhere s h i v there m (looked (seen.Hand s.hand) v) refl refl refl
-log_counting (raises {s = s} i v there live synced) h m = elsewhere s h i v there m (has_raised s.end v) refl refl refl
+log_counting (words {s = s} i k v there live a) h m = elsewhere s h i v there m (worded k s v) refl refl refl
 
 pub log_counts_open : (c : Config) (store : Store) → LogCounted store.log_faults (fresh_device c.base store) (first_view c.base c.frames c.partitions c.lanes ∷ [])
 log_counts_open c store = let w : View = first_view c.base c.frames c.partitions c.lanes in record {

@@ -37,7 +37,8 @@ use Rattle.history_core.specs.Lanes.{LaneKind, lane_after}
 use Rattle.history_core.specs.Device.{view_logged}
 use Rattle.history_core.specs.Invariant.{HistoryInvariant}
 use Rattle.history_core.specs.Debts.{Taken, IsCurrent, IsStoredOrLeft, LinkDebt, ViewDebts, Debts, has_visited, has_left_to_write, taken_of, DebtsLaw}
-use Rattle.history_core.specs.Steps.{Event, IsPlain, MayWriteLane, Notes, CanEnter, has_loaded, has_begun, new_entry, logged_noting, pool_noting, stepped, ticked, looked, paged, laned, has_read, has_written, Step, pools, lanes, writes, notes, logs, enters, reads, loads_end, begins, loads_flushed, raises, adds_hand, loads_hand, Run, rests, goes, has_raised}
+use Rattle.history_core.specs.Steps.{Event, IsPlain, MayWriteLane, Notes, CanEnter, new_entry, logged_noting, pool_noting, stepped, looked, paged, laned, has_read, has_written, Step, pools, lanes, writes, notes, logs, enters, reads, Run, rests, goes, words, worded, state_worded}
+use Rattle.history_core.specs.Words.{WordKind, begin_checkpoint}
 use Rattle.history_core.proofs.Beginning.{BegunHere, link_begun}
 use Rattle.history_core.proofs.Blocks.{plain_block, tag_goes, written_is_logged}
 use Rattle.history_core.proofs.Calls.{at_both}
@@ -300,6 +301,17 @@ module _ (s : State) (h : HistoryInvariant s) (d : DebtsLaw s) (i f : ℕ) (p : 
       debts_touched longer s.pool.core.frames s.pool.core.frame (s.end + record_size) f (s.pool.core.frame f) (stays refl (λ e. e) (λ e. e)) logged' s.pool.core.views entries_longer inside (λ goes. absurd (goes refl)) i v (has_written (s.end + record_size) tag_of p (paged (make_entry p) s.pool f v)) l there
       (touches_at s h d i f v (has_written (s.end + record_size) tag_of p (paged (make_entry p) s.pool f v)) l there live inside refl refl refl) (record { stored_or_left = own.stored_or_left; done = own.done })
 
+-- a kind at a word
+words_owe : (s : State) (h : HistoryInvariant s) (d : DebtsLaw s) (i : ℕ) (k : WordKind) (v : View) → get_elem? s.pool.core.views i ≡ some v → DebtsLaw (state_worded k s i v)
+words_owe s h d i begin_checkpoint v there = let w : View = worded begin_checkpoint s v in let x = d.each i v there in let begun : BegunHere v w = record { emptied = refl; number = refl; next = refl; joined = refl; links = refl; partitions = refl } in
+    debts_set (taken_of s) s.pool.core.frames s.pool.core.frame s.end s.pool.logged s.pool.core.views d i w (record {
+      begun = omega arith;
+      kept_begun = x.kept_begun;
+      own = λ f below. subst (LinkDebt (taken_of s) (s.pool.core.frame f) s.end) (sym (link_begun v w begun f)) (record { stored_or_left = λ p. absurd (cc); done = (x.own f below).done });
+      kept = x.kept;
+    })
+words_owe s h d i k v there = aside_owe s h d i v (worded k s v) there refl refl refl
+
 pub debts_kept : {e : Event} {s t : State} → Step e s t → HistoryInvariant s → DebtsLaw s → DebtsLaw t
 debts_kept (pools {s = s} (page_steps.cores x) a) h d = pins_owe s h d x
 debts_kept (pools {s = s} (page_steps.touches i f k v there live inside a around) plain) h d = pages_owe s h d i f k v there live inside a plain
@@ -310,18 +322,7 @@ debts_kept (notes {s = s} i q f noted k v there live low inside a x) h d = same_
 debts_kept (logs {s = s} i k v there live a record_is) h d = aside_owe s h d i v (view_logged k v) there refl refl refl
 debts_kept (enters {s = s} i f p v there live inside x) h d = enters_owe s h d i f p v there live inside x
 debts_kept (reads {s = s} i f tag p v there live inside a) h d = aside_owe s h d i v (looked (seen.LogEnd s.end) (has_read s.end tag p v)) there refl refl refl
-debts_kept (loads_end {s = s} i v there live) h d = aside_owe s h d i v (has_loaded s.end v) there refl refl refl
-debts_kept (begins {s = s} i v there live) h d = let w : View = has_begun s.end (looked (seen.LogEnd s.end) v) in let x = d.each i v there in let begun : BegunHere v w = record { emptied = refl; number = refl; next = refl; joined = refl; links = refl; partitions = refl } in
-    debts_set (taken_of s) s.pool.core.frames s.pool.core.frame s.end s.pool.logged s.pool.core.views d i w (record {
-      begun = omega arith;
-      kept_begun = x.kept_begun;
-      own = λ f below. subst (LinkDebt (taken_of s) (s.pool.core.frame f) s.end) (sym (link_begun v w begun f)) (record { stored_or_left = λ p. absurd (cc); done = (x.own f below).done });
-      kept = x.kept;
-    })
-debts_kept (loads_flushed {s = s} i v there live) h d = aside_owe s h d i v (looked (seen.Flushed s.flushed) (record v { flushed = s.flushed })) there refl refl refl
-debts_kept (adds_hand {s = s} i v there live) h d = aside_owe s h d i v (ticked v) there refl refl refl
-debts_kept (loads_hand {s = s} i v there live) h d = aside_owe s h d i v (looked (seen.Hand s.hand) v) there refl refl refl
-debts_kept (raises {s = s} i v there live synced) h d = aside_owe s h d i v (has_raised s.end v) there refl refl refl
+debts_kept (words {s = s} i k v there live a) h d = words_owe s h d i k v there
 
 pub debts_after : {es : List Event} {s t : State} → Run es s t → HistoryInvariant s → DebtsLaw s → DebtsLaw t
 debts_after rests h d = d

@@ -25,9 +25,10 @@ use Rattle.history_core.specs.Device.{view_logged}
 use Rattle.history_core.specs.State.{State}
 use Rattle.history_core.specs.Invariant.{HistoryInvariant}
 use Rattle.history_core.specs.Promises.{HasNoUnpin, PinnedTagsStay}
-use Rattle.history_core.specs.Steps.{Event, pool, stepped, ticked, looked, logged_noting, pool_noting, paged, laned, has_loaded, has_begun, has_read, has_written, Step, pools, lanes, writes, notes, logs, enters, reads, loads_end, begins, loads_flushed, raises, adds_hand, loads_hand, Run, rests, goes, has_raised}
+use Rattle.history_core.specs.Steps.{Event, pool, stepped, looked, logged_noting, pool_noting, paged, laned, has_read, has_written, Step, pools, lanes, writes, notes, logs, enters, reads, Run, rests, goes, words, worded}
+use Rattle.history_core.specs.Words.{word_of, word_at}
 use Rattle.grid.specs.Shape.{put}
-use Rattle.history_core.proofs.Beginning.{BegunHere, link_begun}
+use Rattle.history_core.proofs.Words.{link_left}
 use Rattle.history_core.proofs.Stepping.{relinks, step_keeps, run_keeps}
 
 module _ (s : State) (h : HistoryInvariant s) (i f : ℕ) (out : IsHandedOut s.pool.core i f) where
@@ -55,12 +56,7 @@ step_stays i f (logs {s = s} j k u here live a record_is) h out other = (beside 
 step_stays i f (enters {s = s} j g p u here live inside x) h out other = let b : Block = block_of s.pool.logged (s.pool.core.frame g).tag in let w : View = has_written (s.end + record_size) (s.pool.core.frame g).tag p (paged (make_entry p) s.pool g u) in
     (beside s h i f out j u w here (role_same s h i f out j g (make_entry p) b u w here live inside refl), tag_same s h i f out g (make_entry p) b)
 step_stays i f (reads {s = s} j g tag p u here live inside a) h out other = (beside s h i f out j u (looked (seen.LogEnd s.end) (has_read s.end tag p u)) here refl, refl)
-step_stays i f (loads_end {s = s} j u here live) h out other = (beside s h i f out j u (has_loaded s.end u) here refl, refl)
-step_stays i f (begins {s = s} j u here live) h out other = let w : View = has_begun s.end (looked (seen.LogEnd s.end) u) in let begun : BegunHere u w = record { emptied = refl; number = refl; next = refl; joined = refl; links = refl; partitions = refl } in (beside s h i f out j u w here (ap (λ (x : Link). x.role) (link_begun u w begun f)), refl)
-step_stays i f (loads_flushed {s = s} j u here live) h out other = (beside s h i f out j u (looked (seen.Flushed s.flushed) (record u { flushed = s.flushed })) here refl, refl)
-step_stays i f (raises {s = s} j u here live synced) h out other = (beside s h i f out j u (has_raised s.end u) here refl, refl)
-step_stays i f (adds_hand {s = s} j u here live) h out other = (beside s h i f out j u (ticked u) here refl, refl)
-step_stays i f (loads_hand {s = s} j u here live) h out other = (beside s h i f out j u (looked (seen.Hand s.hand) u) here refl, refl)
+step_stays i f (words {s = s} j k u here live a) h out other = (beside s h i f out j u (worded k s u) here (ap (λ (x : Link). x.role) (link_left k (word_of (word_at k) s) s.end u f)), refl)
 
 run_stays : {es : List Event} {s t : State} (i f : ℕ) → Run es s t → HistoryInvariant s → IsHandedOut s.pool.core i f → HasNoUnpin i f es → PinStays s.pool.core t.pool.core i f
 run_stays i f rests h out none = (out, refl)

@@ -1,16 +1,14 @@
 -- A view changes beside what the frames and maps know of it.
-use Rattle.std.proofs.Common.{◌≡◌, ℕ, ◌<◌, false, List, set, set-set, refl, ap, subst}
+use Rattle.std.proofs.Common.{◌≡◌, ℕ, ◌<◌, false, List, set, set-set, refl, subst}
 use mathlib.Core.Option.{some}
 use lib.ListN.{get_elem?}
-use Rattle.pin_core.specs.declared.view.Link.{Link}
-use Rattle.pin_core.specs.declared.view.PartitionHold.{PartitionHold}
 use Rattle.pin_core.specs.declared.view.View.{View}
-use Rattle.pin_core.specs.State.{Frame, link, hold}
+use Rattle.pin_core.specs.State.{link}
 use Rattle.pin_core.specs.State as pins
 use Rattle.pin_core.specs.Tallies.{frame_shape}
 use Rattle.pin_core.specs.Turns.{turn_shape, turn_part}
 use Rattle.pin_core.specs.Invariant as pin_law
-use Rattle.pin_core.proofs.Views.{SameBackend, views_set, accounted_set}
+use Rattle.pin_core.proofs.Views.{SameBackend, views_set, accounted_set, link_same, hold_same}
 use Rattle.page_core.specs.State as page
 use Rattle.page_core.specs.State.{block_of}
 use Rattle.page_core.specs.Tallies.{page_shape}
@@ -30,12 +28,6 @@ pub record SameHere (v w : View) : Type 0 where
   pub joined : w.joined ≡ v.joined
   pub links : w.links ≡ v.links
   pub partitions : w.partitions ≡ v.partitions
-
-link_same : (v w : View) → w.links ≡ v.links → (f : ℕ) → link w f ≡ link v f
-link_same v w e f = ap (λ (x : List Link). link (record w { links = x }) f) e
-
-hold_same : (v w : View) → w.partitions ≡ v.partitions → (p : ℕ) → hold w p ≡ hold v p
-hold_same v w e p = ap (λ (x : List PartitionHold). hold (record w { partitions = x }) p) e
 
 core_aside : (s : pins.State) (i : ℕ) (v w : View) → pin_law.PinInvariant s → get_elem? s.views i ≡ some v → SameHere v w → pin_law.PinInvariant (record s { views = set s.views i w })
 core_aside s i v w h there same = record {

@@ -1,6 +1,5 @@
 -- The events of the put are steps.
 use Rattle.std.proofs.Common.{◌≡◌, ◌≤◌, ◌+◌, ℕ, true, false, [], ◌∷◌, ◌++◌, List, None, lit<, refl, sym, ap, append-nil, arith}
-use Rattle.std.specs.Prelude.{max}
 use Rattle.std.proofs.lemmas.Option.{same_Some}
 use Rattle.state_word.specs.declared.word.IoEnd.TheVariants.{WriteOk}
 use lib.ListN.{length-replicate}
@@ -9,7 +8,6 @@ use Rattle.page_layout.specs.Soundness.{is_new_page, is_sound_page}
 use Rattle.pin_core.specs.declared.view.Io.TheVariants.{Quiet}
 use Rattle.pin_core.specs.declared.view.Link.{Link}
 use Rattle.pin_core.specs.declared.view.LaneHold.{LaneHold}
-use Rattle.pin_core.specs.declared.view.LoadedWord.TheVariants as seen
 use Rattle.pin_core.specs.State.{Page, lane_hold}
 use Rattle.pin_core.specs.Kinds as pins
 use Rattle.pin_core.specs.Steps as pin_steps
@@ -21,7 +19,8 @@ use Rattle.history_core.specs.Log.{record_size, head_bytes, records, log_bytes}
 use Rattle.history_core.specs.State.{State, last_position}
 use Rattle.history_core.specs.Lanes.{take_lane, leave_lane, lane_out, write_block, CanTakeOut, lane_after}
 use Rattle.history_core.specs.Device.{LogKind, take_log, leave_log, log_out, append, sync_log, log_back, device_after, view_logged}
-use Rattle.history_core.specs.Steps.{CanLog, aside, pool_after, looked, laned, new_entry, has_written, pools, lanes, writes, notes, logs, enters, loads_flushed, raises, Run, rests, goes, has_raised}
+use Rattle.history_core.specs.Steps.{CanLog, aside, pool_after, looked, laned, new_entry, has_written, pools, lanes, writes, notes, logs, enters, words, state_worded, Run, rests, goes}
+use Rattle.history_core.specs.Words.{load_flushed, raise_flushed}
 use Rattle.history_core.specs.Steps as steps
 use Rattle.history_core.specs.Sample.{sample_store, sample_lane, sample_log}
 use Rattle.history_core.specs.Miss.{miss_start, miss, fill}
@@ -47,10 +46,10 @@ entered p s = let tag = (s.pool.core.frame 0).tag in let end = s.end + record_si
 }
 
 abbrev state_raised : State → State
-state_raised s = record s { pool = aside s.pool 0 (has_raised s.end (view_of s)); flushed = max s.flushed s.end }
+state_raised s = state_worded raise_flushed s 0 (view_of s)
 
 abbrev pub loaded_by : ℕ → State → State
-loaded_by i s = record s { pool = aside s.pool i (looked (seen.Flushed s.flushed) (record (view_at i s) { flushed = s.flushed })) }
+loaded_by i s = state_worded load_flushed s i (view_at i s)
 
 abbrev pub written_by : ℕ → Page → State → State
 written_by i p s = record s { pool = pool_after begin_write s.pool i 0 (laned (write_block 0 7 p) 0 (view_at i s) (steps.paged begin_write s.pool 0 (view_at i s))); lane = put s.lane 0 (lane_after (write_block 0 7 p) (s.lane 0)) }
@@ -180,9 +179,9 @@ flushes p is = goes (logs 0 take_log (view_of (q12 p)) refl refl (record { free 
     (goes (logs 0 (log_out (log_with p)) (view_of (q13 p)) refl refl (record { held = refl; home = refl; faults = refl; synced = refl; down = refl; bytes = λ bytes e. sym (same_Some (head_bytes 0 ++ put_bytes p) bytes e) }) tt)
     (goes (logs 0 sync_log (view_of (q14 p)) refl refl (record { out = λ e. cc; once = refl; up = refl }) tt)
     (goes (logs 0 (log_back false) (view_of (q15 p)) refl refl (record { out = λ e. cc; failed = λ z. absurd (cc); rose = λ taken e z. below taken.faults z }) tt)
-    (goes (raises 0 (view_of (q16 p)) refl refl refl)
+    (goes (words 0 raise_flushed (view_of (q16 p)) refl refl refl)
     (goes (logs 0 leave_log (view_of (q17 p)) refl refl (record { held = refl; home = refl; entered = refl }) tt)
-    (goes (loads_flushed 0 (view_of (q18 p)) refl refl)
+    (goes (words 0 load_flushed (view_of (q18 p)) refl refl tt)
     rests))))))
 
 writes_out : (p : Page) → IsPut p → Run (write_out 0 p) (q19 p) (q32 p)

@@ -10,7 +10,7 @@ use Rattle.history_core.specs.Log.{Entry, IsImage, log_bytes, record_bytes}
 use Rattle.history_core.specs.State.{State, Store, Device, opening}
 use Rattle.history_core.specs.Device.{LogKind, take_log, leave_log, log_out, append, fail_append, sync_log, fail_sync, log_back, see_down, LogAllowed, device_after, view_logged, Written, DeviceLaw, LogLink, LogTally, holders, appenders, log_weigh, log_shape}
 use Rattle.history_core.specs.Invariant.{HistoryInvariant, written_of}
-use Rattle.history_core.specs.Steps.{Event, new_entry, CanLog, AppendsRecord, aside, Step, pools, lanes, writes, notes, logs, enters, reads, loads_end, begins, loads_flushed, raises, adds_hand, loads_hand, Run, rests, goes}
+use Rattle.history_core.specs.Steps.{Event, new_entry, CanLog, AppendsRecord, aside, Step, logs, enters, Run, rests, goes}
 use Rattle.history_core.specs.Rest.{NoneAppended, HasRest, RestLaw}
 use Rattle.history_core.proofs.Logs.{bytes_longer}
 use Rattle.history_core.proofs.Opening.{head_only}
@@ -78,20 +78,10 @@ logged s h i (fail_append f tag p bytes faults) v there a r g x = let c = h.devi
     }
 
 behind_after : {e : Event} {s t : State} → Step e s t → HistoryInvariant s → HistoryInvariant t → HasRest s → HasRest t
-behind_after (pools {s = s} x a) h g m = same s _ m refl refl refl refl
-behind_after (lanes {s = s} i q k v there live low a alone) h g m = same s _ m refl refl refl refl
-behind_after (writes {s = s} i q f k v there live low inside a x) h g m = same s _ m refl refl refl refl
-behind_after (notes {s = s} i q f noted k v there live low inside a x) h g m = same s _ m refl refl refl refl
 behind_after (logs {s = s} i k v there live a record_is) h g m = logged s h i k v there a record_is g m
 behind_after (enters {s = s} i f p v there live inside x) h g m = let e : Entry = new_entry s v.number (s.pool.core.frame f).tag p in
     nothing _ (((h.device.cells i v 0 there (lit< tt)).appended (record_bytes s.names e) x.appended).is_bytes ∙ sym (bytes_longer s.names s.log e))
-behind_after (reads {s = s} i f tag p v there live inside a) h g m = same s _ m refl refl refl refl
-behind_after (loads_end {s = s} i v there live) h g m = same s _ m refl refl refl refl
-behind_after (loads_flushed {s = s} i v there live) h g m = same s _ m refl refl refl refl
-behind_after (begins {s = s} i v there live) h g m = same s _ m refl refl refl refl
-behind_after (adds_hand {s = s} i v there live) h g m = same s _ m refl refl refl refl
-behind_after (loads_hand {s = s} i v there live) h g m = same s _ m refl refl refl refl
-behind_after (raises {s = s} i v there live synced) h g m = same s _ m refl refl refl refl
+behind_after _ h g m = same _ _ m refl refl refl refl
 
 pub rest_kept : {e : Event} {s t : State} → Step e s t → HistoryInvariant s → RestLaw s → RestLaw t
 rest_kept {t = t} x h m = let g = step_keeps x h in law_of t g (behind_after x h g m.behind)

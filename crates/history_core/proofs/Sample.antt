@@ -1,15 +1,14 @@
 -- The sample's events are steps.
 use Rattle.std.proofs.Common.{false, slice_index_or, lit<, refl, sym, arith}
-use Rattle.std.specs.Prelude.{max}
 use Rattle.std.proofs.lemmas.Option.{same_Some}
-use Rattle.pin_core.specs.declared.view.LoadedWord.TheVariants as seen
 use Rattle.pin_core.specs.declared.view.View.{View}
 use Rattle.pin_core.specs.State.{lane_hold, emptied_view}
 use Rattle.history_core.specs.Log.{head_bytes}
 use Rattle.history_core.specs.State.{State}
 use Rattle.history_core.specs.Lanes.{LaneKind, take_lane, leave_lane, lane_out, read_block, lane_back, CanTakeOut, lane_after}
 use Rattle.history_core.specs.Device.{LogKind, take_log, leave_log, log_out, sync_log, log_back, device_after, view_logged}
-use Rattle.history_core.specs.Steps.{aside, stepped, looked, laned, rests, goes, lanes, logs, raises, loads_flushed, loads_end, has_raised}
+use Rattle.history_core.specs.Steps.{aside, stepped, laned, rests, goes, lanes, logs, words, state_worded}
+use Rattle.history_core.specs.Words.{load_end, load_flushed, raise_flushed}
 use Rattle.history_core.specs.Sample.{short_page, sample_start, sample_lane, sample_log, SampleRuns}
 use Rattle.grid.specs.Shape.{put}
 
@@ -50,13 +49,13 @@ abbrev s9 : State
 s9 = at_log (log_back false) s8
 
 abbrev s10 : State
-s10 = record s9 { pool = aside s9.pool 0 (has_raised s9.end (view_of s9)); flushed = max s9.flushed s9.end }
+s10 = state_worded raise_flushed s9 0 (view_of s9)
 
 abbrev s11 : State
 s11 = at_log leave_log s10
 
 abbrev s12 : State
-s12 = record s11 { pool = aside s11.pool 0 (looked (seen.Flushed s11.flushed) (record (view_of s11) { flushed = s11.flushed })) }
+s12 = state_worded load_flushed s11 0 (view_of s11)
 
 goes_out : CanTakeOut sample_lane (s1.lane 0) (lane_hold (view_of s1) 0)
 goes_out = record { held = refl; home = refl; reads = refl; writes = refl; pages = λ blocks k b e at. absurd (cc) }
@@ -67,7 +66,7 @@ sample = (
   record { placed = λ tag. lit< tt; based = omega arith; named = λ tag. refl; synced = omega arith },
   (
     s5,
-    record s12 { pool = aside s12.pool 0 (looked (seen.LogEnd s12.end) (view_of s12)) },
+    state_worded load_end s12 0 (view_of s12),
     (goes (lanes 0 0 take_lane (view_of sample_start) refl refl (lit< tt) (record { free = refl }) tt)
         (goes (lanes 0 0 (lane_out sample_lane) (view_of s1) refl refl (lit< tt) goes_out tt)
         (goes (lanes 0 0 (read_block 7 short_page) (view_of s2) refl refl (lit< tt) (record { call = record { out = λ e. cc; once = refl }; given = λ e. refl }) refl)
@@ -78,10 +77,10 @@ sample = (
         (goes (logs 0 (log_out sample_log) (view_of s6) refl refl (record { held = refl; home = refl; faults = refl; synced = refl; down = refl; bytes = λ bytes e. sym (same_Some (head_bytes 0) bytes e) }) tt)
         (goes (logs 0 sync_log (view_of s7) refl refl (record { out = λ e. cc; once = refl; up = refl }) tt)
         (goes (logs 0 (log_back false) (view_of s8) refl refl (record { out = λ e. cc; failed = λ z. absurd (cc); rose = λ taken e z. absurd (grind (arith, e, z)) }) tt)
-        (goes (raises 0 (view_of s9) refl refl refl)
+        (goes (words 0 raise_flushed (view_of s9) refl refl refl)
         (goes (logs 0 leave_log (view_of s10) refl refl (record { held = refl; home = refl; entered = refl }) tt)
-        (goes (loads_flushed 0 (view_of s11) refl refl)
-        (goes (loads_end 0 (view_of s12) refl refl)
+        (goes (words 0 load_flushed (view_of s11) refl refl tt)
+        (goes (words 0 load_end (view_of s12) refl refl tt)
         rests)))))))),
     record { lane = refl; log = refl; synced = refl; flushed = refl },
   ),

@@ -1,5 +1,6 @@
 -- Each step keeps that only blocks whose pages were sound at the start are read and written.
 use Rattle.std.proofs.Common.{◌≡◌, ◌≢◌, ℕ, zero, suc, ◌+◌, ◌<◌, Bool, true, false, List, [], ◌∷◌, ◌++◌, length, set, Some, None, sym, refl, ap, ◌∙◌, subst, ⊎_elim, arith}
+use Rattle.std.proofs.lemmas.Bool.{both_ways}
 use mathlib.Core.Logic.{dite}
 use mathlib.Core.Option.{some, some-ne-none}
 use native.Mathlib.Decide.{ℕ_discrete}
@@ -18,7 +19,6 @@ use Rattle.pin_core.specs.Steps as pin_steps
 use Rattle.page_core.specs.Steps as page_steps
 use Rattle.page_core.specs.Kinds.{begin_write, make_entry}
 use Rattle.page_core.specs.Tallies.{unapplied_locks, weigh}
-use Rattle.page_core.proofs.Waits.{some_term}
 use Rattle.history_core.specs.Log.{Entry, record_size, cell, cut, tag_of}
 use Rattle.history_core.specs.Lanes.{lane_back}
 use Rattle.history_core.specs.Device.{view_logged}
@@ -26,12 +26,13 @@ use Rattle.history_core.specs.State.{State, Store, opening}
 use Rattle.history_core.specs.Invariant.{HistoryInvariant}
 use Rattle.history_core.specs.Histories.{IsStored}
 use Rattle.history_core.specs.Sound.{WasSound, SoundLaw, ShowsSound, UnsoundStay, UnsoundAreFirst}
-use Rattle.history_core.specs.Steps.{Event, new_entry, stepped, ticked, looked, pool_noting, paged, laned, has_loaded, has_begun, has_read, has_written, has_raised, Step, pools, lanes, writes, notes, logs, enters, reads, loads_end, begins, loads_flushed, raises, adds_hand, loads_hand}
+use Rattle.history_core.specs.Steps.{Event, new_entry, stepped, looked, pool_noting, paged, laned, has_read, has_written, Step, pools, lanes, writes, notes, logs, enters, reads, words, worded}
 use Rattle.history_core.proofs.Calls.{at_both}
 use Rattle.history_core.proofs.Histories.{clean_stored}
 use Rattle.history_core.proofs.Logs.{cut_in, cut_out, in_or_out}
 use Rattle.grid.specs.Shape.{put, total}
 use Rattle.grid.proofs.Lists.{at_set, at_end, at_only, put_at, put_else}
+use Rattle.grid.proofs.Sums.{some_term}
 
 -- the page of a block that has no entry
 pub cell_absent : (origin : ℕ → Page) (es : List Entry) (tag : ℕ) → ((k : ℕ) (e : Entry) → get_elem? es k ≡ some e → e.tag ≢ tag) → cell origin es tag ≡ origin tag
@@ -39,7 +40,7 @@ unfolding cell
 cell_absent origin [] tag none = refl
 cell_absent origin (e ∷ es) tag none = cell_absent (put origin e.tag e.image) es tag (λ k d at. none (suc k) d at) ∙ put_else origin e.tag e.image tag (λ is. none 0 e refl (sym is))
 
-weighs_flag : (b : Bool) → 0 < flag_weight b → b ≡ true
+pub weighs_flag : (b : Bool) → 0 < flag_weight b → b ≡ true
 weighs_flag true lt = refl
 weighs_flag false lt = absurd (omega arith)
 
@@ -47,13 +48,10 @@ either_way : (b : Bool) {A : Type 0} → (b ≡ true → A) → (b ≡ false →
 either_way true x y = x refl
 either_way false x y = y refl
 
-not_both : {b : Bool} → b ≡ true → b ≡ false → ⊥
-not_both a b = cc
-
 module _ (s : State) (h : HistoryInvariant s) (entries : (k : ℕ) (e : Entry) → get_elem? s.log.entries k ≡ some e → WasSound s e.tag) where
   -- no entry is of a block whose page was not sound
   none_of : (tag : ℕ) → s.known tag ≡ true → is_sound_page (s.origin tag) ≡ false → (k : ℕ) (e : Entry) → get_elem? s.log.entries k ≡ some e → e.tag ≢ tag
-  none_of tag known unsound k e at is = not_both (subst (WasSound s) is (entries k e at) known) unsound
+  none_of tag known unsound k e at is = both_ways _ unsound (subst (WasSound s) is (entries k e at) known)
 
   -- the page after the log of such a block
   first_page : (tag : ℕ) → s.known tag ≡ true → is_sound_page (s.origin tag) ≡ false → s.pool.logged tag ≡ Some (s.origin tag)
@@ -118,12 +116,7 @@ sound_kept (enters {s = s} i f p v there live inside x) h m = let tag = (s.pool.
   calls = calls_added s s.pool.core.views m.calls i v (has_written end tag p (paged (make_entry p) s.pool f v)) _ there refl was;
 }
 sound_kept (reads {s = s} i f tag p v there live inside a) h m = record { entries = m.entries; calls = calls_added s s.pool.core.views m.calls i v (looked (seen.LogEnd s.end) (has_read s.end tag p v)) _ there refl (remembered s h m.entries i f tag v there inside a.remembered (locked_sound s h m.entries i f v there inside a.right)) }
-sound_kept (loads_end {s = s} i v there live) h m = record { entries = m.entries; calls = calls_same s s.pool.core.views m.calls i v (has_loaded s.end v) there refl }
-sound_kept (begins {s = s} i v there live) h m = record { entries = m.entries; calls = calls_same s s.pool.core.views m.calls i v (has_begun s.end (looked (seen.LogEnd s.end) v)) there refl }
-sound_kept (loads_flushed {s = s} i v there live) h m = record { entries = m.entries; calls = calls_same s s.pool.core.views m.calls i v (looked (seen.Flushed s.flushed) (record v { flushed = s.flushed })) there refl }
-sound_kept (raises {s = s} i v there live synced) h m = record { entries = m.entries; calls = calls_same s s.pool.core.views m.calls i v (has_raised s.end v) there refl }
-sound_kept (adds_hand {s = s} i v there live) h m = record { entries = m.entries; calls = calls_same s s.pool.core.views m.calls i v (ticked v) there refl }
-sound_kept (loads_hand {s = s} i v there live) h m = record { entries = m.entries; calls = calls_same s s.pool.core.views m.calls i v (looked (seen.Hand s.hand) v) there refl }
+sound_kept (words {s = s} i k v there live a) h m = record { entries = m.entries; calls = calls_same s s.pool.core.views m.calls i v (worded k s v) there refl }
 
 pub sound_open : (c : Config) (store : Store) (page : Page) → SoundLaw (opening c store page)
 sound_open c store page = record {
@@ -154,10 +147,10 @@ stay_untouched s h m tag named known unsound = record { unentered = none; is_cel
     cell_is = cell_absent s.origin s.log.entries tag none
 
     invalid : (f : ℕ) → f < s.pool.core.frames → (s.pool.core.frame f).tag ≡ tag → (s.pool.core.frame f).word.valid ≡ false
-    invalid f below is = either_way (s.pool.core.frame f).word.valid (λ valid. absurd (not_both (subst (WasSound s) is (valid_sound s h m.entries f below (λ e. named (sym is ∙ e)) valid) known) unsound)) (λ e. e)
+    invalid f below is = either_way (s.pool.core.frame f).word.valid (λ valid. absurd (both_ways _ unsound (subst (WasSound s) is (valid_sound s h m.entries f below (λ e. named (sym is ∙ e)) valid) known))) (λ e. e)
 
     clean : (f : ℕ) → f < s.pool.core.frames → (s.pool.core.frame f).tag ≡ tag → (s.pool.core.frame f).word.dirty ≡ false
-    clean f below is = either_way (s.pool.core.frame f).word.dirty (λ dirty. absurd (not_both ((h.pool.core.grid.columns f below).dirty dirty) (invalid f below is))) (λ e. e)
+    clean f below is = either_way (s.pool.core.frame f).word.dirty (λ dirty. absurd (both_ways _ (invalid f below is) ((h.pool.core.grid.columns f below).dirty dirty))) (λ e. e)
 
     stored_is : IsStored s tag
     stored_is = clean_stored s h tag named clean
@@ -179,7 +172,7 @@ cell_first : (origin : ℕ → Page) (es : List Entry) (tag : ℕ) → ((k : ℕ
 unfolding cell
 cell_first origin [] tag images unsound = refl
 cell_first origin (e ∷ es) tag images unsound = let before = put origin e.tag e.image in let x = cell_first before es tag (λ k d at. images (suc k) d at) unsound in dite (ℕ_discrete tag e.tag)
-    (λ is. absurd (not_both (ap is_sound_page (x ∙ put_at origin e.tag e.image tag is) ∙ images 0 e refl) unsound))
+    (λ is. absurd (both_ways _ unsound (ap is_sound_page (x ∙ put_at origin e.tag e.image tag is) ∙ images 0 e refl)))
     (λ other. x ∙ put_else origin e.tag e.image tag other)
 
 pub unsound_first : (s : State) → HistoryInvariant s → UnsoundAreFirst s

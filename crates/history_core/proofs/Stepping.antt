@@ -38,12 +38,13 @@ use Rattle.page_core.proofs.Cases.{tag_kept}
 use Rattle.page_core.proofs.Stepping as page_stepping
 use Rattle.page_core.proofs.Stepping.{new_none}
 use Rattle.history_core.specs.Log.{Entry, IsImage, record_size, cell, log_bytes, record_bytes}
-use Rattle.history_core.specs.State.{Lane, Device, State, next_hand, stored, stored_upto, failed}
+use Rattle.history_core.specs.State.{Lane, Device, State, stored, stored_upto, failed}
 use Rattle.history_core.specs.Lanes as lane_kinds
 use Rattle.history_core.specs.Lanes.{swept_by, LaneKind, LaneAllowed, lane_after, lane_hold_after, lane_shape, lane_part}
 use Rattle.history_core.specs.Homes.{Home, home_of, IsClean, HomeLink, home_shape, home_part, IsUnframed, IsFlushedCell}
 use Rattle.history_core.specs.Invariant.{HistoryLaw, written_of, HistoryInvariant}
-use Rattle.history_core.specs.Steps.{Event, IsPlain, PoolAllowed, stepped, ticked, looked, aside, pool_after, pool_noting, CanNoteLaneRead, paged, laned, LaneAlone, CanWrite, MayWriteLane, Notes, new_entry, CanEnter, CanRead, has_loaded, has_read, has_begun, has_written, Step, pools, lanes, writes, notes, enters, reads, loads_end, begins, loads_flushed, raises, adds_hand, loads_hand, logs, Run, rests, goes, has_raised}
+use Rattle.history_core.specs.Steps.{Event, IsPlain, PoolAllowed, stepped, looked, aside, pool_after, pool_noting, CanNoteLaneRead, paged, laned, LaneAlone, CanWrite, MayWriteLane, Notes, new_entry, CanEnter, CanRead, has_read, has_written, Step, pools, lanes, writes, notes, enters, reads, logs, Run, rests, goes, words, worded, state_worded, has_raised}
+use Rattle.history_core.specs.Words.{WordKind, load_end, begin_checkpoint, load_flushed, raise_flushed, WordAllowed}
 use Rattle.history_core.specs.Device.{LogKind, take_log, leave_log, log_out, append, fail_append, sync_log, fail_sync, log_back, see_down, LogAllowed, device_after, view_logged, log_weigh, log_shape, log_part}
 use Rattle.history_core.proofs.Device.{log_keeps, enter_keeps, end_keeps, synced_all}
 use Rattle.history_core.proofs.Calls.{SameCalls, history_same, history_read, history_written, history_loaded, history_raised}
@@ -626,41 +627,55 @@ module _ (s : State) (h : HistoryInvariant s) (i f : ℕ) (p : Page) (v : View) 
         };
       }
 
--- the holder of the log's latch keeps the log end that it loads
-loads_end_step : (s : State) → HistoryInvariant s → (i : ℕ) (v : View) → get_elem? s.pool.core.views i ≡ some v → HistoryInvariant (record s { pool = aside s.pool i (has_loaded s.end v) })
-loads_end_step s h i v there = let w : View = has_loaded s.end v in let same : SameHere v w = record { backend = record { emptied = refl; number = refl; next = refl; links = refl; partitions = refl }; joined = refl; links = refl; partitions = refl } in
-    assemble_same s h (aside s.pool i w) s.lane (pool_aside s.pool i v w h.pool there same) refl h.known refl
-    (record {
-      device = sweep log_shape log_part log_part 1 (λ _. s.device) (λ _. s.device) (λ _. written_of s) (λ _. written_of s) s.pool.core.views i v w h.device there (λ g below. end_keeps (written_of s) s.device v.saw_down v.log);
-      history = history_same s.known s.origin s.log s.flushed s.pool.core.views h.history i v w there (record { calls = refl; front = refl; joined = refl; flushed = refl; emptied = refl; number = refl; kept = refl });
-      lanes = steady lane_shape lane_part s.lanes s.lane (λ _. s.flushed) s.pool.core.views h.lanes i v w there refl (λ q. refl);
-      wide = wide_set s.lanes s.pool.core.views h.wide i v w there refl refl;
-    })
-    (blocks_aside s h i v w there refl)
+-- A kind at a word, by backend i
+module _ (s : State) (h : HistoryInvariant s) (i : ℕ) (v : View) (there : get_elem? s.pool.core.views i ≡ some v) where
+  -- the holder of the log's latch keeps the log end that it loads
+  loads_end_step : HistoryInvariant (state_worded load_end s i v)
+  loads_end_step = let w : View = worded load_end s v in let same : SameHere v w = record { backend = record { emptied = refl; number = refl; next = refl; links = refl; partitions = refl }; joined = refl; links = refl; partitions = refl } in
+      assemble_same s h (aside s.pool i w) s.lane (pool_aside s.pool i v w h.pool there same) refl h.known refl
+      (record {
+        device = sweep log_shape log_part log_part 1 (λ _. s.device) (λ _. s.device) (λ _. written_of s) (λ _. written_of s) s.pool.core.views i v w h.device there (λ g below. end_keeps (written_of s) s.device v.saw_down v.log);
+        history = history_same s.known s.origin s.log s.flushed s.pool.core.views h.history i v w there (record { calls = refl; front = refl; joined = refl; flushed = refl; emptied = refl; number = refl; kept = refl });
+        lanes = steady lane_shape lane_part s.lanes s.lane (λ _. s.flushed) s.pool.core.views h.lanes i v w there refl (λ q. refl);
+        wide = wide_set s.lanes s.pool.core.views h.wide i v w there refl refl;
+      })
+      (blocks_aside s h i v w there refl)
 
--- no law speaks of the hand
-handed : {t : State} → HistoryInvariant t → (hand : ℕ) → HistoryInvariant (record t { hand = hand })
-handed k hand = record {
-  pool = k.pool;
-  logged = k.logged;
-  known = k.known;
-  log = k.log;
-  based = k.based;
-  ends = k.ends;
-  limit = k.limit;
-  flushed_from = k.flushed_from;
-  flushed_to = k.flushed_to;
-  named = k.named;
-  durable = k.durable;
-  device = k.device;
-  history = k.history;
-  lanes = k.lanes;
-  wide = k.wide;
-  placed = k.placed;
-  homes = k.homes;
-  unframed = k.unframed;
-  flushed_cells = k.flushed_cells;
-}
+  begins_step : HistoryInvariant (state_worded begin_checkpoint s i v)
+  begins_step = let w : View = worded begin_checkpoint s v in let begun : BegunHere v w = record { emptied = refl; number = refl; next = refl; joined = refl; links = refl; partitions = refl } in
+      assemble_same s h (aside s.pool i w) s.lane (pool_begun i v w begun s.pool h.pool there) refl h.known refl
+      (outer_same s.known s.origin s.log s.lanes s.lane s.flushed (written_of s) s.device s.pool.core.views (outer_of s h) i v w there (record { calls = refl; front = refl; joined = refl; flushed = refl; emptied = refl; number = refl; kept = refl }) refl refl refl refl)
+      (record { homes = homes_begun i v w begun s.pool.core.frames s.pool.core.frame (home_of s) s.pool.core.views h.homes there; unframed = h.unframed; flushed_cells = h.flushed_cells })
+
+  words_step : (k : WordKind) → WordAllowed k s v → HistoryInvariant (state_worded k s i v)
+  words_step load_end a = loads_end_step
+  words_step begin_checkpoint a = begins_step
+  words_step load_flushed a = let w : View = worded load_flushed s v in with_view s h i v w there (record { backend = record { emptied = refl; number = refl; next = refl; links = refl; partitions = refl }; joined = refl; links = refl; partitions = refl }) refl refl refl
+      (history_loaded s.known s.origin s.log s.flushed s.pool.core.views h.history i v w there refl refl refl refl refl refl refl)
+  words_step raise_flushed synced = raises_step s h i v there synced
+  -- no law speaks of the others
+  words_step k a = let w : View = worded k s v in let x = with_view s h i v w there (record { backend = record { emptied = refl; number = refl; next = refl; links = refl; partitions = refl }; joined = refl; links = refl; partitions = refl }) refl refl refl
+      (history_same s.known s.origin s.log s.flushed s.pool.core.views h.history i v w there (record { calls = refl; front = refl; joined = refl; flushed = refl; emptied = refl; number = refl; kept = refl })) in record {
+        pool = x.pool;
+        logged = x.logged;
+        known = x.known;
+        log = x.log;
+        based = x.based;
+        ends = x.ends;
+        limit = x.limit;
+        flushed_from = x.flushed_from;
+        flushed_to = x.flushed_to;
+        named = x.named;
+        durable = x.durable;
+        device = x.device;
+        history = x.history;
+        lanes = x.lanes;
+        wide = x.wide;
+        placed = x.placed;
+        homes = x.homes;
+        unframed = x.unframed;
+        flushed_cells = x.flushed_cells;
+      }
 
 pub step_keeps : {e : Event} {s t : State} → Step e s t → HistoryInvariant s → HistoryInvariant t
 step_keeps (pools {s = s} x a) h = pools_step s h x a
@@ -669,18 +684,7 @@ step_keeps (writes {s = s} i q f k v there live low inside a x) h = writes_step 
 step_keeps (notes {s = s} i q f noted k v there live low inside a x) h = notes_step s h i q f noted k v there live low inside a x
 step_keeps (enters {s = s} i f p v there live inside x) h = enters_step s h i f p v there live inside x
 step_keeps (reads {s = s} i f tag p v there live inside a) h = reads_step s h i f tag p v there inside a
-step_keeps (loads_end {s = s} i v there live) h = loads_end_step s h i v there
-step_keeps (begins {s = s} i v there live) h = let w : View = has_begun s.end (looked (seen.LogEnd s.end) v) in let begun : BegunHere v w = record { emptied = refl; number = refl; next = refl; joined = refl; links = refl; partitions = refl } in
-    assemble_same s h (aside s.pool i w) s.lane (pool_begun i v w begun s.pool h.pool there) refl h.known refl
-    (outer_same s.known s.origin s.log s.lanes s.lane s.flushed (written_of s) s.device s.pool.core.views (outer_of s h) i v w there (record { calls = refl; front = refl; joined = refl; flushed = refl; emptied = refl; number = refl; kept = refl }) refl refl refl refl)
-    (record { homes = homes_begun i v w begun s.pool.core.frames s.pool.core.frame (home_of s) s.pool.core.views h.homes there; unframed = h.unframed; flushed_cells = h.flushed_cells })
-step_keeps (loads_flushed {s = s} i v there live) h = let w : View = looked (seen.Flushed s.flushed) (record v { flushed = s.flushed }) in with_view s h i v w there (record { backend = record { emptied = refl; number = refl; next = refl; links = refl; partitions = refl }; joined = refl; links = refl; partitions = refl }) refl refl refl
-    (history_loaded s.known s.origin s.log s.flushed s.pool.core.views h.history i v w there refl refl refl refl refl refl refl)
-step_keeps (raises {s = s} i v there live synced) h = raises_step s h i v there synced
-step_keeps (adds_hand {s = s} i v there live) h = let w : View = ticked v in handed (with_view s h i v w there (record { backend = record { emptied = refl; number = refl; next = refl; links = refl; partitions = refl }; joined = refl; links = refl; partitions = refl }) refl refl refl
-    (history_same s.known s.origin s.log s.flushed s.pool.core.views h.history i v w there (record { calls = refl; front = refl; joined = refl; flushed = refl; emptied = refl; number = refl; kept = refl }))) (next_hand s.hand)
-step_keeps (loads_hand {s = s} i v there live) h = let w : View = looked (seen.Hand s.hand) v in with_view s h i v w there (record { backend = record { emptied = refl; number = refl; next = refl; links = refl; partitions = refl }; joined = refl; links = refl; partitions = refl }) refl refl refl
-    (history_same s.known s.origin s.log s.flushed s.pool.core.views h.history i v w there (record { calls = refl; front = refl; joined = refl; flushed = refl; emptied = refl; number = refl; kept = refl }))
+step_keeps (words {s = s} i k v there live a) h = words_step s h i v there k a
 step_keeps (logs {s = s} i k v there live a record_is) h = logs_step s h i k v there a
 
 pub run_keeps : {es : List Event} {s t : State} → Run es s t → HistoryInvariant s → HistoryInvariant t

@@ -28,7 +28,7 @@ use Rattle.history_core.specs.Homes.{IsUnframed}
 use Rattle.history_core.specs.Invariant.{HistoryInvariant}
 use Rattle.history_core.specs.Debts.{DebtsLaw}
 use Rattle.history_core.specs.Swept.{IsSwept, has_swept, ViewSwept, SweptLaw}
-use Rattle.history_core.specs.Steps.{Event, new_entry, stepped, ticked, looked, pool_noting, paged, laned, has_loaded, has_begun, has_read, has_written, Step, pools, lanes, writes, notes, logs, enters, reads, loads_end, begins, loads_flushed, raises, adds_hand, loads_hand, has_raised}
+use Rattle.history_core.specs.Steps.{Event, new_entry, stepped, looked, pool_noting, paged, laned, has_read, has_written, Step, pools, lanes, writes, notes, logs, enters, reads, words, worded}
 use Rattle.history_core.proofs.Calls.{at_both}
 use Rattle.history_core.proofs.Histories.{framed}
 use Rattle.history_core.proofs.Outer.{lane_new}
@@ -232,12 +232,7 @@ swept_kept {t = t} (logs {s = s} i k v there live a record_is) h d m = aside_swe
 swept_kept {t = t} (enters {s = s} i f p v there live inside x) h d m = let entry = new_entry s v.number (s.pool.core.frame f).tag p in aside_swept s h d m i v (has_written (s.end + record_size) (s.pool.core.frame f).tag p (paged (make_entry p) s.pool f v)) t there refl refl refl
     (record { lane_of = refl; end = omega arith; entries = λ k e at. ⊎_elim (λ (y : get_elem? s.log.entries k ≡ some e). inl y) (λ (y : (entry ≡ e) × (k ≡ length s.log.entries)). let z : s.end + record_size ≡ end_of e = ap end_of y.0 in inr (omega arith)) (at_end s.log.entries entry e k at); synced = λ tag. omega arith }) m.below
 swept_kept {t = t} (reads {s = s} i f tag p v there live inside a) h d m = aside_swept s h d m i v (looked (seen.LogEnd s.end) (has_read s.end tag p v)) t there refl refl refl (plain s h d m t refl refl refl refl) m.below
-swept_kept {t = t} (loads_end {s = s} i v there live) h d m = aside_swept s h d m i v (has_loaded s.end v) t there refl refl refl (plain s h d m t refl refl refl refl) m.below
-swept_kept {t = t} (begins {s = s} i v there live) h d m = aside_swept s h d m i v (has_begun s.end (looked (seen.LogEnd s.end) v)) t there refl refl refl (plain s h d m t refl refl refl refl) m.below
-swept_kept {t = t} (loads_flushed {s = s} i v there live) h d m = aside_swept s h d m i v (looked (seen.Flushed s.flushed) (record v { flushed = s.flushed })) t there refl refl refl (plain s h d m t refl refl refl refl) m.below
-swept_kept {t = t} (raises {s = s} i v there live synced) h d m = aside_swept s h d m i v (has_raised s.end v) t there refl refl refl (plain s h d m t refl refl refl refl) m.below
-swept_kept {t = t} (adds_hand {s = s} i v there live) h d m = aside_swept s h d m i v (ticked v) t there refl refl refl (plain s h d m t refl refl refl refl) m.below
-swept_kept {t = t} (loads_hand {s = s} i v there live) h d m = aside_swept s h d m i v (looked (seen.Hand s.hand) v) t there refl refl refl (plain s h d m t refl refl refl refl) m.below
+swept_kept {t = t} (words {s = s} i k v there live a) h d m = aside_swept s h d m i v (worded k s v) t there refl refl refl (plain s h d m t refl refl refl refl) m.below
 
 pub swept_open : (c : Config) (store : Store) (page : Page) → SweptLaw (opening c store page)
 swept_open c store page = let w : View = first_view c.base c.frames c.partitions c.lanes in record {

@@ -27,7 +27,8 @@ use Rattle.history_core.specs.Device.{view_logged}
 use Rattle.history_core.specs.State.{State, Store, next_hand, opening}
 use Rattle.history_core.specs.Invariant.{HistoryInvariant}
 use Rattle.history_core.specs.Trail.{sum_found, sum_left, Follows, IsHighest, TrailLaw, HasSameWords, ListedIsMade}
-use Rattle.history_core.specs.Steps.{Event, stepped, ticked, looked, pool_noting, paged, laned, has_loaded, has_begun, has_read, has_written, Step, pools, lanes, writes, notes, logs, enters, reads, loads_end, begins, loads_flushed, raises, adds_hand, loads_hand, has_raised}
+use Rattle.history_core.specs.Steps.{Event, stepped, looked, pool_noting, paged, laned, has_read, has_written, Step, pools, lanes, writes, notes, logs, enters, reads, words, worded}
+use Rattle.history_core.specs.Words.{flushed_word, hand_word, WordKind, raise_flushed, add_hand, word_at, number_after, word_set}
 use Rattle.grid.specs.Shape.{put, total}
 use Rattle.grid.proofs.Lists.{at_set, at_end, at_only, at_longer, put_at, put_else, set_here, set_else}
 use Rattle.grid.proofs.Sums.{total-set, total-snoc}
@@ -159,12 +160,7 @@ words_kept (notes {s = s} i q f noted k v there live low inside a x) m = let b :
 words_kept (logs {s = s} i k v there live a record_is) m = rests_aside s.pool.core.frame s.pool.core.views m i v (view_logged k v) there refl
 words_kept (enters {s = s} i f p v there live inside x) m = moves s.pool.core.frame s.pool.core.views m i f v (has_written (s.end + record_size) (s.pool.core.frame f).tag p (paged (make_entry p) s.pool f v)) (s.pool.core.frame f) there (lists_none f (s.pool.core.frame f).word v.changes)
 words_kept (reads {s = s} i f tag p v there live inside a) m = rests_aside s.pool.core.frame s.pool.core.views m i v (looked (seen.LogEnd s.end) (has_read s.end tag p v)) there refl
-words_kept (loads_end {s = s} i v there live) m = rests_aside s.pool.core.frame s.pool.core.views m i v (has_loaded s.end v) there refl
-words_kept (begins {s = s} i v there live) m = rests_aside s.pool.core.frame s.pool.core.views m i v (has_begun s.end (looked (seen.LogEnd s.end) v)) there refl
-words_kept (loads_flushed {s = s} i v there live) m = rests_aside s.pool.core.frame s.pool.core.views m i v (looked (seen.Flushed s.flushed) (record v { flushed = s.flushed })) there refl
-words_kept (raises {s = s} i v there live synced) m = rests_aside s.pool.core.frame s.pool.core.views m i v (has_raised s.end v) there refl
-words_kept (adds_hand {s = s} i v there live) m = rests_aside s.pool.core.frame s.pool.core.views m i v (ticked v) there refl
-words_kept (loads_hand {s = s} i v there live) m = rests_aside s.pool.core.frame s.pool.core.views m i v (looked (seen.Hand s.hand) v) there refl
+words_kept (words {s = s} i k v there live a) m = rests_aside s.pool.core.frame s.pool.core.views m i v (worded k s v) there refl
 
 -- the moves that the views count
 abbrev pub Ticks : List View → ℕ
@@ -186,6 +182,11 @@ pools_ticks s (pin_steps.splits v there room) = let w : View = record v { next =
 pools_ticks s (pin_steps.joins j v u there other here live free) = let w : View = joined_view v u in let vs : List View = set s.pool.core.views 0 w in let also = set_else s.pool.core.views 0 j w other ∙ here in
     let a = total-set (λ (y : View). y.ticks) s.pool.core.views 0 v w there in let c = total-set (λ (y : View). y.ticks) vs j u emptied_view also in omega arith
 
+-- a kind at a word
+hand_worded : (k : WordKind) (s : State) (i : ℕ) (v : View) → get_elem? s.pool.core.views i ≡ some v → s.hand ≡ Ticks s.pool.core.views % 18446744073709551616 → word_set (word_at k) (number_after k s) s hand_word ≡ Ticks (set s.pool.core.views i (worded k s v)) % 18446744073709551616
+hand_worded add_hand s i v there m = ap next_hand m ∙ hand_on (Ticks s.pool.core.views) ∙ ap (λ (n : ℕ). n % 18446744073709551616) (let a = total-set (λ (y : View). y.ticks) s.pool.core.views i v (worded add_hand s v) there in omega arith)
+hand_worded k s i v there m = m ∙ ap (λ (n : ℕ). n % 18446744073709551616) (sym (same_ticks s.pool.core.views i v (worded k s v) there refl))
+
 hand_kept : {e : Event} {s t : State} → Step e s t → s.hand ≡ Ticks s.pool.core.views % 18446744073709551616 → t.hand ≡ Ticks t.pool.core.views % 18446744073709551616
 hand_kept (pools {s = s} (page_steps.cores x) a) m = m ∙ ap (λ (n : ℕ). n % 18446744073709551616) (sym (pools_ticks s x))
 hand_kept (pools {s = s} (page_steps.touches i f k v there live inside a around) plain) m = m ∙ ap (λ (n : ℕ). n % 18446744073709551616) (sym (same_ticks s.pool.core.views i v (paged k s.pool f v) there refl))
@@ -195,12 +196,7 @@ hand_kept (notes {s = s} i q f noted k v there live low inside a x) m = m ∙ ap
 hand_kept (logs {s = s} i k v there live a record_is) m = m ∙ ap (λ (n : ℕ). n % 18446744073709551616) (sym (same_ticks s.pool.core.views i v (view_logged k v) there refl))
 hand_kept (enters {s = s} i f p v there live inside x) m = m ∙ ap (λ (n : ℕ). n % 18446744073709551616) (sym (same_ticks s.pool.core.views i v (has_written (s.end + record_size) (s.pool.core.frame f).tag p (paged (make_entry p) s.pool f v)) there refl))
 hand_kept (reads {s = s} i f tag p v there live inside a) m = m ∙ ap (λ (n : ℕ). n % 18446744073709551616) (sym (same_ticks s.pool.core.views i v (looked (seen.LogEnd s.end) (has_read s.end tag p v)) there refl))
-hand_kept (loads_end {s = s} i v there live) m = m ∙ ap (λ (n : ℕ). n % 18446744073709551616) (sym (same_ticks s.pool.core.views i v (has_loaded s.end v) there refl))
-hand_kept (begins {s = s} i v there live) m = m ∙ ap (λ (n : ℕ). n % 18446744073709551616) (sym (same_ticks s.pool.core.views i v (has_begun s.end (looked (seen.LogEnd s.end) v)) there refl))
-hand_kept (loads_flushed {s = s} i v there live) m = m ∙ ap (λ (n : ℕ). n % 18446744073709551616) (sym (same_ticks s.pool.core.views i v (looked (seen.Flushed s.flushed) (record v { flushed = s.flushed })) there refl))
-hand_kept (raises {s = s} i v there live synced) m = m ∙ ap (λ (n : ℕ). n % 18446744073709551616) (sym (same_ticks s.pool.core.views i v (has_raised s.end v) there refl))
-hand_kept (loads_hand {s = s} i v there live) m = m ∙ ap (λ (n : ℕ). n % 18446744073709551616) (sym (same_ticks s.pool.core.views i v (looked (seen.Hand s.hand) v) there refl))
-hand_kept (adds_hand {s = s} i v there live) m = ap next_hand m ∙ hand_on (Ticks s.pool.core.views) ∙ ap (λ (n : ℕ). n % 18446744073709551616) (let a = total-set (λ (y : View). y.ticks) s.pool.core.views i v (ticked v) there in omega arith)
+hand_kept (words {s = s} i k v there live a) m = hand_worded k s i v there m
 
 -- where one view raises the flushed position, or not
 pub highest_set : (flushed : ℕ) (views : List View) → IsHighest flushed views → (i : ℕ) (v w : View) → get_elem? views i ≡ some v → v.raised_to ≤ w.raised_to → IsHighest (max flushed w.raised_to) (set views i w)
@@ -242,6 +238,11 @@ pools_highest s from m (pin_steps.joins j v u there other here live free) = let 
     let x : IsHighest s.flushed vs = subst (λ (n : ℕ). IsHighest n vs) (let p = m.above 0 v there in let q = m.above j u here in omega arith) (highest_set s.flushed s.pool.core.views m 0 v w there (omega arith)) in
     highest_taken s.flushed vs x 0 j w u (λ e. other (sym e)) (set_here s.pool.core.views 0 v w there) (set_else s.pool.core.views 0 j w other ∙ here) (omega arith)
 
+-- a kind at a word
+highest_worded : (k : WordKind) (s : State) (i : ℕ) (v : View) → get_elem? s.pool.core.views i ≡ some v → IsHighest s.flushed s.pool.core.views → IsHighest (word_set (word_at k) (number_after k s) s flushed_word) (set s.pool.core.views i (worded k s v))
+highest_worded raise_flushed s i v there m = let w : View = worded raise_flushed s v in subst (λ (n : ℕ). IsHighest n (set s.pool.core.views i w)) (let x = m.above i v there in omega arith) (highest_set s.flushed s.pool.core.views m i v w there (omega arith))
+highest_worded k s i v there m = highest_same s.flushed s.pool.core.views m i v (worded k s v) there refl
+
 highest_kept : {e : Event} {s t : State} → Step e s t → HistoryInvariant s → IsHighest s.flushed s.pool.core.views → IsHighest t.flushed t.pool.core.views
 highest_kept (pools {s = s} (page_steps.cores x) a) h m = pools_highest s (let p = h.based in let q = h.flushed_from in omega arith) m x
 highest_kept (pools {s = s} (page_steps.touches i f k v there live inside a around) plain) h m = highest_same s.flushed s.pool.core.views m i v (paged k s.pool f v) there refl
@@ -251,12 +252,7 @@ highest_kept (notes {s = s} i q f noted k v there live low inside a x) h m = hig
 highest_kept (logs {s = s} i k v there live a record_is) h m = highest_same s.flushed s.pool.core.views m i v (view_logged k v) there refl
 highest_kept (enters {s = s} i f p v there live inside x) h m = highest_same s.flushed s.pool.core.views m i v (has_written (s.end + record_size) (s.pool.core.frame f).tag p (paged (make_entry p) s.pool f v)) there refl
 highest_kept (reads {s = s} i f tag p v there live inside a) h m = highest_same s.flushed s.pool.core.views m i v (looked (seen.LogEnd s.end) (has_read s.end tag p v)) there refl
-highest_kept (loads_end {s = s} i v there live) h m = highest_same s.flushed s.pool.core.views m i v (has_loaded s.end v) there refl
-highest_kept (begins {s = s} i v there live) h m = highest_same s.flushed s.pool.core.views m i v (has_begun s.end (looked (seen.LogEnd s.end) v)) there refl
-highest_kept (loads_flushed {s = s} i v there live) h m = highest_same s.flushed s.pool.core.views m i v (looked (seen.Flushed s.flushed) (record v { flushed = s.flushed })) there refl
-highest_kept (raises {s = s} i v there live synced) h m = let w : View = has_raised s.end v in subst (λ (n : ℕ). IsHighest n (set s.pool.core.views i w)) (let x = m.above i v there in omega arith) (highest_set s.flushed s.pool.core.views m i v w there (omega arith))
-highest_kept (adds_hand {s = s} i v there live) h m = highest_same s.flushed s.pool.core.views m i v (ticked v) there refl
-highest_kept (loads_hand {s = s} i v there live) h m = highest_same s.flushed s.pool.core.views m i v (looked (seen.Hand s.hand) v) there refl
+highest_kept (words {s = s} i k v there live a) h m = highest_worded k s i v there m
 
 pub trail_kept : {e : Event} {s t : State} → Step e s t → HistoryInvariant s → TrailLaw s → TrailLaw t
 trail_kept x h m = record { words = words_kept x m.words; hand = hand_kept x m.hand; flushed = highest_kept x h m.flushed }

@@ -15,7 +15,8 @@ use Rattle.history_core.specs.Lanes.{take_lane, leave_lane, lane_out, sync_lane,
 use Rattle.history_core.specs.Swept.{has_swept}
 use Rattle.history_core.specs.Debts.{has_visited, has_left_to_write}
 use Rattle.history_core.specs.Steps as steps
-use Rattle.history_core.specs.Steps.{Event, lane, load_flushed, begin_checkpoint, Run}
+use Rattle.history_core.specs.Steps.{Event, lane, word, Run}
+use Rattle.history_core.specs.Words.{load_flushed, begin_checkpoint}
 use Rattle.history_core.specs.Sample.{sample_lane}
 use Rattle.history_core.specs.Miss.{miss_start, miss, fill}
 use Rattle.history_core.specs.Put.{IsPut, change, flush, write_out}
@@ -23,11 +24,11 @@ use Rattle.history_core.specs.Evictions.{second_pool, second_page}
 
 -- the checkpoint of a second backend begins, and the dirty frame is flagged and left to write
 abbrev pub begin : List Event
-begin = steps.pool (page_steps.pins_and_maps pin_steps.split) ∷ begin_checkpoint 1 ∷ second_pool pins.lock_header ∷ second_page need_checkpoint ∷ []
+begin = steps.pool (page_steps.pins_and_maps pin_steps.split) ∷ word 1 begin_checkpoint ∷ second_pool pins.lock_header ∷ second_page need_checkpoint ∷ []
 
 -- under a pin of the frame the page is written
 abbrev pub write : Page → List Event
-write p = second_pool (pins.pin false) ∷ second_pool pins.load_state ∷ load_flushed 1 ∷ write_out 1 p
+write p = second_pool (pins.pin false) ∷ second_pool pins.load_state ∷ word 1 load_flushed ∷ write_out 1 p
 
 -- the pin goes; a load of the state word sees that the flag is gone, and nothing is left to write
 abbrev pub drop : List Event

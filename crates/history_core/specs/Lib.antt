@@ -1,5 +1,6 @@
 pub mod Log
 pub mod State
+pub mod Words
 pub mod Lanes
 pub mod Device
 pub mod Steps

@@ -15,7 +15,8 @@ use Rattle.history_core.specs.Log.{Entry, record_size, head_bytes, record_bytes,
 use Rattle.history_core.specs.State.{State, stored}
 use Rattle.history_core.specs.Lanes.{take_lane, leave_lane, lane_out, write_block, lane_back}
 use Rattle.history_core.specs.Device.{take_log, leave_log, log_out, append, sync_log, log_back}
-use Rattle.history_core.specs.Steps.{Event, lane, write, note, log, enter, raise_flushed, load_flushed, Run}
+use Rattle.history_core.specs.Steps.{Event, lane, write, note, log, enter, word, Run}
+use Rattle.history_core.specs.Words.{load_flushed, raise_flushed}
 use Rattle.history_core.specs.Sample.{sample_store, sample_lane, sample_log}
 use Rattle.history_core.specs.Miss.{miss_start, pool_by, page_by, page, miss, fill}
 
@@ -47,7 +48,7 @@ change p = page exclude ∷ page mark_dirty ∷ log 0 take_log ∷ log 0 (log_ou
 
 -- the log is made durable, and the flushed position raised and loaded
 abbrev pub flush : Page → List Event
-flush p = log 0 take_log ∷ log 0 (log_out (log_with p)) ∷ log 0 sync_log ∷ log 0 (log_back false) ∷ raise_flushed 0 ∷ log 0 leave_log ∷ load_flushed 0 ∷ []
+flush p = log 0 take_log ∷ log 0 (log_out (log_with p)) ∷ log 0 sync_log ∷ log 0 (log_back false) ∷ word 0 raise_flushed ∷ log 0 leave_log ∷ word 0 load_flushed ∷ []
 
 -- under the shared lock and the output right backend i writes the page to the block's lane
 abbrev pub write_out : ℕ → Page → List Event

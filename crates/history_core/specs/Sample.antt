@@ -7,7 +7,8 @@ use Rattle.history_core.specs.Log.{head_bytes}
 use Rattle.history_core.specs.State.{CanStore, State, Store, opening}
 use Rattle.history_core.specs.Lanes.{take_lane, leave_lane, lane_out, read_block, lane_back}
 use Rattle.history_core.specs.Device.{take_log, leave_log, log_out, sync_log, log_back}
-use Rattle.history_core.specs.Steps.{Event, lane, log, load_end, load_flushed, raise_flushed, Run}
+use Rattle.history_core.specs.Steps.{Event, lane, log, word, Run}
+use Rattle.history_core.specs.Words.{load_end, load_flushed, raise_flushed}
 
 -- one frame, one partition, one lane, and room for two backends
 abbrev pub sample_config : Config
@@ -44,7 +45,7 @@ read_lane = lane 0 0 take_lane ∷ lane 0 0 (lane_out sample_lane) ∷ lane 0 0 
 
 -- the log is made durable, and the flushed position raised
 abbrev pub flush_log : List Event
-flush_log = log 0 take_log ∷ log 0 (log_out sample_log) ∷ log 0 sync_log ∷ log 0 (log_back false) ∷ raise_flushed 0 ∷ log 0 leave_log ∷ load_flushed 0 ∷ load_end 0 ∷ []
+flush_log = log 0 take_log ∷ log 0 (log_out sample_log) ∷ log 0 sync_log ∷ log 0 (log_back false) ∷ word 0 raise_flushed ∷ log 0 leave_log ∷ word 0 load_flushed ∷ word 0 load_end ∷ []
 
 -- both latches are free then, and the log's head is durable
 pub record HeadFlushed (t : State) : Type 0 where

@@ -9,6 +9,7 @@ use Rattle.pin_core.specs.declared.view.LaneChange.{LaneChange}
 use Rattle.pin_core.specs.declared.view.LaneChange.TheVariants as lane_change
 use Rattle.pin_core.specs.declared.view.LaneHold.{LaneHold}
 use Rattle.pin_core.specs.declared.view.LogHold.{LogHold}
+use Rattle.pin_core.specs.declared.view.Load.{Load}
 use Rattle.pin_core.specs.declared.view.LoadedWord.{LoadedWord}
 use Rattle.pin_core.specs.declared.view.LoadedWord.TheVariants as seen
 use Rattle.pin_core.specs.declared.view.Link.{Link}
@@ -23,7 +24,8 @@ use Rattle.page_core.specs.Kinds.{Kind, note_read, begin_write, note_write, make
 use Rattle.page_core.specs.Steps as page_steps
 use Rattle.page_core.specs.Steps.{logged_after}
 use Rattle.history_core.specs.Log.{Entry, record_size, record_bytes}
-use Rattle.history_core.specs.State.{State, last_position, next_hand}
+use Rattle.history_core.specs.State.{State, last_position}
+use Rattle.history_core.specs.Words.{Word, flushed_word, hand_word, word_of, WordKind, load_end, begin_checkpoint, load_flushed, raise_flushed, load_hand, add_hand, word_at, WordAllowed, number_after, word_set}
 use Rattle.history_core.specs.Lanes.{LaneKind, read_block, fail_read, write_block, fail_write, lane_back, LaneAllowed, lane_after, lane_changed, swept_by}
 use Rattle.history_core.specs.Device.{LogKind, append, fail_append, LogAllowed, device_after, view_logged}
 use Rattle.grid.specs.Shape.{put}
@@ -41,16 +43,8 @@ pub data Event : Type 0 where
   enter : ℕ → ℕ → Page → Event
   -- the log's end is loaded as the place of a read of the page that was copied from a frame
   read : ℕ → ℕ → Event
-  -- the log's end is loaded, and the flushed position
-  load_end : ℕ → Event
-  -- a checkpoint begins at the log's end (`CreateCheckPoint`)
-  begin_checkpoint : ℕ → Event
-  load_flushed : ℕ → Event
-  -- the flushed position is raised to the log's end
-  raise_flushed : ℕ → Event
-  -- the clock's hand moves on, or is loaded (`ClockSweepTick`)
-  add_hand : ℕ → Event
-  load_hand : ℕ → Event
+  -- a step at one of the table's other words
+  word : ℕ → WordKind → Event
 
 -- the kinds of `page_core` that stand there for what a lane gives and takes, and for a new entry, are part of a step of this crate's own
 abbrev pub IsPlain : Kind → Type 0
@@ -68,10 +62,6 @@ PoolAllowed (page_steps.at i f k) = IsPlain k
 -- a view after one more step that isn't a load
 abbrev pub stepped : View → View
 stepped v = record v { steps = v.steps + 1 }
-
--- and after it moved the clock's hand on
-abbrev pub ticked : View → View
-ticked v = record v { steps = v.steps + 1; ticks = v.ticks + 1 }
 
 -- a view after a load
 abbrev pub looked : LoadedWord → View → View
@@ -203,9 +193,6 @@ pub record CanRead (tag : ℕ) (p : Page) (l : Link) : Type 0 where
 abbrev pub end_loaded : ℕ → LogHold → LogHold
 end_loaded end h = record h { end = if h.held then Some end else h.end }
 
-abbrev pub has_loaded : ℕ → View → View
-has_loaded end v = looked (seen.LogEnd end) (record v { log = end_loaded end v.log; end_seen = max v.end_seen end })
-
 -- a view that has written the page p of the block of a tag; its record is part of the log now
 abbrev pub has_written : ℕ → ℕ → Page → View → View
 has_written end tag p v = record v { calls = v.calls ++ Write v.number tag p end ∷ []; front = end; end_seen = max v.end_seen end; log = record v.log { appended = None; end = Some end } }
@@ -214,17 +201,87 @@ has_written end tag p v = record v { calls = v.calls ++ Write v.number tag p end
 abbrev pub unmarked : Link → Link
 unmarked l = record l { visited = false; left_to_write = false }
 
--- a view whose checkpoint begins where the log ends at `end`
-abbrev pub has_begun : ℕ → View → View
-has_begun end v = record v { links = map unmarked v.links; upto = end; end_seen = max v.end_seen end }
-
 -- a view that has read it
 abbrev pub has_read : ℕ → ℕ → Page → View → View
 has_read end tag p v = record v { calls = v.calls ++ Read v.number tag p end ∷ []; front = end; end_seen = max v.end_seen end; place_loads = v.place_loads + 1 }
 
--- a view that has raised the flushed position to the log's end
+-- what a load at a word sees, where it finds the number there; the other kinds are steps
+abbrev pub seen_by : WordKind → ℕ → Option LoadedWord
+seen_by load_end found = Some (seen.LogEnd found)
+seen_by begin_checkpoint found = Some (seen.LogEnd found)
+seen_by load_flushed found = Some (seen.Flushed found)
+seen_by load_hand found = Some (seen.Hand found)
+seen_by _ found = None
+
+abbrev pub loads_with : Option LoadedWord → View → List Load
+loads_with (Some seen) v = v.loads ++ load_of v seen ∷ []
+loads_with None v = v.loads
+
+abbrev pub steps_with : Option LoadedWord → ℕ → ℕ
+steps_with (Some seen) n = n
+steps_with None n = n + 1
+
+-- What a kind makes of the other parts of a view
+abbrev pub links_by : WordKind → List Link → List Link
+links_by begin_checkpoint l = map unmarked l
+links_by _ l = l
+
+abbrev pub upto_by : WordKind → ℕ → ℕ → ℕ
+upto_by begin_checkpoint found n = found
+upto_by _ found n = n
+
+abbrev pub log_end_by : WordKind → ℕ → LogHold → Option ℕ
+log_end_by load_end found h = if h.held then Some found else h.end
+log_end_by _ found h = h.end
+
+abbrev pub end_seen_by : WordKind → ℕ → ℕ → ℕ
+end_seen_by load_end found n = max n found
+end_seen_by begin_checkpoint found n = max n found
+end_seen_by _ found n = n
+
+abbrev pub flushed_by : WordKind → ℕ → ℕ → ℕ
+flushed_by load_flushed found n = found
+flushed_by _ found n = n
+
+-- it raises the flushed position to the log's end
+abbrev pub raised_by : WordKind → ℕ → ℕ → ℕ
+raised_by raise_flushed end n = max n end
+raised_by _ end n = n
+
+abbrev pub ticks_by : WordKind → ℕ → ℕ
+ticks_by add_hand n = n + 1
+ticks_by _ n = n
+
+-- What a kind makes of the view, where the log ends at `end`
+abbrev pub view_worded : WordKind → ℕ → ℕ → View → View
+view_worded k found end v = record v {
+  links = links_by k v.links;
+  log = record v.log { end = log_end_by k found v.log };
+  flushed = flushed_by k found v.flushed;
+  raised_to = raised_by k end v.raised_to;
+  end_seen = end_seen_by k found v.end_seen;
+  steps = steps_with (seen_by k found) v.steps;
+  ticks = ticks_by k v.ticks;
+  loads = loads_with (seen_by k found) v;
+  upto = upto_by k found v.upto;
+}
+
+abbrev pub worded : WordKind → State → View → View
+worded k s v = view_worded k (word_of (word_at k) s) s.end v
+
+-- a view that has loaded the log's end, and one that has raised the flushed position to it
+abbrev pub has_loaded : ℕ → View → View
+has_loaded end v = view_worded load_end end end v
+
 abbrev pub has_raised : ℕ → View → View
-has_raised end v = record v { steps = v.steps + 1; raised_to = max v.raised_to end }
+has_raised end v = view_worded raise_flushed end end v
+
+-- The state where backend i came to the view w, and one of these words to the number, and nothing else changed
+abbrev pub state_set : Word → ℕ → State → ℕ → View → State
+state_set at number s i w = record s { pool = aside s.pool i w; flushed = word_set at number s flushed_word; hand = word_set at number s hand_word }
+
+abbrev pub state_worded : WordKind → State → ℕ → View → State
+state_worded k s i v = state_set (word_at k) (number_after k s) s i (worded k s v)
 
 pub data Step : Event → State → State → Type 0 where
   -- a step of `page_core`
@@ -250,14 +307,8 @@ pub data Step : Event → State → State → Type 0 where
   -- backend i gives the read of the page p its place
   reads : {s : State} (i f tag : ℕ) (p : Page) (v : View) → get_elem? s.pool.core.views i ≡ some v → v.emptied ≡ false → f < s.pool.core.frames → CanRead tag p (link v f)
       → Step (read i f) s (record s { pool = aside s.pool i (looked (seen.LogEnd s.end) (has_read s.end tag p v)) })
-  loads_end : {s : State} (i : ℕ) (v : View) → get_elem? s.pool.core.views i ≡ some v → v.emptied ≡ false → Step (load_end i) s (record s { pool = aside s.pool i (has_loaded s.end v) })
-  -- the checkpoint of backend i begins
-  begins : {s : State} (i : ℕ) (v : View) → get_elem? s.pool.core.views i ≡ some v → v.emptied ≡ false → Step (begin_checkpoint i) s (record s { pool = aside s.pool i (has_begun s.end (looked (seen.LogEnd s.end) v)) })
-  loads_flushed : {s : State} (i : ℕ) (v : View) → get_elem? s.pool.core.views i ≡ some v → v.emptied ≡ false → Step (load_flushed i) s (record s { pool = aside s.pool i (looked (seen.Flushed s.flushed) (record v { flushed = s.flushed })) })
-  -- under the log's latch, after a sync
-  raises : {s : State} (i : ℕ) (v : View) → get_elem? s.pool.core.views i ≡ some v → v.emptied ≡ false → v.log.synced ≡ true → Step (raise_flushed i) s (record s { pool = aside s.pool i (has_raised s.end v); flushed = max s.flushed s.end })
-  adds_hand : {s : State} (i : ℕ) (v : View) → get_elem? s.pool.core.views i ≡ some v → v.emptied ≡ false → Step (add_hand i) s (record s { pool = aside s.pool i (ticked v); hand = next_hand s.hand })
-  loads_hand : {s : State} (i : ℕ) (v : View) → get_elem? s.pool.core.views i ≡ some v → v.emptied ≡ false → Step (load_hand i) s (record s { pool = aside s.pool i (looked (seen.Hand s.hand) v) })
+  -- a step at one of the other words by backend i, whose view is v
+  words : {s : State} (i : ℕ) (k : WordKind) (v : View) → get_elem? s.pool.core.views i ≡ some v → v.emptied ≡ false → WordAllowed k s v → Step (word i k) s (state_worded k s i v)
 
 -- the events lead from one state to the other
 pub data Run : List Event → State → State → Type 0 where

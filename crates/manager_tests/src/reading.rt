@@ -90,6 +90,26 @@ pub fn copy_once<L: BlockLane, G: LogDevice, R: Wait>(
     Ok(place)
 }
 
+/// The same under a content lock that the pass shares.
+pub fn copy_shared<L: BlockLane, G: LogDevice, R: Wait>(
+    manager: &Manager<L, G>,
+    rt: &R,
+    pass: &mut Pass,
+    _number: u32,
+    tag: Tag,
+    page: &mut Page,
+) -> Result<Lsn, ReadError>
+    requires { IsFree L.contents manager.now _number pass.old }
+    ensures { IsFree L.contents manager.now _number pass.new }
+{
+    let pinned = pin(manager, rt, pass, _number, tag, &mut None)?;
+    let shared = pass.share(manager, rt, pinned);
+    let place = pass.read_shared(manager, rt, &shared, page);
+    let pinned = pass.unshare(manager, shared);
+    unpin(manager, rt, pass, _number, pinned);
+    Ok(place)
+}
+
 /// Copies the page of each block up to `blocks`, and counts those that aren't the block's. None where there was no memory, or a read was refused.
 pub fn copy_all<L: BlockLane, G: LogDevice, R: Wait>(
     manager: &Manager<L, G>,

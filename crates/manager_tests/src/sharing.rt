@@ -10,6 +10,7 @@ use page_layout::Page;
 use std::alloc::Global;
 use std::sync::Wait;
 use std::thread::{Threads, join_mut};
+use table_rule::RECORD_SIZE;
 use test_devices::{FRONT, TestLane, TestLog};
 
 type TestManager = Manager<TestLane, TestLog>;
@@ -40,9 +41,6 @@ pub fn copy_all_twice<R: Threads + Wait + Sync>(
         { copy_all(manager, rt, second, 1, blocks, alloc) },
     )
 }
-
-/// How many bytes a record of the log has.
-const RECORD_SIZE: u64 = 8224;
 
 /// A page each of whose bytes after its line pointer is this number.
 fn numbered(number: u8) -> [u8; 8192] {

@@ -7,7 +7,7 @@ use crate::cleaning::{
 use crate::crowding::{Crowded, hold_first};
 use crate::locking::{Refusals, try_beside_exclusive, try_beside_shared};
 use crate::putting::{flush_once, put_once};
-use crate::reading::{Access, copy_once, read_once};
+use crate::reading::{Access, copy_once, copy_shared, read_once};
 use crate::sharing::{Copied, copy_all_twice, copy_beside};
 use crate::waiting::wait_at_both;
 use access_rings::{Ring, RingKind};
@@ -373,7 +373,7 @@ fn a_read_sees_what_another_put(rt: HostRuntime) -> Result<(), Fail> {
     )?;
     let earlier = copy_once(&manager, &rt, &mut first, 0, block(0), &mut before);
     let put = put_once(&manager, &rt, &mut second, 1, block(0), &page, &mut None);
-    let later = copy_once(&manager, &rt, &mut first, 0, block(0), &mut after);
+    let later = copy_shared(&manager, &rt, &mut first, 0, block(0), &mut after);
     let (lanes, _log) = Bench {
         manager,
         first,

@@ -83,7 +83,7 @@ applied_or_not b fr l h = grind (arith, h)
 both_out : (l m : Link) (n : ℕ) → n ≤ 1 → weigh outs l + weigh outs m ≤ n → l.out ≢ None → m.out ≢ None → ⊥
 both_out l m n few le o a = grind (arith, few, le, o, a)
 
-one_share : (c : Content) → share_weight c ≤ 1
+pub one_share : (c : Content) → share_weight c ≤ 1
 one_share Unlocked = omega arith
 one_share Shared = omega arith
 one_share Exclusive = omega arith

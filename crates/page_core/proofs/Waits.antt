@@ -1,5 +1,5 @@
 -- Where views wait, as a step changes the list of views.
-use Rattle.std.proofs.Common.{◌≡◌, ◌≢◌, ℕ, suc, ◌<◌, List, [], ◌∷◌, ◌++◌, set, Option, Some, None, ne_eqb, sym, refl, ap, ◌∙◌, subst, ⊎_elim, arith}
+use Rattle.std.proofs.Common.{◌≡◌, ◌≢◌, ℕ, ◌<◌, List, [], ◌∷◌, ◌++◌, set, Option, Some, None, ne_eqb, sym, refl, ap, ◌∙◌, subst, ⊎_elim, arith}
 use Rattle.std.proofs.lemmas.Option.{same_Some}
 use mathlib.Core.Logic.{dite}
 use mathlib.Core.Option.{some}
@@ -12,8 +12,9 @@ use Rattle.pin_core.specs.Tallies.{flag_weight}
 use Rattle.pin_core.proofs.Views.{link_new}
 use Rattle.page_core.specs.Tallies.{waits_as, wait_weight, weigh, page_shape}
 use Rattle.page_core.specs.Invariant.{WaitsOnce, WaitsLaw}
-use Rattle.grid.specs.Shape.{total, tallies}
+use Rattle.grid.specs.Shape.{tallies}
 use Rattle.grid.proofs.Lists.{at_set, at_end}
+use Rattle.grid.proofs.Sums.{some_term}
 
 -- The view w has the number of v, and waits nowhere but where v does
 pub record WaitsLess (v w : View) : Type 0 where
@@ -79,12 +80,6 @@ module _ (views : List View) (h : WaitsLaw views) where
   -- a view is emptied
   pub waits_emptied : (j : ℕ) → WaitsLaw (set views j emptied_view)
   waits_emptied j = waits_put j emptied_view (waits_nowhere emptied_view (λ f. ap (λ (x : Link). x.waits) (link_new 0 0 0 0 0 f)))
-
--- a sum that isn't 0 has a term that isn't 0
-pub some_term : {A : Type 0} (g : A → ℕ) (l : List A) → 0 < total g l → (j : ℕ) × (a : A) × (get_elem? l j ≡ some a) × (0 < g a)
-unfolding total
-some_term g [] e = absurd (omega arith)
-some_term g (x ∷ xs) e = dite (ℕ_discrete (g x) 0) (λ z. let r = some_term g xs (omega arith) in (suc r.0, r.1, r.2, r.3)) (λ n. (0, x, refl, omega arith))
 
 waits_by : (number : ℕ) (o : Option ℕ) → 0 < wait_weight number o → o ≡ Some number
 waits_by number None e = absurd (omega arith)

@@ -1,5 +1,5 @@
 -- Backends that only read, once their job is over.
-use Rattle.std.proofs.Common.{◌≡◌, ℕ, zero, suc, ◌+◌, ◌-◌, ◌<◌, ◌≤◌, ◌⊎◌, nat_eq, false, List, [], ◌∷◌, ◌++◌, length, Option, Some, refl, sym, ap, ◌∙◌, subst, inl, inr, ⊎_elim, arith}
+use Rattle.std.proofs.Common.{◌≡◌, ℕ, zero, suc, ◌+◌, ◌-◌, ◌<◌, ◌≤◌, ◌⊎◌, nat_eq, false, List, [], ◌∷◌, length, Option, Some, refl, sym, ap, ◌∙◌, subst, inl, inr, ⊎_elim, arith}
 use mathlib.Core.Logic.{dite}
 use mathlib.Core.Option.{some, some-injective, some-ne-none}
 use native.Mathlib.Decide.{dec_le}
@@ -8,7 +8,6 @@ use Rattle.grid.specs.Shape.{total}
 use Rattle.block_tag.specs.declared.tag.Fork.{Fork}
 use Rattle.block_tag.specs.declared.tag.Tag.{Tag}
 use Rattle.segment_store.specs.Contents.{Pages}
-use Rattle.pin_core.specs.declared.view.Call.{Call}
 use Rattle.pin_core.specs.declared.view.FailedCalls.{FailedCalls}
 use Rattle.pin_core.specs.declared.view.View.{View}
 use Rattle.history_core.specs.Log.{IsFront, writes_in}
@@ -24,6 +23,7 @@ use Rattle.backend_pass.specs.Passes.{PassState, SamePass}
 use Rattle.backend_pass.specs.Closing.{EachPass, HasNoMark, PutNothing, met_by_passes}
 use Rattle.backend_pass.specs.Reading.{met_read_refused}
 use Rattle.backend_pass.proofs.Joining.{first_here, fronted_each, spent_each}
+use Rattle.backend_pass.proofs.Ended.{writes-both}
 use Rattle.page_jobs.specs.declared.ending.JobError.TheVariants.{OutFault, ReadFault}
 use Rattle.page_jobs.specs.Printed.{BlockRead, copied, unsound}
 use Rattle.page_jobs.specs.Parts.{MeetsFault}
@@ -37,11 +37,6 @@ pub at_base_each : (base : ℕ) (ps : List PassState) → ((i : ℕ) (p : PassSt
 at_base_each base [] each = tt
 at_base_each base (p ∷ ps) each = (each 0 p refl, at_base_each base ps (λ i. each (suc i)))
 
-writes_both : (xs ys : List Call) → writes_in (xs ++ ys) ≡ writes_in xs + writes_in ys
-unfolding total
-writes_both [] ys = omega arith
-writes_both (x ∷ xs) ys = omega (arith, writes_both xs ys)
-
 -- reads put nothing
 reads_put_nothing : (backend : ℕ) (fork : Fork) (block : ℕ) (rs : List BlockRead) → writes_in (calls_of_reads backend 0 fork block rs) ≡ 0
 unfolding total
@@ -49,9 +44,9 @@ reads_put_nothing backend fork block [] = refl
 reads_put_nothing backend fork block (copied page place ∷ rs) = omega (arith, reads_put_nothing backend fork (block + 1) rs)
 reads_put_nothing backend fork block (unsound ∷ rs) = reads_put_nothing backend fork (block + 1) rs
 
-none_put : writes_in [] ≡ 0
+pub puts_nothing : writes_in [] ≡ 0
 unfolding total
-none_put = refl
+puts_nothing = refl
 
 -- a fault of reading that one pass met is met by all in all
 met_by_one : (ps : List PassState) (i : ℕ) (p : PassState) → get_elem? ps i ≡ some p → 0 < p.view.met.reads → 0 < (met_by_passes ps).reads
@@ -177,7 +172,7 @@ module _ {L G : Type 0} (contents : L → Option Pages) (m : Manager L G) (fork 
 
   -- new passes have put nothing
   pub new_put_nothing : (n : ℕ) (ps : List PassState) → AreNewPasses contents m n ps → EachPass PutNothing ps
-  new_put_nothing n ps new i p at = ap (λ (v : View). writes_in v.calls) (new.each i p at).view ∙ none_put
+  new_put_nothing n ps new i p at = ap (λ (v : View). writes_in v.calls) (new.each i p at).view ∙ puts_nothing
 
   -- The pass number i of n, which has done nothing but reads
   record HasOnlyRead (n i : ℕ) (q : PassState) : Type 0 where
@@ -227,7 +222,7 @@ module _ {L G : Type 0} (contents : L → Option Pages) (m : Manager L G) (fork 
     worked i from to p q h r = record {
       given = worked_given n i p q h.given r.stays.same r.stays.belongs.front r.spent;
       mark = r.stays.mark ∙ h.mark;
-      puts = let both = writes_both p.view.calls (calls_of_reads p.view.number 0 fork from r.reads) in
+      puts = let both = writes-both p.view.calls (calls_of_reads p.view.number 0 fork from r.reads) in
           let none = reads_put_nothing p.view.number fork from r.reads in
           let before = h.puts in
           ap writes_in r.calls ∙ omega arith;

@@ -12,7 +12,9 @@ use Rattle.backend_pass.specs.declared.errors.FlushError.TheVariants as flush
 use Rattle.backend_pass.specs.declared.manager.Manager.{Manager}
 use Rattle.backend_pass.specs.FrameFlushes.{RefusesFrame}
 use Rattle.backend_pass.specs.Managers.{Belongs}
-use Rattle.backend_pass.specs.Passes.{KeepsCallers, PassState}
+use Rattle.backend_pass.specs.Passes.{PassState}
+use Rattle.backend_pass.proofs.Keeping.{callers_none}
+use Rattle.grid.proofs.Lists.{at_last}
 use Rattle.page_jobs.specs.declared.ending.JobError.{JobError}
 use Rattle.page_jobs.specs.declared.ending.JobError.TheVariants.{LogDown, Memory, OutFault}
 use Rattle.page_jobs.specs.declared.ending.Totals.{Totals}
@@ -25,25 +27,11 @@ use Rattle.page_jobs.proofs.Deals.{less_one, workers_before}
 use Rattle.page_jobs.proofs.Staying.{same_none}
 use Rattle.page_jobs.proofs.Standing.{inside, there}
 
--- a pass that did nothing
-pub callers_none : (p : PassState) → KeepsCallers p p
-callers_none p = record {
-  keeps = (same_none p).keeps;
-  tokens = refl;
-  locks = λ f. refl;
-  census = refl;
-  calls = record { calls = refl; front = refl; place_loads = refl };
-}
-
-last_at : (ps : List PassState) (p : PassState) → get_elem? (ps ++ p ∷ []) (length ps) ≡ some p
-last_at [] p = refl
-last_at (x ∷ ps) p = last_at ps p
-
 last_of : (all ps : List PassState) (p : PassState) → all ≡ ps ++ p ∷ [] → get_elem? all (length all - 1) ≡ some p
 last_of all ps p e =
     ap (λ (l : List PassState). get_elem? l (length l - 1)) e
     ∙ ap (λ (n : ℕ). get_elem? (ps ++ p ∷ []) n) (less_one ps p)
-    ∙ last_at ps p
+    ∙ at_last ps p
 
 meet_nothing : (p q : PassState) → q.view.met ≡ p.view.met → (ps qs : List PassState) → length qs ≡ length ps → MeetNothing ps qs → MeetNothing (ps ++ p ∷ []) (qs ++ q ∷ [])
 meet_nothing p q same [] [] long met zero x y at there =

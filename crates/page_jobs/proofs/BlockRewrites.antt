@@ -2,6 +2,7 @@
 use Rattle.std.proofs.Common.{◌≡◌, ◌<◌, ◌≤◌, ◌+◌, ℕ, Bool, true, false, List, [], ◌∷◌, ◌++◌, Option, Some, Result, Ok, Err, refl, sym, ap, ◌∙◌, subst, arith, append_assoc, inl, inr}
 use Rattle.std.specs.Prelude.{IfOk}
 use Rattle.std.proofs.lemmas.List.{append-nil}
+use Rattle.std.proofs.lemmas.Result.{IfErr-weaker}
 use mathlib.Core.Logic.{dite}
 use native.Mathlib.Decide.{ℕ_discrete}
 use Rattle.block_tag.specs.declared.tag.Tag.{Tag}
@@ -39,13 +40,13 @@ use Rattle.backend_pass.specs.Managers.{Belongs}
 use Rattle.backend_pass.specs.Passes.{KeepsCalls, KeepsLocks, KeepsMark, PassState, SamePass}
 use Rattle.backend_pass.specs.Reading.{met_read_refused}
 use Rattle.backend_pass.proofs.Seated.{same_on}
+use Rattle.backend_pass.proofs.Keeping.{calls_on}
 use Rattle.page_jobs.specs.declared.ending.JobError.{JobError}
 use Rattle.page_jobs.specs.Parts.{blocks_in}
 use Rattle.page_jobs.specs.Reads.{FindsUnsound, PinsOne, RefusesBlock, Stays, fault_of_refusal}
 use Rattle.page_jobs.specs.Rewrites.{IfRead, IsEnded, Outcome, unsound, kept, refused, changed, outcome_block, outcome_calls, calls_for, rule_of, result_of}
 use Rattle.page_jobs.specs.Rewriting.{FollowsRule, GoesOn, HoldsUntil, KeepsOtherLocks, LastReads, LocksOne, PutFails, RewritesBlock, RewritesBlocks, RewritesHeld, RewritesLocked, UnderCleanup, fault_of_put}
-use Rattle.page_jobs.proofs.BlockWork.{on_err}
-use Rattle.page_jobs.proofs.Staying.{calls_on, stays_on}
+use Rattle.page_jobs.proofs.Staying.{stays_on}
 
 pub told_new : (page : Page) → is_sound_page page ≡ true → is_new_page page ≡ true → page_rewrite_of page ≡ New
 unfolding page_rewrite_of
@@ -264,7 +265,7 @@ module _ {L G : Type 0} (contents : L → Option Pages) (m : Manager L G) where
       follows = x.page.follows;
       mark = λ unput. mark ∙ x.page.mark unput;
       done = on_ok_value (λ what. (what ≡ result_of x.page.outcome) × IsEnded x.page.outcome × (q.view.met ≡ p.view.met)) (λ what. (what ≡ result_of x.page.outcome) × IsEnded x.page.outcome × (r.view.met ≡ p.view.met)) answer (λ what d. (d.0, d.1, k.met ∙ d.2)) x.page.done;
-      cause = on_err (PutFails contents m tag p q) (PutFails contents m tag p r) answer (λ why f. fails_later tag p q r why k down f) x.page.cause;
+      cause = IfErr-weaker answer (PutFails contents m tag p q) (PutFails contents m tag p r) (λ why f. fails_later tag p q r why k down f) x.page.cause;
     };
   }
 

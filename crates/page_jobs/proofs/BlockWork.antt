@@ -1,12 +1,13 @@
 -- A worker's part, block by block.
 use Rattle.std.proofs.Common.{◌≡◌, ◌+◌, ◌<◌, ◌≤◌, ℕ, suc, List, [], ◌∷◌, ◌++◌, length, Option, Result, Ok, Err, refl, sym, ap, ◌∙◌, subst, arith, append_assoc, add-zero, inl, inr}
-use Rattle.std.specs.Prelude.{OnOk, IfErr}
 use Rattle.std.proofs.lemmas.List.{append-nil, length-append}
+use Rattle.std.proofs.lemmas.Result.{IfErr-weaker, on_ok_weaker}
 use Rattle.block_tag.specs.declared.tag.Fork.{Fork}
 use Rattle.block_tag.specs.Names.{tag_of_parts}
 use Rattle.page_layout.specs.declared.scan.ScanTotals.{ScanTotals}
 use Rattle.page_layout.specs.declared.summary.PageSummary.{PageSummary}
 use Rattle.page_layout.specs.Scan.{IsWithin, counted, sum_of_totals, totals_of_summaries}
+use Rattle.page_layout.proofs.Sums.{counted-is}
 use Rattle.segment_store.specs.Contents.{Pages}
 use Rattle.pin_core.specs.declared.view.Call.{Call}
 use Rattle.pin_core.specs.declared.view.FailedCalls.{FailedCalls}
@@ -25,7 +26,7 @@ use Rattle.page_jobs.specs.Printed.{BlockRead, copied, unsound, found_lines, fou
 use Rattle.page_jobs.specs.Reads.{CopiesOrFindsUnsound, HasNoTokens, IsKnown, IsWithinFront, Stays, StopsAt, calls_of_reads}
 use Rattle.page_jobs.specs.Parts.{AllReads, AreKnown, DoesPart, EndsFor, blocks_in}
 use Rattle.page_jobs.proofs.Staying.{stays_none, stays_on}
-use Rattle.page_jobs.proofs.Sums.{counted-is, none_sum, reads_totals-append, sum_assoc}
+use Rattle.page_jobs.proofs.Sums.{none_sum, reads_totals-append, sum_assoc}
 
 pub totals_long : (rs : List BlockRead) → (reads_totals rs).blocks ≡ length rs
 totals_long [] = refl
@@ -57,14 +58,6 @@ lines-append lines block (r ∷ rs) ss =
     ap (λ (l : List ℕ). read_lines lines block r ++ l) (lines-append lines (block + 1) rs ss)
     ∙ sym (append_assoc (read_lines lines block r) (reads_lines lines (block + 1) rs) (reads_lines lines (block + 1 + length rs) ss))
     ∙ ap (λ (n : ℕ). (read_lines lines block r ++ reads_lines lines (block + 1) rs) ++ reads_lines lines n ss) (shift block (length rs))
-
-pub on_ok : {A E P Q : Type 0} (r : Result A E) → (P → Q) → OnOk r P → OnOk r Q
-on_ok (Ok a) f p = f p
-on_ok (Err e) f p = tt
-
-pub on_err : {A E : Type 0} (P Q : E → Type 0) (r : Result A E) → ((e : E) → P e → Q e) → IfErr r P → IfErr r Q
-on_err P Q (Ok a) f p = tt
-on_err P Q (Err e) f p = f e p
 
 within_front : (front later : ℕ) → front ≤ later → (b : ℕ) (r : BlockRead) → IsWithinFront front r → IsWithinFront later r
 within_front front later le b (copied page place) w = omega arith
@@ -171,8 +164,8 @@ module _ {L G : Type 0} (contents : L → Option Pages) (m : Manager L G) (rel :
         text_is = texts_joined lines text text' text'' from mid a.printed b.printed at a.text_is b.text_is;
         totals_is = totals_joined t u v a.printed b.printed a.totals_is b.totals_is;
         counts = b.counts;
-        done = on_ok end (λ d. (d.0, (let l = length-append a.printed b.printed in let x = d.1 in omega arith), d.2 ∙ a.done.2)) b.done;
-        cause = on_err (EndsFor contents m rel fork q r) (EndsFor contents m rel fork p r) end (λ e. meets_after p q r e a.stays a.done.2) b.cause;
+        done = on_ok_weaker end (λ d. (d.0, (let l = length-append a.printed b.printed in let x = d.1 in omega arith), d.2 ∙ a.done.2)) b.done;
+        cause = IfErr-weaker end (EndsFor contents m rel fork q r) (EndsFor contents m rel fork p r) (λ e. meets_after p q r e a.stays a.done.2) b.cause;
       }
 
   pub part_wider : (lines : Lines) (from mid to : ℕ) (p q : PassState) (text text' : List ℕ) (t u : ScanTotals) (e : JobError) → mid ≤ to

@@ -1,7 +1,8 @@
 -- Where no worker has seen more of the log than its beginning, what was read are the pages of the blocks as the table was opened.
 use Rattle.std.proofs.Common.{◌≡◌, ℕ, zero, suc, ◌+◌, ◌<◌, ◌≤◌, ◌⊎◌, true, false, List, [], ◌∷◌, ◌++◌, length, map, drop, Option, Some, Result, Ok, Err, refl, sym, ap, ap₂, ◌∙◌, subst, arith, append_assoc, add-zero, inl, inr}
-use Rattle.std.specs.Prelude.{OnOk, nat_lt}
+use Rattle.std.specs.Prelude.{OnOk}
 use Rattle.std.proofs.lemmas.List.{append-nil, length-append}
+use Rattle.std.proofs.lemmas.Bool.{lt-ltb}
 use mathlib.Core.Option.{some}
 use lib.ListN.{get_elem?}
 use Rattle.block_tag.specs.declared.tag.Fork.{Fork}
@@ -222,9 +223,6 @@ module _ {L G : Type 0} (contents : L → Option Pages) (m : Manager L G) (rel :
       stopped_in (text_of_pages lines pages) (job_text [] xs) (lines_from lines (0 + length t.reads) (drop (length t.reads) pages) ++ totals_line (totals_of pages)) old new e e (text_begins lines n xs pages t size o)
       (subst (λ (l : List ℕ). Puts {E = JobError} l old new (Err e)) same puts)
 
-  below_test : (b n : ℕ) → b < n → nat_lt b n ≡ true
-  below_test b n lt = grind (arith, lt)
-
   -- the text of the job is that of the pages, or a prefix of it
   pub text_of_origin : {A : Type 0} (lines : Lines) (n : ℕ) (ps : List PassState) (xs : List Worker) (pages : List Page) (old new : Option (List ℕ)) (r : Result A JobError) → n ≡ blocks_in m rel fork → 0 < length ps
       → ((b : ℕ) → b < n → names_block (tag_of_parts rel fork b) ≡ true) → DoParts contents m rel fork lines n (length ps) 0 ps xs → OnOk r (AllDone xs) → IsOrigin contents m rel fork pages → AllAtBase (base_of m.table) (map (λ (x : Worker). x.pass) xs)
@@ -234,6 +232,6 @@ module _ {L G : Type 0} (contents : L → Option Pages) (m : Manager L G) (rel :
       let t : ToldUntilFault lines 0 n xs = subst (λ (b : ℕ). ToldUntilFault lines b n xs) (start_first n (length ps)) t0 in
       let count : n ≡ length pages = size ∙ sym origin.counted in
       let block : (b : ℕ) → b < 0 + length pages → IsBlockOf (relations_of m.table) (lanes_in m.table) (lane_number (tag_of_parts rel fork b) (lanes_in m.table)) (tag_of_parts rel fork b) =
-      λ b lt. record { named = named b (omega arith); listed = below_test b (blocks_in m rel fork) (let c = origin.counted in omega arith); placed = refl } in
+      λ b lt. record { named = named b (omega arith); listed = lt-ltb b (blocks_in m rel fork) (let c = origin.counted in omega arith); placed = refl } in
       let o : Origins 0 pages = origins pages 0 block (λ i b page e there. subst (λ (k : ℕ). WasKnownAtOpening contents m (tag_of_parts rel fork k) page) (let s : i ≡ b = omega arith in s) (origin.each i page there)) in
       put_origin lines n xs pages old new r t count o ok (text_either (totals_line (job_totals xs)) xs) puts

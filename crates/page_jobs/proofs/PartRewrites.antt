@@ -2,6 +2,7 @@
 use Rattle.std.proofs.Common.{◌≡◌, ◌+◌, ◌≤◌, ℕ, suc, List, [], ◌∷◌, ◌++◌, length, Option, Result, Ok, Err, refl, sym, ap, ◌∙◌, subst, arith, append_assoc, add-zero, inl, inr}
 use Rattle.std.specs.Prelude.{OnOk, IfErr}
 use Rattle.std.proofs.lemmas.List.{append-nil, length-append}
+use Rattle.std.proofs.lemmas.Result.{IfErr-weaker, on_ok_weaker}
 use Rattle.block_tag.specs.declared.tag.Fork.{Fork}
 use Rattle.block_tag.specs.Names.{tag_of_parts}
 use Rattle.page_layout.specs.declared.outcomes.PageRewrite.{PageRewrite}
@@ -25,7 +26,6 @@ use Rattle.page_jobs.specs.Reads.{HasNoTokens}
 use Rattle.page_jobs.specs.Rewrites.{AreFrom, EachOutcome, IfRead, IsEnded, IsUnput, Outcome, Rule, StopsAtFailure, unsound, kept, refused, changed, outcome_block, outcome_calls, calls_for, outcome_totals, rule_of, result_of}
 use Rattle.page_jobs.specs.Rewriting.{AllUnderCleanup, EndsRewriteFor, FollowsRule, GoesOn, HoldsUntil, RewritesBlock, RewritesBlocks, RewritesPart, RewritesWhole, UnderCleanup}
 use Rattle.page_jobs.proofs.BlockRewrites.{reads_since}
-use Rattle.page_jobs.proofs.BlockWork.{on_err, on_ok}
 use Rattle.page_jobs.proofs.RewriteSums.{rewrites_joined, rewrites_none, with_outcome-is}
 use Rattle.page_jobs.proofs.Staying.{stays_none}
 
@@ -105,9 +105,9 @@ module _ {L G : Type 0} (contents : L → Option Pages) (m : Manager L G) (rel :
     blocks = none;
     within = within;
     few = omega arith;
-    whole = on_ok end (λ (e : from ≡ to). record { blocks = none; whole = add-zero from ∙ e; ended = tt; met = refl }) whole;
-    totals = on_ok end (λ (e : from ≡ to). sym (rewrites_none t)) whole;
-    cause = on_err (λ e. e ≡ Memory) (EndsRewriteFor contents m rel fork p p) end (λ e x. inl x) cause;
+    whole = on_ok_weaker end (λ (e : from ≡ to). record { blocks = none; whole = add-zero from ∙ e; ended = tt; met = refl }) whole;
+    totals = on_ok_weaker end (λ (e : from ≡ to). sym (rewrites_none t)) whole;
+    cause = IfErr-weaker end (λ e. e ≡ Memory) (EndsRewriteFor contents m rel fork p p) (λ e x. inl x) cause;
   }
 
   ends_since : (p q r : PassState) (e : JobError) (made : List Call) → GoesOn contents m p q → q.view.calls ≡ p.view.calls ++ made → EndsRewriteFor contents m rel fork q r e → q.view.met ≡ p.view.met → EndsRewriteFor contents m rel fork p r e
@@ -172,9 +172,9 @@ module _ {L G : Type 0} (contents : L → Option Pages) (m : Manager L G) (rel :
         blocks = both;
         within = b.within;
         few = let l = length-append a.outcomes b.outcomes in let x = a.few in let y = b.few in omega arith;
-        whole = on_ok end (λ (d : RewritesWhole contents m rel fork mid to b.outcomes q r). record { blocks = both; whole = (let l = length-append a.outcomes b.outcomes in let x = d.whole in let y = w.whole in omega arith); ended = each_append IsEnded a.outcomes b.outcomes w.ended d.ended; met = d.met ∙ w.met }) b.whole;
-        totals = on_ok end (λ d. rewrites_joined t u v a.outcomes b.outcomes a.totals d) b.totals;
-        cause = on_err (EndsRewriteFor contents m rel fork q r) (EndsRewriteFor contents m rel fork p r) end (λ e x. ends_since p q r e (calls_for (rule_of rel fork) a.outcomes) a.blocks.goes a.blocks.calls x w.met) b.cause;
+        whole = on_ok_weaker end (λ (d : RewritesWhole contents m rel fork mid to b.outcomes q r). record { blocks = both; whole = (let l = length-append a.outcomes b.outcomes in let x = d.whole in let y = w.whole in omega arith); ended = each_append IsEnded a.outcomes b.outcomes w.ended d.ended; met = d.met ∙ w.met }) b.whole;
+        totals = on_ok_weaker end (λ d. rewrites_joined t u v a.outcomes b.outcomes a.totals d) b.totals;
+        cause = IfErr-weaker end (EndsRewriteFor contents m rel fork q r) (EndsRewriteFor contents m rel fork p r) (λ e x. ends_since p q r e (calls_for (rule_of rel fork) a.outcomes) a.blocks.goes a.blocks.calls x w.met) b.cause;
       }
 
   blocks_wider : (from mid to : ℕ) (os : List Outcome) (p q : PassState) → mid ≤ to → RewritesBlocks contents m rel fork from mid os p q → RewritesBlocks contents m rel fork from to os p q

@@ -22,7 +22,7 @@ use Rattle.backend_pass.specs.Closing.{ClosesAll, NothingPut, NothingWritten}
 use Rattle.page_jobs.specs.Relations.{IsCatalogOf}
 use Rattle.page_jobs.proofs.Standing.{found, found_there, inside, mapped_or, there}
 
-some_of : (x : Option Pages) → is_some x ≡ true → (p : Pages) × (x ≡ Some p)
+pub some_of : (x : Option Pages) → is_some x ≡ true → (p : Pages) × (x ≡ Some p)
 some_of None e = absurd (let no : false ≡ true = e in cc)
 some_of (Some p) e = (p, refl)
 

@@ -8,11 +8,11 @@ use Rattle.pin_core.specs.State.{Page}
 use Rattle.history_core.specs.Log.{Entry, Log, end_of, cell, cut, IsLegal, IsLegalRead, IsLegalWrite, writes_in, writes_at}
 use Rattle.grid.specs.Shape.{put}
 use Rattle.grid.proofs.Lists.{put_else}
-use Rattle.grid.proofs.Sums.{total-same}
+use Rattle.grid.proofs.Sums.{total-same, some_term}
 use Rattle.history_core.specs.History.{IsHistory}
 use Rattle.page_jobs.specs.Rewrites.{Rule, Outcome, unsound, kept, refused, changed, outcome_block, outcome_calls}
 use Rattle.page_jobs.specs.RewriteEnds.{BackendCalls, all_done, block_weight, Rewrites, RewritesAll, HasRewrites, HasEntry, IsRewritten, change_weight}
-use Rattle.page_jobs.proofs.RewriteCounts.{Each, each_done, total_some, test_is, outcome_at, outcome_weight, writes_at_are, writes_are, same_place, total_blocks}
+use Rattle.page_jobs.proofs.RewriteCounts.{Each, each_done, test_is, outcome_at, outcome_weight, writes_at_are, writes_are, same_place, total_blocks}
 use Rattle.history_core.proofs.Logs.{cut_in, cut_out, in_or_out}
 
 -- a block without an entry up to a place has its page at the start
@@ -47,7 +47,7 @@ module _ {r : Rule} {n : ℕ} {known : ℕ → Bool} {origin : ℕ → Page} {lo
     image : e.image ≡ r.rewritten page (end_of e)
 
   made_by : (k : ℕ) (e : Entry) → get_elem? log.entries k ≡ some e → MadeBy e
-  made_by k e at = from (total_some (outcome_at (end_of e)) (all_done ps) (let x = h.once k e at in let y = writes_at_are r ps w.reads (end_of e) in let z = ap (writes_at (end_of e)) w.calls_are in omega arith))
+  made_by k e at = from (some_term (outcome_at (end_of e)) (all_done ps) (let x = h.once k e at in let y = writes_at_are r ps w.reads (end_of e) in let z = ap (writes_at (end_of e)) w.calls_are in omega arith))
     where
       by_case : (j : ℕ) (o : Outcome) → get_elem? (all_done ps) j ≡ some o → 0 < outcome_at (end_of e) o → MadeBy e
       by_case j (unsound b) t low = absurd (omega arith)
@@ -129,7 +129,7 @@ module _ {r : Rule} {n : ℕ} {known : ℕ → Bool} {origin : ℕ → Page} {lo
   pub is_rewritten : IsRewritten r n known origin log
   is_rewritten = record {
     rewrites = has_rewrites h w.rewrites;
-    all = λ b low is. let x = total_some (block_weight b) (all_done ps) (let y = w.all b low in omega arith) in let same : outcome_block x.1 ≡ b = test_is (outcome_block x.1) b x.3 in
+    all = λ b low is. let x = some_term (block_weight b) (all_done ps) (let y = w.all b low in omega arith) in let same : outcome_block x.1 ≡ b = test_is (outcome_block x.1) b x.3 in
         subst (λ (t : ℕ). HasEntry log (r.tag t)) same (has_entry x.0 x.1 x.2 (changes_here x.0 x.1 x.2 ∙ ap (λ (t : ℕ). change_weight r origin t) same ∙ ap (λ (t : Bool). cond t 1 0) is));
     end = let x = total_blocks n (change_weight r origin) (all_done ps) w.rewrites.below w.all in let y = total-same outcome_weight (λ (o : Outcome). change_weight r origin (outcome_block o)) (all_done ps) changes_here in
         let z = writes_are r ps w.rewrites.reads in let c = ap writes_in w.rewrites.calls_are in let k = h.counted in omega arith;

@@ -1,6 +1,5 @@
 -- Sums over lists of calls and outcomes.
 use Rattle.std.proofs.Common.{◌≡◌, ◌≢◌, ℕ, zero, suc, ◌+◌, ◌<◌, ◌≤◌, Bool, true, false, cond, nat_eq, eq-eqb, ne_eqb, List, [], ◌∷◌, ◌++◌, length, sym, refl, ap, ◌∙◌, subst, ⊎_elim, arith}
-use Rattle.std.proofs.lemmas.Bool.{cases_lt}
 use mathlib.Core.Logic.{dite}
 use native.Mathlib.Decide.{ℕ_discrete}
 use mathlib.Core.Option.{some, some-ne-none, some-injective}
@@ -14,15 +13,6 @@ use Rattle.grid.proofs.Lists.{at_longer}
 use Rattle.grid.proofs.Sums.{terms_le, total-same}
 use Rattle.page_jobs.specs.Rewrites.{Rule, Outcome, unsound, kept, refused, changed, outcome_block, outcome_calls, calls_for}
 use Rattle.page_jobs.specs.RewriteEnds.{BackendCalls, calls_of_backends, all_done, WroteNothing, block_weight, times, sum_below}
-
--- where a sum is above 0 some term is
-pub total_some : {A : Type 0} (g : A → ℕ) (l : List A) → 0 < total g l → (j : ℕ) × (a : A) × (get_elem? l j ≡ some a) × (0 < g a)
-unfolding total
-total_some g [] h = absurd (omega arith)
-total_some g (x ∷ l) h = ⊎_elim
-    (λ (t : 0 < g x). (zero, x, refl, t))
-    (λ (t : g x ≤ 0). let z = total_some g l (omega arith) in (suc z.0, z.1, z.2, z.3))
-    (cases_lt 0 (g x))
 
 -- what stands in the second of two lists
 pub at_right : {A : Type 0} (l m : List A) (k : ℕ) (a : A) → get_elem? m k ≡ some a → get_elem? (l ++ m) (length l + k) ≡ some a

@@ -1,7 +1,8 @@
 -- What the devices hold that a manager gives back after a rewrite.
-use Rattle.std.proofs.Common.{◌≡◌, ℕ, zero, suc, ◌%◌, ◌<◌, ◌≤◌, ◌⊎◌, Bool, true, false, List, [], ◌∷◌, ◌++◌, length, map, Option, Some, None, refl, sym, ap, ap₂, ◌∙◌, subst, ⊎_elim, inl, inr, arith}
+use Rattle.std.proofs.Common.{◌≡◌, ℕ, zero, suc, ◌%◌, ◌<◌, ◌≤◌, ◌⊎◌, Bool, true, false, List, [], ◌∷◌, ◌++◌, length, map, Option, Some, refl, sym, ap, ap₂, ◌∙◌, subst, ⊎_elim, inl, inr, arith}
 use Rattle.std.specs.Prelude.{is_some, nat_lt}
 use Rattle.std.proofs.lemmas.Option.{same_Some}
+use Rattle.std.proofs.lemmas.Bool.{lt-ltb}
 use mathlib.Core.Option.{some, some-injective, some-ne-none}
 use lib.ListN.{get_elem?}
 use Rattle.block_tag.specs.declared.tag.Fork.{Fork}
@@ -44,6 +45,7 @@ use Rattle.page_jobs.proofs.RewriteLanes.{finishes, lanes_hold_either}
 use Rattle.page_jobs.proofs.RewriteOrder.{InOrder, calls_ordered, in_order}
 use Rattle.page_jobs.proofs.RewriteRanges.{from_at, parts_below, parts_once, whole_all, whole_from}
 use Rattle.page_jobs.proofs.Standing.{inside, there}
+use Rattle.page_jobs.proofs.ReadersLeave.{some_of}
 
 told_invalid : (page : Page) → is_sound_page page ≡ false → page_rewrite_of page ≡ Invalid
 unfolding page_rewrite_of
@@ -55,13 +57,6 @@ same_told [] [] long each = refl
 same_told [] (p ∷ pages) long each = absurd (omega arith)
 same_told (o ∷ os) [] long each = absurd (omega arith)
 same_told (o ∷ os) (p ∷ pages) long each = ap₂ (λ (a : PageRewrite) (b : List PageRewrite). a ∷ b) (each zero o p refl refl) (same_told os pages (omega arith) (λ i. each (suc i)))
-
-some_of : (x : Option Pages) → is_some x ≡ true → (p : Pages) × (x ≡ Some p)
-some_of None e = absurd (let no : false ≡ true = e in cc)
-some_of (Some p) e = (p, refl)
-
-below_test : (b n : ℕ) → b < n → nat_lt b n ≡ true
-below_test b n low = grind (arith, low)
 
 lane_below : (h n : ℕ) → 0 < n → h % n < n
 lane_below h n more = omega (arith, more)
@@ -171,7 +166,7 @@ module _ {L G : Type 0} (d : Devices L G) (m : Manager L G) (rel : ℕ) (fork : 
       let l = opened_at word tag in
       let pages = some_of (d.contents l.0) (sym (c.opened.known q l.0 word l.1 (lane_of b low)) ∙ known) in
       let named = x.parts.named b low in
-      let listed : nat_lt b (blocks_in m rel fork) ≡ true = below_test b (blocks_in m rel fork) low in
+      let listed : nat_lt b (blocks_in m rel fork) ≡ true = lt-ltb b (blocks_in m rel fork) low in
       let is : pages.0 tag ≡ Some u.page = u.was q l.0 pages.0 record { named = named; listed = listed; placed = refl } l.1 pages.1 in
       let placed : IsPlaced (relations_of m.table) (lanes_in m.table) q word tag = record { named = packed_is tag named; listed = listed; placed = refl } in
       let same : u.page ≡ c.state.origin word = same_Some u.page (c.state.origin word) (sym is ∙ c.opened.origin q l.0 pages.0 word tag l.1 pages.1 placed) in
@@ -269,7 +264,7 @@ module _ {L G : Type 0} (d : Devices L G) (m : Manager L G) (rel : ℕ) (fork : 
       let w = origin.each b page at in
       let tag = tag_of_parts rel fork b in
       let low : b < blocks_in m rel fork = let i = inside pages b page at in let e = origin.counted in omega arith in
-      let placed : IsPlaced (relations_of m.table) (lanes_in m.table) (lane_number tag (lanes_in m.table)) ((rule_of rel fork).tag b) tag = record { named = packed_is tag (y.alone.parts.named b low); listed = below_test b (blocks_in m rel fork) low; placed = refl } in
+      let placed : IsPlaced (relations_of m.table) (lanes_in m.table) (lane_number tag (lanes_in m.table)) ((rule_of rel fork).tag b) tag = record { named = packed_is tag (y.alone.parts.named b low); listed = lt-ltb b (blocks_in m rel fork) low; placed = refl } in
       same_Some page (c.state.origin ((rule_of rel fork).tag b)) (sym w.is ∙ c.opened.origin (lane_number tag (lanes_in m.table)) w.lane w.pages ((rule_of rel fork).tag b) tag w.opened w.known placed)
 
   totals_of_origin : (pages : List Page) → IsOrigin d.contents m rel fork pages → totals ≡ totals_of_rewrite (rewrite_totals_of pages)

@@ -14,10 +14,11 @@ use Rattle.history_core.specs.Promises.{IsInLane, IsUnwritten, AreStored}
 use Rattle.history_core.proofs.Histories.{durable}
 use Rattle.grid.specs.Shape.{put}
 use Rattle.grid.proofs.Lists.{put_at, put_else}
+use Rattle.grid.proofs.Sums.{some_term}
 use Rattle.history_core.specs.History.{IsHistory}
 use Rattle.page_jobs.specs.Rewrites.{Rule}
 use Rattle.page_jobs.specs.RewriteEnds.{HasRewrites, HasEntry, LanesHoldEither, LanesHoldAll, BackendCalls, IsRewritten, IsResult, Finishes}
-use Rattle.page_jobs.proofs.RewriteCounts.{total_some, test_is}
+use Rattle.page_jobs.proofs.RewriteCounts.{test_is}
 use Rattle.page_jobs.proofs.RewriteClosed.{cell_untouched, is_rewritten}
 use Rattle.history_core.proofs.Logs.{cut_in, cut_out, in_or_out}
 
@@ -60,7 +61,7 @@ lanes_hold_either s h tag is ok = let x = h.invariant.flushed_cells tag in ⊎_e
 
 -- each entry ends at the front or before it
 pub entries_fronted : {known : ℕ → Bool} {origin : ℕ → Page} {log : Log} {calls : List Call} → IsHistory known origin log calls → (front : ℕ) → ((k : ℕ) (c : Call) → get_elem? calls k ≡ some c → place_of c ≤ front) → (k : ℕ) (e : Entry) → get_elem? log.entries k ≡ some e → end_of e ≤ front
-entries_fronted {calls = calls} h front fronted k e at = from (total_some (weight_at (end_of e)) calls (let x = h.once k e at in omega arith))
+entries_fronted {calls = calls} h front fronted k e at = from (some_term (weight_at (end_of e)) calls (let x = h.once k e at in omega arith))
   where
     by_call : (c : Call) → 0 < weight_at (end_of e) c → place_of c ≡ end_of e
     by_call (Read i t q p) low = absurd (omega arith)

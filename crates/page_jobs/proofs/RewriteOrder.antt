@@ -14,6 +14,7 @@ use Rattle.page_jobs.specs.Rewrites.{Outcome, Rule, calls_for}
 use Rattle.page_jobs.specs.RewriteEnds.{WroteNothing, BackendCalls, all_done, block_weight, calls_of_backends, times}
 use Rattle.grid.proofs.Lists.{at_longer}
 use Rattle.page_jobs.proofs.RewriteCounts.{at_right}
+use Rattle.page_jobs.proofs.Backends.{puts_nothing}
 
 -- each pass has its part
 abbrev pub HaveParts : Rule → List PassState → List BackendCalls → Type 0
@@ -21,10 +22,6 @@ HaveParts r [] [] = Unit {0}
 HaveParts r [] (p ∷ ps) = ⊥
 HaveParts r (z ∷ zs) [] = ⊥
 HaveParts r (z ∷ zs) (p ∷ ps) = (z.view.calls ≡ p.before ++ (calls_for r p.done ++ p.after)) × HaveParts r zs ps
-
-none_put : writes_in [] ≡ 0
-unfolding total
-none_put = refl
 
 -- The first pass's part, and those of the others
 pub record InOrder (r : Rule) (zs : List PassState) (ps : List BackendCalls) : Type 0 where
@@ -112,7 +109,7 @@ in_order r [] [] h reads = record {
   same = λ b. refl;
   among = λ k o at. (k, at);
   onto = λ j o at. (j, at);
-  first_reads = (none_put, none_put);
+  first_reads = (puts_nothing, puts_nothing);
   other_reads = λ k q at. absurd (some-ne-none q (sym at));
 }
 in_order r [] (p ∷ ps) h reads = absurd h

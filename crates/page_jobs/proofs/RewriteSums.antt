@@ -1,25 +1,13 @@
 -- Totals of blocks that were rewritten.
-use Rattle.std.proofs.Common.{◌≡◌, List, [], ◌∷◌, ◌++◌, map, cond, refl, sym, ap, subst, ◌∙◌, arith, add-zero, zero-add, add_assoc}
-use Rattle.std.proofs.lemmas.List.{length-append, map-append}
-use Rattle.std.proofs.lemmas.List.Sums.{sum_by-append}
+use Rattle.std.proofs.Common.{◌≡◌, List, [], ◌∷◌, ◌++◌, map, refl, sym, ap, subst, ◌∙◌, arith, add-zero, zero-add, add_assoc}
+use Rattle.std.proofs.lemmas.List.{map-append}
 use Rattle.page_layout.specs.declared.outcomes.PageRewrite.{PageRewrite}
 use Rattle.page_layout.specs.declared.outcomes.PageRewrite.TheVariants.{Invalid, New, Used}
 use Rattle.page_layout.specs.declared.outcomes.RewriteTotals.{RewriteTotals}
 use Rattle.page_layout.specs.declared.rewrite.Rewrite.TheVariants.{Same, Changed, Skipped}
-use Rattle.page_layout.specs.Outcomes.{IsRewriteWithin, dead_of, is_changed_outcome, is_invalid_outcome, is_new_outcome, is_same_outcome, is_skipped_outcome, no_rewrite_totals, sum_of_rewrite_totals, totals_of_outcomes, with_outcome}
+use Rattle.page_layout.specs.Outcomes.{IsRewriteWithin, no_rewrite_totals, sum_of_rewrite_totals, totals_of_outcomes, with_outcome}
+use Rattle.page_layout.proofs.Sums.{totals_of_outcomes-append}
 use Rattle.page_jobs.specs.Rewrites.{Outcome, result_of, outcome_totals}
-
-totals_of_outcomes-append : (ss ts : List PageRewrite) → totals_of_outcomes (ss ++ ts) ≡ sum_of_rewrite_totals (totals_of_outcomes ss) (totals_of_outcomes ts)
-totals_of_outcomes-append ss ts =
-    rw (
-      length-append ss ts,
-      sum_by-append (λ (s : PageRewrite). cond (is_changed_outcome s) 1 0) ss ts,
-      sum_by-append (λ (s : PageRewrite). cond (is_same_outcome s) 1 0) ss ts,
-      sum_by-append (λ (s : PageRewrite). cond (is_skipped_outcome s) 1 0) ss ts,
-      sum_by-append (λ (s : PageRewrite). cond (is_new_outcome s) 1 0) ss ts,
-      sum_by-append (λ (s : PageRewrite). cond (is_invalid_outcome s) 1 0) ss ts,
-      sum_by-append dead_of ss ts,
-    ) refl
 
 pub outcome_totals-append : (os us : List Outcome) → outcome_totals (os ++ us) ≡ sum_of_rewrite_totals (outcome_totals os) (outcome_totals us)
 outcome_totals-append os us = ap totals_of_outcomes (map-append result_of os us) ∙ totals_of_outcomes-append (map result_of os) (map result_of us)

@@ -2,18 +2,15 @@
 use Rattle.std.proofs.Common.{refl, ◌∙◌, arith}
 use Rattle.segment_store.specs.Contents.{Pages}
 use Rattle.std.specs.Prelude.{Option}
-use Rattle.frame_table.proofs.Rising.{rises_none}
 use Rattle.backend_pass.specs.declared.manager.Manager.{Manager}
 use Rattle.backend_pass.specs.Managers.{Belongs}
-use Rattle.backend_pass.specs.Passes.{KeepsCalls, PassState, SamePass}
+use Rattle.backend_pass.specs.Passes.{PassState, SamePass}
 use Rattle.backend_pass.proofs.Seated.{same_on}
+use Rattle.backend_pass.proofs.Keeping.{pass_none}
 use Rattle.page_jobs.specs.Reads.{Stays}
 
 pub same_none : (p : PassState) → SamePass p p
-same_none p = record { keeps = record { table = refl; id = refl; frames = refl; number = refl; next = refl; joined = refl; kept = refl; advances = rises_none p.view }; upto = refl }
-
-pub calls_on : (p q r : PassState) → KeepsCalls p q → KeepsCalls q r → KeepsCalls p r
-calls_on p q r a b = record { calls = b.calls ∙ a.calls; front = b.front ∙ a.front; place_loads = b.place_loads ∙ a.place_loads }
+same_none p = record { keeps = pass_none p; upto = refl }
 
 module _ {L G : Type 0} (contents : L → Option Pages) (m : Manager L G) where
   pub stays_none : (p : PassState) → Belongs contents m p → Stays contents m p p

@@ -4,6 +4,7 @@ use Rattle.std.specs.Prelude.{IfSome, IsSome, IsSomeAnd, nat_lt, sum_by}
 use Rattle.std.specs.Option.{ForSome, option_and_then}
 use Rattle.std.proofs.lemmas.List.{get_or-map, length-map, map-set}
 use Rattle.std.proofs.lemmas.List.Sums.{sum_by-cons}
+use Rattle.std.proofs.lemmas.Bool.{lt-ltb, ltb-true}
 use Rattle.block_tag.specs.declared.catalogue.RelEntry.{RelEntry}
 use Rattle.block_tag.specs.declared.tag.Fork.{Fork}
 use Rattle.block_tag.specs.declared.tag.Fork.TheVariants.{Main, Fsm, Vm, Init}
@@ -218,18 +219,12 @@ module _ (blocks : Fork → ℕ) (f : Fork) (i : ℕ) (at : fork_number f ≡ i)
 named : (t : Tag) → t.rel.0 < 1024 → t.block < 2 ^ 32 - 1 → names_block t ≡ true
 named t few below = grind arith
 
-below_true : (a b : ℕ) → a < b → nat_lt a b ≡ true
-below_true a b h = grind arith
-
-true_below : (a b : ℕ) → nat_lt a b ≡ true → a < b
-true_below a b h = grind arith
-
 module _ (catalog : List RelEntry) (rel : ℕ) (fork : Fork) (blocks : ℕ) (is : blocks ≡ blocks_at catalog rel fork) where
   fork_blocks : (tag : Tag) → tag.rel.0 ≡ rel → tag.fork ≡ fork → blocks_at catalog tag.rel.0 tag.fork ≡ blocks
   fork_blocks tag r f = ap (λ (n : ℕ). blocks_at catalog n tag.fork) r ∙ ap (blocks_at catalog rel) f ∙ sym is
 
   listed_block : (tag : Tag) → AreOfFork rel fork blocks tag → IsListed catalog tag
-  listed_block tag of = below_true tag.block (blocks_at catalog tag.rel.0 tag.fork) (let e = fork_blocks tag of.0 of.1 in let b = of.2 in omega (arith, e, b))
+  listed_block tag of = lt-ltb tag.block (blocks_at catalog tag.rel.0 tag.fork) (let e = fork_blocks tag of.0 of.1 in let b = of.2 in omega (arith, e, b))
 
   pub listed_by_name : rel < 1024 → blocks < 2 ^ 32 → (tag : Tag) → AreOfFork rel fork blocks tag → IsListedByName catalog tag
   listed_by_name few small tag of = (named tag (let r = of.0 in omega (arith, r)) (let b = of.2 in omega (arith, b)), listed_block tag of)
@@ -248,13 +243,13 @@ module _ (catalog : List RelEntry) (rel : ℕ) (fork : Fork) (blocks : ℕ) (is 
     next_fork tag of = by_number (true_or_false (nat_lt (fork_number tag.fork) i))
       where
         by_number : (nat_lt (fork_number tag.fork) i ≡ true) ⊎ (nat_lt (fork_number tag.fork) i ≡ false) → AreOfForks catalog rel i tag ⊎ AreOfFork rel fork blocks tag
-        by_number (inl before) = inl (of.0, true_below (fork_number tag.fork) i before, of.2)
+        by_number (inl before) = inl (of.0, ltb-true (fork_number tag.fork) i before, of.2)
         by_number (inr here) =
             let last = of.1 in
             let number : fork_number tag.fork ≡ fork_number fork = grind (arith, last, at) in
             let f = same_fork tag.fork fork number in
             let e = fork_blocks tag of.0 f in
-            let b = true_below tag.block (blocks_at catalog tag.rel.0 tag.fork) of.2 in
+            let b = ltb-true tag.block (blocks_at catalog tag.rel.0 tag.fork) of.2 in
             inr (of.0, f, omega (arith, e, b))
 
 pub all_forks : (catalog : List RelEntry) (rel : ℕ) (tag : Tag) → AreOfForks catalog rel 4 tag → AreOfRelation catalog rel tag
@@ -292,7 +287,7 @@ module _ (catalog : List RelEntry) (r : ℕ) (below : r < length catalog) where
   next_relation tag of = by_number (true_or_false (nat_lt tag.rel.0 r))
     where
       by_number : (nat_lt tag.rel.0 r ≡ true) ⊎ (nat_lt tag.rel.0 r ≡ false) → AreOfRelations catalog r tag ⊎ AreOfRelation catalog r tag
-      by_number (inl before) = inl (true_below tag.rel.0 r before, of.1)
+      by_number (inl before) = inl (ltb-true tag.rel.0 r before, of.1)
       by_number (inr here) = let last = of.0 in let e : tag.rel.0 ≡ r = grind (arith, last) in inr (e, of.1)
 
 pub all_relations : (catalog : List RelEntry) (tag : Tag) → IsListed catalog tag → AreOfRelations catalog (length catalog) tag
@@ -303,7 +298,7 @@ pub have_listed : (fork : Fork) (blocks : ℕ) (catalog : List RelEntry) (lanes 
 have_listed fork blocks catalog lanes one has tag listed =
     let is = one.alone tag listed.1 in
     let counted = ap (λ (t : Tag). blocks_at catalog t.rel.0 t.fork) is ∙ one.counted in
-    let below = true_below tag.block (blocks_at catalog tag.rel.0 tag.fork) listed.1 in
+    let below = ltb-true tag.block (blocks_at catalog tag.rel.0 tag.fork) listed.1 in
     subst (λ (t : Tag). ForSome (lane_at lanes t) (λ pages. IsSome (pages t))) (sym is) (has tag.block (omega (arith, counted, below)))
 
 -- where each listed block's page is known, the answer is 0 or the position of one of them

@@ -102,8 +102,8 @@ pub(crate) enum PageRead {
     Unsound,
 }
 
-/// Reads a block.
-pub(crate) fn read_block<L: BlockLane, G: LogDevice, R: Wait, T: Gate>(
+/// Copies a block's page, or finds that it isn't sound.
+pub(crate) fn copy_if_sound<L: BlockLane, G: LogDevice, R: Wait, T: Gate>(
     manager: &Manager<L, G>,
     rt: &R,
     gate: &T,

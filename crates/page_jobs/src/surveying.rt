@@ -23,7 +23,7 @@ pub struct ReadFault {
 }
 
 /// Reads a block from the lane of its tag.
-fn read_block<L: BlockLane>(lanes: &mut [L], tag: Tag, page: &mut Page) -> Result<(), ReadFault>
+fn read_from_lane<L: BlockLane>(lanes: &mut [L], tag: Tag, page: &mut Page) -> Result<(), ReadFault>
     requires some { 0 < length lanes.old }
     requires has { ForSome (lane_at (map L.contents lanes.old) tag) (λ pages. IsSome (pages tag)) }
     ensures same { AreOnlyRead L.contents L.failed_writes L.unsynced L.write_faults lanes.old lanes.new }
@@ -56,7 +56,7 @@ fn survey_block<L: BlockLane>(lanes: &mut [L], tag: Tag, page: &mut Page) -> Res
     ensures done { IfOk result (Surveys L.contents L.failed_writes L.unsynced L.read_faults L.write_faults L.calls (AreOfBlock tag) 1 lanes.old lanes.new) }
     ensures fault { IfErr result (λ e. FailsToRead L.contents L.failed_writes L.unsynced L.read_faults L.write_faults L.calls (AreOfBlock tag) 1 lanes.old lanes.new e.tag) }
 {
-    match read_block(lanes, tag, page) {
+    match read_from_lane(lanes, tag, page) {
         Ok(()) => Ok(sound_lsn(page)),
         Err(error) => Err(error),
     }

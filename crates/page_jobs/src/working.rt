@@ -9,7 +9,7 @@ ghost use Rattle.page_jobs.specs.Reads.{HasNoTokens};
 use crate::ending::JobError;
 use crate::gate::Gate;
 use crate::printing::{Lines, Printed};
-use crate::reading::read_block;
+use crate::reading::copy_if_sound;
 use access_rings::{Memory, Ring, RingKind};
 use backend_pass::{Manager, Pass};
 use block_tag::{Fork, RelNo, Tag};
@@ -82,7 +82,7 @@ impl Worker {
             fork: job.fork,
             block,
         };
-        let found = read_block(
+        let found = copy_if_sound(
             manager,
             rt,
             gate,

@@ -3,6 +3,7 @@ use Rattle.std.proofs.Common.{◌≡◌, ◌≢◌, ℕ, ◌+◌, ◌*◌, ◌/�
 use Rattle.std.specs.List.{list_all}
 use Rattle.std.proofs.lemmas.List.{get_or-drop}
 use Rattle.std.proofs.lemmas.Bool.Decides.{nat_tests}
+use Rattle.std.proofs.Math.Bool.{or-true}
 use Rattle.byteorder.specs.Endian.{little_bytes}
 use Rattle.byteorder.specs.Numbers.{little_number-reads_back}
 use Rattle.page_layout.specs.declared.page.Header.{Header}
@@ -78,10 +79,6 @@ pub sound_used : (new : Bool) (h : Bool) → (new || h) ≡ true → new ≡ fal
 sound_used true h sound used = absurd (let no : true ≡ false = used in cc)
 sound_used false h sound used = sound
 
-pub or_true : (b : Bool) → (b || true) ≡ true
-or_true true = refl
-or_true false = refl
-
 upper_some : (h : Header) → is_sound_header h ≡ true → h.upper ≢ 0
 upper_some h sound = grind (arith, nat_tests)
 
@@ -96,7 +93,7 @@ header_used p sound = of_new (is_new_page p) refl
 
 pub sound_with : (lsn : ℕ) (p : List ℕ) → 8 ≤ length p → is_sound_page p ≡ true → is_new_page p ≡ false → is_sound_page (with_lsn lsn p) ≡ true
 unfolding is_sound_page
-sound_with lsn p long sound used = ap (λ (b : Bool). is_new_page (with_lsn lsn p) || b) (same_header lsn p long ∙ sound_used (is_new_page p) (is_sound_header (header_of p)) sound used) ∙ or_true (is_new_page (with_lsn lsn p))
+sound_with lsn p long sound used = ap (λ (b : Bool). is_new_page (with_lsn lsn p) || b) (same_header lsn p long ∙ sound_used (is_new_page p) (is_sound_header (header_of p)) sound used) ∙ or-true (is_new_page (with_lsn lsn p))
 
 pub used_with : (lsn : ℕ) (p : List ℕ) → 8 ≤ length p → is_sound_page p ≡ true → is_new_page p ≡ false → is_new_page (with_lsn lsn p) ≡ false
 unfolding is_sound_page

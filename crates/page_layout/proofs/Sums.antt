@@ -11,7 +11,7 @@ use Rattle.page_layout.specs.Outcomes.{dead_of, is_changed_outcome, is_invalid_o
 use Rattle.page_layout.specs.Scan.{counted, is_invalid, is_new, is_used, pointers_of, sum_of_totals, totals_of, totals_of_summaries}
 use Rattle.page_layout.specs.Summary.{summary_of}
 
-totals_of_summaries-append : (ss ts : List PageSummary) → totals_of_summaries (ss ++ ts) ≡ sum_of_totals (totals_of_summaries ss) (totals_of_summaries ts)
+pub totals_of_summaries-append : (ss ts : List PageSummary) → totals_of_summaries (ss ++ ts) ≡ sum_of_totals (totals_of_summaries ss) (totals_of_summaries ts)
 totals_of_summaries-append ss ts =
     rw (
       length-append ss ts,
@@ -29,7 +29,7 @@ pub totals_of-append : (ps qs : List (List ℕ)) → totals_of (ps ++ qs) ≡ su
 totals_of-append ps qs = ap totals_of_summaries (map-append summary_of ps qs) ∙ totals_of_summaries-append (map summary_of ps) (map summary_of qs)
 
 -- with one page more
-counted-is : (t : ScanTotals) (s : PageSummary) → counted t s ≡ sum_of_totals t (totals_of_summaries (s ∷ []))
+pub counted-is : (t : ScanTotals) (s : PageSummary) → counted t s ≡ sum_of_totals t (totals_of_summaries (s ∷ []))
 counted-is t Invalid = simp add-zero
 counted-is t New = simp add-zero
 counted-is t (Used u) = simp (add-zero, zero-add)
@@ -38,7 +38,7 @@ pub totals_of-push : (ps : List (List ℕ)) (p : List ℕ) (t v : ScanTotals) (s
 totals_of-push ps p t v s is first second =
     is ∙ counted-is t s ∙ ap₂ (λ (u : ScanTotals) (x : PageSummary). sum_of_totals u (totals_of_summaries (x ∷ []))) first second ∙ sym (totals_of-append ps (p ∷ []))
 
-totals_of_outcomes-append : (ss ts : List PageRewrite) → totals_of_outcomes (ss ++ ts) ≡ sum_of_rewrite_totals (totals_of_outcomes ss) (totals_of_outcomes ts)
+pub totals_of_outcomes-append : (ss ts : List PageRewrite) → totals_of_outcomes (ss ++ ts) ≡ sum_of_rewrite_totals (totals_of_outcomes ss) (totals_of_outcomes ts)
 totals_of_outcomes-append ss ts =
     rw (
       length-append ss ts,

@@ -1,6 +1,7 @@
 -- What the end of a command tells of its status.
 use Rattle.std.proofs.Common.{◌≡◌, ◌⊎◌, ℕ, ◌-◌, ◌^◌, ◌<◌, false, true, List, Option, Some, None, Err, refl, sym, ap, subst, inl, inr, arith}
 use Rattle.std.specs.Prelude.{IfSome, option_map}
+use Rattle.std.proofs.lemmas.Option.{IfSome_then}
 use Rattle.log_device.specs.Faults.{Rose}
 use Rattle.segment_store.specs.Paths.{Paths}
 use Rattle.pin_core.specs.State.{Page}
@@ -14,14 +15,7 @@ use Rattle.relation_commands.specs.Request.{Asked, is_rewriting, listing, path_o
 use Rattle.relation_commands.specs.RewriteFiles.{BecomesOf, HostFiles}
 use Rattle.relation_commands.specs.Status.{status_of_error}
 use Rattle.relation_commands.proofs.Stepping.{becomes_also}
-
-any_some : {A : Type 0} (o : Option A) (P : A → Type 0) → ((x : A) → P x) → IfSome o P
-any_some None P all = tt
-any_some (Some x) P all = all x
-
-some_also : {A : Type 0} (o : Option A) (P Q : A → Type 0) → ((x : A) → P x → Q x) → IfSome o P → IfSome o Q
-some_also None P Q to all = tt
-some_also (Some x) P Q to all = to x all
+use Rattle.relation_commands.proofs.GivenFiles.{of_none}
 
 not_past : (a : Asked) (pages : List Page) → is_rewriting a ≡ true → HasPositions a pages → ArePastLimit pages → ⊥
 not_past (listing l) pages is has past = let no : false ≡ true = is in cc
@@ -57,25 +51,25 @@ module _ (a : Asked) (known : Option Paths) (old new : FaultCounts) where
   MissingEnds status paths = IsMissing (Some paths) (path_of a) → (status ≡ 3) ⊎ ((status ≡ 8) ⊎ ((status ≡ 4) × Rose old.reads new.reads))
 
   there_is : (status : ℕ) → IsThere known (path_of a) → IfSome known (MissingEnds status)
-  there_is status there = some_also known (λ paths. IsThere (Some paths) (path_of a)) (MissingEnds status)
-      (λ paths is gone. absurd (not_both (path_of a) paths gone is)) (there_at (path_of a) known there)
+  there_is status there = IfSome_then known {Q = MissingEnds status} (there_at (path_of a) known there)
+      (λ paths is gone. absurd (not_both (path_of a) paths gone is))
 
   missing_if : (e : ToolError) → IsRefusal a known old new e → MissingIf a known old.reads new.reads (status_of_error e)
   missing_if Usage ends = absurd ends
   missing_if (Crowded crowding) ends = record { only = λ three. absurd (omega arith); always = λ roomy. absurd (roomy ends.1) }
-  missing_if (Missing path) ends = record { only = λ three. (ends.1, ends.2, ends.3); always = λ roomy. any_some known (MissingEnds 3) (λ paths gone. inl refl) }
-  missing_if ReadFault ends = record { only = λ three. absurd (omega arith); always = λ roomy. any_some known (MissingEnds 4) (λ paths gone. inr (inr (refl, ends.0))) }
+  missing_if (Missing path) ends = record { only = λ three. (ends.1, ends.2, ends.3); always = λ roomy. of_none known (MissingEnds 3) (λ paths gone. inl refl) }
+  missing_if ReadFault ends = record { only = λ three. absurd (omega arith); always = λ roomy. of_none known (MissingEnds 4) (λ paths gone. inr (inr (refl, ends.0))) }
   missing_if WriteFault ends = record { only = λ three. absurd (omega arith); always = λ roomy. there_is 5 ends.1 }
   missing_if LogFault ends = record { only = λ three. absurd (omega arith); always = λ roomy. there_is 6 ends.1 }
   missing_if OutFault ends = record { only = λ three. absurd (omega arith); always = λ roomy. there_is 7 ends.1 }
-  missing_if Memory ends = record { only = λ three. absurd (omega arith); always = λ roomy. any_some known (MissingEnds 8) (λ paths gone. inr (inl refl)) }
+  missing_if Memory ends = record { only = λ three. absurd (omega arith); always = λ roomy. of_none known (MissingEnds 8) (λ paths gone. inr (inl refl)) }
   missing_if (OverLimit limit) ends = record { only = λ three. absurd (omega arith); always = λ roomy. there_is 9 ends.1 }
 
   abbrev LimitEnds : ℕ → Paths → Type 0
   LimitEnds status paths = IsThere (Some paths) (path_of a) → ArePastLimit (pages_asked a paths) → (status ≡ 9) ⊎ ((status ≡ 8) ⊎ ((status ≡ 4) × Rose old.reads new.reads))
 
   below_limit : (status : ℕ) → HasPositionsAt a known → is_rewriting a ≡ true → IfSome known (LimitEnds status)
-  below_limit status has is = some_also known (λ paths. HasPositions a (pages_asked a paths)) (LimitEnds status) (λ paths h there past. absurd (not_past a (pages_asked a paths) is h past)) has
+  below_limit status has is = IfSome_then known {Q = LimitEnds status} has (λ paths h there past. absurd (not_past a (pages_asked a paths) is h past))
 
   both : (k : Option Paths) → IfSome k (λ paths. IsThere (Some paths) (path_of a)) → IfSome k (λ paths. ArePastLimit (pages_asked a paths))
       → IfSome k (λ paths. IsThere (Some paths) (path_of a) × ArePastLimit (pages_asked a paths))
@@ -87,17 +81,17 @@ module _ (a : Asked) (known : Option Paths) (old new : FaultCounts) where
   limit_if (Crowded crowding) ends = record { only = λ nine. absurd (omega arith); always = λ is roomy. absurd (roomy ends.1) }
   limit_if (Missing path) ends = record {
     only = λ nine. absurd (omega arith);
-    always = λ is roomy. some_also known (λ paths. IsMissing (Some paths) (path_of a)) (LimitEnds 3)
-        (λ paths gone there past. absurd (not_both (path_of a) paths gone there)) (missing_at (path_of a) known ends.1);
+    always = λ is roomy. IfSome_then known {Q = LimitEnds 3} (missing_at (path_of a) known ends.1)
+        (λ paths gone there past. absurd (not_both (path_of a) paths gone there));
   }
-  limit_if ReadFault ends = record { only = λ nine. absurd (omega arith); always = λ is roomy. any_some known (LimitEnds 4) (λ paths there past. inr (inr (refl, ends.0))) }
+  limit_if ReadFault ends = record { only = λ nine. absurd (omega arith); always = λ is roomy. of_none known (LimitEnds 4) (λ paths there past. inr (inr (refl, ends.0))) }
   limit_if WriteFault ends = record { only = λ nine. absurd (omega arith); always = λ is roomy. below_limit 5 ends.4 is }
   limit_if LogFault ends = record { only = λ nine. absurd (omega arith); always = λ is roomy. below_limit 6 ends.4 is }
   limit_if OutFault ends = record { only = λ nine. absurd (omega arith); always = λ is roomy. below_limit 7 ends.3 is }
-  limit_if Memory ends = record { only = λ nine. absurd (omega arith); always = λ is roomy. any_some known (LimitEnds 8) (λ paths there past. inr (inl refl)) }
+  limit_if Memory ends = record { only = λ nine. absurd (omega arith); always = λ is roomy. of_none known (LimitEnds 8) (λ paths there past. inr (inl refl)) }
   limit_if (OverLimit limit) ends = record {
     only = λ nine. (ends.3, ends.2, both known (there_at (path_of a) known ends.1) (past_by known (pages_asked a) limit ends.0));
-    always = λ is roomy. any_some known (LimitEnds 9) (λ paths there past. inl refl);
+    always = λ is roomy. of_none known (LimitEnds 9) (λ paths there past. inl refl);
   }
 
 -- a count that was not at its last value and stayed did not rise

@@ -1,6 +1,7 @@
 -- A tag store and a change of a map keep the maps exact.
 use Rattle.std.proofs.Common.{◌≡◌, ◌≢◌, ℕ, ◌<◌, nat_eq, Bool, true, false, sym, ap, refl, ◌∙◌, subst, arith, Option, Some, None}
 use Rattle.std.proofs.lemmas.Bool.{eqb-true, eqb-false}
+use Rattle.std.proofs.lemmas.Option.{same_Some}
 use mathlib.Core.Logic.{dite}
 use native.Mathlib.Decide.{ℕ_discrete}
 use Rattle.pin_core.specs.declared.view.MapChange.{MapChange}
@@ -31,13 +32,10 @@ left_out : (o o' : Option ℕ) (c c' : MapChange) (g t f a b : ℕ) (same_turn :
     → (t ≡ a → o ≡ Some b) → PairLaw o' c' g t f
 left_out o o' c c' g t f a b same_turn h x y p q r = grind (arith, h, x, y, p, q, r)
 
-some_is : {x y : ℕ} → Some x ≡ Some y → x ≡ y
-some_is e = cc
-
 -- the map gives the frame that has the tag, where the pair isn't being entered
 pub gives_holder : (o : Option ℕ) (owed : MapChange) (t f : ℕ) → PairLaw o owed t t f → owed ≢ Entering t f → o ≡ Some f
 gives_holder None owed t f h other = absurd (other (h.tagged refl (λ e. cc)))
-gives_holder (Some g) owed t f h other = dite (ℕ_discrete g f) (λ e. ap Some e) (λ o. absurd (other (h.tagged refl (λ e. o (some_is e)))))
+gives_holder (Some g) owed t f h other = dite (ℕ_discrete g f) (λ e. ap Some e) (λ o. absurd (other (h.tagged refl (λ e. o (same_Some g f e)))))
 
 one_holder : (o : Option ℕ) (c : MapChange) (t f g : ℕ) → PairLaw o c t t f → PairLaw o c t t g → f ≡ g
 one_holder o c t f g x y = grind (arith, x, y)
@@ -93,7 +91,7 @@ module _ (n : ℕ) (of : ℕ → ℕ) (gives : ℕ → ℕ → Option ℕ) (owed
     pairs = λ t f nt bf. entered (gives (of t) t) (gives' (of t) t) (owed (of t)) (owed' (of t)) (word f) t f a b (nat_eq (of t) q) (h.pairs t f nt bf) (λ e. at_tag q a x gives' gh ge (of t) t (ap of e ∙ pair.placed) e) (λ o. at_other q a x gives' gh ge (of t) t o)
         (λ e. let is : of t ≡ q = eqb-true (of t) q e in (ap owed is ∙ owes, oh (of t) is)) (λ e. let isnt = eqb-false (of t) q e in (oe (of t) isnt, λ same. isnt (ap of same ∙ pair.placed))) (λ e. ap (λ (z : ℕ). gives (of z) z) e ∙ lacks);
     mapped = λ p t f e. dite (ℕ_discrete t a)
-        (λ same. dite (ℕ_discrete p q) (λ is. let bf : b ≡ f = some_is (sym (at_tag q a x gives' gh ge p t is same) ∙ e) in subst (λ (z : ℕ × ℕ × ℕ). IsPair n of z.0 z.1 z.2) (λ k. (sym is k, sym same k, bf k)) pair)
+        (λ same. dite (ℕ_discrete p q) (λ is. let bf : b ≡ f = same_Some b f (sym (at_tag q a x gives' gh ge p t is same) ∙ e) in subst (λ (z : ℕ × ℕ × ℕ). IsPair n of z.0 z.1 z.2) (λ k. (sym is k, sym same k, bf k)) pair)
         (λ o. h.mapped p t f (sym (at_else q a x gives' gh ge p t o) ∙ e)))
         (λ o. h.mapped p t f (sym (at_other q a x gives' gh ge p t o) ∙ e));
     changing = changing_none q owed' oh oe;

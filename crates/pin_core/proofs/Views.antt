@@ -1,10 +1,12 @@
 -- The list of views, and tags, as a step changes them.
-use Rattle.std.proofs.Common.{◌≡◌, ◌≢◌, ℕ, zero, suc, ◌+◌, ◌<◌, false, List, [], ◌∷◌, ◌++◌, length, set, length-set, length-append, sym, refl, ap, ◌∙◌, subst, ⊎_elim, arith}
+use Rattle.std.proofs.Common.{◌≡◌, ◌≢◌, ℕ, zero, suc, ◌+◌, ◌<◌, false, List, [], ◌∷◌, ◌++◌, length, set, length-set, length-append, sym, refl, ap, ◌∙◌, subst, ⊎_elim, arith, get_or}
 use mathlib.Core.Option.{some, some-injective}
 use lib.ListN.{get_elem?, length-replicate}
 use Rattle.pin_core.specs.declared.view.View.{View}
 use Rattle.pin_core.specs.State.{link, idle, hold, no_partition, new_view, emptied_view, joined_view}
 use Rattle.pin_core.specs.Invariant.{ViewsLaw, live_weight, AllAccounted}
+use Rattle.pin_core.specs.declared.view.Link.{Link}
+use Rattle.pin_core.specs.declared.view.PartitionHold.{PartitionHold}
 use Rattle.grid.proofs.Sums.{total-set, total-snoc}
 use Rattle.grid.proofs.Lists.{at_set, at_end, at_longer, set_here, set_else}
 
@@ -28,6 +30,13 @@ pub hold_new : (n p m number base q : ℕ) → hold (new_view number base n p m)
 hold_new n zero m number base q = refl
 hold_new n (suc p) m number base zero = refl
 hold_new n (suc p) m number base (suc q) = hold_new n p m number base q
+
+-- what a view has of a frame and of a partition, where it has the same lists
+pub link_same : (v w : View) → w.links ≡ v.links → (f : ℕ) → link w f ≡ link v f
+link_same v w e f = ap (λ (l : List Link). get_or l f idle) e
+
+pub hold_same : (v w : View) → w.partitions ≡ v.partitions → (p : ℕ) → hold w p ≡ hold v p
+hold_same v w e p = ap (λ (l : List PartitionHold). get_or l p no_partition) e
 
 module _ (frames partitions backends : ℕ) (views : List View) (h : ViewsLaw frames partitions backends views) where
   pub views_set : (i : ℕ) (v w : View) → get_elem? views i ≡ some v → SameBackend v w → ViewsLaw frames partitions backends (set views i w)

@@ -1,19 +1,17 @@
 -- What the steps of a rewrite leave of a host's files.
-use Rattle.std.proofs.Common.{◌≡◌, ◌≢◌, ℕ, ◌<◌, ◌≤◌, Bool, true, false, List, [], ◌++◌, length, map, Option, Some, None, Result, Ok, Err, refl, sym, ap, ◌∙◌, subst, inl, inr, arith}
+use Rattle.std.proofs.Common.{◌≡◌, ◌≢◌, ℕ, ◌<◌, Bool, true, false, List, [], ◌++◌, map, Option, Some, None, Result, Ok, Err, refl, sym, ap, ◌∙◌, subst, arith}
 use Rattle.std.specs.Prelude.{All, IfErr, IfOk, IfSome, IsSome, IsSomeAnd, OnOk, option_map}
-use Rattle.std.specs.Str.{bytes_eq}
-use Rattle.std.proofs.lemmas.Bool.{cases_Bool}
 use Rattle.block_tag.specs.declared.tag.Fork.{Fork}
 use Rattle.block_tag.specs.declared.tag.Fork.TheVariants.{Main}
 use Rattle.log_device.specs.Bytes.{Puts}
 use Rattle.log_device.specs.MemoryLog.{StoredLog}
 use Rattle.page_layout.specs.declared.outcomes.RewriteTotals.{RewriteTotals}
+use Rattle.segment_store.specs.declared.host.Host as host
 use Rattle.segment_store.specs.Contents.{Marks, Pages, no_marks}
 use Rattle.segment_store.specs.Lanes.{HoldPages, mark_in, tag_at}
 use Rattle.segment_store.specs.Logs.{Logs, empty_log, given_log, logs_after, with_log}
 use Rattle.segment_store.specs.Paths.{OpenAt, PathMarks, Paths, fork_of}
-use Rattle.segment_store.specs.Relation.{relation_of}
-use Rattle.segment_store.specs.Restored.{cleared, marks_after, pages_in, paths_after}
+use Rattle.segment_store.specs.Restored.{marks_after, pages_in, paths_after}
 use Rattle.segment_store.proofs.GivenBack.{paths_same}
 use Rattle.pin_core.specs.State.{Page}
 use Rattle.history_core.specs.Log.{head_bytes}
@@ -22,9 +20,8 @@ use Rattle.relation_commands.specs.declared.rewriting.RewriteError.{RewriteError
 use Rattle.relation_commands.specs.declared.rewriting.RewriteError.TheVariants.{ReadFault, WriteFault, LogFault, OutFault, Memory, OverLimit}
 use Rattle.relation_commands.specs.declared.starting.RelationFork.{RelationFork}
 use Rattle.relation_commands.specs.Limits.{log_base}
-use Rattle.relation_commands.specs.Listings.{NoneFails}
 use Rattle.relation_commands.specs.Request.{RewriteAsked}
-use Rattle.relation_commands.specs.RewriteCommand.{AreSurveyed, IsLogRefusal, IsPutRefusal, IsSurveyRefusal, LeavesByEnd, OpensLog, rewrite_status}
+use Rattle.relation_commands.specs.RewriteCommand.{AreSurveyed, IsLogRefusal, IsPutRefusal, IsSurveyRefusal, LeavesByEnd, OpensLog}
 use Rattle.relation_commands.specs.RewriteFiles.{BecomesOf, Changes, HostFiles, IsHeadBegun, IsRewrittenAt, KeepsFiles, KeepsPaths, RewriteLeaves, RewritesFiles, files_of, fork_at, log_opened, main_rule, pages_at, relation_at, rewrote, untouched, with_blocks}
 use Rattle.relation_commands.specs.RewriteResults.{IsRewrittenFile, LeavesEither}
 use Rattle.relation_commands.specs.Rewriting.{ArePages, HasPositionsLeft, HasRewriteCause, IsRewriteCause, LeavesRewritten, failed_after, pages_after}
@@ -39,6 +36,9 @@ pub record Told : Type 0 where
   pub open_at : OpenAt
   pub logs : Option Logs
   pub log_at : List ℕ
+
+abbrev pub told : {S : Type 0} → host.Ghosts S → S → Told
+told g s = record { contents = g.contents s; failed = g.failed_writes s; open_at = g.open_at s; logs = g.logs s; log_at = g.log_at s }
 
 -- Neither the paths nor what is open changed
 pub record SamePaths (a b : Told) : Type 0 where
@@ -72,7 +72,7 @@ becomes_by (Some paths) marks (Some logs) c Leaves all =
 at_some : {A : Type 0} (o : Option A) (P : A → Type 0) (x : A) → o ≡ Some x → IfSome o P → P x
 at_some {A = A} o P x is all = subst (λ (p : Option A). IfSome p P) is all
 
-of_none : {A : Type 0} (o : Option A) (P : A → Type 0) → ((x : A) → P x) → IfSome o P
+pub of_none : {A : Type 0} (o : Option A) (P : A → Type 0) → ((x : A) → P x) → IfSome o P
 of_none None P all = tt
 of_none (Some x) P all = all x
 

@@ -3,7 +3,7 @@ mod Counting
 mod Surveyed
 mod MainFork
 mod GivingBack
-mod GivenFiles
+pub mod GivenFiles
 mod Putting
 pub mod Stepping
 mod Listed

@@ -2,6 +2,7 @@
 use Rattle.std.proofs.Common.{◌≡◌, ℕ, zero, suc, ◌+◌, ◌-◌, ◌<◌, ◌≤◌, ◌^◌, List, [], ◌∷◌, length, take, drop, Option, Result, Ok, Err, refl, sym, ap, ◌∙◌, subst, arith}
 use Rattle.std.specs.Prelude.{IfOk}
 use Rattle.std.proofs.lemmas.List.{append_cancel_left}
+use Rattle.std.proofs.lemmas.Bool.{lt-ltb}
 use mathlib.Core.Option.{some, some-injective, some-ne-none}
 use lib.ListN.{get_elem?}
 use Rattle.block_tag.specs.declared.tag.Fork.{Fork}
@@ -24,7 +25,7 @@ use Rattle.page_jobs.proofs.Deals.{start_first, start_last, start_le}
 use Rattle.page_jobs.proofs.Origin.{AtBase, origins, summaries_origin}
 use Rattle.page_jobs.proofs.Standing.{there}
 use Rattle.relation_commands.specs.Causes.{scan_totals_in}
-use Rattle.relation_commands.proofs.RewriteLeaves.{below_test, block_named}
+use Rattle.relation_commands.proofs.RewriteLeaves.{block_named}
 
 -- a call that reads has its place at this front or before it
 abbrev ReadsWithin : ℕ → List Call → Type 0
@@ -118,7 +119,7 @@ module _ {L G : Type 0} (contents : L → Option Pages) (m : Manager L G) (fork 
       let named = origins contents m 0 fork pages 0
       (λ block low. record {
         named = block_named block (omega arith);
-        listed = below_test block (blocks_in m 0 fork) (omega arith);
+        listed = lt-ltb block (blocks_in m 0 fork) (omega arith);
         placed = refl;
       })
       (λ i block page e there.

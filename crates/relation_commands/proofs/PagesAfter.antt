@@ -4,6 +4,7 @@ use Rattle.std.specs.Prelude.{slice_get}
 use Rattle.std.specs.List.{range_with_len}
 use Rattle.std.proofs.lemmas.List.{length-drop, length-map}
 use Rattle.std.proofs.lemmas.List.FromFn.{length-range_with_len}
+use Rattle.std.proofs.Math.Bool.{or-true}
 use mathlib.Core.Option.{some}
 use lib.ListN.{get_elem?}
 use Rattle.page_layout.specs.declared.outcomes.PageRewrite.TheVariants.{Invalid, New, Used}
@@ -14,7 +15,7 @@ use Rattle.page_layout.specs.Outcomes.{is_changed_outcome, page_rewrite_of}
 use Rattle.page_layout.specs.Positions.{DifferInPositions, DiffersInPosition}
 use Rattle.page_layout.specs.Rewritten.{is_skipped, new_byte, rewrite_of, rewritten_page}
 use Rattle.page_layout.specs.Soundness.{IsUsedPage, is_new_page, is_sound_header, is_sound_page}
-use Rattle.page_layout.proofs.Positions.{header_used, or_true, same_header, sound_used}
+use Rattle.page_layout.proofs.Positions.{header_used, same_header, sound_used}
 use Rattle.pin_core.specs.State.{Page}
 use Rattle.page_jobs.proofs.Standing.{all_at}
 use Rattle.relation_commands.specs.RewriteResults.{AreFull, page_after}
@@ -27,7 +28,7 @@ used_without lsn page is size =
     let header = sym (same_header lsn page long) ∙ sound_used (is_new_page (with_lsn lsn page)) (is_sound_header (header_of (with_lsn lsn page))) is.sound is.used in
     record {
       size = size;
-      sound = ap (λ (b : Bool). is_new_page page || b) header ∙ or_true (is_new_page page);
+      sound = ap (λ (b : Bool). is_new_page page || b) header ∙ or-true (is_new_page page);
       used = header_used page header;
     }
 

@@ -12,7 +12,7 @@ use Rattle.backend_pass.specs.FrameFlushes.{RefusesFrame, frame_refusal}
 use Rattle.backend_pass.specs.Managers.{Belongs}
 use Rattle.backend_pass.specs.Passes.{KeepsCallers, KeepsMark, PassState, SamePass}
 use Rattle.backend_pass.proofs.Seated.{same_on}
-use Rattle.checkpointer.proofs.Keeping.{callers_none, callers_on, pass_none}
+use Rattle.backend_pass.proofs.Keeping.{callers_none, callers_on, pass_none}
 use Rattle.page_jobs.specs.Beside.{WorksBeside}
 
 module _ {L G : Type 0} (contents : L → Option Pages) (m : Manager L G) where

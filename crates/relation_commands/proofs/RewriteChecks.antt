@@ -12,13 +12,9 @@ use Rattle.backend_pass.specs.Passes.{KeepsCallers, PassState}
 use Rattle.checkpointer.specs.declared.ending.CheckpointError.{CheckpointError}
 use Rattle.page_jobs.specs.Jobs.{HaveNoTokens}
 use Rattle.page_jobs.specs.Reads.{HasNoTokens}
+use Rattle.grid.proofs.Lists.{at_last}
 use Rattle.relation_commands.specs.Checkpointing.{ChecksByLast, LastMeets, PassMeets, StoresAll, SweepsPast}
 use Rattle.relation_commands.specs.Rewriting.{checkpoint_error}
-
--- the last of passes
-last_at : (ps : List PassState) (p : PassState) → get_elem? (ps ++ p ∷ []) (length ps) ≡ some p
-last_at [] p = refl
-last_at (x ∷ ps) p = last_at ps p
 
 -- and the others
 front_at : (ps : List PassState) (p q : PassState) (i : ℕ) → i < length ps → get_elem? (ps ++ q ∷ []) i ≡ get_elem? (ps ++ p ∷ []) i
@@ -43,11 +39,11 @@ module _ {L G : Type 0} (contents : L → Option Pages) (m : Manager L G) where
 
     pub was_last : get_elem? all (length all - 1) ≡ some p
     was_last = let n = long in let here : length all - 1 ≡ length ps = omega arith in
-        ap (λ (k : ℕ). get_elem? all k) here ∙ ap (λ (l : List PassState). get_elem? l (length ps)) before ∙ last_at ps p
+        ap (λ (k : ℕ). get_elem? all k) here ∙ ap (λ (l : List PassState). get_elem? l (length ps)) before ∙ at_last ps p
 
     is_last : get_elem? all' (length all - 1) ≡ some q
     is_last = let n = long in let here : length all - 1 ≡ length ps = omega arith in
-        ap (λ (k : ℕ). get_elem? all' k) here ∙ ap (λ (l : List PassState). get_elem? l (length ps)) after ∙ last_at ps q
+        ap (λ (k : ℕ). get_elem? all' k) here ∙ ap (λ (l : List PassState). get_elem? l (length ps)) after ∙ at_last ps q
 
     pub free_of_last : HaveNoTokens contents m all → HasNoTokens contents m p
     free_of_last free = free_last ps p (subst (HaveNoTokens contents m) before free)

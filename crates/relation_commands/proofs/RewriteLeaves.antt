@@ -4,6 +4,7 @@ use Rattle.std.specs.Prelude.{IfSome, IsSomeAnd, is_some}
 use Rattle.std.specs.Option.{option_and_then}
 use Rattle.std.proofs.lemmas.List.{length-map}
 use Rattle.std.proofs.lemmas.Option.{same_Some}
+use Rattle.std.proofs.lemmas.Bool.{lt-ltb}
 use mathlib.Core.Option.{some, some-injective, some-ne-none}
 use lib.ListN.{get_elem?}
 use Rattle.block_tag.specs.declared.tag.Fork.{Fork}
@@ -31,6 +32,7 @@ use Rattle.page_jobs.specs.RewriteCloses.{HasImage, HoldEither, IsInLanes}
 use Rattle.page_jobs.specs.RewriteEnds.{HasRewrites, IsRewrite}
 use Rattle.page_jobs.specs.Rewrites.{Rule, rule_of}
 use Rattle.page_jobs.proofs.Standing.{found, inside, mapped_or, standing_or, there}
+use Rattle.page_jobs.proofs.ReadersLeave.{some_of}
 use Rattle.relation_commands.specs.declared.starting.RelationFork.{RelationFork}
 use Rattle.relation_commands.specs.Limits.{largest_lsn, sound_lsn}
 use Rattle.relation_commands.specs.RewriteResults.{AreFull, BeginsWith, HasDurableEntry, HasImages, IsImageOf, LeavesEither}
@@ -78,9 +80,6 @@ has_page : (x : Option Pages) (tag : Tag) (page : Page) → option_and_then (λ 
 has_page None tag page is = absurd (cc)
 has_page (Some pages) tag page is = is
 
-pub below_test : (a b : ℕ) → a < b → nat_lt a b ≡ true
-below_test a b low = grind arith
-
 pub block_named : (block : ℕ) → block < 2 ^ 32 - 1 → nat_lt 0 1024 && nat_lt block (2 ^ 32 - 1) ≡ true
 block_named block low = grind arith
 
@@ -105,13 +104,9 @@ module _ {L G : Type 0} (d : Devices L G) (m : Manager L G) (r : RelationFork) (
   placed : (block : ℕ) → block < r.blocks → IsPlaced (relations_of m.table) (lanes_in m.table) (lane_number (tag_at r.fork block) (lanes_in m.table)) ((rule_at r).tag block) (tag_at r.fork block)
   placed block low = record {
     named = packed_is (tag_at r.fork block) (named block low);
-    listed = ap (nat_lt block) started.catalog.counted ∙ below_test block r.blocks low;
+    listed = ap (nat_lt block) started.catalog.counted ∙ lt-ltb block r.blocks low;
     placed = refl;
   }
-
-  some_of : (x : Option Pages) → is_some x ≡ true → (p : Pages) × (x ≡ Some p)
-  some_of None e = absurd (let no : false ≡ true = e in cc)
-  some_of (Some p) e = (p, refl)
 
   pub names_are : c.state.names ≡ names_of r
   names_are = c.opened.names ∙ ap log_name started.entries

@@ -4,37 +4,32 @@ use mathlib.Core.Logic.{dite}
 use mathlib.Core.Option.{some, some-injective, some-ne-none}
 use native.Mathlib.Decide.{dec_le}
 use lib.ListN.{get_elem?}
-use Rattle.grid.specs.Shape.{total}
 use Rattle.block_tag.specs.declared.tag.Fork.{Fork}
 use Rattle.segment_store.specs.Contents.{Pages}
 use Rattle.pin_core.specs.declared.view.View.{View}
 use Rattle.pin_core.specs.State.{link}
-use Rattle.history_core.specs.Log.{writes_in}
 use Rattle.frame_table.specs.Seats.{base_of, frames_of, lanes_in, opened_of}
 use Rattle.frame_table.proofs.Resting.{new_rests}
 use Rattle.backend_pass.specs.declared.manager.Manager.{Manager}
 use Rattle.backend_pass.specs.Managers.{AreAll, AreNewPasses, Belongs}
 use Rattle.backend_pass.specs.Passes.{KeepsCallers, PassState}
+use Rattle.backend_pass.proofs.Keeping.{callers_none}
 use Rattle.checkpointer.specs.Stages.{HasNoLock}
-use Rattle.checkpointer.proofs.Keeping.{callers_none, no_lock_after}
+use Rattle.checkpointer.proofs.Keeping.{no_lock_after}
 use Rattle.page_jobs.specs.Beside.{StaysBeside, WorksBeside}
 use Rattle.page_jobs.specs.Jobs.{HaveNoTokens, workers_in}
 use Rattle.page_jobs.specs.Reads.{HasNoTokens}
 use Rattle.page_jobs.specs.Relations.{MeetNothing}
 use Rattle.page_jobs.specs.RewriteCloses.{PutsNoMore, RewritesAlone}
 use Rattle.page_jobs.specs.RewriteJobs.{RewriteParts}
-use Rattle.page_jobs.proofs.Backends.{IsGiven, all_of, came_back, new_put_nothing}
+use Rattle.page_jobs.proofs.Backends.{IsGiven, all_of, came_back, new_put_nothing, puts_nothing}
 use Rattle.page_jobs.proofs.RewriteBackends.{each_given}
 use Rattle.page_jobs.proofs.Standing.{inside, there}
 use Rattle.relation_commands.specs.Checkpointing.{ChecksByLast, StoresAll}
 
-none_put : writes_in [] ≡ 0
-unfolding total
-none_put = refl
-
 -- a pass that kept its calls put nothing more
 puts_no_more : (q z : PassState) → z.view.calls ≡ q.view.calls → PutsNoMore q z
-puts_no_more q z same = record { more = []; calls = same ∙ sym (append-nil q.view.calls); reads = none_put }
+puts_no_more q z same = record { more = []; calls = same ∙ sym (append-nil q.view.calls); reads = puts_nothing }
 
 module _ {L G : Type 0} (contents : L → Option Pages) (m : Manager L G) where
   free_each : (ps : List PassState) → ((i : ℕ) (p : PassState) → get_elem? ps i ≡ some p → HasNoTokens contents m p) → HaveNoTokens contents m ps

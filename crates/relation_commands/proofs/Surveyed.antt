@@ -1,14 +1,14 @@
 -- The largest position that a survey found is that of the pages.
-use Rattle.std.proofs.Common.{◌≡◌, ◌⊎◌, ℕ, zero, suc, ◌+◌, ◌<◌, ◌≤◌, Bool, true, false, List, [], ◌∷◌, get_or, length, map, max, Option, Some, None, refl, sym, ap, ◌∙◌, subst, ⊎_elim, inl, inr, arith}
-use Rattle.std.specs.Prelude.{IsSomeAnd, nat_lt}
+use Rattle.std.proofs.Common.{◌≡◌, ℕ, zero, suc, ◌<◌, ◌≤◌, true, false, List, [], ◌∷◌, get_or, length, Option, Some, None, refl, sym, subst, ⊎_elim, arith}
+use Rattle.std.specs.Prelude.{IsSomeAnd}
 use Rattle.std.specs.Option.{ForSome, option_and_then}
-use Rattle.std.proofs.lemmas.Bool.{cases_Bool}
+use Rattle.std.proofs.lemmas.Bool.{cases_Bool, lt-ltb, ltb-true}
 use Rattle.block_tag.specs.declared.catalogue.RelEntry.{RelEntry}
 use Rattle.block_tag.specs.declared.tag.Tag.{Tag}
 use Rattle.page_layout.specs.Fields.{lsn_of}
 use Rattle.page_layout.specs.Soundness.{is_sound_page}
 use Rattle.segment_store.specs.Contents.{Pages}
-use Rattle.segment_store.specs.Lanes.{HasPage, HoldPages, lane_at, page_in, tag_at}
+use Rattle.segment_store.specs.Lanes.{HasPage, HoldPages, lane_at, tag_at}
 use Rattle.pin_core.specs.State.{Page}
 use Rattle.block_tag.specs.declared.tag.Fork.{Fork}
 use Rattle.page_jobs.specs.Relations.{IsCatalogOf}
@@ -45,17 +45,11 @@ reached [] k below = absurd (omega arith)
 reached (page ∷ pages) zero below = omega arith
 reached (page ∷ pages) (suc k) below = let rest = reached pages k (omega arith) in omega (arith, rest)
 
-lt_true : (a b : ℕ) → a < b → nat_lt a b ≡ true
-lt_true a b below = grind arith
-
-true_lt : (a b : ℕ) → nat_lt a b ≡ true → a < b
-true_lt a b is = grind arith
-
 module _ (fork : Fork) (blocks : ℕ) (catalog : List RelEntry) (lanes : List (Option Pages)) (pages : List Page) (largest : ℕ)
     (all : IsCatalogOf fork blocks catalog) (held : HoldPages fork pages lanes) (counted : blocks ≡ length pages)
     (is : IsLargestLsn (IsListed catalog) lanes largest) where
   listed : (block : ℕ) → block < length pages → IsListed catalog (tag_at fork block)
-  listed block below = lt_true block _ (let n = all.counted in omega (arith, n))
+  listed block below = lt-ltb block _ (let n = all.counted in omega (arith, n))
 
   at_most : largest_lsn pages ≤ largest
   at_most = bounded pages largest (λ k below. ⊎_elim
@@ -71,7 +65,7 @@ module _ (fork : Fork) (blocks : ℕ) (catalog : List RelEntry) (lanes : List (O
       let own = all.alone tag of.listed in
       let within : tag.block < length pages =
       (let n = all.counted in
-      let here = true_lt _ _ (subst (λ (t : Tag). IsListed catalog t) own of.listed) in omega (arith, n, here)) in
+      let here = ltb-true _ _ (subst (λ (t : Tag). IsListed catalog t) own of.listed) in omega (arith, n, here)) in
       let has = subst (λ (t : Tag). HasPage t (get_or pages tag.block []) lanes) (sym own) (held tag.block within) in
       let sound = sound_there (lane_at lanes tag) tag (get_or pages tag.block []) largest has of.page in
       let position = sound_position (get_or pages tag.block []) sound.sound in

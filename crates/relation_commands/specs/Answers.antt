@@ -9,11 +9,12 @@ use Rattle.segment_store.specs.Paths.{PathMarks, Paths}
 use Rattle.segment_store.specs.Relation.{relation_of}
 use Rattle.pin_core.specs.State.{Page}
 use Rattle.history_core.specs.Log.{record_size}
+use Rattle.history_core.specs.State.{last_position}
 use Rattle.relation_commands.specs.declared.error.ToolError.{ToolError}
 use Rattle.relation_commands.specs.declared.error.ToolError.TheVariants.{Usage, Crowded, Missing, ReadFault, WriteFault, LogFault, OutFault, Memory, OverLimit}
 use Rattle.relation_commands.specs.declared.limits.PositionLimit.{PositionLimit}
 use Rattle.relation_commands.specs.declared.limits.PositionLimit.TheVariants.{OfPages, OfPage, OfLog}
-use Rattle.relation_commands.specs.Limits.{PassesLimit, largest_lsn, last_position}
+use Rattle.relation_commands.specs.Limits.{PassesLimit, largest_lsn}
 use Rattle.relation_commands.specs.Listings.{NoneFails, text_of}
 use Rattle.relation_commands.specs.Request.{Asked, IsCrowded, ListingAsked, crowding_of, is_rewriting, listing, rewriting, sampling, options_of, path_of}
 use Rattle.relation_commands.specs.RewriteFiles.{HostFiles, RewritesFiles, files_of, pages_at}

@@ -12,6 +12,7 @@ use Rattle.segment_store.specs.Contents.{Pages}
 use Rattle.pin_core.specs.declared.view.View.{View}
 use Rattle.pin_core.specs.State.{Page}
 use Rattle.history_core.specs.Log.{record_size}
+use Rattle.history_core.specs.State.{last_position}
 use Rattle.table_rule.specs.Blocks.{has_block}
 use Rattle.frame_table.specs.declared.table.FrameTable.{FrameTable}
 use Rattle.frame_table.specs.Opened.{WasAtOpening}
@@ -30,7 +31,6 @@ use Rattle.page_jobs.specs.RewriteJobs.{EndsRewrite, RewritesFork}
 use Rattle.relation_commands.specs.declared.limits.PositionLimit.TheVariants.{OfPages, OfPage, OfLog}
 use Rattle.relation_commands.specs.declared.rewriting.RewriteError.{RewriteError}
 use Rattle.relation_commands.specs.declared.rewriting.RewriteError.TheVariants.{ReadFault, WriteFault, LogFault, OutFault, Memory, OverLimit}
-use Rattle.relation_commands.specs.Limits.{last_position}
 use Rattle.relation_commands.specs.Rewriting.{checkpoint_error, rewrite_error, rewrite_totals_in}
 
 -- The view has swept each of so many lanes up to a position that is at least this one

@@ -1,9 +1,10 @@
--- Where the log of a rewrite begins, and the last position that it can have.
-use Rattle.std.specs.Prelude.{ℕ, ◌+◌, ◌*◌, ◌/◌, ◌^◌, ◌<◌, List, [], ◌∷◌, length, max, if◌then◌else◌}
+-- Where the log of a rewrite begins, and whether it can have its records.
+use Rattle.std.specs.Prelude.{ℕ, ◌+◌, ◌*◌, ◌/◌, ◌<◌, List, [], ◌∷◌, max, if◌then◌else◌}
 use Rattle.page_layout.specs.Fields.{lsn_of}
 use Rattle.page_layout.specs.Soundness.{is_sound_page}
 use Rattle.pin_core.specs.State.{Page}
 use Rattle.history_core.specs.Log.{record_size}
+use Rattle.history_core.specs.State.{last_position}
 
 -- the log position of a page that is sound, and 0 of another
 abbrev pub sound_lsn : Page → ℕ
@@ -21,9 +22,6 @@ rounded_up lsn = (lsn + 7) / 8 * 8
 -- where the log of a rewrite of these pages begins
 unfoldable pub log_base : List Page → ℕ
 log_base pages = rounded_up (largest_lsn pages)
-
-abbrev pub last_position : ℕ
-last_position = 2 ^ 62
 
 -- a record of each of so many blocks could pass the last position
 abbrev pub PassesLimit : ℕ → ℕ → Type 0

@@ -1,8 +1,6 @@
 -- The steps of a rewrite of a host's relation: the survey, the log, the rewrite, and what is printed.
-use Rattle.std.specs.Prelude.{◌≡◌, ◌≢◌, ◌⊎◌, ℕ, ◌+◌, ◌*◌, ◌%◌, ◌^◌, ◌<◌, ◌≤◌, List, [], All, length, map, sum_by, Option, Some, None, IfSome, OnOk, Result, Ok, Err, MatchResult, option_map}
-use Rattle.std.specs.Option.{option_map_or}
+use Rattle.std.specs.Prelude.{◌≡◌, ◌≢◌, ◌⊎◌, ℕ, ◌+◌, ◌*◌, ◌%◌, ◌<◌, ◌≤◌, List, [], All, length, map, sum_by, Option, Some, None, IfSome, Result, Ok, Err, MatchResult, option_map}
 use Rattle.log_device.specs.Faults.{Rose}
-use Rattle.segment_store.specs.declared.host.LogOpen.{LogOpen}
 use Rattle.segment_store.specs.declared.host.LogOpen.TheVariants as opening
 use Rattle.segment_store.specs.Contents.{Marks, Pages, no_marks}
 use Rattle.segment_store.specs.Lanes.{HasBlocks}
@@ -10,12 +8,13 @@ use Rattle.segment_store.specs.Logs.{Logs, empty_log, with_log}
 use Rattle.segment_store.specs.Paths.{Paths}
 use Rattle.pin_core.specs.State.{Page}
 use Rattle.history_core.specs.Log.{record_size}
-use Rattle.relation_commands.specs.declared.limits.PositionLimit.TheVariants.{OfPages, OfPage, OfLog}
+use Rattle.history_core.specs.State.{last_position}
+use Rattle.relation_commands.specs.declared.limits.PositionLimit.TheVariants.{OfPages}
 use Rattle.relation_commands.specs.declared.rewriting.RewriteError.{RewriteError}
 use Rattle.relation_commands.specs.declared.rewriting.RewriteError.TheVariants.{ReadFault, WriteFault, LogFault, OutFault, Memory, OverLimit}
 use Rattle.relation_commands.specs.declared.starting.RelationFork.{RelationFork}
 use Rattle.relation_commands.specs.Answers.{ArePastLimit, CountsLater, FaultCounts, IsOverLimit}
-use Rattle.relation_commands.specs.Limits.{PassesLimit, largest_lsn, last_position, log_base}
+use Rattle.relation_commands.specs.Limits.{PassesLimit, largest_lsn, log_base}
 use Rattle.relation_commands.specs.Request.{RewriteAsked}
 use Rattle.relation_commands.specs.RewriteFiles.{HostFiles, RewritesFiles, fork_at, pages_at}
 use Rattle.relation_commands.specs.Rewriting.{ArePages, HavePages}

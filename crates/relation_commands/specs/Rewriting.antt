@@ -8,6 +8,7 @@ use Rattle.page_layout.specs.declared.outcomes.RewriteTotals.{RewriteTotals}
 use Rattle.page_layout.specs.Outcomes.{rewrite_totals_of}
 use Rattle.pin_core.specs.State.{Page}
 use Rattle.history_core.specs.Log.{record_size}
+use Rattle.history_core.specs.State.{last_position}
 use Rattle.checkpointer.specs.declared.ending.CheckpointError.{CheckpointError}
 use Rattle.checkpointer.specs.declared.ending.CheckpointError.TheVariants as checkpoint
 use Rattle.page_jobs.specs.declared.ending.JobError.{JobError}
@@ -18,7 +19,7 @@ use Rattle.relation_commands.specs.declared.limits.PositionLimit.TheVariants.{Of
 use Rattle.relation_commands.specs.declared.rewriting.RewriteError.{RewriteError}
 use Rattle.relation_commands.specs.declared.rewriting.RewriteError.TheVariants.{ReadFault, WriteFault, LogFault, OutFault, Memory, OverLimit}
 use Rattle.relation_commands.specs.declared.starting.RelationFork.{RelationFork}
-use Rattle.relation_commands.specs.Limits.{largest_lsn, last_position}
+use Rattle.relation_commands.specs.Limits.{largest_lsn}
 use Rattle.relation_commands.specs.RewriteResults.{IsRewrittenFile, LeavesEither}
 use Rattle.relation_commands.specs.Starting.{names_of}
 

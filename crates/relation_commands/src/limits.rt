@@ -1,16 +1,13 @@
 //! The log positions of a rewrite: where its log begins, and the last one.
 ghost use Rattle.std.specs.Prelude.{◌≡◌, ◌≤◌, ◌*◌, ◌+◌, IfErr, IfOk, Some};
-ghost use Rattle.relation_commands.specs.Limits.{PassesLimit, last_position, rounded_up};
+ghost use Rattle.history_core.specs.State.{last_position};
+ghost use Rattle.relation_commands.specs.Limits.{PassesLimit, rounded_up};
 ghost use Rattle.relation_commands.specs.Status.{position_limit_text};
 
 use page_layout::{Lsn, Position};
 use std::fmt;
-
-/// The last position that a log can have.
-pub const LAST_POSITION: Lsn = 1 << 62;
-
-/// How many bytes of the log the record of a page takes.
-pub const RECORD_SIZE: Lsn = 8224;
+use table_rule::RECORD_SIZE;
+use wal_flush::LAST_POSITION;
 
 /// What would take the log past its last position.
 #[derive(Clone, Copy, PartialEq, Eq, Debug)]

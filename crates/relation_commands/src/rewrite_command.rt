@@ -21,7 +21,7 @@ ghost use Rattle.relation_commands.specs.Status.{log_error, status_of, status_of
 ghost use Rattle.block_tag.specs.declared.tag.Fork.TheVariants.{Main};
 
 use crate::error::{ToolError, crowding_in};
-use crate::limits::{RECORD_SIZE, log_base};
+use crate::limits::log_base;
 use crate::lines::put_lines;
 use crate::request::{Request, RewriteRequest};
 use crate::rewriting::{RewriteEnd, RewriteError, rewrite_lanes};
@@ -35,6 +35,7 @@ use segment_store::{BlockLane, Host, LogOpen, Opened};
 use std::alloc::Global;
 use std::sync::Wait;
 use std::thread::Threads;
+use table_rule::RECORD_SIZE;
 use wal_flush::begin_log;
 
 /// The largest log position of the pages that the lanes have of the relation.

@@ -14,7 +14,6 @@ ghost use Rattle.sample_relation.specs.Relations.{sample_relation};
 
 use crate::discard::Discard;
 use crate::error::{ToolError, crowding_in};
-use crate::limits::RECORD_SIZE;
 use crate::lines::put_lines;
 use crate::listing::{Listed, Listing, ListingEnd, list};
 use crate::request::SampleRequest;
@@ -31,6 +30,7 @@ use segment_store::BlockLane;
 use std::alloc::{AllocError, Global};
 use std::sync::Wait;
 use std::thread::Threads;
+use table_rule::RECORD_SIZE;
 
 /// The number of the relation.
 const RELATION_NUMBER: u32 = 1;

@@ -9,7 +9,6 @@ ghost use Rattle.history_core.specs.Log.{head_bytes};
 ghost use Rattle.page_jobs.specs.Relations.{IsCatalogOf};
 ghost use Rattle.relation_commands.specs.Starting.{IsStarted, log_of, relation_entry};
 
-use crate::limits::RECORD_SIZE;
 use backend_pass::{Config, Manager, Pass, StartRefused};
 use block_tag::{Catalog, Fork, RelEntry};
 use command_line::Options;
@@ -17,6 +16,7 @@ use log_device::{LogDevice, LogPlan, MemLog};
 use page_layout::Lsn;
 use segment_store::BlockLane;
 use std::alloc::{AllocError, Global};
+use table_rule::RECORD_SIZE;
 use wal_flush::begin_log;
 
 /// How many bytes a log's head has.

@@ -11,11 +11,9 @@ use Rattle.block_tag.specs.declared.tag.Fork.{Fork}
 use Rattle.block_tag.specs.declared.tag.Tag.{Tag}
 use Rattle.segment_store.specs.Contents.{Pages, with_page}
 use Rattle.segment_store.specs.Lanes.{HasPage, HoldPages, lane_at, tag_at}
+use Rattle.segment_store.proofs.Dealing.{has_page}
 use Rattle.sample_relation.specs.Relations.{sample_relation}
 use Rattle.sample_relation.specs.Samples.{sample_page}
-
-has_page : (lane : Option Pages) (held : Pages) (tag : Tag) (page : List ℕ) → lane ≡ Some held → held tag ≡ Some page → IsSomeAnd lane (λ pages. pages tag ≡ Some page)
-has_page lane held tag page is has = subst (λ (l : Option Pages). IsSomeAnd l (λ pages. pages tag ≡ Some page)) (sym is) has
 
 -- a lane that has the page of a tag still has it with the page of another
 keeps_page : (lane : Option Pages) (held : Pages) (tag other : Tag) (page new : List ℕ) → lane ≡ Some held → tag_eq tag other ≡ false

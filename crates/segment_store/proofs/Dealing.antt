@@ -111,7 +111,7 @@ own_here fork pages lanes block within =
     let mine : (lane_number (tag_at fork block) lanes == lane_number (tag_at fork block) lanes) ≡ true = eq-eqb (lane_number (tag_at fork block) lanes) (lane_number (tag_at fork block) lanes) refl in
     ap₂ (λ (a b : Bool). cond (a && b) (slice_get pages block) None) named mine ∙ slice_get-get_or pages block [] within
 
-has_page : (lane : Option Pages) (contents : Pages) (tag : Tag) (page : List ℕ) → lane ≡ Some contents → contents tag ≡ Some page → IsSomeAnd lane (λ pages. pages tag ≡ Some page)
+pub has_page : (lane : Option Pages) (contents : Pages) (tag : Tag) (page : List ℕ) → lane ≡ Some contents → contents tag ≡ Some page → IsSomeAnd lane (λ pages. pages tag ≡ Some page)
 has_page lane contents tag page is has = subst (λ (l : Option Pages). IsSomeAnd l (λ pages. pages tag ≡ Some page)) (sym is) has
 
 -- lanes that were dealt a relation hold it

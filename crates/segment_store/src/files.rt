@@ -46,12 +46,12 @@ impl<F: FileExt + OpenFile + Drop> FileLane<F> {
         Some((file, u64::from(place) * PAGE_SIZE as u64))
     }
 
-    fn read_block(&self, tag: Tag, page: &mut Page) -> Result<(), Failed> {
+    fn read_at_place(&self, tag: Tag, page: &mut Page) -> Result<(), Failed> {
         let (file, start) = self.place_of(tag).ok_or(Failed)?;
         page.read_at(file, start).map_err(|_| Failed)
     }
 
-    fn write_block(&self, tag: Tag, page: &Page) -> Result<(), Failed> {
+    fn write_at_place(&self, tag: Tag, page: &Page) -> Result<(), Failed> {
         let (file, start) = self.place_of(tag).ok_or(Failed)?;
         file.write_all_at(page.bytes(), start).map_err(|_| Failed)
     }
@@ -79,7 +79,7 @@ impl<F: FileExt + OpenFile + Drop> BlockLane for FileLane<F> {
 
     fn read(&mut self, tag: Tag, page: &mut Page) -> Result<(), Failed> {
         self.history.count_call();
-        if self.read_block(tag, page).is_ok() {
+        if self.read_at_place(tag, page).is_ok() {
             return Ok(());
         }
         self.read_faults.raise();
@@ -89,7 +89,7 @@ impl<F: FileExt + OpenFile + Drop> BlockLane for FileLane<F> {
     fn write(&mut self, tag: Tag, page: &Page) -> Result<(), Failed> {
         self.history.count_call();
         self.history.mark_written(tag);
-        if self.write_block(tag, page).is_ok() {
+        if self.write_at_place(tag, page).is_ok() {
             return Ok(());
         }
         self.write_faults.raise();
@@ -261,13 +261,6 @@ impl<'a, R: Files> FileHost<'a, R> {
         ensures { result ≡ self.now.write_faults.count }
     {
         self.write_faults.get()
-    }
-
-    /// How many openings of logs failed, and calls of logs that were given back.
-    pub fn log_faults(&self) -> u64
-        ensures { result ≡ self.now.log_faults.count }
-    {
-        self.log_faults.get()
     }
 }
 

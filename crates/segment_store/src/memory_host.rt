@@ -321,13 +321,6 @@ impl MemHost {
         self.write_faults.get()
     }
 
-    /// How many openings of logs failed, and calls of logs that were given back.
-    pub fn log_faults(&self) -> u64
-        ensures { result ≡ ⟦<MemHost as Host>⟧.log_faults self.now }
-    {
-        self.logs.faults()
-    }
-
     /// Opens the relation at a path as lanes.
     fn open(
         &self,

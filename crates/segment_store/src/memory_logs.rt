@@ -67,13 +67,6 @@ impl MemLogs {
         }
     }
 
-    /// How many openings failed, and calls of logs that were given back.
-    pub fn faults(&self) -> u64
-        ensures { result ≡ self.now.faults.count }
-    {
-        self.faults.get()
-    }
-
     /// Has an empty log stand at a path.
     fn clear(&mut self, alloc: Global, path: &str) -> Result<(), AllocError>
         ensures files { MatchResult result (λ _. logs_at self.new.files.items ≡ with_log path.now empty_log (logs_at self.old.files.items)) (λ _. self.new.files.items ≡ self.old.files.items) }

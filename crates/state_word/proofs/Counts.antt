@@ -5,7 +5,7 @@ use Rattle.state_word.specs.Fields.{bit, fields, pinned_fields, unpinned_fields,
 use Rattle.state_word.proofs.Words.{same_record}
 
 -- numbers that are alike at a place have the same bit there
-same_bit : (place v w : ℕ) → v / 2 ^ place % 2 ≡ w / 2 ^ place % 2 → bit place v ≡ bit place w
+pub same_bit : (place v w : ℕ) → v / 2 ^ place % 2 ≡ w / 2 ^ place % 2 → bit place v ≡ bit place w
 same_bit place v w e = ap (λ (n : ℕ). n == 1) e
 
 -- words that are alike from the flags on differ in the counts alone

@@ -11,10 +11,8 @@ use manager_tests::bench::block;
 use page_layout::{Lsn, Page};
 use std::alloc::{AllocError, Global};
 use std::test::Fail;
+use table_rule::RECORD_SIZE;
 use test_devices::one_item;
-
-/// How many bytes a record of the log has.
-const RECORD: usize = 8224;
 
 /// The pages of a relation, each with one item that tells its block's number.
 fn numbered_pages(alloc: Global) -> Result<Vec<Page>, AllocError> {
@@ -339,8 +337,8 @@ fn block_of(record: &[u8]) -> Option<u32> {
 fn unstored(log: &[u8], lane: &PageLane, upto: Lsn) -> u32 {
     let mut missing: u32 = 0;
     let mut end: Lsn = 0;
-    for record in log.chunks_exact(RECORD) {
-        end = end.saturating_add(RECORD as u64);
+    for record in log.chunks_exact(RECORD_SIZE as usize) {
+        end = end.saturating_add(RECORD_SIZE);
         let stored = match block_of(record) {
             Some(number) => lane.pages.get(number as usize).map_or(0, Page::lsn),
             None => 0,
@@ -372,7 +370,7 @@ fn a_checkpoint_stores_what_was_put_before_it(rt: HostRuntime) -> Result<(), Fai
     assert_eq!(rt; run.beside.used, (Some(200), Some(200)));
     let upto = run.beside.upto.ok_or("a checkpoint was refused")?;
     let lane = run.lanes.first_mut().ok_or("no lane")?;
-    assert_eq!(rt; run.log.bytes.len(), 400 * RECORD);
+    assert_eq!(rt; run.log.bytes.len(), 400 * RECORD_SIZE as usize);
     assert_eq!(rt; unstored(&run.log.bytes, lane, upto), 0);
     assert_eq!(rt; wrong(lane), 0);
     Ok(())

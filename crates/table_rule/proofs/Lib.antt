@@ -1,5 +1,6 @@
 pub mod Laying
 pub mod Tags
+pub mod Places
 pub mod TakenBlocks
 pub mod LanesOut
 pub mod Opens

@@ -20,6 +20,7 @@ use Rattle.pin_core.specs.State as pin_state
 use Rattle.history_core.specs.State.{State, Store, CanStore}
 use Rattle.history_core.specs.State as history
 use Rattle.history_core.specs.Log.{head_bytes}
+use Rattle.history_core.specs.Words.{Word, end_word, flushed_word, hand_word, word_of}
 use Rattle.history_core.proofs.Laws.{laws_open}
 use Rattle.table_rule.specs.declared.noted_log.NotedLog.{NotedLog}
 use Rattle.table_rule.specs.declared.value.Value.{Value}
@@ -30,7 +31,7 @@ use Rattle.table_rule.specs.declared.turn.Place.TheVariants as place
 use Rattle.table_rule.specs.declared.turn.Turn.{Turn}
 use Rattle.table_rule.specs.declared.turn.Turn.TheVariants as turn
 use Rattle.pin_core.specs.Tallies.{flag_weight}
-use Rattle.table_rule.specs.Layout.{latch_place, word_count, tag_partition, partition_of_tag, tag_lane, lane_of_tag}
+use Rattle.table_rule.specs.Layout.{latch_place, latch_count, word_place, HasWord, opening_numbers, word_count, first_lane_slot, log_slot, list_slot, slot_count, tag_partition, partition_of_tag, tag_lane, lane_of_tag}
 use Rattle.table_rule.specs.Blocks.{is_block, log_name, name_of, name_in}
 use Rattle.table_rule.specs.Shows.{is_taken, HasTurn, ShowsFrame, IsHome, Devices, IsPlaced, IsLane, IsLog, AreLanes, IsNewLog, GivesMap, IsPlaceIn, HasValue, RuleHolds, starting}
 use Rattle.table_rule.specs.Laid.{AreOpening, AreSlots, EndsWith, home_lane, home_lanes, home_log, zero_page, lanes_among, HasNoDevices}
@@ -80,10 +81,10 @@ module _ {A : Type 0} where
 -- the words of the start
 module _ (words : List ℕ) (n base : ℕ) (h : AreOpening words n base) where
   abbrev behind : List ℕ
-  behind = replicate 145 0 ++ base ∷ base ∷ 0 ∷ []
+  behind = replicate latch_count 0 ++ opening_numbers n base
 
   joined : words ≡ h.blank ++ behind
-  joined = h.is ∙ append_assoc h.blank (replicate 145 0) (base ∷ base ∷ 0 ∷ [])
+  joined = h.is ∙ append_assoc h.blank (replicate latch_count 0) (opening_numbers n base)
 
   in_frames : (i : ℕ) → i < 3 * n → get_or words i 0 ≡ get_or h.blank i 0
   in_frames i low = ap (λ (l : List ℕ). get_or l i 0) joined ∙ get_or_append_left h.blank behind 0 i (let e = h.frames.wide in omega arith)
@@ -91,8 +92,8 @@ module _ (words : List ℕ) (n base : ℕ) (h : AreOpening words n base) where
   in_rest : (i j : ℕ) → i ≡ 3 * n + j → get_or words i 0 ≡ get_or behind j 0
   in_rest i j e = ap (λ (l : List ℕ). get_or l i 0) joined ∙ get_or-append_right h.blank behind (3 * n) i 0 h.frames.wide (omega arith) ∙ ap (λ (k : ℕ). get_or behind k 0) {x = i - 3 * n} {y = j} (omega arith)
 
-  in_latches : (i j : ℕ) → i ≡ 3 * n + j → j < 145 → get_or words i 0 ≡ 0
-  in_latches i j e low = in_rest i j e ∙ get_or_append_left (replicate 145 0) (base ∷ base ∷ 0 ∷ []) 0 j low ∙ get_or-replicate 145 j 0 0 low
+  in_latches : (i j : ℕ) → i ≡ 3 * n + j → j < latch_count → get_or words i 0 ≡ 0
+  in_latches i j e low = in_rest i j e ∙ get_or_append_left (replicate latch_count 0) (opening_numbers n base) 0 j low ∙ get_or-replicate latch_count j 0 0 low
 
   wide : length words ≡ word_count n
   wide = ap (λ (l : List ℕ). length l) joined ∙ (let a = length-append h.blank behind in let b = h.frames.wide in omega arith)
@@ -218,28 +219,28 @@ module _ {L G : Type 0} (d : Devices L G) (n : ℕ) (lanes : List L) (log : G) (
   pages_long : length pages_part ≡ n
   pages_long = length-replicate n (value.Page zero_page)
 
-  maps_long : length maps_part ≡ n + 128
+  maps_long : length maps_part ≡ first_lane_slot n
   maps_long = length-append pages_part h.maps ∙ (let a = pages_long in let b = h.counted in omega arith)
 
-  lanes_long : length lanes_part ≡ n + 128 + length lanes
+  lanes_long : length lanes_part ≡ first_lane_slot n + length lanes
   lanes_long = length-append maps_part (home_lanes 0 lanes) ∙ (let a = maps_long in let b = lanes_counted L G 0 lanes in omega arith)
 
-  all_long : length all_part ≡ n + 144
+  all_long : length all_part ≡ log_slot n
   all_long = length-append lanes_part (replicate (16 - length lanes) value.Away) ∙ (let a = lanes_long in let b = length-replicate (16 - length lanes) away_value in let c = h.few in omega arith)
 
-  logged_long : length logged_part ≡ n + 145
+  logged_long : length logged_part ≡ list_slot n
   logged_long = length-append all_part (value.Log (home_log h.room log) ∷ []) ∙ (let a = all_long in omega arith)
 
-  in_logged : (i : ℕ) → i < n + 145 → get_elem? ys i ≡ get_elem? logged_part i
+  in_logged : (i : ℕ) → i < list_slot n → get_elem? ys i ≡ get_elem? logged_part i
   in_logged i low = ap (λ (l : List (Value L G)). get_elem? l i) h.is ∙ left_at logged_part (value.Lanes h.list ∷ []) i (let a = logged_long in omega arith)
 
-  in_all : (i : ℕ) → i < n + 144 → get_elem? ys i ≡ get_elem? all_part i
+  in_all : (i : ℕ) → i < log_slot n → get_elem? ys i ≡ get_elem? all_part i
   in_all i low = in_logged i (omega arith) ∙ left_at all_part (value.Log (home_log h.room log) ∷ []) i (let a = all_long in omega arith)
 
-  in_lanes : (i : ℕ) → i < n + 128 + length lanes → get_elem? ys i ≡ get_elem? lanes_part i
+  in_lanes : (i : ℕ) → i < first_lane_slot n + length lanes → get_elem? ys i ≡ get_elem? lanes_part i
   in_lanes i low = in_all i (let a = h.few in omega arith) ∙ left_at lanes_part (replicate (16 - length lanes) value.Away) i (let a = lanes_long in omega arith)
 
-  in_maps : (i : ℕ) → i < n + 128 → get_elem? ys i ≡ get_elem? maps_part i
+  in_maps : (i : ℕ) → i < first_lane_slot n → get_elem? ys i ≡ get_elem? maps_part i
   in_maps i low = in_lanes i (omega arith) ∙ left_at maps_part (home_lanes 0 lanes) i (let a = maps_long in omega arith)
 
   page_at : (f : ℕ) → f < n → get_elem? ys f ≡ some (value.Page zero_page)
@@ -248,19 +249,19 @@ module _ {L G : Type 0} (d : Devices L G) (n : ℕ) (lanes : List L) (log : G) (
   map_at : (p : ℕ) → p < 128 → (y : Value L G) × (get_elem? ys (n + p) ≡ some y) × GivesMap n y (λ _. None)
   map_at p low = let t = there_at h.maps p (let a = h.counted in omega arith) in (t.0, in_maps (n + p) (omega arith) ∙ right_at pages_part h.maps (n + p) p (let a = pages_long in omega arith) ∙ t.1, h.are_maps p t.0 t.1)
 
-  lane_at : (q : ℕ) (l : L) → get_elem? lanes q ≡ some l → get_elem? ys (n + 128 + q) ≡ some (home_lane q l)
-  lane_at q l at = let low = length_low lanes q l at in in_lanes (n + 128 + q) (omega arith) ∙ right_at maps_part (home_lanes 0 lanes) (n + 128 + q) q (let a = maps_long in omega arith) ∙ lane_numbered L G 0 q q lanes l (omega arith) at
+  lane_at : (q : ℕ) (l : L) → get_elem? lanes q ≡ some l → get_elem? ys (first_lane_slot n + q) ≡ some (home_lane q l)
+  lane_at q l at = let low = length_low lanes q l at in in_lanes (first_lane_slot n + q) (omega arith) ∙ right_at maps_part (home_lanes 0 lanes) (first_lane_slot n + q) q (let a = maps_long in omega arith) ∙ lane_numbered L G 0 q q lanes l (omega arith) at
 
-  spare_at : (q : ℕ) → length lanes ≤ q → q < 16 → get_elem? ys (n + 128 + q) ≡ some value.Away
-  spare_at q from below = in_all (n + 128 + q) (omega arith) ∙ right_at lanes_part (replicate (16 - length lanes) value.Away) (n + 128 + q) (q - length lanes) (let a = lanes_long in omega arith) ∙ same_at_replicate (16 - length lanes) (q - length lanes) value.Away (omega arith)
+  spare_at : (q : ℕ) → length lanes ≤ q → q < 16 → get_elem? ys (first_lane_slot n + q) ≡ some value.Away
+  spare_at q from below = in_all (first_lane_slot n + q) (omega arith) ∙ right_at lanes_part (replicate (16 - length lanes) value.Away) (first_lane_slot n + q) (q - length lanes) (let a = lanes_long in omega arith) ∙ same_at_replicate (16 - length lanes) (q - length lanes) value.Away (omega arith)
 
-  log_at : get_elem? ys (n + 144) ≡ some (value.Log (home_log h.room log))
-  log_at = in_logged (n + 144) (omega arith) ∙ right_at all_part (value.Log (home_log h.room log) ∷ []) (n + 144) 0 (let a = all_long in omega arith)
+  log_at : get_elem? ys (log_slot n) ≡ some (value.Log (home_log h.room log))
+  log_at = in_logged (log_slot n) (omega arith) ∙ right_at all_part (value.Log (home_log h.room log) ∷ []) (log_slot n) 0 (let a = all_long in omega arith)
 
-  list_at : get_elem? ys (n + 145) ≡ some (value.Lanes h.list)
-  list_at = ap (λ (l : List (Value L G)). get_elem? l (n + 145)) h.is ∙ right_at logged_part (value.Lanes h.list ∷ []) (n + 145) 0 (let a = logged_long in omega arith)
+  list_at : get_elem? ys (list_slot n) ≡ some (value.Lanes h.list)
+  list_at = ap (λ (l : List (Value L G)). get_elem? l (list_slot n)) h.is ∙ right_at logged_part (value.Lanes h.list ∷ []) (list_slot n) 0 (let a = logged_long in omega arith)
 
-  slots_long : length ys ≡ n + 146
+  slots_long : length ys ≡ slot_count n
   slots_long = ap (λ (l : List (Value L G)). length l) h.is ∙ length-append logged_part (value.Lanes h.list ∷ []) ∙ (let a = logged_long in omega arith)
 
 module _ {L G : Type 0} (d : Devices L G) (o : Opening L G) where
@@ -284,20 +285,26 @@ module _ {L G : Type 0} (d : Devices L G) (o : Opening L G) where
   homes ys h count are new (place.Of (turn.Partition p)) below out = let t = map_at d n lanes o.log.value ys h p below in record { value = t.0; home = at_map some ys (n + p) t.0 t.1; gives = t.2 }
   homes ys h count are new (place.Of (turn.Lane q)) below out = let t = there_at lanes q (omega arith) in record {
     value = home_lane q t.0;
-    home = at_map some ys (n + 128 + q) (home_lane q t.0) (lane_at d n lanes o.log.value ys h q t.0 t.1);
+    home = at_map some ys (first_lane_slot n + q) (home_lane q t.0) (lane_at d n lanes o.log.value ys h q t.0 t.1);
     gives = (subst (λ (m : ℕ). IsLane d o.catalog.value m q t.0 (history.fresh_lane o.base store q)) count (fresh_is d o.catalog.value lanes o.log.value o.base are q t.0 t.1), refl, refl);
   }
   homes ys h count are new (place.Of turn.Log) below out = record {
     value = value.Log (home_log h.room o.log.value);
-    home = at_map some ys (n + 144) (value.Log (home_log h.room o.log.value)) (log_at d n lanes o.log.value ys h);
+    home = at_map some ys (log_slot n) (value.Log (home_log h.room o.log.value)) (log_at d n lanes o.log.value ys h);
     gives = (fresh_log d o.catalog.value lanes o.log.value o.base new, refl, h.record_room);
   }
 
   -- each latch is free
   free : (words : List ℕ) {ys : List (Value L G)} → AreSlots o.config.frames o.lanes.value.items o.log.value ys → AreOpening words o.config.frames o.base → length o.lanes.value.items ≡ o.config.lanes → (x : Turn) → HasTurn o.config.lanes x → get_or words (latch_place n x) 0 ≡ flag_weight (is_taken x start)
-  free words h w count (turn.Partition p) low = in_latches words n o.base w (3 * n + p) p refl (omega arith)
-  free words h w count (turn.Lane q) low = in_latches words n o.base w (3 * n + 128 + q) (128 + q) (omega arith) (let a = h.few in omega arith)
-  free words h w count turn.Log low = in_latches words n o.base w (3 * n + 144) 144 refl (omega arith)
+  free words h w count (turn.Partition p) low = in_latches words n o.base w (latch_place n (turn.Partition p)) p refl (omega arith)
+  free words h w count (turn.Lane q) low = in_latches words n o.base w (latch_place n (turn.Lane q)) (latch_place 0 (turn.Lane q)) (omega arith) (let a = h.few in omega arith)
+  free words h w count turn.Log low = in_latches words n o.base w (latch_place n turn.Log) (latch_place 0 turn.Log) refl (omega arith)
+
+  -- and each other word has its first number
+  said_first : (words : List ℕ) → AreOpening words o.config.frames o.base → (x : Word) → HasWord n x → get_or words (word_place n x) 0 ≡ word_of x start
+  said_first words w end_word has = in_rest words n o.base w (word_place n end_word) (word_place 0 end_word) refl
+  said_first words w flushed_word has = in_rest words n o.base w (word_place n flushed_word) (word_place 0 flushed_word) refl
+  said_first words w hand_word has = in_rest words n o.base w (word_place n hand_word) (word_place 0 hand_word) refl
 
   pub opens_there : (words : List ℕ) (ys : List (Value L G)) → AreOpening words o.config.frames o.base → AreSlots o.config.frames o.lanes.value.items o.log.value ys → 0 < o.config.passes → o.config.passes ≤ 64 → 0 < o.config.lanes → length o.lanes.value.items ≡ o.config.lanes
       → o.base ≤ 4611686018427387904 → AreLanes d o.catalog.value o.lanes.value.items → IsNewLog {L = L} {G = G} d o.base o.log.value → RuleHolds d o (opening words ys (starting o))
@@ -328,12 +335,10 @@ module _ {L G : Type 0} (d : Devices L G) (o : Opening L G) where
       frame = λ f below. shows_blank words n o.base w f zero_page below;
       latches = record {
         latch = free words h w count;
-        end = in_rest words n o.base w (3 * n + 145) 145 refl;
-        flushed = in_rest words n o.base w (3 * n + 146) 146 refl;
-        hand = in_rest words n o.base w (3 * n + 147) 147 refl;
+        word = said_first words w;
       };
       homes = homes ys h count are new;
-      list = record { list = h.list; home = at_map some ys (n + 145) (value.Lanes h.list) (list_at d n lanes o.log.value ys h); empty = h.empty; room = (let a = h.list_room in omega arith); spare = λ q from below. at_map some ys (n + 128 + q) value.Away (spare_at d n lanes o.log.value ys h q (omega arith) below) };
+      list = record { list = h.list; home = at_map some ys (list_slot n) (value.Lanes h.list) (list_at d n lanes o.log.value ys h); empty = h.empty; room = (let a = h.list_room in omega arith); spare = λ q from below. at_map some ys (first_lane_slot n + q) value.Away (spare_at d n lanes o.log.value ys h q (omega arith) below) };
     };
     laws = laws_open config_of store zero_page (record { some_backend = some_backend; placed = λ word. partition_low (unpacked_tag word) }) (record { placed = λ word. subst (λ (m : ℕ). tag_lane m word < o.config.lanes) (sym count) (lane_low o.config.lanes some_lane (unpacked_tag word)); based = based; named = names_long o.catalog.value; synced = synced_low d o.catalog.value lanes o.log.value o.base new });
   }

@@ -6,7 +6,7 @@ use lib.ListN.{get_elem?}
 use Rattle.pin_core.specs.State.{Page, no_tag}
 use Rattle.table_rule.specs.declared.value.Value.{Value}
 use Rattle.table_rule.specs.declared.value.Value.TheVariants as value
-use Rattle.table_rule.specs.Layout.{state_place, tag_place, content_place}
+use Rattle.table_rule.specs.Layout.{state_place, tag_place, content_place, latch_count, opening_numbers}
 use Rattle.history_core.specs.Log.{record_size}
 use Rattle.table_rule.specs.declared.build.Room.{Room}
 use Rattle.table_rule.specs.declared.noted_lane.LaneCall.TheVariants as lane_call
@@ -26,7 +26,7 @@ pub record AreBlank (words : List ℕ) (n : ℕ) : Type 0 where
 pub record AreOpening (words : List ℕ) (n base : ℕ) : Type 0 where
   pub blank : List ℕ
   pub frames : AreBlank blank n
-  pub is : words ≡ (blank ++ replicate 145 0) ++ base ∷ base ∷ 0 ∷ []
+  pub is : words ≡ (blank ++ replicate latch_count 0) ++ opening_numbers n base
 
 -- a page whose bytes are all 0
 abbrev pub zero_page : Page

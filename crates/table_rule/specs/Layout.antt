@@ -1,7 +1,8 @@
 -- Where the words and the slots of a table of n frames lie, and what words say of blocks.
-use Rattle.std.specs.Prelude.{ℕ, ◌+◌, ◌*◌, Option, Some, None}
+use Rattle.std.specs.Prelude.{ℕ, ◌+◌, ◌*◌, List, [], ◌∷◌, Option, Some, None}
 use Rattle.block_tag.specs.declared.tag.Tag.{Tag}
 use Rattle.block_tag.specs.Names.{unpacked_tag, partition_number, lane_number}
+use Rattle.history_core.specs.Words.{Word, end_word, flushed_word, hand_word}
 use Rattle.table_rule.specs.declared.turn.Place.{Place}
 use Rattle.table_rule.specs.declared.turn.Place.TheVariants.{Page, Of}
 use Rattle.table_rule.specs.declared.turn.Turn.{Turn}
@@ -23,19 +24,39 @@ latch_place n (Partition p) = 3 * n + p
 latch_place n (Lane q) = 3 * n + 128 + q
 latch_place n Log = 3 * n + 144
 
--- the words of the log: its end, and how far it is flushed
-abbrev pub end_place : ℕ → ℕ
-end_place n = 3 * n + 145
+abbrev pub latch_count : ℕ
+latch_count = 145
 
-abbrev pub flushed_place : ℕ → ℕ
-flushed_place n = 3 * n + 146
+-- the other words, which follow those of the latches
+abbrev pub first_word : ℕ → ℕ
+first_word n = 3 * n + latch_count
 
--- the hand of the clock
-abbrev pub hand_place : ℕ → ℕ
-hand_place n = 3 * n + 147
+abbrev pub word_place : ℕ → Word → ℕ
+word_place n end_word = 3 * n + 145
+word_place n flushed_word = 3 * n + 146
+word_place n hand_word = 3 * n + 147
 
 abbrev pub word_count : ℕ → ℕ
 word_count n = 3 * n + 148
+
+-- which of them a table of n frames has
+abbrev pub HasWord : ℕ → Word → Type 0
+HasWord n w = Unit {0}
+
+-- and their numbers at the start of a log at `base`, in the order of their places
+abbrev pub opening_numbers : ℕ → ℕ → List ℕ
+opening_numbers n base = base ∷ base ∷ 0 ∷ []
+
+-- the words of the log: its end, and how far it is flushed
+abbrev pub end_place : ℕ → ℕ
+end_place n = word_place n end_word
+
+abbrev pub flushed_place : ℕ → ℕ
+flushed_place n = word_place n flushed_word
+
+-- the hand of the clock
+abbrev pub hand_place : ℕ → ℕ
+hand_place n = word_place n hand_word
 
 -- the slot of a value
 abbrev pub slot_of : ℕ → Place → ℕ
@@ -43,6 +64,12 @@ slot_of n (Page f) = f
 slot_of n (Of (Partition p)) = n + p
 slot_of n (Of (Lane q)) = n + 128 + q
 slot_of n (Of Log) = n + 144
+
+abbrev pub first_lane_slot : ℕ → ℕ
+first_lane_slot n = n + 128
+
+abbrev pub log_slot : ℕ → ℕ
+log_slot n = slot_of n (Of Log)
 
 -- and of the list in which the lanes came
 abbrev pub list_slot : ℕ → ℕ

@@ -16,6 +16,7 @@ use Rattle.pin_core.specs.State.{Frame, Page, link, hold, lane_hold, first_view}
 use Rattle.pin_core.specs.Turns.{found}
 use Rattle.pin_core.specs.Tallies.{flag_weight}
 use Rattle.history_core.specs.State.{State, Lane, Device}
+use Rattle.history_core.specs.Words.{Word, word_of}
 use Rattle.history_core.specs.Log.{record_size, head_bytes}
 use Rattle.history_core.specs.Laws.{Laws}
 use Rattle.table_rule.specs.declared.value.Mapped.{Mapped}
@@ -29,7 +30,7 @@ use Rattle.table_rule.specs.declared.turn.Place.TheVariants as place
 use Rattle.table_rule.specs.declared.turn.Turn.{Turn}
 use Rattle.table_rule.specs.declared.turn.Turn.TheVariants as turn
 use Rattle.table_rule.specs.Blocks.{has_block, is_block, log_name}
-use Rattle.table_rule.specs.Layout.{state_place, tag_place, content_place, latch_place, end_place, flushed_place, hand_place, word_count, slot_of, list_slot, slot_count, tag_partition, tag_lane}
+use Rattle.table_rule.specs.Layout.{state_place, tag_place, content_place, latch_place, word_place, HasWord, word_count, slot_of, list_slot, slot_count, tag_partition, tag_lane}
 
 -- What the words say of the frame f
 pub record ShowsFrame (words : List ℕ) (f : ℕ) (fr : Frame) : Type 0 where
@@ -53,13 +54,47 @@ HasTurn lanes (turn.Partition p) = p < 128
 HasTurn lanes (turn.Lane q) = q < lanes
 HasTurn lanes turn.Log = Unit {0}
 
--- What the words say of the latches, of the log, and of the hand
+-- What the words say of the latches, and of the other words
 pub record ShowsLatches (n lanes : ℕ) (words : List ℕ) (s : State) : Type 0 where
   -- a latch is taken where its word is 1, and else its word is 0
   pub latch : (x : Turn) → HasTurn lanes x → slice_index words (latch_place n x) ≡ flag_weight (is_taken x s)
-  pub end : slice_index words (end_place n) ≡ s.end
-  pub flushed : slice_index words (flushed_place n) ≡ s.flushed
-  pub hand : slice_index words (hand_place n) ≡ s.hand
+  pub word : (w : Word) → HasWord n w → slice_index words (word_place n w) ≡ word_of w s
+
+-- What no step changes of a state: what it was opened with
+pub record Fixed : Type 0 where
+  pub frames : ℕ
+  pub backends : ℕ
+  pub base : ℕ
+  pub partitions : ℕ
+  pub partition_of : ℕ → ℕ
+  pub is_block : ℕ → Bool
+  pub names : ℕ → List ℕ
+  pub lanes : ℕ
+  pub lane_of : ℕ → ℕ
+  pub known : ℕ → Bool
+  pub origin : ℕ → Page
+  -- the counts of faults of each lane, and of the log, at the start
+  pub reads : ℕ → ℕ
+  pub writes : ℕ → ℕ
+  pub log_faults : ℕ
+
+abbrev pub fixed_of : State → Fixed
+fixed_of s = record {
+  frames = s.pool.core.frames;
+  backends = s.pool.core.backends;
+  base = s.log.base;
+  partitions = s.pool.core.partitions;
+  partition_of = s.pool.core.partition_of;
+  is_block = s.pool.core.is_block;
+  names = s.names;
+  lanes = s.lanes;
+  lane_of = s.lane_of;
+  known = s.known;
+  origin = s.origin;
+  reads = λ q. (s.lane q).read_faults_at_start;
+  writes = λ q. (s.lane q).write_faults_at_start;
+  log_faults = s.log_faults;
+}
 
 -- whether a view has the value of a place out
 abbrev pub is_out : Place → View → Bool
@@ -170,15 +205,15 @@ module _ {L G : Type 0} where
   IsPlaceIn o (place.Page f) = f < o.config.frames
   IsPlaceIn o (place.Of x) = HasTurn o.config.lanes x
 
-  -- What was fixed when the table was opened
-  pub record KeepsOpening (d : Devices L G) (o : Opening L G) (s : State) : Type 0 where
-    pub frames : s.pool.core.frames ≡ o.config.frames
-    pub backends : s.pool.core.backends ≡ o.config.passes
-    pub base : s.log.base ≡ o.base
-    pub partitions : s.pool.core.partitions ≡ 128
-    pub partition_of : s.pool.core.partition_of ≡ tag_partition
+  -- These are what the table was opened with
+  pub record IsOpening (d : Devices L G) (o : Opening L G) (s : Fixed) : Type 0 where
+    pub frames : s.frames ≡ o.config.frames
+    pub backends : s.backends ≡ o.config.passes
+    pub base : s.base ≡ o.base
+    pub partitions : s.partitions ≡ 128
+    pub partition_of : s.partition_of ≡ tag_partition
     -- the blocks are those of the catalogue, and the log names them by it
-    pub is_block : s.pool.core.is_block ≡ is_block o.catalog.value
+    pub is_block : s.is_block ≡ is_block o.catalog.value
     pub names : s.names ≡ log_name o.catalog.value
     pub lanes : s.lanes ≡ o.config.lanes
     pub lane_of : s.lane_of ≡ tag_lane o.config.lanes
@@ -188,9 +223,12 @@ module _ {L G : Type 0} where
     -- the pages and the counts of the devices at the start
     pub known : (q : ℕ) (l : L) (word : ℕ) → get_elem? o.lanes.value.items q ≡ some l → tag_lane o.config.lanes word ≡ q → s.known word ≡ is_some (d.contents l)
     pub origin : (q : ℕ) (l : L) (known : Pages) (word : ℕ) (tag : Tag) → get_elem? o.lanes.value.items q ≡ some l → d.contents l ≡ Some known → IsPlaced o.catalog.value o.config.lanes q word tag → known tag ≡ Some (s.origin word)
-    pub reads : (q : ℕ) (l : L) → get_elem? o.lanes.value.items q ≡ some l → (s.lane q).read_faults_at_start ≡ d.read_faults l
-    pub writes : (q : ℕ) (l : L) → get_elem? o.lanes.value.items q ≡ some l → (s.lane q).write_faults_at_start ≡ d.write_faults l
+    pub reads : (q : ℕ) (l : L) → get_elem? o.lanes.value.items q ≡ some l → s.reads q ≡ d.read_faults l
+    pub writes : (q : ℕ) (l : L) → get_elem? o.lanes.value.items q ≡ some l → s.writes q ≡ d.write_faults l
     pub log_faults : s.log_faults ≡ d.log_faults o.log.value
+
+  abbrev pub KeepsOpening : Devices L G → Opening L G → State → Type 0
+  KeepsOpening d o s = IsOpening d o (fixed_of s)
 
   -- The slot has this value, and it is what the state says of the place
   pub record HasValue (d : Devices L G) (o : Opening L G) (homes : List (slot.Option (Value L G))) (s : State) (x : Place) : Type 0 where

@@ -4,18 +4,16 @@ ghost use Rattle.std.specs.Global.{Global};
 ghost use Rattle.table_rule.specs.declared.noted_log.NotedLog.{NotedLog};
 ghost use Rattle.table_rule.specs.declared.value.Value.{Value};
 ghost use Rattle.table_rule.specs.declared.value.Value.TheVariants as value;
+ghost use Rattle.table_rule.specs.Layout.{slot_count};
 ghost use Rattle.table_rule.specs.Laid.{AddsMaps, AreBlank, AreFresh, AreOpening, AreSlots, EndsWith, HasNoDevices, IsRoom, home_lanes, lanes_among, zero_page};
 
 use crate::layout::LOG_PLACE;
 use crate::noted_lane::NotedLane;
-use crate::noted_log::NotedLog;
+use crate::noted_log::{NotedLog, RECORD_SIZE};
 use crate::value::{Mapped, Value};
 use block_tag::PARTITIONS;
 use page_layout::Page;
 use std::alloc::{AllocError, AllocFailed, Global};
-
-/// How many bytes a record of the log has.
-const RECORD_SIZE: usize = 8224;
 
 /// Memory that a table takes once: the pages of its frames, the maps of its partitions, and a record of its log.
 #[derive(Drop)]
@@ -150,13 +148,13 @@ impl Room {
         Ok(Room {
             pages: zero_pages(alloc, frames)?,
             maps: fresh_maps(alloc, frames as usize)?,
-            buffer: Vec::with_capacity(alloc, RECORD_SIZE)?,
+            buffer: Vec::with_capacity(alloc, RECORD_SIZE as usize)?,
         })
     }
 
     /// The slots at the start.
     pub fn lay<L, G>(self, slots: &mut Vec<Value<L, G>>, mut lanes: Vec<L>, log: G, _frames: u32)
-        requires room { (slots.old.items ≡ []) × (_frames + 146 ≤ vec_capacity slots.old) }
+        requires room { (slots.old.items ≡ []) × (slot_count _frames ≤ vec_capacity slots.old) }
         requires laid { IsRoom _frames self }
         requires few { vec_len lanes ≤ 16 }
         ensures { AreSlots _frames lanes.items log slots.new.items }

@@ -13,9 +13,6 @@ pub const FIRST_LANE: usize = PARTITIONS as usize;
 /// Where the log's latch and slot lie after those of the frames: after the lanes'.
 pub const LOG_PLACE: usize = FIRST_LANE + MOST_LANES;
 
-/// How many words follow those of the frames: the latches, the log's end, the flushed position and the clock's hand.
-pub const OTHER_WORDS: usize = LOG_PLACE + 4;
-
 /// How many slots follow those of the frames: what the latches guard, and the list in which the lanes came.
 pub const OTHER_SLOTS: usize = LOG_PLACE + 2;
 

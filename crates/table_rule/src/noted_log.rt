@@ -9,8 +9,11 @@ ghost use Rattle.table_rule.specs.declared.noted_log.LogCall.TheVariants as log_
 use block_tag::{RelEntry, Tag};
 use byteorder::{ByteOrder, LittleEndian};
 use log_device::{Failed, LogDevice};
-use page_layout::Page;
+use page_layout::{Lsn, Page};
 use std::snapshot::Snapshot;
+
+/// How many bytes a record of the log has.
+pub const RECORD_SIZE: Lsn = 8224;
 
 /// The kind of a record of a page.
 const PAGE_RECORD: u32 = 1;

@@ -1,21 +1,27 @@
 -- Seats that hold nothing.
-use Rattle.std.proofs.Common.{◌≡◌, ◌<◌, ◌+◌, ℕ, Bool, true, false, Some, None, [], length, sym, refl, ap, ◌∙◌, subst, arith}
+use Rattle.std.proofs.Common.{◌≡◌, ◌≢◌, ◌+◌, ℕ, Bool, true, false, List, Some, None, [], length, slice_index_or, sym, refl, ap, ◌∙◌, subst, arith}
+use mathlib.Core.Logic.{dite}
+use native.Mathlib.Decide.{ℕ_discrete}
 use Rattle.state_word.specs.Fields.{fields}
 use Rattle.atomic_table.specs.Table.{Me}
 use Rattle.pin_core.specs.Kinds.{lock_header}
 use Rattle.frame_table.specs.Kinds.{FrameKind, pins}
 use Rattle.frame_table.specs.FrameSteps.{Did, Looks, kept_view, split_view}
 use Rattle.atomic_table.specs.declared.shared.Seat.{Seat}
+use Rattle.pin_core.specs.declared.view.LaneHold.{LaneHold}
+use Rattle.pin_core.specs.declared.view.LogHold.{LogHold}
+use Rattle.pin_core.specs.declared.view.PartitionHold.{PartitionHold}
 use Rattle.pin_core.specs.declared.view.View.{View}
-use Rattle.pin_core.specs.State.{link, joined_view}
+use Rattle.pin_core.specs.State.{link, hold, no_lane, joined_view}
 use Rattle.pin_core.specs.Steps.{HoldsNothing, HoldsNothingAt}
 use Rattle.table_rule.specs.declared.value.Value.{Value}
 use Rattle.frame_table.specs.declared.table.FrameTable.{FrameTable}
 use Rattle.frame_table.specs.Closes.{CanClose}
-use Rattle.frame_table.specs.Seats.{CanStep, Fits, HoldsHeader, Looked, SameSeat, Touches, frames_of, locked_link, pinned_link, unlocked_link, unpinned_link}
+use Rattle.frame_table.specs.Latches.{SameWork}
+use Rattle.frame_table.specs.Seats.{Fits, HoldsHeader, Looked, SameSeat, Touches, locked_link, pinned_link, unlocked_link, unpinned_link}
 use Rattle.frame_table.proofs.Resting.{rests_on, free_unpinned, new_rests}
 use Rattle.frame_table.proofs.Told.{looks_link, touches_on}
-use Rattle.clock_sweep.proofs.Keeping.{same_on}
+use Rattle.frame_table.proofs.SameSeats.{same_seat_on}
 use Rattle.table_tests.specs.Work.{KeepsSeat, SeatHoldsNothing}
 
 module _ {L G : Type 0} (t : FrameTable L G) where
@@ -27,7 +33,7 @@ module _ {L G : Type 0} (t : FrameTable L G) where
 
 -- a pin that was taken and given up leaves a seat that holds nothing
 pub rests_unpinned : {L G : Type 0} (t : FrameTable L G) (s s' s'' : Seat (Value L G) View) (f h : ℕ) (ring : Bool) → h ≡ f → SeatHoldsNothing t s → SameSeat s s' → Touches f s.me.0 s'.me.0 → Looked (pinned_link ring (link s.me.0 f)) (link s'.me.0 f) → SameSeat s' s'' → Touches h s'.me.0 s''.me.0 → Looked (unpinned_link (link s'.me.0 h)) (link s''.me.0 h) → SeatHoldsNothing t s''
-rests_unpinned t s s' s'' f h ring e r a touches pinned b after unpinned = rests_still t s s'' f r (same_on s s' s'' a b) (touches_on f s.me.0 s'.me.0 s''.me.0 touches (subst (λ (x : ℕ). Touches x s'.me.0 s''.me.0) e after))
+rests_unpinned t s s' s'' f h ring e r a touches pinned b after unpinned = rests_still t s s'' f r (same_seat_on s s' s'' a b) (touches_on f s.me.0 s'.me.0 s''.me.0 touches (subst (λ (x : ℕ). Touches x s'.me.0 s''.me.0) e after))
     (free_unpinned ring (link s.me.0 f) (link s'.me.0 f) (link s''.me.0 f) pinned (subst (λ (x : ℕ). Looked (unpinned_link (link s'.me.0 x)) (link s''.me.0 x)) e unpinned) (r.free.frames f))
 
 -- no tag word is stored where no header is held
@@ -48,7 +54,7 @@ holds_locked f word v w none locked u was looks did = let before = looks_link f 
 -- a header that was locked may be unlocked, and then the seat holds nothing
 module _ {L G : Type 0} (t : FrameTable L G) (s s' : Seat (Value L G) View) (f word : ℕ) (r : SeatHoldsNothing t s) (same : SameSeat s s') (touches : Touches f s.me.0 s'.me.0) (locked : Looked (locked_link word (link s.me.0 f)) (link s'.me.0 f)) where
   pub rests_unlocked : (s'' : Seat (Value L G) View) → SameSeat s' s'' → Touches f s'.me.0 s''.me.0 → link s''.me.0 f ≡ unlocked_link (link s'.me.0 f) → SeatHoldsNothing t s''
-  rests_unlocked s'' again after unlocked = let h = r.free.frames f in rests_still t s s'' f r (same_on s s' s'' same again) (touches_on f s.me.0 s'.me.0 s''.me.0 touches after) (subst HoldsNothingAt (sym unlocked) record {
+  rests_unlocked s'' again after unlocked = let h = r.free.frames f in rests_still t s s'' f r (same_seat_on s s' s'' same again) (touches_on f s.me.0 s'.me.0 s''.me.0 touches after) (subst HoldsNothingAt (sym unlocked) record {
     no_pin = locked.role ∙ h.no_pin;
     no_header = refl;
     no_content = locked.content ∙ h.no_content;
@@ -79,4 +85,21 @@ module _ {L G : Type 0} (t : FrameTable L G) where
     live = ap (λ (v : View). v.emptied) joined ∙ rests.live;
     free = subst HoldsNothing (sym joined) record { frames = rests.free.frames; partitions = rests.free.partitions; lanes = rests.free.lanes; log = rests.free.log };
     joined = (let a = ap (λ (v : View). v.joined) joined in let b = ap (λ (v : View). v.next) joined in let d = keeps.joined in let e = keeps.next in let f = ap (λ (v : View). v.joined) kept in let g = ap (λ (v : View). v.next) kept in let h = c.joined in omega arith);
+  }
+
+-- a seat that took a partition's latch and left it may close the table still
+module _ {L G : Type 0} (t : FrameTable L G) (s s' : Seat (Value L G) View) (p : ℕ) where
+  pub closes_turned : CanClose t s → s'.table_id ≡ s.table_id → s'.id ≡ s.id → s'.me.1 ≡ [] → SameWork s.me.0 s'.me.0 → (hold s'.me.0 p).held ≡ false → ((q : ℕ) → q ≢ p → hold s'.me.0 q ≡ hold s.me.0 q) → s'.me.0.lanes ≡ s.me.0.lanes → s'.me.0.log ≡ s.me.0.log → CanClose t s'
+  closes_turned c table id hand work left others lanes log = record {
+    fits = table ∙ c.fits;
+    first = id ∙ c.first;
+    hand = hand;
+    live = ap (λ (v : View). v.emptied) work ∙ c.live;
+    free = record {
+      frames = λ f. subst HoldsNothingAt (sym (ap (λ (v : View). link v f) work)) (c.free.frames f);
+      partitions = λ q. dite (ℕ_discrete q p) (λ e. ap (λ (k : ℕ). (hold s'.me.0 k).held) e ∙ left) (λ n. ap (λ (h : PartitionHold). h.held) (others q n) ∙ c.free.partitions q);
+      lanes = λ n. ap (λ (l : List LaneHold). (slice_index_or l n no_lane).held) lanes ∙ c.free.lanes n;
+      log = ap (λ (h : LogHold). h.held) log ∙ c.free.log;
+    };
+    joined = (let a = ap (λ (v : View). v.joined) work in let b = ap (λ (v : View). v.next) work in let d = c.joined in omega arith);
   }

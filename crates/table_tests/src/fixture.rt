@@ -26,7 +26,7 @@ fn catalog(alloc: Global) -> Result<Catalog, CatalogError> {
     Catalog::build(alloc, &[entry])
 }
 
-/// A table of 16 frames over one lane and a log that begins at 0, for four backends, whose first one holds nothing.
+/// A table of 16 frames over one lane and a log that begins at 8, for four backends, whose first one holds nothing.
 pub fn table(alloc: Global) -> Result<(Table, TableSeat), AllocError>
     ensures frames { IfOk result (λ t. frames_of t.0 ≡ 16) }
     ensures backends { IfOk result (λ t. backends_of t.0 ≡ 4) }
@@ -43,7 +43,7 @@ pub fn table(alloc: Global) -> Result<(Table, TableSeat), AllocError>
     };
     let mut lanes = Vec::new(alloc);
     lanes.push(TestLane::new(0))?;
-    match FrameTable::build(alloc, config, catalog, lanes, TestLog::new(alloc, 0), 0) {
+    match FrameTable::build(alloc, config, catalog, lanes, TestLog::new(alloc, 0), 8) {
         Ok(built) => Ok(built),
         Err(BuildRefused { lanes, log }) => {
             drop(lanes);

@@ -1,4 +1,4 @@
-//! Tests of the pins of a small table that has no manager.
+//! Tests of a small table that has no manager: its pins, its values and the positions of its log.
 #![tactic(auto)]
 
 #[cfg(test)]
@@ -6,4 +6,8 @@ mod fixture;
 #[cfg(test)]
 mod pinning;
 #[cfg(test)]
+mod positions;
+#[cfg(test)]
 mod tests;
+#[cfg(test)]
+mod values;

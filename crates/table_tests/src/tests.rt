@@ -1,6 +1,8 @@
-//! Pins that are refused.
+//! Tables that are built and closed.
 use crate::fixture::table;
 use crate::pinning::{refusal, refusal_of_two};
+use crate::positions::positions;
+use crate::values::count_entries;
 use frame_table::TryPin;
 use std::test::Fail;
 
@@ -20,5 +22,23 @@ fn a_header_that_another_has_is_locked(rt: HostRuntime) -> Result<(), Fail> {
     let refused = refusal_of_two(&table, &rt, &mut first, 3);
     let (_lanes, _log) = table.close(first);
     assert_eq!(rt; refused, Some(TryPin::Locked { word: 4194304 }));
+    Ok(())
+}
+
+#[test]
+fn a_fresh_map_is_empty_and_has_room_for_each_frame(rt: HostRuntime) -> Result<(), Fail> {
+    let (table, mut seat) = table(rt.alloc())?;
+    let counts = count_entries(&table, &rt, &mut seat, 127);
+    let (_lanes, _log) = table.close(seat);
+    assert_eq!(rt; counts, (0, 16));
+    Ok(())
+}
+
+#[test]
+fn a_log_begins_flushed_up_to_its_base(rt: HostRuntime) -> Result<(), Fail> {
+    let (table, mut seat) = table(rt.alloc())?;
+    let positions = positions(&table, &mut seat);
+    let (_lanes, _log) = table.close(seat);
+    assert_eq!(rt; positions, (8, 8));
     Ok(())
 }

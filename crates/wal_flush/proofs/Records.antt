@@ -2,6 +2,7 @@
 use Rattle.std.proofs.Common.{◌≡◌, ℕ, ◌+◌, ◌≤◌, Option, None, Some, true, false, List, [], ◌++◌, length, refl, sym, ap, ◌∙◌, subst, arith}
 use Rattle.std.proofs.lemmas.List.{append_cancel_left}
 use Rattle.std.specs.Prelude.{IfSome, IsSomeAnd}
+use Rattle.std.proofs.lemmas.Option.{same_Some}
 use Rattle.log_device.specs.Bytes.{GainsPrefix}
 use Rattle.block_tag.specs.declared.tag.Tag.{Tag}
 use Rattle.block_tag.specs.declared.catalogue.RelEntry.{RelEntry}
@@ -42,18 +43,11 @@ may_enter relations f tag p q start v can opened full room is ends = let long : 
   room = room;
 }
 
-same_value : {A : Type 0} (a b : A) → Some a ≡ Some b → a ≡ b
-same_value {A} a b e = ap value e
-  where
-    value : Option A → A
-    value (Some x) = x
-    value None = a
-
 -- what a failed append adds is the first bytes of the piece
 first_bytes : (was now : Option (List ℕ)) (piece part : List ℕ) → IfSome was (λ old. IsSomeAnd now (GainsPrefix piece old)) → IsPart was now part → (rest : List ℕ) × (part ++ rest ≡ piece)
 first_bytes None now piece part gains is = (piece, ap (λ (l : List ℕ). l ++ piece) (is.unknown refl))
 first_bytes (Some old) None piece part gains is = absurd gains
-first_bytes (Some old) (Some new) piece part gains is = (gains.rest, ap (λ (l : List ℕ). l ++ gains.rest) (append_cancel_left old part gains.prefix (sym (same_value new (old ++ part) is.added) ∙ gains.is)) ∙ sym gains.whole)
+first_bytes (Some old) (Some new) piece part gains is = (gains.rest, ap (λ (l : List ℕ). l ++ gains.rest) (append_cancel_left old part gains.prefix (sym (same_Some new (old ++ part) is.added) ∙ gains.is)) ∙ sym gains.whole)
 
 gained : {G : Type 0} (bytes : G → Option (List ℕ)) (synced faults calls : G → ℕ) (f : ℕ) (tag : Tag) (p : Page) (piece : List ℕ) (g g' : G) (call : LogCall) → IsFailedAppend f tag p piece call → LogDid bytes synced faults calls g g' call → IfSome (bytes g) (λ old. IsSomeAnd (bytes g') (GainsPrefix piece old))
 gained bytes synced faults calls f tag p piece g g' (log_call.AppendFailed h named q b) e did = subst (λ (l : List ℕ). IfSome (bytes g) (λ old. IsSomeAnd (bytes g') (GainsPrefix l old))) e.3 did.added
@@ -79,7 +73,7 @@ module _ {G : Type 0} (bytes : G → Option (List ℕ)) (synced faults calls : G
 
   -- it came back, and what it was when it went out is known still
   came_home : (y : NotedLog G) (w : View) → LogCame bytes synced faults calls y v w → ComesHome went.taken (bytes y.device) (faults y.device) y.call v w
-  came_home y w came = subst (λ (t : TakenLog). ComesHome t (bytes y.device) (faults y.device) y.call v w) (same_value came.taken went.taken (sym came.out ∙ ap (λ (z : View). z.log.out) went.after)) came.did
+  came_home y w came = subst (λ (t : TakenLog). ComesHome t (bytes y.device) (faults y.device) y.call v w) (same_Some came.taken went.taken (sym came.out ∙ ap (λ (z : View). z.log.out) went.after)) came.did
 
   -- after a sync that failed
   pub came_unsynced : (y : NotedLog G) (w : View) → y.call ≡ log_call.SyncFailed → LogCame bytes synced faults calls y v w → FailsToSync u w

@@ -22,13 +22,11 @@ use page_layout::{Lsn, Page};
 use pin_core::View;
 use segment_store::BlockLane;
 use std::sync::Wait;
+use table_rule::RECORD_SIZE;
 use thiserror::Error;
 
 /// The greatest position that a log may reach.
-const LAST_POSITION: Lsn = 1 << 62;
-
-/// How many bytes a record of the log has.
-const RECORD_SIZE: Lsn = 8224;
+pub const LAST_POSITION: Lsn = 1 << 62;
 
 /// Why a page was not inserted.
 #[derive(Clone, Copy, PartialEq, Eq, Debug, Error)]

@@ -9,5 +9,5 @@ mod words;
 
 pub use flushes::{FlushLog, FlushedBy, flush_to};
 pub use head::begin_log;
-pub use inserts::{InsertError, insert};
+pub use inserts::{InsertError, LAST_POSITION, insert};
 pub use words::{flushed, log_end};

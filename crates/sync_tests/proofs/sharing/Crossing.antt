@@ -9,8 +9,8 @@ use Rattle.std.proofs.CrossingOver as over
 use Rattle.segment_store.specs.declared.device.BlockLane as block_lane
 use Rattle.log_device.specs.declared.device.LogDevice as log_device
 use Rattle.backend_pass.specs.contracts.manager.Manager as manager
+use Rattle.backend_pass.proofs.Crossing.{shared_sync, lease_sync}
 use Rattle.table_rule.specs.contracts.value.Value as value
-use Rattle.manager_tests.proofs.Crossing.{shared_sync, lease_sync}
 use Rattle.sync_tests.specs.contracts.devices.PageLane as lane
 use Rattle.sync_tests.specs.contracts.devices.ByteLog as log
 use Rattle.sync_tests.specs.contracts.sharing.Use as uses

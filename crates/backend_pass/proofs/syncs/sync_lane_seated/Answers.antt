@@ -1,12 +1,11 @@
-use Rattle.std.proofs.Common.{◌≡◌, ◌≢◌, ◌∙◌, ℕ, false, None, refl, sym, ap, subst}
+use Rattle.std.proofs.Common.{◌∙◌, ap, subst}
 use Rattle.atomic_table.specs.declared.badge.Badge.{Badge}
 use Rattle.pin_core.specs.declared.view.View.{View}
-use Rattle.pin_core.specs.State.{link}
-use Rattle.held_pins.specs.Rests.{HasNoDevice, HasNoLatch, LinksRest, OnlyTokens, Stands}
+use Rattle.held_pins.specs.Rests.{HasNoDevice, OnlyTokens}
 use Rattle.held_pins.proofs.Keeping.{latches_same}
 use Rattle.backend_pass.specs.Passes.{view_in}
 use Rattle.backend_pass.proofs.Seated.{moved, moved_one, one_view, view_of_seat}
-use Rattle.held_pins.proofs.Keeping.{devices_same, link_same, links_same}
+use Rattle.held_pins.proofs.Keeping.{links_same}
 use Rattle.backend_pass.specs.PassSyncs.{SyncsLane}
 use Rattle.frame_table.specs.Seats.{frames_of, lanes_in}
 use Rattle.backend_pass.proofs.syncs.sync_lane_seated.Goals as goal

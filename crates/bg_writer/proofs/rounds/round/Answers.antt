@@ -2,7 +2,8 @@ use Rattle.std.proofs.Common.{◌∙◌, ◌+◌, ◌%◌, ℕ, sym, ap, subst, 
 use Rattle.pin_core.specs.State.{link}
 use Rattle.buffer_frames.proofs.Notes.{notes_on}
 use Rattle.backend_pass.proofs.Seated.{same_on}
-use Rattle.bg_writer.proofs.Going.{Going, Goes, callers_on, going_begun, going_on, nothing_fails, notes_held, pages_few, refuses_going, stops_going}
+use Rattle.backend_pass.proofs.Keeping.{callers_on}
+use Rattle.bg_writer.proofs.Going.{Going, Goes, going_begun, going_on, nothing_fails, notes_held, pages_few, refuses_going, stops_going}
 use Rattle.bg_writer.proofs.rounds.round.Goals as goal
 
 pub loop-looked-init : goal.loop-looked-init
@@ -12,7 +13,7 @@ pub returns-in-Err-clause-same : goal.returns-in-Err-clause-same
 returns-in-Err-clause-same g c = same_on c.args.pass.now c.loop-looked.pass c.sync_one.new.self c.loop-looked.invariant.going.same c.sync_one.ensures.same
 
 pub returns-in-Err-clause-callers : goal.returns-in-Err-clause-callers
-returns-in-Err-clause-callers g c = callers_on c.args.pass.now c.loop-looked.pass c.sync_one.new.self c.loop-looked.invariant.going.callers c.sync_one.ensures.callers c.loop-looked.invariant.going.same c.sync_one.ensures.same
+returns-in-Err-clause-callers g c = callers_on c.args.pass.now c.loop-looked.pass c.sync_one.new.self c.loop-looked.invariant.going.callers c.sync_one.ensures.callers
 
 pub returns-in-Err-clause-pins : goal.returns-in-Err-clause-pins
 returns-in-Err-clause-pins g c h = c.sync_one.ensures.pins h ∙ c.loop-looked.invariant.going.pins h

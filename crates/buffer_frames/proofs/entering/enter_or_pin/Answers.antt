@@ -1,7 +1,8 @@
 use Rattle.block_tag.specs.Names.{packed_tag}
 use Rattle.frame_table.specs.declared.pin.Pin.{Pin}
 use Rattle.held_pins.proofs.Keeping.{links_same}
-use Rattle.buffer_frames.proofs.Calm.{none_to, pins_worked, some_to}
+use Rattle.clock_sweep.proofs.Keeping.{none_to}
+use Rattle.buffer_frames.proofs.Calm.{pins_worked, some_to}
 use Rattle.buffer_frames.proofs.Outside.{links_worked}
 use Rattle.buffer_frames.proofs.SameLocks.{same_locks_latched}
 use Rattle.buffer_frames.proofs.entering.enter_or_pin.Goals as goal

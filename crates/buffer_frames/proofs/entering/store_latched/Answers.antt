@@ -2,7 +2,7 @@ use Rattle.std.proofs.Common.{◌∙◌, refl, rules, false}
 use Rattle.block_tag.specs.Names.{packed_tag}
 use Rattle.frame_table.specs.Seats.{HasFlag}
 use Rattle.frame_table.proofs.Told.{grows_on}
-use Rattle.held_pins.proofs.Keeping.{same_on}
+use Rattle.frame_table.proofs.SameSeats.{same_seat_on}
 use Rattle.buffer_frames.proofs.Heading.{knows_word, pins_assigned, victim_unlocked}
 use Rattle.buffer_frames.proofs.Latching.{holds_named, lacks_same, latch_changed, may_change}
 use Rattle.buffer_frames.proofs.Outside.{links_worked, outside_step, outside_worked, stands_outside}
@@ -39,7 +39,7 @@ returns-clause-same g c =
     outside_worked c.assign.new.seat.me.0 c.enter.new.seat.me.0 e.work e.step.lanes e.step.log ∙ outside_step c.store_tag.new.seat.me.0 c.assign.new.seat.me.0 a.touches.self a.marks ∙ outside_step c.lock_header-word.new.seat.me.0 c.store_tag.new.seat.me.0 st.stores.self st.marks ∙ outside_step c.args.seat.now.me.0 c.lock_header-word.new.seat.me.0 k.touches.self k.marks
 
 pub returns-clause-stands : goal.returns-clause-stands
-returns-clause-stands g c = stands_outside _ c.args.seat.now c.enter.new.seat (same_on _ _ _ (same_on _ _ _ (same_on _ _ _ c.lock_header-word.ensures.seat c.store_tag.ensures.seat) c.assign.ensures.seat) c.enter.ensures.seat) (returns-clause-same g c) c.requires.stands
+returns-clause-stands g c = stands_outside _ c.args.seat.now c.enter.new.seat (same_seat_on _ _ _ (same_seat_on _ _ _ (same_seat_on _ _ _ c.lock_header-word.ensures.seat c.store_tag.ensures.seat) c.assign.ensures.seat) c.enter.ensures.seat) (returns-clause-same g c) c.requires.stands
 
 pub returns-clause-grows : goal.returns-clause-grows
 returns-clause-grows g c = grows_on _ c.assign.new.seat.me.0 _ (grows_on _ c.store_tag.new.seat.me.0 _ (grows_on _ c.lock_header-word.new.seat.me.0 _ c.lock_header-word.ensures.touches.grows c.store_tag.ensures.stores.grows) c.assign.ensures.touches.grows) c.enter.ensures.grows

@@ -6,8 +6,8 @@ use Rattle.pin_core.specs.State.{link}
 use Rattle.frame_table.specs.Seats.{HasFlag}
 use Rattle.frame_table.proofs.TagLoads.{erase_names, may_erase}
 use Rattle.frame_table.proofs.Told.{grows_on}
+use Rattle.frame_table.proofs.SameSeats.{same_seat_on}
 use Rattle.map_partitions.specs.Partition.{NamesLeaving}
-use Rattle.held_pins.proofs.Keeping.{same_on}
 use Rattle.buffer_frames.proofs.Heading.{knows_word, number_stored, tag_known, victim_cleared, victim_unlocked}
 use Rattle.buffer_frames.proofs.Latching.{holds_named, latch_changed, may_change}
 use Rattle.buffer_frames.proofs.Outside.{links_worked, outside_step, outside_worked, stands_outside}
@@ -60,7 +60,7 @@ returns-clause-same g c =
     outside_worked c.clear.new.seat.me.0 c.leave_out.new.seat.me.0 lo.work lo.step.lanes lo.step.log ∙ outside_step c.store_tag.new.seat.me.0 c.clear.new.seat.me.0 cl.touches.self cl.marks ∙ outside_step c.lock_header-word.new.seat.me.0 c.store_tag.new.seat.me.0 st.stores.self st.marks ∙ outside_step c.args.seat.now.me.0 c.lock_header-word.new.seat.me.0 k.touches.self k.marks
 
 pub returns-clause-stands : goal.returns-clause-stands
-returns-clause-stands g c = stands_outside _ c.args.seat.now c.leave_out.new.seat (same_on _ _ _ (same_on _ _ _ (same_on _ _ _ c.lock_header-word.ensures.seat c.store_tag.ensures.seat) c.clear.ensures.seat) c.leave_out.ensures.seat) (returns-clause-same g c) c.requires.stands
+returns-clause-stands g c = stands_outside _ c.args.seat.now c.leave_out.new.seat (same_seat_on _ _ _ (same_seat_on _ _ _ (same_seat_on _ _ _ c.lock_header-word.ensures.seat c.store_tag.ensures.seat) c.clear.ensures.seat) c.leave_out.ensures.seat) (returns-clause-same g c) c.requires.stands
 
 pub returns-clause-grows : goal.returns-clause-grows
 returns-clause-grows g c = grows_on _ c.clear.new.seat.me.0 _ (grows_on _ c.store_tag.new.seat.me.0 _ (grows_on _ c.lock_header-word.new.seat.me.0 _ c.lock_header-word.ensures.touches.grows c.store_tag.ensures.stores.grows) c.clear.ensures.touches.grows) c.leave_out.ensures.grows

@@ -2,8 +2,9 @@ use Rattle.block_tag.specs.Names.{packed_tag}
 use Rattle.frame_table.specs.declared.pin.Pin.{Pin}
 use Rattle.frame_table.proofs.Told.{grows_on}
 use Rattle.held_pins.proofs.Keeping.{links_same}
+use Rattle.clock_sweep.proofs.Keeping.{none_to}
 use Rattle.buffer_frames.specs.Lookups.{SeesAndPins, SeesNone}
-use Rattle.buffer_frames.proofs.Calm.{match_to, none_to, pins_worked, some_to}
+use Rattle.buffer_frames.proofs.Calm.{match_to, pins_worked, some_to}
 use Rattle.buffer_frames.proofs.Latching.{under_partition}
 use Rattle.buffer_frames.proofs.Outside.{links_worked}
 use Rattle.buffer_frames.proofs.SameLocks.{same_locks_latched}

@@ -1,7 +1,8 @@
 use Rattle.std.proofs.Common.{◌∙◌, ap}
 use Rattle.pin_core.specs.declared.view.Link.{Link}
 use Rattle.pin_core.specs.declared.view.View.{View}
-use Rattle.held_pins.proofs.Keeping.{same_on, stands_on}
+use Rattle.held_pins.proofs.Keeping.{stands_on}
+use Rattle.frame_table.proofs.SameSeats.{same_seat_on}
 use Rattle.buffer_frames.proofs.PagePuts.{MarkedFrameDirty, calls_put, calls_not_put, can_insert, device_inserted, device_put, device_refused, marked_put, marked_refused, met_all, met_not_put, put_refused, puts_all, puts_done, puts_none, rests_put, rests_refused, right_put, right_refused}
 use Rattle.buffer_frames.proofs.puts.put_locked.Goals as goal
 
@@ -26,7 +27,7 @@ apply-requires-clause-stands g c =
     let d = c.mark_dirty.ensures in
     let e = c.in-Ok.ensures in
     let m : MarkedFrameDirty c.args.frame c.args.seat.now.me.0 c.mark_dirty.new.seat.me.0 = record { touches = d.touches; marks = d.marks; dirtied = d.dirtied; did = d.did } in
-    stands_on c.args.table.now _ _ (same_on _ _ _ d.seat e.seat) (device_inserted c.args.frame c.args._held.now _ _ m _ _ c.args.tag _ _ e.view e.rises e.did e.entered e.others c.requires.stands.quiet) c.requires.stands
+    stands_on c.args.table.now _ _ (same_seat_on _ _ _ d.seat e.seat) (device_inserted c.args.frame c.args._held.now _ _ m _ _ c.args.tag _ _ e.view e.rises e.did e.entered e.others c.requires.stands.quiet) c.requires.stands
 
 pub apply-requires-clause-right : goal.apply-requires-clause-right
 apply-requires-clause-right g c = ap (λ (l : Link). l.content) c.in-Ok.ensures.entered ∙ c.mark_dirty.ensures.dirtied.content ∙ c.requires.right
@@ -46,7 +47,7 @@ returns-in-Ok-clause-seat g c =
     let m : MarkedFrameDirty c.args.frame c.args.seat.now.me.0 c.mark_dirty.new.seat.me.0 = record { touches = d.touches; marks = d.marks; dirtied = d.dirtied; did = d.did } in
     let e = c.in-Ok.ensures in
     let a = c.apply.ensures in
-    same_on _ _ _ (same_on _ _ _ d.seat e.seat) a.seat
+    same_seat_on _ _ _ (same_seat_on _ _ _ d.seat e.seat) a.seat
 
 pub returns-in-Ok-clause-stands : goal.returns-in-Ok-clause-stands
 returns-in-Ok-clause-stands g c =
@@ -54,7 +55,7 @@ returns-in-Ok-clause-stands g c =
     let m : MarkedFrameDirty c.args.frame c.args.seat.now.me.0 c.mark_dirty.new.seat.me.0 = record { touches = d.touches; marks = d.marks; dirtied = d.dirtied; did = d.did } in
     let e = c.in-Ok.ensures in
     let a = c.apply.ensures in
-    stands_on c.args.table.now _ _ (same_on _ _ _ (same_on _ _ _ d.seat e.seat) a.seat) (device_put c.args.frame c.args._held.now _ _ m _ _ c.args.tag _ _ e.view e.rises e.did e.entered e.others _ a.touches a.marks a.applied c.requires.stands.quiet) c.requires.stands
+    stands_on c.args.table.now _ _ (same_seat_on _ _ _ (same_seat_on _ _ _ d.seat e.seat) a.seat) (device_put c.args.frame c.args._held.now _ _ m _ _ c.args.tag _ _ e.view e.rises e.did e.entered e.others _ a.touches a.marks a.applied c.requires.stands.quiet) c.requires.stands
 
 pub returns-in-Ok-clause-puts : goal.returns-in-Ok-clause-puts
 returns-in-Ok-clause-puts g c =
@@ -117,14 +118,14 @@ returns-in-Err-clause-seat g c =
     let d = c.mark_dirty.ensures in
     let m : MarkedFrameDirty c.args.frame c.args.seat.now.me.0 c.mark_dirty.new.seat.me.0 = record { touches = d.touches; marks = d.marks; dirtied = d.dirtied; did = d.did } in
     let e = c.in-Err.ensures in
-    same_on _ _ _ d.seat e.seat
+    same_seat_on _ _ _ d.seat e.seat
 
 pub returns-in-Err-clause-stands : goal.returns-in-Err-clause-stands
 returns-in-Err-clause-stands g c =
     let d = c.mark_dirty.ensures in
     let m : MarkedFrameDirty c.args.frame c.args.seat.now.me.0 c.mark_dirty.new.seat.me.0 = record { touches = d.touches; marks = d.marks; dirtied = d.dirtied; did = d.did } in
     let e = c.in-Err.ensures in
-    stands_on c.args.table.now _ _ (same_on _ _ _ d.seat e.seat) (device_refused c.args.frame c.args._held.now _ _ m _ _ e.left e.rises c.requires.stands.quiet) c.requires.stands
+    stands_on c.args.table.now _ _ (same_seat_on _ _ _ d.seat e.seat) (device_refused c.args.frame c.args._held.now _ _ m _ _ e.left e.rises c.requires.stands.quiet) c.requires.stands
 
 pub returns-in-Err-clause-puts : goal.returns-in-Err-clause-puts
 returns-in-Err-clause-puts g c =

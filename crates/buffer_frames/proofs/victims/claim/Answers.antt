@@ -1,6 +1,7 @@
 use Rattle.std.proofs.Common.{◌∙◌}
 use Rattle.frame_table.proofs.Rising.{rises_on}
-use Rattle.held_pins.proofs.Keeping.{same_locks_on, same_on}
+use Rattle.frame_table.proofs.SameSeats.{same_seat_on}
+use Rattle.held_pins.proofs.Keeping.{same_locks_on}
 use Rattle.buffer_frames.proofs.Noting.{calls_by, calls_on, refused_from}
 use Rattle.buffer_frames.proofs.Outside.{grows_outside, kept_outside, met_outside}
 use Rattle.buffer_frames.proofs.victims.claim.Goals as goal
@@ -10,7 +11,7 @@ returns-in-Some-enter_or_pin-clause-calls g c = calls_on _ _ c.make_victim.new.s
 
 pub loop-preserved-in_default : goal.loop-preserved-in_default
 loop-preserved-in_default g c = let i = c.loop.invariant in let m = c.make_victim.ensures in let e = c.enter_or_pin.ensures in record {
-  seat = same_on _ _ _ (same_on _ _ _ i.seat m.seat) e.seat;
+  seat = same_seat_on _ _ _ (same_seat_on _ _ _ i.seat m.seat) e.seat;
   stands = e.stands;
   rests = c.in_default.ensures.rests;
   latches = e.latches;

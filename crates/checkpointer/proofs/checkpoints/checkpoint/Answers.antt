@@ -1,8 +1,8 @@
 use Rattle.std.proofs.Common.{ap, ◌∙◌, arith}
 use Rattle.frame_table.specs.Seats.{frames_of}
 use Rattle.backend_pass.proofs.Seated.{same_on}
+use Rattle.backend_pass.proofs.Keeping.{callers_on}
 use Rattle.checkpointer.specs.Refusals.{met_stopping, refusal_of_flush}
-use Rattle.checkpointer.proofs.Keeping.{callers_on}
 use Rattle.checkpointer.proofs.Stopping.{fails_later}
 use Rattle.checkpointer.proofs.Whole.{begins_to, callers_to, completed, flushes_logged, met_at_log, met_of_flush, none_left_logged, rises_to, started, stopped_at_frame, stopped_at_lane, stopped_at_log}
 use Rattle.checkpointer.proofs.checkpoints.checkpoint.Goals as goal

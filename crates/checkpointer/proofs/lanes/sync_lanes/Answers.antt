@@ -4,8 +4,8 @@ use Rattle.pin_core.specs.declared.view.DeviceCall.TheVariants.{LaneSync}
 use Rattle.pin_core.specs.declared.view.FailedCalls.{FailedCalls}
 use Rattle.frame_table.specs.Seats.{frames_of, lanes_in}
 use Rattle.buffer_frames.specs.Working.{Made, met_write}
+use Rattle.buffer_frames.proofs.WorkSteps.{made_none, made_on}
 use Rattle.checkpointer.specs.Stages.{syncs_below}
-use Rattle.checkpointer.proofs.Flushing.{made_none, made_on}
 use Rattle.checkpointer.proofs.Keeping.{keeps_none, keeps_on}
 use Rattle.checkpointer.proofs.Syncing.{calls_more, swept_more, synced_calls, synced_links, written_same}
 use Rattle.checkpointer.proofs.lanes.sync_lanes.Goals as goal

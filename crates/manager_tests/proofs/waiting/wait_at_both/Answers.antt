@@ -1,6 +1,7 @@
 use denote.Exit.{no}
 use denote.Param.Send.{IsSend, param_send, arg_send, mut_send, shr_send}
-use Rattle.manager_tests.proofs.Crossing.{managers_shared, passes_sent, three_sent}
+use Rattle.backend_pass.proofs.Crossing.{passes_sent}
+use Rattle.manager_tests.proofs.Crossing.{managers_shared, three_sent}
 use Rattle.manager_tests.proofs.waiting.wait_at_both.Lts.{arg-0-1}
 use Rattle.manager_tests.proofs.waiting.wait_at_both.Goals as goal
 

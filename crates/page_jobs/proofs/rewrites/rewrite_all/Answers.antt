@@ -1,6 +1,7 @@
 use denote.Exit.{no}
 use denote.Param.Send.{IsSync, arg_sync, param_sync, shr_sync}
-use Rattle.page_jobs.proofs.Crossing.{captures_shared, globals_shared, blocks_shared, managers_shared}
+use Rattle.backend_pass.proofs.Crossing.{globals_shared}
+use Rattle.page_jobs.proofs.Crossing.{captures_shared, blocks_shared, managers_shared}
 use Rattle.page_jobs.proofs.rewrites.rewrite_all.Lts.{arg-2-2}
 use Rattle.page_jobs.proofs.rewrites.rewrite_all.Goals as goal
 

@@ -1,7 +1,7 @@
 use Rattle.std.proofs.Common.{◌∙◌}
 use Rattle.std.proofs.lemmas.Result.{err_from_is_err_and}
+use Rattle.backend_pass.proofs.Keeping.{calls_on}
 use Rattle.page_jobs.proofs.BlockRewrites.{locks_one, refuses_after, tried}
-use Rattle.page_jobs.proofs.Staying.{calls_on}
 use Rattle.page_jobs.proofs.rewriting.lock_block.Goals as goal
 
 pub returns-in_err-pinned-clause-refused : goal.returns-in_err-pinned-clause-refused

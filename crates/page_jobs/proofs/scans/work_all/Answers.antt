@@ -1,6 +1,7 @@
 use denote.Exit.{no}
 use denote.Param.Send.{IsSync, arg_sync, param_sync, shr_sync}
-use Rattle.page_jobs.proofs.Crossing.{captures_shared, globals_shared, jobs_shared, managers_shared}
+use Rattle.backend_pass.proofs.Crossing.{globals_shared}
+use Rattle.page_jobs.proofs.Crossing.{captures_shared, jobs_shared, managers_shared}
 use Rattle.page_jobs.proofs.scans.work_all.Lts.{arg-2-2}
 use Rattle.page_jobs.proofs.scans.work_all.Goals as goal
 

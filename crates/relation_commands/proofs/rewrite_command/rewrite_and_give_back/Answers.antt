@@ -1,18 +1,7 @@
-use Rattle.std.proofs.Common.{map}
 use Rattle.relation_commands.specs.Request.{rewrite_asked}
-use Rattle.relation_commands.proofs.GivenFiles.{Told, held_by, refused, rewritten}
+use Rattle.relation_commands.proofs.GivenFiles.{told, held_by, refused, rewritten}
 use Rattle.relation_commands.proofs.rewrite_command.rewrite_and_give_back.Given as given
 use Rattle.relation_commands.proofs.rewrite_command.rewrite_and_give_back.Goals as goal
-
--- what the host tells
-abbrev told : (g : given.Over) → g.row.H.Denot → Told
-told g host = record {
-  contents = g.H.Host.contents host;
-  failed = g.H.Host.failed_writes host;
-  open_at = g.H.Host.open_at host;
-  logs = g.H.Host.logs host;
-  log_at = g.H.Host.log_at host;
-}
 
 pub returns-in-Ok-clause-files : goal.returns-in-Ok-clause-files
 returns-in-Ok-clause-files g c =
@@ -20,7 +9,7 @@ returns-in-Ok-clause-files g c =
     let back = c.give_back.ensures in
     rewritten g.H.Lane.BlockLane.contents g.H.Lane.BlockLane.failed_writes g.H.Log.LogDevice.bytes g.H.Log.LogDevice.synced (rewrite_asked c.args.request.now)
     g.H.Lane.BlockLane.read_faults g.H.Lane.BlockLane.write_faults c.args.relation c.args.base c.args.lanes.items c.rewrite_lanes-lanes.result.lanes.items
-    c.in-Ok.log c.rewrite_lanes-lanes.result.log c.rewrite_lanes-lanes.result.end (told g c.args.host.now) (told g c.open_log.new.host) (told g c.give_back.new.self)
+    c.in-Ok.log c.rewrite_lanes-lanes.result.log c.rewrite_lanes-lanes.result.end (told g.H.Host c.args.host.now) (told g.H.Host c.open_log.new.host) (told g.H.Host c.give_back.new.self)
     c.requires.open_at c.requires.main c.requires.surveyed (record { contents = opened.contents; failed = opened.failed; open_at = opened.open_at }) opened.logs
     (g.met.H.Host.logs_told c.open_log.new.host c.rewrite_lanes-lanes.result.log)
     (record { paths = back.contents; marks = back.failed; logs = back.logs }) c.rewrite_lanes-lanes.ensures.leaves
@@ -32,7 +21,7 @@ returns-in-Err-clause-files g c =
     let back = c.give_back-in-Err.ensures in
     let surveyed = c.requires.surveyed in
     refused g.H.Lane.BlockLane.contents g.H.Lane.BlockLane.failed_writes g.H.Log.LogDevice.bytes g.H.Log.LogDevice.synced (rewrite_asked c.args.request.now)
-    (told g c.args.host.now) (told g c.open_log.new.host) (told g c.give_back-in-Err.new.self) c.args.lanes.items c.args.base c.in-Err.field-0.log _ _ _ c.in-Err.field-0.error
+    (told g.H.Host c.args.host.now) (told g.H.Host c.open_log.new.host) (told g.H.Host c.give_back-in-Err.new.self) c.args.lanes.items c.args.base c.in-Err.field-0.log _ _ _ c.in-Err.field-0.error
     c.requires.open_at surveyed.unmarked surveyed.there
     (held_by g.H.Lane.BlockLane.contents g.H.Lane.BlockLane.failed_writes g.H.Log.LogDevice.bytes g.H.Log.LogDevice.synced (rewrite_asked c.args.request.now)
     _ c.args.relation c.args.base c.args.lanes.items c.requires.main surveyed.relation_is surveyed.pages)

@@ -13,20 +13,10 @@ use Rattle.relation_commands.specs.RewriteCommand.{AreSurveyed}
 use Rattle.relation_commands.specs.RewriteFiles.{pages_at}
 use Rattle.relation_commands.specs.Rewriting.{HavePages}
 use Rattle.relation_commands.proofs.Counting.{sum_same}
-use Rattle.relation_commands.proofs.GivenFiles.{Told, unlogged}
+use Rattle.relation_commands.proofs.GivenFiles.{told, unlogged}
 use Rattle.relation_commands.proofs.Stepping.{hold_so, refused_text, still_unmarked, surveyed}
 use Rattle.relation_commands.proofs.rewrite_command.rewrite_opened.Given as given
 use Rattle.relation_commands.proofs.rewrite_command.rewrite_opened.Goals as goal
-
--- what the host tells
-abbrev told : (g : given.Over) → g.row.H.Denot → Told
-told g host = record {
-  contents = g.H.Host.contents host;
-  failed = g.H.Host.failed_writes host;
-  open_at = g.H.Host.open_at host;
-  logs = g.H.Host.logs host;
-  log_at = g.H.Host.log_at host;
-}
 
 pub rewrite_surveyed-requires-clause-surveyed : goal.rewrite_surveyed-requires-clause-surveyed
 rewrite_surveyed-requires-clause-surveyed g c κs within =
@@ -61,7 +51,7 @@ returns-in-Err-clause-files g c =
     (hold_so g.H.Lane.BlockLane.contents g.H.Lane.BlockLane.failed_writes g.H.Lane.BlockLane.unsynced g.H.Lane.BlockLane.read_faults g.H.Lane.BlockLane.write_faults
     r c.args.opened c.survey_base.new.lanes same known opened.holds) in
     unlogged g.H.Lane.BlockLane.contents g.H.Lane.BlockLane.failed_writes g.H.Log.LogDevice.bytes g.H.Log.LogDevice.synced r
-    (told g c.args.host.now) (told g c.give_back.new.self) _ _ _ _ c.in-Err.error c.in-Err.ensures.cause c.requires.open_at unmarked opened.there held (record { paths = back.contents; marks = back.failed; logs = back.logs })
+    (told g.H.Host c.args.host.now) (told g.H.Host c.give_back.new.self) _ _ _ _ c.in-Err.error c.in-Err.ensures.cause c.requires.open_at unmarked opened.there held (record { paths = back.contents; marks = back.failed; logs = back.logs })
 
 pub returns-in-Err-clause-text : goal.returns-in-Err-clause-text
 returns-in-Err-clause-text g c = refused_text (rewrite_asked c.args.request.now) (g.H.Host.contents c.args.host.now) (g.O.Sink.bytes c.args.out.now) c.in-Err.error

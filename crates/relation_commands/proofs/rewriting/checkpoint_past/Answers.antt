@@ -1,5 +1,6 @@
 use Rattle.std.proofs.Common.{◌∙◌}
-use Rattle.checkpointer.proofs.Keeping.{callers_on, no_lock_after}
+use Rattle.checkpointer.proofs.Keeping.{no_lock_after}
+use Rattle.backend_pass.proofs.Keeping.{callers_on}
 use Rattle.relation_commands.specs.Rewriting.{checkpoint_error}
 use Rattle.relation_commands.proofs.RewriteCauses.{meets_since, stop_meets}
 use Rattle.relation_commands.proofs.rewriting.checkpoint_past.Goals as goal

@@ -10,11 +10,12 @@ use Rattle.buffer_frames.specs.declared.flushing.FrameFlushError as frames
 use Rattle.buffer_frames.specs.declared.flushing.FlushedPage.{FlushedPage}
 use Rattle.buffer_frames.specs.declared.flushing.FlushedPage.TheVariants.{Written, Clean}
 use Rattle.buffer_frames.specs.Flushing.{EndedInError, EndedWritten, FlushAnswer, met_flushing}
+use Rattle.buffer_frames.proofs.SameLocks.{same_locks_worked}
 use Rattle.backend_pass.specs.Managers.{Belongs}
 use Rattle.backend_pass.specs.Passes.{IsNumbered, IsShown, PassState, SamePass, view_in}
 use Rattle.backend_pass.specs.FrameFlushes.{frame_refusal, shown_unflushed}
 use Rattle.backend_pass.proofs.BlockReads.{numbered_kept, same_kept, shown_met}
-use Rattle.backend_pass.proofs.Flushed.{flush_complete, locks_worked, shown_not_flushed}
+use Rattle.backend_pass.proofs.Flushed.{flush_complete, shown_not_flushed}
 use Rattle.backend_pass.proofs.Releasing.{belongs_held}
 use Rattle.backend_pass.proofs.pass.Pass.flush_frame.Goals as goal
 
@@ -33,12 +34,12 @@ returns-in-Ok-Clean-clause-belongs g c =
 pub returns-in-Ok-Written-clause-locks : goal.returns-in-Ok-Written-clause-locks
 returns-in-Ok-Written-clause-locks g c =
     let e = c.in-Ok-Written.ensures in
-    subst (λ (p : PassState). SameLocks p.view (view_in c.flush_seated.new.badge.views)) c.self.view_is (locks_worked c.args.pinned.now.frame _ _ e.works (subst (λ (p : PassState). (link p.view c.args.pinned.now.frame).content ≡ Unlocked) (sym c.self.view_is) c.requires.unlocked) e.unlocked)
+    subst (λ (p : PassState). SameLocks p.view (view_in c.flush_seated.new.badge.views)) c.self.view_is (same_locks_worked c.args.pinned.now.frame _ _ e.works (subst (λ (p : PassState). (link p.view c.args.pinned.now.frame).content ≡ Unlocked) (sym c.self.view_is) c.requires.unlocked) e.unlocked)
 
 pub returns-in-Ok-Clean-clause-locks : goal.returns-in-Ok-Clean-clause-locks
 returns-in-Ok-Clean-clause-locks g c =
     let e = c.in-Ok-Clean.ensures in
-    subst (λ (p : PassState). SameLocks p.view (view_in c.flush_seated.new.badge.views)) c.self.view_is (locks_worked c.args.pinned.now.frame _ _ e.works (subst (λ (p : PassState). (link p.view c.args.pinned.now.frame).content ≡ Unlocked) (sym c.self.view_is) c.requires.unlocked) e.unlocked)
+    subst (λ (p : PassState). SameLocks p.view (view_in c.flush_seated.new.badge.views)) c.self.view_is (same_locks_worked c.args.pinned.now.frame _ _ e.works (subst (λ (p : PassState). (link p.view c.args.pinned.now.frame).content ≡ Unlocked) (sym c.self.view_is) c.requires.unlocked) e.unlocked)
 
 pub returns-in-Err-clause-belongs : goal.returns-in-Err-clause-belongs
 returns-in-Err-clause-belongs g c =
@@ -49,7 +50,7 @@ returns-in-Err-clause-belongs g c =
 pub returns-in-Err-clause-locks : goal.returns-in-Err-clause-locks
 returns-in-Err-clause-locks g c =
     let e = c.in-Err.ensures in
-    subst (λ (p : PassState). SameLocks p.view (view_in c.flush_seated.new.badge.views)) c.self.view_is (locks_worked c.args.pinned.now.frame _ _ e.works (subst (λ (p : PassState). (link p.view c.args.pinned.now.frame).content ≡ Unlocked) (sym c.self.view_is) c.requires.unlocked) e.unlocked)
+    subst (λ (p : PassState). SameLocks p.view (view_in c.flush_seated.new.badge.views)) c.self.view_is (same_locks_worked c.args.pinned.now.frame _ _ e.works (subst (λ (p : PassState). (link p.view c.args.pinned.now.frame).content ≡ Unlocked) (sym c.self.view_is) c.requires.unlocked) e.unlocked)
 
 pub returns-in-Ok-Written-clause-answer : goal.returns-in-Ok-Written-clause-answer
 returns-in-Ok-Written-clause-answer g c =

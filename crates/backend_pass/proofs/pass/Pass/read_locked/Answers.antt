@@ -8,12 +8,13 @@ use Rattle.pin_core.specs.declared.view.View.{View}
 use Rattle.pin_core.specs.State.{link}
 use Rattle.content_locks.specs.Locks.{CanCopy}
 use Rattle.held_pins.specs.Tokens.{IsPinnedFor, held_at}
+use Rattle.held_pins.proofs.Keeping.{same_locks_at}
 use Rattle.backend_pass.specs.Managers.{Belongs}
 use Rattle.buffer_frames.specs.PageReads.{OnlyReads, ReadsPage, ReadsUnder}
 use Rattle.backend_pass.specs.Passes.{IsNumbered, PassState, view_in}
 use Rattle.buffer_frames.proofs.PageReading.{can_copy_locked}
 use Rattle.backend_pass.proofs.PassReading.{belongs_read, numbered_read, rests_read, same_read, shown_read, tag_pinned}
-use Rattle.backend_pass.proofs.Relocking.{beside_lock, locks_kept}
+use Rattle.backend_pass.proofs.Relocking.{beside_lock}
 use Rattle.backend_pass.proofs.Seated.{moved, moved_one, one_view, same_from, view_of_seat}
 use Rattle.backend_pass.proofs.pass.Pass.read_locked.Goals as goal
 
@@ -76,7 +77,7 @@ returns-clause-locks g c =
     let after = ap view_in c.into_badge.ensures.2 in
     let others : (g : ℕ) → g ≢ f → link (view_in c.into_badge.result.views) g ≡ link (view_in c.self.inside.seat.views) g = moved (λ v w. (g : ℕ) → g ≢ f → link w g ≡ link v g) (view_in c.self.inside.seat.views) (view_in c.into_badge.result.views) _ _ before after c.read_copy-place.ensures.others in
     let here = moved (λ v w. (link w f).content ≡ (link v f).content) (view_in c.self.inside.seat.views) (view_in c.into_badge.result.views) _ _ before after (ap (λ (l : Link). l.content) c.read_copy-place.ensures.link) in
-    subst (λ (p : PassState). (g : ℕ) → (link (view_in c.into_badge.result.views) g).content ≡ (link p.view g).content) c.self.view_is (locks_kept f (view_in c.self.inside.seat.views) (view_in c.into_badge.result.views) others here)
+    subst (λ (p : PassState). (g : ℕ) → (link (view_in c.into_badge.result.views) g).content ≡ (link p.view g).content) c.self.view_is (same_locks_at f (view_in c.self.inside.seat.views) (view_in c.into_badge.result.views) others here)
 
 pub returns-clause-others : goal.returns-clause-others
 returns-clause-others g c =

@@ -9,11 +9,12 @@ use Rattle.pin_core.specs.State.{link}
 use Rattle.frame_table.specs.Content.{CanLock}
 use Rattle.held_pins.specs.Rests.{HasAtMostLock}
 use Rattle.held_pins.specs.Tokens.{IsPinnedFor, held_at}
+use Rattle.held_pins.proofs.Keeping.{same_locks_at}
 use Rattle.backend_pass.specs.Managers.{Belongs}
 use Rattle.buffer_frames.specs.PageReads.{OnlyReads, ReadsPage, SharesToRead}
 use Rattle.backend_pass.specs.Passes.{IsNumbered, PassState, view_in}
 use Rattle.backend_pass.proofs.PassReading.{belongs_read, numbered_read, rests_read, same_read, shown_read, tag_pinned}
-use Rattle.backend_pass.proofs.Relocking.{beside_lock, can_lock, locks_kept}
+use Rattle.backend_pass.proofs.Relocking.{beside_lock, can_lock}
 use Rattle.backend_pass.proofs.Seated.{moved, moved_one, one_view, same_from, view_of_seat}
 use Rattle.backend_pass.proofs.pass.Pass.read_page.Goals as goal
 
@@ -84,7 +85,7 @@ returns-clause-locks g c =
     let others : (g : ℕ) → g ≢ f → link (view_in c.into_badge.result.views) g ≡ link (view_in c.self.inside.seat.views) g = moved (λ v w. (g : ℕ) → g ≢ f → link w g ≡ link v g) (view_in c.self.inside.seat.views) (view_in c.into_badge.result.views) _ _ before after c.share_to_read-place.ensures.others in
     let right = subst (λ (p : PassState). (link p.view f).content ≡ Unlocked) (sym c.self.view_is) c.requires.unlocked in
     let here = moved_one (λ w. (link w f).content ≡ Unlocked) (view_in c.into_badge.result.views) _ after (ap (λ (l : Link). l.content) c.share_to_read-place.ensures.link) ∙ sym right in
-    subst (λ (p : PassState). (g : ℕ) → (link (view_in c.into_badge.result.views) g).content ≡ (link p.view g).content) c.self.view_is (locks_kept f (view_in c.self.inside.seat.views) (view_in c.into_badge.result.views) others here)
+    subst (λ (p : PassState). (g : ℕ) → (link (view_in c.into_badge.result.views) g).content ≡ (link p.view g).content) c.self.view_is (same_locks_at f (view_in c.self.inside.seat.views) (view_in c.into_badge.result.views) others here)
 
 pub returns-clause-others : goal.returns-clause-others
 returns-clause-others g c =

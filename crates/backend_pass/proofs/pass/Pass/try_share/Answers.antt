@@ -8,10 +8,11 @@ use Rattle.content_locks.specs.Locks.{LocksContent}
 use Rattle.frame_table.specs.Content.{shared_link}
 use Rattle.held_pins.specs.Rests.{SameLocks}
 use Rattle.held_pins.specs.Tokens.{held_at}
+use Rattle.held_pins.proofs.Keeping.{same_locks_at}
 use Rattle.backend_pass.specs.Managers.{Belongs}
 use Rattle.backend_pass.specs.Passes.{IsNumbered, PassState, view_in}
 use Rattle.backend_pass.proofs.Releasing.{belongs_touched, numbered_self, same_touched, shown_self}
-use Rattle.backend_pass.proofs.Relocking.{Relocks, held_same, kept_refused, kept_taken, lock_refused, lock_taken, locks_kept, relocks_tried, rests_relocked}
+use Rattle.backend_pass.proofs.Relocking.{Relocks, held_same, kept_refused, kept_taken, lock_refused, lock_taken, relocks_tried, rests_relocked}
 use Rattle.backend_pass.proofs.Seated.{moved, one_view, same_from, view_of_seat}
 use Rattle.backend_pass.proofs.pass.Pass.try_share.Goals.{in-Ok, in-Err}
 use Rattle.backend_pass.proofs.pass.Pass.try_share.Goals as goal
@@ -58,7 +59,7 @@ returns-clause-kept g c =
       | in-Ok w ↦ kept_taken (SameLocks c.args.self.now.view (view_in c.into_badge.result.views)) c.match-answer.result _ w.result-is
       | in-Err w ↦
           let here = moved (λ v w. (link w f).content ≡ (link v f).content) (view_in c.self.inside.seat.views) (view_in c.into_badge.result.views) _ _ before (ap view_in c.into_badge.ensures.2) (ap (λ (l : Link). l.content) w.in-Err.ensures.left) in
-          kept_refused (SameLocks c.args.self.now.view (view_in c.into_badge.result.views)) c.match-answer.result _ w.result-is (subst (λ (p : PassState). SameLocks p.view (view_in c.into_badge.result.views)) c.self.view_is (locks_kept f (view_in c.self.inside.seat.views) (view_in c.into_badge.result.views) others here))
+          kept_refused (SameLocks c.args.self.now.view (view_in c.into_badge.result.views)) c.match-answer.result _ w.result-is (subst (λ (p : PassState). SameLocks p.view (view_in c.into_badge.result.views)) c.self.view_is (same_locks_at f (view_in c.self.inside.seat.views) (view_in c.into_badge.result.views) others here))
     ]
 
 pub returns-clause-did : goal.returns-clause-did

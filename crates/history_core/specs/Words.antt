@@ -1,0 +1,70 @@
+-- The words of the table that no frame and no latch has, and the kinds of step at one.
+use Rattle.std.specs.Prelude.{◌≡◌, ℕ, Bool, true, false, max, if◌then◌else◌}
+use Rattle.pin_core.specs.declared.view.View.{View}
+use Rattle.history_core.specs.State.{State, next_hand}
+
+-- the log's end, the position up to which the log is flushed, and the clock's hand (`nextVictimBuffer`)
+pub data Word : Type 0 where
+  end_word : Word
+  flushed_word : Word
+  hand_word : Word
+
+-- whether they are one word
+abbrev pub is_word : Word → Word → Bool
+is_word end_word end_word = true
+is_word flushed_word flushed_word = true
+is_word hand_word hand_word = true
+is_word _ _ = false
+
+-- The numbers that the words have
+pub record Words : Type 0 where
+  pub end : ℕ
+  pub flushed : ℕ
+  pub hand : ℕ
+
+abbrev pub words_of : State → Words
+words_of s = record { end = s.end; flushed = s.flushed; hand = s.hand }
+
+abbrev pub number_in : Word → Words → ℕ
+number_in end_word w = w.end
+number_in flushed_word w = w.flushed
+number_in hand_word w = w.hand
+
+-- the number that a word has
+abbrev pub word_of : Word → State → ℕ
+word_of w s = number_in w (words_of s)
+
+pub data WordKind : Type 0 where
+  -- the log's end is loaded; so it is as a checkpoint begins (`CreateCheckPoint`)
+  load_end : WordKind
+  begin_checkpoint : WordKind
+  -- the flushed position is loaded, and raised to the log's end
+  load_flushed : WordKind
+  raise_flushed : WordKind
+  -- the clock's hand is loaded, and moves on (`ClockSweepTick`)
+  load_hand : WordKind
+  add_hand : WordKind
+
+-- the word that a kind is at
+abbrev pub word_at : WordKind → Word
+word_at load_end = end_word
+word_at begin_checkpoint = end_word
+word_at load_flushed = flushed_word
+word_at raise_flushed = flushed_word
+word_at load_hand = hand_word
+word_at add_hand = hand_word
+
+-- the flushed position is raised under the log's latch, after a sync
+abbrev pub WordAllowed : WordKind → State → View → Type 0
+WordAllowed raise_flushed s v = v.log.synced ≡ true
+WordAllowed _ s v = Unit {0}
+
+-- the number that a kind leaves in its word
+abbrev pub number_after : WordKind → State → ℕ
+number_after raise_flushed s = max s.flushed s.end
+number_after add_hand s = next_hand s.hand
+number_after k s = word_of (word_at k) s
+
+-- the number that each word has where one of them has become `number`
+abbrev pub word_set : Word → ℕ → State → Word → ℕ
+word_set at number s w = if is_word w at then number else word_of w s
