@@ -16,7 +16,7 @@ use Rattle.pin_core.specs.declared.view.View.{View}
 use Rattle.pin_core.specs.State.{emptied_view, joined_view, kept_checkpoint, lane_hold, no_lane, sum_of_met}
 use Rattle.pin_core.specs.Steps.{HoldsNothing}
 use Rattle.pin_core.specs.Tallies.{flag_weight}
-use Rattle.history_core.specs.Log.{Entry, IsFront, log_bytes, writes_in}
+use Rattle.history_core.specs.Log.{IsFront, end_from, log_bytes, writes_in}
 use Rattle.history_core.specs.Rest.{NoneAppended}
 use Rattle.history_core.specs.State.{State, failed}
 use Rattle.history_core.specs.Causes.{AllQuiet, mark_weight}
@@ -247,6 +247,7 @@ module _ (s : State) (h : Laws s) (w : View) (there : get_elem? s.pool.core.view
 
   -- where none of them is a write the log is empty
   pub without_puts : (ps : List PassState) → writes_in w.calls ≡ 0 → EachPass (ClosesPass s) ps → NothingPut s ps
+  unfolding end_from
   without_puts ps none each = record {
     entries = empty;
     end = end;
@@ -257,7 +258,7 @@ module _ (s : State) (h : Laws s) (w : View) (there : get_elem? s.pool.core.view
       empty = no_items s.log.entries (sym history.counted ∙ none)
 
       end : s.end ≡ s.log.base
-      end = let is = h.invariant.ends in let few = ap (λ (l : List Entry). length l) empty in omega arith
+      end = h.invariant.ends ∙ ap (end_from s.log.base) empty
 
 module _ {L G : Type 0} where
   -- all of that
@@ -271,6 +272,7 @@ module _ {L G : Type 0} where
     others = c.others;
     counted = c.counted;
     lane = c.lane;
+    covered = c.covered;
     mark = c.mark;
     device = c.device;
     bytes = λ up. holds_bytes s h w c.first c.others (ap (λ (l : LogHold). l.appended) (j.log ∙ r.quiet.log)) (c.device.down ∙ up);

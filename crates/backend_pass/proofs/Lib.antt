@@ -12,5 +12,6 @@ pub mod PassReading
 pub mod Flushed
 pub mod PassPuts
 pub mod CleanupLocks
+pub mod SeatWork
 pub mod PassSyncing
 pub mod Crossing

@@ -72,7 +72,7 @@ same_put f p q table id census k = let e = k.kept in record {
 }
 
 pub front_put : (base : ℕ) (relations : List RelEntry) (f : ℕ) (tag : Tag) (page : Page) (v w : View) (r : Result ℕ InsertError) → PutAnswer relations f tag page v w r → IsFront base v.calls v.front → IsFront base w.calls w.front
-front_put base relations f tag page v w (Ok lsn) a = front_added base v w (Write v.number (packed_tag tag) (with_lsn lsn page) lsn) a.calls a.front (let later = a.later in omega arith)
+front_put base relations f tag page v w (Ok lsn) a = front_added base v w (Write v.number (packed_tag tag) (with_lsn lsn page) lsn true) a.calls a.front (let later = a.later in omega arith)
 front_put base relations f tag page v w (Err why) a = front_kept base v w a.calls a.front
 
 pub belongs_put : {L G : Type 0} (contents : L → Option Pages) (m : Manager L G) (p q : PassState) → q.table ≡ p.table → q.census.frames ≡ p.census.frames → q.tokens ≡ p.tokens → (IsFront (base_of m.table) p.view.calls p.view.front → IsFront (base_of m.table) q.view.calls q.view.front) → p.view.end_seen ≤ q.view.end_seen → Belongs contents m p → Belongs contents m q

@@ -16,8 +16,7 @@ use Rattle.frame_table.specs.WordSteps.{begin_checkpoint, load_hand, view_of}
 use Rattle.frame_table.proofs.Rising.{grows_loads, rises_by}
 use Rattle.wal_flush.specs.declared.flushes.FlushLog.{FlushLog}
 use Rattle.wal_flush.specs.declared.flushes.FlushLog.TheVariants.{LogShort, LogDown, LogFault}
-use Rattle.held_pins.specs.Rests.{LinkRests, LinksRest, SameLocks, kept_by_calls}
-use Rattle.held_pins.specs.Tokens.{Tokens, held_at}
+use Rattle.held_pins.specs.Rests.{SameLocks, kept_by_calls}
 use Rattle.buffer_frames.specs.Flushing.{met_flushing}
 use Rattle.buffer_frames.proofs.Written.{flushed_met}
 use Rattle.buffer_sync.specs.declared.syncing.Synced.{Synced}
@@ -29,20 +28,11 @@ use Rattle.backend_pass.specs.declared.met.Shown.{Shown}
 use Rattle.backend_pass.specs.FrameFlushes.{frame_answer}
 use Rattle.backend_pass.specs.Managers.{Belongs}
 use Rattle.backend_pass.specs.Passes.{IsShown, KeepsCallers, PassState, SamePass, shown_count}
-use Rattle.backend_pass.specs.PassSyncs.{FlushesLog, shown_lane_synced, shown_log_flushed, shown_synced}
+use Rattle.backend_pass.specs.PassSyncs.{shown_lane_synced, shown_log_flushed, shown_synced}
 use Rattle.backend_pass.specs.Reading.{NothingFails}
 use Rattle.backend_pass.proofs.BlockReads.{calls_kept, count_on, same_kept, shown_met}
 use Rattle.backend_pass.proofs.Flushed.{flush_complete, shown_logged, shown_not_flushed}
-
--- a checkpoint that begins leaves the frames at rest
-pub rests_unmarked : (t : Tokens) (v w : View) → ((f : ℕ) → link w f ≡ unmarked (link v f)) → LinksRest t v → LinksRest t w
-rests_unmarked t v w e rests f = let r = rests f in let c = r.calm in subst (LinkRests (held_at t f)) (sym (e f)) record {
-  calm = record { no_header = c.no_header; assigned = c.assigned; no_copy = c.no_copy; applied = c.applied; no_io = c.no_io; page_home = c.page_home; no_wait = c.no_wait };
-  role = r.role;
-  tag = r.tag;
-  seen = r.seen;
-  unlocked = r.unlocked;
-}
+use Rattle.backend_pass.proofs.SeatWork.{FlushesLog}
 
 pub callers_kept : (p q : PassState) → q.table ≡ p.table → q.id ≡ p.id → q.tokens ≡ p.tokens → q.census ≡ p.census → kept_by_calls q.view ≡ kept_by_calls p.view → OnlyRises p.view q.view → SameLocks p.view q.view → KeepsCallers p q
 callers_kept p q table id tokens census e rises locks = record { keeps = (same_kept p q table id (ap (λ c. c.frames) census) e rises).keeps; tokens = tokens; locks = locks; census = census; calls = calls_kept p q e }

@@ -14,9 +14,9 @@ use Rattle.held_pins.specs.Rests.{LinkRests, OnlyTokens, role_of}
 use Rattle.held_pins.proofs.Keeping.{devices_touched, latches_same, rests_touched}
 use Rattle.backend_pass.proofs.Releasing.{AreHeld}
 
--- what a link is but for the content lock, and what was copied or marked under it
+-- what a link is but for the content lock, and what was copied, marked or entered under it
 abbrev pub beside_lock : Link → Link
-beside_lock l = record l { content = Unlocked; copied = None; dirtied = false }
+beside_lock l = record l { content = Unlocked; copied = None; dirtied = false; entered = false }
 
 -- The view has of the frame f what it had but for these, and of the others what it had
 pub record Relocks (f : ℕ) (v w : View) : Type 0 where

@@ -1,17 +1,15 @@
--- A pass takes its seat, and rises again.
-use Rattle.std.proofs.Common.{◌≡◌, [], ◌∷◌, sym, ap, subst, ◌∙◌}
+-- A pass takes its seat out of its badge and puts it back, and is the same pass then.
+use Rattle.std.proofs.Common.{◌≡◌, sym, subst, ◌∙◌}
 use Rattle.atomic_table.specs.declared.badge.Badge.{Badge}
+use Rattle.atomic_table.specs.declared.shared.Seat.{Seat}
 use Rattle.pin_core.specs.declared.view.View.{View}
+use Rattle.table_rule.specs.declared.value.Value.{Value}
+use Rattle.frame_table.specs.Seats.{SameSeat}
+use Rattle.held_pins.specs.Rests.{OnlyTokens}
+use Rattle.held_pins.specs.Tokens.{Tokens}
 use Rattle.backend_pass.specs.Passes.{PassState, SamePass, view_in}
+use Rattle.backend_pass.specs.Seats.{HasSeat, SameBadge}
 use Rattle.backend_pass.proofs.Keeping.{pass_on}
-
--- the view that a badge gives its seat
-pub view_of_seat : (b r : Badge View) (v : View) → r ≡ b → r.views ≡ v ∷ [] → view_in b.views ≡ v
-view_of_seat b r v same one = ap (λ (x : Badge View). view_in x.views) (sym same) ∙ ap view_in one
-
--- and that it takes back
-pub one_view : (b : Badge View) (w : View) → b.views ≡ w ∷ [] → b.views ≡ view_in b.views ∷ []
-one_view b w one = one ∙ ap (λ (x : View). x ∷ []) (sym (ap view_in one))
 
 pub same_on : (p q r : PassState) → SamePass p q → SamePass q r → SamePass p r
 same_on p q r a b = record { keeps = pass_on p q r a.keeps b.keeps; upto = b.upto ∙ a.upto }
@@ -25,3 +23,20 @@ moved P a b v w x y p = subst (λ (z : View). P z b) (sym x) (subst (P v) (sym y
 
 pub moved_one : (P : View → Type 0) (b w : View) → b ≡ w → P w → P b
 moved_one P b w y p = subst P (sym y) p
+
+-- What a call did that worked with the seat of the badge b, and left it in the badge d
+pub record Worked (D : View → View → Type 0) (held : Tokens) (b d : Badge View) : Type 0 where
+  pub badge : SameBadge b d
+  pub rests : OnlyTokens held (view_in d.views)
+  pub did : D (view_in b.views) (view_in d.views)
+
+module _ {L G : Type 0} (b d : Badge View) (s t : Seat (Value L G) View) (taken : HasSeat b s) (same : SameSeat s t) (back : HasSeat d t) where
+  pub same_badge : SameBadge b d
+  same_badge = record { table = sym back.table ∙ same.table ∙ taken.table; id = sym back.id ∙ same.id ∙ taken.id; one = back.one }
+
+  pub worked : (D : View → View → Type 0) (held : Tokens) → OnlyTokens held t.me.0 → D s.me.0 t.me.0 → Worked D held b d
+  worked D held rests did = record {
+    badge = same_badge;
+    rests = moved_one (OnlyTokens held) (view_in d.views) t.me.0 back.view rests;
+    did = moved D (view_in b.views) (view_in d.views) s.me.0 t.me.0 taken.view back.view did;
+  }

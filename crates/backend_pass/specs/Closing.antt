@@ -8,13 +8,14 @@ use Rattle.pin_core.specs.declared.view.View.{View}
 use Rattle.pin_core.specs.State.{emptied_view, joined_view, lane_hold, sum_of_met}
 use Rattle.pin_core.specs.Steps.{HoldsNothing}
 use Rattle.history_core.specs.Log.{IsFront, log_bytes, writes_in}
-use Rattle.history_core.specs.State.{State, failed}
+use Rattle.history_core.specs.State.{State, stored_upto, synced_upto, failed}
 use Rattle.history_core.specs.Device.{HasRisen}
 use Rattle.history_core.specs.History.{IsHistory}
 use Rattle.history_core.specs.Laws.{Laws}
 use Rattle.history_core.specs.Promises.{AreStored, AreSynced}
+use Rattle.block_tag.specs.declared.tag.Tag.{Tag}
 use Rattle.table_rule.specs.declared.opening.Opening.{Opening}
-use Rattle.table_rule.specs.Shows.{Devices, IsLane, IsLog, KeepsOpening}
+use Rattle.table_rule.specs.Shows.{Devices, IsPlaced, IsLane, IsLog, KeepsOpening}
 use Rattle.backend_pass.specs.Passes.{PassState}
 use Rattle.backend_pass.specs.Managers.{first_in, others_in}
 
@@ -88,6 +89,8 @@ module _ {L G : Type 0} where
     pub others : (i : ℕ) (u : View) → i ≢ 0 → get_elem? state.pool.core.views i ≡ some u → u ≡ emptied_view
     pub counted : length lanes ≡ o.config.lanes
     pub lane : (q : ℕ) (l : L) → get_elem? lanes q ≡ some l → IsLane d o.catalog.value state.lanes q l (state.lane q)
+    -- where a lane's own list doesn't have a block, the lane was synced since it took the last of the block's entries that it has
+    pub covered : (q word : ℕ) (l : L) (tag : Tag) → get_elem? lanes q ≡ some l → IsPlaced o.catalog.value state.lanes q word tag → d.unsynced l tag ≡ false → synced_upto state word ≡ stored_upto state word
     -- where the log is down, with its end at the failure
     pub mark : Option ℕ
     pub device : IsLog d log mark state.device

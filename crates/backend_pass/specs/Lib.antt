@@ -1,4 +1,5 @@
 pub mod Passes
+pub mod Seats
 pub mod Managers
 pub mod PassMemories
 pub mod PoolMemories

@@ -4,13 +4,11 @@ use crate::errors::Refused;
 use crate::manager::Manager;
 use crate::pass::Pass;
 use crate::pinned::Pinned;
+use crate::seats::{return_seat, take_seat};
 use crate::tokens::Exclusive;
-use atomic_table::Badge;
 use cleanup_lock::{CleanupError, TryCleanup, lock, try_lock};
-use frame_table::Value;
 use log_device::LogDevice;
 use segment_store::BlockLane;
-use std::mem::replace;
 use std::sync::Wait;
 
 impl Pass {
@@ -56,9 +54,9 @@ impl Pass {
     {
         let tokens = self.held.tokens(pinned.frame);
         let number = self.number;
-        let mut seat = replace(&mut self.seat, Badge::blank()).into_seat::<Value<L, G>>();
+        let mut seat = take_seat::<L, G>(&mut self.seat);
         let answer = lock(&manager.table, rt, &mut seat, pinned.frame, tokens, number);
-        self.seat = seat.into_badge();
+        return_seat(&mut self.seat, seat);
         match answer {
             Ok(()) => Ok(Exclusive { pinned }),
             Err(why) => Err(Refused { pinned, why }),
@@ -92,9 +90,9 @@ impl Pass {
         ensures cause { IfErr result (λ refused. RefusesTry pinned.frame self.old.view self.new.view refused.why) }
     {
         let tokens = self.held.tokens(pinned.frame);
-        let mut seat = replace(&mut self.seat, Badge::blank()).into_seat::<Value<L, G>>();
+        let mut seat = take_seat::<L, G>(&mut self.seat);
         let answer = try_lock(&manager.table, &mut seat, pinned.frame, tokens);
-        self.seat = seat.into_badge();
+        return_seat(&mut self.seat, seat);
         match answer {
             Ok(()) => Ok(Exclusive { pinned }),
             Err(why) => Err(Refused { pinned, why }),

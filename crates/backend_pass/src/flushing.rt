@@ -1,5 +1,5 @@
 //! A pass writes the page of a frame.
-ghost use Rattle.std.specs.Prelude.{◌≡◌, ◌∷◌, ◌<◌, [], true, IfErr, IfOk};
+ghost use Rattle.std.specs.Prelude.{◌≡◌, ◌<◌, true, IfErr, IfOk};
 ghost use Rattle.block_tag.specs.Names.{lane_number, names_block, packed_tag};
 ghost use Rattle.pin_core.specs.declared.view.Content.TheVariants.{Unlocked};
 ghost use Rattle.pin_core.specs.State.{link};
@@ -11,6 +11,7 @@ ghost use Rattle.buffer_frames.specs.declared.flushing.FlushedPage.TheVariants.{
 ghost use Rattle.buffer_frames.specs.Flushing.{EndedInError, EndedWritten, FlushAnswer, met_flushing};
 ghost use Rattle.buffer_frames.specs.Working.{WorksAt};
 ghost use Rattle.backend_pass.specs.Passes.{view_in, shown_log, shown_write};
+ghost use Rattle.backend_pass.specs.Seats.{IsSeated, SameBadge};
 ghost use Rattle.backend_pass.specs.FrameFlushes.{frame_refusal, shown_unflushed};
 
 use crate::errors::FlushError;
@@ -18,17 +19,17 @@ use crate::manager::Manager;
 use crate::met::{Met, Shown};
 use crate::pass::Pass;
 use crate::pinned::Pinned;
+use crate::seats::{return_seat, take_seat};
 use atomic_table::Badge;
 use block_tag::Tag;
 use buffer_frames::FlushedPage;
 use crossbeam_utils::CachePadded;
-use frame_table::{FrameTable, Value};
+use frame_table::FrameTable;
 use held_pins::HeldPins;
 use log_device::LogDevice;
 use page_layout::Page;
 use pin_core::View;
 use segment_store::BlockLane;
-use std::mem::replace;
 use std::sync::Wait;
 use wal_flush::FlushLog;
 
@@ -100,17 +101,13 @@ fn flush_seated<L: BlockLane, G: LogDevice, R: Wait>(
     frame: u32,
     tag: Tag,
 ) -> Result<FlushedPage, buffer_frames::FrameFlushError>
-    requires table { badge.old.table_id ≡ table.now.table.shared.table_id }
-    requires view { badge.old.views ≡ view_in badge.old.views ∷ [] }
-    requires rests { OnlyTokens held.now (view_in badge.old.views) }
+    requires seated { IsSeated table.now.table.shared.table_id held.now badge.old }
     requires pinned { IsPinnedFor tag frame held.now }
     requires unlocked { (link (view_in badge.old.views) frame).content ≡ Unlocked }
     requires inside { frame < frames_of table.now }
     requires tag { names_block tag ≡ true }
     requires block { has_block (relations_of table.now) tag ≡ true }
-    ensures table { badge.new.table_id ≡ badge.old.table_id }
-    ensures id { badge.new.id ≡ badge.old.id }
-    ensures view { badge.new.views ≡ view_in badge.new.views ∷ [] }
+    ensures badge { SameBadge badge.old badge.new }
     ensures rests { OnlyTokens held.now (view_in badge.new.views) }
     ensures works { WorksAt frame (view_in badge.old.views) (view_in badge.new.views) }
     ensures unlocked { (link (view_in badge.new.views) frame).content ≡ Unlocked }
@@ -119,9 +116,9 @@ fn flush_seated<L: BlockLane, G: LogDevice, R: Wait>(
     ensures ended { IfErr result (λ _. EndedInError frame (view_in badge.old.views) (view_in badge.new.views)) }
     ensures written { IfOk result (λ flushed. flushed ≡ Written → EndedWritten frame (view_in badge.old.views) (view_in badge.new.views)) }
 {
-    let mut seat = replace(badge, Badge::blank()).into_seat::<Value<L, G>>();
+    let mut seat = take_seat::<L, G>(badge);
     let answer = buffer_frames::flush_frame(table, rt, &mut seat, held, frame, tag, page);
-    *badge = seat.into_badge();
+    return_seat(badge, seat);
     answer
 }
 

@@ -18,6 +18,7 @@ mod putting;
 mod reading;
 mod reads;
 mod seating;
+mod seats;
 mod syncs;
 mod tokens;
 

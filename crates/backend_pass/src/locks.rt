@@ -4,13 +4,11 @@ use crate::errors::Refused;
 use crate::manager::Manager;
 use crate::pass::Pass;
 use crate::pinned::Pinned;
+use crate::seats::{return_seat, take_seat};
 use crate::tokens::{Exclusive, Shared};
-use atomic_table::Badge;
 use content_locks::{TryLock, exclusive, share, try_exclusive, try_share, unexclusive, unshare};
-use frame_table::Value;
 use log_device::LogDevice;
 use segment_store::BlockLane;
-use std::mem::replace;
 use std::sync::Wait;
 
 impl Pass {
@@ -47,9 +45,9 @@ impl Pass {
         ensures lock { ChangesLock lock.Shared pinned.frame self.old self.new }
         ensures did { LocksContent kinds.share pinned.frame self.old.view self.new.view }
     {
-        let mut seat = replace(&mut self.seat, Badge::blank()).into_seat::<Value<L, G>>();
+        let mut seat = take_seat::<L, G>(&mut self.seat);
         share(&manager.table, rt, &mut seat, pinned.frame);
-        self.seat = seat.into_badge();
+        return_seat(&mut self.seat, seat);
         Shared { pinned }
     }
 
@@ -74,9 +72,9 @@ impl Pass {
         ensures lock { ChangesLock lock.Exclusive pinned.frame self.old self.new }
         ensures did { LocksContent kinds.exclude pinned.frame self.old.view self.new.view }
     {
-        let mut seat = replace(&mut self.seat, Badge::blank()).into_seat::<Value<L, G>>();
+        let mut seat = take_seat::<L, G>(&mut self.seat);
         exclusive(&manager.table, rt, &mut seat, pinned.frame);
-        self.seat = seat.into_badge();
+        return_seat(&mut self.seat, seat);
         Exclusive { pinned }
     }
 
@@ -104,9 +102,9 @@ impl Pass {
         ensures others { (g : ℕ) → g ≢ pinned.frame → link self.new.view g ≡ link self.old.view g }
         ensures cause { IfErr result (λ refused. RefusesLock ShowsExclusive pinned.frame self.old.view self.new.view refused.why) }
     {
-        let mut seat = replace(&mut self.seat, Badge::blank()).into_seat::<Value<L, G>>();
+        let mut seat = take_seat::<L, G>(&mut self.seat);
         let answer = try_share(&manager.table, &mut seat, pinned.frame);
-        self.seat = seat.into_badge();
+        return_seat(&mut self.seat, seat);
         match answer {
             Ok(()) => Ok(Shared { pinned }),
             Err(why) => Err(Refused { pinned, why }),
@@ -137,9 +135,9 @@ impl Pass {
         ensures others { (g : ℕ) → g ≢ pinned.frame → link self.new.view g ≡ link self.old.view g }
         ensures cause { IfErr result (λ refused. RefusesLock ShowsLock pinned.frame self.old.view self.new.view refused.why) }
     {
-        let mut seat = replace(&mut self.seat, Badge::blank()).into_seat::<Value<L, G>>();
+        let mut seat = take_seat::<L, G>(&mut self.seat);
         let answer = try_exclusive(&manager.table, &mut seat, pinned.frame);
-        self.seat = seat.into_badge();
+        return_seat(&mut self.seat, seat);
         match answer {
             Ok(()) => Ok(Exclusive { pinned }),
             Err(why) => Err(Refused { pinned, why }),
@@ -167,9 +165,9 @@ impl Pass {
         ensures did { (was : ℕ) × Did (pages kinds.unshare) shared.pinned.frame self.old.view self.new.view was }
     {
         let Shared { pinned } = shared;
-        let mut seat = replace(&mut self.seat, Badge::blank()).into_seat::<Value<L, G>>();
+        let mut seat = take_seat::<L, G>(&mut self.seat);
         unshare(&manager.table, &mut seat, pinned.frame);
-        self.seat = seat.into_badge();
+        return_seat(&mut self.seat, seat);
         pinned
     }
 
@@ -195,9 +193,9 @@ impl Pass {
         ensures did { (was : ℕ) × Did (pages kinds.unexclude) exclusive.pinned.frame self.old.view self.new.view was }
     {
         let Exclusive { pinned } = exclusive;
-        let mut seat = replace(&mut self.seat, Badge::blank()).into_seat::<Value<L, G>>();
+        let mut seat = take_seat::<L, G>(&mut self.seat);
         unexclusive(&manager.table, &mut seat, pinned.frame);
-        self.seat = seat.into_badge();
+        return_seat(&mut self.seat, seat);
         pinned
     }
 }

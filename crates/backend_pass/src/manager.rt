@@ -1,6 +1,7 @@
 //! A manager.
 ghost use Rattle.std.specs.Prelude.{◌≡◌, ◌≤◌, ◌%◌, ◌^◌, length, None, IfErr, IfOk, unwrap_or};
 ghost use Rattle.table_rule.specs.Shows.{AreLanes, IsNewLog, devices};
+ghost use Rattle.frame_table.specs.Seats.{frames_of};
 ghost use Rattle.backend_pass.specs.declared.errors.StartError.TheVariants as why;
 ghost use Rattle.backend_pass.specs.Starting.{start_refusal};
 
@@ -16,10 +17,11 @@ use log_device::LogDevice;
 use segment_store::BlockLane;
 use std::alloc::Global;
 
-/// The manager of a pool of buffers, which the passes share.
+/// The manager of a pool of buffers, which the passes share. A pool has 16 to 4096 frames.
 pub struct Manager<L: BlockLane, G: LogDevice> {
     pub(crate) table: FrameTable<L, G>,
     pub(crate) sweep: Sweep,
+    pub ghost sized: { (16 ≤ frames_of table) × (frames_of table ≤ 4096) },
 }
 
 /// What a configuration is refused for, where so many lanes are given.
@@ -67,8 +69,8 @@ impl<L: BlockLane, G: LogDevice> Manager<L, G> {
         base: u64,
     ) -> Result<(Manager<L, G>, Vec<Pass>), StartRefused<L, G>>
         requires base { (base % 8 ≡ 0) × (base ≤ 2 ^ 62) }
-        requires devices { AreLanes (devices L.contents L.failed_writes L.unsynced L.read_faults L.write_faults L.calls G.bytes G.synced G.faults G.calls) catalog lanes.items }
-        requires log { IsNewLog (devices L.contents L.failed_writes L.unsynced L.read_faults L.write_faults L.calls G.bytes G.synced G.faults G.calls) base log }
+        requires devices { AreLanes (devices L.BlockLane G.LogDevice) catalog lanes.items }
+        requires log { IsNewLog (devices L.BlockLane G.LogDevice) base log }
         ensures fits { IfOk result (λ _. start_refusal config (length lanes.items) ≡ None) }
         ensures refused { IfErr result (λ r. r.why ≡ unwrap_or (start_refusal config (length lanes.items)) why.Memory) }
         ensures back { IfErr result (λ r. (r.lanes.items ≡ lanes.items) × (r.log ≡ log)) }
@@ -110,7 +112,7 @@ impl<L: BlockLane, G: LogDevice> Manager<L, G> {
     /// Takes all passes, which have no tokens, in any order, and returns the devices. The calls of the first pass, then those of the others in the order of the list, are one history of the log.
     pub fn close(self, mut passes: Vec<Pass>) -> (Vec<L>, G)
         requires { AreAll self passes.items }
-        ensures { ClosesAll (devices L.contents L.failed_writes L.unsynced L.read_faults L.write_faults L.calls G.bytes G.synced G.faults G.calls) self.table.table.shared.key passes.items result.0.items result.1 }
+        ensures { ClosesAll (devices L.BlockLane G.LogDevice) self.table.table.shared.key passes.items result.0.items result.1 }
     {
         let place = place_of_first(&passes);
         let mut seat = passes.remove(place).leave();

@@ -4,18 +4,17 @@ use crate::manager::Manager;
 use crate::marked::MarkedFrame;
 use crate::met::{Met, Shown};
 use crate::pinned::Pinned;
+use crate::seats::{return_seat, take_seat};
 use atomic_table::Badge;
 use cleanup_lock::unpin_and_wake;
 use clock_sweep::Census;
 use crossbeam_utils::CachePadded;
-use frame_table::Value;
 use held_pins::HeldPins;
 use log_device::LogDevice;
 use page_layout::{Lsn, Page};
 use pin_core::View;
 use segment_store::BlockLane;
 use std::marker::Model;
-use std::mem::replace;
 use std::sync::Wait;
 
 /// A backend of a manager: the seat that it works with, the pins that it has handed out, and room of its own for a census, for the frames that a checkpoint marks, and for a page. `Manager::close` takes it back.
@@ -110,8 +109,8 @@ impl Pass {
         let Some(pin) = self.held.take_token(frame) else {
             return;
         };
-        let mut seat = replace(&mut self.seat, Badge::blank()).into_seat::<Value<L, G>>();
+        let mut seat = take_seat::<L, G>(&mut self.seat);
         unpin_and_wake(&manager.table, rt, &mut seat, pin);
-        self.seat = seat.into_badge();
+        return_seat(&mut self.seat, seat);
     }
 }

@@ -1,5 +1,5 @@
 //! A pass puts a page.
-ghost use Rattle.std.specs.Prelude.{◌≡◌, ◌∷◌, ◌<◌, [], None, Some, false, true};
+ghost use Rattle.std.specs.Prelude.{◌≡◌, ◌<◌, None, Some, false, true};
 ghost use Rattle.block_tag.specs.Names.{names_block};
 ghost use Rattle.page_layout.specs.Soundness.{is_new_page, is_sound_page};
 ghost use Rattle.pin_core.specs.declared.view.Content.TheVariants as content;
@@ -11,23 +11,24 @@ ghost use Rattle.held_pins.specs.Tokens.{IsPinnedFor};
 ghost use Rattle.buffer_frames.specs.Working.{Made};
 ghost use Rattle.buffer_frames.specs.Puts.{PutAnswer, PutsAt, met_put, put_calls};
 ghost use Rattle.backend_pass.specs.Passes.{view_in, shown_unput};
+ghost use Rattle.backend_pass.specs.Seats.{IsSeated, SameBadge};
 
 use crate::flushing::show_block;
 use crate::manager::Manager;
 use crate::met::Shown;
 use crate::pass::Pass;
+use crate::seats::{return_seat, take_seat};
 use crate::tokens::Exclusive;
 use atomic_table::Badge;
 use block_tag::Tag;
 use buffer_frames::put_locked;
 use crossbeam_utils::CachePadded;
-use frame_table::{FrameTable, Value};
+use frame_table::FrameTable;
 use held_pins::HeldPins;
 use log_device::LogDevice;
 use page_layout::{Lsn, Page};
 use pin_core::View;
 use segment_store::BlockLane;
-use std::mem::replace;
 use std::sync::Wait;
 use wal_flush::InsertError as PutError;
 
@@ -53,9 +54,7 @@ fn put_seated<L: BlockLane, G: LogDevice, R: Wait>(
     tag: Tag,
     page: &mut Page,
 ) -> Result<Lsn, PutError>
-    requires table { badge.old.table_id ≡ table.now.table.shared.table_id }
-    requires view { badge.old.views ≡ view_in badge.old.views ∷ [] }
-    requires rests { OnlyTokens held.now (view_in badge.old.views) }
+    requires seated { IsSeated table.now.table.shared.table_id held.now badge.old }
     requires pinned { IsPinnedFor tag frame held.now }
     requires right { (link (view_in badge.old.views) frame).content ≡ content.Exclusive }
     requires inside { frame < frames_of table.now }
@@ -63,9 +62,7 @@ fn put_seated<L: BlockLane, G: LogDevice, R: Wait>(
     requires block { has_block (relations_of table.now) tag ≡ true }
     requires sound { is_sound_page page.old ≡ true }
     requires used { is_new_page page.old ≡ false }
-    ensures table { badge.new.table_id ≡ badge.old.table_id }
-    ensures id { badge.new.id ≡ badge.old.id }
-    ensures view { badge.new.views ≡ view_in badge.new.views ∷ [] }
+    ensures badge { SameBadge badge.old badge.new }
     ensures rests { OnlyTokens held.now (view_in badge.new.views) }
     ensures puts { PutsAt frame (view_in badge.old.views) (view_in badge.new.views) }
     ensures right { (link (view_in badge.new.views) frame).content ≡ content.Exclusive }
@@ -74,9 +71,9 @@ fn put_seated<L: BlockLane, G: LogDevice, R: Wait>(
     ensures calls { Made (put_calls result) (view_in badge.old.views) (view_in badge.new.views) }
     ensures met { (view_in badge.new.views).met ≡ met_put result (view_in badge.old.views).met }
 {
-    let mut seat = replace(badge, Badge::blank()).into_seat::<Value<L, G>>();
+    let mut seat = take_seat::<L, G>(badge);
     let answer = put_locked(table, rt, &mut seat, held, frame, tag, page);
-    *badge = seat.into_badge();
+    return_seat(badge, seat);
     answer
 }
 

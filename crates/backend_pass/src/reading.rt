@@ -1,13 +1,14 @@
 //! A pass reads a block.
-ghost use Rattle.std.specs.Prelude.{◌≡◌, ◌∷◌, [], true, is_some};
+ghost use Rattle.std.specs.Prelude.{◌≡◌, true, is_some};
 ghost use Rattle.block_tag.specs.Names.{lane_number, names_block};
 ghost use Rattle.table_rule.specs.Blocks.{has_block};
 ghost use Rattle.frame_table.specs.Seats.{OnlyRises, frames_of, lanes_in, relations_of};
-ghost use Rattle.held_pins.specs.Rests.{HasNoDevice, HasNoLatch, OnlyTokens, kept_by_calls, SameLocks};
+ghost use Rattle.held_pins.specs.Rests.{HasNoDevice, HasNoLatch, kept_by_calls, SameLocks};
 ghost use Rattle.held_pins.specs.Tokens.{IsNew};
 ghost use Rattle.buffer_frames.specs.Outside.{ring_shape};
 ghost use Rattle.buffer_frames.specs.Reads.{CensusRead, ReadAnswer, ReadCalls, met_read_block};
 ghost use Rattle.backend_pass.specs.Passes.{view_in};
+ghost use Rattle.backend_pass.specs.Seats.{IsSeated, SameBadge};
 ghost use Rattle.backend_pass.specs.Reading.{read_refusal, shown_after};
 
 use crate::errors::ReadError;
@@ -15,19 +16,18 @@ use crate::manager::Manager;
 use crate::met::{Met, Shown};
 use crate::pass::Pass;
 use crate::pinned::Pinned;
+use crate::seats::{return_seat, take_seat};
 use access_rings::Ring;
 use atomic_table::Badge;
 use block_tag::Tag;
 use buffer_frames::{BlockError, FrameFlushError, PinnedBlock, VictimError, read_block};
 use clock_sweep::Census;
 use crossbeam_utils::CachePadded;
-use frame_table::Value;
 use held_pins::{HeldPins, MOST_TOKENS};
 use log_device::LogDevice;
 use page_layout::Page;
 use pin_core::View;
 use segment_store::BlockLane;
-use std::mem::replace;
 use std::sync::Wait;
 use wal_flush::FlushLog;
 
@@ -106,16 +106,12 @@ fn read_seated<L: BlockLane, G: LogDevice, R: Wait>(
     tag: &Tag,
     ring: &mut Option<Ring>,
 ) -> Result<PinnedBlock, BlockError>
-    requires table { badge.old.table_id ≡ manager.now.table.table.shared.table_id }
-    requires view { badge.old.views ≡ view_in badge.old.views ∷ [] }
-    requires rests { OnlyTokens held.now (view_in badge.old.views) }
+    requires seated { IsSeated manager.now.table.table.shared.table_id held.now badge.old }
     requires census { census.old.frames ≡ frames_of manager.now.table }
     requires tag { names_block tag.now ≡ true }
     requires block { has_block (relations_of manager.now.table) tag.now ≡ true }
     requires new { IsNew tag.now held.now }
-    ensures table { badge.new.table_id ≡ badge.old.table_id }
-    ensures id { badge.new.id ≡ badge.old.id }
-    ensures view { badge.new.views ≡ view_in badge.new.views ∷ [] }
+    ensures badge { SameBadge badge.old badge.new }
     ensures quiet { HasNoDevice (view_in badge.new.views) }
     ensures latches { HasNoLatch (view_in badge.new.views) }
     ensures room { census.new.frames ≡ census.old.frames }
@@ -128,7 +124,7 @@ fn read_seated<L: BlockLane, G: LogDevice, R: Wait>(
     ensures met { (view_in badge.new.views).met ≡ met_read_block result (view_in badge.old.views).met }
     ensures calls { ReadCalls (lane_number tag.now (lanes_in manager.now.table)) tag.now (is_some ring.old) (view_in badge.old.views) (view_in badge.new.views) result }
 {
-    let mut seat = replace(badge, Badge::blank()).into_seat::<Value<L, G>>();
+    let mut seat = take_seat::<L, G>(badge);
     let answer = read_block(
         &manager.table,
         rt,
@@ -140,7 +136,7 @@ fn read_seated<L: BlockLane, G: LogDevice, R: Wait>(
         tag,
         ring,
     );
-    *badge = seat.into_badge();
+    return_seat(badge, seat);
     answer
 }
 

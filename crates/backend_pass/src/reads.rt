@@ -4,15 +4,13 @@ use crate::manager::Manager;
 use crate::met::Shown;
 use crate::pass::Pass;
 use crate::pinned::Pinned;
+use crate::seats::{return_seat, take_seat};
 use crate::tokens::{Exclusive, Shared};
-use atomic_table::Badge;
 use buffer_frames::{read_copy, share_to_read};
 use crossbeam_utils::CachePadded;
-use frame_table::Value;
 use log_device::LogDevice;
 use page_layout::{Lsn, Page};
 use segment_store::BlockLane;
-use std::mem::replace;
 use std::sync::Wait;
 
 impl Pass {
@@ -49,9 +47,9 @@ impl Pass {
     {
         let frame = pinned.frame;
         let tag = pinned.tag;
-        let mut seat = replace(&mut self.seat, Badge::blank()).into_seat::<Value<L, G>>();
+        let mut seat = take_seat::<L, G>(&mut self.seat);
         let place = read_copy(&manager.table, rt, &mut seat, frame, tag, page);
-        self.seat = seat.into_badge();
+        return_seat(&mut self.seat, seat);
         let met = self.shown.met;
         self.shown = CachePadded::new(Shown { front: place, met });
         place
@@ -81,9 +79,9 @@ impl Pass {
     {
         let frame = pinned.frame;
         let tag = pinned.tag;
-        let mut seat = replace(&mut self.seat, Badge::blank()).into_seat::<Value<L, G>>();
+        let mut seat = take_seat::<L, G>(&mut self.seat);
         let place = share_to_read(&manager.table, rt, &mut seat, frame, tag, page);
-        self.seat = seat.into_badge();
+        return_seat(&mut self.seat, seat);
         let met = self.shown.met;
         self.shown = CachePadded::new(Shown { front: place, met });
         place

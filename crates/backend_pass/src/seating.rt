@@ -11,13 +11,13 @@ use crate::manager::Manager;
 use crate::met::{Met, Shown};
 use crate::pass::Pass;
 use crate::pass_memory::PassMemory;
-use atomic_table::{Badge, Seat};
+use crate::seats::{return_seat, take_seat};
+use atomic_table::Seat;
 use crossbeam_utils::CachePadded;
 use frame_table::Value;
 use log_device::LogDevice;
 use pin_core::View;
 use segment_store::BlockLane;
-use std::mem::replace;
 
 impl Pass {
     /// A pass at this seat, which has done nothing yet.
@@ -69,9 +69,9 @@ impl Pass {
         ensures view { result.view ≡ split_view base self.old.view }
         ensures fresh { (result.tokens ≡ []) × (result.census ≡ memory.census) }
     {
-        let mut seat = replace(&mut self.seat, Badge::blank()).into_seat::<Value<L, G>>();
+        let mut seat = take_seat::<L, G>(&mut self.seat);
         let other = manager.table.split(&mut seat);
-        self.seat = seat.into_badge();
+        return_seat(&mut self.seat, seat);
         Pass::seated(number, other, memory, base)
     }
 }

@@ -1,175 +1,24 @@
 //! What a pass does as the background writer, or for a checkpoint.
-ghost use Rattle.std.specs.Prelude.{◌≡◌, ◌∷◌, ◌<◌, []};
-ghost use Rattle.pin_core.specs.declared.view.Content.TheVariants.{Unlocked};
-ghost use Rattle.pin_core.specs.State.{link};
-ghost use Rattle.frame_table.specs.Seats.{frames_of, lanes_in};
-ghost use Rattle.held_pins.specs.Rests.{OnlyTokens};
-ghost use Rattle.buffer_sync.specs.declared.syncing.SyncOnly.TheVariants.{Needed};
-ghost use Rattle.buffer_sync.specs.Syncs.{AreAlone, SyncsOne};
+ghost use Rattle.std.specs.Prelude.{◌≡◌};
 ghost use Rattle.backend_pass.specs.FrameFlushes.{frame_answer};
-ghost use Rattle.backend_pass.specs.Passes.{view_in};
-ghost use Rattle.backend_pass.specs.PassSyncs.{BeginsCheckpoint, FlushesLog, LoadsHand, NeedsOne, SyncsLane, shown_lane_synced, shown_log_flushed, shown_synced};
+ghost use Rattle.backend_pass.specs.PassSyncs.{shown_lane_synced, shown_log_flushed, shown_synced};
 
 use crate::errors::FlushError;
 use crate::flushing::refused;
 use crate::manager::Manager;
 use crate::met::Shown;
 use crate::pass::Pass;
-use atomic_table::Badge;
+use crate::seats::{return_seat, take_seat};
 use block_tag::Tag;
 use buffer_sync::{SyncOnly, Synced, need_checkpoint, sync_lane, sync_one};
 use clock_sweep::hand;
 use crossbeam_utils::CachePadded;
-use frame_table::{EndLoad, FrameTable, Value};
-use held_pins::HeldPins;
+use frame_table::EndLoad;
 use log_device::{Failed, LogDevice};
-use page_layout::{Lsn, Page};
-use pin_core::View;
+use page_layout::Lsn;
 use segment_store::BlockLane;
-use std::mem::replace;
 use std::sync::Wait;
 use wal_flush::{FlushLog, flush_to};
-
-/// A frame is looked at, and written or passed over, from the seat of a pass.
-fn sync_seated<L: BlockLane, G: LogDevice, R: Wait>(
-    table: &FrameTable<L, G>,
-    rt: &R,
-    badge: &mut Badge<View>,
-    held: &HeldPins,
-    page: &mut Page,
-    frame: u32,
-    only: SyncOnly,
-) -> Result<Synced, buffer_frames::FrameFlushError>
-    requires table { badge.old.table_id ≡ table.now.table.shared.table_id }
-    requires view { badge.old.views ≡ view_in badge.old.views ∷ [] }
-    requires rests { OnlyTokens held.now (view_in badge.old.views) }
-    requires alone { AreAlone held.now }
-    requires inside { frame < frames_of table.now }
-    requires unlocked { only ≡ Needed → (link (view_in badge.old.views) frame).content ≡ Unlocked }
-    ensures table { badge.new.table_id ≡ badge.old.table_id }
-    ensures id { badge.new.id ≡ badge.old.id }
-    ensures view { badge.new.views ≡ view_in badge.new.views ∷ [] }
-    ensures rests { OnlyTokens held.now (view_in badge.new.views) }
-    ensures did { SyncsOne L.contents table.now only frame (view_in badge.old.views) (view_in badge.new.views) result }
-{
-    let mut seat = replace(badge, Badge::blank()).into_seat::<Value<L, G>>();
-    let answer = sync_one(table, rt, &mut seat, held, frame, only, page);
-    *badge = seat.into_badge();
-    answer
-}
-
-/// A frame is noted for a checkpoint.
-fn need_seated<L: BlockLane, G: LogDevice, R: Wait>(
-    table: &FrameTable<L, G>,
-    rt: &R,
-    badge: &mut Badge<View>,
-    held: &HeldPins,
-    frame: u32,
-) -> Option<Tag>
-    requires table { badge.old.table_id ≡ table.now.table.shared.table_id }
-    requires view { badge.old.views ≡ view_in badge.old.views ∷ [] }
-    requires rests { OnlyTokens held.now (view_in badge.old.views) }
-    requires inside { frame < frames_of table.now }
-    ensures table { badge.new.table_id ≡ badge.old.table_id }
-    ensures id { badge.new.id ≡ badge.old.id }
-    ensures view { badge.new.views ≡ view_in badge.new.views ∷ [] }
-    ensures rests { OnlyTokens held.now (view_in badge.new.views) }
-    ensures did { NeedsOne frame (view_in badge.old.views) (view_in badge.new.views) result }
-{
-    let mut seat = replace(badge, Badge::blank()).into_seat::<Value<L, G>>();
-    let answer = need_checkpoint(table, rt, &mut seat, held, frame);
-    *badge = seat.into_badge();
-    answer
-}
-
-/// The clock's hand is loaded.
-fn load_hand_seated<L: BlockLane, G: LogDevice>(
-    table: &FrameTable<L, G>,
-    badge: &mut Badge<View>,
-    _held: &HeldPins,
-) -> u64
-    requires table { badge.old.table_id ≡ table.now.table.shared.table_id }
-    requires view { badge.old.views ≡ view_in badge.old.views ∷ [] }
-    requires rests { OnlyTokens _held.now (view_in badge.old.views) }
-    ensures table { badge.new.table_id ≡ badge.old.table_id }
-    ensures id { badge.new.id ≡ badge.old.id }
-    ensures view { badge.new.views ≡ view_in badge.new.views ∷ [] }
-    ensures rests { OnlyTokens _held.now (view_in badge.new.views) }
-    ensures did { LoadsHand (view_in badge.old.views) (view_in badge.new.views) result }
-{
-    let mut seat = replace(badge, Badge::blank()).into_seat::<Value<L, G>>();
-    let answer = hand(table, &mut seat);
-    *badge = seat.into_badge();
-    answer
-}
-
-/// A checkpoint begins.
-fn begin_seated<L: BlockLane, G: LogDevice>(
-    table: &FrameTable<L, G>,
-    badge: &mut Badge<View>,
-    _held: &HeldPins,
-) -> Lsn
-    requires table { badge.old.table_id ≡ table.now.table.shared.table_id }
-    requires view { badge.old.views ≡ view_in badge.old.views ∷ [] }
-    requires rests { OnlyTokens _held.now (view_in badge.old.views) }
-    ensures table { badge.new.table_id ≡ badge.old.table_id }
-    ensures id { badge.new.id ≡ badge.old.id }
-    ensures view { badge.new.views ≡ view_in badge.new.views ∷ [] }
-    ensures rests { OnlyTokens _held.now (view_in badge.new.views) }
-    ensures did { BeginsCheckpoint (view_in badge.old.views) (view_in badge.new.views) result }
-{
-    let mut seat = replace(badge, Badge::blank()).into_seat::<Value<L, G>>();
-    let answer = table.load_log_end(&mut seat, EndLoad::Checkpoint);
-    *badge = seat.into_badge();
-    answer
-}
-
-/// The log is flushed.
-fn flush_log_seated<L: BlockLane, G: LogDevice, R: Wait>(
-    table: &FrameTable<L, G>,
-    rt: &R,
-    badge: &mut Badge<View>,
-    _held: &HeldPins,
-    lsn: Lsn,
-) -> Result<(), FlushLog>
-    requires table { badge.old.table_id ≡ table.now.table.shared.table_id }
-    requires view { badge.old.views ≡ view_in badge.old.views ∷ [] }
-    requires rests { OnlyTokens _held.now (view_in badge.old.views) }
-    ensures table { badge.new.table_id ≡ badge.old.table_id }
-    ensures id { badge.new.id ≡ badge.old.id }
-    ensures view { badge.new.views ≡ view_in badge.new.views ∷ [] }
-    ensures rests { OnlyTokens _held.now (view_in badge.new.views) }
-    ensures did { FlushesLog lsn (view_in badge.old.views) (view_in badge.new.views) result }
-{
-    let mut seat = replace(badge, Badge::blank()).into_seat::<Value<L, G>>();
-    let answer = flush_to(table, rt, &mut seat, lsn);
-    *badge = seat.into_badge();
-    answer
-}
-
-/// A lane is synced.
-fn sync_lane_seated<L: BlockLane, G: LogDevice, R: Wait>(
-    table: &FrameTable<L, G>,
-    rt: &R,
-    badge: &mut Badge<View>,
-    _held: &HeldPins,
-    lane: u32,
-) -> Result<(), Failed>
-    requires table { badge.old.table_id ≡ table.now.table.shared.table_id }
-    requires view { badge.old.views ≡ view_in badge.old.views ∷ [] }
-    requires rests { OnlyTokens _held.now (view_in badge.old.views) }
-    requires inside { lane < lanes_in table.now }
-    ensures table { badge.new.table_id ≡ badge.old.table_id }
-    ensures id { badge.new.id ≡ badge.old.id }
-    ensures view { badge.new.views ≡ view_in badge.new.views ∷ [] }
-    ensures rests { OnlyTokens _held.now (view_in badge.new.views) }
-    ensures did { SyncsLane (frames_of table.now) (lanes_in table.now) lane (view_in badge.old.views) (view_in badge.new.views) result }
-{
-    let mut seat = replace(badge, Badge::blank()).into_seat::<Value<L, G>>();
-    let answer = sync_lane(table, rt, &mut seat, lane);
-    *badge = seat.into_badge();
-    answer
-}
 
 /// The refusal of a pass, by that of its frames.
 fn told(answer: Result<Synced, buffer_frames::FrameFlushError>) -> Result<Synced, FlushError>
@@ -214,10 +63,11 @@ impl Shown {
 }
 
 impl Pass {
-    ghost use Rattle.std.specs.Prelude.{◌≢◌, ◌≤◌, ℕ, false, true, length, IfErr, IfNone, IfOk, IfSome, IsOk, MatchResult};
+    ghost use Rattle.std.specs.Prelude.{◌≡◌, ◌≢◌, ◌<◌, ◌≤◌, ℕ, false, true, length, IfErr, IfNone, IfOk, IfSome, IsOk, MatchResult};
     ghost use Rattle.std.specs.Result.{is_ok};
     ghost use Rattle.block_tag.specs.Names.{names_block};
-    ghost use Rattle.pin_core.specs.State.{lane_hold};
+    ghost use Rattle.pin_core.specs.declared.view.Content.TheVariants.{Unlocked};
+    ghost use Rattle.pin_core.specs.State.{lane_hold, link};
     ghost use Rattle.history_core.specs.Lanes.{swept_by};
     ghost use Rattle.history_core.specs.Steps.{unmarked};
     ghost use Rattle.page_core.specs.Kinds as kinds;
@@ -271,15 +121,17 @@ impl Pass {
         // It is done where the log isn't down, no call fails, and no page has a position past the log's end.
         ensures complete { NothingFails L.contents manager.now.table self.old self.new → IsOk result }
     {
-        let frames_answer = sync_seated(
+        let mut seat = take_seat::<L, G>(&mut self.seat);
+        let frames_answer = sync_one(
             &manager.table,
             rt,
-            &mut self.seat,
+            &mut seat,
             &self.held,
-            &mut self.page,
             frame,
             only,
+            &mut self.page,
         );
+        return_seat(&mut self.seat, seat);
         let answer = told(frames_answer);
         let shown = self.shown.after_sync(&answer);
         self.shown = CachePadded::new(shown);
@@ -294,7 +146,10 @@ impl Pass {
         ensures new { self.new ≡ record self.old { view = view_of load_hand result self.old.view } }
         ensures did { DidWord load_hand self.old.view self.new.view result }
     {
-        load_hand_seated(&manager.table, &mut self.seat, &self.held)
+        let mut seat = take_seat::<L, G>(&mut self.seat);
+        let answer = hand(&manager.table, &mut seat);
+        return_seat(&mut self.seat, seat);
+        answer
     }
 
     /// A checkpoint of the pass begins, at the log's end: it has visited no frame, and has none to write.
@@ -307,7 +162,10 @@ impl Pass {
         ensures seen { (self.old.view.end_seen ≤ result) × (result ≤ self.new.view.end_seen) }
         ensures did { DidWord begin_checkpoint self.old.view self.new.view result }
     {
-        begin_seated(&manager.table, &mut self.seat, &self.held)
+        let mut seat = take_seat::<L, G>(&mut self.seat);
+        let upto = manager.table.load_log_end(&mut seat, EndLoad::Checkpoint);
+        return_seat(&mut self.seat, seat);
+        upto
     }
 
     /// Sets BM_CHECKPOINT_NEEDED in a frame that is dirty, and returns the tag of its block. The pass's checkpoint passes the frame, and has to write it where it was dirty.
@@ -334,7 +192,10 @@ impl Pass {
         ensures noted { IfSome result (λ tag. NotesBlock frame tag self.old.view self.new.view) }
         ensures named { IfSome result (λ tag. names_block tag ≡ true) }
     {
-        need_seated(&manager.table, rt, &mut self.seat, &self.held, frame)
+        let mut seat = take_seat::<L, G>(&mut self.seat);
+        let answer = need_checkpoint(&manager.table, rt, &mut seat, &self.held, frame);
+        return_seat(&mut self.seat, seat);
+        answer
     }
 
     /// Makes the log durable up to a position (`XLogFlush`).
@@ -358,7 +219,9 @@ impl Pass {
         // It is done where the log isn't down, no call fails, and the log ends at the position or past it.
         ensures complete { lsn ≤ self.old.view.end_seen → self.new.view.saw_down ≡ false → IsOk result }
     {
-        let answer = flush_log_seated(&manager.table, rt, &mut self.seat, &self.held, lsn);
+        let mut seat = take_seat::<L, G>(&mut self.seat);
+        let answer = flush_to(&manager.table, rt, &mut seat, lsn);
+        return_seat(&mut self.seat, seat);
         let shown = self.shown.after_log_flush(&answer);
         self.shown = CachePadded::new(shown);
         answer
@@ -381,7 +244,9 @@ impl Pass {
         ensures wide { length self.old.view.links ≡ frames_of manager.now.table }
         ensures left { LeavesLane (lanes_in manager.now.table) lane self.new.view }
     {
-        let answer = sync_lane_seated(&manager.table, rt, &mut self.seat, &self.held, lane);
+        let mut seat = take_seat::<L, G>(&mut self.seat);
+        let answer = sync_lane(&manager.table, rt, &mut seat, lane);
+        return_seat(&mut self.seat, seat);
         let shown = self.shown.after_lane_sync(&answer);
         self.shown = CachePadded::new(shown);
         answer

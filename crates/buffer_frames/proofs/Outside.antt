@@ -18,10 +18,10 @@ pub outside_step : (v w : View) → SameSelf v w → SameMarks v w → outside_o
 outside_step v w self marks = λ i. record (self i) { ticks = 0; dirtied_or_synced = (marks i).dirtied_or_synced; had_output = (marks i).had_output; last_ended = (marks i).last_ended }
 
 pub outside_aside : (v w : View) → SameAside v w → outside_of w ≡ outside_of v
-outside_aside v w aside = λ i. record (aside i) { partitions = [] }
+outside_aside v w aside = λ i. record (aside i) { partitions = []; unentered = [] }
 
 pub outside_worked : (v w : View) → SameWork v w → w.lanes ≡ v.lanes → w.log ≡ v.log → outside_of w ≡ outside_of v
-outside_worked v w work lanes log = λ i. record (work i) { links = []; ticks = 0; loads = []; changes = []; lanes = lanes i; log = log i }
+outside_worked v w work lanes log = λ i. record (work i) { links = []; ticks = 0; loads = []; changes = []; unentered = []; lanes = lanes i; log = log i }
 
 pub links_worked : (v w : View) → SameWork v w → w.links ≡ v.links
 links_worked v w work = ap (λ (x : View). x.links) work

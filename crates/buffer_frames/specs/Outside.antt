@@ -6,7 +6,7 @@ use Rattle.access_rings.specs.RingState.{RingState}
 
 -- What a call that works at frames and maps, and calls no device, leaves of a view: all but what it has of them, and what it lists and counts of loads, changed words, steps and moves of the hand
 abbrev pub outside_of : View → View
-outside_of v = record v { links = []; partitions = []; steps = 0; ticks = 0; loads = []; changes = [] }
+outside_of v = record v { links = []; partitions = []; steps = 0; ticks = 0; loads = []; changes = []; unentered = [] }
 
 -- What a choice leaves of a ring: its kind, and how many places it has
 pub record RingShape : Type 0 where

@@ -35,6 +35,7 @@ kept_by_reads v = record v {
   dirtied_or_synced = false;
   had_output = false;
   last_ended = None;
+  unentered = [];
 }
 
 -- But for frames, and for what it read, the view is as it was, or rose

@@ -1,5 +1,5 @@
 -- What a frame is, and what came of it, over the steps of a write for the background writer or a checkpoint.
-use Rattle.std.proofs.Common.{◌≡◌, ◌≢◌, ◌⊎◌, inl, inr, ℕ, ◌<◌, nat_lt, ◌||◌, Bool, true, false, Option, Some, None, [], Result, Ok, Err, refl, sym, ap, ◌∙◌, subst, arith}
+use Rattle.std.proofs.Common.{◌≡◌, ◌≢◌, inl, inr, ℕ, nat_lt, ◌||◌, Bool, true, false, Option, Some, None, [], Result, Ok, Err, refl, sym, ap, ◌∙◌, subst, arith}
 use Rattle.std.specs.Prelude.{IfErr, IfOk, not, option_map}
 use mathlib.Core.Logic.{dite}
 use native.Mathlib.Decide.{ℕ_discrete}
@@ -13,28 +13,28 @@ use Rattle.pin_core.specs.declared.view.Link.{Link}
 use Rattle.pin_core.specs.declared.view.Role.{Role}
 use Rattle.pin_core.specs.declared.view.Role.TheVariants.{Absent, HandedOut, Victim}
 use Rattle.pin_core.specs.declared.view.View.{View}
-use Rattle.pin_core.specs.Kinds.{lock_header, tag_after}
+use Rattle.pin_core.specs.Kinds.{tag_after}
 use Rattle.pin_core.specs.State.{link}
 use Rattle.pin_core.specs.Steps.{HasNoVictim}
-use Rattle.content_locks.specs.Io.{FindsNothing, LocksHeader}
+use Rattle.content_locks.specs.Io.{FindsNothing}
 use Rattle.table_rule.specs.Blocks.{has_block}
 use Rattle.frame_table.specs.declared.table.FrameTable.{FrameTable}
 use Rattle.frame_table.specs.Content.{left_to_write_link}
-use Rattle.frame_table.specs.FrameSteps.{Did, Looks, looking}
+use Rattle.frame_table.specs.FrameSteps.{Did, looking}
 use Rattle.frame_table.specs.Kinds.{pins}
 use Rattle.frame_table.specs.Seats.{IsWordOf, Looked, OnlyRises, SameMarks, SameSelf, Touches, HasFlag, HasRoom, HoldsHeader, HoldsNumber, HoldsWord, MayUnpin, unpinned_link, lanes_in, locked_link, read_link, relations_of, unlocked_link, victim_link}
 use Rattle.frame_table.proofs.Rising.{rises_none, rises_on, rises_touched}
-use Rattle.frame_table.proofs.Told.{looked_on, looks_touch, touches}
+use Rattle.frame_table.proofs.Told.{looked_on}
 use Rattle.clock_sweep.specs.Keeping.{SamePins}
 use Rattle.held_pins.specs.Rests.{HasAtMostLock, LinkRests, LinksRest, LinksRestBeside, role_of}
 use Rattle.held_pins.specs.Tokens.{HeldFrame, IsPinnedFor, Tokens, held_at}
-use Rattle.held_pins.proofs.Keeping.{beside_kept, calm_looked, rests_with}
+use Rattle.held_pins.proofs.Keeping.{beside_kept, calm_looked}
 use Rattle.buffer_frames.specs.declared.flushing.FrameFlushError.{FrameFlushError}
 use Rattle.buffer_frames.specs.declared.flushing.FlushedPage.{FlushedPage}
 use Rattle.buffer_frames.specs.declared.flushing.FlushedPage.TheVariants as flush
 use Rattle.buffer_frames.specs.Flushing.{EndedInError, EndedWritten, FlushAnswer, met_flushing}
 use Rattle.buffer_frames.specs.Stages.{HasVictim, IsPinned}
-use Rattle.buffer_frames.specs.Working.{KeepsNotes, Made, Within, WorksAt}
+use Rattle.buffer_frames.specs.Working.{KeepsNotes, Made, WorksAt}
 use Rattle.buffer_frames.proofs.Answering.{error_between, flush_between, written_between}
 use Rattle.buffer_frames.proofs.Calm.{none_absent, not_victim}
 use Rattle.buffer_frames.proofs.Notes.{notes_looked, notes_on, notes_unlocked}

@@ -1,9 +1,7 @@
 -- What the calls of this crate do, and why they refuse.
-use Rattle.std.specs.Prelude.{◌≡◌, ◌≢◌, ℕ, ◌<◌, ◌%◌, ◌^◌, Bool, true, false, Option, Some, None}
+use Rattle.std.specs.Prelude.{◌≡◌, ◌≢◌, ℕ, ◌<◌, ◌%◌, ◌^◌, Bool, true, false, Some, None}
 use mathlib.Core.Logic.{◌⊎◌}
-use Rattle.state_word.specs.Fields.{fields}
 use Rattle.pin_core.specs.declared.view.Content.TheVariants.{Unlocked, Shared}
-use Rattle.pin_core.specs.declared.view.Role.TheVariants.{Absent, HandedOut}
 use Rattle.pin_core.specs.declared.view.Link.{Link}
 use Rattle.pin_core.specs.declared.view.View.{View}
 use Rattle.pin_core.specs.State.{Page, link}

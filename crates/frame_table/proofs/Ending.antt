@@ -14,7 +14,10 @@ use Rattle.pin_core.specs.State.{emptied_view}
 use Rattle.pin_core.specs.Steps.{HoldsNothing}
 use Rattle.pin_core.specs.Invariant.{live_weight}
 use Rattle.grid.proofs.Sums.{terms_le}
-use Rattle.history_core.specs.State.{State}
+use Rattle.block_tag.specs.declared.tag.Tag.{Tag}
+use Rattle.block_tag.specs.Names.{lane_number}
+use Rattle.history_core.specs.State.{State, stored_upto, synced_upto}
+use Rattle.history_core.proofs.Covered.{syncs_cover}
 use Rattle.table_rule.specs.declared.noted_lane.NotedLane.{NotedLane}
 use Rattle.table_rule.specs.declared.noted_log.NotedLog.{NotedLog}
 use Rattle.table_rule.specs.declared.value.Value.{Value}
@@ -23,9 +26,9 @@ use Rattle.table_rule.specs.declared.opening.Opening.{Opening}
 use Rattle.table_rule.specs.declared.turn.Place.{Place}
 use Rattle.table_rule.specs.declared.turn.Place.TheVariants as place
 use Rattle.table_rule.specs.declared.turn.Turn.TheVariants as turn
-use Rattle.table_rule.specs.Layout.{slot_of, first_lane_slot, log_slot, list_slot, slot_count}
+use Rattle.table_rule.specs.Layout.{slot_of, first_lane_slot, log_slot, list_slot, slot_count, lane_of_tag}
 use Rattle.table_rule.specs.Laid.{lanes_among, HasNoDevices, EndsWith}
-use Rattle.table_rule.specs.Shows.{is_out, IsHome, Devices, Gives, GivesPage, GivesMap, GivesLane, GivesLog, IsLane, IsLog, IsPlaceIn, RuleHolds}
+use Rattle.table_rule.specs.Shows.{is_out, IsHome, Devices, Gives, GivesPage, GivesMap, GivesLane, GivesLog, IsPlaced, IsLane, IsLog, IsPlaceIn, RuleHolds}
 use Rattle.table_rule.proofs.Emptying.{at_take, two_last, plain_each, LanesAt, AreThose, are_those, same_item, IsOther, other_plain, other_lanes, lane_plain, log_lanes, list_lanes, one_log}
 use Rattle.table_rule.proofs.Opens.{length_low}
 use Rattle.frame_table.specs.Closes.{Closes}
@@ -157,6 +160,16 @@ module _ {L G : Type 0} (d : Devices L G) (o : Opening L G) (t : table.State (Va
     pub room_so : length (lanes_among xs) ≤ vec_capacity h.shows.list.list
     room_so = let a = those.counted in let b = h.shows.list.room in omega arith
 
+    -- the lane q of those that come back
+    lane_so : (lanes : List L) → lanes ≡ lanes_among xs → (q : ℕ) (l : L) → get_elem? lanes q ≡ some l → IsLane {L = L} {G = G} d o.catalog.value s.lanes q l (s.lane q)
+    lane_so lanes all q l at = let low : q < o.config.lanes = (let a = length_low lanes q l at in let b = ap (λ (z : List L). length z) all in let c = those.counted in omega arith) in let r = lane_at q low in
+        subst (λ (x : L). IsLane {L = L} {G = G} d o.catalog.value s.lanes q x (s.lane q)) (some-injective r.0.device l (sym (those.each q (first_lane_slot n + q) r.0 refl low r.1) ∙ sym (ap (λ (z : List L). get_elem? z q) all) ∙ at)) r.2
+
+    -- where its own list doesn't have a block its sync covered what it has
+    covered_so : (q word : ℕ) (l : L) (tag : Tag) → IsLane {L = L} {G = G} d o.catalog.value s.lanes q l (s.lane q) → IsPlaced o.catalog.value s.lanes q word tag → d.unsynced l tag ≡ false → synced_upto s word ≡ stored_upto s word
+    covered_so q word l tag is placed clean = let count = h.shows.fixed.lanes in let here : s.lane_of word ≡ q = ap (λ (g : ℕ → ℕ). g word) h.shows.fixed.lane_of ∙ ap (lane_of_tag o.config.lanes) placed.named ∙ ap (lane_number tag) (sym count) ∙ placed.placed in
+        syncs_cover s h.laws.reached word (ap (λ (n : ℕ). (s.lane n).unsynced word) here ∙ is.unsynced word tag placed ∙ clean)
+
     -- what comes back
     pub closes_so : (lanes : List L) (log : G) → lanes ≡ lanes_among xs → (g : NotedLog G) (list : Vec L Global) → EndsWith g list xs → log ≡ g.device → Closes d o v lanes log
     closes_so lanes log all g list ends is = record {
@@ -166,8 +179,8 @@ module _ {L G : Type 0} (d : Devices L G) (o : Opening L G) (t : table.State (Va
       first = first;
       others = joined_others;
       counted = ap (λ (l : List L). length l) all ∙ those.counted;
-      lane = λ q l at. let low : q < o.config.lanes = (let a = length_low lanes q l at in let b = ap (λ (z : List L). length z) all in let c = those.counted in omega arith) in let r = lane_at q low in
-          subst (λ (x : L). IsLane {L = L} {G = G} d o.catalog.value s.lanes q x (s.lane q)) (some-injective r.0.device l (sym (those.each q (first_lane_slot n + q) r.0 refl low r.1) ∙ sym (ap (λ (z : List L). get_elem? z q) all) ∙ at)) r.2;
+      lane = lane_so lanes all;
+      covered = λ q word l tag at placed clean. covered_so q word l tag (lane_so lanes all q l at) placed clean;
       mark = log_at.0.down;
       device = subst (λ (x : G). IsLog {L = L} {G = G} d x log_at.0.down s.device) (sym (one_log log_at.0 g xs h.shows.list.list list ends_so ends) ∙ sym is) log_at.2;
     }

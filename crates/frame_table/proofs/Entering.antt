@@ -20,7 +20,7 @@ use Rattle.pin_core.specs.Tallies.{flag_weight}
 use Rattle.page_core.specs.State.{block_of}
 use Rattle.page_core.specs.Kinds.{make_entry, link_after}
 use Rattle.history_core.specs.Laws.{Laws}
-use Rattle.history_core.specs.Log.{record_size, record_bytes}
+use Rattle.history_core.specs.Log.{image, record_size, record_bytes}
 use Rattle.history_core.specs.State.{State}
 use Rattle.history_core.specs.Words.{Word, end_word, word_of, word_set}
 use Rattle.history_core.specs.Steps.{CanLog, CanEnter, new_entry, has_written, paged, pool_after, enters}
@@ -51,7 +51,7 @@ module _ (s : State) (id : ℕ) (v : View) (laws : Laws s) (there : get_elem? s.
   end_is n e = ((laws.invariant.device.cells id v 0 there (lit< tt)).end n e).1
 
   -- an entry may be made where what the view has lets it
-  pub can_log : (f : ℕ) (tag : Tag) (p : Page) (start : ℕ) → MayBecomeEntry f tag p start v → CanLog s f (packed_tag tag) p v
+  pub can_log : (f : ℕ) (tag : Tag) (p : Page) (start : ℕ) → MayBecomeEntry f tag p start v → CanLog s f (packed_tag tag) p (image (packed_tag tag) p) v
   can_log f tag p start e = let inside = inside_of s id f v laws there live e.right in let same = end_is start e.loaded in record {
     inside = inside;
     tagged = ((laws.invariant.pool.core.grid.cells id v f there inside).remembers (packed_tag tag) e.remembered).1;
@@ -60,31 +60,35 @@ module _ (s : State) (id : ℕ) (v : View) (laws : Laws s) (there : get_elem? s.
     full = e.full;
     ends = e.ends ∙ ap (λ (n : ℕ). n + record_size) same;
     room = (let z = e.room in omega arith);
+    makes = (refl, refl);
+    allowed = tt;
   }
 
   -- and the record is that of the entry that it would be
-  pub is_entry : (relations : List RelEntry) → s.names ≡ log_name relations → (f : ℕ) (tag : Tag) (p : Page) (start : ℕ) (bytes : List ℕ) → MayBecomeEntry f tag p start v → IsRecord relations tag start p bytes → bytes ≡ record_bytes s.names (new_entry s v.number (packed_tag tag) p)
-  is_entry relations names f tag p start bytes e r = record_is relations s.names tag start v.number p bytes names e.named r ∙ ap (λ (n : ℕ). record_bytes s.names (record { start = n; backend = v.number; tag = packed_tag tag; image = p })) (end_is start e.loaded)
+  pub is_entry : (relations : List RelEntry) → s.names ≡ log_name relations → (f : ℕ) (tag : Tag) (p : Page) (start : ℕ) (bytes : List ℕ) → MayBecomeEntry f tag p start v → IsRecord relations tag start p bytes → bytes ≡ record_bytes s.names (new_entry s v.number (image (packed_tag tag) p))
+  is_entry relations names f tag p start bytes e r = record_is relations s.names tag start v.number p bytes names e.named r ∙ ap (λ (n : ℕ). record_bytes s.names (record { start = n; backend = v.number; change = image (packed_tag tag) p })) (end_is start e.loaded)
 
-  can_enter : (relations : List RelEntry) → s.names ≡ log_name relations → (f : ℕ) (tag : Tag) (p : Page) (end : ℕ) → MayStoreEnd relations f tag p end v → CanEnter s f p v
+  can_enter : (relations : List RelEntry) → s.names ≡ log_name relations → (f : ℕ) (tag : Tag) (p : Page) (end : ℕ) → MayStoreEnd relations f tag p end v → CanEnter s f p (image (s.pool.core.frame f).tag p) v
   can_enter relations names f tag p end m = let c = can_log f tag p m.start m.enters in record {
     right = c.right;
     around = c.around;
     full = c.full;
     ends = c.ends;
     room = c.room;
-    appended = m.appended ∙ ap (λ (l : List ℕ). Some l) (is_entry relations names f tag p m.start m.bytes m.enters m.is_record) ∙ ap (λ (word : ℕ). Some (record_bytes s.names (new_entry s v.number word p))) (sym c.tagged);
+    makes = (refl, refl);
+    allowed = tt;
+    appended = m.appended ∙ ap (λ (l : List ℕ). Some l) (is_entry relations names f tag p m.start m.bytes m.enters m.is_record) ∙ ap (λ (word : ℕ). Some (record_bytes s.names (new_entry s v.number (image word p)))) (sym c.tagged);
   }
 
 -- the view after it
 abbrev written : ℕ → Page → State → View → View
-written f p s v = has_written (s.end + record_size) (s.pool.core.frame f).tag p (paged (make_entry p) s.pool f v)
+written f p s v = has_written (image (s.pool.core.frame f).tag p) (s.end + record_size) (s.pool.core.frame f).tag p (paged (make_entry p) s.pool f v)
 
 -- and the state
 abbrev entered : ℕ → ℕ → Page → State → View → State
 entered id f p s v = record s {
   pool = pool_after (make_entry p) s.pool id f (written f p s v);
-  log = record s.log { entries = s.log.entries ++ new_entry s v.number (s.pool.core.frame f).tag p ∷ [] };
+  log = record s.log { entries = s.log.entries ++ new_entry s v.number (image (s.pool.core.frame f).tag p) ∷ [] };
   end = s.end + record_size;
 }
 
@@ -130,7 +134,7 @@ module _ {L G : Type 0} (d : Devices L G) (o : Opening L G) where
   pub stores_end : (slots id f end : ℕ) (me : Me (Value L G) View) → me.0.emptied ≡ false → (tag : Tag) (p : Page) → MayStoreEnd o.catalog.value f tag p end me.0
       → Allows (RuleHolds d o) slots id me (end_place o.config.frames) (λ _. end) (tells_end o.catalog.value f end (step slots (end_place o.config.frames) end 0 none) me)
   stores_end slots id f end me live tag p may t h deep there small = let s : State = h.state in let here : get_elem? s.pool.core.views id ≡ some me.0 = ap (λ (l : List View). get_elem? l id) (sym h.shows.views) ∙ there in
-      let inside : f < s.pool.core.frames = inside_of s id f me.0 h.laws here live may.enters.right in let can : CanEnter s f p me.0 = can_enter s id me.0 h.laws here live o.catalog.value h.shows.fixed.names f tag p end may in
+      let inside : f < s.pool.core.frames = inside_of s id f me.0 h.laws here live may.enters.right in let can : CanEnter s f p (image (s.pool.core.frame f).tag p) me.0 = can_enter s id me.0 h.laws here live o.catalog.value h.shows.fixed.names f tag p end may in
       let is : end ≡ s.end + record_size = may.next ∙ ap (λ (n : ℕ). n + record_size) (end_is s id me.0 h.laws here live may.start may.enters.loaded) in (
         written f p s me.0,
         keeps,
@@ -138,7 +142,7 @@ module _ {L G : Type 0} (d : Devices L G) (o : Opening L G) where
         record {
           state = entered id f p s me.0;
           shows = shows_entered t s id f end p me.1 me.0 h.shows here is;
-          laws = laws_kept (enters id f p me.0 here live inside can) h.laws;
+          laws = laws_kept (enters id f p (image (s.pool.core.frame f).tag p) me.0 here live inside can) h.laws;
         },
         (refl, (tag, p, may, record { state = s; laws = h.laws; seat = id; there = here; live = live; inside = inside; allowed = can; after = refl })),
       )

@@ -1,5 +1,5 @@
 -- What the table shows after a step at a frame.
-use Rattle.std.proofs.Common.{Bool, ◌≡◌, ℕ, zero, suc, ◌+◌, ◌*◌, ◌-◌, ◌<◌, ◌%◌, ◌^◌, false, List, [], ◌∷◌, get_or, set, length-set, get_or-set_other, sym, refl, ap, ◌∙◌, subst, arith, Some}
+use Rattle.std.proofs.Common.{Bool, ◌≡◌, ℕ, zero, suc, ◌+◌, ◌*◌, ◌-◌, ◌<◌, ◌%◌, ◌^◌, false, List, [], ◌∷◌, get_or, set, length-set, get_or-set_other, sym, refl, ap, ◌∙◌, subst, arith}
 use Rattle.std.specs.Prelude.{is_some, Option}
 use mathlib.Core.Logic.{dite}
 use mathlib.Core.Option.{some, some-injective}
@@ -33,7 +33,7 @@ use Rattle.table_rule.specs.declared.turn.Turn.{Turn}
 use Rattle.table_rule.specs.declared.turn.Turn.TheVariants as turn
 use Rattle.table_rule.specs.Layout.{latch_place, word_place}
 use Rattle.table_rule.proofs.Places.{word_behind}
-use Rattle.history_core.specs.Words.{number_in, words_of}
+use Rattle.history_core.specs.Words.{word_in, words_of}
 use Rattle.frame_table.specs.Kinds.{FrameKind, pins, pages, IsAllowed, IsAllowedAround, frame_after, link_after, view_after, state_after}
 use Rattle.table_rule.specs.Shows.{ShowsFrame, ShowsLatches, is_taken, is_out, IsHome, Devices, Gives, GivesPage, GivesMap, GivesLane, GivesLog, KeepsOpening, Shows}
 
@@ -54,7 +54,7 @@ frame_else words i n g fr a b c h = let e0 : get_or (set words i n) (3 * g) 0 �
 pub latches_else : (n lanes : ℕ) (words : List ℕ) (i m : ℕ) (s s' : State) → i < 3 * n → ((x : Turn) → is_taken x s' ≡ is_taken x s) → words_of s' ≡ words_of s → ShowsLatches n lanes words s → ShowsLatches n lanes (set words i m) s'
 latches_else n lanes words i m s s' low same kept h = record {
   latch = λ x has. get_or-set_other words i (latch_place n x) m 0 (behind x) ∙ h.latch x has ∙ ap flag_weight (sym (same x));
-  word = λ w has. get_or-set_other words i (word_place n w) m 0 (λ e. let after = word_behind n w in omega arith) ∙ h.word w has ∙ ap (number_in w) (sym kept);
+  word = λ w has. get_or-set_other words i (word_place n w) m 0 (λ e. let after = word_behind n w in omega arith) ∙ h.word w has ∙ ap (word_in w) (sym kept);
 }
   where
     behind : (x : Turn) → ¬ (latch_place n x ≡ i)
@@ -139,20 +139,23 @@ pub record SameLane (ln ln' : Lane) : Type 0 where
   pub known : ln'.known ≡ ln.known
   pub stored : ln'.stored ≡ ln.stored
   pub failed : ln'.failed ≡ ln.failed
+  pub unsynced : ln'.unsynced ≡ ln.unsynced
   pub reads : ln'.read_faults ≡ ln.read_faults
   pub writes : ln'.write_faults ≡ ln.write_faults
   pub reads_at_start : ln'.read_faults_at_start ≡ ln.read_faults_at_start
   pub writes_at_start : ln'.write_faults_at_start ≡ ln.write_faults_at_start
 
 pub lane_none : (ln : Lane) → SameLane ln ln
-lane_none ln = record { known = refl; stored = refl; failed = refl; reads = refl; writes = refl; reads_at_start = refl; writes_at_start = refl }
+lane_none ln = record { known = refl; stored = refl; failed = refl; unsynced = refl; reads = refl; writes = refl; reads_at_start = refl; writes_at_start = refl }
 
 gives_lane : {L G : Type 0} (d : Devices L G) (relations : List RelEntry) (lanes q : ℕ) (y : Value L G) (ln ln' : Lane) → SameLane ln ln' → GivesLane d relations lanes q y ln → GivesLane d relations lanes q y ln'
 gives_lane d relations lanes q (value.Lane l) ln ln' e h = (
   record {
     known = e.known ∙ h.0.known;
-    pages = λ known word tag told placed. h.0.pages known word tag told placed ∙ ap (λ (f : ℕ → Page). Some (f word)) (sym e.stored);
+    pages = λ known word tag told placed. h.0.pages known word tag told placed ∙ ap (λ (f : ℕ → Option Page). f word) (sym e.stored);
+    held = h.0.held;
     failed = λ known word tag told placed. ap (λ (f : ℕ → Bool). f word) e.failed ∙ h.0.failed known word tag told placed;
+    unsynced = λ word tag placed. ap (λ (f : ℕ → Bool). f word) e.unsynced ∙ h.0.unsynced word tag placed;
     reads = e.reads ∙ h.0.reads;
     writes = e.writes ∙ h.0.writes;
   },

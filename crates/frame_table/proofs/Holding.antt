@@ -278,6 +278,9 @@ names_in k t f now change v w d e = let p : ℕ = tag_partition t in record {
     inside : tag_partition t < length v.partitions
     inside = let wide = (d.laws.invariant.pool.core.views.wide d.seat v d.there d.live).1 in let placed = d.laws.invariant.pool.core.placed t in let at = ap (λ (g : ℕ → ℕ). g t) d.spread in omega arith
 
+pub names_entered : (tag : Tag) (f now : ℕ) (v w : View) → Did (storing (Some tag)) f v w now → w.partitions ≡ partitions_stored (Some tag) f v → NamesIn (tag_partition (packed_tag tag)) (Entering (packed_tag tag) f) v w
+names_entered tag f now v w d e = names_in (storing (Some tag)) (packed_tag tag) f now (Entering (packed_tag tag) f) v w d e
+
 pub names_erased : (f now : ℕ) (v w : View) → Did (storing None) f v w now → w.partitions ≡ partitions_stored None f v → NamesStored None f v w
 names_erased f now v w d e tag known = names_in (storing None) tag f now (Leaving tag f) v w d (e ∙ ap (λ (x : Option ℕ). partitions_erased x f v) known)
 

@@ -51,7 +51,7 @@ use Rattle.table_rule.specs.Shows.{IsHome, Devices, GivesLane, IsLane, KeepsOpen
 use Rattle.table_rule.specs.LaneCalls.{LaneDevices, LaneDid, NotesRead, NotesWritten, NotesWriteFailed}
 use Rattle.table_rule.specs.TakenLanes.{IsBlockOf, taken_lane, page_held, lane_devices_of}
 use Rattle.table_rule.proofs.Tags.{packed_is}
-use Rattle.table_rule.proofs.LanesOut.{block_number, holds_blocks, can_go_out, still_is, kept_lane, took_page, tore_page}
+use Rattle.table_rule.proofs.LanesOut.{block_number, holds_blocks, can_go_out, still_is, marks_kept, marks_added, marks_gone, kept_lane, took_page, tore_page}
 use Rattle.table_rule.proofs.Opens.{there_at}
 use Rattle.frame_table.specs.LaneWork.{DidSteps, out_events, out_lane, out_view, back_events, back_view, MayNote, MayNoteRead, MayNoteWrite, was_known, is_known_in, IsTakenLane, MayReturn, NotesAt, IsNoted, back_lane, swept_lane, links_of, lane_read_link, written_link, unwritten_link, lane_went, came_by, WentOut, taken_at}
 use Rattle.frame_table.specs.declared.table.FrameTable.{FrameTable}
@@ -215,7 +215,7 @@ module _ {L G : Type 0} (d : Devices L G) (o : Opening L G) where
 
     -- the lane is what it was as it went out
     was : IsLane d o.catalog.value o.config.lanes q m.before ln
-    was = still_is d o.catalog.value o.config.lanes q m.before ln m.taken.holds (known_of s q h.opened h.laws counted below ∙ sym m.taken.known_still) reads_same writes_same (λ blocks k b told at. cell.blocks (taken_lane (lane_devices_of d) o.catalog.value o.config.lanes q m.before) blocks k b m.out m.once told at)
+    was = still_is d o.catalog.value o.config.lanes q m.before ln m.taken.holds (known_of s q h.opened h.laws counted below ∙ sym m.taken.known_still) reads_same writes_same (λ blocks k b told at. cell.blocks (taken_lane (lane_devices_of d) o.catalog.value o.config.lanes q m.before) blocks k b m.out m.once told at) (λ k b at. cell.marks (taken_lane (lane_devices_of d) o.catalog.value o.config.lanes q m.before) k b m.out m.once at)
 
     in_view : q < length v.lanes
     in_view = let wide = h.laws.invariant.wide id v h.there h.live in let low = h.below in omega arith
@@ -244,12 +244,12 @@ module _ {L G : Type 0} (d : Devices L G) (o : Opening L G) where
     page_there f p low e = ((h.laws.invariant.pool.pages.cells id v f h.there low).copied p e).home
 
     -- the page that a read gave is the one that the lane holds, where its contents are known
-    gave_stored : (tag : Tag) (p : Page) → IsBlockOf o.catalog.value o.config.lanes q tag → ((known : Pages) → d.contents m.before ≡ Some known → known tag ≡ Some p) → ln.known ≡ true → ln.stored (packed_tag tag) ≡ p
+    gave_stored : (tag : Tag) (p : Page) → IsBlockOf o.catalog.value o.config.lanes q tag → ((known : Pages) → d.contents m.before ≡ Some known → known tag ≡ Some p) → ln.known ≡ true → ln.stored (packed_tag tag) ≡ Some p
     gave_stored tag p block gave known = of_contents (d.contents m.before) refl
       where
-        of_contents : (c : Option Pages) → d.contents m.before ≡ c → ln.stored (packed_tag tag) ≡ p
+        of_contents : (c : Option Pages) → d.contents m.before ≡ c → ln.stored (packed_tag tag) ≡ Some p
         of_contents None e = let no : true ≡ false = sym known ∙ was.known ∙ ap (λ (c : Option Pages). is_some c) e in absurd (cc)
-        of_contents (Some pages) e = same_Some _ _ (sym (was.pages pages (packed_tag tag) tag e (block_number d o.catalog.value o.config.lanes q tag block)) ∙ gave pages e)
+        of_contents (Some pages) e = sym (was.pages pages (packed_tag tag) tag e (block_number d o.catalog.value o.config.lanes q tag block)) ∙ gave pages e
 
     -- What a write of the frame's page to its block asks, and its note
     module _ (f : ℕ) (tag : Tag) (page : Snapshot Page) (block : IsBlockOf o.catalog.value o.config.lanes q tag) (can : MayNoteWrite tag page.value hold.flushed (link v f)) where
@@ -295,7 +295,7 @@ module _ {L G : Type 0} (d : Devices L G) (o : Opening L G) where
         lane = lane_after k ln;
         comes = writes_noted d o k false s id q f v h write_frames can_call (refl, can_write p refl write_page) (record { taken = refl; reads = refl; writes = refl }) (quiet (lane_after k ln) (lane_change.Written f word p) refl refl refl) true
             (p, record { was_written = now_change k (lane_change.Written f word p) refl ∙ ap (λ (n : ℕ). lane_change.Written f n p) (sym (now_tag k)); lane = now_lane k; page = now_page k; right = record { right = now_right k } });
-        is = took_page d o.catalog.value o.config.lanes q m.before after ln (lane_after k ln) was refl (reads_same ∙ sym did.1.reads) (writes_same ∙ sym did.1.writes) tag p block did.0 refl refl;
+        is = took_page d o.catalog.value o.config.lanes q m.before after ln (lane_after k ln) was refl (reads_same ∙ sym did.1.reads) (writes_same ∙ sym did.1.writes) (marks_added d o.catalog.value o.config.lanes q m.before after ln (lane_after k ln) was tag block did.2 refl) tag p block did.0 refl refl;
       }
 
       write_failed : LaneDid (lane_devices_of d) m.before after (WriteFailed f tag page) → LaneReturns s id q v (back_events (lane_devices_of d) q after (WriteFailed f tag page) id) (back_view (lane_devices_of d) q after (WriteFailed f tag page) v) after
@@ -303,7 +303,7 @@ module _ {L G : Type 0} (d : Devices L G) (o : Opening L G) where
         lane = lane_after k ln;
         comes = writes_noted d o k true s id q f v h write_frames (record { call = can_call; rises = write_rises did.1.writes }) (refl, can_write (s.pool.core.frame f).page write_page refl) (record { taken = refl; reads = refl; writes = refl }) (faulty (lane_after k ln) (lane_change.WriteFailed f word) refl) false
             (record { failed = now_change k (lane_change.WriteFailed f word) refl ∙ ap (λ (n : ℕ). lane_change.WriteFailed f n) (sym (now_tag k)); lane = now_lane k; right = record { right = now_right k } });
-        is = tore_page d o.catalog.value o.config.lanes q m.before after ln (lane_after k ln) was refl (reads_same ∙ sym did.1.reads) refl tag p block did.0 refl refl;
+        is = tore_page d o.catalog.value o.config.lanes q m.before after ln (lane_after k ln) was refl (reads_same ∙ sym did.1.reads) refl (marks_added d o.catalog.value o.config.lanes q m.before after ln (lane_after k ln) was tag block did.2 refl) tag p block did.0 refl refl;
       }
 
     -- The steps of each call
@@ -317,25 +317,25 @@ module _ {L G : Type 0} (d : Devices L G) (o : Opening L G) where
         returns_as s id q v _ _ _ after (view_read word page.value s id q f v in_view) record {
           lane = ln;
           comes = reads_noted d o word page.value s id q f v h inside (record { call = can_call; given = gave_stored tag page.value may.0 did.2 }) (number_placed s q tag h.opened may.0) (quiet ln (lane_change.Read word page.value) refl refl refl) (tag_there f word inside may.1.remembered) may.1.right may.1.fresh;
-          is = kept_lane d o.catalog.value o.config.lanes q m.before after ln ln was refl (reads_same ∙ sym did.1.reads) (writes_same ∙ sym did.1.writes) did.0 refl refl;
+          is = kept_lane d o.catalog.value o.config.lanes q m.before after ln ln was refl (reads_same ∙ sym did.1.reads) (writes_same ∙ sym did.1.writes) (marks_kept d o.catalog.value o.config.lanes q m.before after ln ln was did.3 refl) did.0 refl refl;
         }
     returns (ReadFailed tag) did may = let word : ℕ = packed_tag tag in let k : LaneKind = fail_read word (d.read_faults after) in
         returns_as s id q v _ _ _ after (view_alone k (lane_hold v q) (lane_change.ReadFailed word) true q v in_view refl refl) record {
           lane = lane_after k ln;
           comes = calls_alone d o k true s id q v h (record { call = can_call; rises = read_rises did.1.reads }) (number_placed s q tag h.opened may) (record { taken = refl; reads = refl; writes = refl }) (faulty (lane_after k ln) (lane_change.ReadFailed word) refl) tt;
-          is = kept_lane d o.catalog.value o.config.lanes q m.before after ln (lane_after k ln) was refl refl (writes_same ∙ sym did.1.writes) did.0 refl refl;
+          is = kept_lane d o.catalog.value o.config.lanes q m.before after ln (lane_after k ln) was refl refl (writes_same ∙ sym did.1.writes) (marks_kept d o.catalog.value o.config.lanes q m.before after ln (lane_after k ln) was did.2 refl) did.0 refl refl;
         }
     returns (Written f tag page) did may = wrote f tag page may.0 may.1 did
     returns (WriteFailed f tag page) did may = write_failed f tag page may.0 may.1 did
     returns Synced did may = returns_as s id q v _ _ _ after (view_alone sync_lane (record (lane_hold v q) { swept = max (lane_hold v q).swept (swept_by v) }) lane_change.Synced false q v in_view refl refl) record {
       lane = lane_after sync_lane ln;
       comes = calls_alone d o sync_lane false s id q v h can_call tt (record { taken = refl; reads = refl; writes = refl }) (let x = quiet (lane_after sync_lane ln) lane_change.Synced refl refl refl in record { out = x.out; counts = x.counts }) tt;
-      is = kept_lane d o.catalog.value o.config.lanes q m.before after ln (lane_after sync_lane ln) was refl (reads_same ∙ sym did.1.reads) (writes_same ∙ sym did.1.writes) did.0 refl refl;
+      is = kept_lane d o.catalog.value o.config.lanes q m.before after ln (lane_after sync_lane ln) was refl (reads_same ∙ sym did.1.reads) (writes_same ∙ sym did.1.writes) (marks_gone d o.catalog.value o.config.lanes q m.before after ln (lane_after sync_lane ln) was did.2 refl) did.0 refl refl;
     }
     returns SyncFailed did may = let k : LaneKind = fail_sync (d.write_faults after) in returns_as s id q v _ _ _ after (view_alone k (lane_hold v q) lane_change.SyncFailed true q v in_view refl refl) record {
       lane = lane_after k ln;
       comes = calls_alone d o k true s id q v h (record { call = can_call; rises = write_rises did.1.writes }) tt (record { taken = refl; reads = refl; writes = refl }) (faulty (lane_after k ln) lane_change.SyncFailed refl) tt;
-      is = kept_lane d o.catalog.value o.config.lanes q m.before after ln (lane_after k ln) was refl (reads_same ∙ sym did.1.reads) refl did.0 refl refl;
+      is = kept_lane d o.catalog.value o.config.lanes q m.before after ln (lane_after k ln) was refl (reads_same ∙ sym did.1.reads) refl (marks_kept d o.catalog.value o.config.lanes q m.before after ln (lane_after k ln) was did.2 refl) did.0 refl refl;
     }
 
   -- the lane comes back as r: the device l after its call, without the note

@@ -1,5 +1,5 @@
 -- Steps at a lane while it is out: what they leave of the state and of the view.
-use Rattle.std.proofs.Common.{◌≡◌, ◌≢◌, ℕ, ◌+◌, ◌<◌, ◌≤◌, ◌^◌, Bool, Some, List, get_or, set, get_or-set_other, sym, refl, ap, ◌∙◌, subst, arith, eq-eqb, ne_eqb, cond}
+use Rattle.std.proofs.Common.{◌≡◌, ◌≢◌, ℕ, ◌+◌, ◌<◌, ◌≤◌, ◌^◌, Bool, List, get_or, set, get_or-set_other, sym, refl, ap, ◌∙◌, subst, arith, eq-eqb, ne_eqb, cond}
 use Rattle.std.specs.Prelude.{is_some, Option}
 use mathlib.Core.Logic.{dite}
 use native.Mathlib.Decide.{ℕ_discrete}
@@ -8,7 +8,7 @@ use Rattle.pin_core.specs.declared.view.View.{View}
 use Rattle.pin_core.specs.declared.view.LaneHold.{LaneHold}
 use Rattle.pin_core.specs.declared.view.LogHold.{LogHold}
 use Rattle.pin_core.specs.declared.view.PartitionHold.{PartitionHold}
-use Rattle.pin_core.specs.State.{Frame, Page, link, lane_hold, no_lane, idle}
+use Rattle.pin_core.specs.State.{Frame, Page, link, no_lane}
 use Rattle.pin_core.specs.State as pool
 use Rattle.page_core.specs.State as page
 use Rattle.history_core.specs.State.{State, Lane, last_count, raised}
@@ -91,12 +91,15 @@ module _ {L G : Type 0} (d : Devices L G) (o : Opening L G) where
     partition_of = e.partition_of ∙ h.partition_of;
     is_block = e.is_block ∙ h.is_block;
     names = e.names ∙ h.names;
+    ranges = e.ranges ∙ h.ranges;
     lanes = e.lanes ∙ h.lanes;
     lane_of = e.lane_of ∙ h.lane_of;
     few_backends = h.few_backends;
     few_lanes = h.few_lanes;
     known = λ q l word at placed. ap (λ (g : ℕ → Bool). g word) e.known ∙ h.known q l word at placed;
-    origin = λ q l known word tag at told placed. h.origin q l known word tag at told placed ∙ ap (λ (g : ℕ → Page). Some (g word)) (sym e.origin);
+    held = h.held;
+    origin = λ q l known word tag at told placed. h.origin q l known word tag at told placed ∙ ap (λ (g : ℕ → Option Page). g word) (sym e.origin);
+    unsynced = λ q l word tag at placed. ap (λ (g : ℕ → Bool). g word) e.unsynced ∙ h.unsynced q l word tag at placed;
     reads = λ q l at. (kept q).reads ∙ h.reads q l at;
     writes = λ q l at. (kept q).writes ∙ h.writes q l at;
     log_faults = e.log_faults ∙ h.log_faults;

@@ -17,14 +17,14 @@ use Rattle.pin_core.specs.declared.view.LogHold.{LogHold}
 use Rattle.pin_core.specs.declared.view.FailedCalls.{FailedCalls}
 use Rattle.pin_core.specs.declared.view.TakenLog.{TakenLog}
 use Rattle.pin_core.specs.declared.view.View.{View}
-use Rattle.pin_core.specs.State.{idle, hold, no_partition, no_lane, sum_of_met}
+use Rattle.pin_core.specs.State.{Page, idle, hold, no_partition, no_lane, sum_of_met}
 use Rattle.history_core.specs.Device.{LogKind, log_out, append, fail_append, sync_log, fail_sync, log_back, see_down, LogAllowed, CanCallLog, device_after, log_hold_after, view_logged, log_met_by, is_failed}
 use Rattle.history_core.specs.Laws.{Laws}
 use Rattle.history_core.specs.Lanes.{Rises}
-use Rattle.history_core.specs.Log.{record_size}
+use Rattle.history_core.specs.Log.{IsImage, image, record_size, change_bytes}
 use Rattle.history_core.specs.Outings.{IsAsTaken}
 use Rattle.history_core.specs.State.{State, Device}
-use Rattle.history_core.specs.Steps.{AppendsRecord, aside, new_entry}
+use Rattle.history_core.specs.Steps.{AppendsRecord, aside}
 use Rattle.history_core.specs.Steps as steps
 use Rattle.history_core.proofs.Laws.{laws_kept}
 use Rattle.history_core.proofs.LogCounting.{others_home}
@@ -53,6 +53,10 @@ use Rattle.frame_table.proofs.Moving.{Moves, shows_out, shows_back, words_none}
 -- the state after a step of a kind at the log
 abbrev logged : LogKind → State → ℕ → View → State
 logged k s i v = record s { pool = aside s.pool i (view_logged k v); device = device_after k s.end s.device }
+
+-- how many bytes the record of a page has
+entry_long : (s : State) (word : ℕ) (p : Page) (start : ℕ) → Laws s → IsImage (start + record_size) p → length (change_bytes s.names s.end (image word p)) ≡ record_size
+entry_long s word p start laws is = record_length s.names s.end (start + record_size) (image word p) laws.invariant.named is
 
 did_log : (k : LogKind) (s : State) (i : ℕ) (v : View) → Laws s → get_elem? s.pool.core.views i ≡ some v → v.emptied ≡ false → LogAllowed k s.device v.log → AppendsRecord k s v → DidLog k v (view_logged k v)
 did_log k s i v laws there live a r = record { state = s; laws = laws; seat = i; there = there; live = live; allowed = a; appends = r; after = refl }
@@ -252,16 +256,16 @@ module _ {L G : Type 0} (d : Devices L G) (o : Opening L G) (slots id : ℕ) (me
       of_call (log_call.Appended f tag page piece) did mark asks = let bytes : List ℕ = piece.value.items in let k : LogKind = append f (packed_tag tag) page.value bytes in let dev : Device = device_after k h.state.end h.state.device in
           let is = is_entry h.state id me.0 h.laws here live o.catalog.value h.shows.fixed.names f tag page.value asks.start bytes asks.enters asks.is_record in
           two (log_call.Appended f tag page piece) k false refl
-          (record { call = can_call (mark.up refl); entered = asks.entered; unsynced = asks.unsynced; full = ap (λ (l : List ℕ). length l) is ∙ record_length h.state.names (new_entry h.state me.0.number (packed_tag tag) page.value) (h.laws.invariant.named (packed_tag tag)) asks.enters.full })
-          (can_log h.state id me.0 h.laws here live f tag page.value asks.start asks.enters, is) (returns false dev (log_hold_after k me.0.log) refl (λ e. absurd (cc)) (stands dev refl))
+          (record { call = can_call (mark.up refl); entered = asks.entered; unsynced = asks.unsynced; short = (let z = ap (λ (l : List ℕ). length l) is ∙ entry_long h.state (packed_tag tag) page.value asks.start h.laws (record { sound = asks.enters.sound; used = asks.enters.used; full = asks.enters.full; ends = asks.enters.ends }) in omega arith) })
+          (image (packed_tag tag) page.value, can_log h.state id me.0 h.laws here live f tag page.value asks.start asks.enters, is) (returns false dev (log_hold_after k me.0.log) refl (λ e. absurd (cc)) (stands dev refl))
           (log_marked d x.device may.taken.down x.down dev (sym (mark.kept refl)) (log_appended d may.before x.device may.taken.down h.state.device bytes was did)) (λ w z. z)
       of_call (log_call.AppendFailed f tag page piece) did mark asks = let bytes : List ℕ = piece.value.items in let torn : Torn d bytes may.before x.device h.state.end h.state.device = log_torn d may.before x.device may.taken.down h.state.end h.state.device bytes was did in
           let k : LogKind = fail_append f (packed_tag tag) page.value torn.part (d.log_faults x.device) in let dev : Device = device_after k h.state.end h.state.device in
           let is = is_entry h.state id me.0 h.laws here live o.catalog.value h.shows.fixed.names f tag page.value asks.start bytes asks.enters asks.is_record in
-          let long : length bytes ≡ record_size = ap (λ (l : List ℕ). length l) is ∙ record_length h.state.names (new_entry h.state me.0.number (packed_tag tag) page.value) (h.laws.invariant.named (packed_tag tag)) asks.enters.full in
+          let long : length bytes ≡ record_size = ap (λ (l : List ℕ). length l) is ∙ entry_long h.state (packed_tag tag) page.value asks.start h.laws (record { sound = asks.enters.sound; used = asks.enters.used; full = asks.enters.full; ends = asks.enters.ends }) in
           two (log_call.AppendFailed f tag page piece) k true refl
           (record { call = can_call (mark.up refl); rises = counted did.counted; entered = asks.entered; unsynced = asks.unsynced; part = (let sum = length-append torn.part torn.more in let whole = ap (λ (l : List ℕ). length l) torn.begins in omega arith) })
-          (can_log h.state id me.0 h.laws here live f tag page.value asks.start asks.enters, record { rest = torn.more; begins = torn.begins ∙ is }) (returns true dev (log_hold_after k me.0.log) refl (λ e. refl) (λ e. refl))
+          (image (packed_tag tag) page.value, can_log h.state id me.0 h.laws here live f tag page.value asks.start asks.enters, record { rest = torn.more; begins = torn.begins ∙ is }) (returns true dev (log_hold_after k me.0.log) refl (λ e. refl) (λ e. refl))
           (log_marked d x.device (Some h.state.end) x.down dev (sym (mark.marked refl ∙ ended me.0.log.end refl (mark.loaded refl))) torn.is_log)
           (λ w z. (torn.part, subst (λ (b : Option (List ℕ)). IsPart b (d.bytes x.device) torn.part) (sym may.was.told) torn.is_part, z))
       of_call log_call.Synced did mark asks = let dev : Device = device_after sync_log h.state.end h.state.device in

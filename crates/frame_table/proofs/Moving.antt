@@ -18,7 +18,7 @@ use Rattle.table_rule.specs.declared.turn.Place.TheVariants as place
 use Rattle.table_rule.specs.declared.turn.Turn.{Turn}
 use Rattle.table_rule.specs.declared.turn.Turn.TheVariants as turn
 use Rattle.table_rule.specs.Layout.{slot_of, first_lane_slot, list_slot, slot_count}
-use Rattle.history_core.specs.Words.{number_in, words_of}
+use Rattle.history_core.specs.Words.{word_in, words_of}
 use Rattle.table_rule.specs.Shows.{ShowsFrame, ShowsLatches, is_taken, is_out, IsHome, Devices, Gives, KeepsOpening, IsPlaceIn, HasValue, HasList, Shows}
 use Rattle.frame_table.proofs.Frames.{home_before, set_twice}
 
@@ -100,7 +100,7 @@ module _ {L G : Type 0} (d : Devices L G) (o : Opening L G) where
     slots = long;
     views = ap (λ (l : List View). set l id w) h.views ∙ sym m.views;
     frame = λ f inside. frame_moved words f (s.pool.core.frame f) (s'.pool.core.frame f) (m.frames f) (subst (λ (l : List ℕ). ShowsFrame l f (s.pool.core.frame f)) (sym same) (h.frame f inside));
-    latches = subst (λ (l : List ℕ). ShowsLatches o.config.frames o.config.lanes l s') (sym same) (let l = h.latches in record { latch = λ x has. l.latch x has ∙ ap flag_weight (sym (m.latches x)); word = λ z has. l.word z has ∙ ap (number_in z) (sym m.words) });
+    latches = subst (λ (l : List ℕ). ShowsLatches o.config.frames o.config.lanes l s') (sym same) (let l = h.latches in record { latch = λ x has. l.latch x has ∙ ap flag_weight (sym (m.latches x)); word = λ z has. l.word z has ∙ ap (word_in z) (sym m.words) });
     homes = λ x has none_out. let home : IsHome x (set s.pool.core.views id w) = subst (IsHome x) m.views none_out in dite (ℕ_discrete (slot_of o.config.frames x) (slot_of o.config.frames y))
         (λ e. subst (HasValue d o homes s') (sym (same_slot o x y h.fixed.few_lanes has within e)) (here (subst (λ (z : Place). IsHome z (set s.pool.core.views id w)) (same_slot o x y h.fixed.few_lanes has within e) home)))
         (λ n. let other : x ≢ y = (λ e. n (ap (slot_of o.config.frames) e)) in let old = h.homes x has (home_before s.pool.core.views id v w x there (λ e. sym (m.outs x other) ∙ e) home) in

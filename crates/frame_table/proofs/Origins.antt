@@ -1,5 +1,5 @@
 -- What loads show of the pages that the lanes held at the start.
-use Rattle.std.proofs.Common.{◌≡◌, ◌⊎◌, inl, inr, ℕ, ◌+◌, ◌*◌, ◌<◌, ◌≤◌, Bool, true, false, Option, Some, List, [], ◌∷◌, map, length, get_or, sym, refl, ap, ◌∙◌, subst, ⊎_elim, arith}
+use Rattle.std.proofs.Common.{◌≡◌, ◌⊎◌, inl, inr, ℕ, ◌<◌, ◌≤◌, Bool, true, false, Option, Some, List, [], ◌∷◌, map, get_or, sym, refl, ap, ◌∙◌, subst, ⊎_elim, arith}
 use Rattle.std.specs.Prelude.{is_some}
 use Rattle.std.proofs.lemmas.Option.{same_Some}
 use Rattle.std.proofs.lemmas.Bool.{both_ways}
@@ -18,10 +18,11 @@ use Rattle.pin_core.specs.declared.view.Link.{Link}
 use Rattle.pin_core.specs.declared.view.View.{View}
 use Rattle.pin_core.specs.State.{Page, link}
 use Rattle.history_core.specs.Laws.{Laws}
-use Rattle.history_core.specs.Log.{Entry, cell}
+use Rattle.history_core.specs.Log.{Entry, AreChained, HasImage, cell, end_from, end_of}
 use Rattle.history_core.specs.State.{State}
 use Rattle.history_core.specs.Words.{end_word}
-use Rattle.history_core.proofs.Logs.{cell_is, ends_below}
+use Rattle.history_core.proofs.Logs.{cell_absent, cell_none, cell_upto, chain_below, cut_all, last_upto, some_size, IsLastUpto}
+use Rattle.history_core.proofs.Stepping.{page_of, logged_there}
 use Rattle.history_core.proofs.Sound.{stay_untouched}
 use Rattle.table_rule.specs.declared.value.Value.{Value}
 use Rattle.table_rule.specs.declared.opening.Opening.{Opening}
@@ -42,14 +43,10 @@ use Rattle.frame_table.proofs.WordSteps.{loads_end_there}
 use Rattle.frame_table.proofs.Words.{looks}
 
 -- a log that ends where it begins has no entry
-no_entries : (base : ℕ) (es : List Entry) → base + 8224 * length es ≡ base → es ≡ []
-no_entries base [] e = refl
-no_entries base (x ∷ es) e = absurd (omega (arith, e))
-
--- and leaves each block's page as it was
-cell_none : (origin : ℕ → Page) (word : ℕ) → cell origin [] word ≡ origin word
-unfolding cell
-cell_none origin word = refl
+no_entries : (base : ℕ) (es : List Entry) → AreChained base es → end_from base es ≡ base → es ≡ []
+unfolding AreChained
+no_entries base [] chain e = refl
+no_entries base (x ∷ es) chain e = absurd (let long = some_size x.change in let low = chain_below base (x ∷ es) chain 0 x refl in let starts : x.start ≡ base = chain.0 in omega (arith, e))
 
 module _ {L G : Type 0} (d : Devices L G) (o : Opening L G) (s : State) (h : KeepsOpening d o s) (laws : Laws s) where
   -- A block of a lane whose contents were known at the start
@@ -63,22 +60,35 @@ module _ {L G : Type 0} (d : Devices L G) (o : Opening L G) (s : State) (h : Kee
     is_known : s.known word ≡ true
     is_known = h.known q l word at (ap (lane_of_tag o.config.lanes) placed.named ∙ placed.placed) ∙ ap (λ (x : Option Pages). is_some x) told
 
-    first : known tag ≡ Some (s.origin word)
+    first : known tag ≡ s.origin word
     first = h.origin q l known word tag at told placed
 
     abbrev now : Page
-    now = cell s.origin s.log.entries word
+    now = page_of s word
 
-    logged : s.pool.logged word ≡ Some now
-    logged = laws.invariant.logged word is_known
+    within : (k : ℕ) (e : Entry) → get_elem? s.log.entries k ≡ some e → end_of e ≤ s.end
+    within k e at = let low = chain_below s.log.base s.log.entries laws.invariant.log.chained k e at in let end = laws.invariant.ends in omega arith
+
+    -- the page is the one at the start, or one with content whose position is at most the log's end
+    now_is : (cell s.origin s.log.entries word ≡ s.origin word) ⊎ ((end : ℕ) × (end ≤ s.end) × HasImage end (cell s.origin s.log.entries word))
+    now_is = ⊎_elim
+        (λ (m : (k : ℕ) × (e : Entry) × IsLastUpto s.log.entries word s.end k e). inr (end_of m.1, m.2.upto, subst (HasImage (end_of m.1)) (cell_upto s.origin s.log.entries word s.end m.0 m.1 laws.invariant.log.valid m.2 ∙ ap (λ (l : List Entry). cell s.origin l word) (cut_all s.end s.log.entries within)) (laws.invariant.pages m.0 word m.1 m.2.entered is_known)))
+        (λ none. inl (cell_absent s.origin s.log.entries word laws.invariant.log.valid (λ k e of. absurd (let a = none k e of in let b = within k e of.there in omega arith))))
+        (last_upto s.log.entries word s.end)
 
     -- at a frame whose tag the pin remembers
     module _ (id f : ℕ) (v : View) (there : get_elem? s.pool.core.views id ≡ some v) (inside : f < s.pool.core.frames) (remembers : (link v f).tag ≡ Some word) where
       tagged : (s.pool.core.frame f).tag ≡ word
       tagged = ((laws.invariant.pool.core.grid.cells id v f there inside).remembers word remembers).1
 
+      logged : s.pool.logged word ≡ Some now
+      logged = logged_there s laws.invariant word (subst (λ (z : ℕ). s.pool.core.is_block z ≡ true) tagged (laws.invariant.pool.core.blocks f inside ((laws.invariant.pool.core.grid.cells id v f there inside).remembers word remembers).0.named)) is_known
+
       frame_logged : s.pool.logged (s.pool.core.frame f).tag ≡ Some now
       frame_logged = ap s.pool.logged tagged ∙ logged
+
+      cell_now : cell s.origin s.log.entries word ≡ Some now
+      cell_now = sym (laws.invariant.logged word is_known) ∙ logged
 
       copied_is : (page : Page) → (link v f).copied ≡ Some page → now ≡ page
       copied_is page copied = ((laws.invariant.pool.pages.cells id v f there inside).copied page copied).is_logged now frame_logged
@@ -89,29 +99,28 @@ module _ {L G : Type 0} (d : Devices L G) (o : Opening L G) (s : State) (h : Kee
       -- a page that was copied is at the log's end or before it, or the one at the start
       copied_logged : (page : Page) → (link v f).copied ≡ Some page → (lsn_of page ≤ s.end) ⊎ (known tag ≡ Some page)
       copied_logged page copied = ⊎_elim
-          (λ (is : now ≡ s.origin word). inr (first ∙ ap (λ (p : Page). Some p) (sym is ∙ copied_is page copied)))
-          (λ (x : (k : ℕ) × (e : Entry) × (get_elem? s.log.entries k ≡ some e) × (now ≡ e.image)). inl (subst (λ (p : Page). lsn_of p ≤ s.end) (sym x.3 ∙ copied_is page copied)
-          (let a = (laws.invariant.log.images x.0 x.1 x.2).ends in let b = ends_below s.log x.1 laws.invariant.log x.0 x.1 x.2 in let c = laws.invariant.ends in omega arith)))
-          (cell_is s.origin s.log.entries word)
+          (λ (is : cell s.origin s.log.entries word ≡ s.origin word). inr (first ∙ sym is ∙ cell_now ∙ ap (λ (p : Page). Some p) (copied_is page copied)))
+          (λ (x : (end : ℕ) × (end ≤ s.end) × HasImage end (cell s.origin s.log.entries word)). inl (let same : x.2.shown ≡ page = same_Some x.2.shown page (sym x.2.is ∙ cell_now ∙ ap (λ (p : Page). Some p) (copied_is page copied)) in let ends : lsn_of page ≡ x.0 = ap lsn_of (sym same) ∙ x.2.valid.ends in let low = x.1 in omega arith))
+          now_is
 
       -- a page that the lane gave and that isn't sound is the one at the start
       unsound_first : (page : Page) → (link v f).read ≡ Some page → is_sound_page page ≡ false → known tag ≡ Some page
       unsound_first page read unsound = ⊎_elim
-          (λ (is : now ≡ s.origin word). first ∙ ap (λ (p : Page). Some p) (sym is ∙ read_is page read))
-          (λ (x : (k : ℕ) × (e : Entry) × (get_elem? s.log.entries k ≡ some e) × (now ≡ e.image)). absurd (both_ways _ unsound (ap is_sound_page (sym (read_is page read) ∙ x.3) ∙ (laws.invariant.log.images x.0 x.1 x.2).sound)))
-          (cell_is s.origin s.log.entries word)
+          (λ (is : cell s.origin s.log.entries word ≡ s.origin word). first ∙ sym is ∙ cell_now ∙ ap (λ (p : Page). Some p) (read_is page read))
+          (λ (x : (end : ℕ) × (end ≤ s.end) × HasImage end (cell s.origin s.log.entries word)). absurd (let same : x.2.shown ≡ page = same_Some x.2.shown page (sym x.2.is ∙ cell_now ∙ ap (λ (p : Page). Some p) (read_is page read)) in both_ways _ unsound (ap is_sound_page (sym same) ∙ x.2.valid.sound)))
+          now_is
 
       -- the page at the start of a block with a valid frame was sound
       valid_first : (s.pool.core.frame f).word.valid ≡ true → (page : Page) → known tag ≡ Some page → is_sound_page page ≡ true
-      valid_first valid page is = subst (λ (p : Page). is_sound_page p ≡ true) (same_Some (s.origin word) page (sym first ∙ is)) (of_sound (is_sound_page (s.origin word)) refl)
+      valid_first valid page is = of_sound (is_sound_page page) refl
         where
-          of_sound : (b : Bool) → is_sound_page (s.origin word) ≡ b → is_sound_page (s.origin word) ≡ true
+          of_sound : (b : Bool) → is_sound_page page ≡ b → is_sound_page page ≡ true
           of_sound true e = e
-          of_sound false e = absurd (both_ways _ ((stay_untouched s laws.invariant laws.sound word (λ none. ((laws.invariant.pool.core.grid.cells id v f there inside).remembers word remembers).0.named (tagged ∙ none)) is_known e).invalid f inside tagged) valid)
+          of_sound false e = absurd (both_ways _ ((stay_untouched s laws.invariant laws.sound word page (λ none. ((laws.invariant.pool.core.grid.cells id v f there inside).remembers word remembers).0.named (tagged ∙ none)) is_known (sym first ∙ is) e).invalid f inside tagged) valid)
 
   -- while the log has no entry the page is the one at the start
   none_yet : s.end ≡ o.base → s.log.entries ≡ []
-  none_yet at_base = no_entries s.log.base s.log.entries (sym laws.invariant.ends ∙ at_base ∙ sym h.base)
+  none_yet at_base = no_entries s.log.base s.log.entries laws.invariant.log.chained (sym laws.invariant.ends ∙ at_base ∙ sym h.base)
 
   -- by the pages that each lane held
   module _ (id : ℕ) (v : View) (there : get_elem? s.pool.core.views id ≡ some v) where
@@ -119,7 +128,7 @@ module _ {L G : Type 0} (d : Devices L G) (o : Opening L G) (s : State) (h : Kee
     reads_held Plain allowed at_base = tt
     reads_held Checkpoint allowed at_base = tt
     reads_held (Read f) allowed at_base = λ tag page remembers copied q known block at. let l = map_at d.contents o.lanes.value.items q (Some known) at in let inside : f < s.pool.core.frames = (let e = h.frames in let low = allowed.0 in omega arith) in
-        first tag q l.0 known block l.1 l.2 ∙ ap (λ (p : Page). Some p) (sym (ap (λ (es : List Entry). cell s.origin es (packed_tag tag)) (none_yet at_base) ∙ cell_none s.origin (packed_tag tag)) ∙ copied_is tag q l.0 known block l.1 l.2 id f v there inside remembers page copied)
+        first tag q l.0 known block l.1 l.2 ∙ sym (ap (λ (es : List Entry). cell s.origin es (packed_tag tag)) (none_yet at_base) ∙ cell_none s.origin (packed_tag tag)) ∙ cell_now tag q l.0 known block l.1 l.2 id f v there inside remembers ∙ ap (λ (p : Page). Some p) (copied_is tag q l.0 known block l.1 l.2 id f v there inside remembers page copied)
 
     copies_logged : CopiesAreLogged o.catalog.value o.config.lanes (map d.contents o.lanes.value.items) o.config.frames s.end v
     copies_logged f tag page low remembers copied q known block at = let l = map_at d.contents o.lanes.value.items q (Some known) at in

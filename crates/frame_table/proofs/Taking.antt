@@ -38,7 +38,7 @@ use Rattle.table_rule.specs.declared.turn.Turn.{Turn}
 use Rattle.table_rule.specs.declared.turn.Turn.TheVariants.{Partition, Lane, Log}
 use Rattle.table_rule.specs.Layout.{latch_place, word_place}
 use Rattle.table_rule.proofs.Places.{latch_low, latch_apart}
-use Rattle.history_core.specs.Words.{number_in, words_of}
+use Rattle.history_core.specs.Words.{word_in, words_of}
 use Rattle.history_core.specs.Laws.{Laws}
 use Rattle.table_rule.specs.Shows.{ShowsFrame, ShowsLatches, is_taken, HasTurn, is_out, IsHome, Devices, KeepsOpening, Shows, RuleHolds}
 use Rattle.frame_table.specs.Latches.{MayLeave, LatchAllowed, HasLatch, part_kind, lane_kind, log_kind, view_latched, state_latched, turn_event, DidTurn, SameWork, work_of, IsTurned, took, left}
@@ -73,8 +73,8 @@ lane_taken true ln = refl
 lane_taken false ln = refl
 
 lane_same : (takes : Bool) (ln : history.Lane) → SameLane ln (lanes.lane_after (lane_kind takes) ln)
-lane_same true ln = record { known = refl; stored = refl; failed = refl; reads = refl; writes = refl; reads_at_start = refl; writes_at_start = refl }
-lane_same false ln = record { known = refl; stored = refl; failed = refl; reads = refl; writes = refl; reads_at_start = refl; writes_at_start = refl }
+lane_same true ln = record { known = refl; stored = refl; failed = refl; unsynced = refl; reads = refl; writes = refl; reads_at_start = refl; writes_at_start = refl }
+lane_same false ln = record { known = refl; stored = refl; failed = refl; unsynced = refl; reads = refl; writes = refl; reads_at_start = refl; writes_at_start = refl }
 
 lane_out_same : (takes : Bool) (flushed swept : ℕ) (ln : history.Lane) (h : LaneHold) → (lanes.lane_hold_after (lane_kind takes) flushed swept h).out ≡ h.out
 lane_out_same true flushed swept ln h = refl
@@ -162,12 +162,15 @@ module _ {L G : Type 0} (d : Devices L G) (o : Opening L G) where
     partition_of = h.partition_of;
     is_block = h.is_block;
     names = h.names;
+    ranges = h.ranges;
     lanes = h.lanes;
     lane_of = h.lane_of;
     few_backends = h.few_backends;
     few_lanes = h.few_lanes;
     known = h.known;
+    held = h.held;
     origin = h.origin;
+    unsynced = h.unsynced;
     reads = λ r l at. (turned_lane takes (Lane q) s i v r).reads_at_start ∙ h.reads r l at;
     writes = λ r l at. (turned_lane takes (Lane q) s i v r).writes_at_start ∙ h.writes r l at;
     log_faults = h.log_faults;
@@ -188,7 +191,7 @@ module _ {L G : Type 0} (d : Devices L G) (o : Opening L G) where
     latch = λ y has_y. dite (ℕ_discrete (latch_place n y) at)
         (λ e. ap (λ (z : ℕ). get_or (set words at (flag_weight takes)) z 0) e ∙ get_or-set_same words at (flag_weight takes) 0 low ∙ ap flag_weight (sym (taken_is takes x s i v) ∙ ap (λ (z : Turn). is_taken z (state_latched takes x s i v)) (sym (same_latch n o.config.lanes y x few has_y has e))))
         (λ ne. get_or-set_other words at (latch_place n y) (flag_weight takes) 0 ne ∙ h.latch y has_y ∙ ap flag_weight (sym (taken_else takes x y s i v (λ e. ne (ap (latch_place n) e)))));
-    word = λ w has_w. get_or-set_other words at (word_place n w) (flag_weight takes) 0 (λ e. latch_apart n o.config.lanes x w few has (sym e)) ∙ h.word w has_w ∙ ap (number_in w) (words_stay takes x);
+    word = λ w has_w. get_or-set_other words at (word_place n w) (flag_weight takes) 0 (λ e. latch_apart n o.config.lanes x w few has (sym e)) ∙ h.word w has_w ∙ ap (word_in w) (words_stay takes x);
   }
     where
       words_stay : (takes : Bool) (x : Turn) → words_of s ≡ words_of (state_latched takes x s i v)

@@ -81,9 +81,9 @@ touches_on f v u w a b = record { self = b.self ∙ a.self; grows = grows_on v u
 pub touches_none : (f : ℕ) (v : View) → Touches f v v
 touches_none f v = record { self = refl; grows = grows_none v; partitions = refl; others = λ g n. refl }
 
--- all of a link but what a pin has seen, a wait, and the checkpoint's notes
+-- all of a link but what a pin has seen, a wait, whether an entry was made, and the checkpoint's notes
 abbrev pub quiet_link : Link → Link
-quiet_link l = record l { seen_valid = false; waits = None; visited = false; left_to_write = false }
+quiet_link l = record l { seen_valid = false; entered = false; waits = None; visited = false; left_to_write = false }
 
 -- loads of the state word leave that
 pub quiet : (l m : Link) → Looked l m → quiet_link m ≡ quiet_link l
@@ -106,6 +106,7 @@ quiet l m a = λ i. record {
   overwritten = a.overwritten i;
   image = a.image i;
   seen_valid = false;
+  entered = false;
   waits = None;
   visited = false;
   left_to_write = false;

@@ -6,11 +6,12 @@ use Rattle.atomic_table.specs.declared.shared.Seat.{Seat}
 use Rattle.pin_core.specs.declared.view.View.{View}
 use Rattle.pin_core.specs.State.{emptied_view}
 use Rattle.pin_core.specs.Steps.{HoldsNothing}
-use Rattle.history_core.specs.State.{State}
+use Rattle.history_core.specs.State.{State, stored_upto, synced_upto}
 use Rattle.history_core.specs.Laws.{Laws}
+use Rattle.block_tag.specs.declared.tag.Tag.{Tag}
 use Rattle.table_rule.specs.declared.opening.Opening.{Opening}
 use Rattle.table_rule.specs.declared.value.Value.{Value}
-use Rattle.table_rule.specs.Shows.{Devices, IsLane, IsLog, KeepsOpening}
+use Rattle.table_rule.specs.Shows.{Devices, IsPlaced, IsLane, IsLog, KeepsOpening}
 use Rattle.frame_table.specs.declared.table.FrameTable.{FrameTable}
 use Rattle.frame_table.specs.Seats.{Fits}
 
@@ -33,6 +34,8 @@ module _ {L G : Type 0} where
     pub others : (i : ℕ) (u : View) → i ≢ 0 → get_elem? state.pool.core.views i ≡ some u → u ≡ emptied_view
     pub counted : length lanes ≡ o.config.lanes
     pub lane : (q : ℕ) (l : L) → get_elem? lanes q ≡ some l → IsLane d o.catalog.value state.lanes q l (state.lane q)
+    -- where a lane's own list doesn't have a block, the lane was synced since it took the last of the block's entries that it has
+    pub covered : (q word : ℕ) (l : L) (tag : Tag) → get_elem? lanes q ≡ some l → IsPlaced o.catalog.value state.lanes q word tag → d.unsynced l tag ≡ false → synced_upto state word ≡ stored_upto state word
     -- where the log is down, with its end at the failure
     pub mark : Option ℕ
     pub device : IsLog d log mark state.device

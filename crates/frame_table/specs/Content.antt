@@ -61,7 +61,7 @@ unshared_link l = record l { content = Unlocked; copied = None }
 
 -- without the exclusive lock, likewise
 abbrev pub unexclusive_link : Link → Link
-unexclusive_link l = record l { content = Unlocked; copied = None; dirtied = false }
+unexclusive_link l = record l { content = Unlocked; copied = None; dirtied = false; entered = false }
 
 -- with the copy latch, and without it
 abbrev pub copying_link : Bool → Link → Link

@@ -16,7 +16,7 @@ use Rattle.pin_core.specs.State.{Page, link}
 use Rattle.page_core.specs.Kinds.{make_entry}
 use Rattle.page_core.specs.Steps.{HasNoneUnapplied}
 use Rattle.history_core.specs.Laws.{Laws}
-use Rattle.history_core.specs.Log.{record_size}
+use Rattle.history_core.specs.Log.{image, record_size}
 use Rattle.history_core.specs.State.{State, last_position}
 use Rattle.history_core.specs.Steps.{CanEnter, has_written, paged}
 use Rattle.table_rule.specs.declared.value.Value.{Value}
@@ -66,18 +66,18 @@ pub record DidEnter (f : ℕ) (p : Page) (v w : View) : Type 0 where
   pub there : get_elem? state.pool.core.views seat ≡ some v
   pub live : v.emptied ≡ false
   pub inside : f < state.pool.core.frames
-  pub allowed : CanEnter state f p v
-  pub after : w ≡ has_written (state.end + record_size) (state.pool.core.frame f).tag p (paged (make_entry p) state.pool f v)
+  pub allowed : CanEnter state f p (image (state.pool.core.frame f).tag p) v
+  pub after : w ≡ has_written (image (state.pool.core.frame f).tag p) (state.end + record_size) (state.pool.core.frame f).tag p (paged (make_entry p) state.pool f v)
 
 -- what it has at the frame then: the entry isn't applied yet
 abbrev pub entered_link : Page → Link → Link
-entered_link p l = record l { unapplied = true; image = Some p; copied = None }
+entered_link p l = record l { entered = true; unapplied = true; image = Some p; copied = None }
 
 -- the view then: a write is the last of its calls, whose place is the log's end
 abbrev pub view_entered : ℕ → ℕ → Page → ℕ → View → View
 view_entered f tag p end v = record v {
   links = slice_set v.links f (entered_link p (link v f));
-  calls = v.calls ++ Write v.number tag p end ∷ [];
+  calls = v.calls ++ Write v.number tag p end true ∷ [];
   front = end;
   end_seen = max v.end_seen end;
   log = record v.log { appended = None; end = Some end };

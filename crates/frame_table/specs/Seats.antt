@@ -29,7 +29,7 @@ use Rattle.table_rule.specs.Shows.{HasTurn}
 
 -- What a step at a frame leaves of a view: all but its links and partitions, its marks, and what it lists and counts of steps, loads and changed words
 abbrev pub self_of : View → View
-self_of v = record v { links = []; partitions = []; steps = 0; loads = []; changes = []; dirtied_or_synced = false; had_output = false; last_ended = None }
+self_of v = record v { links = []; partitions = []; steps = 0; loads = []; changes = []; dirtied_or_synced = false; had_output = false; last_ended = None; unentered = [] }
 
 abbrev pub SameSelf : View → View → Type 0
 SameSelf v w = self_of w ≡ self_of v

@@ -31,8 +31,8 @@ impl<L: BlockLane, G: LogDevice> FrameTable<L, G> {
         requires backends { (1 ≤ config.passes) × (config.passes ≤ 64) }
         requires lanes { (1 ≤ config.lanes) × (config.lanes ≤ 16) × (length lanes.items ≡ config.lanes) }
         requires base { base ≤ 2 ^ 62 }
-        requires devices { AreLanes (devices L.contents L.failed_writes L.unsynced L.read_faults L.write_faults L.calls G.bytes G.synced G.faults G.calls) catalog lanes.items }
-        requires log { IsNewLog (devices L.contents L.failed_writes L.unsynced L.read_faults L.write_faults L.calls G.bytes G.synced G.faults G.calls) base log }
+        requires devices { AreLanes (devices L.BlockLane G.LogDevice) catalog lanes.items }
+        requires log { IsNewLog (devices L.BlockLane G.LogDevice) base log }
         ensures key { IfOk result (λ t. (t.0.table.shared.key.config ≡ config) × (t.0.table.shared.key.catalog.value ≡ catalog) × (t.0.table.shared.key.lanes.value ≡ lanes) × (t.0.table.shared.key.log.value ≡ log) × (t.0.table.shared.key.base ≡ base)) }
         ensures seat { IfOk result (λ t. Fits t.0 t.1 × (t.1.id ≡ 0) × (t.1.me ≡ (starting t.0.table.shared.key, []))) }
         ensures rest { IfOk result (λ t. IsIdle t.1.me.0) }
@@ -74,7 +74,7 @@ impl<L: BlockLane, G: LogDevice> FrameTable<L, G> {
     /// The devices come back, once the first backend holds nothing and has taken in all others.
     pub fn close(self, seat: Seat<Value<L, G>, View>) -> (Vec<L>, G)
         requires { CanClose self seat }
-        ensures { Closes (devices L.contents L.failed_writes L.unsynced L.read_faults L.write_faults L.calls G.bytes G.synced G.faults G.calls) self.table.shared.key seat.me.0 result.0.items result.1 }
+        ensures { Closes (devices L.BlockLane G.LogDevice) self.table.shared.key seat.me.0 result.0.items result.1 }
     {
         let FrameTable {
             table,

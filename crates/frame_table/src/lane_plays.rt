@@ -46,7 +46,7 @@ pub(crate) struct LaneOut<D> {
 }
 
 impl<L: BlockLane, G, D: AtLane> Play<Value<L, G>, View> for LaneOut<D> {
-    ghost then = { lane_went (lane_devices L.contents L.failed_writes L.unsynced L.read_faults L.write_faults L.calls) D.known D.relations D.lanes D.frames D.lane D.slot };
+    ghost then = { lane_went (lane_devices L.BlockLane) D.known D.relations D.lanes D.frames D.lane D.slot };
 }
 
 /// By which steps a value comes back, and what they make of the view. Each call picks it.

@@ -35,14 +35,14 @@ impl<L: BlockLane, G: LogDevice> FrameTable<L, G> {
         place: usize,
         slot: usize,
     ) -> Value<L, G>
-        requires known { D.known ≡ was_known (lane_devices L.contents L.failed_writes L.unsynced L.read_faults L.write_faults L.calls) (opened_of self.now) _lane }
+        requires known { D.known ≡ was_known (lane_devices L.BlockLane) (opened_of self.now) _lane }
         requires lane { (D.relations ≡ relations_of self.now) × (D.lanes ≡ lanes_in self.now) × (D.frames ≡ frames_of self.now) × (D.lane ≡ _lane) × (D.slot ≡ slot) }
         requires place { (place ≡ latch_place (frames_of self.now) (Lane _lane)) × (slot ≡ slot_of (frames_of self.now) (Of (Lane _lane))) }
         requires seat { CanTurn self.now seat.old (Lane _lane) }
         requires held { ((lane_hold seat.old.me.0 _lane).held ≡ true) × ((lane_hold seat.old.me.0 _lane).out ≡ None) }
         ensures seat { (seat.new.table_id ≡ seat.old.table_id) × (seat.new.id ≡ seat.old.id) }
         ensures hand { seat.new.me.1 ≡ (slot, value.Away) ∷ seat.old.me.1 }
-        ensures lane { WentOut (lane_devices L.contents L.failed_writes L.unsynced L.read_faults L.write_faults L.calls) self.now _lane result seat.old.me.0 seat.new.me.0 }
+        ensures lane { WentOut (lane_devices L.BlockLane) self.now _lane result seat.old.me.0 seat.new.me.0 }
     {
         // An exchange of a slot is no step of its own: the load is, and its value tells nothing.
         self.table.shared.load::<LaneOut<D>>(seat, place);
@@ -58,10 +58,10 @@ impl<L: BlockLane, G: LogDevice> FrameTable<L, G> {
         ensures wide { (length seat.old.me.0.links ≡ frames_of self.now) × (length seat.old.me.0.lanes ≡ lanes_in self.now) }
         ensures number { result.number ≡ lane }
         ensures untouched { result.call ≡ Untouched }
-        ensures taken { IsTakenFrom (lane_devices L.contents L.failed_writes L.unsynced L.read_faults L.write_faults L.calls) self.now lane result.device }
-        ensures view { seat.new.me.0 ≡ out_view lane (taken_at (lane_devices L.contents L.failed_writes L.unsynced L.read_faults L.write_faults L.calls) self.now lane result.device) seat.old.me.0 }
-        ensures out { LaneStep lane (out_lane (taken_at (lane_devices L.contents L.failed_writes L.unsynced L.read_faults L.write_faults L.calls) self.now lane result.device) seat.old.me.0.flushed (lane_hold seat.old.me.0 lane)) seat.old.me.0 seat.new.me.0 }
-        ensures did { DidSteps (out_events lane (taken_at (lane_devices L.contents L.failed_writes L.unsynced L.read_faults L.write_faults L.calls) self.now lane result.device)) seat.old.me.0 seat.new.me.0 }
+        ensures taken { IsTakenFrom (lane_devices L.BlockLane) self.now lane result.device }
+        ensures view { seat.new.me.0 ≡ out_view lane (taken_at (lane_devices L.BlockLane) self.now lane result.device) seat.old.me.0 }
+        ensures out { LaneStep lane (out_lane (taken_at (lane_devices L.BlockLane) self.now lane result.device) seat.old.me.0.flushed (lane_hold seat.old.me.0 lane)) seat.old.me.0 seat.new.me.0 }
+        ensures did { DidSteps (out_events lane (taken_at (lane_devices L.BlockLane) self.now lane result.device)) seat.old.me.0 seat.new.me.0 }
     {
         let place = self.latch(Turn::Lane(lane));
         let slot = self.lane_slot(lane);
@@ -79,15 +79,15 @@ impl<L: BlockLane, G: LogDevice> FrameTable<L, G> {
         slot: usize,
         noted: NotedLane<L>,
     )
-        requires known { (D.events ≡ back_events (lane_devices L.contents L.failed_writes L.unsynced L.read_faults L.write_faults L.calls) _lane noted.device noted.call) × (D.after ≡ back_view (lane_devices L.contents L.failed_writes L.unsynced L.read_faults L.write_faults L.calls) _lane noted.device noted.call) }
+        requires known { (D.events ≡ back_events (lane_devices L.BlockLane) _lane noted.device noted.call) × (D.after ≡ back_view (lane_devices L.BlockLane) _lane noted.device noted.call) }
         requires place { (place ≡ latch_place (frames_of self.now) (Lane _lane)) × (slot ≡ slot_of (frames_of self.now) (Of (Lane _lane))) }
         requires seat { CanTurn self.now seat.old (Lane _lane) }
         requires hand { seat.old.me.1 ≡ (slot, value.Away) ∷ rest seat.old.me.1 }
-        requires may { MayReturnTo (lane_devices L.contents L.failed_writes L.unsynced L.read_faults L.write_faults L.calls) self.now _lane seat.old.me.0 noted }
+        requires may { MayReturnTo (lane_devices L.BlockLane) self.now _lane seat.old.me.0 noted }
         ensures seat { (seat.new.table_id ≡ seat.old.table_id) × (seat.new.id ≡ seat.old.id) }
         ensures hand { seat.new.me.1 ≡ rest seat.old.me.1 }
-        ensures view { seat.new.me.0 ≡ back_view (lane_devices L.contents L.failed_writes L.unsynced L.read_faults L.write_faults L.calls) _lane noted.device noted.call seat.old.me.0 }
-        ensures did { DidSteps (back_events (lane_devices L.contents L.failed_writes L.unsynced L.read_faults L.write_faults L.calls) _lane noted.device noted.call) seat.old.me.0 seat.new.me.0 }
+        ensures view { seat.new.me.0 ≡ back_view (lane_devices L.BlockLane) _lane noted.device noted.call seat.old.me.0 }
+        ensures did { DidSteps (back_events (lane_devices L.BlockLane) _lane noted.device noted.call) seat.old.me.0 seat.new.me.0 }
     {
         let home = noted.without_call();
         let away = self.table.shared.exchange(seat, slot, Value::Lane(home));
@@ -100,14 +100,14 @@ impl<L: BlockLane, G: LogDevice> FrameTable<L, G> {
     pub fn lane_back(&self, seat: &mut Seat<Value<L, G>, View>, lane: u32, noted: NotedLane<L>)
         requires seat { CanTurn self.now seat.old (Lane lane) }
         requires hand { seat.old.me.1 ≡ (slot_of (frames_of self.now) (Of (Lane lane)), value.Away) ∷ rest seat.old.me.1 }
-        requires may { MayReturnTo (lane_devices L.contents L.failed_writes L.unsynced L.read_faults L.write_faults L.calls) self.now lane seat.old.me.0 noted }
+        requires may { MayReturnTo (lane_devices L.BlockLane) self.now lane seat.old.me.0 noted }
         ensures seat { (seat.new.table_id ≡ seat.old.table_id) × (seat.new.id ≡ seat.old.id) }
         ensures hand { seat.new.me.1 ≡ rest seat.old.me.1 }
-        ensures view { seat.new.me.0 ≡ back_view (lane_devices L.contents L.failed_writes L.unsynced L.read_faults L.write_faults L.calls) lane noted.device noted.call seat.old.me.0 }
+        ensures view { seat.new.me.0 ≡ back_view (lane_devices L.BlockLane) lane noted.device noted.call seat.old.me.0 }
         ensures back { LaneStep lane (back_lane (swept_lane noted.call seat.old.me.0 (lane_hold seat.old.me.0 lane))) seat.old.me.0 seat.new.me.0 }
         ensures swept { (q : ℕ) → (lane_hold seat.old.me.0 q).swept ≤ (lane_hold seat.new.me.0 q).swept }
         ensures noted { IsNoted noted.call seat.old.me.0 seat.new.me.0 }
-        ensures did { DidSteps (back_events (lane_devices L.contents L.failed_writes L.unsynced L.read_faults L.write_faults L.calls) lane noted.device noted.call) seat.old.me.0 seat.new.me.0 }
+        ensures did { DidSteps (back_events (lane_devices L.BlockLane) lane noted.device noted.call) seat.old.me.0 seat.new.me.0 }
     {
         let place = self.latch(Turn::Lane(lane));
         let slot = self.lane_slot(lane);

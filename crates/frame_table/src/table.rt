@@ -48,13 +48,13 @@ impl<L: BlockLane, G: LogDevice> FrameTable<L, G> {
 
     /// What each call at a state word has to store, whatever the table is at that moment: whoever keeps the table's rule and tells of a step stores the word that the step makes of the word found. So with the clock's hand, and with the flushed position.
     pub fn words_must_be_stored(&self)
-        ensures each { (k : FrameKind) → part_of k ≡ kinds.state_word → k ≢ pins pin_kinds.load_state → MustStore (devices L.contents L.failed_writes L.unsynced L.read_faults L.write_faults L.calls G.bytes G.synced G.faults G.calls) self.now.table.shared.key k (Makes k) }
-        ensures pin { (ring : Bool) → MustStore (devices L.contents L.failed_writes L.unsynced L.read_faults L.write_faults L.calls G.bytes G.synced G.faults G.calls) self.now.table.shared.key (pins (pin_kinds.pin ring)) (λ f found left. left ≡ pinned_fields ring found) }
-        ensures lowered { MustStore (devices L.contents L.failed_writes L.unsynced L.read_faults L.write_faults L.calls G.bytes G.synced G.faults G.calls) self.now.table.shared.key (pins pin_kinds.lower_usage) (λ f found left. left ≡ unlocked_fields (usage_down_fields found)) }
-        ensures ended { (end : IoEnd) → MustStore (devices L.contents L.failed_writes L.unsynced L.read_faults L.write_faults L.calls G.bytes G.synced G.faults G.calls) self.now.table.shared.key (pages (page_kinds.end_io end)) (λ f found left. left ≡ unlocked_fields (io_ended_fields end found)) }
-        ensures dirtied { MustStore (devices L.contents L.failed_writes L.unsynced L.read_faults L.write_faults L.calls G.bytes G.synced G.faults G.calls) self.now.table.shared.key (pages page_kinds.mark_dirty) (λ f found left. left ≡ dirtied_fields found) }
-        ensures hand { HandMustMove (devices L.contents L.failed_writes L.unsynced L.read_faults L.write_faults L.calls G.bytes G.synced G.faults G.calls) self.now.table.shared.key }
-        ensures flushed { FlushedMustRise (devices L.contents L.failed_writes L.unsynced L.read_faults L.write_faults L.calls G.bytes G.synced G.faults G.calls) self.now.table.shared.key }
+        ensures each { (k : FrameKind) → part_of k ≡ kinds.state_word → k ≢ pins pin_kinds.load_state → MustStore (devices L.BlockLane G.LogDevice) self.now.table.shared.key k (Makes k) }
+        ensures pin { (ring : Bool) → MustStore (devices L.BlockLane G.LogDevice) self.now.table.shared.key (pins (pin_kinds.pin ring)) (λ f found left. left ≡ pinned_fields ring found) }
+        ensures lowered { MustStore (devices L.BlockLane G.LogDevice) self.now.table.shared.key (pins pin_kinds.lower_usage) (λ f found left. left ≡ unlocked_fields (usage_down_fields found)) }
+        ensures ended { (end : IoEnd) → MustStore (devices L.BlockLane G.LogDevice) self.now.table.shared.key (pages (page_kinds.end_io end)) (λ f found left. left ≡ unlocked_fields (io_ended_fields end found)) }
+        ensures dirtied { MustStore (devices L.BlockLane G.LogDevice) self.now.table.shared.key (pages page_kinds.mark_dirty) (λ f found left. left ≡ dirtied_fields found) }
+        ensures hand { HandMustMove (devices L.BlockLane G.LogDevice) self.now.table.shared.key }
+        ensures flushed { FlushedMustRise (devices L.BlockLane G.LogDevice) self.now.table.shared.key }
     {}
 }
 

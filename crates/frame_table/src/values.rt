@@ -20,7 +20,7 @@ impl<L: BlockLane, G: LogDevice> FrameTable<L, G> {
         requires { MayGoOut self.now seat.old place }
         ensures seat { (seat.new.table_id ≡ seat.old.table_id) × (seat.new.id ≡ seat.old.id) }
         ensures hand { seat.new.me.1 ≡ (slot_of (frames_of self.now) place, value.Away) ∷ seat.old.me.1 }
-        ensures out { WentOutAs (devices L.contents L.failed_writes L.unsynced L.read_faults L.write_faults L.calls G.bytes G.synced G.faults G.calls) self.now place result seat.old.me.0 seat.new.me.0 }
+        ensures out { WentOutAs (devices L.BlockLane G.LogDevice) self.now place result seat.old.me.0 seat.new.me.0 }
     {
         match place {
             Place::Page(frame) => Value::Page(self.page_out(seat, frame)),
@@ -33,10 +33,10 @@ impl<L: BlockLane, G: LogDevice> FrameTable<L, G> {
     /// The value of a place is back, with the one change that was made of it.
     pub fn value_back(&self, seat: &mut Seat<Value<L, G>, View>, place: Place, back: Value<L, G>)
         requires hand { seat.old.me.1 ≡ (slot_of (frames_of self.now) place, value.Away) ∷ rest seat.old.me.1 }
-        requires may { MayReturnAs (devices L.contents L.failed_writes L.unsynced L.read_faults L.write_faults L.calls G.bytes G.synced G.faults G.calls) self.now seat.old place back }
+        requires may { MayReturnAs (devices L.BlockLane G.LogDevice) self.now seat.old place back }
         ensures seat { (seat.new.table_id ≡ seat.old.table_id) × (seat.new.id ≡ seat.old.id) }
         ensures hand { seat.new.me.1 ≡ rest seat.old.me.1 }
-        ensures back { CameBackAs (devices L.contents L.failed_writes L.unsynced L.read_faults L.write_faults L.calls G.bytes G.synced G.faults G.calls) place back seat.old.me.0 seat.new.me.0 }
+        ensures back { CameBackAs (devices L.BlockLane G.LogDevice) place back seat.old.me.0 seat.new.me.0 }
     {
         match (place, back) {
             (Place::Page(frame), Value::Page(page)) => self.page_back(seat, frame, page),

@@ -33,6 +33,7 @@ kept_by_calls v = record v {
   saw_down = false;
   had_output = false;
   last_ended = None;
+  unentered = [];
 }
 
 -- A backend has nothing at a frame but maybe a pin and a content lock

@@ -1,5 +1,5 @@
 -- The blocks, their frames and their lanes, as a step changes them.
-use Rattle.std.proofs.Common.{◌≡◌, ◌≢◌, ℕ, ◌<◌, ◌≤◌, true, false, List, Some, None, sym, refl, ap, ◌∙◌, subst, arith}
+use Rattle.std.proofs.Common.{◌≡◌, ◌≢◌, ℕ, ◌<◌, ◌≤◌, true, false, List, Option, Some, None, sym, refl, ap, ◌∙◌, subst, arith}
 use mathlib.Core.Logic.{dite}
 use native.Mathlib.Decide.{ℕ_discrete}
 use Rattle.state_word.specs.declared.word.IoEnd.TheVariants.{ReadOk, WriteOk, Bad}
@@ -29,7 +29,7 @@ use Rattle.grid.proofs.Lists.{put_here, put_else}
 use Rattle.grid.proofs.Grids.{Keeps}
 
 -- A kind that is plain keeps the law of the homes; the block's page after the log is known where its lane's contents are
-pub plain_keeps : (k : Kind) (h : Home) (fr : Frame) (l : Link) (p : Page) → (h.known ≡ true → h.block.logged ≡ Some p) → IsPlain k → Allowed k h.block fr l → Keeps_by k h (pages_home_after k h) fr l
+pub plain_keeps : (k : Kind) (h : Home) (fr : Frame) (l : Link) (p : Page) → (fr.tag ≢ no_tag → h.known ≡ true → h.block.logged ≡ Some p) → IsPlain k → Allowed k h.block fr l → Keeps_by k h (pages_home_after k h) fr l
 plain_keeps kinds.load_content h fr l q is x a = homes.load_content_keeps h fr l a
 plain_keeps kinds.mark_dirty h fr l q is x a = homes.mark_dirty_keeps h fr l a
 plain_keeps kinds.share h fr l q is x a = homes.share_keeps h fr l a
@@ -107,7 +107,7 @@ pub written_is_logged : (b : Block) (fr : Frame) (l : Link) (t : Tally → ℕ) 
 written_is_logged b fr l t q c le e = (grind (arith, q, c, le, e), λ p is. grind (arith, q, c, le, e, is))
 
 -- The laws of the blocks, where `home` is what is known of each
-pub record Blocks (n : ℕ) (frame : ℕ → Frame) (views : List View) (origin : ℕ → Page) (log : Log) (flushed : ℕ) (home : ℕ → Home) : Type 0 where
+pub record Blocks (n : ℕ) (frame : ℕ → Frame) (views : List View) (origin : ℕ → Option Page) (log : Log) (flushed : ℕ) (home : ℕ → Home) : Type 0 where
   pub homes : Grid home_shape home_part n frame home views
   pub unframed : (tag : ℕ) → tag ≢ no_tag → IsUnframed n frame tag → IsClean (home tag)
   pub flushed_cells : (tag : ℕ) → IsFlushedCell origin log flushed tag (home tag)

@@ -1,5 +1,5 @@
 -- A step keeps the law of the calls.
-use Rattle.std.proofs.Common.{◌≡◌, ◌≢◌, ◌⊎◌, ℕ, zero, suc, ◌+◌, ◌<◌, ◌≤◌, Bool, true, false, cond, eq-eqb, ne_eqb, List, [], ◌∷◌, ◌++◌, length, length-append, append-nil, set, sym, refl, ap, ◌∙◌, subst, inl, inr, ⊎_elim, arith}
+use Rattle.std.proofs.Common.{◌≡◌, ◌≢◌, ◌⊎◌, ℕ, zero, suc, ◌+◌, ◌<◌, ◌≤◌, Bool, true, false, cond, eq-eqb, ne_eqb, List, [], ◌∷◌, ◌++◌, length, length-append, append-nil, Option, Some, set, sym, refl, ap, ◌∙◌, subst, inl, inr, ⊎_elim, arith}
 use Rattle.std.specs.Prelude.{max}
 use Rattle.std.proofs.lemmas.Bool.{cases_lt, both_ways}
 use mathlib.Core.Logic.{dite}
@@ -11,12 +11,12 @@ use Rattle.pin_core.specs.declared.view.Call.TheVariants.{Read, Write}
 use Rattle.pin_core.specs.declared.view.JoinedCheckpoint.{JoinedCheckpoint}
 use Rattle.pin_core.specs.declared.view.View.{View}
 use Rattle.pin_core.specs.State.{Page, emptied_view, joined_view, kept_checkpoint}
-use Rattle.history_core.specs.Log.{Entry, Log, LogLaw, end_of, log_end, cell, IsLegal, IsLegalRead, place_of, backend_of, write_weight, weight_at, writes_in, writes_at, HasPlace, AreInOrder}
+use Rattle.history_core.specs.Log.{Entry, Log, LogLaw, image, is_image, tag_in, end_of, log_end, cell, IsLegal, IsLegalRead, place_of, backend_of, write_weight, weight_at, writes_in, writes_at, HasPlace, AreInOrder}
 use Rattle.history_core.specs.Invariant.{HasNumber, CallsLaw, KeptLaw, HistoryLaw}
 use Rattle.grid.specs.Shape.{total}
 use Rattle.grid.proofs.Lists.{at_set, at_end, at_longer, set_else, set_here}
 use Rattle.grid.proofs.Sums.{total-set, total-snoc, total-none}
-use Rattle.history_core.proofs.Logs.{cut_longer, cut_all, ends_below, end_longer}
+use Rattle.history_core.proofs.Logs.{some_size, cut_longer, cut_all, ends_below, end_above, end_longer}
 
 -- what is at a place of two lists, one after the other
 pub at_both : {A : Type 0} (l m : List A) (k : ℕ) (a : A) → get_elem? (l ++ m) k ≡ some a → (get_elem? l k ≡ some a) ⊎ ((j : ℕ) × (get_elem? m j ≡ some a))
@@ -58,18 +58,27 @@ in_order_longer calls c front order fronted above j k x y lt ex ey same = ⊎_el
     (at_end calls c y k ey)
 
 -- a legal call stays legal with one entry more
-legal_longer : (known : ℕ → Bool) (origin : ℕ → Page) (log : Log) (e : Entry) → e.start ≡ log_end log → LogLaw log → (c : Call) → IsLegal known origin log c → IsLegal known origin (record log { entries = log.entries ++ e ∷ [] }) c
+legal_longer : (known : ℕ → Bool) (origin : ℕ → Option Page) (log : Log) (e : Entry) → e.start ≡ log_end log → LogLaw log → (c : Call) → IsLegal known origin log c → IsLegal known origin (record log { entries = log.entries ++ e ∷ [] }) c
 legal_longer known origin log e starts h (Read backend tag page place) l = let w = l.within in record {
   based = l.based;
-  within = omega (arith, end_longer log e h);
-  reads = λ is. l.reads is ∙ ap (λ (es : List Entry). cell origin es tag) (sym (cut_longer place log.entries e (omega arith)));
+  within = omega (arith, end_longer log e h, some_size e.change);
+  reads = λ is. ap (λ (es : List Entry). cell origin es tag) (cut_longer place log.entries e (omega (arith, some_size e.change))) ∙ l.reads is;
 }
-legal_longer known origin log e starts h (Write backend tag page place) l = record { index = l.index; entry = l.entry; there = at_longer log.entries (e ∷ []) l.index l.entry l.there; made = l.made; tagged = l.tagged; image = l.image; ends = l.ends }
+legal_longer known origin log e starts h (Write backend tag page place whole) l = let x = l.ends in let low = ends_below log e h l.index l.entry l.entered.there in record {
+  index = l.index;
+  entry = l.entry;
+  entered = record { there = at_longer log.entries (e ∷ []) l.index l.entry l.entered.there; of = l.entered.of };
+  made = l.made;
+  ends = l.ends;
+  image_is = l.image_is;
+  is_whole = l.is_whole;
+  writes = λ is. ap (λ (es : List Entry). cell origin es tag) (cut_longer place log.entries e (omega (arith, some_size e.change))) ∙ l.writes is;
+}
 
 -- a legal call has its place at the log's end or before it
-legal_within : (known : ℕ → Bool) (origin : ℕ → Page) (log : Log) (e : Entry) → LogLaw log → (c : Call) → IsLegal known origin log c → place_of c ≤ log_end log
+legal_within : (known : ℕ → Bool) (origin : ℕ → Option Page) (log : Log) (e : Entry) → LogLaw log → (c : Call) → IsLegal known origin log c → place_of c ≤ log_end log
 legal_within known origin log e h (Read backend tag page place) l = l.within
-legal_within known origin log e h (Write backend tag page place) l = let x = l.ends in let y = ends_below log e h l.index l.entry l.there in omega arith
+legal_within known origin log e h (Write backend tag page place whole) l = let x = l.ends in let y = ends_below log e h l.index l.entry l.entered.there in omega arith
 
 -- A view's calls and front are those of another one
 pub record SameCalls (v w : View) : Type 0 where
@@ -183,7 +192,7 @@ module _ (views : List View) (h : KeptLaw views) (j : ℕ) (v u : View) (there :
         (λ q y t xc xd. h.apart q m n y c d t xc xd same) ec ed;
   }
 
-calls_same : (known : ℕ → Bool) (origin : ℕ → Page) (log : Log) (flushed : ℕ) (v w : View) → SameCalls v w → CallsLaw known origin log flushed v → CallsLaw known origin log flushed w
+calls_same : (known : ℕ → Bool) (origin : ℕ → Option Page) (log : Log) (flushed : ℕ) (v w : View) → SameCalls v w → CallsLaw known origin log flushed v → CallsLaw known origin log flushed w
 calls_same known origin log flushed v w same c = record {
   legal = λ k x e. c.legal k x (subst (λ (l : List Call). get_elem? l k ≡ some x) same.calls e);
   own = λ k x e. own_same v w same.number same.kept (backend_of x) (c.own k x (subst (λ (l : List Call). get_elem? l k ≡ some x) same.calls e));
@@ -195,7 +204,7 @@ calls_same known origin log flushed v w same c = record {
   loaded = subst (λ (n : ℕ). n ≤ flushed) (sym same.flushed) c.loaded;
 }
 
-pub no_calls : (known : ℕ → Bool) (origin : ℕ → Page) (log : Log) (flushed : ℕ) (v : View) → v.calls ≡ [] → (v.emptied ≡ false → v.front ≡ log.base) → v.front ≤ log_end log → v.flushed ≤ flushed → CallsLaw known origin log flushed v
+pub no_calls : (known : ℕ → Bool) (origin : ℕ → Option Page) (log : Log) (flushed : ℕ) (v : View) → v.calls ≡ [] → (v.emptied ≡ false → v.front ≡ log.base) → v.front ≤ log_end log → v.flushed ≤ flushed → CallsLaw known origin log flushed v
 no_calls known origin log flushed v none begins front loaded = record {
   legal = λ k x e. absurd (some-ne-none x (sym (subst (λ (l : List Call). get_elem? l k ≡ some x) none e)));
   own = λ k x e. absurd (some-ne-none x (sym (subst (λ (l : List Call). get_elem? l k ≡ some x) none e)));
@@ -207,7 +216,7 @@ no_calls known origin log flushed v none begins front loaded = record {
   loaded = loaded;
 }
 
-module _ (known : ℕ → Bool) (origin : ℕ → Page) (log : Log) (flushed : ℕ) (views : List View) (h : HistoryLaw known origin log flushed views) where
+module _ (known : ℕ → Bool) (origin : ℕ → Option Page) (log : Log) (flushed : ℕ) (views : List View) (h : HistoryLaw known origin log flushed views) where
   abbrev written : View → ℕ
   written v = writes_in v.calls
 
@@ -297,7 +306,7 @@ module _ (known : ℕ → Bool) (origin : ℕ → Page) (log : Log) (flushed : �
       }
 
 -- A read gets its place, the log's end
-module _ (known : ℕ → Bool) (origin : ℕ → Page) (log : Log) (flushed : ℕ) (views : List View) (h : HistoryLaw known origin log flushed views) (logged : LogLaw log) (i : ℕ) (v w : View) (there : get_elem? views i ≡ some v) (tag : ℕ) (page : Page) (is : known tag ≡ true → page ≡ cell origin log.entries tag)
+module _ (known : ℕ → Bool) (origin : ℕ → Option Page) (log : Log) (flushed : ℕ) (views : List View) (h : HistoryLaw known origin log flushed views) (logged : LogLaw log) (i : ℕ) (v w : View) (there : get_elem? views i ≡ some v) (tag : ℕ) (page : Page) (is : known tag ≡ true → cell origin log.entries tag ≡ Some page)
     (e : Entry) (calls : w.calls ≡ v.calls ++ Read v.number tag page (log_end log) ∷ []) (front : w.front ≡ log_end log) (emptied : w.emptied ≡ v.emptied) (loaded : w.flushed ≡ v.flushed) (number : w.number ≡ v.number) (kept : w.joined_checkpoints ≡ v.joined_checkpoints) where
   pub history_read : HistoryLaw known origin log flushed (set views i w)
   history_read = record {
@@ -311,7 +320,7 @@ module _ (known : ℕ → Bool) (origin : ℕ → Page) (log : Log) (flushed : �
       more g = ap (total g) calls ∙ total-snoc g v.calls (Read v.number tag page (log_end log))
 
       legal : IsLegalRead known origin log tag page (log_end log)
-      legal = record { based = omega arith; within = omega arith; reads = λ has. is has ∙ ap (λ (es : List Entry). cell origin es tag) (sym (cut_all (log_end log) log.entries (ends_below log e logged))) }
+      legal = record { based = end_above log e logged; within = omega arith; reads = λ has. ap (λ (es : List Entry). cell origin es tag) (cut_all (log_end log) log.entries (ends_below log e logged)) ∙ is has }
 
       here : CallsLaw known origin log flushed w
       here = let c = h.calls i v there in record {
@@ -320,7 +329,7 @@ module _ (known : ℕ → Bool) (origin : ℕ → Page) (log : Log) (flushed : �
             (at_end v.calls (Read v.number tag page (log_end log)) x k (subst (λ (l : List Call). get_elem? l k ≡ some x) calls at));
         fronted = λ k x at. ⊎_elim (λ (t : get_elem? v.calls k ≡ some x). let y = c.fronted k x t in let z = c.within in omega arith) (λ (t : (Read v.number tag page (log_end log) ≡ x) × (k ≡ length v.calls)). let y : log_end log ≡ place_of x = ap place_of t.0 in omega arith)
             (at_end v.calls (Read v.number tag page (log_end log)) x k (subst (λ (l : List Call). get_elem? l k ≡ some x) calls at));
-        from_base = λ _. omega arith;
+        from_base = λ _. omega (arith, end_above log e logged);
         reached = λ _ _. subst (λ (l : List Call). HasPlace l w.front) (sym calls) (at_last_place v.calls (Read v.number tag page (log_end log)) w.front (sym front));
         within = omega arith;
         in_order = subst AreInOrder (sym calls) (in_order_longer v.calls (Read v.number tag page (log_end log)) v.front c.in_order c.fronted c.within);
@@ -328,13 +337,13 @@ module _ (known : ℕ → Bool) (origin : ℕ → Page) (log : Log) (flushed : �
       }
 
 -- An entry is made, and the write of it gets its end as its place
-module _ (known : ℕ → Bool) (origin : ℕ → Page) (log : Log) (flushed : ℕ) (views : List View) (h : HistoryLaw known origin log flushed views) (logged : LogLaw log) (i : ℕ) (v w : View) (there : get_elem? views i ≡ some v) (e : Entry) (starts : e.start ≡ log_end log)
-    (calls : w.calls ≡ v.calls ++ Write e.backend e.tag e.image (end_of e) ∷ []) (front : w.front ≡ end_of e) (emptied : w.emptied ≡ v.emptied) (loaded : w.flushed ≡ v.flushed) (number : w.number ≡ v.number) (kept : w.joined_checkpoints ≡ v.joined_checkpoints) (maker : e.backend ≡ v.number) where
+module _ (known : ℕ → Bool) (origin : ℕ → Option Page) (log : Log) (flushed : ℕ) (views : List View) (h : HistoryLaw known origin log flushed views) (logged : LogLaw log) (i : ℕ) (v w : View) (there : get_elem? views i ≡ some v) (e : Entry) (starts : e.start ≡ log_end log)
+    (tag : ℕ) (p : Page) (of : tag_in e.change ≡ Some tag) (whole : (t : ℕ) (q : Page) → e.change ≡ image t q → q ≡ p) (is : known tag ≡ true → cell origin (log.entries ++ e ∷ []) tag ≡ Some p) (calls : w.calls ≡ v.calls ++ Write e.backend tag p (end_of e) (is_image e.change) ∷ []) (front : w.front ≡ end_of e) (emptied : w.emptied ≡ v.emptied) (loaded : w.flushed ≡ v.flushed) (number : w.number ≡ v.number) (kept : w.joined_checkpoints ≡ v.joined_checkpoints) (maker : e.backend ≡ v.number) where
   abbrev longer : Log
   longer = record log { entries = log.entries ++ e ∷ [] }
 
   abbrev call : Call
-  call = Write e.backend e.tag e.image (end_of e)
+  call = Write e.backend tag p (end_of e) (is_image e.change)
 
   more : (g : Call → ℕ) → total g w.calls ≡ total g v.calls + g call
   more g = ap (total g) calls ∙ total-snoc g v.calls call
@@ -345,7 +354,7 @@ module _ (known : ℕ → Bool) (origin : ℕ → Page) (log : Log) (flushed : �
     where
       other : (x : Call) → place_of x ≤ log_end log → weight_at (end_of e) x ≡ 0
       other (Read backend tag page place) low = refl
-      other (Write backend tag page place) low = ap (λ (b : Bool). cond b 1 0) (ne_eqb place (end_of e) (λ z. omega arith))
+      other (Write backend tag page place whole) low = ap (λ (b : Bool). cond b 1 0) (ne_eqb place (end_of e) (λ z. omega (arith, some_size e.change)))
 
   later : (j : ℕ) (u : View) → CallsLaw known origin log flushed u → CallsLaw known origin longer flushed u
   later j u c = record {
@@ -354,19 +363,19 @@ module _ (known : ℕ → Bool) (origin : ℕ → Page) (log : Log) (flushed : �
     fronted = c.fronted;
     from_base = c.from_base;
     reached = c.reached;
-    within = let y = c.within in omega (arith, end_longer log e logged);
+    within = let y = c.within in omega (arith, end_longer log e logged, some_size e.change);
     in_order = c.in_order;
     loaded = c.loaded;
   }
 
   here : CallsLaw known origin longer flushed w
   here = let c = later i v (h.calls i v there) in record {
-    legal = λ k x at. ⊎_elim (λ (t : get_elem? v.calls k ≡ some x). c.legal k x t) (λ (t : (call ≡ x) × (k ≡ length v.calls)). subst (IsLegal known origin longer) t.0 (record { index = length log.entries; entry = e; there = at_last log.entries; made = refl; tagged = refl; image = refl; ends = refl })) (at_end v.calls call x k (subst (λ (l : List Call). get_elem? l k ≡ some x) calls at));
+    legal = λ k x at. ⊎_elim (λ (t : get_elem? v.calls k ≡ some x). c.legal k x t) (λ (t : (call ≡ x) × (k ≡ length v.calls)). subst (IsLegal known origin longer) t.0 (record { index = length log.entries; entry = e; entered = record { there = at_last log.entries; of = of }; made = refl; ends = refl; image_is = whole; is_whole = refl; writes = λ has. ap (λ (es : List Entry). cell origin es tag) (cut_all (end_of e) longer.entries all_within) ∙ is has })) (at_end v.calls call x k (subst (λ (l : List Call). get_elem? l k ≡ some x) calls at));
     own = λ k x at. ⊎_elim (λ (t : get_elem? v.calls k ≡ some x). own_same v w number kept (backend_of x) (c.own k x t)) (λ (t : (call ≡ x) × (k ≡ length v.calls)) other. absurd (other (ap backend_of (sym t.0) ∙ maker ∙ sym number)))
         (at_end v.calls call x k (subst (λ (l : List Call). get_elem? l k ≡ some x) calls at));
     fronted = λ k x at. ⊎_elim (λ (t : get_elem? v.calls k ≡ some x). let y = c.fronted k x t in let z = (h.calls i v there).within in omega arith) (λ (t : (call ≡ x) × (k ≡ length v.calls)). let y : end_of e ≡ place_of x = ap place_of t.0 in omega arith)
         (at_end v.calls call x k (subst (λ (l : List Call). get_elem? l k ≡ some x) calls at));
-    from_base = λ _. omega arith;
+    from_base = λ _. omega (arith, end_above log e logged);
     reached = λ _ _. subst (λ (l : List Call). HasPlace l w.front) (sym calls) (at_last_place v.calls call w.front (sym front));
     within = omega (arith, end_longer log e logged);
     in_order = let low = (h.calls i v there).within in subst AreInOrder (sym calls) (in_order_longer v.calls call v.front c.in_order c.fronted (omega arith));
@@ -377,13 +386,16 @@ module _ (known : ℕ → Bool) (origin : ℕ → Page) (log : Log) (flushed : �
       at_last [] = refl
       at_last (x ∷ l) = at_last l
 
+      all_within : (k : ℕ) (x : Entry) → get_elem? longer.entries k ≡ some x → end_of x ≤ end_of e
+      all_within k x at = ⊎_elim (λ (t : get_elem? log.entries k ≡ some x). let low = ends_below log e logged k x t in omega arith) (λ (t : (e ≡ x) × (k ≡ length log.entries)). let same : end_of e ≡ end_of x = ap end_of t.0 in omega arith) (at_end log.entries e x k at)
+
   pub history_written : HistoryLaw known origin longer flushed (set views i w)
   history_written = record {
     calls = λ j u at. ⊎_elim (λ (t : (j ≡ i) × (w ≡ u)). subst (CallsLaw known origin longer flushed) t.1 here) (λ (t : (j ≢ i) × (get_elem? views j ≡ some u)). later j u (h.calls j u t.1)) (at_set views i j w u at);
     kept = kept_set views h.kept i v w there kept emptied;
     counted = let s = more write_weight in let z : write_weight call ≡ 1 = refl in omega (arith, total-set (λ (x : View). writes_in x.calls) views i v w there, length-append log.entries (e ∷ []), h.counted);
     once = λ k x at. let p : ℕ = end_of x in let s = more (weight_at p) in let sums = total-set (λ (y : View). writes_at p y.calls) views i v w there in ⊎_elim
-        (λ (t : get_elem? log.entries k ≡ some x). let low = ends_below log e logged k x t in let z : weight_at p call ≡ 0 = ap (λ (b : Bool). cond b 1 0) (ne_eqb (end_of e) p (λ q. omega arith)) in let was = h.once k x t in omega arith)
+        (λ (t : get_elem? log.entries k ≡ some x). let low = ends_below log e logged k x t in let z : weight_at p call ≡ 0 = ap (λ (b : Bool). cond b 1 0) (ne_eqb (end_of e) p (λ q. omega (arith, some_size e.change))) in let was = h.once k x t in omega arith)
         (λ (t : (e ≡ x) × (k ≡ length log.entries)). let same : end_of e ≡ p = ap end_of t.0 in let z : weight_at p call ≡ 1 = ap (λ (b : Bool). cond b 1 0) (eq-eqb (end_of e) p same) in
         let none : total (λ (y : View). writes_at p y.calls) views ≡ 0 = total-none (λ (y : View). writes_at p y.calls) views (λ j u q. subst (λ (n : ℕ). writes_at n u.calls ≡ 0) same (none_yet j u q)) in omega arith)
         (at_end log.entries e x k at);

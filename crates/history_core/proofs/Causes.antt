@@ -25,7 +25,7 @@ use Rattle.history_core.specs.State.{Lane, State, Store, failed, opening}
 use Rattle.history_core.specs.Lanes as lane_kinds
 use Rattle.history_core.specs.Lanes.{swept_by, LaneKind, lane_after, lane_hold_after, lane_met_by, fault_of, syncs, is_failed_write}
 use Rattle.history_core.specs.Steps.{LaneAlone, MayWriteLane, Notes, Step, pools, lanes, writes, notes, logs, enters, reads, Event, Run, rests, goes, stepped, looked, aside, pool_after, logged_noting, pool_noting, paged, laned, has_read, has_written, words, worded}
-use Rattle.history_core.specs.Log.{record_size}
+use Rattle.history_core.specs.Log.{change_size, Change}
 use Rattle.history_core.specs.Device as log_kinds
 use Rattle.history_core.specs.Device.{LogKind, view_logged}
 use Rattle.history_core.specs.Causes.{mark_weight, NoneMarked, KnowsNoOutput, AllQuiet, MarksLaw}
@@ -273,8 +273,8 @@ module _ (s : State) (h : HistoryInvariant s) (m : MarksLaw s) where
   aside_marks i v w there more a b c none = let x = one_view i v w there more (λ q z. same_quiet v w a b c (q.views i v there)) none in record { frames = x.0.frames; blocks = x.0.blocks; views = x.1 }
 
 -- an entry is made
-entered_marks : (s : State) (h : HistoryInvariant s) → MarksLaw s → (i f : ℕ) (p : Page) (v : View) → get_elem? s.pool.core.views i ≡ some v → f < s.pool.core.frames → {t : State} → t.pool.core.views ≡ set s.pool.core.views i (has_written (s.end + record_size) (s.pool.core.frame f).tag p (paged (make_entry p) s.pool f v)) → t.pool.core.frames ≡ s.pool.core.frames → t.pool.core.frame ≡ put s.pool.core.frame f (s.pool.core.frame f) → ((tag : ℕ) → failed t tag ≡ failed s tag) → MarksLaw t
-entered_marks s h m i f p v there inside {t = t} vs size frames same none = let w : View = has_written (s.end + record_size) (s.pool.core.frame f).tag p (paged (make_entry p) s.pool f v) in let more = or_more v.dirtied_or_synced false in
+entered_marks : (s : State) (h : HistoryInvariant s) → MarksLaw s → (i f : ℕ) (p : Page) (ch : Change) (v : View) → get_elem? s.pool.core.views i ≡ some v → f < s.pool.core.frames → {t : State} → t.pool.core.views ≡ set s.pool.core.views i (has_written ch (s.end + change_size ch) (s.pool.core.frame f).tag p (paged (make_entry p) s.pool f v)) → t.pool.core.frames ≡ s.pool.core.frames → t.pool.core.frame ≡ put s.pool.core.frame f (s.pool.core.frame f) → ((tag : ℕ) → failed t tag ≡ failed s tag) → MarksLaw t
+entered_marks s h m i f p ch v there inside {t = t} vs size frames same none = let w : View = has_written ch (s.end + change_size ch) (s.pool.core.frame f).tag p (paged (make_entry p) s.pool f v) in let more = or_more v.dirtied_or_synced false in
     let x = one_view s h m i v w there more (λ q z. let y = q.views i v there in record { output = either_false v.had_output false y.output refl; met = y.met; out = y.out }) (subst NoneMarked vs none) in record {
       frames = λ g below. ap (λ (y : ℕ → Frame). (y g).word.dirty) frames ∙ quiet_put s.pool.core.frame s.pool.core.frames f (s.pool.core.frame f) x.0.frames (x.0.frames f inside) g (subst (λ (z : ℕ). g < z) size below);
       blocks = λ tag. same tag ∙ x.0.blocks tag;
@@ -299,7 +299,7 @@ marks_kept (lanes {s = s} i q k v there live low a alone) h m = lanes_marks s h 
 marks_kept (writes {s = s} i q f k v there live low inside a x) h m = writes_marks s h m i q f k v there inside x
 marks_kept (notes {s = s} i q f noted k v there live low inside a x) h m = notes_marks s h m i q f noted k v there inside x
 marks_kept (logs {s = s} i k v there live a record_is) h m = λ none. let x = aside_marks s h m i v (view_logged k v) there (omega arith) refl (no_write_fault k v) refl none in record { frames = x.frames; blocks = x.blocks; views = x.views }
-marks_kept (enters {s = s} i f p v there live inside x) h m = entered_marks s h m i f p v there inside refl refl refl (λ tag. refl)
+marks_kept (enters {s = s} i f p ch v there live inside x) h m = entered_marks s h m i f p ch v there inside refl refl refl (λ tag. refl)
 marks_kept (reads {s = s} i f tag p v there live inside a) h m = aside_marks s h m i v (looked (seen.LogEnd s.end) (has_read s.end tag p v)) there (omega arith) refl refl refl
 marks_kept (words {s = s} i k v there live a) h m = λ none. let x = aside_marks s h m i v (worded k s v) there (omega arith) refl refl refl none in record { frames = x.frames; blocks = x.blocks; views = x.views }
 

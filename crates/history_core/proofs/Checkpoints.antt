@@ -138,7 +138,7 @@ writes_there p is = goes (pools (page_steps.cores (pin_steps.touches 1 0 (pins.p
     (goes (pools (page_steps.cores (pin_steps.touches 1 0 pins.lock_header (second_of (c10 p)) refl refl (lit< tt) (record { unlocked = refl }) (at_frame (λ (l : Link). l.header ≡ None) (second_of (c10 p)) _ refl refl refl))) tt)
     (goes (pools (page_steps.touches 1 0 clear_just_dirtied (second_of (c11 p)) refl refl (lit< tt) (record { held = refl; right = refl }) tt) tt)
     (goes (lanes 1 0 take_lane (second_of (c12 p)) refl refl (lit< tt) (record { free = refl }) tt)
-    (goes (lanes 1 0 (lane_out sample_lane) (second_of (c13 p)) refl refl (lit< tt) (record { held = refl; home = refl; reads = refl; writes = refl; pages = λ blocks k b e at. absurd (cc) }) tt)
+    (goes (lanes 1 0 (lane_out sample_lane) (second_of (c13 p)) refl refl (lit< tt) (record { held = refl; home = refl; reads = refl; writes = refl; pages = λ blocks k b e at. absurd (cc); marks = λ k m at. absurd (cc) }) tt)
     (goes (writes 1 0 0 (write_block 0 7 p) (second_of (c14 p)) refl refl (lit< tt) (lit< tt) (record { out = λ e. cc; once = refl }) (refl, record { tagged = refl; lane = refl; page = refl; right = record { right = refl }; log_first = is_flushed p is }))
     (goes (notes 1 0 0 false (note_write true) (second_of (c15 p)) refl refl (lit< tt) (lit< tt) (record { out = λ e. cc; counts = λ taken e. record { failed = λ z. absurd (cc); all = λ z. absurd (cc); read_rose = λ z. below taken.read_faults z; write_rose = λ z. below taken.write_faults z } }) (p, record { was_written = refl; lane = refl; page = refl; right = record { right = refl } }))
     (goes (lanes 1 0 leave_lane (second_of (c16 p)) refl refl (lit< tt) (record { held = refl; home = refl }) tt)
@@ -154,7 +154,7 @@ drops p = goes (pools (page_steps.cores (pin_steps.touches 1 0 pins.unpin (secon
 
 syncs : (p : Page) → Run sync (c22 p) (c27 p)
 syncs p = goes (lanes 1 0 take_lane (second_of (c22 p)) refl refl (lit< tt) (record { free = refl }) tt)
-    (goes (lanes 1 0 (lane_out sample_lane) (second_of (c23 p)) refl refl (lit< tt) (record { held = refl; home = refl; reads = refl; writes = refl; pages = λ blocks k b e at. absurd (cc) }) tt)
+    (goes (lanes 1 0 (lane_out sample_lane) (second_of (c23 p)) refl refl (lit< tt) (record { held = refl; home = refl; reads = refl; writes = refl; pages = λ blocks k b e at. absurd (cc); marks = λ k m at. absurd (cc) }) tt)
     (goes (lanes 1 0 sync_lane (second_of (c24 p)) refl refl (lit< tt) (record { out = λ e. cc; once = refl }) tt)
     (goes (lanes 1 0 (lane_back false) (second_of (c25 p)) refl refl (lit< tt) (record { out = λ e. cc; counts = λ taken e. record { failed = λ z. absurd (cc); all = λ z. absurd (cc); read_rose = λ z. below taken.read_faults z; write_rose = λ z. below taken.write_faults z } }) tt)
     (goes (lanes 1 0 leave_lane (second_of (c26 p)) refl refl (lit< tt) (record { held = refl; home = refl }) tt)

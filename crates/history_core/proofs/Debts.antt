@@ -14,10 +14,11 @@ use Rattle.pin_core.specs.Kinds as pin_kinds
 use Rattle.page_core.specs.State.{Block}
 use Rattle.page_core.specs.Kinds as kinds
 use Rattle.page_core.specs.Kinds.{Kind, Allowed, frame_after, link_after}
-use Rattle.history_core.specs.Log.{Entry, end_of}
+use Rattle.history_core.specs.Log.{Entry, IsEntryOf, end_of}
 use Rattle.history_core.specs.Steps.{IsPlain}
 use Rattle.history_core.specs.Debts.{Taken, IsCurrent, IsStoredOrLeft, LinkDebt, ViewDebts, Debts, has_visited, has_left_to_write}
 use Rattle.history_core.proofs.Blocks.{unframed_put}
+use Rattle.history_core.proofs.Logs.{entry_at}
 use Rattle.grid.specs.Shape.{put}
 use Rattle.grid.proofs.Lists.{at_set, put_at, put_else}
 
@@ -33,8 +34,8 @@ pub data FrameMoves (t : Taken) (fr fr' : Frame) : Type 0 where
 
 module _ (t : Taken) where
   stored_or_left_moves : (fr fr' : Frame) (upto : ℕ) (visited left_to_write : Bool) → FrameMoves t fr fr' → IsStoredOrLeft t fr upto visited left_to_write → IsStoredOrLeft t fr' upto visited left_to_write
-  stored_or_left_moves fr fr' upto visited left_to_write (settles current) h = λ p named k e at tagged le lt. let x = current named k e at tagged in absurd (omega arith)
-  stored_or_left_moves fr fr' upto visited left_to_write (stays same needed dirty) h = λ p named k e at tagged le lt. let x = h p (λ z. named (same ∙ z)) k e at (tagged ∙ same) le (subst (λ (z : ℕ). t.upto z < end_of e) same lt) in (needed x.0, x.1)
+  stored_or_left_moves fr fr' upto visited left_to_write (settles current) h = λ p named k e of le lt. let x = current named k e of in absurd (omega arith)
+  stored_or_left_moves fr fr' upto visited left_to_write (stays same needed dirty) h = λ p named k e of le lt. let x = h p (λ z. named (same ∙ z)) k e (entry_at t.entries fr'.tag fr.tag k e same of) le (subst (λ (z : ℕ). t.upto z < end_of e) same lt) in (needed x.0, x.1)
 
   clean_moves : (fr fr' : Frame) → FrameMoves t fr fr' → (fr.tag ≢ no_tag → fr.word.dirty ≡ false → IsCurrent t fr.tag) → fr'.tag ≢ no_tag → fr'.word.dirty ≡ false → IsCurrent t fr'.tag
   clean_moves fr fr' (settles current) h named clean = current named
@@ -79,11 +80,11 @@ module _ (t : Taken) where
 
     -- a load passes a frame that isn't dirty, and takes one off the list that doesn't carry BM_CHECKPOINT_NEEDED
     loaded : (fr.tag ≢ no_tag → fr.word.dirty ≡ false → IsCurrent t fr.tag) → LinkDebt t fr upto l → IsStoredOrLeft t fr upto (l.visited || not fr.word.dirty) (l.left_to_write && fr.word.checkpoint_needed)
-    loaded clean h p named k e at tagged le lt = by_dirty fr.word.dirty refl
+    loaded clean h p named k e of le lt = by_dirty fr.word.dirty refl
       where
         by_dirty : (b : Bool) → fr.word.dirty ≡ b → (fr.word.checkpoint_needed ≡ true) × ((l.left_to_write && fr.word.checkpoint_needed) ≡ true)
-        by_dirty false z = let x = clean named z k e at tagged in absurd (omega arith)
-        by_dirty true z = let x = h.stored_or_left (or_left l.visited fr.word.dirty p z) named k e at tagged le lt in (x.0, both_true l.left_to_write fr.word.checkpoint_needed x.1 x.0)
+        by_dirty false z = let x = clean named z k e of in absurd (omega arith)
+        by_dirty true z = let x = h.stored_or_left (or_left l.visited fr.word.dirty p z) named k e of le lt in (x.0, both_true l.left_to_write fr.word.checkpoint_needed x.1 x.0)
           where
             or_left : (a b : Bool) → (a || not b) ≡ true → b ≡ true → a ≡ true
             or_left true b y w = refl
@@ -140,7 +141,7 @@ module _ (t : Taken) where
     pages_move (kinds.end_io Bad) x a h = stays refl (λ e. e) (λ e. e)
 
     pub pages_link : (k : Kind) → IsPlain k → Allowed k b fr l → LinkDebt t fr upto l → LinkDebt t (frame_after k b fr) upto (link_after k b fr l)
-    pages_link kinds.need_checkpoint x a h = record { stored_or_left = λ p named k e at tagged le lt. (refl, refl); done = h.done }
+    pages_link kinds.need_checkpoint x a h = record { stored_or_left = λ p named k e of le lt. (refl, refl); done = h.done }
     pages_link (kinds.end_io end) x a h = link_moves fr (frame_after (kinds.end_io end) b fr) upto l (link_after (kinds.end_io end) b fr l) (pages_move (kinds.end_io end) x a h) (record { visited = refl; left_to_write = refl; done = λ e. absurd (cc) }) h
     pages_link kinds.load_content x a h = h
     pages_link kinds.mark_dirty x a h = link_moves fr (frame_after kinds.mark_dirty b fr) upto l (link_after kinds.mark_dirty b fr l) (pages_move kinds.mark_dirty x a h) (record { visited = refl; left_to_write = refl; done = λ e. e }) h
@@ -228,21 +229,21 @@ module _ (t : Taken) (n : ℕ) (frame : ℕ → Frame) (end : ℕ) (logged : ℕ
 
 -- The lanes change: no block's entries go, and a block's last write is good only where it was, or where all its entries are in the lane now
 module _ (t t' : Taken) (same : t'.entries ≡ t.entries) (grows : (tag : ℕ) → t.upto tag ≤ t'.upto tag) (good : (tag : ℕ) → t'.failed tag ≡ false → (t.failed tag ≡ false) ⊎ IsCurrent t' tag) where
-  still_there : (k : ℕ) (e : Entry) → get_elem? t'.entries k ≡ some e → get_elem? t.entries k ≡ some e
-  still_there k e at = subst (λ (y : List Entry). get_elem? y k ≡ some e) same at
+  still_there : (tag k : ℕ) (e : Entry) → IsEntryOf t'.entries tag k e → IsEntryOf t.entries tag k e
+  still_there tag k e of = subst (λ (y : List Entry). IsEntryOf y tag k e) same of
 
   current_later : (tag : ℕ) → IsCurrent t tag → IsCurrent t' tag
-  current_later tag h k e at tagged = let x = h k e (still_there k e at) tagged in let y = grows tag in omega arith
+  current_later tag h k e of = let x = h k e (still_there tag k e of) in let y = grows tag in omega arith
 
   stored_or_left_later : (fr : Frame) (upto : ℕ) (visited left_to_write : Bool) → IsStoredOrLeft t fr upto visited left_to_write → IsStoredOrLeft t' fr upto visited left_to_write
-  stored_or_left_later fr upto visited left_to_write h p named k e at tagged le lt = let y = grows fr.tag in h p named k e (still_there k e at) tagged le (omega arith)
+  stored_or_left_later fr upto visited left_to_write h p named k e of le lt = let y = grows fr.tag in h p named k e (still_there fr.tag k e of) le (omega arith)
 
   pub debts_later : (n : ℕ) (frame : ℕ → Frame) (end : ℕ) (logged : ℕ → Option Page) (views : List View) → Debts t n frame end logged views → Debts t' n frame end logged views
   debts_later n frame end logged views h = record {
-    named = λ k e at. h.named k e (still_there k e at);
+    named = λ k tag e of. h.named k tag e (still_there tag k e of);
     clean = λ f below named clean. current_later (frame f).tag (h.clean f below named clean);
     unframed = λ tag named none. current_later tag (h.unframed tag named none);
-    positioned = λ tag k p e is at tagged. h.positioned tag k p e is (still_there k e at) tagged;
+    positioned = λ tag k p e is of. h.positioned tag k p e is (still_there tag k e of);
     unknown = λ tag none. current_later tag (h.unknown tag none);
     each = λ i v there. let d = h.each i v there in record {
       begun = d.begun;

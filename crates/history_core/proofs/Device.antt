@@ -34,7 +34,7 @@ module _ (w : Written) (d : Device) (saw : Bool) (h : LogHold) where
     where
       by_record : (o : Option (List ℕ)) → h.appended ≡ o → IsLeft w d
       by_record None e = record { rest = []; is_bytes = q.bytes (none_else t q c le held e) up ∙ sym (append-nil w.bytes); short = omega arith }
-      by_record (Some r) e = let x = c.appended r e in let f = x.full in record { rest = r; is_bytes = x.is_bytes; short = omega arith }
+      by_record (Some r) e = let x = c.appended r e in let f = x.short in record { rest = r; is_bytes = x.is_bytes; short = omega arith }
 
   take_keeps : LogAllowed take_log d h → Keeps_by take_log w d saw h
   take_keeps a = record {
@@ -180,7 +180,7 @@ module _ (w : Written) (d : Device) (saw : Bool) (h : LogHold) where
     others = λ t n m q c le e. e;
   }
     where
-      unheld : LogLink w d saw h → h.held ≡ false → (h.out ≡ None) × (h.appended ≡ None) × (h.synced ≡ false)
+      unheld : LogLink w d saw h → h.held ≡ false → (h.out ≡ None) × (h.appended ≡ None) × (h.synced ≡ false) × (h.redo ≡ None)
       unheld c e = c.resting e
 
       by_held : (b : Bool) → h.held ≡ b → (e : ℕ) → cond h.held (Some w.end) h.end ≡ Some e → LogLink w d saw h → (h.held ≡ true) × (e ≡ w.end)

@@ -12,7 +12,7 @@ use Rattle.pin_core.specs.Turns.{view_turned}
 use Rattle.pin_core.specs.Steps as pin_steps
 use Rattle.page_core.specs.Steps as page_steps
 use Rattle.page_core.specs.Kinds.{begin_write, make_entry}
-use Rattle.history_core.specs.Log.{record_size}
+use Rattle.history_core.specs.Log.{change_size}
 use Rattle.history_core.specs.Lanes.{lane_back}
 use Rattle.history_core.specs.Device.{view_logged}
 use Rattle.history_core.specs.State.{State, Store, opening}
@@ -57,7 +57,7 @@ ends_kept (lanes {s = s} i q k v there live low a alone) h m = ends_same s.end s
 ends_kept (writes {s = s} i q f k v there live low inside a x) h m = ends_same s.end s.pool.core.views m i v (laned k q v (paged begin_write s.pool f v)) there refl
 ends_kept (notes {s = s} i q f noted k v there live low inside a x) h m = ends_same s.end s.pool.core.views m i v (laned (lane_back noted) q v (paged k (pool_noting k s f) f v)) there refl
 ends_kept (logs {s = s} i k v there live a record_is) h m = ends_same s.end s.pool.core.views m i v (view_logged k v) there refl
-ends_kept (enters {s = s} i f p v there live inside x) h m = let low = m i v there in ends_set s.end s.pool.core.views m (s.end + record_size) i (has_written (s.end + record_size) (s.pool.core.frame f).tag p (paged (make_entry p) s.pool f v)) (omega arith) (omega arith)
+ends_kept (enters {s = s} i f p ch v there live inside x) h m = let low = m i v there in ends_set s.end s.pool.core.views m (s.end + change_size ch) i (has_written ch (s.end + change_size ch) (s.pool.core.frame f).tag p (paged (make_entry p) s.pool f v)) (omega arith) (omega arith)
 ends_kept (reads {s = s} i f tag p v there live inside a) h m = ends_seen s.end s.pool.core.views m i v (looked (seen.LogEnd s.end) (has_read s.end tag p v)) there (omega arith)
 ends_kept (words {s = s} i k v there live a) h m = ends_seen s.end s.pool.core.views m i v (worded k s v) there (seen_more k s v)
 

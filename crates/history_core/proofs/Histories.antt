@@ -1,6 +1,5 @@
 -- What the law says in the field's words.
 use Rattle.std.proofs.Common.{◌≡◌, ◌≢◌, ◌⊎◌, ℕ, zero, suc, ◌+◌, ◌<◌, ◌≤◌, Bool, true, false, cond, List, [], ◌∷◌, ◌++◌, length, Option, Some, None, get_or-set_same, inl, inr, sym, refl, ◌∙◌, subst, ⊎_elim, arith, lit<, ap}
-use Rattle.std.proofs.lemmas.Option.{same_Some}
 use mathlib.Core.Logic.{dite}
 use mathlib.Core.Option.{some}
 use native.Mathlib.Decide.{ℕ_discrete}
@@ -16,7 +15,7 @@ use Rattle.pin_core.specs.declared.view.LoadedWord.TheVariants as seen
 use Rattle.page_core.specs.Kinds.{make_entry}
 use Rattle.page_core.proofs.Histories as pages
 use Rattle.page_core.proofs.Histories.{flag_count}
-use Rattle.history_core.specs.Log.{Entry, record_size, cell, cut}
+use Rattle.history_core.specs.Log.{Entry, Change, image, ranges, resize, is_image, change_size, changed_page, end_of, cell, cut}
 use Rattle.history_core.specs.State.{Lane, State, stored}
 use Rattle.history_core.specs.Lanes as lane_kinds
 use Rattle.history_core.specs.Lanes.{swept_by, LaneKind, LaneAllowed, lane_after, lane_hold_after}
@@ -24,13 +23,13 @@ use Rattle.history_core.specs.Device.{appenders, log_weigh, resting_weight}
 use Rattle.history_core.specs.Device as log
 use Rattle.history_core.specs.Homes.{IsUnframed}
 use Rattle.history_core.specs.Invariant.{HistoryInvariant}
-use Rattle.history_core.specs.Steps.{looked, stepped, laned, lanes, paged, has_read, has_written, new_entry, MayWriteLane, writes, enters, reads}
+use Rattle.history_core.specs.Steps.{looked, stepped, laned, lanes, paged, has_read, has_written, new_entry, MakesPage, MayWriteLane, writes, enters, reads}
 use Rattle.history_core.specs.Histories.{IsReached, CallsAreLegal, ReadsAtBase, SyncsMakeDurable, JoinedAreApart, CallsAreOwn, FrontsAreReached, CallsAreInOrder, LoadedIsFlushed, LanesGoOutFlushed, NotedWritesAreDone, holds_log, LogIsHeld, WritesAreEntries, ReadsStand, WritesStand, LogBeforeData, LanesHoldFlushedPages, IsStored, CleanBlocksAreStored, FramesAreSound, FramesHoldCells, LogWords, holds_lane, LanesAreHeld, EntriesAreDurable, DeviceHoldsLog}
 use Rattle.history_core.specs.Rest.{RestLaw}
-use Rattle.history_core.proofs.Logs.{cut_none_below, end_longer, cell_longer}
-use Rattle.history_core.proofs.Opening.{opens, cell_none}
-use Rattle.history_core.proofs.Stepping.{step_keeps, run_keeps}
-use Rattle.grid.proofs.Lists.{set_here, put_at, put_here}
+use Rattle.history_core.proofs.Logs.{some_size, cell_longer, cell_none, changed_image, cut_none_below, starts_above, end_longer}
+use Rattle.history_core.proofs.Opening.{opens}
+use Rattle.history_core.proofs.Stepping.{step_keeps, run_keeps, makes_of, makes_whole, page_of, logged_there, cell_now}
+use Rattle.grid.proofs.Lists.{set_here, put_at}
 use Rattle.grid.proofs.Sums.{total-count, total-none, total-same, total-add}
 
 pub reached : (s : State) → IsReached s → HistoryInvariant s
@@ -54,12 +53,12 @@ framed (suc n) frame tag = ⊎_elim
     (λ (none : IsUnframed n frame tag). dite (ℕ_discrete (frame n).tag tag) (λ e. inl (n, omega arith, e)) (λ o. inr (λ f below. dite (ℕ_discrete f n) (λ e. subst (λ (z : ℕ). (frame z).tag ≢ tag) (sym e) o) (λ other. none f (omega arith)))))
     (framed n frame tag)
 
-at_last : {A : Type 0} (l : List A) (a : A) → get_elem? (l ++ a ∷ []) (length l) ≡ some a
+pub at_last : {A : Type 0} (l : List A) (a : A) → get_elem? (l ++ a ∷ []) (length l) ≡ some a
 at_last [] a = refl
 at_last (x ∷ l) a = at_last l a
 
 -- a write of a frame's page asks for the log to be flushed, and is made while the lane is out
-loaded : (k : LaneKind) (s : State) (n f : ℕ) (h : LaneHold) (l : Link) → MayWriteLane k s n f h l → lsn_of (s.pool.core.frame f).page ≤ h.flushed
+pub loaded : (k : LaneKind) (s : State) (n f : ℕ) (h : LaneHold) (l : Link) → MayWriteLane k s n f h l → lsn_of (s.pool.core.frame f).page ≤ h.flushed
 loaded (lane_kinds.write_block g tag p) s n f h l (at, x) = subst (λ (z : Page). lsn_of z ≤ h.flushed) (sym x.page) x.log_first
 loaded (lane_kinds.fail_write g tag p faults) s n f h l (at, x) = x.log_first
 loaded lane_kinds.take_lane s n f h l x = absurd x
@@ -71,7 +70,7 @@ loaded lane_kinds.sync_lane s n f h l x = absurd x
 loaded (lane_kinds.fail_sync faults) s n f h l x = absurd x
 loaded (lane_kinds.lane_back noted) s n f h l x = absurd x
 
-is_out : (k : LaneKind) (s : State) (n f : ℕ) (h : LaneHold) (l : Link) → MayWriteLane k s n f h l → LaneAllowed k (s.lane n) h → h.out ≢ None
+pub is_out : (k : LaneKind) (s : State) (n f : ℕ) (h : LaneHold) (l : Link) → MayWriteLane k s n f h l → LaneAllowed k (s.lane n) h → h.out ≢ None
 is_out (lane_kinds.write_block g tag p) s n f h l x a = a.out
 is_out (lane_kinds.fail_write g tag p faults) s n f h l x a = a.call.out
 is_out lane_kinds.take_lane s n f h l x a = absurd x
@@ -86,6 +85,15 @@ is_out (lane_kinds.lane_back noted) s n f h l x a = absurd x
 -- a lane's sync makes what it holds durable
 pub syncs : (s : State) → SyncsMakeDurable s
 syncs s _ _ tag t (lanes i n k v there live low a alone) same = ap (λ (y : Lane). y.synced_upto tag) (put_at s.lane n (lane_after k (s.lane n)) (s.lane_of tag) same) ∙ ap (λ (z : ℕ). (s.lane z).stored_upto tag) (sym same)
+
+-- a whole page is the block's page once it is entered
+cell_made : (origin : ℕ → Option Page) (es : List Entry) (e : Entry) (tag : ℕ) (p : Page) (l : Link) → is_image e.change ≡ true → MakesPage e.change (end_of e) tag p l → cell origin (es ++ e ∷ []) tag ≡ Some p
+cell_made origin es e tag p l whole makes = cell_longer origin es e tag ∙ by_change e.change whole makes
+  where
+    by_change : (c : Change) → is_image c ≡ true → MakesPage c (end_of e) tag p l → changed_page c (end_of e) tag (cell origin es tag) ≡ Some p
+    by_change (image t q) whole makes = changed_image t (end_of e) tag q (cell origin es tag) (sym makes.0) ∙ ap (λ (x : Page). Some x) makes.1
+    by_change (ranges t spans) whole makes = absurd (cc)
+    by_change (resize fork old new) whole makes = absurd makes
 
 module _ (s : State) (h : HistoryInvariant s) where
   pub legal : CallsAreLegal s
@@ -106,7 +114,7 @@ module _ (s : State) (h : HistoryInvariant s) where
   pub reads_stand : ReadsStand s
   reads_stand _ _ t (reads i f tag p v there live inside a) = let w : View = looked (seen.LogEnd s.end) (has_read s.end tag p v) in let here = set_here s.pool.core.views i v w there in let k = step_keeps (reads i f tag p v there live inside a) h in
       let c = h.history.calls i v there in let e = h.ends in let is : tag ≡ (s.pool.core.frame f).tag = sym ((h.pool.core.grid.cells i v f there inside).remembers tag a.remembered).1 in
-      let cell_is : s.known tag ≡ true → p ≡ cell s.origin (cut s.end s.log.entries) tag = ((k.history.calls i w here).legal (length v.calls) (Read v.number tag p s.end) (at_last v.calls (Read v.number tag p s.end))).reads in (
+      let cell_is : s.known tag ≡ true → cell s.origin (cut s.end s.log.entries) tag ≡ Some p = ((k.history.calls i w here).legal (length v.calls) (Read v.number tag p s.end) (at_last v.calls (Read v.number tag p s.end))).reads in (
         v,
         w,
         there,
@@ -118,7 +126,7 @@ module _ (s : State) (h : HistoryInvariant s) where
           added = ap (λ (z : ℕ). v.calls ++ Read v.number z p s.end ∷ []) is;
           front = refl;
           place_loads = refl;
-          is_cell = subst (λ (z : ℕ). s.known z ≡ true → p ≡ cell s.origin (cut s.end s.log.entries) z) is cell_is;
+          is_cell = subst (λ (z : ℕ). s.known z ≡ true → cell s.origin (cut s.end s.log.entries) z ≡ Some p) is cell_is;
           later = λ j x at. let y = c.fronted j x at in let z = c.within in omega arith;
           above = let z = c.within in omega arith;
         },
@@ -126,32 +134,34 @@ module _ (s : State) (h : HistoryInvariant s) where
 
   -- no entry ends at the base
   none_cut : cut s.log.base s.log.entries ≡ []
-  none_cut = cut_none_below s.log.base s.log.entries (λ k e at. let x = h.log.chained k e at in omega arith)
+  none_cut = cut_none_below s.log.base s.log.entries (λ k e at. let x = starts_above s.log e h.log k e at in omega (arith, some_size e.change))
 
   pub at_base : ReadsAtBase s
-  at_base i k backend tag page v there at known = ((h.history.calls i v there).legal k (Read backend tag page s.log.base) at).reads known ∙ ap (λ (es : List Entry). cell s.origin es tag) none_cut ∙ (λ j. cell_none s.origin j tag)
+  at_base i k backend tag page v there at known = sym (cell_none s.origin tag) ∙ ap (λ (es : List Entry). cell s.origin es tag) (sym none_cut) ∙ ((h.history.calls i v there).legal k (Read backend tag page s.log.base) at).reads known
 
   pub writes_stand : WritesStand s
-  writes_stand _ _ _ t (enters i f p v there live inside a) = let tag = (s.pool.core.frame f).tag in let w : View = has_written (s.end + record_size) tag p (paged (make_entry p) s.pool f v) in let here = set_here s.pool.core.views i v w there in
-      let c = h.history.calls i v there in let e = h.ends in let entry = new_entry s v.number tag p in (
+  writes_stand _ _ _ _ t (enters i f p ch v there live inside a) = let tag = (s.pool.core.frame f).tag in let w : View = has_written ch (s.end + change_size ch) tag p (paged (make_entry p) s.pool f v) in let here = set_here s.pool.core.views i v w there in
+      let c = h.history.calls i v there in let e = h.ends in let entry = new_entry s v.number ch in let end' = s.end + change_size ch in let l = link v f in (
         v,
         w,
         there,
         here,
         record {
+          of = makes_of ch end' tag p l a.makes;
           logged = refl;
-          end = omega (arith, end_longer s.log entry h.log);
+          end = sym (end_longer s.log entry h.log);
           longer = refl;
           added = refl;
           front = refl;
+          image_is = λ q is. makes_whole ch end' tag p l a.makes tag q is;
           position = a.ends;
-          is_cell = sym (put_here (cell s.origin s.log.entries) tag p) ∙ (λ j. sym (cell_longer s.origin s.log.entries entry) j tag);
-          above = let z = c.within in omega arith;
+          is_cell = ⊎_elim (λ (whole : is_image ch ≡ true). cell_made s.origin s.log.entries (new_entry s v.number ch) tag p l whole a.makes) (λ (known : s.known tag ≡ true). cell_now s h i f p ch v there live inside a known);
+          above = let z = c.within in omega (arith, some_size ch);
         },
       )
 
   pub durable : EntriesAreDurable s
-  durable k e there low = let starts = h.log.chained k e there in let x = h.durable (omega arith) in omega arith
+  durable k e there low = let starts = starts_above s.log e h.log k e there in let x = h.durable (omega (arith, some_size e.change)) in omega arith
 
   pub log_first : LogBeforeData s
   log_first _ _ _ _ t (writes i n f k v there live low inside back x) = let before = loaded k s n f (lane_hold v n) (link v f) x in let by = (h.lanes.cells i v n there low).hold.flushed_by (is_out k s n f (lane_hold v n) (link v f) x back) in (
@@ -187,8 +197,8 @@ module _ (s : State) (h : HistoryInvariant s) where
   pub lanes_hold : LanesHoldFlushedPages s
   lanes_hold = h.flushed_cells
 
-  stored_is : (tag : ℕ) → (s.known tag ≡ true → s.pool.logged tag ≡ Some (stored s tag)) → s.known tag ≡ true → stored s tag ≡ cell s.origin s.log.entries tag
-  stored_is tag e known = same_Some (stored s tag) (cell s.origin s.log.entries tag) (sym (e known) ∙ h.logged tag known)
+  stored_is : (tag : ℕ) → (s.known tag ≡ true → s.pool.logged tag ≡ stored s tag) → s.known tag ≡ true → stored s tag ≡ cell s.origin s.log.entries tag
+  stored_is tag e known = sym (e known) ∙ h.logged tag known
 
   pub clean_stored : CleanBlocksAreStored s
   clean_stored tag named none = ⊎_elim
@@ -200,7 +210,7 @@ module _ (s : State) (h : HistoryInvariant s) where
   sound = pages.sound s.pool h.pool
 
   pub hold_cells : FramesHoldCells s
-  hold_cells f known below tag valid none = pages.frames_hold s.pool h.pool f (cell s.origin s.log.entries (s.pool.core.frame f).tag) below tag valid none (h.logged (s.pool.core.frame f).tag known)
+  hold_cells f known below tag valid none = let t = (s.pool.core.frame f).tag in let e = logged_there s h t (h.pool.core.blocks f below tag.named) known in sym (h.logged t known) ∙ e ∙ ap (λ (q : Page). Some q) (sym (pages.frames_hold s.pool h.pool f (page_of s t) below tag valid none e))
 
   pub words : LogWords s
   words = record { ends = h.ends; limit = h.limit; flushed_from = h.flushed_from; flushed_to = h.flushed_to }

@@ -1,8 +1,8 @@
 -- Each kind of `pin_core` and of `page_core` keeps the law of the blocks' homes.
-use Rattle.std.proofs.Common.{◌≡◌, ℕ, Bool, true, false, Some, arith}
+use Rattle.std.proofs.Common.{◌≡◌, ◌≢◌, ℕ, Bool, true, false, Some, arith}
 use Rattle.state_word.specs.declared.word.IoEnd.TheVariants.{ReadOk, WriteOk, Bad}
 use Rattle.pin_core.specs.declared.view.Link.{Link}
-use Rattle.pin_core.specs.State.{Frame, Page}
+use Rattle.pin_core.specs.State.{Frame, Page, no_tag}
 use Rattle.pin_core.specs.Kinds as pin_kinds
 use Rattle.pin_core.specs.declared.view.Io.TheVariants.{Input}
 use Rattle.page_core.specs.Tallies.{works}
@@ -253,7 +253,7 @@ module _ (h : Home) (fr : Frame) (l : Link) where
     others = λ t n m q c le d. grind (arith, q, c, d, a, le works);
   }
 
-  pub end_write_keeps : (p : Page) → (h.known ≡ true → h.block.logged ≡ Some p) → Allowed (kinds.end_io WriteOk) h.block fr l → Keeps_by (kinds.end_io WriteOk) h (pages_home_after (kinds.end_io WriteOk) h) fr l
+  pub end_write_keeps : (p : Page) → (fr.tag ≢ no_tag → h.known ≡ true → h.block.logged ≡ Some p) → Allowed (kinds.end_io WriteOk) h.block fr l → Keeps_by (kinds.end_io WriteOk) h (pages_home_after (kinds.end_io WriteOk) h) fr l
   end_write_keeps p is a = record {
     column = λ t t' q c sums le _. let same = q.0.1.page p in grind (arith, q, c, a, is, same);
     cell = λ t q le c. grind (arith, q, c, a);
@@ -267,7 +267,7 @@ module _ (h : Home) (fr : Frame) (l : Link) where
     others = λ t n m q c le d. grind (arith, q, c, d, a, le works);
   }
 
-  pub note_done_keeps : h.failed ≡ false → h.stored ≡ fr.page → Allowed (kinds.note_write true) h.block fr l → Keeps_by (kinds.note_write true) h (pages_home_after (kinds.note_write true) h) fr l
+  pub note_done_keeps : h.failed ≡ false → h.stored ≡ Some fr.page → Allowed (kinds.note_write true) h.block fr l → Keeps_by (kinds.note_write true) h (pages_home_after (kinds.note_write true) h) fr l
   note_done_keeps done stored a = record {
     column = λ t t' q c sums le _. grind (arith, q, c, a);
     cell = λ t q le c. grind (arith, q, c, a, done, stored);

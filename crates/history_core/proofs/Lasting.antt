@@ -30,12 +30,12 @@ pages_last : {e : page_steps.Event} {s t : page.State} → page_steps.Step e s t
 pages_last (page_steps.cores x) = pins_last x
 pages_last (page_steps.touches i f k u there live inside a around) = record { frames = refl; backends = refl; partitions = refl; partition_of = refl; is_block = refl }
 
-of_pool : {s t : State} → IsSamePool s.pool.core t.pool.core → t.lanes ≡ s.lanes → t.lane_of ≡ s.lane_of → t.known ≡ s.known → t.origin ≡ s.origin → t.log.base ≡ s.log.base → t.names ≡ s.names → t.log_faults ≡ s.log_faults → IsSameOpening s t
-of_pool p count lane_of known origin base names faults = record { frames = p.frames; backends = p.backends; partitions = p.partitions; partition_of = p.partition_of; is_block = p.is_block; lanes = count; lane_of = lane_of; known = known; origin = origin; base = base; names = names; log_faults = faults }
+of_pool : {s t : State} → IsSamePool s.pool.core t.pool.core → t.lanes ≡ s.lanes → t.lane_of ≡ s.lane_of → t.known ≡ s.known → t.origin ≡ s.origin → t.unsynced_at_start ≡ s.unsynced_at_start → t.log.base ≡ s.log.base → t.names ≡ s.names → t.ranges ≡ s.ranges → t.log_faults ≡ s.log_faults → IsSameOpening s t
+of_pool p count lane_of known origin unsynced base names ranges faults = record { frames = p.frames; backends = p.backends; partitions = p.partitions; partition_of = p.partition_of; is_block = p.is_block; lanes = count; lane_of = lane_of; known = known; origin = origin; unsynced = unsynced; base = base; names = names; ranges = ranges; log_faults = faults }
 
 pub opening_stays : (s : State) → OpeningStays s
-opening_stays s e t (pools x a) = of_pool (pages_last x) refl refl refl refl refl refl refl
-opening_stays s e t _ = of_pool record { frames = refl; backends = refl; partitions = refl; partition_of = refl; is_block = refl } refl refl refl refl refl refl refl
+opening_stays s e t (pools x a) = of_pool (pages_last x) refl refl refl refl refl refl refl refl refl
+opening_stays s e t _ = of_pool record { frames = refl; backends = refl; partitions = refl; partition_of = refl; is_block = refl } refl refl refl refl refl refl refl refl refl
 
 -- the device after a call
 record DeviceGrows (d d' : Device) : Type 0 where
@@ -69,6 +69,6 @@ flushed_more _ s = omega arith
 
 pub log_grows : (s : State) → Laws s → LogGrows s
 log_grows s l e t (logs i k u there live a record_is) = unlogged refl refl (omega arith) (device_grows k s.end s.device u.log (l.invariant.device.columns 0 (lit< tt)).synced a)
-log_grows s l e t (enters i f p u there live inside x) = let d = device_same s.device in record { added = new_entry s u.number (s.pool.core.frame f).tag p ∷ []; entries = refl; end = omega arith; flushed = omega arith; rest = d.rest; bytes = d.bytes; synced = d.synced; down = d.down }
+log_grows s l e t (enters i f p ch u there live inside x) = let d = device_same s.device in record { added = new_entry s u.number ch ∷ []; entries = refl; end = omega arith; flushed = omega arith; rest = d.rest; bytes = d.bytes; synced = d.synced; down = d.down }
 log_grows s l e t (words i k u there live a) = unlogged refl refl (flushed_more k s) (device_same s.device)
 log_grows s l e t _ = unlogged refl refl (omega arith) (device_same s.device)

@@ -38,3 +38,11 @@ pub mod Trail
 pub mod Lasting
 pub mod Sweeping
 pub mod Laws
+pub mod Sizes
+pub mod Always
+pub mod Images
+pub mod There
+pub mod Covered
+pub mod Unentered
+pub mod Crashes
+pub mod Torn

@@ -151,7 +151,7 @@ pub no_write : HasNoWriteOut (view_of m21) 0
 no_write n out = absurd (out (at_one_lane (λ (h : LaneHold). h.out ≡ None) (view_of m21) _ refl refl refl n))
 
 pub goes_out : CanTakeOut sample_lane (m13.lane 0) (lane_hold (view_of m13) 0)
-goes_out = record { held = refl; home = refl; reads = refl; writes = refl; pages = λ blocks k b e at. absurd (cc) }
+goes_out = record { held = refl; home = refl; reads = refl; writes = refl; pages = λ blocks k b e at. absurd (cc); marks = λ k m at. absurd (cc) }
 
 pub below : (n : ℕ) → n < 0 → false ≡ true
 below n z = absurd (omega arith)

@@ -1,5 +1,6 @@
 -- The law holds at the start.
-use Rattle.std.proofs.Common.{◌≡◌, ℕ, [], ◌∷◌, length, sym, refl, ap, ◌∙◌, subst, arith, ◌++◌, List, Bool, cond, Some, None, append-nil}
+use Rattle.std.proofs.Common.{◌≡◌, ℕ, [], ◌∷◌, length, sym, refl, ap, ◌∙◌, subst, arith, ◌++◌, List, Bool, cond, Option, None, append-nil}
+use Rattle.std.specs.Option.{is_some}
 use mathlib.Core.Option.{some, some-ne-none}
 use lib.ListN.{get_elem?, length-replicate}
 use Rattle.pin_core.specs.declared.view.View.{View}
@@ -16,6 +17,7 @@ use Rattle.history_core.proofs.Device.{no_log_law}
 use Rattle.history_core.proofs.Calls.{no_calls, no_total}
 use Rattle.history_core.proofs.Lanes.{no_lane_law}
 use Rattle.history_core.proofs.Blocks.{no_link}
+use Rattle.history_core.proofs.Logs.{cell_none, none_chained, end_none}
 use Rattle.history_core.proofs.Outer.{lane_new, no_weight}
 use Rattle.grid.specs.Shape.{total}
 use Rattle.grid.proofs.Lists.{at_only}
@@ -23,10 +25,6 @@ use Rattle.grid.proofs.Lists.{at_only}
 pub one_total : (g : View → ℕ) (v : View) → g v ≡ 0 → total g (v ∷ []) ≡ 0
 unfolding total
 one_total g v e = omega arith
-
-pub cell_none : (origin : ℕ → Page) → cell origin [] ≡ origin
-unfolding cell
-cell_none origin = refl
 
 cut_none : (p : ℕ) → cut p [] ≡ []
 unfolding cut
@@ -42,11 +40,13 @@ fresh_frame h p = record { clean = λ named. absurd (named refl) }
 pub opens : (c : Config) (store : Store) (page : Page) → CanOpen c → CanStore c store → HistoryInvariant (opening c store page)
 opens c store page can stores = let w : View = first_view c.base c.frames c.partitions c.lanes in let log : Log = record { base = c.base; entries = [] } in let none : (k : LogTally) → total (λ (v : View). log_weigh k v.log) (w ∷ []) ≡ 0 = (λ k. one_total (λ (v : View). log_weigh k v.log) w (no_weight k)) in record {
   pool = pages.opens c (known_origin store) page can;
-  logged = λ tag is. ap (λ (b : Bool). cond b (Some (store.origin tag)) None) is ∙ (λ j. Some (sym (cell_none store.origin) j tag));
+  logged = λ tag is. ap (λ (b : Bool). cond b (store.origin tag) None) is ∙ sym (cell_none store.origin tag);
+  there = λ tag block is. ap (λ (o : Option Page). is_some o) (cell_none store.origin tag) ∙ stores.there tag block is;
+  pages = λ k tag e of. absurd (some-ne-none e (sym of.there));
   known = λ tag. refl;
-  log = record { chained = λ k e t. absurd (some-ne-none e (sym t)); images = λ k e t. absurd (some-ne-none e (sym t)) };
+  log = record { chained = none_chained c.base; valid = λ k e t. absurd (some-ne-none e (sym t)) };
   based = refl;
-  ends = omega arith;
+  ends = sym (end_none c.base);
   limit = stores.based;
   flushed_from = omega arith;
   flushed_to = omega arith;
@@ -57,7 +57,7 @@ opens c store page can stores = let w : View = first_view c.base c.frames c.part
     cells = λ i v g there below. subst (λ (x : View). LogLink (written_of (opening c store page)) (fresh_device c.base store) x.saw_down x.log) (at_only w v i there).0 (no_log_law (written_of (opening c store page)) (fresh_device c.base store));
   };
   history = record {
-    calls = λ i v there. subst (CallsLaw (is_known store) store.origin log c.base) (at_only w v i there).0 (no_calls (is_known store) store.origin log c.base w refl (λ _. refl) (omega arith) (omega arith));
+    calls = λ i v there. subst (CallsLaw (is_known store) store.origin log c.base) (at_only w v i there).0 (no_calls (is_known store) store.origin log c.base w refl (λ _. refl) (omega (arith, end_none c.base)) (omega arith));
     kept = record {
       only_first = λ i v there other. absurd (other (at_only w v i there).1);
       spent = λ i k v c there at. absurd (some-ne-none c (sym (subst (λ (x : View). get_elem? x.joined_checkpoints k ≡ some c) (sym (at_only w v i there).0) at)));
@@ -76,6 +76,6 @@ opens c store page can stores = let w : View = first_view c.base c.frames c.part
     columns = λ f below. fresh_frame (home_of (opening c store page) no_tag) page;
     cells = λ i v f there below. subst (λ (x : View). HomeLink (home_of (opening c store page) no_tag) (empty_frame page) (link x f)) (at_only w v i there).0 (subst (HomeLink (home_of (opening c store page) no_tag) (empty_frame page)) (sym (link_new c.frames c.partitions c.lanes 0 c.base f)) (no_link (home_of (opening c store page) no_tag) (empty_frame page)));
   };
-  unframed = λ tag named none. record { done = refl; stored = λ is. ap (λ (b : Bool). cond b (Some (store.origin tag)) None) is };
-  flushed_cells = λ tag. record { based = omega arith; within = omega arith; is_cell = λ is ok. (λ j. sym (cell_none store.origin) j tag) ∙ ap (λ es. cell store.origin es tag) (sym (cut_none c.base)) };
+  unframed = λ tag named none. record { done = refl; stored = λ is. ap (λ (b : Bool). cond b (store.origin tag) None) is };
+  flushed_cells = λ tag. record { based = omega arith; within = omega arith; is_cell = λ is ok. sym (cell_none store.origin tag) ∙ ap (λ es. cell store.origin es tag) (sym (cut_none c.base)) };
 }

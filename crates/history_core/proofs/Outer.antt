@@ -1,11 +1,11 @@
 -- What the lanes and the calls know of the views, as a view changes.
-use Rattle.std.proofs.Common.{◌≡◌, ◌≢◌, ℕ, zero, suc, ◌<◌, ◌≤◌, Bool, true, false, ◌||◌, List, [], ◌∷◌, ◌++◌, length, set, get_or-set_same, get_or-set_other, sym, refl, ap, ◌∙◌, subst, ⊎_elim, arith}
+use Rattle.std.proofs.Common.{◌≡◌, ◌≢◌, ℕ, zero, suc, ◌<◌, ◌≤◌, Bool, true, false, ◌||◌, Option, List, [], ◌∷◌, ◌++◌, length, set, get_or-set_same, get_or-set_other, sym, refl, ap, ◌∙◌, subst, ⊎_elim, arith}
 use mathlib.Core.Option.{some}
 use lib.ListN.{get_elem?, length-replicate}
 use Rattle.pin_core.specs.declared.view.LaneHold.{LaneHold}
 use Rattle.pin_core.specs.declared.view.View.{View}
 use Rattle.pin_core.specs.State.{Page, no_lane, no_log, lane_hold, new_view, emptied_view, joined_view}
-use Rattle.history_core.specs.Log.{Log}
+use Rattle.history_core.specs.Log.{Log, log_end}
 use Rattle.history_core.specs.State.{Lane}
 use Rattle.history_core.specs.Lanes.{swept_by, LaneKind, LaneAllowed, lane_after, lane_hold_after, LaneLink, lane_shape, lane_part}
 use Rattle.history_core.specs.Invariant.{HistoryLaw}
@@ -22,7 +22,7 @@ abbrev pub ViewsAreWide : ℕ → List View → Type 0
 ViewsAreWide n views = (i : ℕ) (v : View) → get_elem? views i ≡ some v → v.emptied ≡ false → length v.lanes ≡ n
 
 -- The laws of the log's device, of the calls and of the lanes
-pub record Outer (known : ℕ → Bool) (origin : ℕ → Page) (log : Log) (n : ℕ) (lane : ℕ → Lane) (flushed : ℕ) (w : Written) (d : Device) (views : List View) : Type 0 where
+pub record Outer (known : ℕ → Bool) (origin : ℕ → Option Page) (log : Log) (n : ℕ) (lane : ℕ → Lane) (flushed : ℕ) (w : Written) (d : Device) (views : List View) : Type 0 where
   pub device : Grid log_shape log_part 1 (λ _. d) (λ _. w) views
   pub history : HistoryLaw known origin log flushed views
   pub lanes : Grid lane_shape lane_part n lane (λ _. flushed) views
@@ -49,7 +49,7 @@ either : (a b : Bool) → (a || b) ≡ true → {A : Type 0} → (a ≡ true →
 either true b e x y = x refl
 either false b e x y = y e
 
-module _ (known : ℕ → Bool) (origin : ℕ → Page) (log : Log) (n : ℕ) (lane : ℕ → Lane) (flushed : ℕ) (bytes : Written) (d : Device) (views : List View) (h : Outer known origin log n lane flushed bytes d views) where
+module _ (known : ℕ → Bool) (origin : ℕ → Option Page) (log : Log) (n : ℕ) (lane : ℕ → Lane) (flushed : ℕ) (bytes : Written) (d : Device) (views : List View) (h : Outer known origin log n lane flushed bytes d views) where
   -- a view changes elsewhere
   pub outer_same : (i : ℕ) (v w : View) → get_elem? views i ≡ some v → SameCalls v w → w.emptied ≡ v.emptied → w.lanes ≡ v.lanes → w.log ≡ v.log → w.saw_down ≡ v.saw_down → Outer known origin log n lane flushed bytes d (set views i w)
   outer_same i v w there same emptied lanes logs saw = record {
@@ -59,10 +59,10 @@ module _ (known : ℕ → Bool) (origin : ℕ → Page) (log : Log) (n : ℕ) (l
     wide = wide_set n views h.wide i v w there emptied (ap (λ (x : List LaneHold). length x) lanes);
   }
 
-  pub outer_grows : (number base f p : ℕ) → base ≡ log.base → log.base ≤ flushed → Outer known origin log n lane flushed bytes d (views ++ new_view number base f p n ∷ [])
-  outer_grows number base f p same low = let w : View = new_view number base f p n in record {
+  pub outer_grows : (number base f p : ℕ) → base ≡ log.base → log.base ≤ flushed → log.base ≤ log_end log → Outer known origin log n lane flushed bytes d (views ++ new_view number base f p n ∷ [])
+  outer_grows number base f p same low above = let w : View = new_view number base f p n in record {
     device = grows log_shape log_part 1 (λ _. d) (λ _. bytes) views h.device w (λ q k. no_weight k) (λ q below. no_log_law bytes d);
-    history = history_grows known origin log flushed views h.history w refl refl same (omega (arith, same)) (omega (arith, same, low));
+    history = history_grows known origin log flushed views h.history w refl refl same (omega (arith, same, above)) (omega (arith, same, low));
     lanes = grows lane_shape lane_part n lane (λ _. flushed) views h.lanes w (λ q k. ap (lane_shape.weigh k) (lane_new f p n number base q)) (λ q below. subst (LaneLink flushed (lane q)) (sym (lane_new f p n number base q)) (no_lane_law flushed (lane q)));
     wide = λ j u e live. ⊎_elim (λ (t : get_elem? views j ≡ some u). h.wide j u t live) (λ (t : (w ≡ u) × (j ≡ length views)). ap (λ (x : View). length x.lanes) (sym t.0) ∙ length-replicate n no_lane) (at_end views w u j e);
   }

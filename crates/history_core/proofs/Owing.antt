@@ -30,7 +30,7 @@ use Rattle.page_core.specs.Kinds.{Kind, note_read, begin_write, note_write, make
 use Rattle.page_core.specs.Steps as page_steps
 use Rattle.page_core.specs.Steps.{logged_after}
 use Rattle.page_core.proofs.Cases.{tag_kept}
-use Rattle.history_core.specs.Log.{Entry, end_of, record_size}
+use Rattle.history_core.specs.Log.{Entry, Change, IsEntryOf, end_of, change_size, tag_in}
 use Rattle.history_core.specs.State.{Lane, State, Store, stored_upto, failed, opening}
 use Rattle.history_core.specs.Lanes as lane_kinds
 use Rattle.history_core.specs.Lanes.{LaneKind, lane_after}
@@ -43,8 +43,8 @@ use Rattle.history_core.proofs.Beginning.{BegunHere, link_begun}
 use Rattle.history_core.proofs.Blocks.{plain_block, tag_goes, written_is_logged}
 use Rattle.history_core.proofs.Calls.{at_both}
 use Rattle.history_core.proofs.Debts.{stays, Fresh, pins_move, pins_link, pages_move, pages_link, Touched, debts_touched, debts_set, debts_aside, debts_later}
-use Rattle.history_core.proofs.Logs.{ends_below}
-use Rattle.history_core.proofs.Stepping.{step_keeps, relinks, unframed_tag, logged_same, lane_put, lane_written, HoldsSame, no_write_holds, for_input}
+use Rattle.history_core.proofs.Logs.{some_size, entry_at, entry_longer, ends_below}
+use Rattle.history_core.proofs.Stepping.{step_keeps, makes_of, relinks, unframed_tag, logged_same, lane_put, lane_written, HoldsSame, no_write_holds, for_input}
 use Rattle.grid.specs.Shape.{put, tallies}
 use Rattle.grid.proofs.Lists.{at_end, at_only, put_at, put_else, put_same}
 use Rattle.grid.proofs.Sums.{term_le}
@@ -134,13 +134,13 @@ module _ (s : State) (h : HistoryInvariant s) (d : DebtsLaw s) where
       (λ tag ok. inl (sym (lane_put (λ (y : Lane). y.failed tag) s.lane q ln (λ j. same.failed j tag) (s.lane_of tag)) ∙ ok)) n fs s.end logged vs x
 
   -- the entries of a block of which an output is under way are at the page's position or before it, or in the lane
-  output_position : (i f : ℕ) (v : View) → get_elem? views i ≡ some v → f < n → (link v f).io ≡ Output → (k : ℕ) (e : Entry) → get_elem? s.log.entries k ≡ some e → e.tag ≡ (frame f).tag → (end_of e ≤ lsn_of (frame f).page) ⊎ (end_of e ≤ stored_upto s (frame f).tag)
-  output_position i f v there inside out k e at tagged = by_logged (s.pool.logged (frame f).tag) refl
+  pub output_position : (i f : ℕ) (v : View) → get_elem? views i ≡ some v → f < n → (link v f).io ≡ Output → (k : ℕ) (e : Entry) → IsEntryOf s.log.entries (frame f).tag k e → (end_of e ≤ lsn_of (frame f).page) ⊎ (end_of e ≤ stored_upto s (frame f).tag)
+  output_position i f v there inside out k e of = by_logged (s.pool.logged (frame f).tag) refl
     where
       by_logged : (o : Option Page) → s.pool.logged (frame f).tag ≡ o → (end_of e ≤ lsn_of (frame f).page) ⊎ (end_of e ≤ stored_upto s (frame f).tag)
-      by_logged None none = inr (d.unknown (frame f).tag none k e at tagged)
+      by_logged None none = inr (d.unknown (frame f).tag none k e of)
       by_logged (Some p) is = let same = (written_is_logged (block_of s.pool.logged (frame f).tag) (frame f) (link v f) (tallies page_shape views f) (h.pool.pages.columns f inside) (h.pool.pages.cells i v f there inside) (term_le (λ (u : View). weigh sharers (link u f)) views i v there) out).1 p is in
-          inl (subst (λ (y : Page). end_of e ≤ lsn_of y) same (d.positioned (frame f).tag k p e is at tagged))
+          inl (subst (λ (y : Page). end_of e ≤ lsn_of y) same (d.positioned (frame f).tag k p e is of))
 
   -- a frame where only what a view notes of its lane changes
   noted_owe : (i f : ℕ) (v w : View) (l : Link) → get_elem? views i ≡ some v → v.emptied ≡ false → f < n → w.links ≡ set v.links f l → w.upto ≡ v.upto → w.joined_checkpoints ≡ v.joined_checkpoints → l.visited ≡ (link v f).visited → l.left_to_write ≡ (link v f).left_to_write → (l.last_write ≡ Done → (frame f).tag ≢ no_tag → IsCurrent t (frame f).tag) → Debts t n (put frame f (frame f)) s.end s.pool.logged (set views i w)
@@ -160,10 +160,10 @@ module _ (s : State) (h : HistoryInvariant s) (d : DebtsLaw s) where
           (λ (e : z ≡ tag). let a = uptos z ∙ put_at (stored_upto s) tag u z e in let b : (s.lane q).stored_upto tag ≡ stored_upto s z = ap (λ (m : ℕ). (s.lane m).stored_upto tag) (sym x.lane) ∙ ap (stored_upto s) (sym e) in omega arith)
           (λ (o : z ≢ tag). let a = uptos z ∙ put_else (stored_upto s) tag u z o in omega arith))
           (λ z ok. dite (ℕ_discrete z tag)
-          (λ (e : z ≡ tag). inr (λ m en at tagged. let a = uptos z ∙ put_at (stored_upto s) tag u z e in
+          (λ (e : z ≡ tag). inr (λ m en of. let a = uptos z ∙ put_at (stored_upto s) tag u z e in
           ⊎_elim (λ (low : end_of en ≤ lsn_of (frame f).page). let c : end_of en ≤ lsn_of p = subst (λ (w : Page). end_of en ≤ lsn_of w) x.page low in omega arith)
           (λ (low : end_of en ≤ stored_upto s (frame f).tag). let c : stored_upto s (frame f).tag ≡ (s.lane q).stored_upto tag = ap (stored_upto s) x.tagged ∙ ap (λ (w : ℕ). (s.lane w).stored_upto tag) x.lane in omega arith)
-          (output_position i f v there inside x.right.right m en at (tagged ∙ e ∙ sym x.tagged))))
+          (output_position i f v there inside x.right.right m en (entry_at s.log.entries z (frame f).tag m en (e ∙ sym x.tagged) of))))
           (λ (o : z ≢ tag). inl (sym (fails z ∙ put_else (failed s) tag false z o) ∙ ok)))
           n (put frame f (frame f)) s.end s.pool.logged vs y
       by_kind (lane_kinds.fail_write g tag p faults) (_, x) {vs = vs} y = let ln : Lane = lane_after (lane_kinds.fail_write g tag p faults) (s.lane q) in let fails = lane_written s.lane_of s.lane q ln tag (λ (z : Lane). z.failed) true x.lane refl in
@@ -205,8 +205,8 @@ module _ (s : State) (h : HistoryInvariant s) (d : DebtsLaw s) where
   notes_owe i q f noted (note_write true) v there live low inside (p, x) = let fr = frame f in let w : View = laned (lane_kinds.lane_back noted) q v (paged (note_write true) s.pool f v) in let held = (h.lanes.cells i v q there low).hold.written f fr.tag p x.was_written in
       subst (λ (g : ℕ → Option Page). Debts t n (put frame f fr) s.end g (set views i w)) (λ j z. sym (put_same s.pool.logged fr.tag (s.pool.logged fr.tag) z refl) j)
       (noted_owe i f v w (link_after (note_write true) (block_of s.pool.logged fr.tag) fr (link v f)) there live inside refl refl refl refl refl
-      (λ e named m en at tagged. let same : (s.lane q).stored_upto fr.tag ≡ stored_upto s fr.tag = ap (λ (z : ℕ). (s.lane z).stored_upto fr.tag) (sym x.lane) in let long = held.upto in
-      ⊎_elim (λ (z : end_of en ≤ lsn_of fr.page). let y : end_of en ≤ lsn_of p = subst (λ (w : Page). end_of en ≤ lsn_of w) x.page z in omega arith) (λ (z : end_of en ≤ stored_upto s fr.tag). z) (output_position i f v there inside x.right.right m en at tagged)))
+      (λ e named m en of. let same : (s.lane q).stored_upto fr.tag ≡ stored_upto s fr.tag = ap (λ (z : ℕ). (s.lane z).stored_upto fr.tag) (sym x.lane) in let long = held.upto in
+      ⊎_elim (λ (z : end_of en ≤ lsn_of fr.page). let y : end_of en ≤ lsn_of p = subst (λ (w : Page). end_of en ≤ lsn_of w) x.page z in omega arith) (λ (z : end_of en ≤ stored_upto s fr.tag). z) (output_position i f v there inside x.right.right m en of)))
   notes_owe i q f noted (note_write false) v there live low inside x = let fr = frame f in let w : View = laned (lane_kinds.lane_back noted) q v (paged (note_write false) s.pool f v) in
       subst (λ (g : ℕ → Option Page). Debts t n (put frame f fr) s.end g (set views i w)) (λ j z. sym (put_same s.pool.logged fr.tag (s.pool.logged fr.tag) z refl) j)
       (noted_owe i f v w (link_after (note_write false) (block_of s.pool.logged fr.tag) fr (link v f)) there live inside refl refl refl refl refl (λ e. absurd (cc)))
@@ -237,15 +237,25 @@ no_output : (b : Block) (fr : Frame) (l m : Link) (t : Tally → ℕ) → PageFr
 no_output b fr l m t q d x y e done = grind (arith, q, d, x applied_locks, x unapplied_locks, y sharers, e, done)
 
 -- An entry of the page p of the frame f is made
-module _ (s : State) (h : HistoryInvariant s) (d : DebtsLaw s) (i f : ℕ) (p : Page) (v : View) (there : get_elem? s.pool.core.views i ≡ some v) (live : v.emptied ≡ false) (inside : f < s.pool.core.frames) (x : CanEnter s f p v) where
+module _ (s : State) (h : HistoryInvariant s) (d : DebtsLaw s) (i f : ℕ) (p : Page) (c : Change) (v : View) (there : get_elem? s.pool.core.views i ≡ some v) (live : v.emptied ≡ false) (inside : f < s.pool.core.frames) (x : CanEnter s f p c v) where
   abbrev tag_of : ℕ
   tag_of = (s.pool.core.frame f).tag
 
   abbrev entry : Entry
-  entry = new_entry s v.number tag_of p
+  entry = new_entry s v.number c
 
   abbrev longer : Taken
   longer = record (taken_of s) { entries = s.log.entries ++ entry ∷ [] }
+
+  abbrev end' : ℕ
+  end' = s.end + change_size c
+
+  -- the entry is of the frame's block
+  of_block : tag_in c ≡ Some tag_of
+  of_block = makes_of c end' tag_of p (link v f) x.makes
+
+  same_block : (z : ℕ) → tag_in c ≡ Some z → tag_of ≡ z
+  same_block z e = same_Some tag_of z (sym of_block ∙ e)
 
   is_dirty : (s.pool.core.frame f).word.dirty ≡ true
   is_dirty = ((h.pool.pages.cells i v f there inside).dirtied x.right.dirtied).dirty
@@ -261,11 +271,11 @@ module _ (s : State) (h : HistoryInvariant s) (d : DebtsLaw s) (i f : ℕ) (p : 
   only_frame g below e = h.pool.core.apart f g inside below named (sym e)
 
   current_longer : (z : ℕ) → z ≢ tag_of → IsCurrent (taken_of s) z → IsCurrent longer z
-  current_longer z other c k e at tagged = ⊎_elim (λ (y : get_elem? s.log.entries k ≡ some e). c k e y tagged) (λ (y : (entry ≡ e) × (k ≡ length s.log.entries)). absurd (other (sym tagged ∙ ap (λ (w : Entry). w.tag) (sym y.0)))) (at_end s.log.entries entry e k at)
+  current_longer z other y k e of = ⊎_elim (λ (t : IsEntryOf s.log.entries z k e). y k e t) (λ (t : (entry ≡ e) × (tag_in c ≡ Some z)). absurd (other (sym (same_block z t.1)))) (entry_longer s.log.entries entry z k e of)
 
   stored_or_left_longer : (fr : Frame) (upto : ℕ) (visited left_to_write : Bool) → upto ≤ s.end → IsStoredOrLeft (taken_of s) fr upto visited left_to_write → IsStoredOrLeft longer fr upto visited left_to_write
-  stored_or_left_longer fr upto visited left_to_write begun c been given k e at tagged le lt = ⊎_elim (λ (y : get_elem? s.log.entries k ≡ some e). c been given k e y tagged le lt)
-      (λ (y : (entry ≡ e) × (k ≡ length s.log.entries)). let z : s.end + record_size ≡ end_of e = ap end_of y.0 in absurd (omega arith)) (at_end s.log.entries entry e k at)
+  stored_or_left_longer fr upto visited left_to_write begun y been given k e of le lt = ⊎_elim (λ (t : IsEntryOf s.log.entries fr.tag k e). y been given k e t le lt)
+      (λ (t : (entry ≡ e) × (tag_in c ≡ Some fr.tag)). let z : end' ≡ end_of e = ap end_of t.0 in absurd (omega (arith, some_size c))) (entry_longer s.log.entries entry fr.tag k e of)
 
   -- no output of the block is under way
   no_done : (j : ℕ) (u : View) (g : ℕ) → get_elem? s.pool.core.views j ≡ some u → g < s.pool.core.frames → (link u g).last_write ≡ Done → (s.pool.core.frame g).tag ≢ tag_of
@@ -275,31 +285,31 @@ module _ (s : State) (h : HistoryInvariant s) (d : DebtsLaw s) (i f : ℕ) (p : 
   abbrev logged' : ℕ → Option Page
   logged' = put s.pool.logged tag_of (Some p)
 
-  entries_longer : Debts longer s.pool.core.frames s.pool.core.frame (s.end + record_size) logged' s.pool.core.views
+  entries_longer : Debts longer s.pool.core.frames s.pool.core.frame end' logged' s.pool.core.views
   entries_longer = record {
-    named = λ k e at. ⊎_elim (λ (y : get_elem? s.log.entries k ≡ some e). d.named k e y) (λ (y : (entry ≡ e) × (k ≡ length s.log.entries)). subst (λ (w : Entry). w.tag ≢ no_tag) y.0 named) (at_end s.log.entries entry e k at);
+    named = λ k z e of. ⊎_elim (λ (t : IsEntryOf s.log.entries z k e). d.named k z e t) (λ (t : (entry ≡ e) × (tag_in c ≡ Some z)). subst (λ (w : ℕ). w ≢ no_tag) (same_block z t.1) named) (entry_longer s.log.entries entry z k e of);
     clean = λ g below given clean. current_longer (s.pool.core.frame g).tag (λ e. apart (subst (λ (k : ℕ). (s.pool.core.frame k).word.dirty ≡ true) (only_frame g below e) is_dirty) clean) (d.clean g below given clean);
     unframed = λ z given none. current_longer z (λ e. none f inside (sym e)) (d.unframed z given none);
-    positioned = λ z k q e is at tagged. dite (ℕ_discrete z tag_of)
-        (λ (same : z ≡ tag_of). let e_is : p ≡ q = same_Some p q (sym (put_at s.pool.logged tag_of (Some p) z same) ∙ is) in let pos : lsn_of q ≡ s.end + record_size = ap lsn_of (sym e_is) ∙ x.ends in
-        ⊎_elim (λ (y : get_elem? s.log.entries k ≡ some e). let low = ends_below s.log entry h.log k e y in let ends = h.ends in omega arith) (λ (y : (entry ≡ e) × (k ≡ length s.log.entries)). let z : s.end + record_size ≡ end_of e = ap end_of y.0 in omega arith) (at_end s.log.entries entry e k at))
-        (λ (other : z ≢ tag_of). ⊎_elim (λ (y : get_elem? s.log.entries k ≡ some e). d.positioned z k q e (sym (put_else s.pool.logged tag_of (Some p) z other) ∙ is) y tagged) (λ (y : (entry ≡ e) × (k ≡ length s.log.entries)). absurd (other (sym tagged ∙ ap (λ (w : Entry). w.tag) (sym y.0)))) (at_end s.log.entries entry e k at));
+    positioned = λ z k q e is of. dite (ℕ_discrete z tag_of)
+        (λ (same : z ≡ tag_of). let e_is : p ≡ q = same_Some p q (sym (put_at s.pool.logged tag_of (Some p) z same) ∙ is) in let pos : lsn_of q ≡ end' = ap lsn_of (sym e_is) ∙ x.ends in
+        ⊎_elim (λ (t : IsEntryOf s.log.entries z k e). let low = ends_below s.log entry h.log k e t.there in let ends = h.ends in omega arith) (λ (t : (entry ≡ e) × (tag_in c ≡ Some z)). let y : end' ≡ end_of e = ap end_of t.0 in omega arith) (entry_longer s.log.entries entry z k e of))
+        (λ (other : z ≢ tag_of). ⊎_elim (λ (t : IsEntryOf s.log.entries z k e). d.positioned z k q e (sym (put_else s.pool.logged tag_of (Some p) z other) ∙ is) t) (λ (t : (entry ≡ e) × (tag_in c ≡ Some z)). absurd (other (sym (same_block z t.1)))) (entry_longer s.log.entries entry z k e of));
     unknown = λ z none. dite (ℕ_discrete z tag_of) (λ (same : z ≡ tag_of). absurd (some_none (sym (put_at s.pool.logged tag_of (Some p) z same) ∙ none))) (λ (other : z ≢ tag_of). current_longer z other (d.unknown z (sym (put_else s.pool.logged tag_of (Some p) z other) ∙ none)));
     each = λ j u at. let y = d.each j u at in record {
       begun = (let z = y.begun in omega arith);
-      kept_begun = λ k c t. let z = y.kept_begun k c t in omega arith;
+      kept_begun = λ k a t. let z = y.kept_begun k a t in omega arith;
       own = λ g below. let z = y.own g below in record { stored_or_left = stored_or_left_longer (s.pool.core.frame g) u.upto (link u g).visited (link u g).left_to_write y.begun z.stored_or_left; done = λ e given. current_longer (s.pool.core.frame g).tag (no_done j u g at below e) (z.done e given) };
-      kept = λ k g c t below. stored_or_left_longer (s.pool.core.frame g) c.upto (has_visited c g) (has_left_to_write c g) (y.kept_begun k c t) (y.kept k g c t below);
+      kept = λ k g a t below. stored_or_left_longer (s.pool.core.frame g) a.upto (has_visited a g) (has_left_to_write a g) (y.kept_begun k a t) (y.kept k g a t below);
     };
   }
     where
       some_none : {q : Page} → Some q ≡ None → ⊥
       some_none e = cc
 
-  enters_owe : Debts longer s.pool.core.frames (put s.pool.core.frame f (s.pool.core.frame f)) (s.end + record_size) logged' (set s.pool.core.views i (has_written (s.end + record_size) tag_of p (paged (make_entry p) s.pool f v)))
+  enters_owe : Debts longer s.pool.core.frames (put s.pool.core.frame f (s.pool.core.frame f)) end' logged' (set s.pool.core.views i (has_written c end' tag_of p (paged (make_entry p) s.pool f v)))
   enters_owe = let l : Link = link_after (make_entry p) (block_of s.pool.logged tag_of) (s.pool.core.frame f) (link v f) in let own = (entries_longer.each i v there).own f inside in
-      debts_touched longer s.pool.core.frames s.pool.core.frame (s.end + record_size) f (s.pool.core.frame f) (stays refl (λ e. e) (λ e. e)) logged' s.pool.core.views entries_longer inside (λ goes. absurd (goes refl)) i v (has_written (s.end + record_size) tag_of p (paged (make_entry p) s.pool f v)) l there
-      (touches_at s h d i f v (has_written (s.end + record_size) tag_of p (paged (make_entry p) s.pool f v)) l there live inside refl refl refl) (record { stored_or_left = own.stored_or_left; done = own.done })
+      debts_touched longer s.pool.core.frames s.pool.core.frame end' f (s.pool.core.frame f) (stays refl (λ e. e) (λ e. e)) logged' s.pool.core.views entries_longer inside (λ goes. absurd (goes refl)) i v (has_written c end' tag_of p (paged (make_entry p) s.pool f v)) l there
+      (touches_at s h d i f v (has_written c end' tag_of p (paged (make_entry p) s.pool f v)) l there live inside refl refl refl) (record { stored_or_left = own.stored_or_left; done = own.done })
 
 -- a kind at a word
 words_owe : (s : State) (h : HistoryInvariant s) (d : DebtsLaw s) (i : ℕ) (k : WordKind) (v : View) → get_elem? s.pool.core.views i ≡ some v → DebtsLaw (state_worded k s i v)
@@ -320,7 +330,7 @@ debts_kept (writes {s = s} i q f k v there live low inside a x) h d = subst (λ 
     (λ j z. sym (put_same s.pool.logged (s.pool.core.frame f).tag (s.pool.logged (s.pool.core.frame f).tag) z refl) j) (writes_owe s h d i q f k v there live inside x)
 debts_kept (notes {s = s} i q f noted k v there live low inside a x) h d = same_lane s h d q (s.lane q) (record { stored = refl; upto = refl; failed = refl }) (logged_after k (logged_noting k s f) (s.pool.core.frame f).tag) (set s.pool.core.views i (laned (lane_kinds.lane_back noted) q v (paged k (pool_noting k s f) f v))) (put s.pool.core.frame f (frame_after k (block_of (logged_noting k s f) (s.pool.core.frame f).tag) (s.pool.core.frame f))) (notes_owe s h d i q f noted k v there live low inside x)
 debts_kept (logs {s = s} i k v there live a record_is) h d = aside_owe s h d i v (view_logged k v) there refl refl refl
-debts_kept (enters {s = s} i f p v there live inside x) h d = enters_owe s h d i f p v there live inside x
+debts_kept (enters {s = s} i f p c v there live inside x) h d = enters_owe s h d i f p c v there live inside x
 debts_kept (reads {s = s} i f tag p v there live inside a) h d = aside_owe s h d i v (looked (seen.LogEnd s.end) (has_read s.end tag p v)) there refl refl refl
 debts_kept (words {s = s} i k v there live a) h d = words_owe s h d i k v there
 
@@ -330,11 +340,11 @@ debts_after (goes x r) h d = debts_after r (step_keeps x h) (debts_kept x h d)
 
 pub debts_open : (c : Config) (store : Store) (page : Page) → DebtsLaw (opening c store page)
 debts_open c store page = let w : View = first_view c.base c.frames c.partitions c.lanes in record {
-  named = λ k e at. absurd (some-ne-none e (sym at));
+  named = λ k tag e of. absurd (some-ne-none e (sym of.there));
   clean = λ f below named. absurd (named refl);
-  unframed = λ tag named none k e at. absurd (some-ne-none e (sym at));
-  positioned = λ tag k p e is at. absurd (some-ne-none e (sym at));
-  unknown = λ tag none k e at. absurd (some-ne-none e (sym at));
+  unframed = λ tag named none k e of. absurd (some-ne-none e (sym of.there));
+  positioned = λ tag k p e is of. absurd (some-ne-none e (sym of.there));
+  unknown = λ tag none k e of. absurd (some-ne-none e (sym of.there));
   each = λ i v there. subst (ViewDebts (taken_of (opening c store page)) c.frames (λ _. empty_frame page) c.base) (at_only w v i there).0 (record {
     begun = omega arith;
     kept_begun = λ k x at. absurd (some-ne-none x (sym at));

@@ -6,7 +6,7 @@ use lib.ListN.{get_elem?}
 use Rattle.pin_core.specs.declared.view.JoinedCheckpoint.{JoinedCheckpoint}
 use Rattle.pin_core.specs.State.{no_tag, link, lane_hold}
 use Rattle.history_core.specs.Swept.{IsSwept, has_swept, SweptLaw}
-use Rattle.history_core.specs.Log.{Entry, end_of}
+use Rattle.history_core.specs.Log.{Entry, end_of, IsEntryOf}
 use Rattle.history_core.specs.State.{State, stored_upto, failed}
 use Rattle.history_core.specs.Homes.{IsUnframed}
 use Rattle.history_core.specs.Invariant.{HistoryInvariant}
@@ -16,6 +16,7 @@ use Rattle.pin_core.specs.Steps as pin_steps
 use Rattle.page_core.specs.Steps as page_steps
 use Rattle.page_core.proofs.Histories.{cleanup_alone}
 use Rattle.history_core.specs.Steps.{pools}
+use Rattle.history_core.proofs.Logs.{entry_at}
 use Rattle.history_core.proofs.Histories.{framed, durable}
 
 either : {A : Type 0} (b : Bool) → (b ≡ true → A) → (b ≡ false → A) → A
@@ -26,26 +27,26 @@ apart : {b : Bool} → b ≡ true → b ≡ false → ⊥
 apart y n = cc
 
 module _ (s : State) (h : HistoryInvariant s) (d : DebtsLaw s) where
-  in_lane : (k : ℕ) (e : Entry) → get_elem? s.log.entries k ≡ some e → failed s e.tag ≡ false → end_of e ≤ stored_upto s e.tag → IsInLane s e
-  in_lane k e at ok low = let x = h.flushed_cells e.tag in record { place = stored_upto s e.tag; later = low; flushed = x.within; durable = durable s h k e at (let y = x.within in omega arith); holds = λ known. x.is_cell known ok }
+  in_lane : (k tag : ℕ) (e : Entry) → IsEntryOf s.log.entries tag k e → failed s tag ≡ false → end_of e ≤ stored_upto s tag → IsInLane s e tag
+  in_lane k tag e of ok low = let x = h.flushed_cells tag in record { place = stored_upto s tag; later = low; flushed = x.within; durable = durable s h k e of.there (let y = x.within in omega arith); holds = λ known. x.is_cell known ok }
 
   -- a block whose last write failed has a frame, which is dirty
-  unwritten : (e : Entry) → e.tag ≢ no_tag → failed s e.tag ≡ true → IsUnwritten s e
-  unwritten e named bad = ⊎_elim
-      (λ (x : (f : ℕ) × (f < s.pool.core.frames) × ((s.pool.core.frame f).tag ≡ e.tag)). let dirty = either (s.pool.core.frame x.0).word.dirty (λ y. y) (λ clean. absurd (apart bad (subst (λ (t : ℕ). failed s t ≡ false) x.2 ((h.homes.columns x.0 x.1).clean (λ z. named (sym x.2 ∙ z)) clean).done))) in
+  unwritten : (tag : ℕ) → tag ≢ no_tag → failed s tag ≡ true → IsUnwritten s tag
+  unwritten tag named bad = ⊎_elim
+      (λ (x : (f : ℕ) × (f < s.pool.core.frames) × ((s.pool.core.frame f).tag ≡ tag)). let dirty = either (s.pool.core.frame x.0).word.dirty (λ y. y) (λ clean. absurd (apart bad (subst (λ (t : ℕ). failed s t ≡ false) x.2 ((h.homes.columns x.0 x.1).clean (λ z. named (sym x.2 ∙ z)) clean).done))) in
       record { failed_write = bad; frame = x.0; inside = x.1; tagged = x.2; valid = (h.pool.core.grid.columns x.0 x.1).dirty dirty; dirty = dirty })
-      (λ (none : IsUnframed s.pool.core.frames s.pool.core.frame e.tag). absurd (apart bad (h.unframed e.tag named none).done))
-      (framed s.pool.core.frames s.pool.core.frame e.tag)
+      (λ (none : IsUnframed s.pool.core.frames s.pool.core.frame tag). absurd (apart bad (h.unframed tag named none).done))
+      (framed s.pool.core.frames s.pool.core.frame tag)
 
   -- a checkpoint that has visited every frame, and has none left
   all_stored : (upto : ℕ) (visited left_to_write : ℕ → Bool) → ((f : ℕ) → f < s.pool.core.frames → IsStoredOrLeft (taken_of s) (s.pool.core.frame f) upto (visited f) (left_to_write f)) → ((f : ℕ) → f < s.pool.core.frames → (visited f ≡ true) × (left_to_write f ≡ false)) → AreStored s upto
-  all_stored upto visited left_to_write stored_or_left ended k e at low = let named = d.named k e at in either (failed s e.tag) (λ bad. inr (unwritten e named bad)) (λ ok. inl (in_lane k e at ok (⊎_elim
-      (λ (behind : stored_upto s e.tag < end_of e). ⊎_elim
-      (λ (x : (f : ℕ) × (f < s.pool.core.frames) × ((s.pool.core.frame f).tag ≡ e.tag)). let done = ended x.0 x.1 in
-      absurd (apart (stored_or_left x.0 x.1 done.0 (λ z. named (sym x.2 ∙ z)) k e at (sym x.2) low (subst (λ (t : ℕ). stored_upto s t < end_of e) (sym x.2) behind)).1 done.1))
-      (λ (none : IsUnframed s.pool.core.frames s.pool.core.frame e.tag). d.unframed e.tag named none k e at refl)
-      (framed s.pool.core.frames s.pool.core.frame e.tag))
-      (λ (there : end_of e ≤ stored_upto s e.tag). there) (cases_lt (stored_upto s e.tag) (end_of e)))))
+  all_stored upto visited left_to_write stored_or_left ended k tag e of low = let named = d.named k tag e of in either (failed s tag) (λ bad. inr (unwritten tag named bad)) (λ ok. inl (in_lane k tag e of ok (⊎_elim
+      (λ (behind : stored_upto s tag < end_of e). ⊎_elim
+      (λ (x : (f : ℕ) × (f < s.pool.core.frames) × ((s.pool.core.frame f).tag ≡ tag)). let done = ended x.0 x.1 in
+      absurd (apart (stored_or_left x.0 x.1 done.0 (λ z. named (sym x.2 ∙ z)) k e (entry_at s.log.entries tag (s.pool.core.frame x.0).tag k e (sym x.2) of) low (subst (λ (t : ℕ). stored_upto s t < end_of e) (sym x.2) behind)).1 done.1))
+      (λ (none : IsUnframed s.pool.core.frames s.pool.core.frame tag). d.unframed tag named none k e of)
+      (framed s.pool.core.frames s.pool.core.frame tag))
+      (λ (there : end_of e ≤ stored_upto s tag). there) (cases_lt (stored_upto s tag) (end_of e)))))
 
   pub checkpoints_store : CheckpointsStore s
   checkpoints_store = record {
@@ -59,11 +60,11 @@ module _ (s : State) (h : HistoryInvariant s) (d : DebtsLaw s) where
       (λ (x : (n : ℕ) → n < s.lanes → upto ≤ (lane_hold v n).swept). λ n below. ((lane_hold v n).swept, x n below, (m.each i v there).own n))
       (λ (x : (k : ℕ) × (c : JoinedCheckpoint) × (get_elem? v.joined_checkpoints k ≡ some c) × ((n : ℕ) → n < s.lanes → upto ≤ has_swept c n)). λ n below. (has_swept x.1 n, x.3 n below, (m.each i v there).kept x.0 n x.1 x.2)) low) in (
         covered,
-        λ k e at upto. let x = covered k e at upto in let y = m.below (s.lane_of e.tag) e.tag in either (failed s e.tag) (λ bad. inr (unwritten e (d.named k e at) bad)) (λ ok. inl (in_lane k e at ok (omega arith))),
+        λ k tag e of upto. let x = covered k tag e of upto in let y = m.below (s.lane_of tag) tag in either (failed s tag) (λ bad. inr (unwritten tag (d.named k tag e of) bad)) (λ ok. inl (in_lane k tag e of ok (omega arith))),
       )
     where
       all_synced : ((n : ℕ) → n < s.lanes → (p : ℕ) × (upto ≤ p) × IsSwept s n p) → AreSynced s upto
-      all_synced h2 k e at low = let x = h2 (s.lane_of e.tag) (h.placed e.tag) in let y = x.1 in x.2.covered k e at refl (omega arith)
+      all_synced h2 k tag e of low = let x = h2 (s.lane_of tag) (h.placed tag) in let y = x.1 in x.2.covered k tag e of refl (omega arith)
 
 -- the load is of a frame that is there
 pub grants_alone : (s : State) → HistoryInvariant s → GrantsAreAlone s

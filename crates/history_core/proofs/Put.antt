@@ -15,11 +15,11 @@ use Rattle.page_core.proofs.Sample.{at_frame}
 use Rattle.page_core.specs.Kinds.{share, unshare, exclude, unexclude, mark_dirty, page_out, overwrite_logged, page_back, begin_write, start_output, clear_just_dirtied, make_entry, note_write, end_io}
 use Rattle.page_core.specs.Steps as page_steps
 use Rattle.page_core.specs.Steps.{HasNoWriteOut}
-use Rattle.history_core.specs.Log.{record_size, head_bytes, records, log_bytes}
+use Rattle.history_core.specs.Log.{record_size, head_bytes, records, log_bytes, image, change_size}
 use Rattle.history_core.specs.State.{State, last_position}
 use Rattle.history_core.specs.Lanes.{take_lane, leave_lane, lane_out, write_block, CanTakeOut, lane_after}
 use Rattle.history_core.specs.Device.{LogKind, take_log, leave_log, log_out, append, sync_log, log_back, device_after, view_logged}
-use Rattle.history_core.specs.Steps.{CanLog, aside, pool_after, looked, laned, new_entry, has_written, pools, lanes, writes, notes, logs, enters, words, state_worded, Run, rests, goes}
+use Rattle.history_core.specs.Steps.{CanLog, aside, pool_after, laned, new_entry, has_written, pools, lanes, writes, notes, logs, enters, words, state_worded, Run, rests, goes}
 use Rattle.history_core.specs.Words.{load_flushed, raise_flushed}
 use Rattle.history_core.specs.Steps as steps
 use Rattle.history_core.specs.Sample.{sample_store, sample_lane, sample_log}
@@ -35,13 +35,13 @@ has_room = omega arith
 pub is_flushed : (p : Page) → IsPut p → lsn_of p ≤ record_size
 is_flushed p is = omega (arith, is.ends)
 
-abbrev at_log : LogKind → State → State
+abbrev pub at_log : LogKind → State → State
 at_log k s = record s { pool = aside s.pool 0 (view_logged k (view_of s)); device = device_after k s.end s.device }
 
 abbrev entered : Page → State → State
-entered p s = let tag = (s.pool.core.frame 0).tag in let end = s.end + record_size in record s {
-  pool = pool_after (make_entry p) s.pool 0 0 (has_written end tag p (steps.paged (make_entry p) s.pool 0 (view_of s)));
-  log = record s.log { entries = s.log.entries ++ new_entry s (view_of s).number tag p ∷ [] };
+entered p s = let tag = (s.pool.core.frame 0).tag in let end = s.end + change_size (image 7 p) in record s {
+  pool = pool_after (make_entry p) s.pool 0 0 (has_written (image 7 p) end tag p (steps.paged (make_entry p) s.pool 0 (view_of s)));
+  log = record s.log { entries = s.log.entries ++ new_entry s (view_of s).number (image 7 p) ∷ [] };
   end = end;
 }
 
@@ -147,26 +147,26 @@ q30 p = pooled pins.lock_header (q29 p)
 abbrev q31 : Page → State
 q31 p = paged (end_io WriteOk) (q30 p)
 
-abbrev q32 : Page → State
+abbrev pub q32 : Page → State
 q32 p = paged unshare (q31 p)
 
 takes_out : (p : Page) → CanTakeOut sample_lane ((q25 p).lane 0) (lane_hold (view_of (q25 p)) 0)
-takes_out p = record { held = refl; home = refl; reads = refl; writes = refl; pages = λ blocks k b e at. absurd (cc) }
+takes_out p = record { held = refl; home = refl; reads = refl; writes = refl; pages = λ blocks k b e at. absurd (cc); marks = λ k m at. absurd (cc) }
 
 none_out : (p : Page) → HasNoWriteOut (view_of (q30 p)) 0
 none_out p n out = absurd (out (at_one_lane (λ (h : LaneHold). h.out ≡ None) (view_of (q30 p)) _ refl refl refl n))
 
-may_log : (p : Page) → IsPut p → CanLog (q4 p) 0 7 p (view_of (q4 p))
-may_log p is = record { inside = lit< tt; tagged = refl; right = record { right = refl; dirtied = refl; applied = refl; sound = is.sound; used = is.used }; around = at_frame (λ (l : Link). l.unapplied ≡ false) (view_of (q4 p)) _ refl refl refl; full = is.full; ends = is.ends; room = has_room }
+may_log : (p : Page) → IsPut p → CanLog (q4 p) 0 7 p (image 7 p) (view_of (q4 p))
+may_log p is = record { inside = lit< tt; tagged = refl; right = record { right = refl; dirtied = refl; applied = refl; sound = is.sound; used = is.used }; around = at_frame (λ (l : Link). l.unapplied ≡ false) (view_of (q4 p)) _ refl refl refl; full = is.full; ends = is.ends; room = has_room; makes = (refl, refl); allowed = tt }
 
 pub changes : (p : Page) → IsPut p → Run (change p) m22 (q12 p)
 changes p is = goes (pools (page_steps.touches 0 0 exclude (view_of m22) refl refl (lit< tt) (record { pinned = λ e. cc; seen = refl; none = refl; free = refl; alone = refl; no_copy = refl }) tt) tt)
     (goes (pools (page_steps.touches 0 0 mark_dirty (view_of (q1 p)) refl refl (lit< tt) (record { unlocked = refl; right = refl }) tt) tt)
     (goes (logs 0 take_log (view_of (q2 p)) refl refl (record { free = refl }) tt)
     (goes (logs 0 (log_out sample_log) (view_of (q3 p)) refl refl (record { held = refl; home = refl; faults = refl; synced = refl; down = refl; bytes = λ bytes e. sym (same_Some (head_bytes 0) bytes e) }) tt)
-    (goes (logs 0 (append 0 7 p (put_bytes p)) (view_of (q4 p)) refl refl (record { call = record { out = λ e. cc; once = refl; up = refl }; entered = refl; unsynced = refl; full = record_length sample_store.names (put_entry p) refl is.full }) (may_log p is, refl))
+    (goes (logs 0 (append 0 7 p (put_bytes p)) (view_of (q4 p)) refl refl (record { call = record { out = λ e. cc; once = refl; up = refl }; entered = refl; unsynced = refl; short = (let x = record_length sample_store.names 0 record_size (image 7 p) (λ tag. refl) (record { sound = is.sound; used = is.used; full = is.full; ends = is.ends }) in omega arith) }) (image 7 p, may_log p is, refl))
     (goes (logs 0 (log_back false) (view_of (q5 p)) refl refl (record { out = λ e. cc; failed = λ z. absurd (cc); rose = λ taken e z. below taken.faults z }) tt)
-    (goes (enters 0 0 p (view_of (q6 p)) refl refl (lit< tt) (record { right = record { right = refl; dirtied = refl; applied = refl; sound = is.sound; used = is.used }; around = at_frame (λ (l : Link). l.unapplied ≡ false) (view_of (q6 p)) _ refl refl refl; full = is.full; ends = is.ends; room = has_room; appended = refl }))
+    (goes (enters 0 0 p (image 7 p) (view_of (q6 p)) refl refl (lit< tt) (record { right = record { right = refl; dirtied = refl; applied = refl; sound = is.sound; used = is.used }; around = at_frame (λ (l : Link). l.unapplied ≡ false) (view_of (q6 p)) _ refl refl refl; full = is.full; ends = is.ends; room = has_room; makes = (refl, refl); allowed = tt; appended = refl }))
     (goes (logs 0 leave_log (view_of (q7 p)) refl refl (record { held = refl; home = refl; entered = refl }) tt)
     (goes (pools (page_steps.touches 0 0 page_out (view_of (q8 p)) refl refl (lit< tt) (record { page_home = refl; shared = λ e. absurd (cc); unlocked = λ e. absurd (cc) }) tt) tt)
     (goes (pools (page_steps.touches 0 0 overwrite_logged (view_of (q9 p)) refl refl (lit< tt) (record { out = λ e. cc; once = refl; unapplied = refl }) tt) tt)
@@ -184,7 +184,7 @@ flushes p is = goes (logs 0 take_log (view_of (q12 p)) refl refl (record { free 
     (goes (words 0 load_flushed (view_of (q18 p)) refl refl tt)
     rests))))))
 
-writes_out : (p : Page) → IsPut p → Run (write_out 0 p) (q19 p) (q32 p)
+pub writes_out : (p : Page) → IsPut p → Run (write_out 0 p) (q19 p) (q32 p)
 writes_out p is = goes (pools (page_steps.touches 0 0 share (view_of (q19 p)) refl refl (lit< tt) (record { pinned = λ e. cc; seen = refl; none = refl; free = refl }) tt) tt)
     (goes (pools (page_steps.cores (pin_steps.touches 0 0 pins.lock_header (view_of (q20 p)) refl refl (lit< tt) (record { unlocked = refl }) (at_frame (λ (l : Link). l.header ≡ None) (view_of (q20 p)) _ refl refl refl))) tt)
     (goes (pools (page_steps.touches 0 0 start_output (view_of (q21 p)) refl refl (lit< tt) (record { held = refl; settled = refl; pinned = λ e. cc; clear = refl; dirty = refl; right = refl }) (at_frame (λ (l : Link). l.io ≡ Quiet) (view_of (q21 p)) _ refl refl refl)) tt)
@@ -201,7 +201,7 @@ writes_out p is = goes (pools (page_steps.touches 0 0 share (view_of (q19 p)) re
     rests))))))))))))
 
 -- the bytes of a log of this one entry
-one_record : (p : Page) → head_bytes 0 ++ put_bytes p ≡ log_bytes sample_store.names (record { base = 0; entries = put_entry p ∷ [] })
+pub one_record : (p : Page) → head_bytes 0 ++ put_bytes p ≡ log_bytes sample_store.names (record { base = 0; entries = put_entry p ∷ [] })
 unfolding records
 one_record p = ap (λ (l : List ℕ). head_bytes 0 ++ l) (sym (append-nil (put_bytes p)))
 

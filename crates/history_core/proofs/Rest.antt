@@ -1,12 +1,12 @@
 -- Each step keeps the law of the bytes after the log's, and so does each list of steps.
-use Rattle.std.proofs.Common.{◌≡◌, ◌≢◌, ℕ, ◌+◌, ◌≤◌, true, List, [], ◌∷◌, ◌++◌, length, length-append, append-nil, None, sym, refl, ap, ◌∙◌, arith, lit<}
+use Rattle.std.proofs.Common.{◌≡◌, ◌≢◌, ℕ, ◌+◌, ◌≤◌, Bool, true, List, [], ◌∷◌, ◌++◌, length, length-append, append-nil, None, sym, refl, ap, ◌∙◌, subst, arith, lit<}
 use mathlib.Core.Option.{some}
 use lib.ListN.{get_elem?}
 use Rattle.pin_core.specs.declared.view.LogHold.{LogHold}
 use Rattle.pin_core.specs.declared.view.View.{View}
-use Rattle.pin_core.specs.State.{Config, Page}
+use Rattle.pin_core.specs.State.{Config, Page, link}
 use Rattle.pin_core.specs.Tallies.{some_weight}
-use Rattle.history_core.specs.Log.{Entry, IsImage, log_bytes, record_bytes}
+use Rattle.history_core.specs.Log.{Entry, Change, IsChange, MayMake, change_size, log_bytes, record_bytes}
 use Rattle.history_core.specs.State.{State, Store, Device, opening}
 use Rattle.history_core.specs.Device.{LogKind, take_log, leave_log, log_out, append, fail_append, sync_log, fail_sync, log_back, see_down, LogAllowed, device_after, view_logged, Written, DeviceLaw, LogLink, LogTally, holders, appenders, log_weigh, log_shape}
 use Rattle.history_core.specs.Invariant.{HistoryInvariant, written_of}
@@ -14,7 +14,7 @@ use Rattle.history_core.specs.Steps.{Event, new_entry, CanLog, AppendsRecord, as
 use Rattle.history_core.specs.Rest.{NoneAppended, HasRest, RestLaw}
 use Rattle.history_core.proofs.Logs.{bytes_longer}
 use Rattle.history_core.proofs.Opening.{head_only}
-use Rattle.history_core.proofs.Stepping.{step_keeps}
+use Rattle.history_core.proofs.Stepping.{step_keeps, makes_valid}
 use Rattle.grid.specs.Shape.{tallies}
 use Rattle.grid.proofs.Lists.{set_here}
 use Rattle.grid.proofs.Sums.{total-none, term_le}
@@ -36,17 +36,17 @@ nothing : (s : State) → s.device.bytes ≡ log_bytes s.names s.log → HasRest
 nothing s e = record { rest = []; is_bytes = e ∙ sym (append-nil (log_bytes s.names s.log)); begins = λ some. absurd (some refl); short = omega arith }
 
 -- the log and its device's bytes stay
-same : (s t : State) → HasRest s → t.device.bytes ≡ s.device.bytes → t.names ≡ s.names → t.log ≡ s.log → t.end ≡ s.end → HasRest t
-same s t x bytes names log end = record {
+same : (s t : State) → HasRest s → t.device.bytes ≡ s.device.bytes → t.names ≡ s.names → t.ranges ≡ s.ranges → t.log ≡ s.log → t.end ≡ s.end → HasRest t
+same s t x bytes names ranges log end = record {
   rest = x.rest;
   is_bytes = bytes ∙ x.is_bytes ∙ (λ j. log_bytes (sym names j) (sym log j) ++ x.rest);
-  begins = λ some. let b = x.begins some in record { entry = b.entry; starts = b.starts ∙ sym end; image = b.image; more = b.more; begins = b.begins ∙ (λ j. record_bytes (sym names j) b.entry) };
+  begins = λ some. let b = x.begins some in record { entry = b.entry; starts = b.starts ∙ sym end; valid = b.valid; allowed = subst (λ (may : Bool). MayMake may b.entry.change) (sym ranges) b.allowed; more = b.more; begins = b.begins ∙ (λ j. record_bytes (sym names j) b.entry) };
   short = x.short;
 }
 
--- the image of the entry that a backend may make
-image_of : (s : State) (f tag : ℕ) (p : Page) (v : View) → CanLog s f tag p v → IsImage (new_entry s v.number tag p)
-image_of s f tag p v a = record { sound = a.right.sound; used = a.right.used; full = a.full; ends = a.ends }
+-- what a backend may enter
+valid_of : (s : State) (f tag : ℕ) (p : Page) (ch : Change) (v : View) → CanLog s f tag p ch v → IsChange (s.end + change_size ch) ch
+valid_of s f tag p ch v a = makes_valid ch (s.end + change_size ch) tag p (link v f) (record { sound = a.right.sound; used = a.right.used; full = a.full; ends = a.ends }) a.makes
 
 -- the holder of the latch that has no record appended is alone in that
 none_else : (w : Written) (d : Device) (saw : _) (h : LogHold) (t : LogTally → ℕ) → DeviceLaw w d t → LogLink w d saw h → ((k : LogTally) → log_weigh k h ≤ t k) → h.out ≢ None → h.appended ≡ None → t appenders ≡ 0
@@ -55,33 +55,33 @@ none_else w d saw h t q c le out none = let held : h.held ≡ true = grind (arit
 -- a step at the log
 logged : (s : State) (h : HistoryInvariant s) (i : ℕ) (k : LogKind) (v : View) → get_elem? s.pool.core.views i ≡ some v → LogAllowed k s.device v.log → AppendsRecord k s v → HistoryInvariant (record s { pool = aside s.pool i (view_logged k v); device = device_after k s.end s.device }) → HasRest s
     → HasRest (record s { pool = aside s.pool i (view_logged k v); device = device_after k s.end s.device })
-logged s h i take_log v there a r g x = same s _ x refl refl refl refl
-logged s h i leave_log v there a r g x = same s _ x refl refl refl refl
-logged s h i (log_out taken) v there a r g x = same s _ x refl refl refl refl
-logged s h i sync_log v there a r g x = same s _ x refl refl refl refl
-logged s h i (fail_sync synced faults) v there a r g x = same s _ x refl refl refl refl
-logged s h i (log_back noted) v there a r g x = same s _ x refl refl refl refl
-logged s h i see_down v there a r g x = same s _ x refl refl refl refl
+logged s h i take_log v there a r g x = same s _ x refl refl refl refl refl
+logged s h i leave_log v there a r g x = same s _ x refl refl refl refl refl
+logged s h i (log_out taken) v there a r g x = same s _ x refl refl refl refl refl
+logged s h i sync_log v there a r g x = same s _ x refl refl refl refl refl
+logged s h i (fail_sync synced faults) v there a r g x = same s _ x refl refl refl refl refl
+logged s h i (log_back noted) v there a r g x = same s _ x refl refl refl refl refl
+logged s h i see_down v there a r g x = same s _ x refl refl refl refl refl
 logged s h i (append f tag p bytes) v there a r g x = let w : View = view_logged (append f tag p bytes) v in
-    let y = (g.device.cells i w 0 (set_here s.pool.core.views i v w there) (lit< tt)).appended bytes refl in let long = y.full in record {
+    let y = (g.device.cells i w 0 (set_here s.pool.core.views i v w there) (lit< tt)).appended bytes refl in let long = y.short in record {
       rest = bytes;
       is_bytes = y.is_bytes;
-      begins = λ some. record { entry = new_entry s v.number tag p; starts = refl; image = image_of s f tag p v r.0; more = []; begins = append-nil bytes ∙ r.1 };
+      begins = λ some. record { entry = new_entry s v.number r.0; starts = refl; valid = valid_of s f tag p r.0 v r.1; allowed = r.1.allowed; more = []; begins = append-nil bytes ∙ r.2 };
       short = omega arith;
     }
 logged s h i (fail_append f tag p bytes faults) v there a r g x = let c = h.device.cells i v 0 there (lit< tt) in let q = h.device.columns 0 (lit< tt) in
     let none = none_else (written_of s) s.device v.saw_down v.log (tallies log_shape s.pool.core.views 0) q c (λ k. term_le (λ (u : View). log_weigh k u.log) s.pool.core.views i v there) a.call.out a.entered in record {
       rest = bytes;
       is_bytes = ap (λ (l : List ℕ). l ++ bytes) (q.bytes none a.call.up);
-      begins = λ some. record { entry = new_entry s v.number tag p; starts = refl; image = image_of s f tag p v r.0; more = r.1.rest; begins = r.1.begins };
+      begins = λ some. record { entry = new_entry s v.number r.0; starts = refl; valid = valid_of s f tag p r.0 v r.1; allowed = r.1.allowed; more = r.2.rest; begins = r.2.begins };
       short = a.part;
     }
 
 behind_after : {e : Event} {s t : State} → Step e s t → HistoryInvariant s → HistoryInvariant t → HasRest s → HasRest t
 behind_after (logs {s = s} i k v there live a record_is) h g m = logged s h i k v there a record_is g m
-behind_after (enters {s = s} i f p v there live inside x) h g m = let e : Entry = new_entry s v.number (s.pool.core.frame f).tag p in
+behind_after (enters {s = s} i f p ch v there live inside x) h g m = let e : Entry = new_entry s v.number ch in
     nothing _ (((h.device.cells i v 0 there (lit< tt)).appended (record_bytes s.names e) x.appended).is_bytes ∙ sym (bytes_longer s.names s.log e))
-behind_after _ h g m = same _ _ m refl refl refl refl
+behind_after _ h g m = same _ _ m refl refl refl refl refl
 
 pub rest_kept : {e : Event} {s t : State} → Step e s t → HistoryInvariant s → RestLaw s → RestLaw t
 rest_kept {t = t} x h m = let g = step_keeps x h in law_of t g (behind_after x h g m.behind)

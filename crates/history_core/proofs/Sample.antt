@@ -58,12 +58,12 @@ abbrev s12 : State
 s12 = state_worded load_flushed s11 0 (view_of s11)
 
 goes_out : CanTakeOut sample_lane (s1.lane 0) (lane_hold (view_of s1) 0)
-goes_out = record { held = refl; home = refl; reads = refl; writes = refl; pages = λ blocks k b e at. absurd (cc) }
+goes_out = record { held = refl; home = refl; reads = refl; writes = refl; pages = λ blocks k b e at. absurd (cc); marks = λ k m at. absurd (cc) }
 
 pub sample : SampleRuns
 sample = (
   record { some_backend = lit< tt; placed = λ tag. lit< tt },
-  record { placed = λ tag. lit< tt; based = omega arith; named = λ tag. refl; synced = omega arith },
+  record { placed = λ tag. lit< tt; based = omega arith; named = λ tag. refl; synced = omega arith; there = λ tag block known. refl },
   (
     s5,
     state_worded load_end s12 0 (view_of s12),

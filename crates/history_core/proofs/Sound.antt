@@ -1,6 +1,7 @@
 -- Each step keeps that only blocks whose pages were sound at the start are read and written.
-use Rattle.std.proofs.Common.{◌≡◌, ◌≢◌, ℕ, zero, suc, ◌+◌, ◌<◌, Bool, true, false, List, [], ◌∷◌, ◌++◌, length, set, Some, None, sym, refl, ap, ◌∙◌, subst, ⊎_elim, arith}
+use Rattle.std.proofs.Common.{◌≡◌, ◌≢◌, ◌⊎◌, inl, inr, ℕ, ◌+◌, ◌<◌, Bool, true, false, List, [], ◌∷◌, ◌++◌, length, set, Some, None, sym, refl, ap, ◌∙◌, subst, ⊎_elim, arith}
 use Rattle.std.proofs.lemmas.Bool.{both_ways}
+use Rattle.std.proofs.lemmas.Option.{same_Some}
 use mathlib.Core.Logic.{dite}
 use mathlib.Core.Option.{some, some-ne-none}
 use native.Mathlib.Decide.{ℕ_discrete}
@@ -19,26 +20,21 @@ use Rattle.pin_core.specs.Steps as pin_steps
 use Rattle.page_core.specs.Steps as page_steps
 use Rattle.page_core.specs.Kinds.{begin_write, make_entry}
 use Rattle.page_core.specs.Tallies.{unapplied_locks, weigh}
-use Rattle.history_core.specs.Log.{Entry, record_size, cell, cut, tag_of}
+use Rattle.history_core.specs.Log.{Entry, image, IsEntryOf, change_size, end_of, log_end, cell, cut, tag_of, tag_in}
 use Rattle.history_core.specs.Lanes.{lane_back}
 use Rattle.history_core.specs.Device.{view_logged}
 use Rattle.history_core.specs.State.{State, Store, opening}
 use Rattle.history_core.specs.Invariant.{HistoryInvariant}
-use Rattle.history_core.specs.Histories.{IsStored}
+use Rattle.history_core.specs.Histories.{IsStored, ImagesAlone}
 use Rattle.history_core.specs.Sound.{WasSound, SoundLaw, ShowsSound, UnsoundStay, UnsoundAreFirst}
 use Rattle.history_core.specs.Steps.{Event, new_entry, stepped, looked, pool_noting, paged, laned, has_read, has_written, Step, pools, lanes, writes, notes, logs, enters, reads, words, worded}
 use Rattle.history_core.proofs.Calls.{at_both}
 use Rattle.history_core.proofs.Histories.{clean_stored}
-use Rattle.history_core.proofs.Logs.{cut_in, cut_out, in_or_out}
-use Rattle.grid.specs.Shape.{put, total}
-use Rattle.grid.proofs.Lists.{at_set, at_end, at_only, put_at, put_else}
+use Rattle.history_core.proofs.Logs.{cut_all, ends_below, cell_absent, after_none, after_images, entry_longer, IsLastUpto, last_upto, cell_upto}
+use Rattle.history_core.proofs.Stepping.{makes_of, page_of, logged_there}
+use Rattle.grid.specs.Shape.{total}
+use Rattle.grid.proofs.Lists.{at_set, at_end, at_only}
 use Rattle.grid.proofs.Sums.{some_term}
-
--- the page of a block that has no entry
-pub cell_absent : (origin : ℕ → Page) (es : List Entry) (tag : ℕ) → ((k : ℕ) (e : Entry) → get_elem? es k ≡ some e → e.tag ≢ tag) → cell origin es tag ≡ origin tag
-unfolding cell
-cell_absent origin [] tag none = refl
-cell_absent origin (e ∷ es) tag none = cell_absent (put origin e.tag e.image) es tag (λ k d at. none (suc k) d at) ∙ put_else origin e.tag e.image tag (λ is. none 0 e refl (sym is))
 
 pub weighs_flag : (b : Bool) → 0 < flag_weight b → b ≡ true
 weighs_flag true lt = refl
@@ -48,22 +44,22 @@ either_way : (b : Bool) {A : Type 0} → (b ≡ true → A) → (b ≡ false →
 either_way true x y = x refl
 either_way false x y = y refl
 
-module _ (s : State) (h : HistoryInvariant s) (entries : (k : ℕ) (e : Entry) → get_elem? s.log.entries k ≡ some e → WasSound s e.tag) where
+module _ (s : State) (h : HistoryInvariant s) (entries : (k tag : ℕ) (e : Entry) → IsEntryOf s.log.entries tag k e → WasSound s tag) where
   -- no entry is of a block whose page was not sound
-  none_of : (tag : ℕ) → s.known tag ≡ true → is_sound_page (s.origin tag) ≡ false → (k : ℕ) (e : Entry) → get_elem? s.log.entries k ≡ some e → e.tag ≢ tag
-  none_of tag known unsound k e at is = both_ways _ unsound (subst (WasSound s) is (entries k e at) known)
+  none_of : (tag : ℕ) (p : Page) → s.known tag ≡ true → s.origin tag ≡ Some p → is_sound_page p ≡ false → (k : ℕ) (e : Entry) → IsEntryOf s.log.entries tag k e → ⊥
+  none_of tag p known is unsound k e of = both_ways _ unsound (entries k tag e of p known is)
 
   -- the page after the log of such a block
-  first_page : (tag : ℕ) → s.known tag ≡ true → is_sound_page (s.origin tag) ≡ false → s.pool.logged tag ≡ Some (s.origin tag)
-  first_page tag known unsound = h.logged tag known ∙ ap Some (cell_absent s.origin s.log.entries tag (none_of tag known unsound))
+  first_page : (tag : ℕ) (p : Page) → s.known tag ≡ true → s.origin tag ≡ Some p → is_sound_page p ≡ false → s.pool.logged tag ≡ Some p
+  first_page tag p known is unsound = h.logged tag known ∙ cell_absent s.origin s.log.entries tag h.log.valid (none_of tag p known is unsound) ∙ is
 
   -- the block of a valid frame
   valid_sound : (f : ℕ) → f < s.pool.core.frames → (s.pool.core.frame f).tag ≢ no_tag → (s.pool.core.frame f).word.valid ≡ true → WasSound s (s.pool.core.frame f).tag
-  valid_sound f below named valid known = let fr : Frame = s.pool.core.frame f in let c = h.pool.pages.columns f below in let locks : ℕ = total (λ (v : View). weigh unapplied_locks (link v f)) s.pool.core.views in
-      either_way (is_sound_page (s.origin fr.tag)) (λ e. e) (λ (unsound : is_sound_page (s.origin fr.tag) ≡ false). let is = first_page fr.tag known unsound in dite (ℕ_discrete locks 0)
-      (λ (none : locks ≡ 0). ap is_sound_page (c.page (s.origin fr.tag) valid named none is) ∙ c.sound valid)
+  valid_sound f below named valid p known is = let fr : Frame = s.pool.core.frame f in let c = h.pool.pages.columns f below in let locks : ℕ = total (λ (v : View). weigh unapplied_locks (link v f)) s.pool.core.views in
+      either_way (is_sound_page p) (λ e. e) (λ (unsound : is_sound_page p ≡ false). let first = first_page fr.tag p known is unsound in dite (ℕ_discrete locks 0)
+      (λ (none : locks ≡ 0). ap is_sound_page (c.page p valid named none first) ∙ c.sound valid)
       (λ (more : locks ≢ 0). let x = some_term (λ (v : View). weigh unapplied_locks (link v f)) s.pool.core.views (omega arith) in
-      ((h.pool.pages.cells x.0 x.1 f x.2 below).unapplied (weighs_flag (link x.1 f).unapplied x.3)).is_sound (s.origin fr.tag) is))
+      ((h.pool.pages.cells x.0 x.1 f x.2 below).unapplied (weighs_flag (link x.1 f).unapplied x.3)).is_sound p first))
 
   -- the block of a frame that a view has locked
   locked_sound : (i f : ℕ) (v : View) → get_elem? s.pool.core.views i ≡ some v → f < s.pool.core.frames → (link v f).content ≢ Unlocked → WasSound s (s.pool.core.frame f).tag
@@ -111,16 +107,16 @@ sound_kept (lanes {s = s} i q k v there live low a alone) h m = record { entries
 sound_kept (writes {s = s} i q f k v there live low inside a x) h m = record { entries = m.entries; calls = calls_same s s.pool.core.views m.calls i v (laned k q v (paged begin_write s.pool f v)) there refl }
 sound_kept (notes {s = s} i q f noted k v there live low inside a x) h m = record { entries = m.entries; calls = calls_same s s.pool.core.views m.calls i v (laned (lane_back noted) q v (paged k (pool_noting k s f) f v)) there refl }
 sound_kept (logs {s = s} i k v there live a record_is) h m = record { entries = m.entries; calls = calls_same s s.pool.core.views m.calls i v (view_logged k v) there refl }
-sound_kept (enters {s = s} i f p v there live inside x) h m = let tag = (s.pool.core.frame f).tag in let end = s.end + record_size in let entry = new_entry s v.number tag p in let was : WasSound s tag = locked_sound s h m.entries i f v there inside (exclusive_locked x.right.right) in record {
-  entries = λ k e at. ⊎_elim (λ (y : get_elem? s.log.entries k ≡ some e). m.entries k e y) (λ (y : (entry ≡ e) × (k ≡ length s.log.entries)). subst (λ (z : Entry). WasSound s z.tag) y.0 was) (at_end s.log.entries entry e k at);
-  calls = calls_added s s.pool.core.views m.calls i v (has_written end tag p (paged (make_entry p) s.pool f v)) _ there refl was;
+sound_kept (enters {s = s} i f p ch v there live inside x) h m = let tag = (s.pool.core.frame f).tag in let end = s.end + change_size ch in let entry = new_entry s v.number ch in let was : WasSound s tag = locked_sound s h m.entries i f v there inside (exclusive_locked x.right.right) in record {
+  entries = λ k z e of. ⊎_elim (λ (y : IsEntryOf s.log.entries z k e). m.entries k z e y) (λ (y : (entry ≡ e) × (tag_in ch ≡ Some z)). subst (WasSound s) (same_Some tag z (sym (makes_of ch end tag p (link v f) x.makes) ∙ y.1)) was) (entry_longer s.log.entries entry z k e of);
+  calls = calls_added s s.pool.core.views m.calls i v (has_written ch end tag p (paged (make_entry p) s.pool f v)) _ there refl was;
 }
 sound_kept (reads {s = s} i f tag p v there live inside a) h m = record { entries = m.entries; calls = calls_added s s.pool.core.views m.calls i v (looked (seen.LogEnd s.end) (has_read s.end tag p v)) _ there refl (remembered s h m.entries i f tag v there inside a.remembered (locked_sound s h m.entries i f v there inside a.right)) }
 sound_kept (words {s = s} i k v there live a) h m = record { entries = m.entries; calls = calls_same s s.pool.core.views m.calls i v (worded k s v) there refl }
 
 pub sound_open : (c : Config) (store : Store) (page : Page) → SoundLaw (opening c store page)
 sound_open c store page = record {
-  entries = λ k e at. absurd (some-ne-none e (sym at));
+  entries = λ k tag e of. absurd (some-ne-none e (sym of.there));
   calls = λ i k v d there at. absurd (no_calls k (subst (λ (z : View). get_elem? z.calls k ≡ some d) (sym (at_only (first_view c.base c.frames c.partitions c.lanes) v i there).0) at));
 }
 
@@ -138,49 +134,42 @@ shows s h m = record {
 
 -- a block whose page was not sound is as it was
 pub stay_untouched : (s : State) → HistoryInvariant s → SoundLaw s → UnsoundStay s
-stay_untouched s h m tag named known unsound = record { unentered = none; is_cell = cell_is; invalid = invalid; done = stored_is.done; stored_is = stored_is.stored_is known ∙ cell_is }
+stay_untouched s h m tag p named known is unsound = record { unentered = none; is_cell = cell_is; invalid = invalid; done = stored_is.done; stored_is = stored_is.stored_is known ∙ cell_is }
   where
-    none : (k : ℕ) (e : Entry) → get_elem? s.log.entries k ≡ some e → e.tag ≢ tag
-    none = none_of s h m.entries tag known unsound
+    none : (k : ℕ) (e : Entry) → IsEntryOf s.log.entries tag k e → ⊥
+    none = none_of s h m.entries tag p known is unsound
 
     cell_is : cell s.origin s.log.entries tag ≡ s.origin tag
-    cell_is = cell_absent s.origin s.log.entries tag none
+    cell_is = cell_absent s.origin s.log.entries tag h.log.valid none
 
     invalid : (f : ℕ) → f < s.pool.core.frames → (s.pool.core.frame f).tag ≡ tag → (s.pool.core.frame f).word.valid ≡ false
-    invalid f below is = either_way (s.pool.core.frame f).word.valid (λ valid. absurd (both_ways _ unsound (subst (WasSound s) is (valid_sound s h m.entries f below (λ e. named (sym is ∙ e)) valid) known))) (λ e. e)
+    invalid f below same = either_way (s.pool.core.frame f).word.valid (λ valid. absurd (both_ways _ unsound (subst (WasSound s) same (valid_sound s h m.entries f below (λ e. named (sym same ∙ e)) valid) p known is))) (λ e. e)
 
     clean : (f : ℕ) → f < s.pool.core.frames → (s.pool.core.frame f).tag ≡ tag → (s.pool.core.frame f).word.dirty ≡ false
-    clean f below is = either_way (s.pool.core.frame f).word.dirty (λ dirty. absurd (both_ways _ (invalid f below is) ((h.pool.core.grid.columns f below).dirty dirty))) (λ e. e)
+    clean f below same = either_way (s.pool.core.frame f).word.dirty (λ dirty. absurd (both_ways _ (invalid f below same) ((h.pool.core.grid.columns f below).dirty dirty))) (λ e. e)
 
     stored_is : IsStored s tag
     stored_is = clean_stored s h tag named clean
 
--- an entry that is in a cut
-at_first_or : (l m : List Entry) (d e : Entry) (n : ℕ) → get_elem? (d ∷ l) n ≡ some e → ((k : ℕ) → get_elem? l k ≡ some e → (j : ℕ) × (get_elem? m j ≡ some e)) → (j : ℕ) × (get_elem? (d ∷ m) j ≡ some e)
-at_first_or l m d e zero here more = (0, here)
-at_first_or l m d e (suc n) here more = let x = more n here in (suc x.0, x.1)
-
-from_cut : (p : ℕ) (es : List Entry) (k : ℕ) (e : Entry) → get_elem? (cut p es) k ≡ some e → (j : ℕ) × (get_elem? es j ≡ some e)
-unfolding cut
-from_cut p [] k e at = (k, at)
-from_cut p (d ∷ es) k e at = in_or_out p d
-    (λ low. at_first_or (cut p es) es d e k (subst (λ (l : List Entry). get_elem? l k ≡ some e) (cut_in p d es low) at) (λ n here. from_cut p es n e here))
-    (λ high. let x = from_cut p es k e (subst (λ (l : List Entry). get_elem? l k ≡ some e) (cut_out p d es high) at) in (suc x.0, x.1))
-
--- a cell that isn't sound, where all images are
-cell_first : (origin : ℕ → Page) (es : List Entry) (tag : ℕ) → ((k : ℕ) (e : Entry) → get_elem? es k ≡ some e → is_sound_page e.image ≡ true) → is_sound_page (cell origin es tag) ≡ false → cell origin es tag ≡ origin tag
-unfolding cell
-cell_first origin [] tag images unsound = refl
-cell_first origin (e ∷ es) tag images unsound = let before = put origin e.tag e.image in let x = cell_first before es tag (λ k d at. images (suc k) d at) unsound in dite (ℕ_discrete tag e.tag)
-    (λ is. absurd (both_ways _ unsound (ap is_sound_page (x ∙ put_at origin e.tag e.image tag is) ∙ images 0 e refl)))
-    (λ other. x ∙ put_else origin e.tag e.image tag other)
-
-pub unsound_first : (s : State) → HistoryInvariant s → UnsoundAreFirst s
-unsound_first s h = record {
-  cells = λ tag place. cell_first s.origin (cut place s.log.entries) tag (λ k e at. let x = from_cut place s.log.entries k e at in (h.log.images x.0 e x.1).sound);
+-- a page that isn't sound is the first one of its block, for after an entry a page is sound
+pub unsound_first : (s : State) → HistoryInvariant s → ImagesAlone s → UnsoundAreFirst s
+unsound_first s h alone = record {
+  cells = cells;
   last_cells = last_cells;
-  reads = λ i f v p there below is unsound known. let tag = (s.pool.core.frame f).tag in let x : cell s.origin s.log.entries tag ≡ p = ((h.pool.pages.cells i v f there below).read p is).is_logged (cell s.origin s.log.entries tag) (h.logged tag known) in sym x ∙ last_cells tag (ap is_sound_page x ∙ unsound);
+  reads = λ i f v p there below is unsound known. let tag = (s.pool.core.frame f).tag in let r = (h.pool.pages.cells i v f there below).read p is in let named = (((h.pool.pages.cells i v f there below).input r.right).0).named in
+      let e = logged_there s h tag (h.pool.core.blocks f below named) known in last_cells tag p (inl known) (sym (h.logged tag known) ∙ e ∙ ap (λ (y : Page). Some y) (r.is_logged (page_of s tag) e)) unsound;
 }
   where
-    last_cells : (tag : ℕ) → is_sound_page (cell s.origin s.log.entries tag) ≡ false → cell s.origin s.log.entries tag ≡ s.origin tag
-    last_cells tag = cell_first s.origin s.log.entries tag (λ k e at. (h.log.images k e at).sound)
+    known_cells : (tag place : ℕ) (p : Page) → s.known tag ≡ true → cell s.origin (cut place s.log.entries) tag ≡ Some p → is_sound_page p ≡ false → s.origin tag ≡ Some p
+    known_cells tag place p known is unsound = ⊎_elim
+        (λ (m : (k : ℕ) × (e : Entry) × IsLastUpto s.log.entries tag place k e). let x = h.pages m.0 tag m.1 m.2.entered known in
+        let same : x.shown ≡ p = same_Some x.shown p (sym x.is ∙ cell_upto s.origin s.log.entries tag place m.0 m.1 h.log.valid m.2 ∙ is) in absurd (both_ways _ unsound (ap is_sound_page (sym same) ∙ x.valid.sound)))
+        (λ (none : (k : ℕ) (e : Entry) → IsEntryOf s.log.entries tag k e → place < end_of e). sym (after_none tag place s.log.entries (s.origin tag) h.log.valid none) ∙ is)
+        (last_upto s.log.entries tag place)
+
+    cells : (tag place : ℕ) (p : Page) → (s.known tag ≡ true) ⊎ (s.ranges ≡ false) → cell s.origin (cut place s.log.entries) tag ≡ Some p → is_sound_page p ≡ false → s.origin tag ≡ Some p
+    cells tag place p (inl known) is unsound = known_cells tag place p known is unsound
+    cells tag place p (inr none) is unsound = after_images tag place s.log.entries (s.origin tag) p h.log.valid (alone none) is unsound
+
+    last_cells : (tag : ℕ) (p : Page) → (s.known tag ≡ true) ⊎ (s.ranges ≡ false) → cell s.origin s.log.entries tag ≡ Some p → is_sound_page p ≡ false → s.origin tag ≡ Some p
+    last_cells tag p either is unsound = cells tag (log_end s.log) p either (ap (λ (es : List Entry). cell s.origin es tag) (cut_all (log_end s.log) s.log.entries (ends_below s.log (new_entry s 0 (image tag [])) h.log)) ∙ is) unsound

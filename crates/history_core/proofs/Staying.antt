@@ -14,7 +14,7 @@ use Rattle.pin_core.proofs.Stepping as pin_stepping
 use Rattle.page_core.specs.State as page
 use Rattle.page_core.specs.Steps as page_steps
 use Rattle.page_core.specs.Kinds.{begin_write, make_entry}
-use Rattle.history_core.specs.Log.{record_size}
+use Rattle.history_core.specs.Log.{change_size}
 use Rattle.history_core.specs.State.{State}
 use Rattle.history_core.specs.Lanes.{lane_back}
 use Rattle.history_core.specs.Device.{view_logged}
@@ -54,7 +54,7 @@ step_stays (lanes {s = s} i n k u there live low a alone) j v at leaves = set_st
 step_stays (writes {s = s} i n f k u there live low inside a x) j v at leaves = set_stays s.pool.core.views i j u (laned k n u (paged begin_write s.pool f u)) v there refl refl at
 step_stays (notes {s = s} i n f noted k u there live low inside a x) j v at leaves = set_stays s.pool.core.views i j u (laned (lane_back noted) n u (paged k (pool_noting k s f) f u)) v there refl refl at
 step_stays (logs {s = s} i k u there live a record_is) j v at leaves = set_stays s.pool.core.views i j u (view_logged k u) v there refl refl at
-step_stays (enters {s = s} i f p u there live inside x) j v at leaves = other_stays s.pool.core.views i j (has_written (s.end + record_size) (s.pool.core.frame f).tag p (paged (make_entry p) s.pool f u)) v leaves at
+step_stays (enters {s = s} i f p ch u there live inside x) j v at leaves = other_stays s.pool.core.views i j (has_written ch (s.end + change_size ch) (s.pool.core.frame f).tag p (paged (make_entry p) s.pool f u)) v leaves at
 step_stays (reads {s = s} i f tag p u there live inside a) j v at leaves = other_stays s.pool.core.views i j (looked (seen.LogEnd s.end) (has_read s.end tag p u)) v leaves at
 step_stays (words {s = s} i k u there live a) j v at leaves = set_stays s.pool.core.views i j u (worded k s u) v there refl refl at
 

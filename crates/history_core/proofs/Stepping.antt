@@ -1,7 +1,8 @@
 -- Each step keeps the law, and so does each list of steps.
-use Rattle.std.proofs.Common.{◌≡◌, ◌≢◌, ℕ, ◌+◌, ◌<◌, ◌≤◌, cond, Bool, true, false, List, [], ◌∷◌, ◌++◌, length, set, Option, Some, None, length-set, get_or-set_same, get_or-set_other, sym, refl, ap, ◌∙◌, subst, arith, lit<}
+use Rattle.std.proofs.Common.{◌≡◌, ◌≢◌, ℕ, ◌+◌, ◌<◌, ◌≤◌, cond, Bool, true, false, List, [], ◌∷◌, ◌++◌, length, set, Option, Some, None, length-set, get_or-set_same, get_or-set_other, sym, refl, ap, ◌∙◌, subst, arith, lit<, ⊎_elim}
 use Rattle.std.proofs.lemmas.Option.{same_Some}
-use Rattle.std.specs.Prelude.{max}
+use Rattle.std.specs.Prelude.{max, unwrap_or}
+use Rattle.std.specs.Option.{is_some}
 use mathlib.Core.Logic.{dite}
 use mathlib.Core.Option.{some}
 use native.Mathlib.Decide.{ℕ_discrete}
@@ -37,18 +38,18 @@ use Rattle.page_core.specs.Steps.{logged_after}
 use Rattle.page_core.proofs.Cases.{tag_kept}
 use Rattle.page_core.proofs.Stepping as page_stepping
 use Rattle.page_core.proofs.Stepping.{new_none}
-use Rattle.history_core.specs.Log.{Entry, IsImage, record_size, cell, log_bytes, record_bytes}
+use Rattle.history_core.specs.Log.{Entry, IsImage, change_size, cell, log_bytes, record_bytes, Change, image, ranges, resize, IsChange, IsEntryOf, HasImage, end_of, log_end, tag_in, changed_page, cut}
 use Rattle.history_core.specs.State.{Lane, Device, State, stored, stored_upto, failed}
 use Rattle.history_core.specs.Lanes as lane_kinds
 use Rattle.history_core.specs.Lanes.{swept_by, LaneKind, LaneAllowed, lane_after, lane_hold_after, lane_shape, lane_part}
 use Rattle.history_core.specs.Homes.{Home, home_of, IsClean, HomeLink, home_shape, home_part, IsUnframed, IsFlushedCell}
 use Rattle.history_core.specs.Invariant.{HistoryLaw, written_of, HistoryInvariant}
-use Rattle.history_core.specs.Steps.{Event, IsPlain, PoolAllowed, stepped, looked, aside, pool_after, pool_noting, CanNoteLaneRead, paged, laned, LaneAlone, CanWrite, MayWriteLane, Notes, new_entry, CanEnter, CanRead, has_read, has_written, Step, pools, lanes, writes, notes, enters, reads, logs, Run, rests, goes, words, worded, state_worded, has_raised}
+use Rattle.history_core.specs.Steps.{Event, IsPlain, PoolAllowed, stepped, looked, aside, pool_after, pool_noting, CanNoteLaneRead, paged, laned, LaneAlone, CanWrite, MayWriteLane, Notes, new_entry, CanEnter, CanRead, has_read, has_written, Step, pools, lanes, writes, notes, enters, reads, logs, Run, rests, goes, words, worded, state_worded, has_raised, MakesPage}
 use Rattle.history_core.specs.Words.{WordKind, load_end, begin_checkpoint, load_flushed, raise_flushed, WordAllowed}
 use Rattle.history_core.specs.Device.{LogKind, take_log, leave_log, log_out, append, fail_append, sync_log, fail_sync, log_back, see_down, LogAllowed, device_after, view_logged, log_weigh, log_shape, log_part}
 use Rattle.history_core.proofs.Device.{log_keeps, enter_keeps, end_keeps, synced_all}
 use Rattle.history_core.proofs.Calls.{SameCalls, history_same, history_read, history_written, history_loaded, history_raised}
-use Rattle.history_core.proofs.Logs.{bytes_longer, bytes_length, cell_longer, cut_longer, cell_at_position, end_longer, log_longer}
+use Rattle.history_core.proofs.Logs.{bytes_longer, bytes_length, cell_longer, cut_longer, cell_at_position, end_longer, log_longer, some_size, changed_else, changed_image, changed_ranges, cut_all, entry_longer, ends_below, end_above}
 use Rattle.history_core.proofs.Lanes.{lane_later}
 use Rattle.history_core.proofs.Forgetting.{forgets}
 use Rattle.history_core.proofs.Homes as homes
@@ -58,7 +59,7 @@ use Rattle.history_core.proofs.Beginning.{BegunHere, pool_begun, homes_begun}
 use Rattle.history_core.proofs.Outer.{Outer, outer_same, outer_grows, outer_joins, lanes_touched, wide_set}
 use Rattle.history_core.proofs.Blocks.{plain_keeps, plain_block, StoresClean, pins_keep, tag_goes, lacked, written_is_logged, Blocks, no_link, home_forgets, unframed_put, still_unframed}
 use Rattle.grid.specs.Shape.{Grid, put, tallies}
-use Rattle.grid.proofs.Lists.{put_here, put_at, put_else, put_same, set_else}
+use Rattle.grid.proofs.Lists.{put_here, put_at, put_else, put_same, set_else, at_end}
 use Rattle.grid.proofs.Sums.{term_le}
 use Rattle.grid.proofs.Grids.{Keeps, Relinks, both_grids, touch, sweep, steady, reblock, grows}
 
@@ -77,14 +78,16 @@ abbrev homes_with : State → (ℕ → Option Page) → (ℕ → Lane) → ℕ �
 homes_with s logged lane tag = record { block = block_of logged tag; known = s.known tag; stored = (lane (s.lane_of tag)).stored tag; stored_upto = (lane (s.lane_of tag)).stored_upto tag; failed = (lane (s.lane_of tag)).failed tag }
 
 -- a state with another buffer pool and other lanes, where the log stays
-assemble : (s : State) → HistoryInvariant s → (pool' : page.State) (lane' : ℕ → Lane) → page_law.PageInvariant pool' → ((tag : ℕ) → s.known tag ≡ true → pool'.logged tag ≡ Some (cell s.origin s.log.entries tag)) → ((tag : ℕ) → (lane' (s.lane_of tag)).known ≡ s.known tag) → pool'.core.base ≡ s.pool.core.base
+assemble : (s : State) → HistoryInvariant s → (pool' : page.State) (lane' : ℕ → Lane) → page_law.PageInvariant pool' → ((tag : ℕ) → s.known tag ≡ true → pool'.logged tag ≡ cell s.origin s.log.entries tag) → ((tag : ℕ) → (lane' (s.lane_of tag)).known ≡ s.known tag) → (pool'.core.base ≡ s.pool.core.base) × (pool'.core.is_block ≡ s.pool.core.is_block)
     → Outer s.known s.origin s.log s.lanes lane' s.flushed (written_of s) s.device pool'.core.views → Blocks pool'.core.frames pool'.core.frame pool'.core.views s.origin s.log s.flushed (homes_with s pool'.logged lane') → HistoryInvariant (record s { pool = pool'; lane = lane' })
 assemble s h pool' lane' law logged known kept outer blocks = record {
   pool = law;
   logged = logged;
+  there = λ tag block is. h.there tag (sym (λ j. kept.1 j tag) ∙ block) is;
+  pages = h.pages;
   known = known;
   log = h.log;
-  based = kept ∙ h.based;
+  based = kept.0 ∙ h.based;
   ends = h.ends;
   limit = h.limit;
   flushed_from = h.flushed_from;
@@ -102,7 +105,7 @@ assemble s h pool' lane' law logged known kept outer blocks = record {
 }
 
 -- and where each block's page after the log stays
-assemble_same : (s : State) → HistoryInvariant s → (pool' : page.State) (lane' : ℕ → Lane) → page_law.PageInvariant pool' → pool'.logged ≡ s.pool.logged → ((tag : ℕ) → (lane' (s.lane_of tag)).known ≡ s.known tag) → pool'.core.base ≡ s.pool.core.base
+assemble_same : (s : State) → HistoryInvariant s → (pool' : page.State) (lane' : ℕ → Lane) → page_law.PageInvariant pool' → pool'.logged ≡ s.pool.logged → ((tag : ℕ) → (lane' (s.lane_of tag)).known ≡ s.known tag) → (pool'.core.base ≡ s.pool.core.base) × (pool'.core.is_block ≡ s.pool.core.is_block)
     → Outer s.known s.origin s.log s.lanes lane' s.flushed (written_of s) s.device pool'.core.views → Blocks pool'.core.frames pool'.core.frame pool'.core.views s.origin s.log s.flushed (homes_with s s.pool.logged lane') → HistoryInvariant (record s { pool = pool'; lane = lane' })
 assemble_same s h pool' lane' law same known kept outer blocks = assemble s h pool' lane' law (λ tag is. (λ j. same j tag) ∙ h.logged tag is) known kept outer
     (subst (λ (g : ℕ → Option Page). Blocks pool'.core.frames pool'.core.frame pool'.core.views s.origin s.log s.flushed (homes_with s g lane')) (sym same) blocks)
@@ -153,6 +156,34 @@ still_known _ ln = refl
 known_after : (s : State) → HistoryInvariant s → (k : LaneKind) (q tag : ℕ) → (put s.lane q (lane_after k (s.lane q)) (s.lane_of tag)).known ≡ s.known tag
 known_after s h k q tag = lane_put (λ (x : Lane). x.known) s.lane q (lane_after k (s.lane q)) (still_known k (s.lane q)) (s.lane_of tag) ∙ h.known tag
 
+some_of : (o : Option Page) → is_some o ≡ true → o ≡ Some (unwrap_or o [])
+some_of None e = absurd (cc)
+some_of (Some p) e = refl
+
+-- the page of a block after the log
+abbrev pub page_of : State → ℕ → Page
+page_of s tag = unwrap_or (cell s.origin s.log.entries tag) []
+
+-- it is known of a block of the relations, where the contents of its lane are
+pub logged_there : (s : State) → HistoryInvariant s → (tag : ℕ) → s.pool.core.is_block tag ≡ true → s.known tag ≡ true → s.pool.logged tag ≡ Some (page_of s tag)
+logged_there s h tag block known = h.logged tag known ∙ some_of (cell s.origin s.log.entries tag) (h.there tag block known)
+
+-- What a change makes
+pub makes_of : (c : Change) (end tag : ℕ) (p : Page) (l : Link) → MakesPage c end tag p l → tag_in c ≡ Some tag
+makes_of (image t q) end tag p l m = ap (λ (z : ℕ). Some z) m.0
+makes_of (ranges t spans) end tag p l m = ap (λ (z : ℕ). Some z) m.0
+makes_of (resize fork old new) end tag p l m = absurd m
+
+pub makes_valid : (c : Change) (end tag : ℕ) (p : Page) (l : Link) → IsImage end p → MakesPage c end tag p l → IsChange end c
+makes_valid (image t q) end tag p l v m = subst (IsImage end) (sym m.1) v
+makes_valid (ranges t spans) end tag p l v m = m.1.valid
+makes_valid (resize fork old new) end tag p l v m = absurd m
+
+pub makes_whole : (c : Change) (end tag : ℕ) (p : Page) (l : Link) → MakesPage c end tag p l → (t : ℕ) (q : Page) → c ≡ image t q → q ≡ p
+makes_whole (image u r) end tag p l m t q e = let same : r ≡ p = m.1 in cc
+makes_whole (ranges u spans) end tag p l m t q e = absurd (cc)
+makes_whole (resize fork old new) end tag p l m t q e = absurd m
+
 module _ (s : State) (h : HistoryInvariant s) where
   abbrev views : List View
   views = s.pool.core.views
@@ -195,7 +226,7 @@ module _ (s : State) (h : HistoryInvariant s) where
   pins_step : (i f : ℕ) (k : pin_kinds.Kind) (v : View) → get_elem? views i ≡ some v → v.emptied ≡ false → f < n → pin_kinds.Allowed k (frame f) (link v f) → pin_steps.AllowedAround k s.pool.core v f → HistoryInvariant (record s { pool = record s.pool { core = pin_steps.state_after k s.pool.core i f v } })
   pins_step i f k v there live inside a around = let w : View = pin_stepping.after k s.pool.core f v in let fr : Frame = pin_kinds.frame_after k (frame f) in let l : Link = pin_kinds.link_after k (frame f) (link v f) in
       let law = page_stepping.step_keeps (page_steps.cores (pin_steps.touches i f k v there live inside a around)) h.pool in
-      assemble_same s h (record s.pool { core = pin_steps.state_after k s.pool.core i f v }) s.lane law refl h.known refl (outer_same s.known s.origin s.log s.lanes s.lane s.flushed (written_of s) s.device views (outer_of s h) i v w there (record { calls = refl; front = refl; joined = refl; flushed = refl; emptied = refl; number = refl; kept = refl }) refl refl refl refl)
+      assemble_same s h (record s.pool { core = pin_steps.state_after k s.pool.core i f v }) s.lane law refl h.known (refl, refl) (outer_same s.known s.origin s.log s.lanes s.lane s.flushed (written_of s) s.device views (outer_of s h) i v w there (record { calls = refl; front = refl; joined = refl; flushed = refl; emptied = refl; number = refl; kept = refl }) refl refl refl refl)
       (record {
         homes = touched i f v w fr l there live inside refl (home_of s) (λ g below other. refl) (pins_keep k (home_of s (frame f).tag) (home_of s fr.tag) (frame f) (link v f) a (λ e. ap (home_of s) e) (fresh i f k v there a around));
         unframed = unframed_put (λ (t : ℕ). IsClean (home_of s t)) n frame f fr inside h.unframed (clean_at f inside) (tag_goes k (frame f) (link v f) (tallies frame_shape views f) (h.pool.core.grid.columns f inside) a);
@@ -226,9 +257,9 @@ module _ (s : State) (h : HistoryInvariant s) where
   -- a step of a plain kind of `page_core`
   page_step : (i f : ℕ) (k : Kind) (v : View) → get_elem? views i ≡ some v → v.emptied ≡ false → f < n → Allowed k (block_of s.pool.logged (frame f).tag) (frame f) (link v f) → page_steps.AllowedAround k v f → IsPlain k → HistoryInvariant (record s { pool = page_steps.state_after k s.pool i f v })
   page_step i f k v there live inside a around plain = let stays = plain_block k (block_of s.pool.logged (frame f).tag) plain in let w : View = paged k s.pool f v in
-      assemble_same s h (page_steps.state_after k s.pool i f v) s.lane (page_stepping.step_keeps (page_steps.touches i f k v there live inside a around) h.pool) (logged_same i f k v there live inside stays) h.known refl
+      assemble_same s h (page_steps.state_after k s.pool i f v) s.lane (page_stepping.step_keeps (page_steps.touches i f k v there live inside a around) h.pool) (logged_same i f k v there live inside stays) h.known (refl, refl)
       (outer_same s.known s.origin s.log s.lanes s.lane s.flushed (written_of s) s.device views (outer_of s h) i v w there (record { calls = refl; front = refl; joined = refl; flushed = refl; emptied = refl; number = refl; kept = refl }) refl refl refl refl)
-      (blocks_touched i f k v there live inside stays w refl (plain_keeps k (home_of s (frame f).tag) (frame f) (link v f) (cell s.origin s.log.entries (frame f).tag) (h.logged (frame f).tag) plain a))
+      (blocks_touched i f k v there live inside stays w refl (plain_keeps k (home_of s (frame f).tag) (frame f) (link v f) (page_of s (frame f).tag) (λ named known. logged_there s h (frame f).tag (h.pool.core.blocks f inside named) known) plain a))
 
   -- the blocks where a view changes beside its links
   blocks_aside : (i : ℕ) (v w : View) → get_elem? views i ≡ some v → w.links ≡ v.links → Blocks n frame (set views i w) s.origin s.log s.flushed (home_of s)
@@ -238,13 +269,13 @@ module _ (s : State) (h : HistoryInvariant s) where
   others_step : {e : pin_steps.Event} {core' : pins.State} → pin_steps.Step e s.pool.core core' → HistoryInvariant (record s { pool = record s.pool { core = core' } })
   others_step (pin_steps.touches i f k v there live inside a around) = pins_step i f k v there live inside a around
   others_step (pin_steps.turns i p k v there live below a) = let x : pin_steps.Step (pin_steps.turn i p k) s.pool.core (pin_steps.state_turned k s.pool.core i p v) = pin_steps.turns i p k v there live below a in let w : View = view_turned k p (hold v p) v in
-      assemble_same s h (record s.pool { core = pin_steps.state_turned k s.pool.core i p v }) s.lane (page_stepping.step_keeps (page_steps.cores x) h.pool) refl h.known refl
+      assemble_same s h (record s.pool { core = pin_steps.state_turned k s.pool.core i p v }) s.lane (page_stepping.step_keeps (page_steps.cores x) h.pool) refl h.known (refl, refl)
       (outer_same s.known s.origin s.log s.lanes s.lane s.flushed (written_of s) s.device views (outer_of s h) i v w there (record { calls = refl; front = refl; joined = refl; flushed = refl; emptied = refl; number = refl; kept = refl }) refl refl refl refl) (blocks_aside i v w there refl)
   others_step (pin_steps.splits v there room) = let x : pin_steps.Step pin_steps.split s.pool.core (pins.split_state s.pool.core v) = pin_steps.splits v there room in let w : View = record v { next = v.next + 1 } in
       let a = length v.links in let p = length v.partitions in let m = length v.lanes in let first = h.pool.core.views.first v there in
-      let outer = outer_grows s.known s.origin s.log s.lanes s.lane s.flushed (written_of s) s.device (set views 0 w) (outer_same s.known s.origin s.log s.lanes s.lane s.flushed (written_of s) s.device views (outer_of s h) 0 v w there (record { calls = refl; front = refl; joined = refl; flushed = refl; emptied = refl; number = refl; kept = refl }) refl refl refl refl) v.next s.pool.core.base a p h.based h.flushed_from in
+      let outer = outer_grows s.known s.origin s.log s.lanes s.lane s.flushed (written_of s) s.device (set views 0 w) (outer_same s.known s.origin s.log s.lanes s.lane s.flushed (written_of s) s.device views (outer_of s h) 0 v w there (record { calls = refl; front = refl; joined = refl; flushed = refl; emptied = refl; number = refl; kept = refl }) refl refl refl refl) v.next s.pool.core.base a p h.based h.flushed_from (end_above s.log (new_entry s 0 (image 0 [])) h.log) in
       let blocks = blocks_aside 0 v w there refl in
-      assemble_same s h (record s.pool { core = pins.split_state s.pool.core v }) s.lane (page_stepping.step_keeps (page_steps.cores x) h.pool) refl h.known refl
+      assemble_same s h (record s.pool { core = pins.split_state s.pool.core v }) s.lane (page_stepping.step_keeps (page_steps.cores x) h.pool) refl h.known (refl, refl)
       (subst (λ (z : ℕ). Outer s.known s.origin s.log s.lanes s.lane s.flushed (written_of s) s.device (set views 0 w ++ new_view v.next s.pool.core.base a p z ∷ [])) (sym (h.wide 0 v there first.0)) outer)
       (record {
         homes = grows home_shape home_part n frame (home_of s) (set views 0 w) blocks.homes (new_view v.next s.pool.core.base a p m) (new_none v.next s.pool.core.base a p m) (λ g inside. subst (HomeLink (home_of s (frame g).tag) (frame g)) (sym (link_new a p m v.next s.pool.core.base g)) (no_link (home_of s (frame g).tag) (frame g)));
@@ -253,7 +284,7 @@ module _ (s : State) (h : HistoryInvariant s) where
       })
   others_step (pin_steps.joins j v u there other here live free) = let x : pin_steps.Step (pin_steps.join j) s.pool.core (pins.joined_state s.pool.core v j u) = pin_steps.joins j v u there other here live free in let w : View = joined_view v u in let alive = (h.pool.core.views.first v there).0 in
       let first = steady home_shape known n frame (home_of s) views (knows s h) 0 v w there refl (λ g. refl) in
-      assemble_same s h (record s.pool { core = pins.joined_state s.pool.core v j u }) s.lane (page_stepping.step_keeps (page_steps.cores x) h.pool) refl h.known refl
+      assemble_same s h (record s.pool { core = pins.joined_state s.pool.core v j u }) s.lane (page_stepping.step_keeps (page_steps.cores x) h.pool) refl h.known (refl, refl)
       (outer_joins s.known s.origin s.log s.lanes s.lane s.flushed (written_of s) s.device views (outer_of s h) j v u there alive (h.pool.core.views.numbered 0 v there alive) other here live (h.pool.core.views.numbered j u here live) free.lanes free.log)
       (record {
         homes = sweep home_shape known home_part n frame frame (home_of s) (home_of s) (set views 0 w) j u emptied_view first (set_else views 0 j w other ∙ here) (λ g inside. home_forgets (home_of s (frame g).tag) (frame g) (link u g));
@@ -294,7 +325,7 @@ module _ (s : State) (h : HistoryInvariant s) (i q f : ℕ) (noted : Bool) (k : 
       let is : logged_after k logged noting_frame.tag ≡ logged = (λ j g. put_same logged noting_frame.tag (block_after k noting_block).logged g (ap (λ (x : Block). x.logged) stays) j) in
       let here : SameHere (paged k noting f v) w = record { backend = record { emptied = refl; number = refl; next = refl; links = refl; partitions = refl }; joined = refl; links = refl; partitions = refl } in
       let tag_same = tag_kept k noting_block noting_frame in
-      assemble s h (pool_after k noting i f w) (put s.lane q (s.lane q)) (pool_touched noting law i f k v w there live inside a around here) (λ tag e. (λ j. is j tag) ∙ same tag e ∙ h.logged tag e) (known_after s h (lane_kinds.lane_back noted) q) refl
+      assemble s h (pool_after k noting i f w) (put s.lane q (s.lane q)) (pool_touched noting law i f k v w there live inside a around here) (λ tag e. (λ j. is j tag) ∙ same tag e ∙ h.logged tag e) (known_after s h (lane_kinds.lane_back noted) q) (refl, refl)
       (laned_outer s h i q (lane_kinds.lane_back noted) v w there live low back (record { calls = refl; front = refl; joined = refl; flushed = refl; emptied = refl; number = refl; kept = refl }) refl refl refl refl)
       (subst (λ (y : ℕ → Option Page). Blocks s.pool.core.frames (put s.pool.core.frame f fr) (set views i w) s.origin s.log s.flushed (homes_with s y (put s.lane q (s.lane q)))) (sym is)
       (subst (λ (y : ℕ → Home). Blocks s.pool.core.frames (put s.pool.core.frame f fr) (set views i w) s.origin s.log s.flushed y) (homes_same s logged q (s.lane q) (record { stored = refl; upto = refl; failed = refl }))
@@ -319,8 +350,8 @@ module _ (s : State) (h : HistoryInvariant s) (i q f : ℕ) (noted : Bool) (v : 
 
   note_known : s.known read_frame.tag ≡ true → HistoryInvariant (record s { pool = pool_after (note_read p) s.pool i f (laned (lane_kinds.lane_back noted) q v (paged (note_read p) s.pool f v)); lane = put s.lane q (s.lane q) })
   note_known e = let hm = home_of s read_frame.tag in let clean = (h.homes.columns f inside).clean is_input.0 is_input.1 in
-      let held = (h.lanes.cells i v q there low).hold.read read_frame.tag p x.was_read (ap (λ (z : ℕ). (s.lane z).known) (sym x.lane) ∙ h.known read_frame.tag ∙ e) in let is : hm.stored ≡ p = ap (λ (z : ℕ). (s.lane z).stored read_frame.tag) x.lane ∙ held in
-      noted_keeps s h i q f noted (note_read p) v there live low inside back s.pool.logged h.pool (λ tag z. refl) (λ tag z. refl) (λ g below other. refl) (record { right = x.right; fresh = x.fresh; given = λ r z. same_Some r hm.stored (sym z ∙ clean.stored e) ∙ is }) tt refl
+      let held = (h.lanes.cells i v q there low).hold.read read_frame.tag p x.was_read (ap (λ (z : ℕ). (s.lane z).known) (sym x.lane) ∙ h.known read_frame.tag ∙ e) in let is : hm.stored ≡ Some p = ap (λ (z : ℕ). (s.lane z).stored read_frame.tag) x.lane ∙ held in
+      noted_keeps s h i q f noted (note_read p) v there live low inside back s.pool.logged h.pool (λ tag z. refl) (λ tag z. refl) (λ g below other. refl) (record { right = x.right; fresh = x.fresh; given = λ r z. same_Some r p (sym z ∙ clean.stored e ∙ is) }) tt refl
       (homes.note_read_keeps hm read_frame (link v f) p hm refl refl (λ z. (z, refl)) x.right)
 
   -- where the contents aren't known the block's page is forgotten
@@ -345,7 +376,7 @@ notes_step : (s : State) → HistoryInvariant s → (i q f : ℕ) (noted : Bool)
 notes_step s h i q f noted (note_read p) v there live low inside back x = note_either s h i q f noted v there live low inside back p x (s.known (s.pool.core.frame f).tag) refl
 notes_step s h i q f noted (note_write true) v there live low inside back (p, x) = let fr = s.pool.core.frame f in let hm = home_of s fr.tag in let held = (h.lanes.cells i v q there low).hold.written f fr.tag p x.was_written in
     noted_keeps s h i q f noted (note_write true) v there live low inside back s.pool.logged h.pool (λ tag z. refl) (λ tag z. refl) (λ g below other. refl) x.right tt refl
-    (homes.note_done_keeps hm fr (link v f) (ap (λ (z : ℕ). (s.lane z).failed fr.tag) x.lane ∙ held.done) (ap (λ (z : ℕ). (s.lane z).stored fr.tag) x.lane ∙ held.stored ∙ sym x.page) x.right)
+    (homes.note_done_keeps hm fr (link v f) (ap (λ (z : ℕ). (s.lane z).failed fr.tag) x.lane ∙ held.done) (ap (λ (z : ℕ). (s.lane z).stored fr.tag) x.lane ∙ held.stored ∙ ap (λ (y : Page). Some y) (sym x.page)) x.right)
 notes_step s h i q f noted (note_write false) v there live low inside back x = let fr = s.pool.core.frame f in
     noted_keeps s h i q f noted (note_write false) v there live low inside back s.pool.logged h.pool (λ tag z. refl) (λ tag z. refl) (λ g below other. refl) x.right tt refl (homes.note_failed_keeps (home_of s fr.tag) fr (link v f) x.right)
 notes_step s h i q f noted begin_write v there live low inside back x = absurd x
@@ -375,7 +406,7 @@ lanes_step : (s : State) → HistoryInvariant s → (i q : ℕ) (k : LaneKind) (
     → HistoryInvariant (record s { pool = aside s.pool i (stepped (laned k q v v)); lane = put s.lane q (lane_after k (s.lane q)) })
 lanes_step s h i q k v there live inside a alone = let w : View = stepped (laned k q v v) in let views = s.pool.core.views in let holds = no_write_holds k s q (lane_hold v q) (s.lane q) alone in
     let same : SameHere v w = record { backend = record { emptied = refl; number = refl; next = refl; links = refl; partitions = refl }; joined = refl; links = refl; partitions = refl } in
-    assemble_same s h (aside s.pool i w) (put s.lane q (lane_after k (s.lane q))) (pool_aside s.pool i v w h.pool there same) refl (known_after s h k q) refl
+    assemble_same s h (aside s.pool i w) (put s.lane q (lane_after k (s.lane q))) (pool_aside s.pool i v w h.pool there same) refl (known_after s h k q) (refl, refl)
     (laned_outer s h i q k v w there live inside a (record { calls = refl; front = refl; joined = refl; flushed = refl; emptied = refl; number = refl; kept = refl }) refl refl refl refl)
     (subst (λ (x : ℕ → Home). Blocks s.pool.core.frames s.pool.core.frame (set views i w) s.origin s.log s.flushed x) (homes_same s s.pool.logged q (lane_after k (s.lane q)) holds) (blocks_aside s h i v w there refl))
 
@@ -399,16 +430,20 @@ module _ (s : State) (h : HistoryInvariant s) (i q f : ℕ) (v : View) (there : 
   abbrev upto : ℕ
   upto = max ((s.lane q).stored_upto tag) (lsn_of written_frame.page)
 
-  is_flushed : (lane_hold v q).out ≢ None → IsFlushedCell s.origin s.log s.flushed tag (record (home_of s tag) { stored = written_frame.page; stored_upto = upto; failed = false })
+  -- the block's page after the log is the frame's, where the contents of its lane are known
+  is_cell_now : s.known tag ≡ true → cell s.origin s.log.entries tag ≡ Some written_frame.page
+  is_cell_now known = let block = subst (λ (z : ℕ). s.pool.core.is_block z ≡ true) x.tagged (h.pool.core.blocks f inside named_logged.0.named) in let e = logged_there s h tag block known in
+      sym (h.logged tag known) ∙ e ∙ ap (λ (y : Page). Some y) (named_logged.1 (page_of s tag) (ap s.pool.logged x.tagged ∙ e))
+
+  is_flushed : (lane_hold v q).out ≢ None → IsFlushedCell s.origin s.log s.flushed tag (record (home_of s tag) { stored = Some written_frame.page; stored_upto = upto; failed = false })
   is_flushed out = let early = is_early out in let was = h.flushed_cells tag in let same : (s.lane q).stored_upto tag ≡ stored_upto s tag = ap (λ (z : ℕ). (s.lane z).stored_upto tag) (sym x.lane) in record {
     based = (let z = was.based in omega arith);
     within = (let z = was.within in omega arith);
-    is_cell = λ known ok. let is : written_frame.page ≡ cell s.origin s.log.entries tag = sym (named_logged.1 (cell s.origin s.log.entries tag) (ap s.pool.logged x.tagged ∙ h.logged tag known)) in
-        is ∙ sym (cell_at_position s.origin s.log.entries tag upto h.log.images (subst (λ (y : Page). lsn_of y ≤ upto) is (omega arith)));
+    is_cell = λ known ok. sym (cell_at_position s.origin s.log.entries tag upto (log_end s.log) written_frame.page h.log.valid (ends_below s.log (new_entry s 0 (image tag [])) h.log) (λ k e of. h.pages k tag e of known) (is_cell_now known) (omega arith));
   }
 
   -- the lane after the write holds the page p for the block, and the block's entries up to u
-  module _ (k : LaneKind) (p : Page) (u : ℕ) (done : Bool) (back : LaneAllowed k (s.lane q) (lane_hold v q)) (stores : (lane_after k (s.lane q)).stored ≡ put (s.lane q).stored tag p) (uptos : (lane_after k (s.lane q)).stored_upto ≡ put (s.lane q).stored_upto tag u) (fails : (lane_after k (s.lane q)).failed ≡ put (s.lane q).failed tag done)
+  module _ (k : LaneKind) (p : Option Page) (u : ℕ) (done : Bool) (back : LaneAllowed k (s.lane q) (lane_hold v q)) (stores : (lane_after k (s.lane q)).stored ≡ put (s.lane q).stored tag p) (uptos : (lane_after k (s.lane q)).stored_upto ≡ put (s.lane q).stored_upto tag u) (fails : (lane_after k (s.lane q)).failed ≡ put (s.lane q).failed tag done)
       (good : IsFlushedCell s.origin s.log s.flushed tag (record (home_of s tag) { stored = p; stored_upto = u; failed = done })) where
     abbrev lane' : ℕ → Lane
     lane' = put s.lane q (lane_after k (s.lane q))
@@ -440,7 +475,7 @@ module _ (s : State) (h : HistoryInvariant s) (i q f : ℕ) (v : View) (there : 
     pub write_keeps : HistoryInvariant (record s { pool = pool_after begin_write s.pool i f (laned k q v (paged begin_write s.pool f v)); lane = lane' })
     write_keeps = let b : Block = block_of s.pool.logged written_frame.tag in let w : View = laned k q v (paged begin_write s.pool f v) in let views = s.pool.core.views in let a : Allowed begin_write b written_frame (link v f) = record { right = x.right.right } in
         let same : SameHere (paged begin_write s.pool f v) w = record { backend = record { emptied = refl; number = refl; next = refl; links = refl; partitions = refl }; joined = refl; links = refl; partitions = refl } in
-        assemble_same s h (pool_after begin_write s.pool i f w) lane' (pool_touched s.pool h.pool i f begin_write v w there live inside a tt same) (logged_same s h i f begin_write v there live inside refl) (known_after s h k q) refl
+        assemble_same s h (pool_after begin_write s.pool i f w) lane' (pool_touched s.pool h.pool i f begin_write v w there live inside a tt same) (logged_same s h i f begin_write v there live inside refl) (known_after s h k q) (refl, refl)
         (laned_outer s h i q k v w there live low back (record { calls = refl; front = refl; joined = refl; flushed = refl; emptied = refl; number = refl; kept = refl }) refl refl refl refl)
         (record {
           homes = touched s h i f v w written_frame (link_after begin_write b written_frame (link v f)) there live inside refl home' (λ g below other. else (s.pool.core.frame g).tag (other_tag g below other))
@@ -457,9 +492,9 @@ writes_step : (s : State) → HistoryInvariant s → (i q f : ℕ) (k : LaneKind
     → HistoryInvariant (record s { pool = pool_after begin_write s.pool i f (laned k q v (paged begin_write s.pool f v)); lane = put s.lane q (lane_after k (s.lane q)) })
 writes_step s h i q f (lane_kinds.write_block g tag p) v there live low inside back (at, x) = let page = (s.pool.core.frame f).page in let upto_of = (λ (z : Page). max ((s.lane q).stored_upto tag) (lsn_of z)) in
     let y : CanWrite s q f tag page (lane_hold v q) (link v f) = record { tagged = x.tagged; lane = x.lane; page = refl; right = x.right; log_first = subst (λ (z : Page). lsn_of z ≤ (lane_hold v q).flushed) (sym x.page) x.log_first } in
-    write_keeps s h i q f v there live low inside tag y (lane_kinds.write_block g tag p) p (upto_of p) false back refl refl refl (subst (λ (z : Page). IsFlushedCell s.origin s.log s.flushed tag (record (home_of s tag) { stored = z; stored_upto = upto_of z; failed = false })) x.page (is_flushed s h i q f v there live low inside tag y back.out))
+    write_keeps s h i q f v there live low inside tag y (lane_kinds.write_block g tag p) (Some p) (upto_of p) false back refl refl refl (subst (λ (z : Page). IsFlushedCell s.origin s.log s.flushed tag (record (home_of s tag) { stored = Some z; stored_upto = upto_of z; failed = false })) x.page (is_flushed s h i q f v there live low inside tag y back.out))
 writes_step s h i q f (lane_kinds.fail_write g tag p faults) v there live low inside back (at, x) = let was = h.flushed_cells tag in let u = (s.lane q).stored_upto tag in let same : u ≡ stored_upto s tag = ap (λ (z : ℕ). (s.lane z).stored_upto tag) (sym x.lane) in
-    write_keeps s h i q f v there live low inside tag x (lane_kinds.fail_write g tag p faults) p u true back refl (λ j t. sym (put_same (s.lane q).stored_upto tag u t refl) j) refl (record { based = (let z = was.based in omega arith); within = (let z = was.within in omega arith); is_cell = λ known ok. absurd (cc) })
+    write_keeps s h i q f v there live low inside tag x (lane_kinds.fail_write g tag p faults) (Some p) u true back refl (λ j t. sym (put_same (s.lane q).stored_upto tag u t refl) j) refl (record { based = (let z = was.based in omega arith); within = (let z = was.within in omega arith); is_cell = λ known ok. absurd (cc) })
 writes_step s h i q f lane_kinds.take_lane v there live low inside back x = absurd x
 writes_step s h i q f lane_kinds.leave_lane v there live low inside back x = absurd x
 writes_step s h i q f (lane_kinds.lane_out taken) v there live low inside back x = absurd x
@@ -470,12 +505,12 @@ writes_step s h i q f (lane_kinds.fail_sync faults) v there live low inside back
 writes_step s h i q f (lane_kinds.lane_back noted) v there live low inside back x = absurd x
 
 -- the note that a view makes of a page copied is that of the block
-copied_is_logged : (b : Block) (fr : Frame) (l : Link) (tag : ℕ) (p : Page) → PageLink b fr l → LinkLaw fr l → CanRead tag p l → ((q : Page) → b.logged ≡ Some q → q ≡ p) × (fr.tag ≡ tag)
-copied_is_logged _ _ _ tag p c d a = ((c.copied p a.copied).is_logged, (d.remembers tag a.remembered).1)
+copied_is_logged : (b : Block) (fr : Frame) (l : Link) (tag : ℕ) (p : Page) → PageLink b fr l → LinkLaw fr l → CanRead tag p l → ((q : Page) → b.logged ≡ Some q → q ≡ p) × (fr.tag ≡ tag) × HasTag fr
+copied_is_logged _ _ _ tag p c d a = let y = d.remembers tag a.remembered in ((c.copied p a.copied).is_logged, y.1, y.0)
 
 -- a state where a view changes beside all that the pool and the lanes know of it
 with_view : (s : State) (h : HistoryInvariant s) (i : ℕ) (v w : View) → get_elem? s.pool.core.views i ≡ some v → SameHere v w → w.lanes ≡ v.lanes → w.log ≡ v.log → w.saw_down ≡ v.saw_down → HistoryLaw s.known s.origin s.log s.flushed (set s.pool.core.views i w) → HistoryInvariant (record s { pool = aside s.pool i w })
-with_view s h i v w there same holds unlogged saw history = assemble_same s h (aside s.pool i w) s.lane (pool_aside s.pool i v w h.pool there same) refl h.known refl
+with_view s h i v w there same holds unlogged saw history = assemble_same s h (aside s.pool i w) s.lane (pool_aside s.pool i v w h.pool there same) refl h.known (refl, refl)
     (record {
       device = steady log_shape log_part 1 (λ _. s.device) (λ _. written_of s) s.pool.core.views h.device i v w there saw (λ g. unlogged);
       history = history;
@@ -487,15 +522,17 @@ with_view s h i v w there same holds unlogged saw history = assemble_same s h (a
 reads_step : (s : State) → HistoryInvariant s → (i f tag : ℕ) (p : Page) (v : View) → get_elem? s.pool.core.views i ≡ some v → f < s.pool.core.frames → CanRead tag p (link v f) → HistoryInvariant (record s { pool = aside s.pool i (looked (seen.LogEnd s.end) (has_read s.end tag p v)) })
 reads_step s h i f tag p v there inside a = let w : View = looked (seen.LogEnd s.end) (has_read s.end tag p v) in
     let x = copied_is_logged (block_of s.pool.logged (s.pool.core.frame f).tag) (s.pool.core.frame f) (link v f) tag p (h.pool.pages.cells i v f there inside) (h.pool.core.grid.cells i v f there inside) a in
-    let is : s.known tag ≡ true → p ≡ cell s.origin s.log.entries tag = (λ known. sym (x.0 (cell s.origin s.log.entries tag) (ap s.pool.logged x.1 ∙ h.logged tag known))) in
+    let is : s.known tag ≡ true → cell s.origin s.log.entries tag ≡ Some p = (λ known. let block = subst (λ (z : ℕ). s.pool.core.is_block z ≡ true) x.1 (h.pool.core.blocks f inside x.2.named) in let e = logged_there s h tag block known in sym (h.logged tag known) ∙ e ∙ ap (λ (y : Page). Some y) (x.0 (page_of s tag) (ap s.pool.logged x.1 ∙ e))) in
     with_view s h i v w there (record { backend = record { emptied = refl; number = refl; next = refl; links = refl; partitions = refl }; joined = refl; links = refl; partitions = refl }) refl refl refl
-    (history_read s.known s.origin s.log s.flushed s.pool.core.views h.history h.log i v w there tag p is (new_entry s 0 tag p) (ap (λ (z : ℕ). v.calls ++ Read v.number tag p z ∷ []) h.ends) h.ends refl refl refl refl)
+    (history_read s.known s.origin s.log s.flushed s.pool.core.views h.history h.log i v w there tag p is (new_entry s 0 (image tag p)) (ap (λ (z : ℕ). v.calls ++ Read v.number tag p z ∷ []) h.ends) h.ends refl refl refl refl)
 
 -- the flushed position rises to the log's end, whose bytes are durable
 raised_state : (t : State) → HistoryInvariant t → length (log_bytes t.names t.log) ≤ t.device.synced → HistoryInvariant (record t { flushed = max t.flushed t.end })
 raised_state t k durable = let more : t.flushed ≤ max t.flushed t.end = omega arith in record {
   pool = k.pool;
   logged = k.logged;
+  there = k.there;
+  pages = k.pages;
   known = k.known;
   log = k.log;
   based = k.based;
@@ -537,6 +574,8 @@ logs_step s h i k v there a = let w : View = view_logged k v in let views = s.po
     let same : SameHere v w = record { backend = record { emptied = refl; number = refl; next = refl; links = refl; partitions = refl }; joined = refl; links = refl; partitions = refl } in let blocks = blocks_aside s h i v w there refl in record {
       pool = pool_aside s.pool i v w h.pool there same;
       logged = h.logged;
+      there = h.there;
+      pages = h.pages;
       known = h.known;
       log = h.log;
       based = h.based;
@@ -557,7 +596,7 @@ logs_step s h i k v there a = let w : View = view_logged k v in let views = s.po
     }
 
 -- An entry of the page p of the frame f is made
-module _ (s : State) (h : HistoryInvariant s) (i f : ℕ) (p : Page) (v : View) (there : get_elem? s.pool.core.views i ≡ some v) (live : v.emptied ≡ false) (inside : f < s.pool.core.frames) (x : CanEnter s f p v) where
+module _ (s : State) (h : HistoryInvariant s) (i f : ℕ) (p : Page) (ch : Change) (v : View) (there : get_elem? s.pool.core.views i ≡ some v) (live : v.emptied ≡ false) (inside : f < s.pool.core.frames) (x : CanEnter s f p ch v) where
   abbrev old : Frame
   old = s.pool.core.frame f
 
@@ -568,16 +607,28 @@ module _ (s : State) (h : HistoryInvariant s) (i f : ℕ) (p : Page) (v : View) 
   at_block = block_of s.pool.logged tag_of
 
   abbrev entry : Entry
-  entry = new_entry s v.number tag_of p
+  entry = new_entry s v.number ch
+
+  abbrev end' : ℕ
+  end' = s.end + change_size ch
 
   abbrev after : View
-  after = has_written (s.end + record_size) tag_of p (paged (make_entry p) s.pool f v)
+  after = has_written ch end' tag_of p (paged (make_entry p) s.pool f v)
 
   abbrev entered : State
-  entered = record s { pool = pool_after (make_entry p) s.pool i f after; log = record s.log { entries = s.log.entries ++ entry ∷ [] }; end = s.end + record_size }
+  entered = record s { pool = pool_after (make_entry p) s.pool i f after; log = record s.log { entries = s.log.entries ++ entry ∷ [] }; end = end' }
 
-  image : IsImage entry
-  image = record { sound = x.right.sound; used = x.right.used; full = x.full; ends = x.ends }
+  is_image : IsImage end' p
+  is_image = record { sound = x.right.sound; used = x.right.used; full = x.full; ends = x.ends }
+
+  valid : IsChange end' ch
+  valid = makes_valid ch end' tag_of p (link v f) is_image x.makes
+
+  of_block : tag_in ch ≡ Some tag_of
+  of_block = makes_of ch end' tag_of p (link v f) x.makes
+
+  other_block : (t : ℕ) → t ≢ tag_of → tag_in ch ≢ Some t
+  other_block t other e = other (same_Some t tag_of (sym e ∙ of_block))
 
   named : tag_of ≢ no_tag
   named = (((h.pool.pages.cells i v f there inside).content (λ e. exclusive_not_unlocked x.right.right e)).2).named
@@ -591,29 +642,61 @@ module _ (s : State) (h : HistoryInvariant s) (i f : ℕ) (p : Page) (v : View) 
   block_here : home_of entered tag_of ≡ pages_home_after (make_entry p) (home_of s tag_of)
   block_here = let e : logged_after (make_entry p) s.pool.logged tag_of tag_of ≡ Some p = put_here s.pool.logged tag_of (Some p) in ap (λ (o : Option Page). record (home_of s tag_of) { block = record { logged = o } }) e
 
-  logged_longer : (t : ℕ) → s.known t ≡ true → put s.pool.logged tag_of (Some p) t ≡ Some (cell s.origin (s.log.entries ++ entry ∷ []) t)
-  logged_longer t known = let more : cell s.origin (s.log.entries ++ entry ∷ []) t ≡ put (cell s.origin s.log.entries) tag_of p t = (λ j. cell_longer s.origin s.log.entries entry j t) in dite (ℕ_discrete t tag_of)
-      (λ e. put_at s.pool.logged tag_of (Some p) t e ∙ ap Some (sym (more ∙ put_at (cell s.origin s.log.entries) tag_of p t e)))
-      (λ o. put_else s.pool.logged tag_of (Some p) t o ∙ h.logged t known ∙ ap Some (sym (more ∙ put_else (cell s.origin s.log.entries) tag_of p t o)))
+  -- the change makes the page, where the contents of the block's lane are known
+  makes_page : (c : Change) → MakesPage c end' tag_of p (link v f) → s.known tag_of ≡ true → changed_page c end' tag_of (cell s.origin s.log.entries tag_of) ≡ Some p
+  makes_page (image t q) m _ = changed_image t end' tag_of q (cell s.origin s.log.entries tag_of) (sym m.0) ∙ ap (λ (y : Page). Some y) m.1
+  makes_page (ranges t spans) m known = let r = m.1 in let e = logged_there s h tag_of (h.pool.core.blocks f inside named) known in let same : page_of s tag_of ≡ r.before = ((h.pool.pages.cells i v f there inside).copied r.before r.copied).is_logged (page_of s tag_of) e in
+      ap (changed_page (ranges t spans) end' tag_of) (sym (h.logged tag_of known) ∙ e ∙ ap (λ (y : Page). Some y) same) ∙ changed_ranges t end' tag_of spans r.before (sym m.0) ∙ ap (λ (y : Page). Some y) r.made
+  makes_page (resize fork o n) m _ = absurd m
+
+  pub cell_now : s.known tag_of ≡ true → cell s.origin (s.log.entries ++ entry ∷ []) tag_of ≡ Some p
+  cell_now known = cell_longer s.origin s.log.entries entry tag_of ∙ makes_page ch x.makes known
+
+  cell_else : (t : ℕ) → t ≢ tag_of → cell s.origin (s.log.entries ++ entry ∷ []) t ≡ cell s.origin s.log.entries t
+  cell_else t other = cell_longer s.origin s.log.entries entry t ∙ changed_else ch end' t (cell s.origin s.log.entries t) valid (other_block t other)
+
+  logged_longer : (t : ℕ) → s.known t ≡ true → put s.pool.logged tag_of (Some p) t ≡ cell s.origin (s.log.entries ++ entry ∷ []) t
+  logged_longer t known = dite (ℕ_discrete t tag_of)
+      (λ (e : t ≡ tag_of). put_at s.pool.logged tag_of (Some p) t e ∙ sym (subst (λ (z : ℕ). s.known z ≡ true → cell s.origin (s.log.entries ++ entry ∷ []) z ≡ Some p) (sym e) cell_now known))
+      (λ (o : t ≢ tag_of). put_else s.pool.logged tag_of (Some p) t o ∙ h.logged t known ∙ sym (cell_else t o))
+
+  there_longer : (t : ℕ) → s.pool.core.is_block t ≡ true → s.known t ≡ true → is_some (cell s.origin (s.log.entries ++ entry ∷ []) t) ≡ true
+  there_longer t block known = dite (ℕ_discrete t tag_of)
+      (λ (e : t ≡ tag_of). ap (λ (o : Option Page). is_some o) (subst (λ (z : ℕ). s.known z ≡ true → cell s.origin (s.log.entries ++ entry ∷ []) z ≡ Some p) (sym e) cell_now known))
+      (λ (o : t ≢ tag_of). ap (λ (y : Option Page). is_some y) (cell_else t o) ∙ h.there t block known)
+
+  all_within : (k : ℕ) (e : Entry) → get_elem? (s.log.entries ++ entry ∷ []) k ≡ some e → end_of e ≤ end'
+  all_within k e at = ⊎_elim (λ (t : get_elem? s.log.entries k ≡ some e). let low = ends_below s.log entry h.log k e t in let ends = h.ends in omega arith) (λ (t : (entry ≡ e) × (k ≡ length s.log.entries)). let same : end' ≡ end_of e = ap end_of t.0 in omega arith) (at_end s.log.entries entry e k at)
+
+  pages_longer : (k t : ℕ) (e : Entry) → IsEntryOf (s.log.entries ++ entry ∷ []) t k e → s.known t ≡ true → HasImage (end_of e) (cell s.origin (cut (end_of e) (s.log.entries ++ entry ∷ [])) t)
+  pages_longer k t e of known = ⊎_elim
+      (λ (y : IsEntryOf s.log.entries t k e). let low = ends_below s.log entry h.log k e y.there in let ends = h.ends in
+      subst (λ (es : List Entry). HasImage (end_of e) (cell s.origin es t)) (sym (cut_longer (end_of e) s.log.entries entry (omega (arith, some_size ch)))) (h.pages k t e y known))
+      (λ (y : (entry ≡ e) × (tag_in ch ≡ Some t)). subst (λ (d : Entry). HasImage (end_of d) (cell s.origin (cut (end_of d) (s.log.entries ++ entry ∷ [])) t)) y.0 (here t (same_Some tag_of t (sym of_block ∙ y.1)) known))
+      (entry_longer s.log.entries entry t k e of)
+    where
+      here : (t : ℕ) → tag_of ≡ t → s.known t ≡ true → HasImage end' (cell s.origin (cut end' (s.log.entries ++ entry ∷ [])) t)
+      here t same known = record { shown = p; is = ap (λ (es : List Entry). cell s.origin es t) (cut_all end' (s.log.entries ++ entry ∷ []) all_within) ∙ subst (λ (z : ℕ). s.known z ≡ true → cell s.origin (s.log.entries ++ entry ∷ []) z ≡ Some p) same cell_now known; valid = is_image }
 
   pub enters_step : HistoryInvariant entered
   enters_step = let views = s.pool.core.views in let n = s.pool.core.frames in let frame = s.pool.core.frame in let l : Link = link_after (make_entry p) at_block old (link v f) in
-      let same : SameHere (paged (make_entry p) s.pool f v) after = record { backend = record { emptied = refl; number = refl; next = refl; links = refl; partitions = refl }; joined = refl; links = refl; partitions = refl } in
-      let longer = end_longer s.log entry h.log in record {
+      let same : SameHere (paged (make_entry p) s.pool f v) after = record { backend = record { emptied = refl; number = refl; next = refl; links = refl; partitions = refl }; joined = refl; links = refl; partitions = refl } in record {
         pool = pool_touched s.pool h.pool i f (make_entry p) v after there live inside x.right x.around same;
         logged = logged_longer;
+        there = there_longer;
+        pages = pages_longer;
         known = h.known;
-        log = log_longer s.log entry h.log h.ends image;
+        log = log_longer s.log entry h.log h.ends valid;
         based = h.based;
-        ends = let e = h.ends in omega arith;
+        ends = sym (end_longer s.log entry h.log);
         limit = x.room;
         flushed_from = h.flushed_from;
         flushed_to = let y = h.flushed_to in omega arith;
         named = h.named;
         durable = h.durable;
         device = sweep log_shape log_part log_part 1 (λ _. s.device) (λ _. s.device) (λ _. written_of s) (λ _. written_of entered) views i v after h.device there
-            (λ g below. enter_keeps (written_of s) s.device v.saw_down v.log (record_bytes s.names entry) (s.end + record_size) (log_bytes s.names entered.log) x.appended (bytes_longer s.names s.log entry));
-        history = history_written s.known s.origin s.log s.flushed views h.history h.log i v after there entry h.ends refl refl refl refl refl refl refl;
+            (λ g below. enter_keeps (written_of s) s.device v.saw_down v.log (record_bytes s.names entry) end' (log_bytes s.names entered.log) x.appended (bytes_longer s.names s.log entry));
+        history = history_written s.known s.origin s.log s.flushed views h.history h.log i v after there entry h.ends tag_of p of_block (makes_whole ch end' tag_of p (link v f) x.makes) cell_now refl refl refl refl refl refl refl;
         lanes = steady lane_shape lane_part s.lanes s.lane (λ _. s.flushed) views h.lanes i v after there refl (λ q. refl);
         wide = wide_set s.lanes views h.wide i v after there refl refl;
         placed = h.placed;
@@ -623,7 +706,7 @@ module _ (s : State) (h : HistoryInvariant s) (i f : ℕ) (p : Page) (v : View) 
         flushed_cells = λ t. let y = h.flushed_cells t in record {
           based = y.based;
           within = y.within;
-          is_cell = λ known ok. y.is_cell known ok ∙ ap (λ (es : List Entry). cell s.origin es t) (sym (cut_longer (stored_upto s t) s.log.entries entry (let a = y.within in let c = h.flushed_to in omega arith)));
+          is_cell = λ known ok. y.is_cell known ok ∙ ap (λ (es : List Entry). cell s.origin es t) (sym (cut_longer (stored_upto s t) s.log.entries entry (let a = y.within in let c = h.flushed_to in omega (arith, some_size ch))));
         };
       }
 
@@ -632,7 +715,7 @@ module _ (s : State) (h : HistoryInvariant s) (i : ℕ) (v : View) (there : get_
   -- the holder of the log's latch keeps the log end that it loads
   loads_end_step : HistoryInvariant (state_worded load_end s i v)
   loads_end_step = let w : View = worded load_end s v in let same : SameHere v w = record { backend = record { emptied = refl; number = refl; next = refl; links = refl; partitions = refl }; joined = refl; links = refl; partitions = refl } in
-      assemble_same s h (aside s.pool i w) s.lane (pool_aside s.pool i v w h.pool there same) refl h.known refl
+      assemble_same s h (aside s.pool i w) s.lane (pool_aside s.pool i v w h.pool there same) refl h.known (refl, refl)
       (record {
         device = sweep log_shape log_part log_part 1 (λ _. s.device) (λ _. s.device) (λ _. written_of s) (λ _. written_of s) s.pool.core.views i v w h.device there (λ g below. end_keeps (written_of s) s.device v.saw_down v.log);
         history = history_same s.known s.origin s.log s.flushed s.pool.core.views h.history i v w there (record { calls = refl; front = refl; joined = refl; flushed = refl; emptied = refl; number = refl; kept = refl });
@@ -643,7 +726,7 @@ module _ (s : State) (h : HistoryInvariant s) (i : ℕ) (v : View) (there : get_
 
   begins_step : HistoryInvariant (state_worded begin_checkpoint s i v)
   begins_step = let w : View = worded begin_checkpoint s v in let begun : BegunHere v w = record { emptied = refl; number = refl; next = refl; joined = refl; links = refl; partitions = refl } in
-      assemble_same s h (aside s.pool i w) s.lane (pool_begun i v w begun s.pool h.pool there) refl h.known refl
+      assemble_same s h (aside s.pool i w) s.lane (pool_begun i v w begun s.pool h.pool there) refl h.known (refl, refl)
       (outer_same s.known s.origin s.log s.lanes s.lane s.flushed (written_of s) s.device s.pool.core.views (outer_of s h) i v w there (record { calls = refl; front = refl; joined = refl; flushed = refl; emptied = refl; number = refl; kept = refl }) refl refl refl refl)
       (record { homes = homes_begun i v w begun s.pool.core.frames s.pool.core.frame (home_of s) s.pool.core.views h.homes there; unframed = h.unframed; flushed_cells = h.flushed_cells })
 
@@ -658,6 +741,8 @@ module _ (s : State) (h : HistoryInvariant s) (i : ℕ) (v : View) (there : get_
       (history_same s.known s.origin s.log s.flushed s.pool.core.views h.history i v w there (record { calls = refl; front = refl; joined = refl; flushed = refl; emptied = refl; number = refl; kept = refl })) in record {
         pool = x.pool;
         logged = x.logged;
+        there = x.there;
+        pages = x.pages;
         known = x.known;
         log = x.log;
         based = x.based;
@@ -682,7 +767,7 @@ step_keeps (pools {s = s} x a) h = pools_step s h x a
 step_keeps (lanes {s = s} i q k v there live low a alone) h = lanes_step s h i q k v there live low a alone
 step_keeps (writes {s = s} i q f k v there live low inside a x) h = writes_step s h i q f k v there live low inside a x
 step_keeps (notes {s = s} i q f noted k v there live low inside a x) h = notes_step s h i q f noted k v there live low inside a x
-step_keeps (enters {s = s} i f p v there live inside x) h = enters_step s h i f p v there live inside x
+step_keeps (enters {s = s} i f p ch v there live inside x) h = enters_step s h i f p ch v there live inside x
 step_keeps (reads {s = s} i f tag p v there live inside a) h = reads_step s h i f tag p v there inside a
 step_keeps (words {s = s} i k v there live a) h = words_step s h i v there k a
 step_keeps (logs {s = s} i k v there live a record_is) h = logs_step s h i k v there a

@@ -1,5 +1,5 @@
 -- Each step keeps what the lanes' syncs have covered.
-use Rattle.std.proofs.Common.{◌≡◌, ◌≢◌, ◌⊎◌, ℕ, zero, suc, ◌+◌, ◌<◌, ◌≤◌, Bool, true, false, cond, List, [], ◌∷◌, length, set, slice_index_or, get_or-set_same, get_or-set_other, sym, refl, ap, ◌∙◌, subst, inl, inr, ⊎_elim, arith}
+use Rattle.std.proofs.Common.{◌≡◌, ◌≢◌, ◌⊎◌, ℕ, zero, suc, ◌+◌, ◌<◌, ◌≤◌, Bool, true, false, cond, List, [], ◌∷◌, length, set, slice_index_or, get_or-set_same, get_or-set_other, sym, refl, ap, ◌∙◌, subst, inl, inr, ⊎_elim, arith, Some}
 use Rattle.std.specs.Prelude.{max, not, ◌&&◌}
 use Rattle.std.proofs.lemmas.Bool.{cases_lt}
 use mathlib.Core.Logic.{dite}
@@ -19,7 +19,7 @@ use Rattle.pin_core.specs.Turns.{view_turned}
 use Rattle.pin_core.specs.Steps as pin_steps
 use Rattle.page_core.specs.Steps as page_steps
 use Rattle.page_core.specs.Kinds.{begin_write, make_entry}
-use Rattle.history_core.specs.Log.{Entry, end_of, record_size}
+use Rattle.history_core.specs.Log.{Entry, end_of, change_size, IsEntryOf, tag_in}
 use Rattle.history_core.specs.Lanes.{LaneKind, lane_after, lane_hold_after, swept_by, all_ended}
 use Rattle.history_core.specs.Lanes as lane_kinds
 use Rattle.history_core.specs.Device.{view_logged}
@@ -29,6 +29,7 @@ use Rattle.history_core.specs.Invariant.{HistoryInvariant}
 use Rattle.history_core.specs.Debts.{DebtsLaw}
 use Rattle.history_core.specs.Swept.{IsSwept, has_swept, ViewSwept, SweptLaw}
 use Rattle.history_core.specs.Steps.{Event, new_entry, stepped, looked, pool_noting, paged, laned, has_read, has_written, Step, pools, lanes, writes, notes, logs, enters, reads, words, worded}
+use Rattle.history_core.proofs.Logs.{some_size, entry_at, entry_longer}
 use Rattle.history_core.proofs.Calls.{at_both}
 use Rattle.history_core.proofs.Histories.{framed}
 use Rattle.history_core.proofs.Outer.{lane_new}
@@ -61,17 +62,17 @@ ended_at (x ∷ l) e (suc f) low = ended_at l (third x.visited x.left_to_write (
 record Later (s t : State) : Type 0 where
   lane_of : t.lane_of ≡ s.lane_of
   end : s.end ≤ t.end
-  entries : (k : ℕ) (e : Entry) → get_elem? t.log.entries k ≡ some e → (get_elem? s.log.entries k ≡ some e) ⊎ (s.end < end_of e)
+  entries : (tag k : ℕ) (e : Entry) → IsEntryOf t.log.entries tag k e → (IsEntryOf s.log.entries tag k e) ⊎ (s.end < end_of e)
   synced : (tag : ℕ) → synced_upto s tag ≤ synced_upto t tag
 
 module _ {s t : State} (l : Later s t) where
   swept_later : (n upto : ℕ) → IsSwept s n upto → IsSwept t n upto
   swept_later n upto h = record {
     within = (let x = h.within in let y = l.end in omega arith);
-    covered = λ k e at lane low. ⊎_elim
-        (λ (z : get_elem? s.log.entries k ≡ some e). let x = h.covered k e z (sym (λ j. l.lane_of j e.tag) ∙ lane) low in let y = l.synced e.tag in omega arith)
+    covered = λ k tag e of lane low. ⊎_elim
+        (λ (z : IsEntryOf s.log.entries tag k e). let x = h.covered k tag e z (sym (λ j. l.lane_of j tag) ∙ lane) low in let y = l.synced tag in omega arith)
         (λ (z : s.end < end_of e). absurd (let x = h.within in omega arith))
-        (l.entries k e at);
+        (l.entries tag k e of);
   }
 
   view_later : (v w : View) → w.lanes ≡ v.lanes → w.joined_checkpoints ≡ v.joined_checkpoints → ViewSwept s v → ViewSwept t w
@@ -86,7 +87,7 @@ module _ {s t : State} (l : Later s t) where
 
 -- nothing is covered up to 0
 swept_zero : (s : State) (n upto : ℕ) → upto ≡ 0 → IsSwept s n upto
-swept_zero s n upto z = record { within = omega arith; covered = λ k e at lane low. absurd (omega arith) }
+swept_zero s n upto z = record { within = omega arith; covered = λ k tag e of lane low. absurd (omega (arith, some_size e.change)) }
 
 -- a view without a lane
 none_swept : (s : State) (w : View) → ((n : ℕ) → (lane_hold w n).swept ≡ 0) → w.joined_checkpoints ≡ [] → ViewSwept s w
@@ -129,7 +130,7 @@ module _ (s : State) (h : HistoryInvariant s) (d : DebtsLaw s) (m : SweptLaw s) 
   lane_later q k t lane_of end entries lane = record {
     lane_of = lane_of;
     end = omega arith;
-    entries = λ n e at. inl (subst (λ (l : List Entry). get_elem? l n ≡ some e) entries at);
+    entries = λ tag n e of. inl (subst (λ (l : List Entry). IsEntryOf l tag n e) entries of);
     synced = λ tag. let same : synced_upto t tag ≡ (put s.lane q (lane_after k (s.lane q)) (s.lane_of tag)).synced_upto tag = (λ j. (lane j (lane_of j tag)).synced_upto tag) in
         let grows : synced_upto s tag ≤ (put s.lane q (lane_after k (s.lane q)) (s.lane_of tag)).synced_upto tag = at_lane (λ (x : Lane). synced_upto s tag ≤ x.synced_upto tag) s.lane q (lane_after k (s.lane q)) (s.lane_of tag)
         (λ e. let x = lane_grows k (s.lane q) (m.below q) tag in let y : synced_upto s tag ≡ (s.lane q).synced_upto tag = ap (λ (z : ℕ). (s.lane z).synced_upto tag) e in omega arith) (omega arith) in omega arith;
@@ -139,18 +140,18 @@ module _ (s : State) (h : HistoryInvariant s) (d : DebtsLaw s) (m : SweptLaw s) 
   below_after q k n tag = at_lane (λ (x : Lane). x.synced_upto tag ≤ x.stored_upto tag) s.lane q (lane_after k (s.lane q)) n (λ e. lane_below k (s.lane q) (m.below q) tag) (m.below n tag)
 
   -- the entries up to where a checkpoint began that has nothing left to write are in their lanes
-  all_current : (i : ℕ) (v : View) → get_elem? s.pool.core.views i ≡ some v → v.emptied ≡ false → (k : ℕ) (e : Entry) → get_elem? s.log.entries k ≡ some e → end_of e ≤ swept_by v → end_of e ≤ stored_upto s e.tag
-  all_current i v there live k e at low = by_ended (all_ended v.links) refl
+  all_current : (i : ℕ) (v : View) → get_elem? s.pool.core.views i ≡ some v → v.emptied ≡ false → (k tag : ℕ) (e : Entry) → IsEntryOf s.log.entries tag k e → end_of e ≤ swept_by v → end_of e ≤ stored_upto s tag
+  all_current i v there live k tag e of low = by_ended (all_ended v.links) refl
     where
-      in_frame : all_ended v.links ≡ true → end_of e ≤ v.upto → ((f : ℕ) × (f < s.pool.core.frames) × ((s.pool.core.frame f).tag ≡ e.tag)) → end_of e ≤ stored_upto s e.tag
+      in_frame : all_ended v.links ≡ true → end_of e ≤ v.upto → ((f : ℕ) × (f < s.pool.core.frames) × ((s.pool.core.frame f).tag ≡ tag)) → end_of e ≤ stored_upto s tag
       in_frame ended upto x = let wide = (h.pool.core.views.wide i v there live).0 in let done = ended_at v.links ended x.0 (let y = x.1 in omega arith) in ⊎_elim
-          (λ (behind : stored_upto s e.tag < end_of e). let y = (((d.each i v there).own x.0 x.1).stored_or_left done.0 (λ z. d.named k e at (sym x.2 ∙ z)) k e at (sym x.2) upto (subst (λ (z : ℕ). stored_upto s z < end_of e) (sym x.2) behind)).1 in let no = done.1 in absurd (cc))
-          (λ (there : end_of e ≤ stored_upto s e.tag). there)
-          (cases_lt (stored_upto s e.tag) (end_of e))
+          (λ (behind : stored_upto s tag < end_of e). let y = (((d.each i v there).own x.0 x.1).stored_or_left done.0 (λ z. d.named k tag e of (sym x.2 ∙ z)) k e (entry_at s.log.entries tag (s.pool.core.frame x.0).tag k e (sym x.2) of) upto (subst (λ (z : ℕ). stored_upto s z < end_of e) (sym x.2) behind)).1 in let no = done.1 in absurd (cc))
+          (λ (there : end_of e ≤ stored_upto s tag). there)
+          (cases_lt (stored_upto s tag) (end_of e))
 
-      by_ended : (b : Bool) → all_ended v.links ≡ b → end_of e ≤ stored_upto s e.tag
-      by_ended false z = let y : swept_by v ≡ 0 = ap (λ (x : Bool). cond x v.upto 0) z in absurd (omega arith)
-      by_ended true z = let y : swept_by v ≡ v.upto = ap (λ (x : Bool). cond x v.upto 0) z in ⊎_elim (in_frame z (omega arith)) (λ (none : IsUnframed s.pool.core.frames s.pool.core.frame e.tag). d.unframed e.tag (d.named k e at) none k e at refl) (framed s.pool.core.frames s.pool.core.frame e.tag)
+      by_ended : (b : Bool) → all_ended v.links ≡ b → end_of e ≤ stored_upto s tag
+      by_ended false z = let y : swept_by v ≡ 0 = ap (λ (x : Bool). cond x v.upto 0) z in absurd (omega (arith, some_size e.change))
+      by_ended true z = let y : swept_by v ≡ v.upto = ap (λ (x : Bool). cond x v.upto 0) z in ⊎_elim (in_frame z (omega arith)) (λ (none : IsUnframed s.pool.core.frames s.pool.core.frame tag). d.unframed tag (d.named k tag e of) none k e of) (framed s.pool.core.frames s.pool.core.frame tag)
 
   swept_within : (i : ℕ) (v : View) → get_elem? s.pool.core.views i ≡ some v → swept_by v ≤ s.end
   swept_within i v there = by_ended (all_ended v.links) refl
@@ -163,11 +164,11 @@ module _ (s : State) (h : HistoryInvariant s) (d : DebtsLaw s) (m : SweptLaw s) 
   hold_swept : (i q : ℕ) (k : LaneKind) (v : View) (t : State) → get_elem? s.pool.core.views i ≡ some v → v.emptied ≡ false → t.lane_of ≡ s.lane_of → t.end ≡ s.end → t.log.entries ≡ s.log.entries → t.lane ≡ put s.lane q (lane_after k (s.lane q)) → IsSwept t q (lane_hold_after k v.flushed (swept_by v) (lane_hold v q)).swept
   hold_swept i q lane_kinds.sync_lane v t there live lane_of end entries lane = let l = lane_later q lane_kinds.sync_lane t lane_of end entries lane in let old = swept_later l q (lane_hold v q).swept ((m.each i v there).own q) in record {
     within = (let x = old.within in let y = swept_within i v there in omega arith);
-    covered = λ k e at is low. ⊎_elim
-        (λ (z : (lane_hold v q).swept < end_of e). let was = subst (λ (x : List Entry). get_elem? x k ≡ some e) entries at in let current = all_current i v there live k e was (omega arith) in
-        let here : s.lane_of e.tag ≡ q = sym (λ j. lane_of j e.tag) ∙ is in
-        let now : synced_upto t e.tag ≡ stored_upto s e.tag = (λ j. (lane j (lane_of j e.tag)).synced_upto e.tag) ∙ ap (λ (x : Lane). x.synced_upto e.tag) (put_at s.lane q (lane_after lane_kinds.sync_lane (s.lane q)) (s.lane_of e.tag) here) ∙ ap (λ (x : ℕ). (s.lane x).stored_upto e.tag) (sym here) in omega arith)
-        (λ (z : end_of e ≤ (lane_hold v q).swept). old.covered k e at is z)
+    covered = λ k tag e of is low. ⊎_elim
+        (λ (z : (lane_hold v q).swept < end_of e). let was = subst (λ (x : List Entry). IsEntryOf x tag k e) entries of in let current = all_current i v there live k tag e was (omega arith) in
+        let here : s.lane_of tag ≡ q = sym (λ j. lane_of j tag) ∙ is in
+        let now : synced_upto t tag ≡ stored_upto s tag = (λ j. (lane j (lane_of j tag)).synced_upto tag) ∙ ap (λ (x : Lane). x.synced_upto tag) (put_at s.lane q (lane_after lane_kinds.sync_lane (s.lane q)) (s.lane_of tag) here) ∙ ap (λ (x : ℕ). (s.lane x).stored_upto tag) (sym here) in omega arith)
+        (λ (z : end_of e ≤ (lane_hold v q).swept). old.covered k tag e of is z)
         (cases_lt (lane_hold v q).swept (end_of e));
   }
   hold_swept i q lane_kinds.take_lane v t there live lane_of end entries lane = swept_later (lane_later q lane_kinds.take_lane t lane_of end entries lane) q (lane_hold v q).swept ((m.each i v there).own q)
@@ -199,7 +200,7 @@ module _ (s : State) (h : HistoryInvariant s) (d : DebtsLaw s) (m : SweptLaw s) 
 
   -- where neither lanes nor entries change
   plain : (t : State) → t.lane_of ≡ s.lane_of → t.end ≡ s.end → t.log.entries ≡ s.log.entries → t.lane ≡ s.lane → Later s t
-  plain t lane_of end entries lane = record { lane_of = lane_of; end = omega arith; entries = λ n e at. inl (subst (λ (l : List Entry). get_elem? l n ≡ some e) entries at); synced = λ tag. let same : synced_upto t tag ≡ synced_upto s tag = (λ j. (lane j (lane_of j tag)).synced_upto tag) in omega arith }
+  plain t lane_of end entries lane = record { lane_of = lane_of; end = omega arith; entries = λ tag n e of. inl (subst (λ (l : List Entry). IsEntryOf l tag n e) entries of); synced = λ tag. let same : synced_upto t tag ≡ synced_upto s tag = (λ j. (lane j (lane_of j tag)).synced_upto tag) in omega arith }
 
   pools_swept : {e : pin_steps.Event} {core' : pins.State} → pin_steps.Step e s.pool.core core' → SweptLaw (record s { pool = record s.pool { core = core' } })
   pools_swept (pin_steps.touches i f k v there live inside a around) = let t : State = record s { pool = record s.pool { core = pin_steps.state_after k s.pool.core i f v } } in aside_swept i v (pin_kinds.view_after k s.pool.core.partition_of f (s.pool.core.frame f) (link v f) v) t there refl refl refl (plain t refl refl refl refl) m.below
@@ -229,8 +230,8 @@ swept_kept {t = t} (lanes {s = s} i q k v there live low a alone) h d m = laned_
 swept_kept {t = t} (writes {s = s} i q f k v there live low inside a x) h d m = laned_swept s h d m i q k v (laned k q v (paged begin_write s.pool f v)) t there live low refl refl refl refl refl refl refl
 swept_kept {t = t} (notes {s = s} i q f noted k v there live low inside a x) h d m = laned_swept s h d m i q (lane_kinds.lane_back noted) v (laned (lane_kinds.lane_back noted) q v (paged k (pool_noting k s f) f v)) t there live low refl refl refl refl refl refl refl
 swept_kept {t = t} (logs {s = s} i k v there live a record_is) h d m = aside_swept s h d m i v (view_logged k v) t there refl refl refl (plain s h d m t refl refl refl refl) m.below
-swept_kept {t = t} (enters {s = s} i f p v there live inside x) h d m = let entry = new_entry s v.number (s.pool.core.frame f).tag p in aside_swept s h d m i v (has_written (s.end + record_size) (s.pool.core.frame f).tag p (paged (make_entry p) s.pool f v)) t there refl refl refl
-    (record { lane_of = refl; end = omega arith; entries = λ k e at. ⊎_elim (λ (y : get_elem? s.log.entries k ≡ some e). inl y) (λ (y : (entry ≡ e) × (k ≡ length s.log.entries)). let z : s.end + record_size ≡ end_of e = ap end_of y.0 in inr (omega arith)) (at_end s.log.entries entry e k at); synced = λ tag. omega arith }) m.below
+swept_kept {t = t} (enters {s = s} i f p ch v there live inside x) h d m = let entry = new_entry s v.number ch in aside_swept s h d m i v (has_written ch (s.end + change_size ch) (s.pool.core.frame f).tag p (paged (make_entry p) s.pool f v)) t there refl refl refl
+    (record { lane_of = refl; end = omega arith; entries = λ tag k e of. ⊎_elim (λ (y : IsEntryOf s.log.entries tag k e). inl y) (λ (y : (entry ≡ e) × (tag_in ch ≡ Some tag)). let z : s.end + change_size ch ≡ end_of e = ap end_of y.0 in inr (omega (arith, some_size ch))) (entry_longer s.log.entries entry tag k e of); synced = λ tag. omega arith }) m.below
 swept_kept {t = t} (reads {s = s} i f tag p v there live inside a) h d m = aside_swept s h d m i v (looked (seen.LogEnd s.end) (has_read s.end tag p v)) t there refl refl refl (plain s h d m t refl refl refl refl) m.below
 swept_kept {t = t} (words {s = s} i k v there live a) h d m = aside_swept s h d m i v (worded k s v) t there refl refl refl (plain s h d m t refl refl refl refl) m.below
 

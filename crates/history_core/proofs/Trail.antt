@@ -21,7 +21,7 @@ use Rattle.page_core.specs.State.{Block, block_of}
 use Rattle.page_core.specs.Steps as page_steps
 use Rattle.page_core.specs.Kinds as kinds
 use Rattle.page_core.specs.Kinds.{begin_write, make_entry}
-use Rattle.history_core.specs.Log.{record_size}
+use Rattle.history_core.specs.Log.{change_size}
 use Rattle.history_core.specs.Lanes.{lane_back}
 use Rattle.history_core.specs.Device.{view_logged}
 use Rattle.history_core.specs.State.{State, Store, next_hand, opening}
@@ -158,7 +158,7 @@ words_kept (lanes {s = s} i q k v there live low a alone) m = rests_aside s.pool
 words_kept (writes {s = s} i q f k v there live low inside a x) m = moves s.pool.core.frame s.pool.core.views m i f v (laned k q v (paged begin_write s.pool f v)) (s.pool.core.frame f) there (lists_none f (s.pool.core.frame f).word v.changes)
 words_kept (notes {s = s} i q f noted k v there live low inside a x) m = let b : Block = block_of (pool_noting k s f).logged (s.pool.core.frame f).tag in moves s.pool.core.frame s.pool.core.views m i f v (laned (lane_back noted) q v (paged k (pool_noting k s f) f v)) (kinds.frame_after k b (s.pool.core.frame f)) there (pages_list k f b (s.pool.core.frame f) v.changes)
 words_kept (logs {s = s} i k v there live a record_is) m = rests_aside s.pool.core.frame s.pool.core.views m i v (view_logged k v) there refl
-words_kept (enters {s = s} i f p v there live inside x) m = moves s.pool.core.frame s.pool.core.views m i f v (has_written (s.end + record_size) (s.pool.core.frame f).tag p (paged (make_entry p) s.pool f v)) (s.pool.core.frame f) there (lists_none f (s.pool.core.frame f).word v.changes)
+words_kept (enters {s = s} i f p ch v there live inside x) m = moves s.pool.core.frame s.pool.core.views m i f v (has_written ch (s.end + change_size ch) (s.pool.core.frame f).tag p (paged (make_entry p) s.pool f v)) (s.pool.core.frame f) there (lists_none f (s.pool.core.frame f).word v.changes)
 words_kept (reads {s = s} i f tag p v there live inside a) m = rests_aside s.pool.core.frame s.pool.core.views m i v (looked (seen.LogEnd s.end) (has_read s.end tag p v)) there refl
 words_kept (words {s = s} i k v there live a) m = rests_aside s.pool.core.frame s.pool.core.views m i v (worded k s v) there refl
 
@@ -194,7 +194,7 @@ hand_kept (lanes {s = s} i q k v there live low a alone) m = m ∙ ap (λ (n : �
 hand_kept (writes {s = s} i q f k v there live low inside a x) m = m ∙ ap (λ (n : ℕ). n % 18446744073709551616) (sym (same_ticks s.pool.core.views i v (laned k q v (paged begin_write s.pool f v)) there refl))
 hand_kept (notes {s = s} i q f noted k v there live low inside a x) m = m ∙ ap (λ (n : ℕ). n % 18446744073709551616) (sym (same_ticks s.pool.core.views i v (laned (lane_back noted) q v (paged k (pool_noting k s f) f v)) there refl))
 hand_kept (logs {s = s} i k v there live a record_is) m = m ∙ ap (λ (n : ℕ). n % 18446744073709551616) (sym (same_ticks s.pool.core.views i v (view_logged k v) there refl))
-hand_kept (enters {s = s} i f p v there live inside x) m = m ∙ ap (λ (n : ℕ). n % 18446744073709551616) (sym (same_ticks s.pool.core.views i v (has_written (s.end + record_size) (s.pool.core.frame f).tag p (paged (make_entry p) s.pool f v)) there refl))
+hand_kept (enters {s = s} i f p ch v there live inside x) m = m ∙ ap (λ (n : ℕ). n % 18446744073709551616) (sym (same_ticks s.pool.core.views i v (has_written ch (s.end + change_size ch) (s.pool.core.frame f).tag p (paged (make_entry p) s.pool f v)) there refl))
 hand_kept (reads {s = s} i f tag p v there live inside a) m = m ∙ ap (λ (n : ℕ). n % 18446744073709551616) (sym (same_ticks s.pool.core.views i v (looked (seen.LogEnd s.end) (has_read s.end tag p v)) there refl))
 hand_kept (words {s = s} i k v there live a) m = hand_worded k s i v there m
 
@@ -250,7 +250,7 @@ highest_kept (lanes {s = s} i q k v there live low a alone) h m = highest_same s
 highest_kept (writes {s = s} i q f k v there live low inside a x) h m = highest_same s.flushed s.pool.core.views m i v (laned k q v (paged begin_write s.pool f v)) there refl
 highest_kept (notes {s = s} i q f noted k v there live low inside a x) h m = highest_same s.flushed s.pool.core.views m i v (laned (lane_back noted) q v (paged k (pool_noting k s f) f v)) there refl
 highest_kept (logs {s = s} i k v there live a record_is) h m = highest_same s.flushed s.pool.core.views m i v (view_logged k v) there refl
-highest_kept (enters {s = s} i f p v there live inside x) h m = highest_same s.flushed s.pool.core.views m i v (has_written (s.end + record_size) (s.pool.core.frame f).tag p (paged (make_entry p) s.pool f v)) there refl
+highest_kept (enters {s = s} i f p ch v there live inside x) h m = highest_same s.flushed s.pool.core.views m i v (has_written ch (s.end + change_size ch) (s.pool.core.frame f).tag p (paged (make_entry p) s.pool f v)) there refl
 highest_kept (reads {s = s} i f tag p v there live inside a) h m = highest_same s.flushed s.pool.core.views m i v (looked (seen.LogEnd s.end) (has_read s.end tag p v)) there refl
 highest_kept (words {s = s} i k v there live a) h m = highest_worded k s i v there m
 

@@ -1,5 +1,5 @@
 -- A checkpoint from beginning to end, as an example of the definitions: a backend has put a page into a frame and made the log durable; the checkpoint of a second one passes the frame and lists it, writes the page to the block's lane, and syncs the lane; then the second backend is joined into the first, which keeps the checkpoint.
-use Rattle.std.specs.Prelude.{◌≡◌, true, false, List, [], ◌∷◌, ◌++◌}
+use Rattle.std.specs.Prelude.{◌≡◌, true, false, List, [], ◌∷◌, ◌++◌, Some}
 use mathlib.Core.Option.{some}
 use lib.ListN.{get_elem?}
 use Rattle.pin_core.specs.declared.view.JoinedCheckpoint.{JoinedCheckpoint}
@@ -45,7 +45,7 @@ join = steps.pool (page_steps.pins_and_maps (pin_steps.join 1)) ∷ []
 -- After the checkpoint
 pub record HasStored (p : Page) (t : State) : Type 0 where
   -- the block's lane holds the page, and its entry is durable there
-  pub lane : stored t 7 ≡ p
+  pub lane : stored t 7 ≡ Some p
   pub durable : synced_upto t 7 ≡ record_size
   pub clean : (t.pool.core.frame 0).word.dirty ≡ false
   -- nothing is left of the second backend

@@ -8,7 +8,7 @@ use Rattle.pin_core.specs.declared.view.LastWrite.TheVariants.{Done}
 use Rattle.pin_core.specs.declared.view.Link.{Link}
 use Rattle.pin_core.specs.declared.view.View.{View}
 use Rattle.pin_core.specs.State.{Frame, Page, no_tag, link}
-use Rattle.history_core.specs.Log.{Entry, end_of}
+use Rattle.history_core.specs.Log.{Entry, IsEntryOf, end_of}
 use Rattle.history_core.specs.State.{State, stored_upto, failed}
 use Rattle.history_core.specs.Homes.{IsUnframed}
 
@@ -28,11 +28,11 @@ pub record Taken : Type 0 where
 
 -- all entries of the block of a tag are in its lane
 abbrev pub IsCurrent : Taken → ℕ → Type 0
-IsCurrent t tag = (k : ℕ) (e : Entry) → get_elem? t.entries k ≡ some e → e.tag ≡ tag → end_of e ≤ t.upto tag
+IsCurrent t tag = (k : ℕ) (e : Entry) → IsEntryOf t.entries tag k e → end_of e ≤ t.upto tag
 
 -- A frame that a checkpoint has visited, which began where the log ended at `upto`: an entry of the frame's block up to there that isn't in the lane is still to be written. The frame carries BM_CHECKPOINT_NEEDED then, and is one that is left for the checkpoint to write
 abbrev pub IsStoredOrLeft : Taken → Frame → ℕ → Bool → Bool → Type 0
-IsStoredOrLeft t fr upto visited left_to_write = visited ≡ true → fr.tag ≢ no_tag → (k : ℕ) (e : Entry) → get_elem? t.entries k ≡ some e → e.tag ≡ fr.tag → end_of e ≤ upto → t.upto fr.tag < end_of e → (fr.word.checkpoint_needed ≡ true) × (left_to_write ≡ true)
+IsStoredOrLeft t fr upto visited left_to_write = visited ≡ true → fr.tag ≢ no_tag → (k : ℕ) (e : Entry) → IsEntryOf t.entries fr.tag k e → end_of e ≤ upto → t.upto fr.tag < end_of e → (fr.word.checkpoint_needed ≡ true) × (left_to_write ≡ true)
 
 -- What holds of the checkpoint of a view, which began at `upto`, and of what the view has at a frame
 pub record LinkDebt (t : Taken) (fr : Frame) (upto : ℕ) (l : Link) : Type 0 where
@@ -51,13 +51,13 @@ pub record ViewDebts (t : Taken) (frames : ℕ) (frame : ℕ → Frame) (end : �
 
 -- The law of checkpoints, where `logged` is each block's page after the log, as far as it is known
 pub record Debts (t : Taken) (frames : ℕ) (frame : ℕ → Frame) (end : ℕ) (logged : ℕ → Option Page) (views : List View) : Type 0 where
-  -- an entry is of a block
-  pub named : (k : ℕ) (e : Entry) → get_elem? t.entries k ≡ some e → e.tag ≢ no_tag
+  -- a tag of an entry's block isn't all ones
+  pub named : (k tag : ℕ) (e : Entry) → IsEntryOf t.entries tag k e → tag ≢ no_tag
   -- all entries of a block whose frame isn't dirty are in its lane, and of one that has no frame
   pub clean : (f : ℕ) → f < frames → (frame f).tag ≢ no_tag → (frame f).word.dirty ≡ false → IsCurrent t (frame f).tag
   pub unframed : (tag : ℕ) → tag ≢ no_tag → IsUnframed frames frame tag → IsCurrent t tag
   -- the position of a block's page after the log is not before the end of any of its entries
-  pub positioned : (tag k : ℕ) (p : Page) (e : Entry) → logged tag ≡ Some p → get_elem? t.entries k ≡ some e → e.tag ≡ tag → end_of e ≤ lsn_of p
+  pub positioned : (tag k : ℕ) (p : Page) (e : Entry) → logged tag ≡ Some p → IsEntryOf t.entries tag k e → end_of e ≤ lsn_of p
   -- where that page isn't known all entries are in the lane
   pub unknown : (tag : ℕ) → logged tag ≡ None → IsCurrent t tag
   pub each : (i : ℕ) (v : View) → get_elem? views i ≡ some v → ViewDebts t frames frame end v

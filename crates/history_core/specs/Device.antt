@@ -67,7 +67,7 @@ pub record CanAppend (bytes : List ℕ) (d : Device) (h : LogHold) : Type 0 wher
   pub call : CanCallLog d h
   pub entered : h.appended ≡ None
   pub unsynced : h.synced ≡ false
-  pub full : length bytes ≡ record_size
+  pub short : length bytes ≤ record_size
 
 pub record CanFailAppend (bytes : List ℕ) (n : ℕ) (d : Device) (h : LogHold) : Type 0 where
   pub call : CanCallLog d h
@@ -117,7 +117,7 @@ device_after _ end d = d
 -- What a kind makes of what the view has of the latch
 abbrev pub log_hold_after : LogKind → LogHold → LogHold
 log_hold_after take_log h = record h { held = true }
-log_hold_after leave_log h = record h { held = false; synced = false; end = None }
+log_hold_after leave_log h = record h { held = false; synced = false; end = None; redo = None }
 log_hold_after (log_out taken) h = record h { out = Some taken }
 log_hold_after (append f tag p bytes) h = record h { change = change.Appended f tag p; appended = Some bytes }
 log_hold_after (fail_append f tag p bytes n) h = record h { change = change.AppendFailed }
@@ -207,12 +207,12 @@ pub record DeviceLaw (w : Written) (d : Device) (t : LogTally → ℕ) : Type 0 
 pub record AppendedLog (w : Written) (d : Device) (bytes : List ℕ) : Type 0 where
   pub up : d.down ≡ None
   pub is_bytes : d.bytes ≡ w.bytes ++ bytes
-  pub full : length bytes ≡ record_size
+  pub short : length bytes ≤ record_size
 
 -- What holds of the device and of what a view has of its latch
 pub record LogLink (w : Written) (d : Device) (saw_down : Bool) (h : LogHold) : Type 0 where
-  -- a view without the latch has neither the device nor a record nor a sync
-  pub resting : h.held ≡ false → (h.out ≡ None) × (h.appended ≡ None) × (h.synced ≡ false)
+  -- a view without the latch has neither the device nor a record nor a sync, nor the redo position
+  pub resting : h.held ≡ false → (h.out ≡ None) × (h.appended ≡ None) × (h.synced ≡ false) × (h.redo ≡ None)
   -- the log's end that the holder has loaded or stored under the latch is the log's end
   pub end : (e : ℕ) → h.end ≡ Some e → (h.held ≡ true) × (e ≡ w.end)
   -- a call is noted only while the device is out

@@ -17,7 +17,7 @@ use Rattle.history_core.specs.Miss.{miss_start, pool, page, miss, begin_input}
 
 -- the lane after one read failed
 abbrev pub faulted_lane : TakenLane
-faulted_lane = record { pages = None; read_faults = 1; write_faults = 0; calls = 1 }
+faulted_lane = record { pages = None; marks = []; read_faults = 1; write_faults = 0; calls = 1 }
 
 -- the read of the block fails, which the backend counts, and input ends badly
 abbrev pub fail_input : List Event

@@ -1,5 +1,6 @@
 -- What every list of events keeps of reads, writes, lanes and the log, in the field's words.
-use Rattle.std.specs.Prelude.{◌≡◌, ◌≢◌, ℕ, ◌+◌, ◌<◌, ◌≤◌, Bool, true, false, List, [], ◌∷◌, ◌++◌, length, Some, None, count_by, if◌then◌else◌}
+use Rattle.std.specs.Option.{is_some}
+use Rattle.std.specs.Prelude.{◌≡◌, ◌≢◌, ◌⊎◌, ℕ, ◌+◌, ◌<◌, ◌≤◌, Bool, true, false, List, [], ◌∷◌, ◌++◌, length, Some, None, count_by, if◌then◌else◌}
 use mathlib.Core.Option.{some}
 use lib.ListN.{get_elem?}
 use Rattle.page_layout.specs.Fields.{lsn_of}
@@ -14,8 +15,8 @@ use Rattle.pin_core.specs.Invariant.{HasTag}
 use Rattle.pin_core.specs.Steps as pin_steps
 use Rattle.page_core.specs.Steps as page_steps
 use Rattle.page_core.specs.Histories.{NoneUnapplied}
-use Rattle.history_core.specs.Log.{Entry, log_end, end_of, cell, cut, head_size, log_bytes, record_size, IsLegal, IsFront, place_of, backend_of, writes_in, writes_at, AreInOrder}
-use Rattle.history_core.specs.State.{State, Store, CanStore, stored, stored_upto, synced_upto, failed, last_position, opening}
+use Rattle.history_core.specs.Log.{Entry, log_end, end_of, cell, cut, head_size, log_bytes, AreImages, Change, image, is_image, change_size, tag_in, IsLegal, IsFront, place_of, backend_of, writes_in, writes_at, AreInOrder}
+use Rattle.history_core.specs.State.{State, Store, CanStore, stored, stored_upto, synced_upto, failed, unsynced, last_position, opening}
 use Rattle.history_core.specs.Homes.{home_of, IsFlushedCell}
 use Rattle.history_core.specs.Lanes.{LaneKind, lane_out, sync_lane}
 use Rattle.history_core.specs.Device.{HasRisen}
@@ -38,6 +39,21 @@ pub record IsReached (s : State) : Type 0 where
 abbrev pub CallsAreLegal : State → Type 0
 CallsAreLegal s = (i k : ℕ) (v : View) (c : Call) → get_elem? s.pool.core.views i ≡ some v → get_elem? v.calls k ≡ some c → IsLegal s.known s.origin s.log c
 
+-- where no entry may be made of ranges each entry of the log is a whole page
+abbrev pub ImagesAlone : State → Type 0
+ImagesAlone s = s.ranges ≡ false → AreImages s.log.entries
+
+-- The block has a page: at the start, after all entries and after those up to any place, and in its lane where its last write didn't fail
+pub record HasPages (s : State) (tag : ℕ) : Type 0 where
+  pub first : is_some (s.origin tag) ≡ true
+  pub last : is_some (cell s.origin s.log.entries tag) ≡ true
+  pub upto : (place : ℕ) → is_some (cell s.origin (cut place s.log.entries) tag) ≡ true
+  pub held : failed s tag ≡ false → is_some (stored s tag) ≡ true
+
+-- so has each block of the relations, where its lane's contents are known
+abbrev pub BlocksAreThere : State → Type 0
+BlocksAreThere s = (tag : ℕ) → s.pool.core.is_block tag ≡ true → s.known tag ≡ true → HasPages s tag
+
 -- each call is the backend's own, or that of one whose calls it took in
 abbrev pub CallsAreOwn : State → Type 0
 CallsAreOwn s = (i k : ℕ) (v : View) (c : Call) → get_elem? s.pool.core.views i ≡ some v → get_elem? v.calls k ≡ some c → HasNumber v (backend_of c)
@@ -53,7 +69,7 @@ FrontsAreReached s = (i : ℕ) (v : View) → get_elem? s.pool.core.views i ≡ 
 -- the event is no read or entry of backend i, and no join that takes it in or has it take in another
 abbrev pub LeavesCalls : Event → ℕ → Type 0
 LeavesCalls (read j f) i = i ≢ j
-LeavesCalls (enter j f p) i = i ≢ j
+LeavesCalls (enter j f p c) i = i ≢ j
 LeavesCalls (pool (page_steps.pins_and_maps (pin_steps.join j))) i = (i ≢ 0) × (i ≢ j)
 LeavesCalls _ i = Unit {0}
 
@@ -111,23 +127,26 @@ pub record ReadStands (s : State) (f : ℕ) (v w : View) : Type 0 where
   pub front : w.front ≡ s.end
   pub place_loads : w.place_loads ≡ v.place_loads + 1
   -- its page is the block's page after the entries up to its place, where the contents of the block's lane are known
-  pub is_cell : s.known (s.pool.core.frame f).tag ≡ true → page ≡ cell s.origin (cut s.end s.log.entries) (s.pool.core.frame f).tag
+  pub is_cell : s.known (s.pool.core.frame f).tag ≡ true → cell s.origin (cut s.end s.log.entries) (s.pool.core.frame f).tag ≡ Some page
   -- its place is at least all that the backend had seen
   pub later : IsAfterCalls v s.end
   pub above : v.front ≤ s.end
 
 -- A step made a write of the page p of the frame f: its place is the log's new end, above all that the backend had seen
-pub record WriteStands (s t : State) (f : ℕ) (p : Page) (v w : View) : Type 0 where
-  -- the log has one entry more, of this page of the frame's block, and its end is the place
-  pub logged : t.log ≡ record s.log { entries = s.log.entries ++ new_entry s v.number (s.pool.core.frame f).tag p ∷ [] }
+pub record WriteStands (s t : State) (f : ℕ) (p : Page) (change : Change) (v w : View) : Type 0 where
+  -- the log has one entry more, of the frame's block, and its end is the place
+  pub of : tag_in change ≡ Some (s.pool.core.frame f).tag
+  pub logged : t.log ≡ record s.log { entries = s.log.entries ++ new_entry s v.number change ∷ [] }
   pub end : t.end ≡ log_end t.log
-  pub longer : t.end ≡ s.end + record_size
+  pub longer : t.end ≡ s.end + change_size change
+  -- the page is the entry's image, if it has one
+  pub image_is : (q : Page) → change ≡ image (s.pool.core.frame f).tag q → q ≡ p
   -- the calls grow by the write, which is the front now
-  pub added : w.calls ≡ v.calls ++ Write v.number (s.pool.core.frame f).tag p t.end ∷ []
+  pub added : w.calls ≡ v.calls ++ Write v.number (s.pool.core.frame f).tag p t.end (is_image change) ∷ []
   pub front : w.front ≡ t.end
-  -- the page's position in the log is its place, and it is the block's page after all entries now
+  -- the page's position in the log is its place, and it is the block's page after all entries now, if the entry has it whole or the contents of the block's lane are known
   pub position : lsn_of p ≡ t.end
-  pub is_cell : p ≡ cell t.origin t.log.entries (s.pool.core.frame f).tag
+  pub is_cell : (is_image change ≡ true) ⊎ (s.known (s.pool.core.frame f).tag ≡ true) → cell t.origin t.log.entries (s.pool.core.frame f).tag ≡ Some p
   pub above : v.front < t.end
 
 abbrev pub ReadsStand : State → Type 0
@@ -135,14 +154,18 @@ ReadsStand s = (i f : ℕ) (t : State) → Step (read i f) s t → (v : View) ×
 
 -- the page of a read whose place is the log's base is what its lane held at the start, where the lane's contents are known
 abbrev pub ReadsAtBase : State → Type 0
-ReadsAtBase s = (i k backend tag : ℕ) (page : Page) (v : View) → get_elem? s.pool.core.views i ≡ some v → get_elem? v.calls k ≡ some (Read backend tag page s.log.base) → s.known tag ≡ true → page ≡ s.origin tag
+ReadsAtBase s = (i k backend tag : ℕ) (page : Page) (v : View) → get_elem? s.pool.core.views i ≡ some v → get_elem? v.calls k ≡ some (Read backend tag page s.log.base) → s.known tag ≡ true → s.origin tag ≡ Some page
 
 -- a lane's sync makes durable what the lane holds: the entries of its blocks that are in it
 abbrev pub SyncsMakeDurable : State → Type 0
 SyncsMakeDurable s = (i n tag : ℕ) (t : State) → Step (lane i n sync_lane) s t → s.lane_of tag ≡ n → synced_upto t tag ≡ stored_upto s tag
 
+-- so of a block that was not written since the last sync of its lane, that has covered all entries that are in the lane
+abbrev pub SyncsCover : State → Type 0
+SyncsCover s = (tag : ℕ) → unsynced s tag ≡ false → synced_upto s tag ≡ stored_upto s tag
+
 abbrev pub WritesStand : State → Type 0
-WritesStand s = (i f : ℕ) (p : Page) (t : State) → Step (enter i f p) s t → (v : View) × (w : View) × (get_elem? s.pool.core.views i ≡ some v) × (get_elem? t.pool.core.views i ≡ some w) × WriteStands s t f p v w
+WritesStand s = (i f : ℕ) (p : Page) (c : Change) (t : State) → Step (enter i f p c) s t → (v : View) × (w : View) × (get_elem? s.pool.core.views i ≡ some v) × (get_elem? t.pool.core.views i ≡ some w) × WriteStands s t f p c v w
 
 -- Log before data: the page of a frame that goes to a lane, or was to go there when the write failed, has its position in the log at most at the flushed position as the backend had loaded it before the lane went out, and so at the flushed position
 pub record IsFlushed (s : State) (n f : ℕ) (v : View) : Type 0 where
@@ -165,7 +188,7 @@ LoadedIsFlushed s = (i : ℕ) (v : View) → get_elem? s.pool.core.views i ≡ s
 -- Under an output right whose last write is noted as done the lane holds the frame's page, and the block's last write didn't fail
 pub record IsWritten (s : State) (f : ℕ) : Type 0 where
   pub done : failed s (s.pool.core.frame f).tag ≡ false
-  pub stored_is : stored s (s.pool.core.frame f).tag ≡ (s.pool.core.frame f).page
+  pub stored_is : stored s (s.pool.core.frame f).tag ≡ Some (s.pool.core.frame f).page
 
 abbrev pub NotedWritesAreDone : State → Type 0
 NotedWritesAreDone s = (i f : ℕ) (v : View) → get_elem? s.pool.core.views i ≡ some v → f < s.pool.core.frames → (link v f).last_write ≡ Done → IsWritten s f
@@ -193,7 +216,7 @@ FramesAreSound s = (f : ℕ) → f < s.pool.core.frames → (s.pool.core.frame f
 
 -- and is its block's page after all entries, where the contents of the block's lane are known, unless a view has an entry to apply there
 abbrev pub FramesHoldCells : State → Type 0
-FramesHoldCells s = (f : ℕ) → s.known (s.pool.core.frame f).tag ≡ true → f < s.pool.core.frames → HasTag (s.pool.core.frame f) → (s.pool.core.frame f).word.valid ≡ true → NoneUnapplied s.pool f → (s.pool.core.frame f).page ≡ cell s.origin s.log.entries (s.pool.core.frame f).tag
+FramesHoldCells s = (f : ℕ) → s.known (s.pool.core.frame f).tag ≡ true → f < s.pool.core.frames → HasTag (s.pool.core.frame f) → (s.pool.core.frame f).word.valid ≡ true → NoneUnapplied s.pool f → cell s.origin s.log.entries (s.pool.core.frame f).tag ≡ Some (s.pool.core.frame f).page
 
 -- The words of the log
 pub record LogWords (s : State) : Type 0 where

@@ -1,5 +1,5 @@
 -- The history that the calls of all backends make, when they have ended.
-use Rattle.std.specs.Prelude.{◌≡◌, ◌≢◌, ℕ, Bool, true, List, length}
+use Rattle.std.specs.Prelude.{◌≡◌, ◌≢◌, ℕ, Bool, true, List, length, Option}
 use mathlib.Core.Option.{some}
 use lib.ListN.{get_elem?}
 use Rattle.pin_core.specs.declared.view.Call.{Call}
@@ -9,8 +9,8 @@ use Rattle.history_core.specs.Log.{Entry, Log, LogLaw, end_of, IsLegal, writes_i
 use Rattle.history_core.specs.State.{State}
 
 -- The calls of backends are one history of a log, where `origin` is what the lanes held at the start
-pub record IsHistory (known : ℕ → Bool) (origin : ℕ → Page) (log : Log) (calls : List Call) : Type 0 where
-  -- the entries follow one another, from the base on, and are images
+pub record IsHistory (known : ℕ → Bool) (origin : ℕ → Option Page) (log : Log) (calls : List Call) : Type 0 where
+  -- the entries follow one another, from the base on, and each is valid
   pub law : LogLaw log
   -- each call is legal: a write is an entry of its backend, at its end; a read's page is the block's page after the entries up to its place, where the contents of the block's lane are known
   pub legal : (k : ℕ) (c : Call) → get_elem? calls k ≡ some c → IsLegal known origin log c

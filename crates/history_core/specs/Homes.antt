@@ -1,5 +1,5 @@
 -- The blocks of the frames: what their lanes hold.
-use Rattle.std.specs.Prelude.{◌≡◌, ◌≢◌, ℕ, ◌<◌, ◌≤◌, Bool, true, false, Some}
+use Rattle.std.specs.Prelude.{◌≡◌, ◌≢◌, ℕ, ◌<◌, ◌≤◌, Bool, true, false, Option, Some}
 use Rattle.pin_core.specs.declared.view.LastWrite.TheVariants.{Done}
 use Rattle.pin_core.specs.declared.view.Link.{Link}
 use Rattle.pin_core.specs.declared.view.View.{View}
@@ -15,9 +15,9 @@ use Rattle.grid.specs.Shape.{Shape, Part}
 pub record Home : Type 0 where
   -- its page after the log
   pub block : page.Block
-  -- whether its lane's contents are known, the page that the lane holds, up to which position of the log the block's entries are in that page, and whether the block's last write failed
+  -- whether its lane's contents are known, the page that the lane holds, or none, up to which position of the log the block's entries are in that page, and whether the block's last write failed
   pub known : Bool
-  pub stored : Page
+  pub stored : Option Page
   pub stored_upto : ℕ
   pub failed : Bool
 
@@ -27,7 +27,7 @@ home_of s tag = record { block = block_of s.pool.logged tag; known = s.known tag
 -- the block's last write didn't fail, and the lane holds its page after the log, where its contents are known
 pub record IsClean (h : Home) : Type 0 where
   pub done : h.failed ≡ false
-  pub stored : h.known ≡ true → h.block.logged ≡ Some h.stored
+  pub stored : h.known ≡ true → h.block.logged ≡ h.stored
 
 -- the grid of views and frames, with what is known of the block that a frame's tag names
 abbrev pub home_shape : Shape
@@ -46,7 +46,7 @@ pub record HomeFrame (h : Home) (fr : Frame) : Type 0 where
 pub record DoneLink (h : Home) (fr : Frame) : Type 0 where
   -- the lane holds the frame's page, and the block's last write didn't fail
   pub done : h.failed ≡ false
-  pub stored : h.stored ≡ fr.page
+  pub stored : h.stored ≡ Some fr.page
 
 -- What holds of a frame, of its block and of what a view has there
 pub record HomeLink (h : Home) (fr : Frame) (l : Link) : Type 0 where
@@ -60,7 +60,7 @@ abbrev pub IsUnframed : ℕ → (ℕ → Frame) → ℕ → Type 0
 IsUnframed frames frame tag = (f : ℕ) → f < frames → (frame f).tag ≢ tag
 
 -- The lane holds no page of the block that is ahead of the flushed log
-pub record IsFlushedCell (origin : ℕ → Page) (log : Log) (flushed tag : ℕ) (h : Home) : Type 0 where
+pub record IsFlushedCell (origin : ℕ → Option Page) (log : Log) (flushed tag : ℕ) (h : Home) : Type 0 where
   -- the position up to which the block's entries are in its page is flushed
   pub based : log.base ≤ h.stored_upto
   pub within : h.stored_upto ≤ flushed

@@ -1,5 +1,5 @@
 -- What holds of the lanes, the log and the calls in every state that steps lead to.
-use Rattle.std.specs.Prelude.{◌≡◌, ◌≢◌, ℕ, ◌+◌, ◌<◌, ◌≤◌, Bool, true, false, List, [], Some, length}
+use Rattle.std.specs.Prelude.{◌≡◌, ◌≢◌, ℕ, ◌+◌, ◌<◌, ◌≤◌, Bool, true, false, List, [], Option, length}
 use mathlib.Core.Option.{some}
 use lib.ListN.{get_elem?}
 use Rattle.pin_core.specs.declared.view.Call.{Call}
@@ -7,7 +7,8 @@ use Rattle.pin_core.specs.declared.view.JoinedCheckpoint.{JoinedCheckpoint}
 use Rattle.pin_core.specs.declared.view.View.{View}
 use Rattle.pin_core.specs.State.{Page, no_tag}
 use Rattle.page_core.specs.Invariant as pages
-use Rattle.history_core.specs.Log.{Entry, Log, LogLaw, log_end, head_size, log_bytes, end_of, cell, IsLegal, place_of, backend_of, writes_in, writes_at, HasPlace, AreInOrder}
+use Rattle.std.specs.Option.{is_some}
+use Rattle.history_core.specs.Log.{Entry, Log, LogLaw, IsEntryOf, HasImage, log_end, head_size, log_bytes, end_of, cell, cut, IsLegal, place_of, backend_of, writes_in, writes_at, HasPlace, AreInOrder}
 use Rattle.history_core.specs.State.{State, last_position}
 use Rattle.history_core.specs.Lanes.{lane_shape, lane_part}
 use Rattle.history_core.specs.Device.{Written, log_shape, log_part}
@@ -19,7 +20,7 @@ abbrev pub HasNumber : View → ℕ → Type 0
 HasNumber v number = number ≢ v.number → (k : ℕ) × (c : JoinedCheckpoint) × (get_elem? v.joined_checkpoints k ≡ some c) × (c.number ≡ number)
 
 -- What holds of the calls of a view
-pub record CallsLaw (known : ℕ → Bool) (origin : ℕ → Page) (log : Log) (flushed : ℕ) (v : View) : Type 0 where
+pub record CallsLaw (known : ℕ → Bool) (origin : ℕ → Option Page) (log : Log) (flushed : ℕ) (v : View) : Type 0 where
   -- each is legal with the log
   pub legal : (k : ℕ) (c : Call) → get_elem? v.calls k ≡ some c → IsLegal known origin log c
   -- each is the view's backend's, or that of one that it took in
@@ -46,7 +47,7 @@ pub record KeptLaw (views : List View) : Type 0 where
   pub apart : (i j k : ℕ) (v : View) (c d : JoinedCheckpoint) → get_elem? views i ≡ some v → get_elem? v.joined_checkpoints j ≡ some c → get_elem? v.joined_checkpoints k ≡ some d → c.number ≡ d.number → j ≡ k
 
 -- What holds of the calls of all views
-pub record HistoryLaw (known : ℕ → Bool) (origin : ℕ → Page) (log : Log) (flushed : ℕ) (views : List View) : Type 0 where
+pub record HistoryLaw (known : ℕ → Bool) (origin : ℕ → Option Page) (log : Log) (flushed : ℕ) (views : List View) : Type 0 where
   pub calls : (i : ℕ) (v : View) → get_elem? views i ≡ some v → CallsLaw known origin log flushed v
   pub kept : KeptLaw views
   -- the writes in all views are as many as the entries
@@ -61,8 +62,12 @@ written_of s = record { bytes = log_bytes s.names s.log; end = s.end; faults = s
 -- The law of the buffer pool, and that of the lanes, the log and the calls
 pub record HistoryInvariant (s : State) : Type 0 where
   pub pool : pages.PageInvariant s.pool
-  -- the page of a block after the log is the image of its last entry, or what its lane held at the start, where the lane's contents are known
-  pub logged : (tag : ℕ) → s.known tag ≡ true → s.pool.logged tag ≡ Some (cell s.origin s.log.entries tag)
+  -- the page of a block after the log is what its entries make of the one that its lane held at the start, where the lane's contents are known
+  pub logged : (tag : ℕ) → s.known tag ≡ true → s.pool.logged tag ≡ cell s.origin s.log.entries tag
+  -- there is one of each block of the relations
+  pub there : (tag : ℕ) → s.pool.core.is_block tag ≡ true → s.known tag ≡ true → is_some (cell s.origin s.log.entries tag) ≡ true
+  -- after an entry a block's page is one with content, whose position is the entry's end
+  pub pages : (k tag : ℕ) (e : Entry) → IsEntryOf s.log.entries tag k e → s.known tag ≡ true → HasImage (end_of e) (cell s.origin (cut (end_of e) s.log.entries) tag)
   pub known : (tag : ℕ) → (s.lane (s.lane_of tag)).known ≡ s.known tag
   pub log : LogLaw s.log
   -- new views begin where the log does

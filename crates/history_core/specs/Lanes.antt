@@ -6,6 +6,7 @@ use Rattle.page_layout.specs.Fields.{lsn_of}
 use Rattle.pin_core.specs.declared.view.LaneChange.{LaneChange}
 use Rattle.pin_core.specs.declared.view.LaneChange.TheVariants.{Untouched, Read, ReadFailed, Written, WriteFailed, Synced, SyncFailed}
 use Rattle.pin_core.specs.declared.view.BlockPage.{BlockPage}
+use Rattle.pin_core.specs.declared.view.BlockMark.{BlockMark}
 use Rattle.pin_core.specs.declared.view.TakenLane.{TakenLane}
 use Rattle.pin_core.specs.declared.view.LaneHold.{LaneHold}
 use Rattle.pin_core.specs.declared.view.DeviceCall.{DeviceCall}
@@ -49,7 +50,7 @@ is_failed_write _ = false
 
 -- the lane holds the block
 pub record IsBlockPage (ln : Lane) (b : BlockPage) : Type 0 where
-  pub stored : ln.stored b.tag ≡ b.page
+  pub stored : ln.stored b.tag ≡ Some b.page
   pub failed : ln.failed b.tag ≡ b.failed
 
 pub record CanTakeLane (ln : Lane) (h : LaneHold) : Type 0 where
@@ -59,13 +60,14 @@ pub record CanLeaveLane (ln : Lane) (h : LaneHold) : Type 0 where
   pub held : h.held ≡ true
   pub home : h.out ≡ None
 
--- what is noted of a lane that goes out is what it is: its counts, and its blocks, where they are noted
+-- what is noted of a lane that goes out is what it is: its counts, its blocks, where they are noted, and which of them were written since the last sync
 pub record CanTakeOut (taken : TakenLane) (ln : Lane) (h : LaneHold) : Type 0 where
   pub held : h.held ≡ true
   pub home : h.out ≡ None
   pub reads : taken.read_faults ≡ ln.read_faults
   pub writes : taken.write_faults ≡ ln.write_faults
   pub pages : (blocks : List BlockPage) (k : ℕ) (b : BlockPage) → taken.pages ≡ Some blocks → get_elem? blocks k ≡ some b → IsBlockPage ln b
+  pub marks : (k : ℕ) (m : BlockMark) → get_elem? taken.marks k ≡ some m → ln.unsynced m.tag ≡ m.unsynced
 
 -- one call of the lane each time that it is out
 pub record CanCall (ln : Lane) (h : LaneHold) : Type 0 where
@@ -84,7 +86,7 @@ pub record CanFail (before now : ℕ) (ln : Lane) (h : LaneHold) : Type 0 where
 -- where the lane's contents are known the page that is read is the one that it holds
 pub record CanReadBlock (tag : ℕ) (page : Page) (ln : Lane) (h : LaneHold) : Type 0 where
   pub call : CanCall ln h
-  pub given : ln.known ≡ true → ln.stored tag ≡ page
+  pub given : ln.known ≡ true → ln.stored tag ≡ Some page
 
 -- A fault is counted only for a call that failed; it is for each write or sync that failed, also where the count stands at its last value, and where a count rose
 pub record CountsFault (noted : Bool) (taken : TakenLane) (ln : Lane) (change : LaneChange) : Type 0 where
@@ -113,9 +115,9 @@ abbrev pub lane_after : LaneKind → Lane → Lane
 lane_after take_lane ln = record ln { taken = true }
 lane_after leave_lane ln = record ln { taken = false }
 lane_after (fail_read tag n) ln = record ln { read_faults = n }
-lane_after (write_block f tag p) ln = record ln { stored = put ln.stored tag p; stored_upto = put ln.stored_upto tag (max (ln.stored_upto tag) (lsn_of p)); failed = put ln.failed tag false }
-lane_after (fail_write f tag p n) ln = record ln { stored = put ln.stored tag p; failed = put ln.failed tag true; write_faults = n }
-lane_after sync_lane ln = record ln { synced_upto = ln.stored_upto }
+lane_after (write_block f tag p) ln = record ln { stored = put ln.stored tag (Some p); stored_upto = put ln.stored_upto tag (max (ln.stored_upto tag) (lsn_of p)); failed = put ln.failed tag false; unsynced = put ln.unsynced tag true }
+lane_after (fail_write f tag p n) ln = record ln { stored = put ln.stored tag (Some p); failed = put ln.failed tag true; unsynced = put ln.unsynced tag true; write_faults = n }
+lane_after sync_lane ln = record ln { synced_upto = ln.stored_upto; unsynced = λ _. false }
 lane_after (fail_sync n) ln = record ln { write_faults = n }
 lane_after _ ln = ln
 
@@ -192,7 +194,7 @@ pub record LaneColumn (ln : Lane) (t : LaneTally → ℕ) : Type 0 where
 -- What holds of a lane that was written while it is out
 pub record WrittenLane (ln : Lane) (tag : ℕ) (page : Page) : Type 0 where
   -- it holds the page, with the block's entries up to the page's position, and the block's last write didn't fail
-  pub stored : ln.stored tag ≡ page
+  pub stored : ln.stored tag ≡ Some page
   pub upto : lsn_of page ≤ ln.stored_upto tag
   pub done : ln.failed tag ≡ false
 
@@ -211,7 +213,7 @@ pub record LaneHoldLaw (flushed : ℕ) (ln : Lane) (h : LaneHold) : Type 0 where
   -- a call is noted only while the lane is out
   pub home : h.out ≡ None → h.change ≡ Untouched
   -- the page that was read is the one that the lane holds, where its contents are known
-  pub read : (tag : ℕ) (page : Page) → h.change ≡ Read tag page → ln.known ≡ true → ln.stored tag ≡ page
+  pub read : (tag : ℕ) (page : Page) → h.change ≡ Read tag page → ln.known ≡ true → ln.stored tag ≡ Some page
   pub written : (f tag : ℕ) (page : Page) → h.change ≡ Written f tag page → WrittenLane ln tag page
   -- a write that failed is among the failed ones
   pub write_failed : (f tag : ℕ) → h.change ≡ WriteFailed f tag → ln.failed tag ≡ true
@@ -224,6 +226,7 @@ pub record LaneLink (flushed : ℕ) (ln : Lane) (h : LaneHold) : Type 0 where
   pub counts : (taken : TakenLane) → h.out ≡ Some taken → CountsOut taken ln h.change
   -- until the holder's call its blocks are as they were when it went out
   pub blocks : (taken : TakenLane) (blocks : List BlockPage) (k : ℕ) (b : BlockPage) → h.out ≡ Some taken → h.change ≡ Untouched → taken.pages ≡ Some blocks → get_elem? blocks k ≡ some b → IsBlockPage ln b
+  pub marks : (taken : TakenLane) (k : ℕ) (m : BlockMark) → h.out ≡ Some taken → h.change ≡ Untouched → get_elem? taken.marks k ≡ some m → ln.unsynced m.tag ≡ m.unsynced
 
 abbrev pub lane_part : Part lane_shape
 lane_part = record { column = λ _ ln t. LaneColumn ln t; cell = λ flushed ln _ h. LaneLink flushed ln h }

@@ -15,8 +15,10 @@ pub record IsSameOpening (s t : State) : Type 0 where
   pub lane_of : t.lane_of ≡ s.lane_of
   pub known : t.known ≡ s.known
   pub origin : t.origin ≡ s.origin
+  pub unsynced : t.unsynced_at_start ≡ s.unsynced_at_start
   pub base : t.log.base ≡ s.log.base
   pub names : t.names ≡ s.names
+  pub ranges : t.ranges ≡ s.ranges
   pub log_faults : t.log_faults ≡ s.log_faults
 
 -- The log and its device have grown

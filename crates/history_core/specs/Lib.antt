@@ -27,3 +27,7 @@ pub mod Trail
 pub mod Laws
 pub mod Lasting
 pub mod Swept
+pub mod Unentered
+pub mod Crashes
+pub mod Torn
+pub mod Sizes

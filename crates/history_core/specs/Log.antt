@@ -1,57 +1,157 @@
 -- The write-ahead log, the pages of blocks that follow from it, and what backends read and wrote.
-use Rattle.std.specs.Prelude.{◌≡◌, ◌≢◌, ℕ, ◌+◌, ◌*◌, ◌<◌, ◌≤◌, Bool, true, false, List, [], ◌∷◌, ◌++◌, length, nat_eq, nat_le, if◌then◌else◌}
+use Rattle.std.specs.Prelude.{◌≡◌, ◌≢◌, ℕ, ◌+◌, ◌-◌, ◌*◌, ◌/◌, ◌%◌, ◌<◌, ◌≤◌, Bool, true, false, ◌&&◌, List, [], ◌∷◌, ◌++◌, length, take, drop, replicate, nat_eq, nat_le, nat_lt, Option, Some, None, option_map, if◌then◌else◌}
 use mathlib.Core.Option.{some}
 use lib.ListN.{get_elem?}
 use Rattle.byteorder.specs.Endian.{little_bytes}
-use Rattle.page_layout.specs.Fields.{lsn_of}
+use Rattle.page_layout.specs.Fields.{lsn_of, with_lsn}
 use Rattle.page_layout.specs.Soundness.{is_new_page, is_sound_page}
 use Rattle.pin_core.specs.declared.view.Call.{Call}
 use Rattle.pin_core.specs.declared.view.Call.TheVariants.{Read, Write}
 use Rattle.pin_core.specs.State.{Page}
-use Rattle.grid.specs.Shape.{put, total}
+use Rattle.grid.specs.Shape.{total}
 
--- An entry: a block's page after a change
+-- Bytes of a page that are replaced: where they stand in the page, and what they are
+pub record Span : Type 0 where
+  pub place : ℕ
+  pub bytes : List ℕ
+
+-- What an entry changes
+pub data Change : Type 0 where
+  -- the page of a block, by its tag: it is this one
+  image : ℕ → Page → Change
+  -- bytes of a block's page
+  ranges : ℕ → List Span → Change
+  -- how many blocks a fork has: the fork, by its number, the blocks that it had, and those that it has
+  resize : ℕ → ℕ → ℕ → Change
+
+-- An entry
 pub record Entry : Type 0 where
   -- the position of its first byte
   pub start : ℕ
   -- the backend that made it
   pub backend : ℕ
-  -- the block, by its tag, and its page
-  pub tag : ℕ
-  pub image : Page
+  pub change : Change
 
--- how many bytes of the log an entry takes
+-- how many bytes of the log the entry of a page takes: no entry takes more
 abbrev pub record_size : ℕ
 record_size = 8224
 
+-- whether it is a whole page
+abbrev pub is_image : Change → Bool
+is_image (image tag page) = true
+is_image (ranges tag spans) = false
+is_image (resize fork old new) = false
+
+-- how many bytes spans take in a record: a place and a length, in 2 bytes each, and their bytes
+unfoldable pub spans_size : List Span → ℕ
+spans_size [] = 0
+spans_size (s ∷ ss) = 4 + length s.bytes + spans_size ss
+
+-- the next multiple of 8
+abbrev pub rounded : ℕ → ℕ
+rounded n = (n + 7) / 8 * 8
+
+-- how many bytes of the log an entry takes
+abbrev pub change_size : Change → ℕ
+change_size (image tag page) = record_size
+change_size (ranges tag spans) = rounded (36 + spans_size spans)
+change_size (resize fork old new) = 40
+
 -- the position where an entry ends
 abbrev pub end_of : Entry → ℕ
-end_of e = e.start + record_size
+end_of e = e.start + change_size e.change
 
 -- The log: the position where it begins, and its entries
 pub record Log : Type 0 where
   pub base : ℕ
   pub entries : List Entry
 
+-- where the last entry ends, or else the position `from`
+unfoldable pub end_from : ℕ → List Entry → ℕ
+end_from from [] = from
+end_from from (e ∷ es) = end_from (end_of e) es
+
 -- the position where the last entry ends, or the base
 abbrev pub log_end : Log → ℕ
-log_end log = log.base + record_size * length log.entries
+log_end log = end_from log.base log.entries
 
--- The image of an entry is a page of 8192 bytes with content, whose position in the log (`pd_lsn`) is the entry's end
-pub record IsImage (e : Entry) : Type 0 where
-  pub sound : is_sound_page e.image ≡ true
-  pub used : is_new_page e.image ≡ false
-  pub full : length e.image ≡ 8192
-  pub ends : lsn_of e.image ≡ end_of e
+-- each entry begins where the one before it ends, the first at the position `from`
+unfoldable pub AreChained : ℕ → List Entry → Type 0
+AreChained from [] = Unit {0}
+AreChained from (e ∷ es) = (e.start ≡ from) × AreChained (end_of e) es
+
+-- A page of 8192 bytes with content, whose position in the log (`pd_lsn`) is this
+pub record IsImage (end : ℕ) (page : Page) : Type 0 where
+  pub sound : is_sound_page page ≡ true
+  pub used : is_new_page page ≡ false
+  pub full : length page ≡ 8192
+  pub ends : lsn_of page ≡ end
+
+-- spans have a byte each at least; the first begins at `from` or after it, each other where the one before it ends or after that, and the last ends within the page
+unfoldable pub StandApart : ℕ → List Span → Type 0
+StandApart from [] = from ≤ 8192
+StandApart from (s ∷ ss) = (from ≤ s.place) × (0 < length s.bytes) × StandApart (s.place + length s.bytes) ss
+
+-- From 1 to 16 spans, none of which touches a page's position in the log, its first 8 bytes, in a record that is shorter than that of a page
+pub record AreRanges (spans : List Span) : Type 0 where
+  pub some : 0 < length spans
+  pub few : length spans ≤ 16
+  pub apart : StandApart 8 spans
+  pub shorter : rounded (36 + spans_size spans) < record_size
+
+-- What a change may be in an entry that ends at the position `end`; no step resizes a fork yet
+abbrev pub IsChange : ℕ → Change → Type 0
+IsChange end (image tag page) = IsImage end page
+IsChange end (ranges tag spans) = AreRanges spans
+IsChange end (resize fork old new) = ⊥
+
+-- whether an entry may be made of a change: of an image it may; of ranges where `may` says so; of a resize not yet
+abbrev pub MayMake : Bool → Change → Type 0
+MayMake may (image tag page) = Unit {0}
+MayMake may (ranges tag spans) = may ≡ true
+MayMake may (resize fork old new) = ⊥
+
+-- each entry is a whole page
+abbrev pub AreImages : List Entry → Type 0
+AreImages es = (k : ℕ) (e : Entry) → get_elem? es k ≡ some e → is_image e.change ≡ true
 
 -- The entries follow one another, from the base on
 pub record LogLaw (log : Log) : Type 0 where
-  pub chained : (k : ℕ) (e : Entry) → get_elem? log.entries k ≡ some e → e.start ≡ log.base + record_size * k
-  pub images : (k : ℕ) (e : Entry) → get_elem? log.entries k ≡ some e → IsImage e
+  pub chained : AreChained log.base log.entries
+  pub valid : (k : ℕ) (e : Entry) → get_elem? log.entries k ≡ some e → IsChange (end_of e) e.change
 
--- the bytes of an entry: its kind, its block, its position and the page; `names` is how the log names a block, in 20 bytes
+-- the places and the lengths of spans
+unfoldable pub span_places : List Span → List ℕ
+span_places [] = []
+span_places (s ∷ ss) = little_bytes 2 s.place ++ (little_bytes 2 (length s.bytes) ++ span_places ss)
+
+-- their bytes
+unfoldable pub span_bytes : List Span → List ℕ
+span_bytes [] = []
+span_bytes (s ∷ ss) = s.bytes ++ span_bytes ss
+
+-- how many spans there are, where they stand, and their bytes, with zeros up to the record's end
+abbrev pub ranges_bytes : List Span → List ℕ
+ranges_bytes spans = little_bytes 4 (length spans) ++ (span_places spans ++ (span_bytes spans ++ replicate (rounded (36 + spans_size spans) - (36 + spans_size spans)) 0))
+
+-- a tag's fork, and its block there; the tag of a fork's first block
+unfoldable pub tag_fork : ℕ → ℕ
+tag_fork tag = tag / 4294967296
+
+unfoldable pub tag_block : ℕ → ℕ
+tag_block tag = tag % 4294967296
+
+abbrev pub first_block : ℕ → ℕ
+first_block fork = fork * 4294967296
+
+-- the bytes of an entry: its kind, its block, its position, and what is changed; of a resize the fork, as in the name of its blocks, and its new size in place of a block; `names` is how the log names a block, in 20 bytes
+abbrev pub change_bytes : (ℕ → List ℕ) → ℕ → Change → List ℕ
+change_bytes names start (image tag page) = little_bytes 4 1 ++ (names tag ++ (little_bytes 8 start ++ page))
+change_bytes names start (ranges tag spans) = little_bytes 4 3 ++ (names tag ++ (little_bytes 8 start ++ ranges_bytes spans))
+change_bytes names start (resize fork old new) = little_bytes 4 2 ++ (take 16 (names (first_block fork)) ++ (little_bytes 4 new ++ (little_bytes 8 start ++ (little_bytes 4 old ++ little_bytes 4 0))))
+
 abbrev pub record_bytes : (ℕ → List ℕ) → Entry → List ℕ
-record_bytes names e = little_bytes 4 1 ++ (names e.tag ++ (little_bytes 8 e.start ++ e.image))
+record_bytes names e = change_bytes names e.start e.change
 
 abbrev pub head_size : ℕ
 head_size = 16
@@ -73,51 +173,92 @@ unfoldable pub cut : ℕ → List Entry → List Entry
 cut p [] = []
 cut p (e ∷ es) = if nat_le (end_of e) p then e ∷ cut p es else cut p es
 
--- each block's page after these entries, which are done one after the other, where `origin` is what it was before them
-unfoldable pub cell : (ℕ → Page) → List Entry → ℕ → Page
-cell origin [] = origin
-cell origin (e ∷ es) = cell (put origin e.tag e.image) es
+-- the page with the bytes of spans replaced
+unfoldable pub with_spans : List Span → Page → Page
+with_spans [] p = p
+with_spans (s ∷ ss) p = with_spans ss (take s.place p ++ (s.bytes ++ drop (s.place + length s.bytes) p))
+
+-- a page whose bytes are all 0
+abbrev pub zero_page : Page
+zero_page = replicate 8192 0
+
+-- the page of block n of a fork that gets another size: none where it is cut away, and a page of zeros where it is the one that is added
+abbrev pub resized : ℕ → ℕ → ℕ → Option Page → Option Page
+resized old new n p = if nat_lt new old && nat_le new n then None else if nat_eq new (old + 1) && nat_eq n old then Some zero_page else p
+
+-- the page of a block after a change, whose entry ends at `end`, where it was p before; none where the block isn't there
+unfoldable pub changed_page : Change → ℕ → ℕ → Option Page → Option Page
+changed_page (image t q) end tag p = if nat_eq tag t then Some q else p
+changed_page (ranges t spans) end tag p = if nat_eq tag t then option_map (λ (q : Page). with_lsn end (with_spans spans q)) p else p
+changed_page (resize fork old new) end tag p = if nat_eq (tag_fork tag) fork then resized old new (tag_block tag) p else p
+
+-- and after entries, which are done one after the other
+unfoldable pub page_after : ℕ → List Entry → Option Page → Option Page
+page_after tag [] p = p
+page_after tag (e ∷ es) p = page_after tag es (changed_page e.change (end_of e) tag p)
+
+-- each block's page after these entries, where `origin` is what it was before them
+abbrev pub cell : (ℕ → Option Page) → List Entry → ℕ → Option Page
+cell origin es tag = page_after tag es (origin tag)
+
+-- the block whose page a change makes, by its tag
+abbrev pub tag_in : Change → Option ℕ
+tag_in (image tag page) = Some tag
+tag_in (ranges tag spans) = Some tag
+tag_in (resize fork old new) = None
+
+-- The entry k is e, and it is of the block of a tag
+pub record IsEntryOf (es : List Entry) (tag k : ℕ) (e : Entry) : Type 0 where
+  pub there : get_elem? es k ≡ some e
+  pub of : tag_in e.change ≡ Some tag
+
+-- The page is known, and it is one with content, of this position in the log
+pub record HasImage (end : ℕ) (page : Option Page) : Type 0 where
+  pub shown : Page
+  pub is : page ≡ Some shown
+  pub valid : IsImage end shown
 
 -- A read is legal with the log where its page is the block's page after the entries up to the read's place, if the contents of the block's lane are known (`known`)
-pub record IsLegalRead (known : ℕ → Bool) (origin : ℕ → Page) (log : Log) (tag : ℕ) (page : Page) (place : ℕ) : Type 0 where
+pub record IsLegalRead (known : ℕ → Bool) (origin : ℕ → Option Page) (log : Log) (tag : ℕ) (page : Page) (place : ℕ) : Type 0 where
   pub based : log.base ≤ place
   pub within : place ≤ log_end log
-  pub reads : known tag ≡ true → page ≡ cell origin (cut place log.entries) tag
+  pub reads : known tag ≡ true → cell origin (cut place log.entries) tag ≡ Some page
 
--- A write is legal where it is an entry of its backend, and its place the entry's end
-pub record IsLegalWrite (log : Log) (backend tag : ℕ) (page : Page) (place : ℕ) : Type 0 where
+-- A write is legal where it is an entry of its backend, and its place the entry's end; it says whether the entry has the page whole. Its page is that image then, and the block's page after the entries up to there, if the contents of the block's lane are known
+pub record IsLegalWrite (known : ℕ → Bool) (origin : ℕ → Option Page) (log : Log) (backend tag : ℕ) (page : Page) (place : ℕ) (whole : Bool) : Type 0 where
   pub index : ℕ
   pub entry : Entry
-  pub there : get_elem? log.entries index ≡ some entry
+  pub entered : IsEntryOf log.entries tag index entry
   pub made : entry.backend ≡ backend
-  pub tagged : entry.tag ≡ tag
-  pub image : entry.image ≡ page
   pub ends : end_of entry ≡ place
+  pub image_is : (t : ℕ) (q : Page) → entry.change ≡ image t q → q ≡ page
+  pub is_whole : is_image entry.change ≡ whole
+  pub writes : known tag ≡ true → cell origin (cut place log.entries) tag ≡ Some page
 
-abbrev pub IsLegal : (ℕ → Bool) → (ℕ → Page) → Log → Call → Type 0
+abbrev pub IsLegal : (ℕ → Bool) → (ℕ → Option Page) → Log → Call → Type 0
 IsLegal known origin log (Read backend tag page place) = IsLegalRead known origin log tag page place
-IsLegal known origin log (Write backend tag page place) = IsLegalWrite log backend tag page place
+IsLegal known origin log (Write backend tag page place whole) = IsLegalWrite known origin log backend tag page place whole
 
 abbrev pub place_of : Call → ℕ
 place_of (Read backend tag page place) = place
-place_of (Write backend tag page place) = place
+place_of (Write backend tag page place whole) = place
 
 abbrev pub tag_of : Call → ℕ
 tag_of (Read backend tag page place) = tag
-tag_of (Write backend tag page place) = tag
+tag_of (Write backend tag page place whole) = tag
 
 abbrev pub backend_of : Call → ℕ
 backend_of (Read backend tag page place) = backend
-backend_of (Write backend tag page place) = backend
+backend_of (Write backend tag page place whole) = backend
 
 -- 1 for a write, and for a write at the place p
 abbrev pub write_weight : Call → ℕ
 write_weight (Read backend tag page place) = 0
-write_weight (Write backend tag page place) = 1
+write_weight (Write backend tag page place whole) = 1
 
 abbrev pub weight_at : ℕ → Call → ℕ
 weight_at p (Read backend tag page place) = 0
-weight_at p (Write backend tag page place) = if nat_eq place p then 1 else 0
+weight_at p (Write backend tag page place whole) = if nat_eq place p then 1 else 0
 
 -- how many writes are among the calls, and how many at the place p
 abbrev pub writes_in : List Call → ℕ

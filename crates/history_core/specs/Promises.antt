@@ -11,7 +11,7 @@ use Rattle.pin_core.specs.Kinds.{unpin, load_state}
 use Rattle.pin_core.specs.Steps as pin_steps
 use Rattle.pin_core.specs.Schedules.{IsHandedOut, KeepsTag}
 use Rattle.page_core.specs.Steps as page_steps
-use Rattle.history_core.specs.Log.{Entry, end_of, cell, cut, head_size}
+use Rattle.history_core.specs.Log.{Entry, IsEntryOf, end_of, cell, cut, head_size}
 use Rattle.history_core.specs.State.{State, stored, synced_upto, failed}
 use Rattle.history_core.specs.Swept.{has_swept}
 use Rattle.history_core.specs.Debts.{has_visited, has_left_to_write}
@@ -31,32 +31,32 @@ abbrev pub GrantsAreAlone : State → Type 0
 GrantsAreAlone s = (i f : ℕ) (v : View) (t : State) → Step (pool (page_steps.pins_and_maps (pin_steps.at i f load_state))) s t → get_elem? s.pool.core.views i ≡ some v → (s.pool.core.frame f).word.pins ≡ 1 → (link v f).role ≢ Absent → (link v f).content ≡ Exclusive
     → (j : ℕ) (u : View) → j ≢ i → get_elem? s.pool.core.views j ≡ some u → ((link u f).role ≡ Absent) × ((link u f).content ≡ Unlocked)
 
--- The lane of an entry's block holds the entry's page or a later one
-pub record IsInLane (s : State) (e : Entry) : Type 0 where
+-- The lane of an entry's block, whose tag is this, holds the block's page after the entry or after a later one
+pub record IsInLane (s : State) (e : Entry) (tag : ℕ) : Type 0 where
   -- up to this position the block's entries are in the lane, and they are durable in the log
   pub place : ℕ
   pub later : end_of e ≤ place
   pub flushed : place ≤ s.flushed
   pub durable : head_size + end_of e ≤ s.log.base + s.device.synced
   -- where the lane's contents are known it holds the block's page after the entries up to there
-  pub holds : s.known e.tag ≡ true → stored s e.tag ≡ cell s.origin (cut place s.log.entries) e.tag
+  pub holds : s.known tag ≡ true → stored s tag ≡ cell s.origin (cut place s.log.entries) tag
 
--- The last write of an entry's block failed, and the block's frame is valid and dirty
-pub record IsUnwritten (s : State) (e : Entry) : Type 0 where
-  pub failed_write : failed s e.tag ≡ true
+-- The last write of a block failed, and the block's frame is valid and dirty
+pub record IsUnwritten (s : State) (tag : ℕ) : Type 0 where
+  pub failed_write : failed s tag ≡ true
   pub frame : ℕ
   pub inside : frame < s.pool.core.frames
-  pub tagged : (s.pool.core.frame frame).tag ≡ e.tag
+  pub tagged : (s.pool.core.frame frame).tag ≡ tag
   pub valid : (s.pool.core.frame frame).word.valid ≡ true
   pub dirty : (s.pool.core.frame frame).word.dirty ≡ true
 
 -- each entry that ends at the position `upto` or before it is in its block's lane, or its block's last write failed
 abbrev pub AreStored : State → ℕ → Type 0
-AreStored s upto = (k : ℕ) (e : Entry) → get_elem? s.log.entries k ≡ some e → end_of e ≤ upto → IsInLane s e ⊎ IsUnwritten s e
+AreStored s upto = (k tag : ℕ) (e : Entry) → IsEntryOf s.log.entries tag k e → end_of e ≤ upto → IsInLane s e tag ⊎ IsUnwritten s tag
 
 -- the lanes' syncs have covered all entries up to the position `upto`
 abbrev pub AreSynced : State → ℕ → Type 0
-AreSynced s upto = (k : ℕ) (e : Entry) → get_elem? s.log.entries k ≡ some e → end_of e ≤ upto → end_of e ≤ synced_upto s e.tag
+AreSynced s upto = (k tag : ℕ) (e : Entry) → IsEntryOf s.log.entries tag k e → end_of e ≤ upto → end_of e ≤ synced_upto s tag
 
 -- A backend that has swept each lane up to the position `upto`, also one that was joined into another
 abbrev pub SweepsStore : State → Type 0

@@ -11,7 +11,7 @@ use Rattle.pin_core.specs.declared.view.View.{View}
 use Rattle.pin_core.specs.State.{Page}
 use Rattle.pin_core.specs.Kinds as pins
 use Rattle.page_core.specs.Kinds.{share, unshare, exclude, unexclude, mark_dirty, page_out, overwrite_logged, page_back, start_output, clear_just_dirtied, note_write, end_io}
-use Rattle.history_core.specs.Log.{Entry, record_size, head_bytes, record_bytes, log_bytes}
+use Rattle.history_core.specs.Log.{Entry, image, record_size, head_bytes, record_bytes, log_bytes}
 use Rattle.history_core.specs.State.{State, stored}
 use Rattle.history_core.specs.Lanes.{take_lane, leave_lane, lane_out, write_block, lane_back}
 use Rattle.history_core.specs.Device.{take_log, leave_log, log_out, append, sync_log, log_back}
@@ -33,7 +33,7 @@ some_page = (0 ∷ 0 ∷ 0 ∷ 0 ∷ 32 ∷ 32 ∷ 0 ∷ 0 ∷ 0 ∷ 0 ∷ 0 ∷
 
 -- the entry of the page, the first of the log, and its bytes
 abbrev pub put_entry : Page → Entry
-put_entry p = record { start = 0; backend = 0; tag = 7; image = p }
+put_entry p = record { start = 0; backend = 0; change = image 7 p }
 
 abbrev pub put_bytes : Page → List ℕ
 put_bytes p = record_bytes sample_store.names (put_entry p)
@@ -44,7 +44,7 @@ log_with p = record { bytes = Some (head_bytes 0 ++ put_bytes p); synced = 0; fa
 
 -- under the exclusive lock the page is marked dirty, its record is appended to the log and made an entry, and the frame's page is overwritten by it
 abbrev pub change : Page → List Event
-change p = page exclude ∷ page mark_dirty ∷ log 0 take_log ∷ log 0 (log_out sample_log) ∷ log 0 (append 0 7 p (put_bytes p)) ∷ log 0 (log_back false) ∷ enter 0 0 p ∷ log 0 leave_log ∷ page page_out ∷ page overwrite_logged ∷ page page_back ∷ page unexclude ∷ []
+change p = page exclude ∷ page mark_dirty ∷ log 0 take_log ∷ log 0 (log_out sample_log) ∷ log 0 (append 0 7 p (put_bytes p)) ∷ log 0 (log_back false) ∷ enter 0 0 p (image 7 p) ∷ log 0 leave_log ∷ page page_out ∷ page overwrite_logged ∷ page page_back ∷ page unexclude ∷ []
 
 -- the log is made durable, and the flushed position raised and loaded
 abbrev pub flush : Page → List Event
@@ -57,7 +57,7 @@ write_out i p = page_by i share ∷ pool_by i pins.lock_header ∷ page_by i sta
 -- After the write
 pub record HasPut (p : Page) (t : State) : Type 0 where
   -- the block's lane holds the page, and so does the frame, which is clean
-  pub lane : stored t 7 ≡ p
+  pub lane : stored t 7 ≡ Some p
   pub held : (t.pool.core.frame 0).page ≡ p
   pub clean : (t.pool.core.frame 0).word.dirty ≡ false
   -- the log has its entry, all of whose bytes are durable
@@ -66,7 +66,7 @@ pub record HasPut (p : Page) (t : State) : Type 0 where
   pub durable : t.device.synced ≡ length t.device.bytes
   pub flushed : t.flushed ≡ record_size
   -- and the backend's one call is the write of it, at the entry's end
-  pub called : (v : View) × (get_elem? t.pool.core.views 0 ≡ some v) × (v.calls ≡ Write 0 7 p record_size ∷ []) × (v.front ≡ record_size)
+  pub called : (v : View) × (get_elem? t.pool.core.views 0 ≡ some v) × (v.calls ≡ Write 0 7 p record_size true ∷ []) × (v.front ≡ record_size)
 
 abbrev pub PutRuns : Type 0
 PutRuns = IsPut some_page × ((p : Page) → IsPut p → (t : State) × Run (miss ++ fill ++ change p ++ flush p ++ write_out 0 p) miss_start t × HasPut p t)

@@ -22,10 +22,12 @@ abbrev pub sample_store : Store
 sample_store = record {
   lane_of = λ _. 0;
   known = λ _. true;
-  origin = λ _. short_page;
+  origin = λ _. Some short_page;
   names = λ _. 0 ∷ 0 ∷ 0 ∷ 0 ∷ 0 ∷ 0 ∷ 0 ∷ 0 ∷ 0 ∷ 0 ∷ 0 ∷ 0 ∷ 0 ∷ 0 ∷ 0 ∷ 0 ∷ 0 ∷ 0 ∷ 0 ∷ 0 ∷ [];
+  ranges = false;
   read_faults = λ _. 0;
   write_faults = λ _. 0;
+  unsynced = λ _. false;
   head_synced = 0;
   log_faults = 0;
 }
@@ -34,7 +36,7 @@ abbrev pub sample_start : State
 sample_start = opening sample_config sample_store []
 
 abbrev pub sample_lane : TakenLane
-sample_lane = record { pages = None; read_faults = 0; write_faults = 0; calls = 0 }
+sample_lane = record { pages = None; marks = []; read_faults = 0; write_faults = 0; calls = 0 }
 
 abbrev pub sample_log : TakenLog
 sample_log = record { bytes = Some (head_bytes 0); synced = 0; faults = 0; calls = 0; down = None }

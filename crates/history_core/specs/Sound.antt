@@ -1,21 +1,21 @@
 -- Blocks whose pages were sound at the start: no other block is read or written.
-use Rattle.std.specs.Prelude.{◌≡◌, ◌≢◌, ℕ, ◌<◌, true, false, Some, None}
+use Rattle.std.specs.Prelude.{◌≡◌, ◌≢◌, ◌⊎◌, ℕ, ◌<◌, true, false, Some, None}
 use mathlib.Core.Option.{some}
 use lib.ListN.{get_elem?}
 use Rattle.page_layout.specs.Soundness.{is_sound_page}
 use Rattle.pin_core.specs.declared.view.Call.{Call}
 use Rattle.pin_core.specs.declared.view.View.{View}
 use Rattle.pin_core.specs.State.{Page, no_tag, link}
-use Rattle.history_core.specs.Log.{Entry, cell, cut, tag_of}
+use Rattle.history_core.specs.Log.{Entry, IsEntryOf, cell, cut, tag_of}
 use Rattle.history_core.specs.State.{State, stored, failed}
 
 -- the page that the block's lane held at the start is sound, if the lane's contents are known
 abbrev pub WasSound : State → ℕ → Type 0
-WasSound s tag = s.known tag ≡ true → is_sound_page (s.origin tag) ≡ true
+WasSound s tag = (p : Page) → s.known tag ≡ true → s.origin tag ≡ Some p → is_sound_page p ≡ true
 
 -- Entries and calls are of blocks whose pages were sound at the start, where these are known
 pub record SoundLaw (s : State) : Type 0 where
-  pub entries : (k : ℕ) (e : Entry) → get_elem? s.log.entries k ≡ some e → WasSound s e.tag
+  pub entries : (k tag : ℕ) (e : Entry) → IsEntryOf s.log.entries tag k e → WasSound s tag
   pub calls : (i k : ℕ) (v : View) (c : Call) → get_elem? s.pool.core.views i ≡ some v → get_elem? v.calls k ≡ some c → WasSound s (tag_of c)
 
 -- What a backend has that shows that a block's page was sound at the start, where that is known
@@ -30,7 +30,7 @@ pub record ShowsSound (s : State) : Type 0 where
 -- A block that is as it was at the start
 pub record IsUntouched (s : State) (tag : ℕ) : Type 0 where
   -- it has no entry
-  pub unentered : (k : ℕ) (e : Entry) → get_elem? s.log.entries k ≡ some e → e.tag ≢ tag
+  pub unentered : (k : ℕ) (e : Entry) → IsEntryOf s.log.entries tag k e → ⊥
   pub is_cell : cell s.origin s.log.entries tag ≡ s.origin tag
   -- no valid frame has it
   pub invalid : (f : ℕ) → f < s.pool.core.frames → (s.pool.core.frame f).tag ≡ tag → (s.pool.core.frame f).word.valid ≡ false
@@ -40,12 +40,12 @@ pub record IsUntouched (s : State) (tag : ℕ) : Type 0 where
 
 -- so is each block whose page was not sound, where the contents of its lane are known
 abbrev pub UnsoundStay : State → Type 0
-UnsoundStay s = (tag : ℕ) → tag ≢ no_tag → s.known tag ≡ true → is_sound_page (s.origin tag) ≡ false → IsUntouched s tag
+UnsoundStay s = (tag : ℕ) (p : Page) → tag ≢ no_tag → s.known tag ≡ true → s.origin tag ≡ Some p → is_sound_page p ≡ false → IsUntouched s tag
 
 -- Where a page isn't sound it is the one that the block's lane held at the start
 pub record UnsoundAreFirst (s : State) : Type 0 where
-  -- a block's page after the entries up to a place, and after all entries
-  pub cells : (tag place : ℕ) → is_sound_page (cell s.origin (cut place s.log.entries) tag) ≡ false → cell s.origin (cut place s.log.entries) tag ≡ s.origin tag
-  pub last_cells : (tag : ℕ) → is_sound_page (cell s.origin s.log.entries tag) ≡ false → cell s.origin s.log.entries tag ≡ s.origin tag
+  -- a block's page after the entries up to a place, and after all entries, where the lane's contents are known, or no entry may be made of ranges
+  pub cells : (tag place : ℕ) (p : Page) → (s.known tag ≡ true) ⊎ (s.ranges ≡ false) → cell s.origin (cut place s.log.entries) tag ≡ Some p → is_sound_page p ≡ false → s.origin tag ≡ Some p
+  pub last_cells : (tag : ℕ) (p : Page) → (s.known tag ≡ true) ⊎ (s.ranges ≡ false) → cell s.origin s.log.entries tag ≡ Some p → is_sound_page p ≡ false → s.origin tag ≡ Some p
   -- a page that the lane gave under an input right that a backend has still, where the lane's contents are known
-  pub reads : (i f : ℕ) (v : View) (p : Page) → get_elem? s.pool.core.views i ≡ some v → f < s.pool.core.frames → (link v f).read ≡ Some p → is_sound_page p ≡ false → s.known (s.pool.core.frame f).tag ≡ true → p ≡ s.origin (s.pool.core.frame f).tag
+  pub reads : (i f : ℕ) (v : View) (p : Page) → get_elem? s.pool.core.views i ≡ some v → f < s.pool.core.frames → (link v f).read ≡ Some p → is_sound_page p ≡ false → s.known (s.pool.core.frame f).tag ≡ true → s.origin (s.pool.core.frame f).tag ≡ Some p

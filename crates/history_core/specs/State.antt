@@ -1,5 +1,6 @@
 -- The buffer pool with the lanes that hold its blocks, and the log.
-use Rattle.std.specs.Prelude.{◌≡◌, ℕ, ◌+◌, ◌<◌, ◌≤◌, Bool, false, List, [], length, nat_eq, Option, Some, None, if◌then◌else◌}
+use Rattle.std.specs.Prelude.{◌≡◌, ℕ, ◌+◌, ◌<◌, ◌≤◌, Bool, true, false, List, [], length, nat_eq, Option, None, if◌then◌else◌}
+use Rattle.std.specs.Option.{is_some}
 use Rattle.pin_core.specs.State.{Page, Config}
 use Rattle.page_core.specs.State as page
 use Rattle.history_core.specs.Log.{Log, head_bytes}
@@ -10,14 +11,16 @@ pub record Lane : Type 0 where
   pub taken : Bool
   -- whether its contents are known
   pub known : Bool
-  -- the page that it holds for each block, by its tag: where its contents aren't known, the one that was written last
-  pub stored : ℕ → Page
+  -- the page that it holds for each block, by its tag, or none: where its contents aren't known, the one that was written last
+  pub stored : ℕ → Option Page
   -- the position in the log up to which the block's entries are in that page
   pub stored_upto : ℕ → ℕ
   -- what that position was at the lane's last sync, which covered the block's entries up to there
   pub synced_upto : ℕ → ℕ
   -- the blocks whose last write failed
   pub failed : ℕ → Bool
+  -- the blocks that were written since the lane's last sync, by a write that was done or failed
+  pub unsynced : ℕ → Bool
   -- how many reads, and how many writes and syncs, have failed
   pub read_faults : ℕ
   pub write_faults : ℕ
@@ -65,10 +68,14 @@ pub record State : Type 0 where
   -- whether the contents of a block's lane are known, by the block's tag
   pub known : ℕ → Bool
   -- the pages that the lanes held at the start, where their contents are known
-  pub origin : ℕ → Page
+  pub origin : ℕ → Option Page
+  -- the blocks that had been written since their lanes' last sync at the start
+  pub unsynced_at_start : ℕ → Bool
   pub log : Log
   -- how the log names a block, by its tag
   pub names : ℕ → List ℕ
+  -- whether entries may be made of ranges
+  pub ranges : Bool
   -- the device that holds the log's bytes, and how many of its calls had failed at the start
   pub device : Device
   pub log_faults : ℕ
@@ -79,7 +86,7 @@ pub record State : Type 0 where
   pub hand : ℕ
 
 -- the page that the block's lane holds, up to which position the block's entries are in it, and whether the block's last write failed
-abbrev pub stored : State → ℕ → Page
+abbrev pub stored : State → ℕ → Option Page
 stored s tag = (s.lane (s.lane_of tag)).stored tag
 
 abbrev pub stored_upto : State → ℕ → ℕ
@@ -91,27 +98,35 @@ synced_upto s tag = (s.lane (s.lane_of tag)).synced_upto tag
 abbrev pub failed : State → ℕ → Bool
 failed s tag = (s.lane (s.lane_of tag)).failed tag
 
+abbrev pub unsynced : State → ℕ → Bool
+unsynced s tag = (s.lane (s.lane_of tag)).unsynced tag
+
 -- What the lanes and the log are at the start
 pub record Store : Type 0 where
   pub lane_of : ℕ → ℕ
   -- whether the contents of a lane are known, and the pages that these lanes hold
   pub known : ℕ → Bool
-  pub origin : ℕ → Page
+  pub origin : ℕ → Option Page
   -- how the log names a block
   pub names : ℕ → List ℕ
+  -- whether entries may be made of ranges
+  pub ranges : Bool
   -- how many reads of each lane, and how many writes and syncs, have failed
   pub read_faults : ℕ → ℕ
   pub write_faults : ℕ → ℕ
+  -- the blocks that were written since their lanes' last sync
+  pub unsynced : ℕ → Bool
   -- how many bytes of the log's head are durable, and how many calls of its device have failed
   pub head_synced : ℕ
   pub log_faults : ℕ
 
--- each tag has a lane, the log begins at a position, and it names a block in 20 bytes
+-- each tag has a lane, the log begins at a position, and it names a block in 20 bytes; each lane whose contents are known holds its blocks of the relations
 pub record CanStore (c : Config) (store : Store) : Type 0 where
   pub placed : (tag : ℕ) → store.lane_of tag < c.lanes
   pub based : c.base ≤ last_position
   pub named : (tag : ℕ) → length (store.names tag) ≡ 20
   pub synced : store.head_synced ≤ length (head_bytes c.base)
+  pub there : (tag : ℕ) → c.is_block tag ≡ true → store.known (store.lane_of tag) ≡ true → is_some (store.origin tag) ≡ true
 
 -- the lane n at the start, over a log that begins at `base`: no block's last write has failed
 abbrev pub fresh_lane : ℕ → Store → ℕ → Lane
@@ -122,6 +137,7 @@ fresh_lane base store n = record {
   stored_upto = λ _. base;
   synced_upto = λ _. base;
   failed = λ _. false;
+  unsynced = store.unsynced;
   read_faults = store.read_faults n;
   write_faults = store.write_faults n;
   read_faults_at_start = store.read_faults n;
@@ -138,7 +154,7 @@ is_known store tag = store.known (store.lane_of tag)
 
 -- the pages of the blocks at the start, as far as they are known
 abbrev pub known_origin : Store → ℕ → Option Page
-known_origin store tag = if is_known store tag then Some (store.origin tag) else None
+known_origin store tag = if is_known store tag then store.origin tag else None
 
 -- the start: an empty log
 abbrev pub opening : Config → Store → Page → State
@@ -149,8 +165,10 @@ opening c store p = record {
   lane = fresh_lane c.base store;
   known = is_known store;
   origin = store.origin;
+  unsynced_at_start = store.unsynced;
   log = record { base = c.base; entries = [] };
   names = store.names;
+  ranges = store.ranges;
   device = fresh_device c.base store;
   log_faults = store.log_faults;
   end = c.base;

@@ -2,7 +2,7 @@
 use Rattle.std.specs.Prelude.{◌≡◌, ◌≢◌, ℕ, ◌+◌, ◌<◌, ◌≤◌, true, false, List, [], ◌∷◌, ◌++◌, length, map, max, Bool, Option, Some, slice_set, None, if◌then◌else◌}
 use mathlib.Core.Option.{some}
 use lib.ListN.{get_elem?}
-use Rattle.page_layout.specs.Fields.{lsn_of}
+use Rattle.page_layout.specs.Fields.{lsn_of, with_lsn}
 use Rattle.pin_core.specs.declared.view.Content.TheVariants.{Unlocked}
 use Rattle.pin_core.specs.declared.view.Io.TheVariants.{Input}
 use Rattle.pin_core.specs.declared.view.LaneChange.{LaneChange}
@@ -23,7 +23,7 @@ use Rattle.page_core.specs.Kinds as pages
 use Rattle.page_core.specs.Kinds.{Kind, note_read, begin_write, note_write, make_entry}
 use Rattle.page_core.specs.Steps as page_steps
 use Rattle.page_core.specs.Steps.{logged_after}
-use Rattle.history_core.specs.Log.{Entry, record_size, record_bytes}
+use Rattle.history_core.specs.Log.{Entry, Span, Change, image, is_image, ranges, resize, AreRanges, MayMake, change_size, record_bytes, with_spans}
 use Rattle.history_core.specs.State.{State, last_position}
 use Rattle.history_core.specs.Words.{Word, flushed_word, hand_word, word_of, WordKind, load_end, begin_checkpoint, load_flushed, raise_flushed, load_hand, add_hand, word_at, WordAllowed, number_after, word_set}
 use Rattle.history_core.specs.Lanes.{LaneKind, read_block, fail_read, write_block, fail_write, lane_back, LaneAllowed, lane_after, lane_changed, swept_by}
@@ -40,7 +40,7 @@ pub data Event : Type 0 where
   -- a step at the latch of the log
   log : ℕ → LogKind → Event
   -- a backend's entry of a changed page of a frame becomes part of the log: the log's end is stored
-  enter : ℕ → ℕ → Page → Event
+  enter : ℕ → ℕ → Page → Change → Event
   -- the log's end is loaded as the place of a read of the page that was copied from a frame
   read : ℕ → ℕ → Event
   -- a step at one of the table's other words
@@ -149,38 +149,55 @@ logged_noting _ s f = s.pool.logged
 abbrev pub pool_noting : Kind → State → ℕ → page.State
 pool_noting k s f = record s.pool { logged = logged_noting k s f }
 
--- the entry that a backend makes of the page p of the block of a tag
-abbrev pub new_entry : State → ℕ → ℕ → Page → Entry
-new_entry s number tag p = record { start = s.end; backend = number; tag = tag; image = p }
+-- the entry that a backend makes of a change
+abbrev pub new_entry : State → ℕ → Change → Entry
+new_entry s number c = record { start = s.end; backend = number; change = c }
 
--- the page p is a whole page that the backend may enter for the block of the frame f, whose tag is this, and has the position of the entry's end, which is at most the last one
-pub record CanLog (s : State) (f tag : ℕ) (p : Page) (v : View) : Type 0 where
+-- The page p is the page that was copied under the content lock, with the bytes of spans replaced, and this position in the log
+pub record Replaces (end : ℕ) (spans : List Span) (p : Page) (l : Link) : Type 0 where
+  pub before : Page
+  pub copied : l.copied ≡ Some before
+  pub valid : AreRanges spans
+  pub made : with_lsn end (with_spans spans before) ≡ p
+
+-- The change, whose entry ends at the position `end`, makes the page p of the block of the tag
+abbrev pub MakesPage : Change → ℕ → ℕ → Page → Link → Type 0
+MakesPage (image t q) end tag p l = (t ≡ tag) × (q ≡ p)
+MakesPage (ranges t spans) end tag p l = (t ≡ tag) × Replaces end spans p l
+MakesPage (resize fork old new) end tag p l = ⊥
+
+-- the page p is a whole page that the backend may enter by the change for the block of the frame f, whose tag is this, and has the position of the entry's end, which is at most the last one
+pub record CanLog (s : State) (f tag : ℕ) (p : Page) (c : Change) (v : View) : Type 0 where
   pub inside : f < s.pool.core.frames
   pub tagged : (s.pool.core.frame f).tag ≡ tag
   pub right : pages.Allowed (make_entry p) (block_of s.pool.logged (s.pool.core.frame f).tag) (s.pool.core.frame f) (link v f)
   pub around : page_steps.AllowedAround (make_entry p) v f
   pub full : length p ≡ 8192
-  pub ends : lsn_of p ≡ s.end + record_size
-  pub room : s.end + record_size ≤ last_position
+  pub ends : lsn_of p ≡ s.end + change_size c
+  pub room : s.end + change_size c ≤ last_position
+  pub makes : MakesPage c (s.end + change_size c) tag p (link v f)
+  pub allowed : MayMake s.ranges c
 
 -- what is appended is the record of the entry that the backend would make of the page now; an append that fails leaves the first bytes of it
-pub record AppendsFirst (s : State) (tag : ℕ) (p : Page) (v : View) (bytes : List ℕ) : Type 0 where
+pub record AppendsFirst (s : State) (c : Change) (v : View) (bytes : List ℕ) : Type 0 where
   pub rest : List ℕ
-  pub begins : bytes ++ rest ≡ record_bytes s.names (new_entry s v.number tag p)
+  pub begins : bytes ++ rest ≡ record_bytes s.names (new_entry s v.number c)
 
 abbrev pub AppendsRecord : LogKind → State → View → Type 0
-AppendsRecord (append f tag p bytes) s v = CanLog s f tag p v × (bytes ≡ record_bytes s.names (new_entry s v.number tag p))
-AppendsRecord (fail_append f tag p bytes n) s v = CanLog s f tag p v × AppendsFirst s tag p v bytes
+AppendsRecord (append f tag p bytes) s v = (c : Change) × CanLog s f tag p c v × (bytes ≡ record_bytes s.names (new_entry s v.number c))
+AppendsRecord (fail_append f tag p bytes n) s v = (c : Change) × CanLog s f tag p c v × AppendsFirst s c v bytes
 AppendsRecord _ s v = Unit {0}
 
 -- The page is a whole page that the content lock lets the backend enter, and has the position of the entry's end, which is at most the last one; under the log's latch the entry's bytes are appended
-pub record CanEnter (s : State) (f : ℕ) (p : Page) (v : View) : Type 0 where
+pub record CanEnter (s : State) (f : ℕ) (p : Page) (c : Change) (v : View) : Type 0 where
   pub right : pages.Allowed (make_entry p) (block_of s.pool.logged (s.pool.core.frame f).tag) (s.pool.core.frame f) (link v f)
   pub around : page_steps.AllowedAround (make_entry p) v f
   pub full : length p ≡ 8192
-  pub ends : lsn_of p ≡ s.end + record_size
-  pub room : s.end + record_size ≤ last_position
-  pub appended : v.log.appended ≡ Some (record_bytes s.names (new_entry s v.number (s.pool.core.frame f).tag p))
+  pub ends : lsn_of p ≡ s.end + change_size c
+  pub room : s.end + change_size c ≤ last_position
+  pub makes : MakesPage c (s.end + change_size c) (s.pool.core.frame f).tag p (link v f)
+  pub allowed : MayMake s.ranges c
+  pub appended : v.log.appended ≡ Some (record_bytes s.names (new_entry s v.number c))
 
 -- The page was copied under a content lock that the backend has still, no entry of its own is unapplied, and its pin remembers the tag
 pub record CanRead (tag : ℕ) (p : Page) (l : Link) : Type 0 where
@@ -194,8 +211,8 @@ abbrev pub end_loaded : ℕ → LogHold → LogHold
 end_loaded end h = record h { end = if h.held then Some end else h.end }
 
 -- a view that has written the page p of the block of a tag; its record is part of the log now
-abbrev pub has_written : ℕ → ℕ → Page → View → View
-has_written end tag p v = record v { calls = v.calls ++ Write v.number tag p end ∷ []; front = end; end_seen = max v.end_seen end; log = record v.log { appended = None; end = Some end } }
+abbrev pub has_written : Change → ℕ → ℕ → Page → View → View
+has_written c end tag p v = record v { calls = v.calls ++ Write v.number tag p end (is_image c) ∷ []; front = end; end_seen = max v.end_seen end; log = record v.log { appended = None; end = Some end } }
 
 -- a checkpoint that begins has visited no frame, and none is left for it to write
 abbrev pub unmarked : Link → Link
@@ -276,7 +293,7 @@ has_loaded end v = view_worded load_end end end v
 abbrev pub has_raised : ℕ → View → View
 has_raised end v = view_worded raise_flushed end end v
 
--- The state where backend i came to the view w, and one of these words to the number, and nothing else changed
+-- The state where backend i has the view w, and the word has the number, if it is the flushed position or the hand. No kind changes the log's end, and nothing else changes
 abbrev pub state_set : Word → ℕ → State → ℕ → View → State
 state_set at number s i w = record s { pool = aside s.pool i w; flushed = word_set at number s flushed_word; hand = word_set at number s hand_word }
 
@@ -298,10 +315,10 @@ pub data Step : Event → State → State → Type 0 where
   -- a step at the log by backend i, whose view is v
   logs : {s : State} (i : ℕ) (k : LogKind) (v : View) → get_elem? s.pool.core.views i ≡ some v → v.emptied ≡ false → LogAllowed k s.device v.log → AppendsRecord k s v → Step (log i k) s (record s { pool = aside s.pool i (view_logged k v); device = device_after k s.end s.device })
   -- backend i makes an entry of the page p of the frame f
-  enters : {s : State} (i f : ℕ) (p : Page) (v : View) → get_elem? s.pool.core.views i ≡ some v → v.emptied ≡ false → f < s.pool.core.frames → CanEnter s f p v
-      → Step (enter i f p) s (let tag = (s.pool.core.frame f).tag in let end = s.end + record_size in record s {
-        pool = pool_after (make_entry p) s.pool i f (has_written end tag p (paged (make_entry p) s.pool f v));
-        log = record s.log { entries = s.log.entries ++ new_entry s v.number tag p ∷ [] };
+  enters : {s : State} (i f : ℕ) (p : Page) (c : Change) (v : View) → get_elem? s.pool.core.views i ≡ some v → v.emptied ≡ false → f < s.pool.core.frames → CanEnter s f p c v
+      → Step (enter i f p c) s (let tag = (s.pool.core.frame f).tag in let end = s.end + change_size c in record s {
+        pool = pool_after (make_entry p) s.pool i f (has_written c end tag p (paged (make_entry p) s.pool f v));
+        log = record s.log { entries = s.log.entries ++ new_entry s v.number c ∷ [] };
         end = end;
       })
   -- backend i gives the read of the page p its place

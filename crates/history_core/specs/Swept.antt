@@ -5,13 +5,13 @@ use lib.ListN.{get_elem?}
 use Rattle.pin_core.specs.declared.view.JoinedCheckpoint.{JoinedCheckpoint}
 use Rattle.pin_core.specs.declared.view.View.{View}
 use Rattle.pin_core.specs.State.{lane_hold}
-use Rattle.history_core.specs.Log.{Entry, end_of}
+use Rattle.history_core.specs.Log.{Entry, IsEntryOf, end_of}
 use Rattle.history_core.specs.State.{State, synced_upto}
 
 -- A sync of the lane n has covered each entry of its blocks that ends at the position or before it
 pub record IsSwept (s : State) (n upto : ℕ) : Type 0 where
   pub within : upto ≤ s.end
-  pub covered : (k : ℕ) (e : Entry) → get_elem? s.log.entries k ≡ some e → s.lane_of e.tag ≡ n → end_of e ≤ upto → end_of e ≤ synced_upto s e.tag
+  pub covered : (k tag : ℕ) (e : Entry) → IsEntryOf s.log.entries tag k e → s.lane_of tag ≡ n → end_of e ≤ upto → end_of e ≤ synced_upto s tag
 
 -- the position up to which a backend that was joined into another had swept the lane n
 abbrev pub has_swept : JoinedCheckpoint → ℕ → ℕ

@@ -25,14 +25,14 @@ pub record Words : Type 0 where
 abbrev pub words_of : State → Words
 words_of s = record { end = s.end; flushed = s.flushed; hand = s.hand }
 
-abbrev pub number_in : Word → Words → ℕ
-number_in end_word w = w.end
-number_in flushed_word w = w.flushed
-number_in hand_word w = w.hand
+abbrev pub word_in : Word → Words → ℕ
+word_in end_word w = w.end
+word_in flushed_word w = w.flushed
+word_in hand_word w = w.hand
 
 -- the number that a word has
 abbrev pub word_of : Word → State → ℕ
-word_of w s = number_in w (words_of s)
+word_of w s = word_in w (words_of s)
 
 pub data WordKind : Type 0 where
   -- the log's end is loaded; so it is as a checkpoint begins (`CreateCheckPoint`)

@@ -14,6 +14,10 @@ ghost use Rattle.history_core.specs.History.{EndsInHistory};
 ghost use Rattle.history_core.specs.Lasting.{LogGrows, OpeningStays};
 ghost use Rattle.history_core.specs.Sound.{ShowsSound, UnsoundAreFirst, UnsoundStay};
 ghost use Rattle.history_core.specs.Promises.{CheckpointsStore, GrantsAreAlone, PinnedTagsStay, SweepsStore};
+ghost use Rattle.history_core.specs.Sizes.{BlocksThere};
+ghost use Rattle.history_core.specs.Unentered.{DirtyHaveEntries, WrittenHaveEntries};
+ghost use Rattle.history_core.specs.Crashes.{CrashesRedo};
+ghost use Rattle.history_core.specs.Torn.{CrashRuns};
 ghost use Rattle.history_core.specs.Trail.{HasSameWords, ListedIsMade};
 ghost use Rattle.history_core.specs.Steps.{Event, Run};
 ghost use Rattle.history_core.specs.Sample.{SampleRuns};
@@ -22,7 +26,7 @@ ghost use Rattle.history_core.specs.Put.{PutRuns};
 ghost use Rattle.history_core.specs.Faults.{FaultRuns};
 ghost use Rattle.history_core.specs.Checkpoints.{CheckpointRuns};
 ghost use Rattle.history_core.specs.Evictions.{EvictionRuns, WaitRuns};
-ghost use Rattle.history_core.specs.Histories.{IsReached, CallsAreLegal, ReadsAtBase, SyncsMakeDurable, JoinedAreApart, CallsAreOwn, FrontsAreReached, CallsStay, CallsAreInOrder, LoadedIsFlushed, LanesGoOutFlushed, HoldsKeepFlushed, NotedWritesAreDone, LogIsHeld, WritesAreEntries, ReadsStand, WritesStand, LogBeforeData, LanesHoldFlushedPages, CleanBlocksAreStored, FramesAreSound, FramesHoldCells, LogWords, EntriesAreDurable, DeviceHoldsLog, LanesAreHeld};
+ghost use Rattle.history_core.specs.Histories.{IsReached, BlocksAreThere, CallsAreLegal, ImagesAlone, ReadsAtBase, SyncsMakeDurable, SyncsCover, JoinedAreApart, CallsAreOwn, FrontsAreReached, CallsStay, CallsAreInOrder, LoadedIsFlushed, LanesGoOutFlushed, HoldsKeepFlushed, NotedWritesAreDone, LogIsHeld, WritesAreEntries, ReadsStand, WritesStand, LogBeforeData, LanesHoldFlushedPages, CleanBlocksAreStored, FramesAreSound, FramesHoldCells, LogWords, EntriesAreDurable, DeviceHoldsLog, LanesAreHeld};
 
 /// What every list of events keeps, whatever the backends do and in whatever order.
 pub fn all_histories()
@@ -43,11 +47,13 @@ pub fn all_histories()
     ensures calls_stay { (s : State) → CallsStay s }
     ensures in_order { (s : State) → Laws s → CallsAreInOrder s }
     ensures entries { (s : State) → Laws s → WritesAreEntries s }
+    ensures images_alone { (s : State) → Laws s → ImagesAlone s }
     ensures at_base { (s : State) → Laws s → ReadsAtBase s }
     ensures reads_stand { (s : State) → Laws s → ReadsStand s }
     ensures writes_stand { (s : State) → Laws s → WritesStand s }
 
     // of the log and the lanes:
+    ensures there { (s : State) → Laws s → BlocksAreThere s }
     ensures log_first { (s : State) → Laws s → LogBeforeData s }
     ensures go_out_flushed { (s : State) → Laws s → LanesGoOutFlushed s }
     ensures holds_keep { (s : State) → HoldsKeepFlushed s }
@@ -62,6 +68,12 @@ pub fn all_histories()
     ensures device_holds { (s : State) → Laws s → DeviceHoldsLog s }
     ensures held { (s : State) → Laws s → LanesAreHeld s }
     ensures log_held { (s : State) → Laws s → LogIsHeld s }
+
+    // of what a crash may lose, and of redo after it:
+    ensures covered { (s : State) → Laws s → SyncsCover s }
+    ensures dirty_have { (s : State) → Laws s → DirtyHaveEntries s }
+    ensures written_have { (s : State) → Laws s → WrittenHaveEntries s }
+    ensures crashes { (s : State) → Laws s → CrashesRedo s }
 
     // and of the frames:
     ensures sound { (s : State) → Laws s → FramesAreSound s }
@@ -151,4 +163,14 @@ pub fn read_and_evict()
 /// An example: a backend waits for a cleanup lock of a frame that another one pins, is woken, and gets it.
 pub fn cleanup_wait()
     ensures { WaitRuns }
+{}
+
+/// Two examples of a crash. After a put that was flushed and written, and an append that tore the next record, redo brings the page back, whatever is left of it. After a frame was marked dirty with no entry made, and written, nothing does.
+pub fn crash_and_redo()
+    ensures { CrashRuns }
+{}
+
+/// After entries that fit the forks' sizes, and after those up to any position, a block is there exactly below its fork's size.
+pub fn blocks_there()
+    ensures { BlocksThere }
 {}

@@ -16,6 +16,7 @@ use Rattle.backend_pass.specs.declared.pinned.Pinned.{Pinned}
 use Rattle.backend_pass.specs.Locks.{ChangesLock, HasLock}
 use Rattle.backend_pass.specs.Managers.{AreNewPasses, Belongs, IsNewPass}
 use Rattle.backend_pass.specs.Passes.{KeepsLocks, PassState, SamePass}
+use Rattle.backend_pass.proofs.Keeping.{pass_none}
 use Rattle.backend_pass.proofs.Seated.{same_on}
 use Rattle.manager_tests.specs.Bench.{HasOnly, IsFree, IsUnlocked, Returns}
 
@@ -94,6 +95,10 @@ module _ {L G : Type 0} (contents : L → Option Pages) (m : Manager L G) where
     tokens = subst (λ (x : Pinned). q.tokens ≡ tokens_less x.frame v.tokens) e spent ∙ ap (tokens_less pinned.frame) r.tokens ∙ back;
     locks = λ f. kept f ∙ r.locks f ∙ locks f;
   }
+
+  -- a pass that nothing was done with
+  pub kept_returns : (p : PassState) → Belongs contents m p → Returns contents m p p
+  kept_returns p b = record { belongs = b; same = record { keeps = pass_none p; upto = refl }; tokens = refl; locks = λ f. refl }
 
   -- a pin and its release
   pub released_returns : (pinned : Pinned) (p u q : PassState) → SamePass p u → KeepsLocks p u → tokens_less pinned.frame u.tokens ≡ p.tokens → Belongs contents m q → SamePass u q → q.tokens ≡ tokens_less pinned.frame u.tokens → KeepsLocks u q → Returns contents m p q

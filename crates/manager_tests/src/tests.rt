@@ -371,9 +371,9 @@ fn a_read_sees_what_another_put(rt: HostRuntime) -> Result<(), Fail> {
         TestLog::new(rt.alloc(), 0),
         0,
     )?;
-    let earlier = copy_once(&manager, &rt, &mut first, 0, block(0), &mut before);
+    let earlier = copy_shared(&manager, &rt, &mut first, 0, block(0), &mut before);
     let put = put_once(&manager, &rt, &mut second, 1, block(0), &page, &mut None);
-    let later = copy_shared(&manager, &rt, &mut first, 0, block(0), &mut after);
+    let later = copy_once(&manager, &rt, &mut first, 0, block(0), &mut after);
     let (lanes, _log) = Bench {
         manager,
         first,

@@ -1,5 +1,5 @@
 -- The kinds of step that content locks, pages, input and output, waits and checkpoints add: where each is allowed, and what it makes of the frame, of its block, and of what the stepping view has there.
-use Rattle.std.specs.Prelude.{◌≡◌, ◌≢◌, ℕ, ◌+◌, ◌-◌, Bool, true, false, List, [], ◌∷◌, ◌++◌, map, slice_set, Option, Some, None, ◌||◌, if◌then◌else◌}
+use Rattle.std.specs.Prelude.{◌≡◌, ◌≢◌, ℕ, ◌+◌, ◌-◌, Bool, true, false, List, [], ◌∷◌, ◌++◌, map, slice_set, Option, Some, None, ◌||◌, ◌&&◌, not, if◌then◌else◌}
 use Rattle.state_word.specs.declared.word.StateWord.{StateWord}
 use Rattle.state_word.specs.declared.word.IoEnd.{IoEnd}
 use Rattle.state_word.specs.declared.word.IoEnd.TheVariants.{ReadOk, WriteOk, Bad}
@@ -290,7 +290,7 @@ link_after mark_dirty b fr l = record l { dirtied = true }
 link_after share b fr l = record l { content = Shared }
 link_after exclude b fr l = record l { content = Exclusive }
 link_after unshare b fr l = record l { content = Unlocked; copied = None }
-link_after unexclude b fr l = record l { content = Unlocked; copied = None; dirtied = false }
+link_after unexclude b fr l = record l { content = Unlocked; copied = None; dirtied = false; entered = false }
 link_after take_copy b fr l = record l { copying = true }
 link_after leave_copy b fr l = record l { copying = false }
 link_after page_out b fr l = record l { out = Some fr.page }
@@ -300,7 +300,7 @@ link_after page_back b fr l = record l { out = None; overwritten = None; copied 
 link_after (note_read p) b fr l = record l { read = Some p; read_is_home = false }
 link_after begin_write b fr l = record l { last_write = Unwritten }
 link_after (note_write done) b fr l = record l { last_write = write_noted done }
-link_after (make_entry p) b fr l = record l { unapplied = true; image = Some p; copied = None }
+link_after (make_entry p) b fr l = record l { entered = true; unapplied = true; image = Some p; copied = None }
 link_after start_input b fr l = record l { header = None; io = Input; read = None; read_is_home = false }
 link_after start_output b fr l = record l { header = None; io = Output }
 link_after clear_just_dirtied b fr l = record l { header = None }
@@ -308,6 +308,11 @@ link_after (end_io end) b fr l = record l { seen_valid = saw_valid end l.seen_va
 link_after (set_waiter number) b fr l = record l { header = None; waits = Some number }
 link_after clear_waiter b fr l = record l { header = None }
 link_after need_checkpoint b fr l = record l { header = None; visited = true; left_to_write = true }
+
+-- the blocks of frames that were marked dirty and whose lock was given up with no entry made
+abbrev pub unentered_after : Kind → Frame → Link → List ℕ → List ℕ
+unentered_after unexclude fr l tags = if l.dirtied && not l.entered then tags ++ fr.tag ∷ [] else tags
+unentered_after _ fr l tags = tags
 
 -- whether a kind marks the frame dirty: a page may have to be written
 abbrev pub dirties : Kind → Bool
@@ -351,6 +356,7 @@ view_after k f b fr l v = record v {
   links = slice_set v.links f (link_after k b fr l);
   loads = v.loads ++ map (load_of v) (seen_by k f fr);
   changes = changes_after k f b fr v.changes;
+  unentered = unentered_after k fr l v.unentered;
   steps = v.steps + steps_of k;
   dirtied_or_synced = v.dirtied_or_synced || dirties k;
   had_output = v.had_output || starts_output k;

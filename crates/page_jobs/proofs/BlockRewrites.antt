@@ -193,10 +193,10 @@ module _ {L G : Type 0} (contents : L → Option Pages) (m : Manager L G) where
       outcome = changed tag.block p.view.number page place lsn;
       block = refl;
       calls = did.calls
-          ∙ ap (λ (n : ℕ). q.view.calls ++ Write n (packed_tag tag) (with_lsn lsn after) lsn ∷ []) same.keeps.number
-          ∙ ap (λ (x : Page). q.view.calls ++ Write p.view.number (packed_tag tag) (with_lsn lsn x) lsn ∷ []) image
-          ∙ ap (λ (l : List Call). l ++ Write p.view.number (packed_tag tag) (with_lsn lsn (rewritten_page page)) lsn ∷ []) reads.calls
-          ∙ append_assoc p.view.calls (Read p.view.number (packed_tag tag) page place ∷ []) (Write p.view.number (packed_tag tag) (with_lsn lsn (rewritten_page page)) lsn ∷ []);
+          ∙ ap (λ (n : ℕ). q.view.calls ++ Write n (packed_tag tag) (with_lsn lsn after) lsn true ∷ []) same.keeps.number
+          ∙ ap (λ (x : Page). q.view.calls ++ Write p.view.number (packed_tag tag) (with_lsn lsn x) lsn true ∷ []) image
+          ∙ ap (λ (l : List Call). l ++ Write p.view.number (packed_tag tag) (with_lsn lsn (rewritten_page page)) lsn true ∷ []) reads.calls
+          ∙ append_assoc p.view.calls (Read p.view.number (packed_tag tag) page place ∷ []) (Write p.view.number (packed_tag tag) (with_lsn lsn (rewritten_page page)) lsn true ∷ []);
       follows = (refl, reads.sound, ap is_changed_outcome told ∙ is_changed, (let x = reads.front in let w = did.later in omega arith));
       mark = λ unput. absurd (let no : false ≡ true = unput in cc);
       done = (sym told, refl, met' ∙ met);

@@ -10,7 +10,7 @@ use Rattle.block_tag.specs.Names.{lane_number, packed_tag}
 use Rattle.segment_store.specs.Contents.{Marks, Pages, no_marks}
 use Rattle.segment_store.specs.Lanes.{HoldPages, mark_in, tag_at}
 use Rattle.pin_core.specs.State.{Page}
-use Rattle.history_core.specs.Log.{Entry, cell, cut}
+use Rattle.history_core.specs.Log.{Entry, page_after, cell, cut}
 use Rattle.history_core.specs.State.{stored, stored_upto}
 use Rattle.table_rule.specs.declared.opening.Opening.{Opening}
 use Rattle.table_rule.specs.Layout.{lane_of_tag}
@@ -36,7 +36,7 @@ pub record LaneHasBlock {L G : Type 0} (d : Devices L G) (tag : Tag) (page : Pag
 module _ {L G : Type 0} (d : Devices L G) (o : Opening L G) (ps : List PassState) (lanes : List L) (log : G) (c : ClosesAll d o ps lanes log) (w : NothingWritten c.state ps) (n : NothingPut c.state ps) where
   -- the page of a block is the one that its lane held at first
   stays : (word : ℕ) → c.state.known word ≡ true → stored c.state word ≡ c.state.origin word
-  unfolding cell cut
+  unfolding page_after cut
   stays word known = (c.laws.invariant.flushed_cells word).is_cell known (w.unfailed word)
       ∙ ap (λ (es : List Entry). cell c.state.origin (cut (stored_upto c.state word) es) word) n.entries
 
@@ -54,8 +54,8 @@ module _ {L G : Type 0} (d : Devices L G) (o : Opening L G) (ps : List PassState
         pages = known'.0;
         known = known'.1;
         page_is = given.pages known'.0 word tag known'.1 lies
-            ∙ ap (λ (p : ℕ). Some ((c.state.lane p).stored word)) (sym lane_is)
-            ∙ ap (λ (p : Page). Some p) (stays word told)
+            ∙ ap (λ (p : ℕ). (c.state.lane p).stored word) (sym lane_is)
+            ∙ stays word told
             ∙ sym (c.opened.origin q l pages word tag at known placed)
             ∙ is;
         unfailed = sym (given.failed known'.0 word tag known'.1 lies) ∙ ap (λ (p : ℕ). (c.state.lane p).failed word) (sym lane_is) ∙ w.unfailed word;

@@ -91,7 +91,7 @@ test_is a b h = dite (ℕ_discrete a b) (λ e. e) (λ n. let x = test_else a b 1
 
 few_at : (p : ℕ) (c : Call) → weight_at p c ≤ write_weight c
 few_at p (Read i t q n) = omega arith
-few_at p (Write i t q n) = test_le (nat_eq n p)
+few_at p (Write i t q n whole) = test_le (nat_eq n p)
 
 same_at : (r : Rule) (p : ℕ) (o : Outcome) → total (weight_at p) (outcome_calls r o) ≡ outcome_at p o
 unfolding total

@@ -1,7 +1,6 @@
 -- What the devices hold that a manager gives back after a rewrite.
-use Rattle.std.proofs.Common.{◌≡◌, ℕ, zero, suc, ◌%◌, ◌<◌, ◌≤◌, ◌⊎◌, Bool, true, false, List, [], ◌∷◌, ◌++◌, length, map, Option, Some, refl, sym, ap, ap₂, ◌∙◌, subst, ⊎_elim, inl, inr, arith}
+use Rattle.std.proofs.Common.{◌≡◌, ℕ, zero, suc, ◌%◌, ◌<◌, ◌≤◌, ◌⊎◌, Bool, true, false, List, [], ◌∷◌, ◌++◌, length, map, Option, Some, unwrap_or, refl, sym, ap, ap₂, ◌∙◌, subst, ⊎_elim, inl, inr, arith}
 use Rattle.std.specs.Prelude.{is_some, nat_lt}
-use Rattle.std.proofs.lemmas.Option.{same_Some}
 use Rattle.std.proofs.lemmas.Bool.{lt-ltb}
 use mathlib.Core.Option.{some, some-injective, some-ne-none}
 use lib.ListN.{get_elem?}
@@ -16,7 +15,7 @@ use Rattle.segment_store.specs.Contents.{Pages}
 use Rattle.pin_core.specs.declared.view.Call.{Call}
 use Rattle.pin_core.specs.declared.view.View.{View}
 use Rattle.pin_core.specs.State.{Page}
-use Rattle.history_core.specs.Log.{Entry, end_of, place_of, writes_in}
+use Rattle.history_core.specs.Log.{Entry, image, tag_in, end_of, place_of, writes_in}
 use Rattle.history_core.specs.State.{stored, failed}
 use Rattle.history_core.proofs.Calls.{at_both, total-both}
 use Rattle.table_rule.specs.declared.opening.Opening.{Opening}
@@ -35,8 +34,8 @@ use Rattle.page_jobs.specs.Ending.{totals_of_rewrite}
 use Rattle.page_jobs.specs.Jobs.{IsOrigin}
 use Rattle.page_jobs.specs.Parts.{blocks_in}
 use Rattle.page_jobs.specs.Rewrites.{Outcome, Rule, unsound, kept, refused, changed, outcome_block, outcome_totals, rule_of, result_of}
-use Rattle.page_jobs.specs.RewriteCloses.{ClosesEither, ClosesRewritten, HasImage, HoldEither, HoldRewritten, IsInLanes, RewritesAlone, RewritesAndStores}
-use Rattle.page_jobs.specs.RewriteEnds.{HasRewrites, IsAfter, IsFair, IsResult, WroteNothing, BackendCalls, Rewrites, RewritesAll, all_done, block_weight, times}
+use Rattle.page_jobs.specs.RewriteCloses.{ClosesEither, ClosesRewritten, HasEntryPage, HoldEither, HoldRewritten, IsInLanes, RewritesAlone, RewritesAndStores}
+use Rattle.page_jobs.specs.RewriteEnds.{HasRewrites, IsAfter, IsFair, IsPageEntry, page_at_start, IsResult, WroteNothing, BackendCalls, Rewrites, RewritesAll, all_done, block_weight, times}
 use Rattle.page_jobs.specs.Rewriting.{FollowsRule}
 use Rattle.page_jobs.proofs.RewriteClosed.{changed_read, has_rewrites, kept_read}
 use Rattle.page_jobs.proofs.RewriteCounts.{Each}
@@ -57,6 +56,13 @@ same_told [] [] long each = refl
 same_told [] (p ∷ pages) long each = absurd (omega arith)
 same_told (o ∷ os) [] long each = absurd (omega arith)
 same_told (o ∷ os) (p ∷ pages) long each = ap₂ (λ (a : PageRewrite) (b : List PageRewrite). a ∷ b) (each zero o p refl refl) (same_told os pages (omega arith) (λ i. each (suc i)))
+
+-- entries of pages that are one
+image_tag : (a b : ℕ) (p q : Page) → image a p ≡ image b q → a ≡ b
+image_tag a b p q e = cc
+
+image_page : (a b : ℕ) (p q : Page) → image a p ≡ image b q → p ≡ q
+image_page a b p q e = cc
 
 lane_below : (h n : ℕ) → 0 < n → h % n < n
 lane_below h n more = omega (arith, more)
@@ -102,8 +108,8 @@ module _ {L G : Type 0} (d : Devices L G) (o : Opening L G) (zs : List PassState
     placed_is : IsPlaced o.catalog.value c.state.lanes x.lane word tag
     placed_is = subst (λ (k : ℕ). IsPlaced o.catalog.value k x.lane word tag) (sym c.opened.lanes) x.placed
 
-    has_page : after tag ≡ Some (stored c.state word)
-    has_page = (c.lane x.lane closed x.is).pages after word tag x.holds placed_is ∙ ap (λ (k : ℕ). Some ((c.state.lane k).stored word)) (sym lane_is)
+    has_page : after tag ≡ stored c.state word
+    has_page = (c.lane x.lane closed x.is).pages after word tag x.holds placed_is ∙ ap (λ (k : ℕ). (c.state.lane k).stored word) (sym lane_is)
 
     has_failed : failed c.state word ≡ d.failed_writes closed tag
     has_failed = ap (λ (k : ℕ). (c.state.lane k).failed word) lane_is ∙ (c.lane x.lane closed x.is).failed after word tag x.holds placed_is
@@ -111,38 +117,45 @@ module _ {L G : Type 0} (d : Devices L G) (o : Opening L G) (zs : List PassState
     is_known : c.state.known word ≡ true
     is_known = c.opened.known x.lane x.opened word x.was (ap (lane_of_tag o.config.lanes) x.placed.named ∙ x.placed.placed) ∙ ap (λ (y : Option Pages). is_some y) x.held
 
-    was_page : (page : Page) → before tag ≡ Some page → page ≡ c.state.origin word
-    was_page page is = same_Some page (c.state.origin word) (sym is ∙ c.opened.origin x.lane x.opened before word tag x.was x.held x.placed)
+    was_page : (page : Page) → before tag ≡ Some page → c.state.origin word ≡ Some page
+    was_page page is = sym (c.opened.origin x.lane x.opened before word tag x.was x.held x.placed) ∙ is
+
+    was_first : (page : Page) → before tag ≡ Some page → page ≡ page_at_start c.state.origin word
+    was_first page is = sym (ap (λ (o : Option Page). unwrap_or o []) (was_page page is))
 
   hold_either : (r : Rule) (n : ℕ) → HasRewrites r n c.state.known c.state.origin c.state.log → HoldEither d o lanes r c.state
-  hold_either r n has word tag before after closed page x was unfailed = either (lanes_hold_either c.state c.laws word (is_known word tag before after closed x) (has_failed word tag before after closed x ∙ unfailed))
+  hold_either r n has word tag before after closed page x was unfailed = either (lanes_hold_either c.state r n c.laws has word (is_known word tag before after closed x) (has_failed word tag before after closed x ∙ unfailed))
     where
-      origin : page ≡ c.state.origin word
-      origin = was_page word tag before after closed x page was
-
-      now : after tag ≡ Some (stored c.state word)
+      now : after tag ≡ stored c.state word
       now = has_page word tag before after closed x
 
-      image : (k : ℕ) (e : Entry) → get_elem? c.state.log.entries k ≡ some e → e.tag ≡ word → e.image ≡ r.rewritten page (end_of e)
-      image k e at tagged = (has.each k e at).image (ap c.state.known tagged ∙ is_known word tag before after closed x) ∙ ap (λ (p : Page). r.rewritten p (end_of e)) (ap c.state.origin tagged ∙ sym origin)
+      made : (k : ℕ) (e : Entry) (new : Page) → get_elem? c.state.log.entries k ≡ some e → IsPageEntry e word new → new ≡ r.rewritten page (end_of e)
+      made k e new at entered =
+          let y = has.each k e at in
+          let same = sym y.entered ∙ entered in
+          let of : r.tag y.block ≡ word = image_tag (r.tag y.block) word y.page new same in
+          sym (image_page (r.tag y.block) word y.page new same) ∙ y.made (ap c.state.known of ∙ is_known word tag before after closed x)
+          ∙ ap (λ (p : Page). r.rewritten p (end_of e)) (ap (page_at_start c.state.origin) of ∙ sym (was_first word tag before after closed x page was))
 
-      either : IsAfter c.state word → (after tag ≡ Some page) ⊎ HasImage r c.state word page (after tag)
-      either (inl (k, e, at, tagged, durable, is)) = inr record { made = record { index = k; entry = e; there = at; tagged = tagged }; image = image k e at tagged; durable = durable; held = now ∙ ap (λ (p : Page). Some p) is }
-      either (inr is) = inl (now ∙ ap (λ (p : Page). Some p) (is ∙ sym origin))
+      either : IsAfter c.state word → (after tag ≡ Some page) ⊎ HasEntryPage r c.state word page (after tag)
+      either (inl (k, e, new, at, entered, durable, is)) =
+          let same = made k e new at entered in
+          inr record { made = record { index = k; entry = e; entered = record { there = at; of = ap tag_in entered } }; entered = entered ∙ ap (image word) same; durable = durable; held = now ∙ is ∙ ap (λ (p : Page). Some p) same }
+      either (inr is) = inl (now ∙ is ∙ was_page word tag before after closed x page was)
 
   hold_rewritten : (r : Rule) (n : ℕ) → IsResult r n c.state → HoldRewritten d o lanes r n c.state.log
   hold_rewritten r n result = record {
     changed = λ b tag before after closed page low x was changes.
-        let same = was_page (r.tag b) tag before after closed x page was in
+        let same = was_first (r.tag b) tag before after closed x page was in
         let y = result.changed b low (ap r.changes (sym same) ∙ changes) in (
           y.0,
-          y.1 ∙ ap (λ (p : Page). r.rewritten p (end_of y.0.entry)) (sym same),
-          λ unfailed. has_page (r.tag b) tag before after closed x ∙ ap (λ (p : Page). Some p) (y.2 (has_failed (r.tag b) tag before after closed x ∙ unfailed)),
+          y.1 ∙ ap (λ (p : Page). image (r.tag b) (r.rewritten p (end_of y.0.entry))) (sym same),
+          λ unfailed. has_page (r.tag b) tag before after closed x ∙ y.2 (has_failed (r.tag b) tag before after closed x ∙ unfailed) ∙ ap (λ (p : Page). Some (r.rewritten p (end_of y.0.entry))) (sym same),
         );
-    same = λ b tag before after closed page low x was changes. (result.same b low (ap r.changes (sym (was_page (r.tag b) tag before after closed x page was)) ∙ changes)).0;
+    same = λ b tag before after closed page low x was changes. (result.same b low (ap r.changes (sym (was_first (r.tag b) tag before after closed x page was)) ∙ changes)).0;
     others = λ word tag before after closed page x was none unfailed. ⊎_elim
         (λ (t : (after tag ≡ Some page)). t)
-        (λ (t : HasImage r c.state word page (after tag)). absurd (none t.made))
+        (λ (t : HasEntryPage r c.state word page (after tag)). absurd (none t.made))
         (hold_either r n result.rewritten.rewrites word tag before after closed page x was unfailed);
   }
 
@@ -158,7 +171,7 @@ module _ {L G : Type 0} (d : Devices L G) (m : Manager L G) (rel : ℕ) (fork : 
   lane_of b low = ap (lane_of_tag (lanes_in m.table)) (packed_is (tag_of_parts rel fork b) (x.parts.named b low))
 
   -- a block that wasn't sound at the opening has no page that the rule changes
-  unsound_told : (b : ℕ) → b < blocks_in m rel fork → WasUnsoundAtOpening d.contents m.table (tag_of_parts rel fork b) → c.state.known (rule.tag b) ≡ true → page_rewrite_of (c.state.origin (rule.tag b)) ≡ Invalid
+  unsound_told : (b : ℕ) → b < blocks_in m rel fork → WasUnsoundAtOpening d.contents m.table (tag_of_parts rel fork b) → c.state.known (rule.tag b) ≡ true → page_rewrite_of (page_at_start c.state.origin (rule.tag b)) ≡ Invalid
   unsound_told b low u known =
       let tag = tag_of_parts rel fork b in
       let word = rule.tag b in
@@ -169,8 +182,8 @@ module _ {L G : Type 0} (d : Devices L G) (m : Manager L G) (rel : ℕ) (fork : 
       let listed : nat_lt b (blocks_in m rel fork) ≡ true = lt-ltb b (blocks_in m rel fork) low in
       let is : pages.0 tag ≡ Some u.page = u.was q l.0 pages.0 record { named = named; listed = listed; placed = refl } l.1 pages.1 in
       let placed : IsPlaced (relations_of m.table) (lanes_in m.table) q word tag = record { named = packed_is tag named; listed = listed; placed = refl } in
-      let same : u.page ≡ c.state.origin word = same_Some u.page (c.state.origin word) (sym is ∙ c.opened.origin q l.0 pages.0 word tag l.1 pages.1 placed) in
-      told_invalid (c.state.origin word) (subst (λ (p : Page). is_sound_page p ≡ false) same u.unsound)
+      let same : u.page ≡ page_at_start c.state.origin word = ap (λ (o : Option Page). unwrap_or o []) (sym is ∙ c.opened.origin q l.0 pages.0 word tag l.1 pages.1 placed) in
+      told_invalid (page_at_start c.state.origin word) (subst (λ (p : Page). is_sound_page p ≡ false) same u.unsound)
 
   fair : (number : ℕ) (o : Outcome) → outcome_block o < blocks_in m rel fork → FollowsRule d.contents m rel fork number o → IsFair rule c.state.known c.state.origin o
   fair number (unsound b) low f = λ known. ap is_changed_outcome (unsound_told b low f known)
@@ -246,26 +259,26 @@ module _ {L G : Type 0} (d : Devices L G) (m : Manager L G) (rel : ℕ) (fork : 
   }
 
   -- what is told of a block is what is told of its page at the opening
-  told_at : (j : ℕ) (o : Outcome) → get_elem? (all_done whole_parts_of.parts) j ≡ some o → result_of o ≡ page_rewrite_of (c.state.origin ((rule_of rel fork).tag (outcome_block o)))
+  told_at : (j : ℕ) (o : Outcome) → get_elem? (all_done whole_parts_of.parts) j ≡ some o → result_of o ≡ page_rewrite_of (page_at_start c.state.origin ((rule_of rel fork).tag (outcome_block o)))
   told_at j o at = by_case o at
     where
       order : InOrder (rule_of rel fork) zs whole_parts_of.parts
       order = ordered d m rel fork ps qs zs lanes log c y.alone (Unit {0}) y.all.outcomes whole_parts_of
 
-      by_case : (u : Outcome) → get_elem? (all_done whole_parts_of.parts) j ≡ some u → result_of u ≡ page_rewrite_of (c.state.origin ((rule_of rel fork).tag (outcome_block u)))
+      by_case : (u : Outcome) → get_elem? (all_done whole_parts_of.parts) j ≡ some u → result_of u ≡ page_rewrite_of (page_at_start c.state.origin ((rule_of rel fork).tag (outcome_block u)))
       by_case (unsound b) e = let low = parts_below 0 (blocks_in m rel fork) whole_parts_of.parts whole_parts_of.fit j (unsound b) e in sym (unsound_told d m rel fork ps qs zs lanes log c y.alone b low (whole_parts_of.follow j (unsound b) e).1 (all_known b low))
       by_case (kept b i p n) e = let k = order.onto j (kept b i p n) e in ap page_rewrite_of (kept_read c.history all_rewrites all_known k.0 b i p n k.1)
       by_case (refused b i p n) e = absurd (let bad : false ≡ true = whole_parts_of.ended tt j (refused b i p n) e in cc)
       by_case (changed b i p n l) e = let k = order.onto j (changed b i p n l) e in ap page_rewrite_of (changed_read c.history all_rewrites all_known k.0 b i p n l k.1)
 
   -- the page of a block at the opening
-  origin_is : (pages : List Page) → IsOrigin d.contents m rel fork pages → (b : ℕ) (page : Page) → get_elem? pages b ≡ some page → page ≡ c.state.origin ((rule_of rel fork).tag b)
+  origin_is : (pages : List Page) → IsOrigin d.contents m rel fork pages → (b : ℕ) (page : Page) → get_elem? pages b ≡ some page → page ≡ page_at_start c.state.origin ((rule_of rel fork).tag b)
   origin_is pages origin b page at =
       let w = origin.each b page at in
       let tag = tag_of_parts rel fork b in
       let low : b < blocks_in m rel fork = let i = inside pages b page at in let e = origin.counted in omega arith in
       let placed : IsPlaced (relations_of m.table) (lanes_in m.table) (lane_number tag (lanes_in m.table)) ((rule_of rel fork).tag b) tag = record { named = packed_is tag (y.alone.parts.named b low); listed = lt-ltb b (blocks_in m rel fork) low; placed = refl } in
-      same_Some page (c.state.origin ((rule_of rel fork).tag b)) (sym w.is ∙ c.opened.origin (lane_number tag (lanes_in m.table)) w.lane w.pages ((rule_of rel fork).tag b) tag w.opened w.known placed)
+      ap (λ (o : Option Page). unwrap_or o []) (sym w.is ∙ c.opened.origin (lane_number tag (lanes_in m.table)) w.lane w.pages ((rule_of rel fork).tag b) tag w.opened w.known placed)
 
   totals_of_origin : (pages : List Page) → IsOrigin d.contents m rel fork pages → totals ≡ totals_of_rewrite (rewrite_totals_of pages)
   totals_of_origin pages origin =
@@ -273,7 +286,7 @@ module _ {L G : Type 0} (d : Devices L G) (m : Manager L G) (rel : ℕ) (fork : 
       let all = whole_from 0 (blocks_in m rel fork) whole_parts_of.parts (whole_parts_of.whole tt) in
       let same : map result_of os ≡ map page_rewrite_of pages = same_told os pages (let e = all.1 in let k = origin.counted in omega arith) (λ i o page at there.
       let block : outcome_block o ≡ i = let e = from_at 0 os i o all.0 at in omega arith in
-      told_at i o at ∙ ap (λ (b : ℕ). page_rewrite_of (c.state.origin ((rule_of rel fork).tag b))) block ∙ ap page_rewrite_of (sym (origin_is pages origin i page there))) in
+      told_at i o at ∙ ap (λ (b : ℕ). page_rewrite_of (page_at_start c.state.origin ((rule_of rel fork).tag b))) block ∙ ap page_rewrite_of (sym (origin_is pages origin i page there))) in
       y.all.totals_is
       ∙ ap (λ (us : List Outcome). totals_of_rewrite (outcome_totals us)) (sym whole_parts_of.dones)
       ∙ ap (λ (l : List PageRewrite). totals_of_rewrite (totals_of_outcomes l)) same

@@ -10,6 +10,8 @@ use Rattle.pin_core.specs.declared.view.Call.TheVariants.{Read}
 use Rattle.pin_core.specs.declared.view.View.{View}
 use Rattle.pin_core.specs.State.{Page}
 use Rattle.grid.specs.Shape.{total}
+use Rattle.history_core.proofs.Images.{images_alone}
+use Rattle.history_core.proofs.Logs.{images_end}
 use Rattle.history_core.specs.Log.{record_size, write_weight, writes_in}
 use Rattle.history_core.specs.State.{last_position}
 use Rattle.history_core.proofs.Calls.{total-both}
@@ -202,7 +204,7 @@ module _ {L G : Type 0} (d : Devices L G) (m : Manager L G) (rel : ℕ) (fork : 
       let z = there zs r.place (omega (arith, within, same)) in (
         seen.0,
         below_all end r.after.view.end_seen z.0.view.end_seen c.state.end c.state.log.base (base_of m.table) (length c.state.log.entries) (writes_in (calls_in_order zs)) (length (outcomes_in_all outcomes)) (blocks_in m rel fork)
-            seen.1 (x.rises r.place r.after z.0 at z.1).end_seen (c.each r.place z.0 z.1).seen c.laws.invariant.ends c.opened.base c.history.counted (let w = writes_all in let l = less_than_all in omega (arith, w, l)) all_below,
+            seen.1 (x.rises r.place r.after z.0 at z.1).end_seen (c.each r.place z.0 z.1).seen (c.laws.invariant.ends ∙ images_end c.state.log.base c.state.log.entries c.laws.invariant.log.chained (images_alone c.state c.laws c.opened.ranges)) c.opened.base c.history.counted (let w = writes_all in let l = less_than_all in omega (arith, w, l)) all_below,
       )
 
 pub closes_full : {L G : Type 0} (d : Devices L G) (m : Manager L G) → ClosesFull d m

@@ -24,7 +24,7 @@ use Rattle.page_jobs.specs.Ending.{totals_of_rewrite}
 use Rattle.page_jobs.specs.Jobs.{IsOrigin, workers_in}
 use Rattle.page_jobs.specs.Parts.{blocks_in}
 use Rattle.page_jobs.specs.Rewrites.{Rule, rule_of}
-use Rattle.page_jobs.specs.RewriteEnds.{HasEntry, HasRewrites, IsRewritten}
+use Rattle.page_jobs.specs.RewriteEnds.{HasEntry, HasRewrites, IsPageEntry, IsRewritten}
 use Rattle.page_jobs.specs.RewriteJobs.{EndsRewrite, RewriteParts, RewritesFork}
 
 -- A pass has put no page since then
@@ -33,12 +33,12 @@ pub record PutsNoMore (q z : PassState) : Type 0 where
   pub calls : z.view.calls ≡ q.view.calls ++ more
   pub reads : writes_in more ≡ 0
 
--- The log has an entry of this block, which is what the rule made of this page, and durable; and that is the page that the block has now
-pub record HasImage (r : Rule) (s : State) (packed : ℕ) (page : Page) (now : Option Page) : Type 0 where
+-- The log has an entry of this block, whose page is what the rule made of this one, and durable; and that is the page that the block has now
+pub record HasEntryPage (r : Rule) (s : State) (packed : ℕ) (page : Page) (now : Option Page) : Type 0 where
   pub made : HasEntry s.log packed
-  pub image : made.entry.image ≡ r.rewritten page (end_of made.entry)
+  pub entered : IsPageEntry made.entry packed (r.rewritten page (end_of made.entry))
   pub durable : head_size + end_of made.entry ≤ s.log.base + s.device.synced
-  pub held : now ≡ Some made.entry.image
+  pub held : now ≡ Some (r.rewritten page (end_of made.entry))
 
 module _ {L G : Type 0} (contents : L → Option Pages) (m : Manager L G) (rel : ℕ) (fork : Fork) where
   -- A rewrite made the passes qs of the passes ps, and they were these, in the same order, as the manager was closed: none had put a page before it, or put one after it
@@ -84,13 +84,13 @@ module _ {L G : Type 0} (d : Devices L G) (o : Opening L G) (lanes : List L) whe
   -- Each block has the page that it had, or what the rule made of it, or its last write failed
   abbrev pub HoldEither : Rule → State → Type 0
   HoldEither r s = (packed : ℕ) (tag : Tag) (before after : Pages) (closed : L) (page : Page) → IsInLanes packed tag before after closed → before tag ≡ Some page → d.failed_writes closed tag ≡ false
-      → (after tag ≡ Some page) ⊎ HasImage r s packed page (after tag)
+      → (after tag ≡ Some page) ⊎ HasEntryPage r s packed page (after tag)
 
   -- The lanes have the rewritten relation of n blocks
   pub record HoldRewritten (r : Rule) (n : ℕ) (log : Log) : Type 0 where
     -- of a page that the rule changes the log has an entry, which is what the rule made of it, and so has the lane, or the block's last write failed
     pub changed : (block : ℕ) (tag : Tag) (before after : Pages) (closed : L) (page : Page) → block < n → IsInLanes (r.tag block) tag before after closed → before tag ≡ Some page → r.changes page ≡ true
-        → (x : HasEntry log (r.tag block)) × (x.entry.image ≡ r.rewritten page (end_of x.entry)) × (d.failed_writes closed tag ≡ false → after tag ≡ Some x.entry.image)
+        → (x : HasEntry log (r.tag block)) × IsPageEntry x.entry (r.tag block) (r.rewritten page (end_of x.entry)) × (d.failed_writes closed tag ≡ false → after tag ≡ Some (r.rewritten page (end_of x.entry)))
     -- of another one it has none
     pub same : (block : ℕ) (tag : Tag) (before after : Pages) (closed : L) (page : Page) → block < n → IsInLanes (r.tag block) tag before after closed → before tag ≡ Some page → r.changes page ≡ false → HasEntry log (r.tag block) → ⊥
     -- and a block of which it has none, here or elsewhere, has its page as before, or its last write failed

@@ -1,20 +1,24 @@
 -- What a rewrite of a relation makes of the log and of the lanes.
-use Rattle.std.specs.Prelude.{◌≡◌, ◌⊎◌, ℕ, zero, suc, ◌+◌, ◌*◌, ◌<◌, ◌≤◌, Bool, true, false, List, [], ◌∷◌, ◌++◌, length, nat_eq, if◌then◌else◌}
+use Rattle.std.specs.Prelude.{◌≡◌, ◌⊎◌, ℕ, zero, suc, ◌+◌, ◌*◌, ◌<◌, ◌≤◌, Bool, true, false, List, [], ◌∷◌, ◌++◌, length, nat_eq, Option, Some, unwrap_or, if◌then◌else◌}
 use mathlib.Core.Option.{some}
 use lib.ListN.{get_elem?}
 use Rattle.grid.specs.Shape.{total}
 use Rattle.pin_core.specs.declared.view.Call.{Call}
 use Rattle.pin_core.specs.State.{Page}
-use Rattle.history_core.specs.Log.{Entry, Log, end_of, log_end, record_size, head_size, place_of, writes_in}
+use Rattle.history_core.specs.Log.{Entry, IsEntryOf, Log, image, end_of, log_end, record_size, head_size, place_of, writes_in}
 use Rattle.history_core.specs.History.{IsHistory}
 use Rattle.history_core.specs.Laws.{Laws}
 use Rattle.history_core.specs.Promises.{AreStored}
 use Rattle.history_core.specs.State.{State, stored, failed}
 use Rattle.page_jobs.specs.Rewrites.{AreFrom, Outcome, unsound, kept, refused, changed, Rule, outcome_block, calls_for, is_ended}
 
+-- the page that a block had at the start
+abbrev pub page_at_start : (ℕ → Option Page) → ℕ → Page
+page_at_start origin tag = unwrap_or (origin tag) []
+
 -- the rule was followed; where a block isn't sound it has no page that the rule changes
-abbrev pub IsFair : Rule → (ℕ → Bool) → (ℕ → Page) → Outcome → Type 0
-IsFair r known origin (unsound b) = known (r.tag b) ≡ true → r.changes (origin (r.tag b)) ≡ false
+abbrev pub IsFair : Rule → (ℕ → Bool) → (ℕ → Option Page) → Outcome → Type 0
+IsFair r known origin (unsound b) = known (r.tag b) ≡ true → r.changes (page_at_start origin (r.tag b)) ≡ false
 IsFair r known origin (kept b i p n) = r.changes p ≡ false
 IsFair r known origin (refused b i p n) = r.changes p ≡ true
 IsFair r known origin (changed b i p n m) = (r.changes p ≡ true) × (n < m)
@@ -45,7 +49,7 @@ abbrev pub times : ℕ → List Outcome → ℕ
 times b os = total (block_weight b) os
 
 -- A rewrite of blocks below n, with any end
-pub record Rewrites (r : Rule) (n : ℕ) (known : ℕ → Bool) (origin : ℕ → Page) (calls : List Call) (ps : List BackendCalls) : Type 0 where
+pub record Rewrites (r : Rule) (n : ℕ) (known : ℕ → Bool) (origin : ℕ → Option Page) (calls : List Call) (ps : List BackendCalls) : Type 0 where
   pub calls_are : calls ≡ calls_of_backends r ps
   pub reads : WroteNothing ps
   -- each is fair, and of a block below n, which is done once at most
@@ -56,31 +60,35 @@ pub record Rewrites (r : Rule) (n : ℕ) (known : ℕ → Bool) (origin : ℕ �
   pub apart : (a b : ℕ) → a < n → b < n → r.tag a ≡ r.tag b → a ≡ b
 
 -- and one that did all of them
-pub record RewritesAll (r : Rule) (n : ℕ) (known : ℕ → Bool) (origin : ℕ → Page) (calls : List Call) (ps : List BackendCalls) : Type 0 where
+pub record RewritesAll (r : Rule) (n : ℕ) (known : ℕ → Bool) (origin : ℕ → Option Page) (calls : List Call) (ps : List BackendCalls) : Type 0 where
   pub rewrites : Rewrites r n known origin calls ps
   pub all : (b : ℕ) → b < n → times b (all_done ps) ≡ 1
   pub ended : (k : ℕ) (o : Outcome) → get_elem? (all_done ps) k ≡ some o → is_ended o ≡ true
 
--- An entry is the image that the rule makes of a block's page at the start, where that is known
-pub record IsRewrite (r : Rule) (n : ℕ) (known : ℕ → Bool) (origin : ℕ → Page) (e : Entry) : Type 0 where
+-- an entry is this page of the block of the tag
+abbrev pub IsPageEntry : Entry → ℕ → Page → Type 0
+IsPageEntry e tag page = e.change ≡ image tag page
+
+-- An entry is the page that the rule makes of a block's page at the start, where that is known
+pub record IsRewrite (r : Rule) (n : ℕ) (known : ℕ → Bool) (origin : ℕ → Option Page) (e : Entry) : Type 0 where
   pub block : ℕ
   pub below : block < n
-  pub tagged : e.tag ≡ r.tag block
-  pub image : known e.tag ≡ true → e.image ≡ r.rewritten (origin e.tag) (end_of e)
-  pub changes : known e.tag ≡ true → r.changes (origin e.tag) ≡ true
+  pub page : Page
+  pub entered : IsPageEntry e (r.tag block) page
+  pub made : known (r.tag block) ≡ true → page ≡ r.rewritten (page_at_start origin (r.tag block)) (end_of e)
+  pub changes : known (r.tag block) ≡ true → r.changes (page_at_start origin (r.tag block)) ≡ true
 
 -- What the log is after a rewrite with any end
-pub record HasRewrites (r : Rule) (n : ℕ) (known : ℕ → Bool) (origin : ℕ → Page) (log : Log) : Type 0 where
+pub record HasRewrites (r : Rule) (n : ℕ) (known : ℕ → Bool) (origin : ℕ → Option Page) (log : Log) : Type 0 where
   pub each : (k : ℕ) (e : Entry) → get_elem? log.entries k ≡ some e → IsRewrite r n known origin e
   -- a block has one entry at most
-  pub one : (j k : ℕ) (d e : Entry) → get_elem? log.entries j ≡ some d → get_elem? log.entries k ≡ some e → d.tag ≡ e.tag → j ≡ k
+  pub one : (j k tag : ℕ) (d e : Entry) → IsEntryOf log.entries tag j d → IsEntryOf log.entries tag k e → j ≡ k
 
 -- the block has an entry
 pub record HasEntry (log : Log) (tag : ℕ) : Type 0 where
   pub index : ℕ
   pub entry : Entry
-  pub there : get_elem? log.entries index ≡ some entry
-  pub tagged : entry.tag ≡ tag
+  pub entered : IsEntryOf log.entries tag index entry
 
 -- the sum of g over the numbers below n
 unfoldable pub sum_below : ℕ → (ℕ → ℕ) → ℕ
@@ -88,35 +96,35 @@ sum_below zero g = 0
 sum_below (suc n) g = sum_below n g + g n
 
 -- 1 for a block that the rule changes
-abbrev pub change_weight : Rule → (ℕ → Page) → ℕ → ℕ
-change_weight r origin b = if r.changes (origin (r.tag b)) then 1 else 0
+abbrev pub change_weight : Rule → (ℕ → Option Page) → ℕ → ℕ
+change_weight r origin b = if r.changes (page_at_start origin (r.tag b)) then 1 else 0
 
 -- What it is after one that did all blocks, where the contents of the lanes are known
-pub record IsRewritten (r : Rule) (n : ℕ) (known : ℕ → Bool) (origin : ℕ → Page) (log : Log) : Type 0 where
+pub record IsRewritten (r : Rule) (n : ℕ) (known : ℕ → Bool) (origin : ℕ → Option Page) (log : Log) : Type 0 where
   pub rewrites : HasRewrites r n known origin log
-  pub all : (b : ℕ) → b < n → r.changes (origin (r.tag b)) ≡ true → HasEntry log (r.tag b)
+  pub all : (b : ℕ) → b < n → r.changes (page_at_start origin (r.tag b)) ≡ true → HasEntry log (r.tag b)
   pub end : log_end log ≡ log.base + record_size * sum_below n (change_weight r origin)
 
--- What the lane has of a block: the image of an entry, which is durable in the log, or the page that it had at the start
+-- What the lane has of a block: the page of an entry, which is durable in the log, or the page that it had at the start
 abbrev pub IsAfter : State → ℕ → Type 0
-IsAfter s tag = ((k : ℕ) × (e : Entry) × (get_elem? s.log.entries k ≡ some e) × (e.tag ≡ tag) × (head_size + end_of e ≤ s.log.base + s.device.synced) × (stored s tag ≡ e.image)) ⊎ (stored s tag ≡ s.origin tag)
+IsAfter s tag = ((k : ℕ) × (e : Entry) × (page : Page) × (get_elem? s.log.entries k ≡ some e) × IsPageEntry e tag page × (head_size + end_of e ≤ s.log.base + s.device.synced) × (stored s tag ≡ Some page)) ⊎ (stored s tag ≡ s.origin tag)
 
 -- each lane's blocks are the pages before or after the rewrite, or their last write failed
 abbrev pub LanesHoldEither : State → Type 0
 LanesHoldEither s = (tag : ℕ) → s.known tag ≡ true → failed s tag ≡ false → IsAfter s tag
 
--- each whose last write didn't fail has the image of its entry, and where it has none its page as before
+-- each whose last write didn't fail has the page of its entry, and where it has none its page as before
 pub record LanesHoldAll (s : State) : Type 0 where
-  pub written : (k : ℕ) (e : Entry) → get_elem? s.log.entries k ≡ some e → s.known e.tag ≡ true → failed s e.tag ≡ false → stored s e.tag ≡ e.image
+  pub written : (k tag : ℕ) (e : Entry) (page : Page) → get_elem? s.log.entries k ≡ some e → IsPageEntry e tag page → s.known tag ≡ true → failed s tag ≡ false → stored s tag ≡ Some page
   pub other : (tag : ℕ) → s.known tag ≡ true → failed s tag ≡ false → (HasEntry s.log tag → ⊥) → stored s tag ≡ s.origin tag
 
 -- What the log and the lanes are after a rewrite that did all blocks, and a checkpoint
 pub record IsResult (r : Rule) (n : ℕ) (s : State) : Type 0 where
   pub rewritten : IsRewritten r n s.known s.origin s.log
-  -- the block of a page that the rule changes has one entry, whose image the lane holds
-  pub changed : (b : ℕ) → b < n → r.changes (s.origin (r.tag b)) ≡ true → (x : HasEntry s.log (r.tag b)) × (x.entry.image ≡ r.rewritten (s.origin (r.tag b)) (end_of x.entry)) × (failed s (r.tag b) ≡ false → stored s (r.tag b) ≡ x.entry.image)
+  -- the block of a page that the rule changes has one entry, whose page the lane holds
+  pub changed : (b : ℕ) → b < n → r.changes (page_at_start s.origin (r.tag b)) ≡ true → (x : HasEntry s.log (r.tag b)) × IsPageEntry x.entry (r.tag b) (r.rewritten (page_at_start s.origin (r.tag b)) (end_of x.entry)) × (failed s (r.tag b) ≡ false → stored s (r.tag b) ≡ Some (r.rewritten (page_at_start s.origin (r.tag b)) (end_of x.entry)))
   -- another one has none, and its page is as before
-  pub same : (b : ℕ) → b < n → r.changes (s.origin (r.tag b)) ≡ false → (HasEntry s.log (r.tag b) → ⊥) × (failed s (r.tag b) ≡ false → stored s (r.tag b) ≡ s.origin (r.tag b))
+  pub same : (b : ℕ) → b < n → r.changes (page_at_start s.origin (r.tag b)) ≡ false → (HasEntry s.log (r.tag b) → ⊥) × (failed s (r.tag b) ≡ false → stored s (r.tag b) ≡ s.origin (r.tag b))
 
 -- A state with the law, whose history is that of a rewrite of all blocks; all entries up to `upto` are stored, and no call is past it
 pub record Finishes (r : Rule) (n : ℕ) (s : State) (calls : List Call) (ps : List BackendCalls) (upto : ℕ) : Type 0 where

@@ -28,11 +28,11 @@ pub fn rewrite_ends()
 /// What the devices hold that `Manager::close` gives back after `rewrite`, where no other page was put.
 pub fn rewrite_closes<L: BlockLane, G: LogDevice>(_manager: &Manager<L, G>)
     // With any end a block has at most one entry, and its lane holds its page from before or the rewritten one, or its last write failed.
-    ensures any { ClosesEither (devices L.contents L.failed_writes L.unsynced L.read_faults L.write_faults L.calls G.bytes G.synced G.faults G.calls) _manager.now }
+    ensures any { ClosesEither (devices L.BlockLane G.LogDevice) _manager.now }
 
     // After a whole rewrite, and a later checkpoint that is the last of its pass, the log has exactly the entries of the changed blocks, and the lanes hold the rewritten relation, but for blocks whose last write failed.
-    ensures all { ClosesRewritten (devices L.contents L.failed_writes L.unsynced L.read_faults L.write_faults L.calls G.bytes G.synced G.faults G.calls) _manager.now }
+    ensures all { ClosesRewritten (devices L.BlockLane G.LogDevice) _manager.now }
 
     // A log that has room for a record of each block is not full.
-    ensures full { ClosesFull (devices L.contents L.failed_writes L.unsynced L.read_faults L.write_faults L.calls G.bytes G.synced G.faults G.calls) _manager.now }
+    ensures full { ClosesFull (devices L.BlockLane G.LogDevice) _manager.now }
 {}

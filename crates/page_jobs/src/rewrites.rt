@@ -1,6 +1,5 @@
 //! Rewrites.
 ghost use Rattle.std.specs.Prelude.{◌≡◌, ◌<◌, ◌≤◌, ◌⊎◌, ◌^◌, Ok, Err, IfErr, IfOk, OnOk, length, vec_capacity, vec_len, All};
-ghost use Rattle.frame_table.specs.Seats.{frames_of};
 ghost use Rattle.page_jobs.specs.declared.ending.JobError.TheVariants.{Memory};
 ghost use Rattle.page_jobs.specs.declared.ending.Totals.{Totals};
 ghost use Rattle.page_jobs.specs.Beside.{EndsBeside, StaysBeside, WorkIsRefused, WorksBeside};
@@ -40,7 +39,6 @@ fn rewrite_all<L: BlockLane + Send, G: LogDevice + Send, R: Threads + Wait + Syn
 )
     requires some { 0 < vec_len workers.old }
     requires ready { All (IsReady L.contents manager.now blocks.rel.0 blocks.fork) workers.old.items }
-    requires frames { (16 ≤ frames_of manager.now.table) × (frames_of manager.now.table ≤ 4096) }
     ensures count { vec_len workers.new ≡ vec_len workers.old }
     ensures rewritten { HaveRewritten L.contents manager.now blocks.rel.0 blocks.fork workers.old.items workers.new.items }
 {
@@ -73,7 +71,6 @@ fn rewrite_beside<
     requires some { 0 < vec_len workers.old }
     requires ready { All (IsReady L.contents manager.now blocks.rel.0 blocks.fork) workers.old.items }
     requires free { HasNoTokens L.contents manager.now last.old }
-    requires frames { (16 ≤ frames_of manager.now.table) × (frames_of manager.now.table ≤ 4096) }
     ensures count { vec_len workers.new ≡ vec_len workers.old }
     ensures rewritten { HaveRewritten L.contents manager.now blocks.rel.0 blocks.fork workers.old.items workers.new.items }
     ensures beside { EndsBeside L.contents manager.now last.old last.new result }
@@ -82,8 +79,7 @@ fn rewrite_beside<
         rt,
         &mut ||
             requires { (0 < vec_len workers.now)
-                × All (IsReady L.contents manager.now blocks.rel.0 blocks.fork) workers.now.items
-                × (16 ≤ frames_of manager.now.table) × (frames_of manager.now.table ≤ 4096) }
+                × All (IsReady L.contents manager.now blocks.rel.0 blocks.fork) workers.now.items }
             ensures { (vec_len workers.exit.now ≡ vec_len workers.entry.now)
                 × HaveRewritten L.contents manager.entry.now blocks.rel.0 blocks.fork workers.entry.now.items workers.exit.now.items }
         { rewrite_all(manager, rt, alloc, gate, blocks, workers) },
@@ -134,7 +130,6 @@ fn rewrite_passes<
     requires few { vec_len passes.old < 64 }
     requires free { HaveNoTokens L.contents manager.now passes.old.items }
     requires last { HasNoTokens L.contents manager.now last.old }
-    requires frames { (16 ≤ frames_of manager.now.table) × (frames_of manager.now.table ≤ 4096) }
     ensures passes { RewriteParts L.contents manager.now blocks.rel.0 blocks.fork passes.old.items passes.new.items }
     ensures capacity { vec_capacity passes.new ≡ vec_capacity passes.old }
     ensures last { WorksBeside L.contents manager.now last.old last.new }
@@ -171,7 +166,6 @@ pub fn rewrite<
     requires several { 2 ≤ vec_len passes }
     requires few { vec_len passes ≤ 64 }
     requires free { HaveNoTokens L.contents manager.now passes.items }
-    requires frames { (16 ≤ frames_of manager.now.table) × (frames_of manager.now.table ≤ 4096) }
     ensures passes { RewriteParts L.contents manager.now rel.0 fork (workers_in passes.items) (workers_in result.passes.items) }
     ensures last { StaysBeside L.contents manager.now passes.items result.passes.items }
     ensures met { OnOk result.end (MeetNothing passes.items result.passes.items) }

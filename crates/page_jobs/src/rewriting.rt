@@ -6,7 +6,7 @@ ghost use Rattle.held_pins.specs.Tokens.{IsPinnedFor, no_tokens, tokens_less};
 ghost use Rattle.backend_pass.specs.Locks.{HasLock};
 ghost use Rattle.backend_pass.specs.Managers.{Belongs};
 ghost use Rattle.page_layout.specs.Outcomes.{IsRewriteWithin, no_rewrite_totals};
-ghost use Rattle.frame_table.specs.Seats.{frames_of, relations_of};
+ghost use Rattle.frame_table.specs.Seats.{relations_of};
 ghost use Rattle.page_jobs.specs.Parts.{blocks_in};
 ghost use Rattle.page_jobs.specs.Reads.{HasNoTokens, RefusesBlock};
 ghost use Rattle.page_jobs.specs.Rewriting.{LocksOne, RewritesBlock, RewritesHeld, RewritesLocked, RewritesPart, fault_of_put};
@@ -210,7 +210,6 @@ pub(crate) fn rewrite_part<L: BlockLane, G: LogDevice, R: Wait, T: Gate>(
     requires free { HasNoTokens L.contents manager.now pass.old }
     requires part { (from ≤ to) × (to ≤ blocks_in manager.now rel.0 fork) }
     requires none { totals.now ≡ no_rewrite_totals }
-    requires frames { (16 ≤ frames_of manager.now.table) × (frames_of manager.now.table ≤ 4096) }
     ensures rewrites { RewritesPart L.contents manager.now rel.0 fork from to pass.old pass.new totals.entry.now totals.exit.now result }
 {
     let mut buffers = RewriteBuffers {
@@ -253,7 +252,6 @@ impl Worker {
         requires free { HasNoTokens L.contents manager.now self.old.pass }
         requires part { (self.old.from ≤ self.old.to) × (self.old.to ≤ blocks_in manager.now blocks.rel.0 blocks.fork) }
         requires none { self.old.rewritten ≡ no_rewrite_totals }
-        requires frames { (16 ≤ frames_of manager.now.table) × (frames_of manager.now.table ≤ 4096) }
         ensures same { (self.new.number ≡ self.old.number) × (self.new.from ≡ self.old.from) × (self.new.to ≡ self.old.to) }
         ensures rewrites { RewritesPart L.contents manager.now blocks.rel.0 blocks.fork self.old.from self.old.to self.old.pass self.new.pass self.old.rewritten self.new.rewritten self.new.end }
     {

@@ -5,7 +5,7 @@ ghost use Rattle.page_layout.specs.Scan.{scan_text};
 ghost use Rattle.pin_core.specs.State.{Page};
 ghost use Rattle.log_device.specs.Bytes.{Puts};
 ghost use Rattle.log_device.specs.Faults.{Rose};
-ghost use Rattle.frame_table.specs.Seats.{base_of, frames_of};
+ghost use Rattle.frame_table.specs.Seats.{base_of};
 ghost use Rattle.page_jobs.specs.declared.ending.JobError.TheVariants.{Memory, OutFault};
 ghost use Rattle.page_jobs.specs.declared.printing.Lines.TheVariants.{Dump, Scan};
 ghost use Rattle.page_jobs.specs.Beside.{EndsBeside, StaysBeside, WorkIsRefused, WorksBeside};
@@ -44,7 +44,6 @@ fn work_all<L: BlockLane + Send, G: LogDevice + Send, R: Threads + Wait + Sync, 
 )
     requires some { 0 < vec_len workers.old }
     requires ready { All (IsReady L.contents manager.now job.rel.0 job.fork) workers.old.items }
-    requires frames { (16 ≤ frames_of manager.now.table) × (frames_of manager.now.table ≤ 4096) }
     ensures count { vec_len workers.new ≡ vec_len workers.old }
     ensures worked { HaveWorked L.contents manager.now job.rel.0 job.fork job.lines workers.old.items workers.new.items }
 {
@@ -77,7 +76,6 @@ fn work_beside<
     requires some { 0 < vec_len workers.old }
     requires ready { All (IsReady L.contents manager.now job.rel.0 job.fork) workers.old.items }
     requires free { HasNoTokens L.contents manager.now last.old }
-    requires frames { (16 ≤ frames_of manager.now.table) × (frames_of manager.now.table ≤ 4096) }
     ensures count { vec_len workers.new ≡ vec_len workers.old }
     ensures worked { HaveWorked L.contents manager.now job.rel.0 job.fork job.lines workers.old.items workers.new.items }
     ensures beside { EndsBeside L.contents manager.now last.old last.new result }
@@ -86,8 +84,7 @@ fn work_beside<
         rt,
         &mut ||
             requires { (0 < vec_len workers.now)
-                × All (IsReady L.contents manager.now job.rel.0 job.fork) workers.now.items
-                × (16 ≤ frames_of manager.now.table) × (frames_of manager.now.table ≤ 4096) }
+                × All (IsReady L.contents manager.now job.rel.0 job.fork) workers.now.items }
             ensures { (vec_len workers.exit.now ≡ vec_len workers.entry.now)
                 × HaveWorked L.contents manager.entry.now job.rel.0 job.fork job.lines workers.entry.now.items workers.exit.now.items }
         { work_all(manager, rt, alloc, gate, job, workers) },
@@ -119,7 +116,6 @@ fn work_passes<
     requires few { vec_len passes.old < 64 }
     requires free { HaveNoTokens L.contents manager.now passes.old.items }
     requires last { HasNoTokens L.contents manager.now last.old }
-    requires frames { (16 ≤ frames_of manager.now.table) × (frames_of manager.now.table ≤ 4096) }
     ensures passes { ReadParts L.contents manager.now job.rel.0 job.fork passes.old.items passes.new.items }
     ensures capacity { vec_capacity passes.new ≡ vec_capacity passes.old }
     ensures last { WorksBeside L.contents manager.now last.old last.new }
@@ -161,7 +157,6 @@ fn run_job<
     requires several { 2 ≤ vec_len passes }
     requires few { vec_len passes ≤ 64 }
     requires free { HaveNoTokens L.contents manager.now passes.items }
-    requires frames { (16 ≤ frames_of manager.now.table) × (frames_of manager.now.table ≤ 4096) }
     ensures passes { ReadParts L.contents manager.now job.rel.0 job.fork (workers_in passes.items) (workers_in result.passes.items) }
     ensures last { StaysBeside L.contents manager.now passes.items result.passes.items }
     ensures met { OnOk result.end (MeetNothing passes.items result.passes.items) }
@@ -212,7 +207,6 @@ pub fn scan<
     requires several { 2 ≤ vec_len passes }
     requires few { vec_len passes ≤ 64 }
     requires free { HaveNoTokens L.contents manager.now passes.items }
-    requires frames { (16 ≤ frames_of manager.now.table) × (frames_of manager.now.table ≤ 4096) }
     ensures passes { ReadParts L.contents manager.now rel.0 fork (workers_in passes.items) (workers_in result.passes.items) }
     ensures last { StaysBeside L.contents manager.now passes.items result.passes.items }
     ensures met { OnOk result.end (MeetNothing passes.items result.passes.items) }
@@ -255,7 +249,6 @@ pub fn dump<
     requires several { 2 ≤ vec_len passes }
     requires few { vec_len passes ≤ 64 }
     requires free { HaveNoTokens L.contents manager.now passes.items }
-    requires frames { (16 ≤ frames_of manager.now.table) × (frames_of manager.now.table ≤ 4096) }
     ensures passes { ReadParts L.contents manager.now rel.0 fork (workers_in passes.items) (workers_in result.passes.items) }
     ensures last { StaysBeside L.contents manager.now passes.items result.passes.items }
     ensures met { OnOk result.end (MeetNothing passes.items result.passes.items) }

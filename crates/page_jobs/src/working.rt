@@ -2,7 +2,7 @@
 ghost use Rattle.std.specs.Prelude.{◌≡◌, ◌+◌, ◌<◌, ◌≤◌, ◌/◌, ◌^◌, [], IfOk, OnOk, is_some, length, nat_lt};
 ghost use Rattle.block_tag.specs.Catalogue.{blocks_at};
 ghost use Rattle.page_layout.specs.Scan.{IsWithin, no_totals};
-ghost use Rattle.frame_table.specs.Seats.{frames_of, relations_of};
+ghost use Rattle.frame_table.specs.Seats.{relations_of};
 ghost use Rattle.page_jobs.specs.Parts.{DoesPart, blocks_in};
 ghost use Rattle.page_jobs.specs.Reads.{HasNoTokens};
 
@@ -132,7 +132,6 @@ impl Worker {
         requires free { HasNoTokens L.contents manager.now self.old.pass }
         requires part { (self.old.from ≤ self.old.to) × (self.old.to ≤ blocks_in manager.now job.rel.0 job.fork) }
         requires printed { (self.old.printed.text.items ≡ []) × (self.old.printed.totals ≡ no_totals) }
-        requires frames { (16 ≤ frames_of manager.now.table) × (frames_of manager.now.table ≤ 4096) }
         ensures same { (self.new.number ≡ self.old.number) × (self.new.from ≡ self.old.from) × (self.new.to ≡ self.old.to) }
         ensures does { DoesPart L.contents manager.now job.rel.0 job.fork job.lines self.old.from self.old.to self.old.pass self.new.pass self.old.printed.text.items self.new.printed.text.items self.old.printed.totals self.new.printed.totals result }
     {
@@ -156,7 +155,6 @@ impl Worker {
         requires free { HasNoTokens L.contents manager.now self.old.pass }
         requires part { (self.old.from ≤ self.old.to) × (self.old.to ≤ blocks_in manager.now job.rel.0 job.fork) }
         requires printed { (self.old.printed.text.items ≡ []) × (self.old.printed.totals ≡ no_totals) }
-        requires frames { (16 ≤ frames_of manager.now.table) × (frames_of manager.now.table ≤ 4096) }
         ensures same { (self.new.number ≡ self.old.number) × (self.new.from ≡ self.old.from) × (self.new.to ≡ self.old.to) }
         ensures does { DoesPart L.contents manager.now job.rel.0 job.fork job.lines self.old.from self.old.to self.old.pass self.new.pass self.old.printed.text.items self.new.printed.text.items self.old.printed.totals self.new.printed.totals self.new.end }
     {

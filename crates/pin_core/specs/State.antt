@@ -82,6 +82,7 @@ idle = record {
   content = Unlocked;
   copying = false;
   dirtied = false;
+  entered = false;
   unapplied = false;
   image = None;
   copied = None;
@@ -103,7 +104,7 @@ abbrev pub no_lane : LaneHold
 no_lane = record { held = false; out = None; change = lane_change.Untouched; flushed = 0; swept = 0 }
 
 abbrev pub no_log : LogHold
-no_log = record { held = false; out = None; change = log_change.Untouched; appended = None; synced = false; end = None }
+no_log = record { held = false; out = None; change = log_change.Untouched; appended = None; synced = false; end = None; redo = None }
 
 -- what a view has of the latch of the partition p
 abbrev pub hold : View → ℕ → PartitionHold
@@ -140,7 +141,9 @@ new_view number base frames partitions lanes = record {
   log = no_log;
   flushed = base;
   raised_to = base;
+  redo_raised = [];
   end_seen = base;
+  unentered = [];
   calls = [];
   front = base;
   place_loads = 0;
@@ -178,7 +181,9 @@ abbrev pub joined_view : View → View → View
 joined_view v u = record v {
   joined = v.joined + 1;
   raised_to = max v.raised_to u.raised_to;
+  redo_raised = v.redo_raised ++ u.redo_raised;
   end_seen = max v.end_seen u.end_seen;
+  unentered = v.unentered ++ u.unentered;
   calls = v.calls ++ u.calls;
   front = max v.front u.front;
   ticks = v.ticks + u.ticks;

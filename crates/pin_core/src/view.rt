@@ -50,9 +50,11 @@ pub struct Link {
     pub copying: bool,
     /// Under this exclusive lock the frame was marked dirty.
     pub dirtied: bool,
+    /// Under this exclusive lock an entry was made.
+    pub entered: bool,
     /// The entry of the new page is in the log, and not yet applied to the page.
     pub unapplied: bool,
-    /// The image of that entry.
+    /// The page that it makes.
     pub image: Option<[u8; 0]>,
     /// The page as the backend copied it under this content lock.
     pub copied: Option<[u8; 0]>,
@@ -107,6 +109,12 @@ pub struct BlockPage {
     pub failed: bool,
 }
 
+/// A block, by its tag, and whether it was written since its lane's last sync.
+pub struct BlockMark {
+    pub tag: u64,
+    pub unsynced: bool,
+}
+
 /// The one call of a lane that a backend made while the lane was out.
 pub enum LaneChange {
     Untouched,
@@ -122,6 +130,8 @@ pub enum LaneChange {
 pub struct TakenLane {
     /// Its blocks, where the contents are known.
     pub pages: Option<[BlockPage; 0]>,
+    /// The blocks that lie there, whether or not the contents are known, with a mark at those written since its last sync.
+    pub marks: [BlockMark; 0],
     /// How many reads, and how many writes and syncs, had failed.
     pub read_faults: u64,
     pub write_faults: u64,
@@ -176,6 +186,8 @@ pub struct LogHold {
     pub synced: bool,
     /// The log's end as it was loaded or stored under this latch.
     pub end: Option<u64>,
+    /// The redo position (`RedoRecPtr`) as it was loaded under this latch, and not raised since.
+    pub redo: Option<u64>,
 }
 
 /// A page that a backend read or wrote, and its place in the log.
@@ -191,6 +203,8 @@ pub enum Call {
         tag: u64,
         page: [u8; 0],
         place: u64,
+        /// Its entry has the page whole.
+        whole: bool,
     },
 }
 
@@ -302,8 +316,12 @@ pub struct View {
     pub flushed: u64,
     /// The largest position to which the backend raised the flushed position; where the log begins, before that.
     pub raised_to: u64,
+    /// The positions to which the backend raised the redo position, in order.
+    pub redo_raised: [u64; 0],
     /// The largest log end that the backend loaded, or stored with an entry; where the log begins, before the first.
     pub end_seen: u64,
+    /// The blocks whose frame was marked dirty under an exclusive lock that was given up with no entry made, by their tags.
+    pub unentered: [u64; 0],
     /// The pages read and written, in order.
     pub calls: [Call; 0],
     /// The largest place of the calls; where the log begins, where there are none.

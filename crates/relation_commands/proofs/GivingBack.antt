@@ -1,8 +1,7 @@
 -- What a host's paths, marks and logs are once the lanes and the log of a rewrite are given back.
-use Rattle.std.proofs.Common.{◌≡◌, ◌≢◌, ◌⊎◌, ℕ, zero, suc, ◌<◌, Bool, true, false, List, [], ◌∷◌, get_or, length, map, Option, Some, None, refl, sym, ap, ◌∙◌, subst, inl, inr, arith}
-use Rattle.std.specs.Prelude.{All, IfSome, IsSomeAnd, option_map, if◌then◌else◌}
+use Rattle.std.proofs.Common.{◌≡◌, ℕ, zero, suc, Bool, true, false, List, [], ◌∷◌, get_or, length, map, Option, Some, refl, sym, ap, ◌∙◌, subst, inl, inr, arith}
+use Rattle.std.specs.Prelude.{All}
 use Rattle.std.specs.Cmp.Lexicographic.{same_text}
-use Rattle.std.specs.Option.{option_and_then}
 use Rattle.std.specs.Str.{bytes_eq}
 use Rattle.std.proofs.lemmas.Bool.{cases_Bool}
 use Rattle.std.proofs.lemmas.Slice.Eq.{bytes_eq-Decides}
@@ -10,13 +9,11 @@ use Rattle.block_tag.specs.declared.tag.Fork.{Fork}
 use Rattle.block_tag.specs.Names.{lane_number}
 use Rattle.log_device.specs.MemoryLog.{StoredLog}
 use Rattle.segment_store.specs.Contents.{Marks, Pages, no_marks}
-use Rattle.segment_store.specs.Lanes.{HoldPages, mark_in, tag_at}
-use Rattle.segment_store.specs.Logs.{Logs, empty_log, given_log, logs_after, stored_log, with_log}
+use Rattle.segment_store.specs.Lanes.{mark_in, tag_at}
+use Rattle.segment_store.specs.Logs.{Logs, empty_log, given_log, logs_after, with_log}
 use Rattle.segment_store.specs.Paths.{OpenAt, PathMarks, Paths, fork_of}
 use Rattle.segment_store.specs.Relation.{relation_of}
 use Rattle.segment_store.specs.Restored.{given_back, marks_after, pages_in, paths_after, restored}
-use Rattle.segment_store.proofs.GivenBack.{paths_same}
-use Rattle.pin_core.specs.State.{Page}
 use Rattle.relation_commands.specs.Listings.{NoneFails}
 use Rattle.relation_commands.specs.RewriteFiles.{with_blocks}
 

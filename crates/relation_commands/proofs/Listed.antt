@@ -1,21 +1,17 @@
 -- What a listing leaves of its lanes, and how it ends.
-use Rattle.std.proofs.Common.{◌≡◌, ℕ, zero, suc, ◌+◌, ◌<◌, ◌≤◌, ◌⊎◌, ◌^◌, false, List, [], ◌∷◌, length, map, get_or, Option, Result, Ok, Err, refl, sym, ap, ◌∙◌, inl, inr, ⊎_elim, arith}
+use Rattle.std.proofs.Common.{◌≡◌, ℕ, zero, suc, ◌<◌, ◌≤◌, ◌⊎◌, ◌^◌, List, [], ◌∷◌, length, map, get_or, Option, Result, Ok, Err, refl, ap, ◌∙◌, ⊎_elim, arith}
 use Rattle.std.specs.Prelude.{All, IfErr, IfOk, IsOkAnd, MatchResult, OnOk, sum_by}
-use mathlib.Core.Option.{some}
-use lib.ListN.{get_elem?}
 use Rattle.block_tag.specs.declared.tag.Fork.{Fork}
-use Rattle.block_tag.specs.declared.tag.Tag.{Tag}
 use Rattle.block_tag.specs.Names.{lane_number}
 use Rattle.log_device.specs.Bytes.{Puts}
 use Rattle.log_device.specs.Faults.{Rose}
 use Rattle.page_layout.specs.declared.scan.ScanTotals.{ScanTotals}
 use Rattle.segment_store.specs.Contents.{Marks, Pages, no_marks}
-use Rattle.segment_store.specs.Lanes.{HoldPages, mark_in, tag_at}
-use Rattle.pin_core.specs.State.{Page}
+use Rattle.segment_store.specs.Lanes.{tag_at}
 use Rattle.table_rule.specs.Shows.{Devices}
 use Rattle.frame_table.specs.Seats.{base_of, lanes_in, opened_of, relations_of}
 use Rattle.backend_pass.specs.declared.manager.Manager.{Manager}
-use Rattle.backend_pass.specs.Managers.{AreAll, AreNewPasses}
+use Rattle.backend_pass.specs.Managers.{AreNewPasses}
 use Rattle.backend_pass.specs.Passes.{PassState}
 use Rattle.backend_pass.specs.Closing.{ClosesAll, NothingPut, NothingWritten}
 use Rattle.page_jobs.specs.declared.ending.JobError.{JobError}
@@ -23,7 +19,7 @@ use Rattle.page_jobs.specs.declared.ending.JobError.TheVariants as job
 use Rattle.page_jobs.specs.declared.ending.Totals.{Totals}
 use Rattle.page_jobs.specs.Ending.{as_done}
 use Rattle.page_jobs.specs.Beside.{LastIsRefused, StaysBeside}
-use Rattle.page_jobs.specs.Jobs.{AllAtBase, AnyMeets, EndsJob, IsOrigin, ReadParts, workers_in}
+use Rattle.page_jobs.specs.Jobs.{AllAtBase, AnyMeets, EndsJob, ReadParts, workers_in}
 use Rattle.page_jobs.specs.Relations.{IsCatalogOf, MeetNothing}
 use Rattle.page_jobs.proofs.Backends as backends
 use Rattle.page_jobs.proofs.Counted.{no_read_failed, no_write_failed, some_read_failed}

@@ -3,7 +3,7 @@ use Rattle.std.proofs.Common.{◌≡◌, ℕ, Bool, true, false, List, Option, S
 use Rattle.std.specs.Prelude.{IfSome, codes, option_and_then, option_map}
 use Rattle.std.specs.Str.{bytes_eq}
 use Rattle.clap.specs.Walk.{is_empty}
-use Rattle.clap.specs.Words.{Row, Text, fault_of, first_of, subcommand_of}
+use Rattle.clap.specs.Words.{Row, Text, fault_of, subcommand_of}
 use Rattle.block_tag.specs.declared.tag.Fork.{Fork}
 use Rattle.block_tag.specs.declared.tag.Fork.TheVariants.{Main, Fsm, Vm, Init}
 use Rattle.segment_store.specs.Paths.{fork_of}
@@ -11,7 +11,7 @@ use Rattle.command_line.specs.declared.commands.Command.{Command}
 use Rattle.command_line.specs.declared.numbers.Options.{Options}
 use Rattle.command_line.specs.Grammar.{tool_app}
 use Rattle.command_line.specs.Numbers.{blocks_range, number_in, options_in, seed_range}
-use Rattle.command_line.specs.RelationPath.{is_file_of, is_main_fork}
+use Rattle.command_line.specs.RelationPath.{is_main_fork}
 use Rattle.command_line.specs.Spelled.{Spelled, command_named, command_of, command_of_subcommand, dump, log_in, main_path_in, relation_path_in, rewrite, rewrite_in, sample, sample_in, scan, spelled}
 use Rattle.relation_commands.specs.declared.request.Request.{Request}
 use Rattle.relation_commands.specs.Request.{IsOfMainFork, asked, asked_by}

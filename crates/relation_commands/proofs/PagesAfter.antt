@@ -18,7 +18,7 @@ use Rattle.page_layout.specs.Soundness.{IsUsedPage, is_new_page, is_sound_header
 use Rattle.page_layout.proofs.Positions.{header_used, same_header, sound_used}
 use Rattle.pin_core.specs.State.{Page}
 use Rattle.page_jobs.proofs.Standing.{all_at}
-use Rattle.relation_commands.specs.RewriteResults.{AreFull, page_after}
+use Rattle.relation_commands.specs.RewriteResults.{AreFull, after_rewrite}
 
 -- a page that is used with one position is used with its own
 used_without : (lsn : ℕ) (page : Page) → IsUsedPage (with_lsn lsn page) → length page ≡ 8192 → IsUsedPage page
@@ -85,14 +85,14 @@ module _ (rewritten : StaysUsed) where
   by_change old new false is long changed same = inl (same is)
 
   -- block by block
-  each : (before after : List Page) → ((block : ℕ) (old new : Page) → get_elem? before block ≡ some old → get_elem? after block ≡ some new → DiffersInPosition (page_after old) new)
-      → (block : ℕ) (page other : Page) → slice_get (map page_after before) block ≡ Some page → slice_get after block ≡ Some other → DiffersInPosition page other
+  each : (before after : List Page) → ((block : ℕ) (old new : Page) → get_elem? before block ≡ some old → get_elem? after block ≡ some new → DiffersInPosition (after_rewrite old) new)
+      → (block : ℕ) (page other : Page) → slice_get (map after_rewrite before) block ≡ Some page → slice_get after block ≡ Some other → DiffersInPosition page other
   each [] qs so block page other at at' = absurd (cc)
   each (p ∷ ps) [] so block page other at at' = absurd (cc)
   each (p ∷ ps) (q ∷ qs) so zero page other at at' =
-      let page_is : page_after p ≡ page = cc in
+      let page_is : after_rewrite p ≡ page = cc in
       let other_is : q ≡ other = cc in
-      subst (λ (x : Page). DiffersInPosition x other) page_is (subst (λ (y : Page). DiffersInPosition (page_after p) y) other_is (so 0 p q refl refl))
+      subst (λ (x : Page). DiffersInPosition x other) page_is (subst (λ (y : Page). DiffersInPosition (after_rewrite p) y) other_is (so 0 p q refl refl))
   each (p ∷ ps) (q ∷ qs) so (suc block) page other at at' = each ps qs (λ b. so (suc b)) block page other at at'
 
   -- the pages that a rewrite leaves are those that it makes, but for their positions
@@ -100,9 +100,9 @@ module _ (rewritten : StaysUsed) where
       → ((block : ℕ) (old new : Page) → get_elem? before block ≡ some old → get_elem? after block ≡ some new → is_changed_outcome (page_rewrite_of old) ≡ true
       → (lsn : ℕ) × (new ≡ with_lsn lsn (rewritten_page old)))
       → ((block : ℕ) (old new : Page) → get_elem? before block ≡ some old → get_elem? after block ≡ some new → is_changed_outcome (page_rewrite_of old) ≡ false → new ≡ old)
-      → DifferInPositions (map page_after before) after
+      → DifferInPositions (map after_rewrite before) after
   differ before after counted full changed same = record {
-    count = counted ∙ sym (length-map before page_after);
+    count = counted ∙ sym (length-map before after_rewrite);
     each = each before after (λ block old new was at. by_change old new (is_changed_outcome (page_rewrite_of old)) refl
         (all_at (λ (page : Page). length page ≡ 8192) after block new full at) (changed block old new was at) (same block old new was at));
   }

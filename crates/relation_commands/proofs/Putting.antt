@@ -1,5 +1,5 @@
 -- What is put where nothing is.
-use Rattle.std.proofs.Common.{◌≡◌, ℕ, List, [], ◌++◌, Option, Some, None, Result, Err, refl, sym}
+use Rattle.std.proofs.Common.{ℕ, List, [], Option, Some, None, Err, refl, sym}
 use Rattle.std.specs.Prelude.{IfSome, IsSomeAnd}
 use Rattle.std.proofs.lemmas.List.{append-nil}
 use Rattle.log_device.specs.Bytes.{GainsPrefix, Puts}

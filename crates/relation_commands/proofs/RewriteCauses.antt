@@ -2,6 +2,7 @@
 use Rattle.std.proofs.Common.{◌≡◌, ◌≢◌, ℕ, zero, suc, ◌+◌, ◌-◌, ◌<◌, ◌≤◌, ◌^◌, ◌⊎◌, true, List, [], ◌∷◌, length, nat_lt, Option, Some, Ok, Err, refl, sym, ap, ◌∙◌, subst, inl, inr, ⊎_elim, arith}
 use Rattle.std.specs.Prelude.{sum_by}
 use Rattle.std.proofs.lemmas.Option.{same_Some}
+use Rattle.std.proofs.lemmas.Bool.{ltb-true}
 use mathlib.Core.Logic.{dite}
 use mathlib.Core.Option.{some, some-injective, some-ne-none}
 use native.Mathlib.Decide.{ℕ_discrete}
@@ -215,7 +216,9 @@ module _ {L G : Type 0} (d : Devices L G) (m : Manager L G) (r : RelationFork) (
       omega arith
     where
       below : (block count : ℕ) → nat_lt block count ≡ true → count ≡ r.blocks → block < r.blocks
-      below block count listed is = grind arith
+      below block count listed is =
+          let low : block < count = ltb-true block count listed in
+          omega arith
 
   pub no_position : (e : RewriteError) → SomePassMeets d.contents m zs e → ((end : ℕ) → e ≡ OverLimit (OfLog end) → ⊥) → (pages : List Page) → ArePages d.contents r base (opened_of m.table) pages → HasPositionsLeft e
   no_position ReadFault x not_full pages are = tt

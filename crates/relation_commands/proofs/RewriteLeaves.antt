@@ -3,7 +3,6 @@ use Rattle.std.proofs.Common.{◌≡◌, ℕ, zero, suc, ◌+◌, ◌-◌, ◌<�
 use Rattle.std.specs.Prelude.{IfSome, IsSomeAnd, is_some}
 use Rattle.std.specs.Option.{option_and_then}
 use Rattle.std.proofs.lemmas.List.{length-map}
-use Rattle.std.proofs.lemmas.Option.{same_Some}
 use Rattle.std.proofs.lemmas.Bool.{lt-ltb}
 use mathlib.Core.Option.{some, some-injective, some-ne-none}
 use lib.ListN.{get_elem?}
@@ -17,7 +16,7 @@ use Rattle.segment_store.specs.Contents.{AreFullPages, Marks, Pages, no_marks}
 use Rattle.segment_store.specs.Lanes.{HoldPages, lane_at, page_in, tag_at}
 use Rattle.segment_store.specs.Restored.{pages_in}
 use Rattle.pin_core.specs.State.{Page}
-use Rattle.history_core.specs.Log.{Entry, end_of, head_size, log_bytes}
+use Rattle.history_core.specs.Log.{Entry, image, end_of, head_size, log_bytes}
 use Rattle.history_core.specs.Rest.{BeginsRecord}
 use Rattle.table_rule.specs.Blocks.{log_name}
 use Rattle.table_rule.specs.Layout.{lane_of_tag, tag_lane}
@@ -28,8 +27,8 @@ use Rattle.backend_pass.specs.declared.manager.Manager.{Manager}
 use Rattle.backend_pass.specs.Closing.{ClosesAll}
 use Rattle.backend_pass.specs.Passes.{PassState}
 use Rattle.page_jobs.specs.Parts.{blocks_in}
-use Rattle.page_jobs.specs.RewriteCloses.{HasImage, HoldEither, IsInLanes}
-use Rattle.page_jobs.specs.RewriteEnds.{HasRewrites, IsRewrite}
+use Rattle.page_jobs.specs.RewriteCloses.{HasEntryPage, HoldEither, IsInLanes}
+use Rattle.page_jobs.specs.RewriteEnds.{HasRewrites, IsRewrite, page_at_start}
 use Rattle.page_jobs.specs.Rewrites.{Rule, rule_of}
 use Rattle.page_jobs.proofs.Standing.{found, inside, mapped_or, standing_or, there}
 use Rattle.page_jobs.proofs.ReadersLeave.{some_of}
@@ -38,6 +37,11 @@ use Rattle.relation_commands.specs.Limits.{largest_lsn, sound_lsn}
 use Rattle.relation_commands.specs.RewriteResults.{AreFull, BeginsWith, HasDurableEntry, HasImages, IsImageOf, LeavesEither}
 use Rattle.relation_commands.specs.Rewriting.{ArePages, failed_after, pages_after}
 use Rattle.relation_commands.specs.Starting.{IsStarted, names_of}
+
+-- what is there
+some_else : (o : Option Page) (p : Page) → is_some o ≡ true → o ≡ Some (unwrap_or o p)
+some_else None p there = absurd (let no : false ≡ true = there in cc)
+some_else (Some q) p there = refl
 
 -- as many pages come back as there were
 pub pages_long : (fork : Fork) (lanes : List (Option Pages)) (from : ℕ) (pages : List Page) → length (pages_in fork lanes from pages) ≡ length pages
@@ -134,9 +138,9 @@ module _ {L G : Type 0} (d : Devices L G) (m : Manager L G) (r : RelationFork) (
         c.opened.known (lane_number (tag_at r.fork block) (lanes_in m.table)) x.0 ((rule_at r).tag block) x.1 (lane_is block (low block page at)) ∙ ap (λ (p : Option Pages). is_some p) x.2.1
 
     -- the page of a block at the start
-    pub origin_at : (block : ℕ) (page : Page) → get_elem? pages block ≡ some page → page ≡ c.state.origin ((rule_at r).tag block)
+    pub origin_at : (block : ℕ) (page : Page) → get_elem? pages block ≡ some page → page ≡ page_at_start c.state.origin ((rule_at r).tag block)
     origin_at block page at = let x = was_there block page at in
-        same_Some page (c.state.origin ((rule_at r).tag block))
+        ap (λ (o : Option Page). unwrap_or o [])
         (sym x.2.2 ∙ c.opened.origin (lane_number (tag_at r.fork block) (lanes_in m.table)) x.0 x.2.0 ((rule_at r).tag block) (tag_at r.fork block) x.1 x.2.1 (placed block (low block page at)))
 
     pub in_lanes : (block : ℕ) (page : Page) → get_elem? pages block ≡ some page → InLanes block page
@@ -185,8 +189,7 @@ module _ {L G : Type 0} (d : Devices L G) (m : Manager L G) (r : RelationFork) (
         let x = b.of.is in
         let tag = tag_at r.fork block in
         let lies = subst (λ (k : ℕ). IsPlaced (relations_of m.table) k x.lane ((rule_at r).tag block) tag) (sym c.opened.lanes) x.placed in
-        let has : b.of.after tag ≡ Some ((c.state.lane x.lane).stored ((rule_at r).tag block)) = (c.lane x.lane b.of.closed x.is).pages b.of.after ((rule_at r).tag block) tag x.holds lies in
-        has ∙ ap (λ (p : Page). Some p) (sym (b.new_is ∙ ap (λ (p : Option Page). unwrap_or p b.old) has))
+        some_else (b.of.after tag) b.old ((c.lane x.lane b.of.closed x.is).held b.of.after ((rule_at r).tag block) tag x.holds lies) ∙ ap (λ (p : Page). Some p) (sym b.new_is)
 
     pub pages_held : HoldPages r.fork (pages_after d.contents r lanes pages) (map d.contents lanes)
     pages_held block below =
@@ -213,33 +216,32 @@ module _ {L G : Type 0} (d : Devices L G) (m : Manager L G) (r : RelationFork) (
           let same = blocks_are in
           let e_count = are.have.counted in
           let p = there pages x.block (omega arith) in
-          let told : c.state.known e.tag ≡ true = ap c.state.known x.tagged ∙ known_at x.block p.0 p.1 in
-          let is : c.state.origin e.tag ≡ p.0 = ap c.state.origin x.tagged ∙ sym (origin_at x.block p.0 p.1) in
+          let told = known_at x.block p.0 p.1 in
+          let is = origin_at x.block p.0 p.1 in
           record {
             block = x.block;
             page = p.0;
             there = p.1;
-            changes = ap (rule_at r).changes (sym is) ∙ x.changes told;
-            tagged = x.tagged;
-            image = x.image told ∙ ap (λ (q : Page). (rule_at r).rewritten q (end_of e)) is;
+            changes = ap (rule_at r).changes is ∙ x.changes told;
+            entered = x.entered ∙ ap (image ((rule_at r).tag x.block)) (x.made told ∙ ap (λ (q : Page). (rule_at r).rewritten q (end_of e)) (sym is));
           }
 
       pub images : HasImages (rule_at r) pages c.state.log
       images = record { each = λ k e at. image_of e (has.each k e at); one = has.one }
 
     module _ (hold : HoldEither d m.table.table.shared.key lanes (rule_at r) c.state) (known : List ℕ) (told : d.bytes log ≡ Some known) where
-      logged : (block : ℕ) (new : Page) (b : Both block new) → HasImage (rule_at r) c.state ((rule_at r).tag block) b.old (b.of.after (tag_at r.fork block)) → HasDurableEntry (rule_at r) c.state.log (file_at d.synced log known) block b.old new
-      logged block new b x = record {
+      logged : (block : ℕ) (new : Page) (b : Both block new) → HasEntryPage (rule_at r) c.state ((rule_at r).tag block) b.old (b.of.after (tag_at r.fork block)) → HasDurableEntry (rule_at r) c.state.log (file_at d.synced log known) block b.old new
+      logged block new b x = let is = b.new_is ∙ ap (λ (p : Option Page). unwrap_or p b.old) x.held in record {
         made = x.made;
-        image = sym (b.new_is ∙ ap (λ (p : Option Page). unwrap_or p b.old) x.held);
-        rewritten = b.new_is ∙ ap (λ (p : Option Page). unwrap_or p b.old) x.held ∙ x.image;
+        entered = x.entered ∙ ap (image ((rule_at r).tag block)) (sym is);
+        rewritten = is;
         durable = subst (λ (n : ℕ). head_size + end_of x.made.entry ≤ c.state.log.base + n) (c.device.synced known told) x.durable;
       }
 
       either_at : (block : ℕ) (new : Page) (b : Both block new) → failed_after d.failed_writes r lanes block ≡ false → (new ≡ b.old) ⊎ HasDurableEntry (rule_at r) c.state.log (file_at d.synced log known) block b.old new
       either_at block new b unfailed = ⊎_elim
           (λ (same : b.of.after (tag_at r.fork block) ≡ Some b.old). inl (b.new_is ∙ ap (λ (p : Option Page). unwrap_or p b.old) same))
-          (λ (x : HasImage (rule_at r) c.state ((rule_at r).tag block) b.old (b.of.after (tag_at r.fork block))). inr (logged block new b x))
+          (λ (x : HasEntryPage (rule_at r) c.state ((rule_at r).tag block) b.old (b.of.after (tag_at r.fork block))). inr (logged block new b x))
           (hold ((rule_at r).tag block) (tag_at r.fork block) b.of.before b.of.after b.of.closed b.old b.of.is b.of.was (sym b.of.marked ∙ unfailed))
 
       pub each_either : (block : ℕ) (old new : Page) → get_elem? pages block ≡ some old → get_elem? (pages_after d.contents r lanes pages) block ≡ some new
@@ -266,7 +268,7 @@ module _ {L G : Type 0} (d : Devices L G) (m : Manager L G) (r : RelationFork) (
           let left = c.laws.rest.behind in
           record {
             rest = left.rest;
-            begins = λ some. subst (λ (end : ℕ). BeginsRecord c.state.names end left.rest) c.laws.invariant.ends (left.begins some);
+            begins = λ some. subst (λ (end : ℕ). BeginsRecord false c.state.names end left.rest) c.laws.invariant.ends (subst (λ (may : Bool). BeginsRecord may c.state.names c.state.end left.rest) c.opened.ranges (left.begins some));
             short = left.short;
             is_bytes = sym (device.bytes known told) ∙ left.is_bytes;
           }

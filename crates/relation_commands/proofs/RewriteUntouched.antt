@@ -11,7 +11,7 @@ use Rattle.page_layout.specs.Soundness.{is_sound_page}
 use Rattle.segment_store.specs.Contents.{AreFullPages, Marks, Pages}
 use Rattle.segment_store.specs.Lanes.{HasPage, HoldPages, lane_at, page_in, tag_at}
 use Rattle.pin_core.specs.State.{Page}
-use Rattle.history_core.specs.Log.{head_bytes, log_bytes, records}
+use Rattle.history_core.specs.Log.{AreChained, head_bytes, log_bytes, records}
 use Rattle.page_jobs.proofs.Standing.{found, inside, standing_or, there}
 use Rattle.relation_commands.specs.declared.rewriting.RewriteError.TheVariants.{Memory}
 use Rattle.relation_commands.specs.declared.starting.RelationFork.{RelationFork}
@@ -63,12 +63,13 @@ module _ {L G : Type 0} (contents : L → Option Pages) (failed : L → Marks) (
         ap length (same block x.0 new x.1 at ∙ sym (standing_or pages block x.0 [] x.1)) ∙ long
 
     either : (known : List ℕ) → bytes log ≡ Some known → LeavesEither (rule_at r) (names_of r) base pages (pages_after contents r lanes pages) (failed_after failed r lanes) (file_at synced log known)
+    unfolding AreChained
     either known told = record {
       log = record { base = base; entries = [] };
-      law = record { chained = λ k e at. absurd (some-ne-none e (sym at)); images = λ k e at. absurd (some-ne-none e (sym at)) };
+      law = record { chained = tt; valid = λ k e at. absurd (some-ne-none e (sym at)) };
       based = refl;
       begins = record { rest = []; begins = λ some. absurd (some refl); short = omega arith; is_bytes = head known told ∙ sym (head_only (names_of r) base) ∙ sym (append-nil (log_bytes (names_of r) (record { base = base; entries = [] }))) };
-      images = record { each = λ k e at. absurd (some-ne-none e (sym at)); one = λ j k x y at also tagged. absurd (some-ne-none x (sym at)) };
+      images = record { each = λ k e at. absurd (some-ne-none e (sym at)); one = λ j k tag x y of also. absurd (some-ne-none x (sym of.there)) };
       counted = pages_long r.fork (map contents lanes) 0 pages;
       each = λ block old new was at unfailed. inl (same block old new was at);
       full = each_full (pages_after contents r lanes pages) full_at;

@@ -16,8 +16,9 @@ use Rattle.page_layout.specs.Outcomes.{is_changed_outcome, page_rewrite_of}
 use Rattle.page_layout.specs.Rewritten.{rewrite_of}
 use Rattle.page_layout.specs.Soundness.{is_new_page, is_sound_page}
 use Rattle.history_core.specs.Device.{HasRisen}
-use Rattle.history_core.specs.Log.{end_of, log_bytes, log_end, record_size}
+use Rattle.history_core.specs.Log.{IsChange, IsImage, end_of, log_bytes, log_end, record_size}
 use Rattle.history_core.specs.State.{failed, last_count}
+use Rattle.history_core.proofs.Logs.{chain_above, some_size}
 use Rattle.table_rule.specs.Layout.{lane_of_tag}
 use Rattle.table_rule.specs.Shows.{Devices, IsLog, IsPlaced}
 use Rattle.frame_table.specs.Seats.{lanes_in, opened_of, relations_of}
@@ -26,7 +27,7 @@ use Rattle.backend_pass.specs.Closing.{ClosesAll, met_by_passes}
 use Rattle.backend_pass.specs.Passes.{PassState}
 use Rattle.page_jobs.specs.Parts.{blocks_in}
 use Rattle.page_jobs.specs.RewriteCloses.{HoldEither, HoldRewritten}
-use Rattle.page_jobs.specs.RewriteEnds.{HasEntry, HasRewrites, change_weight, sum_below}
+use Rattle.page_jobs.specs.RewriteEnds.{HasEntry, change_weight, sum_below}
 use Rattle.page_jobs.specs.RewriteEnds as ends
 use Rattle.page_jobs.proofs.Standing.{inside, there}
 use Rattle.relation_commands.specs.declared.starting.RelationFork.{RelationFork}
@@ -126,18 +127,20 @@ module _ {L G : Type 0} (d : Devices L G) (m : Manager L G) (r : RelationFork) (
           let ok = unfailed block low in
           let x = in_lanes d m r base ps zs started few lanes log c pages are block old was in
           let y = hold.changed block (tag_at r.fork block) x.before x.after x.closed old (let e = started.catalog.counted in omega arith) x.is x.was changes in
-          let image : x.after (tag_at r.fork block) ≡ Some y.0.entry.image = y.2 (sym x.marked ∙ ok) in
+          let made = (rule_at r).rewritten old (end_of y.0.entry) in
+          let has_page : x.after (tag_at r.fork block) ≡ Some made = y.2 (sym x.marked ∙ ok) in
           let law = c.laws.invariant.log in
-          let starts = law.chained y.0.index y.0.entry y.0.there in
-          let ends = (law.images y.0.index y.0.entry y.0.there).ends in
+          let starts = chain_above c.state.log.base c.state.log.entries law.chained y.0.index y.0.entry y.0.entered.there in
+          let is_made : IsImage (end_of y.0.entry) made = subst (IsChange (end_of y.0.entry)) y.1 (law.valid y.0.index y.0.entry y.0.entered.there) in
+          let ends = is_made.ends in
           let within = page_within pages block old was (changed_sound old changes) in
           let largest = are.within in
           let begins : c.state.log.base ≡ base = c.opened.base ∙ started.based in
           ⊎_elim
           (λ (same : new ≡ old). absurd (
-          let is : new ≡ y.0.entry.image = now block old new x was at ∙ ap (λ (p : Option Page). unwrap_or p old) image in
+          let is : new ≡ made = now block old new x was at ∙ ap (λ (p : Option Page). unwrap_or p old) has_page in
           let position = ap lsn_of (sym same ∙ is) in
-          omega arith
+          omega (arith, some_size y.0.entry.change)
           ))
           (λ (logged : HasDurableEntry (rule_at r) c.state.log (file_at d.synced log known) block old new). logged)
           (each_either d m r base ps zs started few lanes log c pages are either known told block old new was at ok)

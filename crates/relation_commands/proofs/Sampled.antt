@@ -1,6 +1,6 @@
 -- What the steps of a sample need of the lanes that they are given, and what they leave.
 use Rattle.std.proofs.Common.{◌≡◌, ℕ, ◌+◌, ◌*◌, ◌≤◌, true, List, [], ◌∷◌, ◌++◌, drop, length, map, take, Option, Some, Result, Ok, Err, refl, sym, ap, ◌∙◌, subst, arith}
-use Rattle.std.specs.Prelude.{All, IfOk, count_by, is_some, sum_by}
+use Rattle.std.specs.Prelude.{All, IfOk, is_some, sum_by}
 use Rattle.std.proofs.lemmas.List.{length-map}
 use Rattle.std.proofs.lemmas.List.Sums.{count_by-le-length, sum_by-cons}
 use Rattle.page_layout.specs.declared.outcomes.RewriteTotals.{RewriteTotals}
@@ -19,7 +19,7 @@ use Rattle.relation_commands.specs.declared.sampling.SampleTotals.{SampleTotals}
 use Rattle.relation_commands.specs.declared.starting.RelationFork.{RelationFork}
 use Rattle.relation_commands.specs.Limits.{largest_lsn, log_base, rounded_up}
 use Rattle.relation_commands.specs.Rewriting.{ArePages, HavePages, LeavesRewritten, pages_after}
-use Rattle.relation_commands.specs.RewriteResults.{page_after}
+use Rattle.relation_commands.specs.RewriteResults.{after_rewrite}
 use Rattle.relation_commands.specs.SampleSteps.{AreFaultless, HaveAll, IsSampleRewritten, log_span_of, sample_totals_of}
 
 module _ {L : Type 0} (contents : L → Option Pages) (failed : L → Marks) (reads writes : L → ℕ) (so : AreFaultless contents failed reads writes) where
@@ -96,7 +96,7 @@ module _ {L G : Type 0} (contents : L → Option Pages) (failed : L → Marks) (
       record {
         after = after;
         have = record { held = leaves.held pages are; counted = are.have.counted ∙ sym whole.counted };
-        alike = same_totals (map page_after pages) after whole.alike;
+        alike = same_totals (map after_rewrite pages) after whole.alike;
         totals = totals;
         log = span ∙ λ i. record { base = based i; end = based i + 8224 * (totals i).changed };
       }
@@ -119,6 +119,6 @@ of_pages contents r lanes pages (Ok totals) is have = is pages have
 of_pages contents r lanes pages (Err why) is have = tt
 
 -- what is printed in the end
-pub totals_are : (pages : List Page) (t : SampleTotals) → t.before ≡ totals_of pages → t.rewrite ≡ rewrite_totals_of pages → t.log ≡ log_span_of pages → t.after ≡ totals_of (map page_after pages)
+pub totals_are : (pages : List Page) (t : SampleTotals) → t.before ≡ totals_of pages → t.rewrite ≡ rewrite_totals_of pages → t.log ≡ log_span_of pages → t.after ≡ totals_of (map after_rewrite pages)
     → t ≡ sample_totals_of pages
 totals_are pages t before rewrite log after = λ i. record { before = before i; rewrite = rewrite i; log = log i; after = after i }

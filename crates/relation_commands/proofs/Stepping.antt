@@ -1,6 +1,6 @@
 -- From one step of a rewrite to the next.
-use Rattle.std.proofs.Common.{◌≡◌, ◌≢◌, ℕ, zero, suc, ◌+◌, ◌*◌, ◌/◌, ◌%◌, ◌^◌, ◌<◌, ◌≤◌, Bool, true, false, List, [], ◌∷◌, get_or, length, map, Option, Some, None, Result, Ok, Err, refl, sym, ap, ◌∙◌, subst, is_some, unwrap_or, arith}
-use Rattle.std.specs.Prelude.{All, IfErr, IfOk, IfSome, IsSomeAnd, count_by, option_map, sum_by}
+use Rattle.std.proofs.Common.{◌≡◌, ℕ, zero, suc, ◌+◌, ◌*◌, ◌%◌, ◌^◌, ◌<◌, ◌≤◌, true, false, List, [], ◌∷◌, get_or, length, map, Option, Some, None, Result, Ok, Err, refl, sym, ap, ◌∙◌, subst, is_some, unwrap_or, arith}
+use Rattle.std.specs.Prelude.{All, IfErr, IfSome, IsSomeAnd, option_map, sum_by}
 use Rattle.std.specs.List.{range_with_len}
 use Rattle.std.specs.Str.{bytes_eq}
 use Rattle.std.proofs.Math.ListN.{get_or-map}
@@ -30,7 +30,7 @@ use Rattle.relation_commands.specs.Answers.{ArePastLimit}
 use Rattle.relation_commands.specs.Limits.{largest_lsn, log_base, rounded_up}
 use Rattle.relation_commands.specs.Listings.{NoneFails}
 use Rattle.relation_commands.specs.Request.{RewriteAsked}
-use Rattle.relation_commands.specs.RewriteCommand.{AreSurveyed, IsPutRefusal, LeavesByEnd, MeetsLimit, StaysBelowLimit}
+use Rattle.relation_commands.specs.RewriteCommand.{AreSurveyed, IsPutRefusal, MeetsLimit, StaysBelowLimit}
 use Rattle.relation_commands.specs.RewriteFiles.{BecomesOf, Changes, HostFiles, IsRewrittenAt, KeepsFiles, KeepsPaths, RewriteLeaves, RewritesFiles, files_of, fork_at, log_opened, pages_at, rewrote, untouched}
 use Rattle.relation_commands.specs.RewriteTexts.{rewrite_lines, rewrite_text}
 use Rattle.relation_commands.specs.Rewriting.{ArePages, HavePages}

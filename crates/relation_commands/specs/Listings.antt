@@ -1,20 +1,14 @@
 -- What a scan and a dump print, start with, and leave.
-use Rattle.std.specs.Prelude.{◌≡◌, ℕ, ◌<◌, ◌≤◌, false, true, List, length, map, Option, sum_by}
+use Rattle.std.specs.Prelude.{◌≡◌, ℕ, ◌<◌, false, true, List, length, map, Option, sum_by}
 use Rattle.std.specs.Str.{bytes_eq}
 use Rattle.block_tag.specs.declared.tag.Fork.{Fork}
 use Rattle.page_layout.specs.Dump.{dump_text}
 use Rattle.page_layout.specs.Scan.{scan_text}
-use Rattle.log_device.specs.declared.memory_log.MemLog.{MemLog}
 use Rattle.segment_store.specs.Contents.{Marks, Pages}
 use Rattle.segment_store.specs.Lanes.{HoldPages, mark_in, tag_at}
 use Rattle.segment_store.specs.Paths.{PathMarks, Paths}
 use Rattle.segment_store.specs.Relation.{relation_of}
 use Rattle.pin_core.specs.State.{Page}
-use Rattle.frame_table.specs.Seats.{base_of, frames_of, lanes_in, opened_of, relations_of}
-use Rattle.backend_pass.specs.declared.manager.Manager.{Manager}
-use Rattle.backend_pass.specs.Managers.{AreNewPasses}
-use Rattle.backend_pass.specs.Passes.{PassState}
-use Rattle.page_jobs.specs.Relations.{IsCatalogOf}
 use Rattle.relation_commands.specs.declared.listing.Listing.{Listing}
 use Rattle.relation_commands.specs.declared.listing.Listing.TheVariants.{Scan, Dump}
 

@@ -1,7 +1,6 @@
 -- The steps of a rewrite of a host's relation: the survey, the log, the rewrite, and what is printed.
 use Rattle.std.specs.Prelude.{◌≡◌, ◌≢◌, ◌⊎◌, ℕ, ◌+◌, ◌*◌, ◌%◌, ◌<◌, ◌≤◌, List, [], All, length, map, sum_by, Option, Some, None, IfSome, Result, Ok, Err, MatchResult, option_map}
 use Rattle.log_device.specs.Faults.{Rose}
-use Rattle.segment_store.specs.declared.host.LogOpen.TheVariants as opening
 use Rattle.segment_store.specs.Contents.{Marks, Pages, no_marks}
 use Rattle.segment_store.specs.Lanes.{HasBlocks}
 use Rattle.segment_store.specs.Logs.{Logs, empty_log, with_log}

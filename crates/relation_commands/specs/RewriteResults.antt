@@ -9,9 +9,9 @@ use Rattle.page_layout.specs.Positions.{DifferInPositions}
 use Rattle.page_layout.specs.Rewritten.{rewritten_page}
 use Rattle.page_layout.specs.Soundness.{is_sound_page}
 use Rattle.pin_core.specs.State.{Page}
-use Rattle.history_core.specs.Log.{Entry, Log, LogLaw, end_of, head_size, log_bytes, log_end, record_size}
+use Rattle.history_core.specs.Log.{Entry, IsEntryOf, Log, LogLaw, end_of, head_size, log_bytes, log_end, record_size}
 use Rattle.history_core.specs.Rest.{BeginsRecord}
-use Rattle.page_jobs.specs.RewriteEnds.{HasEntry}
+use Rattle.page_jobs.specs.RewriteEnds.{HasEntry, IsPageEntry}
 use Rattle.page_jobs.specs.Rewrites.{Rule}
 use Rattle.relation_commands.specs.RewriteTexts.{changed_pages}
 
@@ -21,29 +21,28 @@ pub record IsImageOf (r : Rule) (pages : List Page) (e : Entry) : Type 0 where
   pub page : Page
   pub there : get_elem? pages block ≡ some page
   pub changes : r.changes page ≡ true
-  pub tagged : e.tag ≡ r.tag block
-  pub image : e.image ≡ r.rewritten page (end_of e)
+  pub entered : IsPageEntry e (r.tag block) (r.rewritten page (end_of e))
 
 -- Each entry is such an image, and a block has one at most
 pub record HasImages (r : Rule) (pages : List Page) (log : Log) : Type 0 where
   pub each : (k : ℕ) (e : Entry) → get_elem? log.entries k ≡ some e → IsImageOf r pages e
-  pub one : (j k : ℕ) (d e : Entry) → get_elem? log.entries j ≡ some d → get_elem? log.entries k ≡ some e → d.tag ≡ e.tag → j ≡ k
+  pub one : (j k tag : ℕ) (d e : Entry) → IsEntryOf log.entries tag j d → IsEntryOf log.entries tag k e → j ≡ k
 
 -- The bytes of the log's file begin with those of the log, and what a failure left after them are the first bytes of a record that would be the next; `names` is how the log names a block
 pub record BeginsWith (names : ℕ → List ℕ) (log : Log) (file : StoredLog) : Type 0 where
   pub rest : List ℕ
   pub is_bytes : file.bytes ≡ log_bytes names log ++ rest
-  pub begins : rest ≢ [] → BeginsRecord names (log_end log) rest
+  pub begins : rest ≢ [] → BeginsRecord false names (log_end log) rest
   pub short : length rest ≤ record_size
 
 -- the record of an entry is durable in the log's file
 abbrev pub IsDurable : Log → StoredLog → Entry → Type 0
 IsDurable log file e = head_size + end_of e ≤ log.base + file.synced
 
--- The log has an entry of the block, durable in its file, whose image is the new page: what the rule makes of the old one
+-- The log has an entry of the block, durable in its file, whose page is the new one: what the rule makes of the old one
 pub record HasDurableEntry (r : Rule) (log : Log) (file : StoredLog) (block : ℕ) (old new : Page) : Type 0 where
   pub made : HasEntry log (r.tag block)
-  pub image : made.entry.image ≡ new
+  pub entered : IsPageEntry made.entry (r.tag block) new
   pub rewritten : new ≡ r.rewritten old (end_of made.entry)
   pub durable : IsDurable log file made.entry
 
@@ -67,8 +66,8 @@ pub record LeavesEither (r : Rule) (names : ℕ → List ℕ) (base : ℕ) (befo
       → is_sound_page new ≡ true → base < lsn_of new → HasDurableEntry r log file block old new
 
 -- what a rewrite makes of a page, its log position aside
-abbrev pub page_after : Page → Page
-page_after page = if is_changed_outcome (page_rewrite_of page) then rewritten_page page else page
+abbrev pub after_rewrite : Page → Page
+after_rewrite page = if is_changed_outcome (page_rewrite_of page) then rewritten_page page else page
 
 -- What a whole rewrite leaves: the file is that of the log, which has exactly one entry of each block that the rule changes; such a block has the page of its entry, which is durable, and any other block its page as before
 pub record IsRewrittenFile (r : Rule) (names : ℕ → List ℕ) (base : ℕ) (before after : List Page) (file : StoredLog) : Type 0 where
@@ -85,4 +84,4 @@ pub record IsRewrittenFile (r : Rule) (names : ℕ → List ℕ) (base : ℕ) (b
   pub same : (block : ℕ) (old new : Page) → get_elem? before block ≡ some old → get_elem? after block ≡ some new → r.changes old ≡ false
       → (HasEntry log (r.tag block) → ⊥) × (new ≡ old)
   -- so but for their log positions the pages are a function of those before, whatever the backends did
-  pub alike : DifferInPositions (map page_after before) after
+  pub alike : DifferInPositions (map after_rewrite before) after

@@ -12,7 +12,7 @@ use Rattle.relation_commands.specs.declared.starting.RelationFork.{RelationFork}
 use Rattle.relation_commands.specs.Limits.{log_base}
 use Rattle.relation_commands.specs.Rewriting.{HavePages}
 use Rattle.relation_commands.specs.RewriteTexts.{log_end_of, rewrite_lines}
-use Rattle.relation_commands.specs.RewriteResults.{page_after}
+use Rattle.relation_commands.specs.RewriteResults.{after_rewrite}
 
 module _ {L : Type 0} (contents : L → Option Pages) (failed : L → Marks) (read_faults write_faults : L → ℕ) where
   -- Lanes of which no call fails, and whose contents are known
@@ -36,7 +36,7 @@ module _ {L : Type 0} (contents : L → Option Pages) where
   pub record IsSampleRewritten (relation : RelationFork) (pages : List Page) (rewritten : Rewritten L) : Type 0 where
     pub after : List Page
     pub have : HavePages contents relation rewritten.lanes.items after
-    pub alike : totals_of after ≡ totals_of (map page_after pages)
+    pub alike : totals_of after ≡ totals_of (map after_rewrite pages)
     pub totals : rewritten.totals ≡ rewrite_totals_of pages
     pub log : rewritten.log ≡ log_span_of pages
 
@@ -46,7 +46,7 @@ sample_totals_of pages = record {
   before = totals_of pages;
   rewrite = rewrite_totals_of pages;
   log = log_span_of pages;
-  after = totals_of (map page_after pages);
+  after = totals_of (map after_rewrite pages);
 }
 
 -- its lines

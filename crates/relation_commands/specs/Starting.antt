@@ -4,7 +4,7 @@ use Rattle.block_tag.specs.declared.catalogue.RelEntry.{RelEntry}
 use Rattle.block_tag.specs.Names.{fork_number}
 use Rattle.segment_store.specs.Contents.{Pages}
 use Rattle.table_rule.specs.Blocks.{log_name}
-use Rattle.frame_table.specs.Seats.{base_of, frames_of, lanes_in, opened_of, relations_of}
+use Rattle.frame_table.specs.Seats.{base_of, lanes_in, opened_of, relations_of}
 use Rattle.backend_pass.specs.declared.manager.Manager.{Manager}
 use Rattle.backend_pass.specs.Managers.{AreNewPasses}
 use Rattle.backend_pass.specs.Passes.{PassState}
@@ -29,6 +29,5 @@ pub record IsStarted {L G : Type 0} (contents : L → Option Pages) (r : Relatio
   pub catalog : IsCatalogOf r.fork r.blocks (relations_of m.table)
   pub counted : length (opened_of m.table) ≡ lanes_in m.table
   pub based : base_of m.table ≡ base
-  pub frames : (16 ≤ frames_of m.table) × (frames_of m.table ≤ 4096)
   pub several : (2 ≤ length ps) × (length ps ≤ 64)
   pub passes : AreNewPasses contents m (length ps) ps

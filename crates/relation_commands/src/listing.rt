@@ -5,7 +5,7 @@ ghost use Rattle.segment_store.specs.Contents.{no_marks};
 ghost use Rattle.segment_store.specs.Lanes.{HasBlocks, HoldPages};
 ghost use Rattle.pin_core.specs.State.{Page};
 ghost use Rattle.command_line.specs.Numbers.{HasOptionsInRange};
-ghost use Rattle.frame_table.specs.Seats.{base_of, frames_of, opened_of, relations_of};
+ghost use Rattle.frame_table.specs.Seats.{base_of, opened_of, relations_of};
 ghost use Rattle.page_jobs.specs.Beside.{StaysBeside};
 ghost use Rattle.page_jobs.specs.Ending.{as_done};
 ghost use Rattle.page_jobs.specs.Jobs.{AllAtBase, EndsJob, HaveNoTokens, IsOrigin, ReadParts, workers_in};
@@ -118,7 +118,6 @@ fn list_blocks<L: BlockLane + Send, R: Threads + Wait + Sync, O: Sink, T: Gate +
     requires several { 2 ≤ vec_len passes }
     requires few { vec_len passes ≤ 64 }
     requires free { HaveNoTokens L.contents manager.now passes.items }
-    requires frames { (16 ≤ frames_of manager.now.table) × (frames_of manager.now.table ≤ 4096) }
     ensures passes { ReadParts L.contents manager.now 0 listed.relation.fork (workers_in passes.items) (workers_in result.passes.items) }
     ensures last { StaysBeside L.contents manager.now passes.items result.passes.items }
     ensures met { OnOk result.end (MeetNothing passes.items result.passes.items) }

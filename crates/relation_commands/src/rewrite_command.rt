@@ -112,7 +112,7 @@ fn open_log<H: Host>(
     base: Lsn,
     host: &mut H,
 ) -> Result<H::Log, LogRefused<H::Log>>
-    ensures begun { IfOk result (IsNewLog (devices H.Lane.contents H.Lane.failed_writes H.Lane.unsynced H.Lane.read_faults H.Lane.write_faults H.Lane.calls H.Log.bytes H.Log.synced H.Log.faults H.Log.calls) base) }
+    ensures begun { IfOk result (IsNewLog (devices H.Lane.BlockLane H.Log.LogDevice) base) }
     ensures quiet { IfOk result (λ log. H.Log.faults log ≡ 0) }
     ensures logs { MatchResult result (λ log. OpensLog (Some log) path.now (H.logs host.old) (H.logs host.new) (H.log_at host.new)) (λ refused. OpensLog refused.log path.now (H.logs host.old) (H.logs host.new) (H.log_at host.new)) }
     ensures head { IfErr result (λ refused. IfSome refused.log (λ log. IfSome (H.Log.bytes log) (IsHeadBegun base))) }

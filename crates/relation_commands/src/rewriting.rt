@@ -278,7 +278,7 @@ pub(crate) fn rewrite_lanes<
     requires unmarked { All (λ lane. L.failed_writes lane ≡ no_marks) lanes.items }
     requires has { HasBlocks relation.fork relation.blocks (map L.contents lanes.items) }
     requires base { (base % 8 ≡ 0) × (base + 8224 * relation.blocks ≤ 2 ^ 62) }
-    requires log { IsNewLog (devices L.contents L.failed_writes L.unsynced L.read_faults L.write_faults L.calls G.bytes G.synced G.faults G.calls) base log }
+    requires log { IsNewLog (devices L.BlockLane G.LogDevice) base log }
     requires log_faults { G.faults log ≡ 0 }
     ensures count { length result.lanes.items ≡ length lanes.items }
     ensures cause { HasRewriteCause (sum_by L.read_faults result.lanes.items) (sum_by L.write_faults result.lanes.items) (G.faults log) (G.faults result.log) result.end }

@@ -82,7 +82,7 @@ pub(crate) fn start<L: BlockLane + Send, G: LogDevice>(
     requires unmarked { All (λ lane. L.failed_writes lane ≡ no_marks) lanes.items }
     requires has { HasBlocks relation.fork relation.blocks (map L.contents lanes.items) }
     requires base { (base % 8 ≡ 0) × (base ≤ 2 ^ 62) }
-    requires log { IsNewLog (devices L.contents L.failed_writes L.unsynced L.read_faults L.write_faults L.calls G.bytes G.synced G.faults G.calls) base log }
+    requires log { IsNewLog (devices L.BlockLane G.LogDevice) base log }
     ensures started { IfOk result (λ m. IsStarted L.contents relation base m.0 m.1.items) }
     ensures opened { IfOk result (λ m. (opened_of m.0.table ≡ lanes.items) × (log_of m.0 ≡ log)) }
     ensures back { IfErr result (λ back. (back.0.items ≡ lanes.items) × (back.1 ≡ log)) }

@@ -9,6 +9,7 @@ use lib.ListN.{get_elem?}
 use Rattle.std.specs.Option.{option_to_list}
 use Rattle.grid.proofs.Lists.{at_end, at_longer}
 use Rattle.atomic_table.proofs.Lists.{at_last}
+use Rattle.history_core.specs.Log.{zero_page}
 use Rattle.table_rule.specs.declared.value.Value.{Value}
 use Rattle.table_rule.specs.declared.value.Value.TheVariants as value
 use Rattle.pin_core.specs.Turns.{found}
@@ -17,7 +18,7 @@ use Rattle.table_rule.specs.declared.value.Mapped.{Mapped}
 use Rattle.table_rule.specs.declared.noted_lane.NotedLane.{NotedLane}
 use Rattle.table_rule.specs.declared.noted_log.NotedLog.{NotedLog}
 use Rattle.table_rule.specs.Shows.{GivesMap, entry_of}
-use Rattle.table_rule.specs.Laid.{AreBlank, AreFresh, AreMaps, AddsMaps, home_lane, home_lanes, zero_page, lanes_among, EndsWith, HasNoDevices}
+use Rattle.table_rule.specs.Laid.{AreBlank, AreFresh, AreMaps, AddsMaps, home_lane, home_lanes, lanes_among, EndsWith, HasNoDevices}
 
 pub blank_none : AreBlank [] 0
 blank_none = record { wide = refl; states = λ f h. absurd (omega arith); tags = λ f h. absurd (omega arith); contents = λ f h. absurd (omega arith) }

@@ -5,7 +5,7 @@ use Rattle.std.specs.Prelude.{slice_get, Vec}
 use Rattle.std.specs.Global.{Global}
 use Rattle.std.proofs.Math.Nat.{mod-lt}
 use Rattle.std.proofs.lemmas.List.{append-nil, length-map, get_or_append_left, get_or-append_right, length-replicate, get_or-replicate}
-use mathlib.Core.Option.{some, none, some-injective, some-ne-none}
+use mathlib.Core.Option.{some, none, some-ne-none}
 use mathlib.Core.Option as slot
 use lib.ListN.{get_elem?}
 use Rattle.atomic_table.specs.Table.{opening}
@@ -15,11 +15,11 @@ use Rattle.block_tag.specs.declared.tag.Tag.{Tag}
 use Rattle.block_tag.specs.declared.catalogue.RelEntry.{RelEntry}
 use Rattle.block_tag.specs.Names.{unpacked_tag, lane_number, hash_of}
 use Rattle.segment_store.specs.Contents.{Pages}
-use Rattle.pin_core.specs.State.{Frame, Page, zero_word, empty_frame}
+use Rattle.pin_core.specs.State.{Page, zero_word, empty_frame}
 use Rattle.pin_core.specs.State as pin_state
-use Rattle.history_core.specs.State.{State, Store, CanStore}
+use Rattle.history_core.specs.State.{State, Store}
 use Rattle.history_core.specs.State as history
-use Rattle.history_core.specs.Log.{head_bytes}
+use Rattle.history_core.specs.Log.{head_bytes, zero_page}
 use Rattle.history_core.specs.Words.{Word, end_word, flushed_word, hand_word, word_of}
 use Rattle.history_core.proofs.Laws.{laws_open}
 use Rattle.table_rule.specs.declared.noted_log.NotedLog.{NotedLog}
@@ -34,7 +34,7 @@ use Rattle.pin_core.specs.Tallies.{flag_weight}
 use Rattle.table_rule.specs.Layout.{latch_place, latch_count, word_place, HasWord, opening_numbers, word_count, first_lane_slot, log_slot, list_slot, slot_count, tag_partition, partition_of_tag, tag_lane, lane_of_tag}
 use Rattle.table_rule.specs.Blocks.{is_block, log_name, name_of, name_in}
 use Rattle.table_rule.specs.Shows.{is_taken, HasTurn, ShowsFrame, IsHome, Devices, IsPlaced, IsLane, IsLog, AreLanes, IsNewLog, GivesMap, IsPlaceIn, HasValue, RuleHolds, starting}
-use Rattle.table_rule.specs.Laid.{AreOpening, AreSlots, EndsWith, home_lane, home_lanes, home_log, zero_page, lanes_among, HasNoDevices}
+use Rattle.table_rule.specs.Laid.{AreOpening, AreSlots, EndsWith, home_lane, home_lanes, home_log, lanes_among, HasNoDevices}
 use Rattle.table_rule.proofs.Laying.{lanes_append, plain_both, lanes_pages, plain_pages, lanes_aways, plain_aways, lanes_lanes, plain_lanes, lanes_counted, lane_numbered, lanes_maps, plain_maps, lanes_before, snoc_same}
 
 zero_fields : zero_word ≡ fields 0
@@ -148,6 +148,14 @@ module _ {L G : Type 0} (d : Devices L G) (relations : List RelEntry) (lanes : L
   origin_of None = zero_page
   origin_of (Some tag) = page_in_slot (get_elem? lanes (lane_number tag (length lanes))) tag
 
+  abbrev mark_in_slot : slot.Option L → Tag → Bool
+  mark_in_slot none tag = false
+  mark_in_slot (some l) tag = d.unsynced l tag
+
+  abbrev unsynced_of : Option Tag → Bool
+  unsynced_of None = false
+  unsynced_of (Some tag) = mark_in_slot (get_elem? lanes (lane_number tag (length lanes))) tag
+
   abbrev known_in : slot.Option L → Bool
   known_in none = false
   known_in (some l) = is_some (d.contents l)
@@ -163,19 +171,26 @@ module _ {L G : Type 0} (d : Devices L G) (relations : List RelEntry) (lanes : L
   store_of = record {
     lane_of = tag_lane (length lanes);
     known = λ q. known_in (get_elem? lanes q);
-    origin = λ word. origin_of (unpacked_tag word);
+    origin = λ word. Some (origin_of (unpacked_tag word));
     names = log_name relations;
+    ranges = false;
     read_faults = λ q. faults_in d.read_faults (get_elem? lanes q);
     write_faults = λ q. faults_in d.write_faults (get_elem? lanes q);
+    unsynced = λ word. unsynced_of (unpacked_tag word);
     head_synced = synced_in (d.bytes g) (d.synced g);
     log_faults = d.log_faults g;
   }
+
+  unsynced_is : (q : ℕ) (l : L) (word : ℕ) (tag : Tag) → get_elem? lanes q ≡ some l → IsPlaced relations (length lanes) q word tag → unsynced_of (unpacked_tag word) ≡ d.unsynced l tag
+  unsynced_is q l word tag at h = ap unsynced_of h.named ∙ ap (λ (x : slot.Option L). mark_in_slot x tag) (ap (get_elem? lanes) h.placed ∙ at)
 
   fresh_is : AreLanes d relations lanes → (q : ℕ) (l : L) → get_elem? lanes q ≡ some l → IsLane d relations (length lanes) q l (history.fresh_lane base store_of q)
   fresh_is are q l at = record {
     known = ap known_in at;
     pages = λ known word tag told h. origin_is are q l known word tag at told h;
+    held = λ known word tag told h. are.held q l known word tag at told h;
     failed = λ known word tag told h. sym (are.unfailed q l known word tag at told h);
+    unsynced = λ word tag h. unsynced_is q l word tag at h;
     reads = ap (faults_in d.read_faults) at;
     writes = ap (faults_in d.write_faults) at;
   }
@@ -319,12 +334,15 @@ module _ {L G : Type 0} (d : Devices L G) (o : Opening L G) where
         partition_of = refl;
         is_block = refl;
         names = refl;
+        ranges = refl;
         lanes = refl;
         lane_of = ap tag_lane count;
         few_backends = few_backends;
         few_lanes = (let a = h.few in omega arith);
         known = λ q l word at placed. ap (λ (k : ℕ). known_in d o.catalog.value lanes o.log.value o.base (get_elem? lanes k)) (ap (λ (m : ℕ). tag_lane m word) count ∙ placed) ∙ ap (known_in d o.catalog.value lanes o.log.value o.base) at;
+        held = λ q l known word tag at told placed. are.held q l known word tag at told (subst (λ (m : ℕ). IsPlaced o.catalog.value m q word tag) (sym count) placed);
         origin = λ q l known word tag at told placed. origin_is d o.catalog.value lanes o.log.value o.base are q l known word tag at told (subst (λ (m : ℕ). IsPlaced o.catalog.value m q word tag) (sym count) placed);
+        unsynced = λ q l word tag at placed. unsynced_is d o.catalog.value lanes o.log.value o.base q l word tag at (subst (λ (m : ℕ). IsPlaced o.catalog.value m q word tag) (sym count) placed);
         reads = λ q l at. ap (faults_in d o.catalog.value lanes o.log.value o.base d.read_faults) at;
         writes = λ q l at. ap (faults_in d o.catalog.value lanes o.log.value o.base d.write_faults) at;
         log_faults = refl;
@@ -340,7 +358,7 @@ module _ {L G : Type 0} (d : Devices L G) (o : Opening L G) where
       homes = homes ys h count are new;
       list = record { list = h.list; home = at_map some ys (list_slot n) (value.Lanes h.list) (list_at d n lanes o.log.value ys h); empty = h.empty; room = (let a = h.list_room in omega arith); spare = λ q from below. at_map some ys (first_lane_slot n + q) value.Away (spare_at d n lanes o.log.value ys h q (omega arith) below) };
     };
-    laws = laws_open config_of store zero_page (record { some_backend = some_backend; placed = λ word. partition_low (unpacked_tag word) }) (record { placed = λ word. subst (λ (m : ℕ). tag_lane m word < o.config.lanes) (sym count) (lane_low o.config.lanes some_lane (unpacked_tag word)); based = based; named = names_long o.catalog.value; synced = synced_low d o.catalog.value lanes o.log.value o.base new });
+    laws = laws_open config_of store zero_page (record { some_backend = some_backend; placed = λ word. partition_low (unpacked_tag word) }) (record { placed = λ word. subst (λ (m : ℕ). tag_lane m word < o.config.lanes) (sym count) (lane_low o.config.lanes some_lane (unpacked_tag word)); based = based; named = names_long o.catalog.value; synced = synced_low d o.catalog.value lanes o.log.value o.base new; there = λ word block known. refl });
   }
 
   -- the same, where the devices are given beside the key

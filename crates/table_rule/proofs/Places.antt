@@ -1,5 +1,5 @@
 -- Where the words lie: those of the frames, then those of the latches, and then the others, each at a place of its own.
-use Rattle.std.proofs.Common.{◌≡◌, ◌≢◌, ◌⊎◌, ℕ, ◌+◌, ◌*◌, ◌<◌, ◌≤◌, Bool, true, false, cond, List, get_or, set, length, get_or-set_same, get_or-set_other, sym, refl, ap, ◌∙◌, inl, inr, ⊎_elim, arith}
+use Rattle.std.proofs.Common.{◌≡◌, ◌≢◌, ◌⊎◌, ℕ, ◌*◌, ◌<◌, ◌≤◌, Bool, true, false, cond, List, get_or, set, length, get_or-set_same, get_or-set_other, sym, refl, ap, ◌∙◌, inl, inr, ⊎_elim, arith}
 use Rattle.history_core.specs.State.{State}
 use Rattle.history_core.specs.Words.{Word, end_word, flushed_word, hand_word, is_word, word_of, word_set}
 use Rattle.table_rule.specs.declared.turn.Turn.{Turn}

@@ -7,7 +7,7 @@ use Rattle.pin_core.specs.State.{Page, no_tag}
 use Rattle.table_rule.specs.declared.value.Value.{Value}
 use Rattle.table_rule.specs.declared.value.Value.TheVariants as value
 use Rattle.table_rule.specs.Layout.{state_place, tag_place, content_place, latch_count, opening_numbers}
-use Rattle.history_core.specs.Log.{record_size}
+use Rattle.history_core.specs.Log.{record_size, zero_page}
 use Rattle.table_rule.specs.declared.build.Room.{Room}
 use Rattle.table_rule.specs.declared.noted_lane.LaneCall.TheVariants as lane_call
 use Rattle.table_rule.specs.declared.noted_log.LogCall.TheVariants as log_call
@@ -27,10 +27,6 @@ pub record AreOpening (words : List ℕ) (n base : ℕ) : Type 0 where
   pub blank : List ℕ
   pub frames : AreBlank blank n
   pub is : words ≡ (blank ++ replicate latch_count 0) ++ opening_numbers n base
-
--- a page whose bytes are all 0
-abbrev pub zero_page : Page
-zero_page = replicate 8192 0
 
 -- empty lists, each with room for n entries
 abbrev pub AreFresh : ℕ → List (Vec Mapped Global) → Type 0

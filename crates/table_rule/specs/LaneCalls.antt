@@ -2,6 +2,7 @@
 use Rattle.std.specs.Prelude.{◌≡◌, ℕ, ◌+◌, true, false, List, Option, Some, None, IsSomeAnd}
 use Rattle.log_device.specs.Faults.{Rose}
 use Rattle.block_tag.specs.declared.tag.Tag.{Tag}
+use Rattle.segment_store.specs.declared.device.BlockLane as lane_trait
 use Rattle.segment_store.specs.Contents.{Pages, Marks, no_marks, with_page, with_mark, IsTorn}
 use Rattle.table_rule.specs.declared.noted_lane.LaneCall.{LaneCall}
 use Rattle.table_rule.specs.declared.noted_lane.LaneCall.TheVariants.{Untouched, Read, ReadFailed, Written, WriteFailed, Synced, SyncFailed}
@@ -19,8 +20,8 @@ pub record LaneDevices (L : Type 0) : Type 0 where
   -- how many calls were made
   pub calls : L → ℕ
 
-abbrev pub lane_devices : {L : Type 0} → (L → Option Pages) → (L → Marks) → (L → Marks) → (L → ℕ) → (L → ℕ) → (L → ℕ) → LaneDevices L
-lane_devices contents failed_writes unsynced read_faults write_faults calls = record { contents = contents; failed_writes = failed_writes; unsynced = unsynced; read_faults = read_faults; write_faults = write_faults; calls = calls }
+abbrev pub lane_devices : {L : Type 0} → lane_trait.Ghosts L → LaneDevices L
+lane_devices l = record { contents = l.contents; failed_writes = l.failed_writes; unsynced = l.unsynced; read_faults = l.read_faults; write_faults = l.write_faults; calls = l.calls }
 
 -- the call was the read of this page for a frame, the write of this page of a frame, or such a write that failed
 abbrev pub NotesRead : ℕ → Tag → List ℕ → LaneCall → Type 0

@@ -9,6 +9,8 @@ use Rattle.state_word.specs.Fields.{fields, bit}
 use Rattle.block_tag.specs.declared.tag.Tag.{Tag}
 use Rattle.block_tag.specs.Names.{unpacked_tag, lane_number}
 use Rattle.block_tag.specs.declared.catalogue.RelEntry.{RelEntry}
+use Rattle.log_device.specs.declared.device.LogDevice as log_trait
+use Rattle.segment_store.specs.declared.device.BlockLane as lane_trait
 use Rattle.segment_store.specs.Contents.{Pages, Marks}
 use Rattle.pin_core.specs.declared.view.View.{View}
 use Rattle.pin_core.specs.declared.view.MapEntry.{MapEntry}
@@ -69,10 +71,14 @@ pub record Fixed : Type 0 where
   pub partition_of : ℕ → ℕ
   pub is_block : ℕ → Bool
   pub names : ℕ → List ℕ
+  -- whether entries may be made of ranges
+  pub ranges : Bool
   pub lanes : ℕ
   pub lane_of : ℕ → ℕ
   pub known : ℕ → Bool
-  pub origin : ℕ → Page
+  pub origin : ℕ → Option Page
+  -- the blocks that were to be synced at the start
+  pub unsynced : ℕ → Bool
   -- the counts of faults of each lane, and of the log, at the start
   pub reads : ℕ → ℕ
   pub writes : ℕ → ℕ
@@ -87,10 +93,12 @@ fixed_of s = record {
   partition_of = s.pool.core.partition_of;
   is_block = s.pool.core.is_block;
   names = s.names;
+  ranges = s.ranges;
   lanes = s.lanes;
   lane_of = s.lane_of;
   known = s.known;
   origin = s.origin;
+  unsynced = s.unsynced_at_start;
   reads = λ q. (s.lane q).read_faults_at_start;
   writes = λ q. (s.lane q).write_faults_at_start;
   log_faults = s.log_faults;
@@ -139,8 +147,20 @@ pub record Devices (L G : Type 0) : Type 0 where
   pub log_faults : G → ℕ
   pub log_calls : G → ℕ
 
-abbrev pub devices : {L G : Type 0} → (L → Option Pages) → (L → Marks) → (L → Marks) → (L → ℕ) → (L → ℕ) → (L → ℕ) → (G → Option (List ℕ)) → (G → ℕ) → (G → ℕ) → (G → ℕ) → Devices L G
-devices contents failed_writes unsynced read_faults write_faults lane_calls bytes synced log_faults log_calls = record { contents = contents; failed_writes = failed_writes; unsynced = unsynced; read_faults = read_faults; write_faults = write_faults; lane_calls = lane_calls; bytes = bytes; synced = synced; log_faults = log_faults; log_calls = log_calls }
+-- as the traits of the lanes and the log tell them
+abbrev pub devices : {L G : Type 0} → lane_trait.Ghosts L → log_trait.Ghosts G → Devices L G
+devices l g = record {
+  contents = l.contents;
+  failed_writes = l.failed_writes;
+  unsynced = l.unsynced;
+  read_faults = l.read_faults;
+  write_faults = l.write_faults;
+  lane_calls = l.calls;
+  bytes = g.bytes;
+  synced = g.synced;
+  log_faults = g.faults;
+  log_calls = g.calls;
+}
 
 -- A block of the relations, by its tag and the tag's number, that lies in the lane q of so many
 pub record IsPlaced (relations : List RelEntry) (lanes q word : ℕ) (tag : Tag) : Type 0 where
@@ -152,9 +172,12 @@ module _ {L G : Type 0} where
   -- The lane q of so many is the device l
   pub record IsLane (d : Devices L G) (relations : List RelEntry) (lanes q : ℕ) (l : L) (ln : Lane) : Type 0 where
     pub known : ln.known ≡ is_some (d.contents l)
-    -- it holds each block of the relations that lies there
-    pub pages : (known : Pages) (word : ℕ) (tag : Tag) → d.contents l ≡ Some known → IsPlaced relations lanes q word tag → known tag ≡ Some (ln.stored word)
+    -- it holds each block of the relations that lies there, and these are the pages
+    pub held : (known : Pages) (word : ℕ) (tag : Tag) → d.contents l ≡ Some known → IsPlaced relations lanes q word tag → is_some (known tag) ≡ true
+    pub pages : (known : Pages) (word : ℕ) (tag : Tag) → d.contents l ≡ Some known → IsPlaced relations lanes q word tag → known tag ≡ ln.stored word
     pub failed : (known : Pages) (word : ℕ) (tag : Tag) → d.contents l ≡ Some known → IsPlaced relations lanes q word tag → ln.failed word ≡ d.failed_writes l tag
+    -- the blocks that were written since its last sync, whether or not its contents are known
+    pub unsynced : (word : ℕ) (tag : Tag) → IsPlaced relations lanes q word tag → ln.unsynced word ≡ d.unsynced l tag
     pub reads : ln.read_faults ≡ d.read_faults l
     pub writes : ln.write_faults ≡ d.write_faults l
 
@@ -215,14 +238,18 @@ module _ {L G : Type 0} where
     -- the blocks are those of the catalogue, and the log names them by it
     pub is_block : s.is_block ≡ is_block o.catalog.value
     pub names : s.names ≡ log_name o.catalog.value
+    -- no entry of ranges is made on the table
+    pub ranges : s.ranges ≡ false
     pub lanes : s.lanes ≡ o.config.lanes
     pub lane_of : s.lane_of ≡ tag_lane o.config.lanes
     -- there are at most 64 backends, and 16 lanes
     pub few_backends : o.config.passes ≤ 64
     pub few_lanes : o.config.lanes ≤ 16
-    -- the pages and the counts of the devices at the start
+    -- the pages of the devices at the start, which of them were to be synced, and the counts
     pub known : (q : ℕ) (l : L) (word : ℕ) → get_elem? o.lanes.value.items q ≡ some l → tag_lane o.config.lanes word ≡ q → s.known word ≡ is_some (d.contents l)
-    pub origin : (q : ℕ) (l : L) (known : Pages) (word : ℕ) (tag : Tag) → get_elem? o.lanes.value.items q ≡ some l → d.contents l ≡ Some known → IsPlaced o.catalog.value o.config.lanes q word tag → known tag ≡ Some (s.origin word)
+    pub held : (q : ℕ) (l : L) (known : Pages) (word : ℕ) (tag : Tag) → get_elem? o.lanes.value.items q ≡ some l → d.contents l ≡ Some known → IsPlaced o.catalog.value o.config.lanes q word tag → is_some (known tag) ≡ true
+    pub origin : (q : ℕ) (l : L) (known : Pages) (word : ℕ) (tag : Tag) → get_elem? o.lanes.value.items q ≡ some l → d.contents l ≡ Some known → IsPlaced o.catalog.value o.config.lanes q word tag → known tag ≡ s.origin word
+    pub unsynced : (q : ℕ) (l : L) (word : ℕ) (tag : Tag) → get_elem? o.lanes.value.items q ≡ some l → IsPlaced o.catalog.value o.config.lanes q word tag → s.unsynced word ≡ d.unsynced l tag
     pub reads : (q : ℕ) (l : L) → get_elem? o.lanes.value.items q ≡ some l → s.reads q ≡ d.read_faults l
     pub writes : (q : ℕ) (l : L) → get_elem? o.lanes.value.items q ≡ some l → s.writes q ≡ d.write_faults l
     pub log_faults : s.log_faults ≡ d.log_faults o.log.value

@@ -6,15 +6,16 @@ use Rattle.block_tag.specs.declared.catalogue.RelEntry.{RelEntry}
 use Rattle.block_tag.specs.Names.{names_block, unpacked_tag, lane_number}
 use Rattle.segment_store.specs.Contents.{Pages, Marks}
 use Rattle.pin_core.specs.declared.view.BlockPage.{BlockPage}
+use Rattle.pin_core.specs.declared.view.BlockMark.{BlockMark}
 use Rattle.pin_core.specs.declared.view.TakenLane.{TakenLane}
 use Rattle.table_rule.specs.Blocks.{has_block, is_block}
 use Rattle.table_rule.specs.Layout.{tag_lane}
 use Rattle.table_rule.specs.Shows.{Devices}
-use Rattle.table_rule.specs.LaneCalls.{LaneDevices, lane_devices}
+use Rattle.table_rule.specs.LaneCalls.{LaneDevices}
 
 -- the lanes among the devices
 abbrev pub lane_devices_of : {L G : Type 0} → Devices L G → LaneDevices L
-lane_devices_of d = lane_devices d.contents d.failed_writes d.unsynced d.read_faults d.write_faults d.lane_calls
+lane_devices_of d = record { contents = d.contents; failed_writes = d.failed_writes; unsynced = d.unsynced; read_faults = d.read_faults; write_faults = d.write_faults; calls = d.lane_calls }
 
 -- A block of the relations that lies in the lane q of so many
 pub record IsBlockOf (relations : List RelEntry) (lanes q : ℕ) (tag : Tag) : Type 0 where
@@ -47,6 +48,9 @@ mark_named marks (Some tag) = marks tag
 abbrev pub block_page : Pages → Marks → ℕ → BlockPage
 block_page known marks word = record { tag = word; page = page_named known (unpacked_tag word); failed = mark_named marks (unpacked_tag word) }
 
+abbrev pub block_mark : Marks → ℕ → BlockMark
+block_mark marks word = record { tag = word; unsynced = mark_named marks (unpacked_tag word) }
+
 -- the page that a lane holds for a tag, where its contents are known, and else this one
 abbrev pub page_held : Option Pages → Tag → List ℕ → List ℕ
 page_held None tag page = page
@@ -59,7 +63,7 @@ block_pages blocks (Some known) marks = Some (map (block_page known marks) block
 module _ {L : Type 0} (d : LaneDevices L) (relations : List RelEntry) (lanes q : ℕ) where
   -- what the lane q is
   abbrev pub taken_lane : L → TakenLane
-  taken_lane l = record { pages = block_pages (blocks_in_lane relations lanes q) (d.contents l) (d.failed_writes l); read_faults = d.read_faults l; write_faults = d.write_faults l; calls = d.calls l }
+  taken_lane l = record { pages = block_pages (blocks_in_lane relations lanes q) (d.contents l) (d.failed_writes l); marks = map (block_mark (d.unsynced l)) (blocks_in_lane relations lanes q); read_faults = d.read_faults l; write_faults = d.write_faults l; calls = d.calls l }
 
   -- where its contents are known it holds each block that lies there
   abbrev pub HoldsBlocks : L → Type 0

@@ -1,11 +1,12 @@
 //! What a table is built of.
 ghost use Rattle.std.specs.Prelude.{◌≡◌, ◌+◌, ◌<◌, Vec, ◌≤◌, List, [], ◌∷◌, ◌++◌, length, replicate, vec_len, vec_capacity, IfOk};
 ghost use Rattle.std.specs.Global.{Global};
+ghost use Rattle.history_core.specs.Log.{zero_page};
 ghost use Rattle.table_rule.specs.declared.noted_log.NotedLog.{NotedLog};
 ghost use Rattle.table_rule.specs.declared.value.Value.{Value};
 ghost use Rattle.table_rule.specs.declared.value.Value.TheVariants as value;
 ghost use Rattle.table_rule.specs.Layout.{slot_count};
-ghost use Rattle.table_rule.specs.Laid.{AddsMaps, AreBlank, AreFresh, AreOpening, AreSlots, EndsWith, HasNoDevices, IsRoom, home_lanes, lanes_among, zero_page};
+ghost use Rattle.table_rule.specs.Laid.{AddsMaps, AreBlank, AreFresh, AreOpening, AreSlots, EndsWith, HasNoDevices, IsRoom, home_lanes, lanes_among};
 
 use crate::layout::LOG_PLACE;
 use crate::noted_lane::NotedLane;

@@ -87,7 +87,7 @@ impl<L: BlockLane> NotedLane<L> {
         ensures number { self.new.number ≡ self.old.number }
         ensures page { OnOk result (IfSome (L.contents self.old.device) (λ pages. pages tag ≡ Some page.new)) }
         ensures call { MatchResult result (λ _. NotesRead frame tag page.new self.new.call) (λ _. self.new.call ≡ lane_call.ReadFailed tag) }
-        ensures did { LaneDid (lane_devices L.contents L.failed_writes L.unsynced L.read_faults L.write_faults L.calls) self.old.device self.new.device self.new.call }
+        ensures did { LaneDid (lane_devices L.BlockLane) self.old.device self.new.device self.new.call }
     {
         match self.device.read(tag, page) {
             Ok(()) => {
@@ -111,7 +111,7 @@ impl<L: BlockLane> NotedLane<L> {
         requires held { ForSome (L.contents self.old.device) (λ pages. IsSome (pages tag)) }
         ensures number { self.new.number ≡ self.old.number }
         ensures call { MatchResult result (λ _. NotesWritten frame tag page.now self.new.call) (λ _. NotesWriteFailed frame tag page.now self.new.call) }
-        ensures did { LaneDid (lane_devices L.contents L.failed_writes L.unsynced L.read_faults L.write_faults L.calls) self.old.device self.new.device self.new.call }
+        ensures did { LaneDid (lane_devices L.BlockLane) self.old.device self.new.device self.new.call }
     {
         let noted = Snapshot::of(page);
         match self.device.write(tag, page) {
@@ -139,7 +139,7 @@ impl<L: BlockLane> NotedLane<L> {
         requires untouched { self.old.call ≡ lane_call.Untouched }
         ensures number { self.new.number ≡ self.old.number }
         ensures call { MatchResult result (λ _. self.new.call ≡ lane_call.Synced) (λ _. self.new.call ≡ lane_call.SyncFailed) }
-        ensures did { LaneDid (lane_devices L.contents L.failed_writes L.unsynced L.read_faults L.write_faults L.calls) self.old.device self.new.device self.new.call }
+        ensures did { LaneDid (lane_devices L.BlockLane) self.old.device self.new.device self.new.call }
     {
         match self.device.sync() {
             Ok(()) => {

@@ -12,7 +12,7 @@ use log_device::{Failed, LogDevice};
 use page_layout::{Lsn, Page};
 use std::snapshot::Snapshot;
 
-/// How many bytes a record of the log has.
+/// How many bytes of the log the record of a page takes. No record takes more.
 pub const RECORD_SIZE: Lsn = 8224;
 
 /// The kind of a record of a page.

@@ -12,7 +12,7 @@ pub struct Rule;
 impl<L: BlockLane, G: LogDevice> TableRule<Value<L, G>, View, Opening<L, G>> for Rule {
     ghost use Rattle.table_rule.specs.Shows.{RuleHolds, devices, starting};
 
-    ghost holds = { RuleHolds (devices L.contents L.failed_writes L.unsynced L.read_faults L.write_faults L.calls G.bytes G.synced G.faults G.calls) };
+    ghost holds = { RuleHolds (devices L.BlockLane G.LogDevice) };
 
     ghost first = { starting };
 }

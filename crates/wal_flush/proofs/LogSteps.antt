@@ -94,7 +94,7 @@ down_at_end at end v w d loaded = let first = d.went.first in let law = first.la
 -- what a view has of a latch that it doesn't hold: nothing
 pub free_log : (v w : View) → DidTurn true Log v w → v.log.held ≡ false → v.log ≡ no_log
 free_log v w d free = let law = d.laws.invariant.device.cells d.seat v 0 d.there (lit< tt) in let rest = law.resting free in
-    (λ i. record { held = free i; out = rest.0 i; change = law.home rest.0 i; appended = rest.1 i; synced = rest.2 i; end = of_end v.log.end refl i })
+    (λ i. record { held = free i; out = rest.0 i; change = law.home rest.0 i; appended = rest.1 i; synced = rest.2 i; end = of_end v.log.end refl i; redo = rest.3 i })
   where
     of_end : (o : Option ℕ) → v.log.end ≡ o → v.log.end ≡ None
     of_end None e = e

@@ -72,7 +72,7 @@ left_hold v a free e = ap (λ (x : Option (List ℕ)). record no_log { appended 
 pub unentered_view : (relations : List RelEntry) (f : ℕ) (tag : Tag) (p : Page) (end : ℕ) (why : InsertError) (v w : View) → UnderLatch end (EnterRefused relations f tag p end why) v w → v.log.held ≡ false → w ≡ as_counted (refused_view why v) w
 unentered_view relations f tag p end (insert_error.LogFull at) v w u free = let none = free_log v u.opens.held u.opens.takes free in
     let big : View = quiet leave_log (opened end v) in
-    counted_as v w big (around end (EnterRefused relations f tag p end (insert_error.LogFull at)) v w u (λ x. x) u.work.2) (λ i. record big { log = (ap (λ (h : LogHold). record h { held = false; synced = false; end = None }) none ∙ sym none) i })
+    counted_as v w big (around end (EnterRefused relations f tag p end (insert_error.LogFull at)) v w u (λ x. x) u.work.2) (λ i. record big { log = (ap (λ (h : LogHold). record h { held = false; synced = false; end = None; redo = None }) none ∙ sym none) i })
 unentered_view relations f tag p end (insert_error.LogDown at) v w u free = let none = free_log v u.opens.held u.opens.takes free in
     let found : View → View = λ x. record (downed x) { log = record x.log { out = None; change = Untouched }; steps = u.worked.steps } in
     let big : View = quiet leave_log (found (opened end v)) in
@@ -91,8 +91,8 @@ abbrev after_look : ℕ → View → View
 after_look found v = view_of load_flushed found v
 
 -- the latch is left as it was taken
-opened_left : (v : View) → v.log ≡ no_log → record v.log { held = false; synced = false; end = None } ≡ v.log
-opened_left v none = ap (λ (h : LogHold). record h { held = false; synced = false; end = None }) none ∙ sym none
+opened_left : (v : View) → v.log ≡ no_log → record v.log { held = false; synced = false; end = None; redo = None } ≡ v.log
+opened_left v none = ap (λ (h : LogHold). record h { held = false; synced = false; end = None; redo = None }) none ∙ sym none
 
 found_view : (lsn end : ℕ) (v w : View) → UnderLatch end (FindsFlushed lsn end) v w → v.log.held ≡ false → w ≡ as_looked v w
 found_view lsn end v w u free = let none = free_log v u.opens.held u.opens.takes free in let s = u.work.sees in

@@ -93,7 +93,7 @@ InsertSeesEnd LogFault v w = Unit {0}
 abbrev pub inserted_view : ℕ → ℕ → Page → ℕ → View → View
 inserted_view f tag p lsn v = record v {
   links = slice_set v.links f (entered_link p (link v f));
-  calls = v.calls ++ Write v.number tag p lsn ∷ [];
+  calls = v.calls ++ Write v.number tag p lsn true ∷ [];
   front = lsn;
   device_calls = v.device_calls ++ LogAppend true ∷ [];
 }

@@ -5,6 +5,10 @@ use Rattle.history_core.proofs.Staying.{calls_stay}
 use Rattle.history_core.proofs.KeptFlushed.{holds_keep}
 use Rattle.history_core.proofs.Lasting.{opening_stays, log_grows}
 use Rattle.history_core.proofs.Sound.{shows, stay_untouched, unsound_first}
+use Rattle.history_core.proofs.Images.{images_alone}
+use Rattle.history_core.proofs.There.{blocks_are_there}
+use Rattle.history_core.proofs.Covered.{syncs_cover}
+use Rattle.history_core.proofs.Crashes.{dirty_have, written_have, crashes_redo}
 use Rattle.history_core.proofs.all_histories.Goals as goal
 
 pub returns-clause-holds_keep : goal.returns-clause-holds_keep
@@ -113,4 +117,22 @@ pub returns-clause-unsound : goal.returns-clause-unsound
 returns-clause-unsound c = λ s r. stay_untouched s r.invariant r.sound
 
 pub returns-clause-unsound_first : goal.returns-clause-unsound_first
-returns-clause-unsound_first c = λ s r. unsound_first s r.invariant
+returns-clause-unsound_first c = λ s r. unsound_first s r.invariant (images_alone s r)
+
+pub returns-clause-images_alone : goal.returns-clause-images_alone
+returns-clause-images_alone c = images_alone
+
+pub returns-clause-there : goal.returns-clause-there
+returns-clause-there c = blocks_are_there
+
+pub returns-clause-covered : goal.returns-clause-covered
+returns-clause-covered c = λ s r. syncs_cover s r.reached
+
+pub returns-clause-dirty_have : goal.returns-clause-dirty_have
+returns-clause-dirty_have c = dirty_have
+
+pub returns-clause-written_have : goal.returns-clause-written_have
+returns-clause-written_have c = written_have
+
+pub returns-clause-crashes : goal.returns-clause-crashes
+returns-clause-crashes c = crashes_redo

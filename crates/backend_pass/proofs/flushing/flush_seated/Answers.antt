@@ -1,6 +1,5 @@
-use Rattle.std.proofs.Common.{◌≡◌, ◌∙◌, ap, subst}
+use Rattle.std.proofs.Common.{◌≡◌, ◌∙◌, subst}
 use Rattle.std.specs.Prelude.{IfErr, IfOk}
-use Rattle.atomic_table.specs.declared.badge.Badge.{Badge}
 use Rattle.block_tag.specs.Names.{lane_number}
 use Rattle.pin_core.specs.declared.view.Content.TheVariants.{Unlocked}
 use Rattle.pin_core.specs.declared.view.View.{View}
@@ -11,75 +10,69 @@ use Rattle.buffer_frames.specs.declared.flushing.FlushedPage.TheVariants.{Writte
 use Rattle.buffer_frames.specs.Flushing.{EndedInError, EndedWritten, FlushAnswer, met_flushing}
 use Rattle.buffer_frames.specs.Working.{WorksAt}
 use Rattle.backend_pass.specs.Passes.{view_in}
-use Rattle.backend_pass.proofs.Seated.{moved, moved_one, one_view, view_of_seat}
+use Rattle.backend_pass.proofs.Seated.{moved, moved_one, same_badge}
 use Rattle.backend_pass.proofs.flushing.flush_seated.Goals as goal
 
 pub flush_frame-answer-requires-clause-stands : goal.flush_frame-answer-requires-clause-stands
 flush_frame-answer-requires-clause-stands g c =
-    let before = view_of_seat c.args.badge.now c.replace.result c.into_seat-seat.result.me.0 c.replace.ensures.value c.into_seat-seat.ensures.2 in record {
-      fits = c.into_seat-seat.ensures.0 ∙ ap (λ (b : Badge View). b.table_id) c.replace.ensures.value ∙ c.requires.table;
-      hand = c.into_seat-seat.ensures.3;
-      quiet = subst HasNoDevice before c.requires.rests.quiet;
+    let before = c.take_seat-seat.ensures.view in record {
+      fits = c.take_seat-seat.ensures.table ∙ c.requires.seated.table_is;
+      hand = c.take_seat-seat.ensures.hand;
+      quiet = subst HasNoDevice before c.requires.seated.rests.quiet;
     }
 
 pub flush_frame-answer-requires-clause-latches : goal.flush_frame-answer-requires-clause-latches
 flush_frame-answer-requires-clause-latches g c =
-    let before = view_of_seat c.args.badge.now c.replace.result c.into_seat-seat.result.me.0 c.replace.ensures.value c.into_seat-seat.ensures.2 in
-    subst HasNoLatch before c.requires.rests.latches
+    let before = c.take_seat-seat.ensures.view in
+    subst HasNoLatch before c.requires.seated.rests.latches
 
 pub flush_frame-answer-requires-clause-rests : goal.flush_frame-answer-requires-clause-rests
 flush_frame-answer-requires-clause-rests g c =
-    let before = view_of_seat c.args.badge.now c.replace.result c.into_seat-seat.result.me.0 c.replace.ensures.value c.into_seat-seat.ensures.2 in
-    subst (LinksRest c.args.held.now) before c.requires.rests.links
+    let before = c.take_seat-seat.ensures.view in
+    subst (LinksRest c.args.held.now) before c.requires.seated.rests.links
 
 pub flush_frame-answer-requires-clause-unlocked : goal.flush_frame-answer-requires-clause-unlocked
 flush_frame-answer-requires-clause-unlocked g c =
-    let before = view_of_seat c.args.badge.now c.replace.result c.into_seat-seat.result.me.0 c.replace.ensures.value c.into_seat-seat.ensures.2 in
+    let before = c.take_seat-seat.ensures.view in
     subst (λ (v : View). (link v c.args.frame).content ≡ Unlocked) before c.requires.unlocked
 
-pub returns-clause-table : goal.returns-clause-table
-returns-clause-table g c = c.into_badge.ensures.0 ∙ c.flush_frame-answer.ensures.seat.table ∙ c.into_seat-seat.ensures.0 ∙ ap (λ (b : Badge View). b.table_id) c.replace.ensures.value
-
-pub returns-clause-id : goal.returns-clause-id
-returns-clause-id g c = c.into_badge.ensures.1 ∙ c.flush_frame-answer.ensures.seat.id ∙ c.into_seat-seat.ensures.1 ∙ ap (λ (b : Badge View). b.id) c.replace.ensures.value
-
-pub returns-clause-view : goal.returns-clause-view
-returns-clause-view g c = one_view c.into_badge.result c.flush_frame-answer.new.seat.me.0 c.into_badge.ensures.2
+pub returns-clause-badge : goal.returns-clause-badge
+returns-clause-badge g c = same_badge {L = g.row.L.Denot} {G = g.row.G.Denot} _ _ _ _ c.take_seat-seat.ensures c.flush_frame-answer.ensures.seat c.return_seat.ensures
 
 pub returns-clause-rests : goal.returns-clause-rests
 returns-clause-rests g c =
-    let after = ap view_in c.into_badge.ensures.2 in
+    let after = c.return_seat.ensures.view in
     let e = c.flush_frame-answer.ensures in record {
-      quiet = moved_one HasNoDevice (view_in c.into_badge.result.views) c.flush_frame-answer.new.seat.me.0 after e.stands.quiet;
-      links = moved_one (LinksRest c.args.held.now) (view_in c.into_badge.result.views) c.flush_frame-answer.new.seat.me.0 after e.rests;
-      latches = moved_one HasNoLatch (view_in c.into_badge.result.views) c.flush_frame-answer.new.seat.me.0 after e.latches;
+      quiet = moved_one HasNoDevice (view_in c.return_seat.new.badge.views) c.flush_frame-answer.new.seat.me.0 after e.stands.quiet;
+      links = moved_one (LinksRest c.args.held.now) (view_in c.return_seat.new.badge.views) c.flush_frame-answer.new.seat.me.0 after e.rests;
+      latches = moved_one HasNoLatch (view_in c.return_seat.new.badge.views) c.flush_frame-answer.new.seat.me.0 after e.latches;
     }
 
 pub returns-clause-works : goal.returns-clause-works
 returns-clause-works g c =
-    let before = view_of_seat c.args.badge.now c.replace.result c.into_seat-seat.result.me.0 c.replace.ensures.value c.into_seat-seat.ensures.2 in
-    moved (WorksAt c.args.frame) (view_in c.args.badge.now.views) (view_in c.into_badge.result.views) c.into_seat-seat.result.me.0 c.flush_frame-answer.new.seat.me.0 before (ap view_in c.into_badge.ensures.2) c.flush_frame-answer.ensures.works
+    let before = c.take_seat-seat.ensures.view in
+    moved (WorksAt c.args.frame) (view_in c.args.badge.now.views) (view_in c.return_seat.new.badge.views) c.take_seat-seat.result.me.0 c.flush_frame-answer.new.seat.me.0 before c.return_seat.ensures.view c.flush_frame-answer.ensures.works
 
 pub returns-clause-unlocked : goal.returns-clause-unlocked
-returns-clause-unlocked g c = moved_one (λ (w : View). (link w c.args.frame).content ≡ Unlocked) (view_in c.into_badge.result.views) c.flush_frame-answer.new.seat.me.0 (ap view_in c.into_badge.ensures.2) c.flush_frame-answer.ensures.unlocked
+returns-clause-unlocked g c = moved_one (λ (w : View). (link w c.args.frame).content ≡ Unlocked) (view_in c.return_seat.new.badge.views) c.flush_frame-answer.new.seat.me.0 c.return_seat.ensures.view c.flush_frame-answer.ensures.unlocked
 
 pub returns-clause-answer : goal.returns-clause-answer
 returns-clause-answer g c =
-    let before = view_of_seat c.args.badge.now c.replace.result c.into_seat-seat.result.me.0 c.replace.ensures.value c.into_seat-seat.ensures.2 in
+    let before = c.take_seat-seat.ensures.view in
     moved (λ v w. FlushAnswer {L = g.row.L.Denot} {G = g.row.G.Denot} g.L.BlockLane.contents c.args.table.now (lane_number c.args.tag (lanes_in c.args.table.now)) c.args.tag c.args.frame v w c.flush_frame-answer.result)
-    (view_in c.args.badge.now.views) (view_in c.into_badge.result.views) c.into_seat-seat.result.me.0 c.flush_frame-answer.new.seat.me.0 before (ap view_in c.into_badge.ensures.2) c.flush_frame-answer.ensures.answer
+    (view_in c.args.badge.now.views) (view_in c.return_seat.new.badge.views) c.take_seat-seat.result.me.0 c.flush_frame-answer.new.seat.me.0 before c.return_seat.ensures.view c.flush_frame-answer.ensures.answer
 
 pub returns-clause-met : goal.returns-clause-met
 returns-clause-met g c =
-    let before = view_of_seat c.args.badge.now c.replace.result c.into_seat-seat.result.me.0 c.replace.ensures.value c.into_seat-seat.ensures.2 in
-    moved (λ v w. w.met ≡ met_flushing c.flush_frame-answer.result v.met) (view_in c.args.badge.now.views) (view_in c.into_badge.result.views) c.into_seat-seat.result.me.0 c.flush_frame-answer.new.seat.me.0 before (ap view_in c.into_badge.ensures.2) c.flush_frame-answer.ensures.met
+    let before = c.take_seat-seat.ensures.view in
+    moved (λ v w. w.met ≡ met_flushing c.flush_frame-answer.result v.met) (view_in c.args.badge.now.views) (view_in c.return_seat.new.badge.views) c.take_seat-seat.result.me.0 c.flush_frame-answer.new.seat.me.0 before c.return_seat.ensures.view c.flush_frame-answer.ensures.met
 
 pub returns-clause-ended : goal.returns-clause-ended
 returns-clause-ended g c =
-    let before = view_of_seat c.args.badge.now c.replace.result c.into_seat-seat.result.me.0 c.replace.ensures.value c.into_seat-seat.ensures.2 in
-    moved (λ v w. IfErr c.flush_frame-answer.result (λ _. EndedInError c.args.frame v w)) (view_in c.args.badge.now.views) (view_in c.into_badge.result.views) c.into_seat-seat.result.me.0 c.flush_frame-answer.new.seat.me.0 before (ap view_in c.into_badge.ensures.2) c.flush_frame-answer.ensures.ended
+    let before = c.take_seat-seat.ensures.view in
+    moved (λ v w. IfErr c.flush_frame-answer.result (λ _. EndedInError c.args.frame v w)) (view_in c.args.badge.now.views) (view_in c.return_seat.new.badge.views) c.take_seat-seat.result.me.0 c.flush_frame-answer.new.seat.me.0 before c.return_seat.ensures.view c.flush_frame-answer.ensures.ended
 
 pub returns-clause-written : goal.returns-clause-written
 returns-clause-written g c =
-    let before = view_of_seat c.args.badge.now c.replace.result c.into_seat-seat.result.me.0 c.replace.ensures.value c.into_seat-seat.ensures.2 in
-    moved (λ v w. IfOk c.flush_frame-answer.result (λ flushed. flushed ≡ Written → EndedWritten c.args.frame v w)) (view_in c.args.badge.now.views) (view_in c.into_badge.result.views) c.into_seat-seat.result.me.0 c.flush_frame-answer.new.seat.me.0 before (ap view_in c.into_badge.ensures.2) c.flush_frame-answer.ensures.written
+    let before = c.take_seat-seat.ensures.view in
+    moved (λ v w. IfOk c.flush_frame-answer.result (λ flushed. flushed ≡ Written → EndedWritten c.args.frame v w)) (view_in c.args.badge.now.views) (view_in c.return_seat.new.badge.views) c.take_seat-seat.result.me.0 c.flush_frame-answer.new.seat.me.0 before c.return_seat.ensures.view c.flush_frame-answer.ensures.written

@@ -1,76 +1,68 @@
-use Rattle.std.proofs.Common.{◌≡◌, ◌∙◌, ap, subst}
+use Rattle.std.proofs.Common.{◌≡◌, ◌∙◌, subst}
 use Rattle.std.specs.Prelude.{is_some}
-use Rattle.atomic_table.specs.declared.badge.Badge.{Badge}
 use Rattle.block_tag.specs.Names.{lane_number}
-use Rattle.pin_core.specs.declared.view.View.{View}
 use Rattle.frame_table.specs.Seats.{OnlyRises, lanes_in}
 use Rattle.held_pins.specs.Rests.{HasNoDevice, HasNoLatch, LinksRest, kept_by_calls, SameLocks}
 use Rattle.buffer_frames.specs.Reads.{ReadAnswer, ReadCalls, met_read_block}
 use Rattle.backend_pass.specs.Passes.{view_in}
-use Rattle.backend_pass.proofs.Seated.{moved, moved_one, one_view, view_of_seat}
+use Rattle.backend_pass.proofs.Seated.{moved, moved_one, same_badge}
 use Rattle.backend_pass.proofs.reading.read_seated.Goals as goal
 
 pub read_block-answer-requires-clause-stands : goal.read_block-answer-requires-clause-stands
 read_block-answer-requires-clause-stands g c =
-    let before = view_of_seat c.args.badge.now c.replace.result c.into_seat-seat.result.me.0 c.replace.ensures.value c.into_seat-seat.ensures.2 in record {
-      fits = c.into_seat-seat.ensures.0 ∙ ap (λ (b : Badge View). b.table_id) c.replace.ensures.value ∙ c.requires.table;
-      hand = c.into_seat-seat.ensures.3;
-      quiet = subst HasNoDevice before c.requires.rests.quiet;
+    let before = c.take_seat-seat.ensures.view in record {
+      fits = c.take_seat-seat.ensures.table ∙ c.requires.seated.table_is;
+      hand = c.take_seat-seat.ensures.hand;
+      quiet = subst HasNoDevice before c.requires.seated.rests.quiet;
     }
 
 pub read_block-answer-requires-clause-rests : goal.read_block-answer-requires-clause-rests
 read_block-answer-requires-clause-rests g c =
-    let before = view_of_seat c.args.badge.now c.replace.result c.into_seat-seat.result.me.0 c.replace.ensures.value c.into_seat-seat.ensures.2 in
-    subst (LinksRest c.args.held.now) before c.requires.rests.links
+    let before = c.take_seat-seat.ensures.view in
+    subst (LinksRest c.args.held.now) before c.requires.seated.rests.links
 
 pub read_block-answer-requires-clause-latches : goal.read_block-answer-requires-clause-latches
 read_block-answer-requires-clause-latches g c =
-    let before = view_of_seat c.args.badge.now c.replace.result c.into_seat-seat.result.me.0 c.replace.ensures.value c.into_seat-seat.ensures.2 in
-    subst HasNoLatch before c.requires.rests.latches
+    let before = c.take_seat-seat.ensures.view in
+    subst HasNoLatch before c.requires.seated.rests.latches
 
-pub returns-clause-table : goal.returns-clause-table
-returns-clause-table g c = c.into_badge.ensures.0 ∙ c.read_block-answer.ensures.seat.table ∙ c.into_seat-seat.ensures.0 ∙ ap (λ (b : Badge View). b.table_id) c.replace.ensures.value
-
-pub returns-clause-id : goal.returns-clause-id
-returns-clause-id g c = c.into_badge.ensures.1 ∙ c.read_block-answer.ensures.seat.id ∙ c.into_seat-seat.ensures.1 ∙ ap (λ (b : Badge View). b.id) c.replace.ensures.value
-
-pub returns-clause-view : goal.returns-clause-view
-returns-clause-view g c = one_view c.into_badge.result c.read_block-answer.new.seat.me.0 c.into_badge.ensures.2
+pub returns-clause-badge : goal.returns-clause-badge
+returns-clause-badge g c = same_badge {L = g.row.L.Denot} {G = g.row.G.Denot} _ _ _ _ c.take_seat-seat.ensures c.read_block-answer.ensures.seat c.return_seat.ensures
 
 pub returns-clause-quiet : goal.returns-clause-quiet
-returns-clause-quiet g c = moved_one HasNoDevice (view_in c.into_badge.result.views) c.read_block-answer.new.seat.me.0 (ap view_in c.into_badge.ensures.2) c.read_block-answer.ensures.stands.quiet
+returns-clause-quiet g c = moved_one HasNoDevice (view_in c.return_seat.new.badge.views) c.read_block-answer.new.seat.me.0 c.return_seat.ensures.view c.read_block-answer.ensures.stands.quiet
 
 pub returns-clause-latches : goal.returns-clause-latches
-returns-clause-latches g c = moved_one HasNoLatch (view_in c.into_badge.result.views) c.read_block-answer.new.seat.me.0 (ap view_in c.into_badge.ensures.2) c.read_block-answer.ensures.latches
+returns-clause-latches g c = moved_one HasNoLatch (view_in c.return_seat.new.badge.views) c.read_block-answer.new.seat.me.0 c.return_seat.ensures.view c.read_block-answer.ensures.latches
 
 pub returns-clause-kept : goal.returns-clause-kept
 returns-clause-kept g c =
-    let before = view_of_seat c.args.badge.now c.replace.result c.into_seat-seat.result.me.0 c.replace.ensures.value c.into_seat-seat.ensures.2 in
-    moved (λ v w. kept_by_calls w ≡ kept_by_calls v) (view_in c.args.badge.now.views) (view_in c.into_badge.result.views) c.into_seat-seat.result.me.0 c.read_block-answer.new.seat.me.0 before (ap view_in c.into_badge.ensures.2) c.read_block-answer.ensures.kept
+    let before = c.take_seat-seat.ensures.view in
+    moved (λ v w. kept_by_calls w ≡ kept_by_calls v) (view_in c.args.badge.now.views) (view_in c.return_seat.new.badge.views) c.take_seat-seat.result.me.0 c.read_block-answer.new.seat.me.0 before c.return_seat.ensures.view c.read_block-answer.ensures.kept
 
 pub returns-clause-advances : goal.returns-clause-advances
 returns-clause-advances g c =
-    let before = view_of_seat c.args.badge.now c.replace.result c.into_seat-seat.result.me.0 c.replace.ensures.value c.into_seat-seat.ensures.2 in
-    moved OnlyRises (view_in c.args.badge.now.views) (view_in c.into_badge.result.views) c.into_seat-seat.result.me.0 c.read_block-answer.new.seat.me.0 before (ap view_in c.into_badge.ensures.2) c.read_block-answer.ensures.advances
+    let before = c.take_seat-seat.ensures.view in
+    moved OnlyRises (view_in c.args.badge.now.views) (view_in c.return_seat.new.badge.views) c.take_seat-seat.result.me.0 c.read_block-answer.new.seat.me.0 before c.return_seat.ensures.view c.read_block-answer.ensures.advances
 
 pub returns-clause-answer : goal.returns-clause-answer
 returns-clause-answer g c =
-    let before = view_of_seat c.args.badge.now c.replace.result c.into_seat-seat.result.me.0 c.replace.ensures.value c.into_seat-seat.ensures.2 in
+    let before = c.take_seat-seat.ensures.view in
     moved (λ v w. ReadAnswer {L = g.row.L.Denot} {G = g.row.G.Denot} g.L.BlockLane.contents c.args.manager.now.table c.args.tag.now c.args.held.now c.read_block-answer.new.census.words v w c.read_block-answer.result)
-    (view_in c.args.badge.now.views) (view_in c.into_badge.result.views) c.into_seat-seat.result.me.0 c.read_block-answer.new.seat.me.0 before (ap view_in c.into_badge.ensures.2) c.read_block-answer.ensures.answer
+    (view_in c.args.badge.now.views) (view_in c.return_seat.new.badge.views) c.take_seat-seat.result.me.0 c.read_block-answer.new.seat.me.0 before c.return_seat.ensures.view c.read_block-answer.ensures.answer
 
 pub returns-clause-met : goal.returns-clause-met
 returns-clause-met g c =
-    let before = view_of_seat c.args.badge.now c.replace.result c.into_seat-seat.result.me.0 c.replace.ensures.value c.into_seat-seat.ensures.2 in
-    moved (λ v w. w.met ≡ met_read_block c.read_block-answer.result v.met) (view_in c.args.badge.now.views) (view_in c.into_badge.result.views) c.into_seat-seat.result.me.0 c.read_block-answer.new.seat.me.0 before (ap view_in c.into_badge.ensures.2) c.read_block-answer.ensures.met
+    let before = c.take_seat-seat.ensures.view in
+    moved (λ v w. w.met ≡ met_read_block c.read_block-answer.result v.met) (view_in c.args.badge.now.views) (view_in c.return_seat.new.badge.views) c.take_seat-seat.result.me.0 c.read_block-answer.new.seat.me.0 before c.return_seat.ensures.view c.read_block-answer.ensures.met
 
 pub returns-clause-calls : goal.returns-clause-calls
 returns-clause-calls g c =
-    let before = view_of_seat c.args.badge.now c.replace.result c.into_seat-seat.result.me.0 c.replace.ensures.value c.into_seat-seat.ensures.2 in
+    let before = c.take_seat-seat.ensures.view in
     moved (λ v w. ReadCalls (lane_number c.args.tag.now (lanes_in c.args.manager.now.table)) c.args.tag.now (is_some c.args.ring.now) v w c.read_block-answer.result)
-    (view_in c.args.badge.now.views) (view_in c.into_badge.result.views) c.into_seat-seat.result.me.0 c.read_block-answer.new.seat.me.0 before (ap view_in c.into_badge.ensures.2) c.read_block-answer.ensures.calls
+    (view_in c.args.badge.now.views) (view_in c.return_seat.new.badge.views) c.take_seat-seat.result.me.0 c.read_block-answer.new.seat.me.0 before c.return_seat.ensures.view c.read_block-answer.ensures.calls
 
 pub returns-clause-locks : goal.returns-clause-locks
 returns-clause-locks g c =
-    let before = view_of_seat c.args.badge.now c.replace.result c.into_seat-seat.result.me.0 c.replace.ensures.value c.into_seat-seat.ensures.2 in
-    moved SameLocks (view_in c.args.badge.now.views) (view_in c.into_badge.result.views) c.into_seat-seat.result.me.0 c.read_block-answer.new.seat.me.0 before (ap view_in c.into_badge.ensures.2) c.read_block-answer.ensures.locks
+    let before = c.take_seat-seat.ensures.view in
+    moved SameLocks (view_in c.args.badge.now.views) (view_in c.return_seat.new.badge.views) c.take_seat-seat.result.me.0 c.read_block-answer.new.seat.me.0 before c.return_seat.ensures.view c.read_block-answer.ensures.locks

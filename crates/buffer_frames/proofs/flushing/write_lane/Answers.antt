@@ -40,7 +40,7 @@ returns-clause-stands g c =
     let b = c.lane_back.ensures in
     let u = c.leave_turn.ensures in
     let call = write_call c.args.frame c.args.tag c.args.page.now c.write-written.new.self.call c.write-written.result c.write-written.ensures.call in
-    let d = lane_devices g.L.BlockLane.contents g.L.BlockLane.failed_writes g.L.BlockLane.unsynced g.L.BlockLane.read_faults g.L.BlockLane.write_faults g.L.BlockLane.calls in
+    let d = lane_devices g.L.BlockLane in
     record {
       fits = u.seat.table ∙ b.seat.0 ∙ o.seat.0 ∙ k.seat.table ∙ c.requires.stands.fits;
       hand = u.seat.hand ∙ b.hand ∙ ap rest o.hand ∙ k.seat.hand ∙ c.requires.stands.hand;
@@ -54,7 +54,7 @@ returns-clause-works g c =
     let b = c.lane_back.ensures in
     let u = c.leave_turn.ensures in
     let call = write_call c.args.frame c.args.tag c.args.page.now c.write-written.new.self.call c.write-written.result c.write-written.ensures.call in
-    let d = lane_devices g.L.BlockLane.contents g.L.BlockLane.failed_writes g.L.BlockLane.unsynced g.L.BlockLane.read_faults g.L.BlockLane.write_faults g.L.BlockLane.calls in
+    let d = lane_devices g.L.BlockLane in
     trip_works d c.lane_of-lane.result c.write-written.new.self.device c.write-written.new.self.call (write_plain c.args.frame c.args.tag c.args.page.now _ _ call) _ c.args.seat.now.me.0 c.take_turn.new.seat.me.0 c.lane_out-out.new.seat.me.0 c.lane_back.new.seat.me.0 c.leave_turn.new.seat.me.0 k.work k.did k.turned o.view o.out b.view b.back u.work u.did u.turned c.args.frame (write_others c.args.frame c.args.tag c.args.page.now _ _ c.lane_out-out.new.seat.me.0 c.lane_back.new.seat.me.0 call b.noted)
 
 pub returns-clause-marks : goal.returns-clause-marks
@@ -64,7 +64,7 @@ returns-clause-marks g c =
     let b = c.lane_back.ensures in
     let u = c.leave_turn.ensures in
     let call = write_call c.args.frame c.args.tag c.args.page.now c.write-written.new.self.call c.write-written.result c.write-written.ensures.call in
-    let d = lane_devices g.L.BlockLane.contents g.L.BlockLane.failed_writes g.L.BlockLane.unsynced g.L.BlockLane.read_faults g.L.BlockLane.write_faults g.L.BlockLane.calls in
+    let d = lane_devices g.L.BlockLane in
     trip_marks d c.lane_of-lane.result c.write-written.new.self.device c.write-written.new.self.call (write_plain c.args.frame c.args.tag c.args.page.now _ _ call) _ c.args.seat.now.me.0 c.take_turn.new.seat.me.0 c.lane_out-out.new.seat.me.0 c.lane_back.new.seat.me.0 c.leave_turn.new.seat.me.0 k.work k.did k.turned o.view o.out b.view b.back u.work u.did u.turned
 
 pub returns-clause-shares : goal.returns-clause-shares
@@ -110,7 +110,7 @@ returns-clause-calls g c =
     let b = c.lane_back.ensures in
     let u = c.leave_turn.ensures in
     let call = write_call c.args.frame c.args.tag c.args.page.now c.write-written.new.self.call c.write-written.result c.write-written.ensures.call in
-    let d = lane_devices g.L.BlockLane.contents g.L.BlockLane.failed_writes g.L.BlockLane.unsynced g.L.BlockLane.read_faults g.L.BlockLane.write_faults g.L.BlockLane.calls in
+    let d = lane_devices g.L.BlockLane in
     let made = write_made d c.lane_of-lane.result c.write-written.new.self.device c.args.frame c.args.tag c.args.page.now (is_ok c.write-written.result) c.write-written.new.self.call c.args.seat.now.me.0 c.leave_turn.new.seat.me.0 call
     (trip_calls d c.lane_of-lane.result c.write-written.new.self.device c.write-written.new.self.call (write_plain c.args.frame c.args.tag c.args.page.now _ _ call) _ c.args.seat.now.me.0 c.take_turn.new.seat.me.0 c.lane_out-out.new.seat.me.0 c.lane_back.new.seat.me.0 c.leave_turn.new.seat.me.0 k.work k.did k.turned o.view o.out b.view b.back u.work u.did u.turned) in
     subst (λ (q : ℕ). CallsLane c.is_ok.result q (packed_tag c.args.tag) c.args.page.now c.args.seat.now.me.0 c.leave_turn.new.seat.me.0) (c.lane_of-lane.ensures.value ∙ ap (lane_number c.args.tag) c.lanes.ensures.lanes)
@@ -123,7 +123,7 @@ returns-clause-met g c =
     let b = c.lane_back.ensures in
     let u = c.leave_turn.ensures in
     let call = write_call c.args.frame c.args.tag c.args.page.now c.write-written.new.self.call c.write-written.result c.write-written.ensures.call in
-    let d = lane_devices g.L.BlockLane.contents g.L.BlockLane.failed_writes g.L.BlockLane.unsynced g.L.BlockLane.read_faults g.L.BlockLane.write_faults g.L.BlockLane.calls in
+    let d = lane_devices g.L.BlockLane in
     let met = write_met c.args.frame c.args.tag c.args.page.now (is_ok c.write-written.result) c.write-written.new.self.call c.args.seat.now.me.0.met c.leave_turn.new.seat.me.0.met call
     (trip_met d c.lane_of-lane.result c.write-written.new.self.device c.write-written.new.self.call (write_plain c.args.frame c.args.tag c.args.page.now _ _ call) _ c.args.seat.now.me.0 c.take_turn.new.seat.me.0 c.lane_out-out.new.seat.me.0 c.lane_back.new.seat.me.0 c.leave_turn.new.seat.me.0 k.work k.did k.turned o.view o.out b.view b.back u.work u.did u.turned) in
     subst (λ (r : Bool). c.leave_turn.new.seat.me.0.met ≡ met_lane_write r c.args.seat.now.me.0.met) (sym c.is_ok.ensures.value) met

@@ -34,7 +34,7 @@ returns-clause-stands g c =
     record {
       fits = u.seat.table ∙ b.seat.0 ∙ o.seat.0 ∙ k.seat.table ∙ c.requires.stands.fits;
       hand = u.seat.hand ∙ b.hand ∙ ap rest o.hand ∙ k.seat.hand ∙ c.requires.stands.hand;
-      quiet = trip_quiet (lane_devices g.L.BlockLane.contents g.L.BlockLane.failed_writes g.L.BlockLane.unsynced g.L.BlockLane.read_faults g.L.BlockLane.write_faults g.L.BlockLane.calls) c.lane_of-lane.result c.read-read.new.self.device c.read-read.new.self.call (read_plain c.args.frame c.args.tag _ _ call) _ c.args.seat.now.me.0 c.take_turn.new.seat.me.0 c.lane_out-out.new.seat.me.0 c.lane_back.new.seat.me.0 c.leave_turn.new.seat.me.0 k.work k.did k.turned o.view o.out b.view b.back u.work u.did u.turned c.requires.stands.quiet;
+      quiet = trip_quiet (lane_devices g.L.BlockLane) c.lane_of-lane.result c.read-read.new.self.device c.read-read.new.self.call (read_plain c.args.frame c.args.tag _ _ call) _ c.args.seat.now.me.0 c.take_turn.new.seat.me.0 c.lane_out-out.new.seat.me.0 c.lane_back.new.seat.me.0 c.leave_turn.new.seat.me.0 k.work k.did k.turned o.view o.out b.view b.back u.work u.did u.turned c.requires.stands.quiet;
     }
 
 pub returns-clause-works : goal.returns-clause-works
@@ -44,7 +44,7 @@ returns-clause-works g c =
     let b = c.lane_back.ensures in
     let u = c.leave_turn.ensures in
     let call = read_call c.args.frame c.args.tag _ c.read-read.new.self.call c.read-read.result c.read-read.ensures.call in
-    trip_works (lane_devices g.L.BlockLane.contents g.L.BlockLane.failed_writes g.L.BlockLane.unsynced g.L.BlockLane.read_faults g.L.BlockLane.write_faults g.L.BlockLane.calls) c.lane_of-lane.result c.read-read.new.self.device c.read-read.new.self.call (read_plain c.args.frame c.args.tag _ _ call) _ c.args.seat.now.me.0 c.take_turn.new.seat.me.0 c.lane_out-out.new.seat.me.0 c.lane_back.new.seat.me.0 c.leave_turn.new.seat.me.0 k.work k.did k.turned o.view o.out b.view b.back u.work u.did u.turned c.args.frame
+    trip_works (lane_devices g.L.BlockLane) c.lane_of-lane.result c.read-read.new.self.device c.read-read.new.self.call (read_plain c.args.frame c.args.tag _ _ call) _ c.args.seat.now.me.0 c.take_turn.new.seat.me.0 c.lane_out-out.new.seat.me.0 c.lane_back.new.seat.me.0 c.leave_turn.new.seat.me.0 k.work k.did k.turned o.view o.out b.view b.back u.work u.did u.turned c.args.frame
     (read_others c.args.frame c.args.tag _ _ c.lane_out-out.new.seat.me.0 c.lane_back.new.seat.me.0 call b.noted)
 
 pub returns-clause-reads : goal.returns-clause-reads
@@ -66,7 +66,7 @@ returns-clause-calls g c =
     let b = c.lane_back.ensures in
     let u = c.leave_turn.ensures in
     let call = read_call c.args.frame c.args.tag _ c.read-read.new.self.call c.read-read.result c.read-read.ensures.call in
-    let d = lane_devices g.L.BlockLane.contents g.L.BlockLane.failed_writes g.L.BlockLane.unsynced g.L.BlockLane.read_faults g.L.BlockLane.write_faults g.L.BlockLane.calls in
+    let d = lane_devices g.L.BlockLane in
     let made = read_made d c.lane_of-lane.result c.read-read.new.self.device c.args.frame c.args.tag (is_ok c.read-read.result) c.read-read.new.self.call c.args.seat.now.me.0 c.leave_turn.new.seat.me.0 call
     (trip_calls d c.lane_of-lane.result c.read-read.new.self.device c.read-read.new.self.call (read_plain c.args.frame c.args.tag _ _ call) _ c.args.seat.now.me.0 c.take_turn.new.seat.me.0 c.lane_out-out.new.seat.me.0 c.lane_back.new.seat.me.0 c.leave_turn.new.seat.me.0 k.work k.did k.turned o.view o.out b.view b.back u.work u.did u.turned) in
     subst (λ (q : ℕ). Made (LaneRead q (packed_tag c.args.tag) c.is_ok.result ∷ []) c.args.seat.now.me.0 c.leave_turn.new.seat.me.0) (c.lane_of-lane.ensures.value ∙ ap (lane_number c.args.tag) c.lanes.ensures.lanes)
@@ -79,7 +79,7 @@ returns-clause-met g c =
     let b = c.lane_back.ensures in
     let u = c.leave_turn.ensures in
     let call = read_call c.args.frame c.args.tag _ c.read-read.new.self.call c.read-read.result c.read-read.ensures.call in
-    let d = lane_devices g.L.BlockLane.contents g.L.BlockLane.failed_writes g.L.BlockLane.unsynced g.L.BlockLane.read_faults g.L.BlockLane.write_faults g.L.BlockLane.calls in
+    let d = lane_devices g.L.BlockLane in
     let met = read_met c.args.frame c.args.tag (is_ok c.read-read.result) c.read-read.new.self.call c.args.seat.now.me.0.met c.leave_turn.new.seat.me.0.met call
     (trip_met d c.lane_of-lane.result c.read-read.new.self.device c.read-read.new.self.call (read_plain c.args.frame c.args.tag _ _ call) _ c.args.seat.now.me.0 c.take_turn.new.seat.me.0 c.lane_out-out.new.seat.me.0 c.lane_back.new.seat.me.0 c.leave_turn.new.seat.me.0 k.work k.did k.turned o.view o.out b.view b.back u.work u.did u.turned) in
     subst (λ (r : Bool). c.leave_turn.new.seat.me.0.met ≡ met_lane_read r c.args.seat.now.me.0.met) (sym c.is_ok.ensures.value) met

@@ -1,11 +1,10 @@
-use Rattle.std.proofs.Common.{◌≡◌, ◌≢◌, ◌∙◌, ℕ, None, Some, refl, sym, ap, subst}
-use Rattle.pin_core.specs.declared.view.Link.{Link}
+use Rattle.std.proofs.Common.{ℕ, sym, subst}
 use Rattle.pin_core.specs.State.{link}
 use Rattle.page_core.specs.Kinds as kinds
 use Rattle.frame_table.specs.FrameSteps.{Did}
 use Rattle.frame_table.specs.Kinds.{pages}
 use Rattle.frame_table.proofs.Rising.{rises_none, rises_touched}
-use Rattle.frame_table.proofs.Told.{looked_on, locked_looked, touches_on}
+use Rattle.frame_table.proofs.Told.{looked_on, touches_on}
 use Rattle.held_pins.specs.Rests.{LinkRests}
 use Rattle.held_pins.specs.Tokens.{held_at}
 use Rattle.held_pins.proofs.Keeping.{rests_touched, stands_self}

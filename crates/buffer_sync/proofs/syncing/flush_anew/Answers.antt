@@ -1,9 +1,8 @@
-use Rattle.std.proofs.Common.{◌≡◌, ◌≢◌, ◌∙◌, ℕ, false, None, refl, sym, ap, subst}
+use Rattle.std.proofs.Common.{◌≡◌, ◌∙◌, ℕ, false, refl, sym, ap, subst}
 use Rattle.pin_core.specs.declared.view.Link.{Link}
 use Rattle.pin_core.specs.declared.view.Role.TheVariants.{Absent, Victim}
-use Rattle.pin_core.specs.declared.view.View.{View}
 use Rattle.pin_core.specs.State.{link}
-use Rattle.frame_table.specs.Seats.{HasRoom, Looked, MayUnpin, Touches, unpinned_link}
+use Rattle.frame_table.specs.Seats.{Looked, MayUnpin, Touches, unpinned_link}
 use Rattle.frame_table.proofs.Rising.{rises_none, rises_on, rises_touched}
 use Rattle.held_pins.proofs.Keeping.{beside_kept, stands_self}
 use Rattle.buffer_frames.proofs.Calm.{victim_unpinned}

@@ -1,9 +1,6 @@
-use Rattle.std.proofs.Common.{◌≡◌, ◌∙◌, Result, refl, sym, ap, subst}
-use Rattle.block_tag.specs.Names.{packed_tag}
-use Rattle.state_word.specs.Fields.{fields}
+use Rattle.std.proofs.Common.{◌∙◌, Result, sym, ap, subst}
 use Rattle.pin_core.specs.declared.view.Link.{Link}
 use Rattle.pin_core.specs.State.{link}
-use Rattle.frame_table.specs.Seats.{read_link}
 use Rattle.frame_table.proofs.Seeing.{sees_valid}
 use Rattle.frame_table.proofs.Told.{touches_on}
 use Rattle.held_pins.proofs.Keeping.{beside_kept, stands_self}

@@ -1,4 +1,4 @@
-use Rattle.std.proofs.Common.{◌≡◌, ◌∙◌, Some, sym, subst}
+use Rattle.std.proofs.Common.{◌∙◌, sym, subst}
 use Rattle.state_word.specs.Fields.{fields}
 use Rattle.pin_core.specs.State.{link}
 use Rattle.frame_table.specs.Seats.{IsWordOf}

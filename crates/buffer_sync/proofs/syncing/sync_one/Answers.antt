@@ -1,11 +1,9 @@
-use Rattle.std.proofs.Common.{◌≡◌, ◌≢◌, ◌∙◌, ℕ, None, Some, refl, sym, ap, subst}
+use Rattle.std.proofs.Common.{◌∙◌, sym, subst}
 use Rattle.state_word.specs.Fields.{fields}
-use Rattle.pin_core.specs.declared.view.Link.{Link}
 use Rattle.pin_core.specs.State.{link}
 use Rattle.held_pins.specs.Rests.{LinkRests}
 use Rattle.held_pins.specs.Tokens.{held_at}
 use Rattle.held_pins.proofs.Keeping.{beside, beside_kept, rests_with, stands_self}
-use Rattle.buffer_frames.proofs.Notes.{notes_on}
 use Rattle.buffer_sync.proofs.Passing.{holds_header, is_dirty, notes_locked, rests_under, syncs_at_once, syncs_flushed, unlocked_at}
 use Rattle.buffer_sync.proofs.syncing.sync_one.Goals as goal
 

@@ -4,10 +4,10 @@ use Rattle.page_jobs.proofs.RewriteFull.{closes_full}
 use Rattle.page_jobs.proofs.laws.rewrite_closes.Goals as goal
 
 pub returns-clause-any : goal.returns-clause-any
-returns-clause-any g c = closes_either (devices g.L.BlockLane.contents g.L.BlockLane.failed_writes g.L.BlockLane.unsynced g.L.BlockLane.read_faults g.L.BlockLane.write_faults g.L.BlockLane.calls g.G.LogDevice.bytes g.G.LogDevice.synced g.G.LogDevice.faults g.G.LogDevice.calls) c.args._manager.now
+returns-clause-any g c = closes_either (devices g.L.BlockLane g.G.LogDevice) c.args._manager.now
 
 pub returns-clause-all : goal.returns-clause-all
-returns-clause-all g c = closes_rewritten (devices g.L.BlockLane.contents g.L.BlockLane.failed_writes g.L.BlockLane.unsynced g.L.BlockLane.read_faults g.L.BlockLane.write_faults g.L.BlockLane.calls g.G.LogDevice.bytes g.G.LogDevice.synced g.G.LogDevice.faults g.G.LogDevice.calls) c.args._manager.now
+returns-clause-all g c = closes_rewritten (devices g.L.BlockLane g.G.LogDevice) c.args._manager.now
 
 pub returns-clause-full : goal.returns-clause-full
-returns-clause-full g c = closes_full (devices g.L.BlockLane.contents g.L.BlockLane.failed_writes g.L.BlockLane.unsynced g.L.BlockLane.read_faults g.L.BlockLane.write_faults g.L.BlockLane.calls g.G.LogDevice.bytes g.G.LogDevice.synced g.G.LogDevice.faults g.G.LogDevice.calls) c.args._manager.now
+returns-clause-full g c = closes_full (devices g.L.BlockLane g.G.LogDevice) c.args._manager.now

@@ -1,6 +1,5 @@
 use Rattle.relation_commands.specs.Request.{rewrite_asked}
 use Rattle.relation_commands.proofs.GivenFiles.{told, held_by, refused, rewritten}
-use Rattle.relation_commands.proofs.rewrite_command.rewrite_and_give_back.Given as given
 use Rattle.relation_commands.proofs.rewrite_command.rewrite_and_give_back.Goals as goal
 
 pub returns-in-Ok-clause-files : goal.returns-in-Ok-clause-files

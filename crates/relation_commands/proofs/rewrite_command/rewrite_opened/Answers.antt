@@ -15,7 +15,6 @@ use Rattle.relation_commands.specs.Rewriting.{HavePages}
 use Rattle.relation_commands.proofs.Counting.{sum_same}
 use Rattle.relation_commands.proofs.GivenFiles.{told, unlogged}
 use Rattle.relation_commands.proofs.Stepping.{hold_so, refused_text, still_unmarked, surveyed}
-use Rattle.relation_commands.proofs.rewrite_command.rewrite_opened.Given as given
 use Rattle.relation_commands.proofs.rewrite_command.rewrite_opened.Goals as goal
 
 pub rewrite_surveyed-requires-clause-surveyed : goal.rewrite_surveyed-requires-clause-surveyed

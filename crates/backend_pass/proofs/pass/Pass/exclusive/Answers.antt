@@ -1,25 +1,23 @@
 use Rattle.std.proofs.Common.{◌≡◌, ◌∙◌, ℕ, Some, refl, sym, ap, subst}
-use Rattle.atomic_table.specs.declared.badge.Badge.{Badge}
-use Rattle.pin_core.specs.declared.view.View.{View}
 use Rattle.held_pins.specs.Tokens.{held_at}
 use Rattle.backend_pass.specs.Managers.{Belongs}
 use Rattle.backend_pass.specs.Passes.{IsNumbered, PassState, view_in}
 use Rattle.backend_pass.proofs.Releasing.{belongs_touched, numbered_self, same_touched, shown_self}
 use Rattle.backend_pass.proofs.Relocking.{Relocks, beside_lock, held_same, rests_relocked}
-use Rattle.backend_pass.proofs.Seated.{moved, one_view, same_from, view_of_seat}
+use Rattle.backend_pass.proofs.Seated.{moved, same_from}
 use Rattle.backend_pass.proofs.pass.Pass.exclusive.Goals as goal
 
 pub invariant_of-self : goal.invariant_of-self
 invariant_of-self g c =
     let f = c.args.pinned.frame in
     let there = subst (λ (p : PassState). held_at p.tokens f ≡ Some c.requires.pinned.held) (sym c.self.view_is) c.requires.pinned.there in
-    let before = view_of_seat c.self.inside.seat c.replace.result c.into_seat-seat.result.me.0 c.replace.ensures.value c.into_seat-seat.ensures.2 in
-    let k : Relocks f (view_in c.self.inside.seat.views) (view_in c.into_badge.result.views) = moved (Relocks f) _ _ _ _ before (ap view_in c.into_badge.ensures.2) record { touches = c.exclusive.ensures.touches; marks = c.exclusive.ensures.marks; beside = ap beside_lock c.exclusive.ensures.exclusive } in
+    let before = c.take_seat-seat.ensures.view in
+    let k : Relocks f (view_in c.self.inside.seat.views) (view_in c.return_seat.new.badge.views) = moved (Relocks f) _ _ _ _ before c.return_seat.ensures.view record { touches = c.exclusive.ensures.touches; marks = c.exclusive.ensures.marks; beside = ap beside_lock c.exclusive.ensures.exclusive } in
     let i = c.self.invariant in
-    let same = c.into_badge.ensures.1 ∙ c.exclusive.ensures.seat.id ∙ c.into_seat-seat.ensures.1 ∙ ap (λ (b : Badge View). b.id) c.replace.ensures.value in (
-      one_view c.into_badge.result c.exclusive.new.seat.me.0 c.into_badge.ensures.2,
+    let same = sym c.return_seat.ensures.id ∙ c.exclusive.ensures.seat.id ∙ c.take_seat-seat.ensures.id in (
+      c.return_seat.ensures.one,
       rests_relocked f c.requires.pinned.held c.self.inside.held _ _ there k i.1,
-      subst (λ (id : ℕ). IsNumbered c.self.inside.number id (view_in c.into_badge.result.views)) (sym same) (numbered_self c.self.inside.number c.self.inside.seat.id _ _ k.touches.self i.2),
+      subst (λ (id : ℕ). IsNumbered c.self.inside.number id (view_in c.return_seat.new.badge.views)) (sym same) (numbered_self c.self.inside.number c.self.inside.seat.id _ _ k.touches.self i.2),
       shown_self _ _ _ k.touches.self i.3,
       i.4,
     )
@@ -27,17 +25,17 @@ invariant_of-self g c =
 pub returns-clause-belongs : goal.returns-clause-belongs
 returns-clause-belongs g c =
     let f = c.args.pinned.frame in
-    let before = view_of_seat c.self.inside.seat c.replace.result c.into_seat-seat.result.me.0 c.replace.ensures.value c.into_seat-seat.ensures.2 in
-    let k : Relocks f (view_in c.self.inside.seat.views) (view_in c.into_badge.result.views) = moved (Relocks f) _ _ _ _ before (ap view_in c.into_badge.ensures.2) record { touches = c.exclusive.ensures.touches; marks = c.exclusive.ensures.marks; beside = ap beside_lock c.exclusive.ensures.exclusive } in
-    let table = c.into_badge.ensures.0 ∙ c.exclusive.ensures.seat.table ∙ c.into_seat-seat.ensures.0 ∙ ap (λ (b : Badge View). b.table_id) c.replace.ensures.value in
+    let before = c.take_seat-seat.ensures.view in
+    let k : Relocks f (view_in c.self.inside.seat.views) (view_in c.return_seat.new.badge.views) = moved (Relocks f) _ _ _ _ before c.return_seat.ensures.view record { touches = c.exclusive.ensures.touches; marks = c.exclusive.ensures.marks; beside = ap beside_lock c.exclusive.ensures.exclusive } in
+    let table = sym c.return_seat.ensures.table ∙ c.exclusive.ensures.seat.table ∙ c.take_seat-seat.ensures.table in
     belongs_touched {L = g.row.L.Denot} {G = g.row.G.Denot} g.L.BlockLane.contents c.args.manager.now _ _ f table refl k.touches (held_same c.self.inside.held)
     (subst (Belongs {L = g.row.L.Denot} {G = g.row.G.Denot} g.L.BlockLane.contents c.args.manager.now) (sym c.self.view_is) c.requires.belongs)
 
 pub returns-clause-same : goal.returns-clause-same
 returns-clause-same g c =
     let f = c.args.pinned.frame in
-    let before = view_of_seat c.self.inside.seat c.replace.result c.into_seat-seat.result.me.0 c.replace.ensures.value c.into_seat-seat.ensures.2 in
-    let k : Relocks f (view_in c.self.inside.seat.views) (view_in c.into_badge.result.views) = moved (Relocks f) _ _ _ _ before (ap view_in c.into_badge.ensures.2) record { touches = c.exclusive.ensures.touches; marks = c.exclusive.ensures.marks; beside = ap beside_lock c.exclusive.ensures.exclusive } in
-    let table = c.into_badge.ensures.0 ∙ c.exclusive.ensures.seat.table ∙ c.into_seat-seat.ensures.0 ∙ ap (λ (b : Badge View). b.table_id) c.replace.ensures.value in
-    let id = c.into_badge.ensures.1 ∙ c.exclusive.ensures.seat.id ∙ c.into_seat-seat.ensures.1 ∙ ap (λ (b : Badge View). b.id) c.replace.ensures.value in
+    let before = c.take_seat-seat.ensures.view in
+    let k : Relocks f (view_in c.self.inside.seat.views) (view_in c.return_seat.new.badge.views) = moved (Relocks f) _ _ _ _ before c.return_seat.ensures.view record { touches = c.exclusive.ensures.touches; marks = c.exclusive.ensures.marks; beside = ap beside_lock c.exclusive.ensures.exclusive } in
+    let table = sym c.return_seat.ensures.table ∙ c.exclusive.ensures.seat.table ∙ c.take_seat-seat.ensures.table in
+    let id = sym c.return_seat.ensures.id ∙ c.exclusive.ensures.seat.id ∙ c.take_seat-seat.ensures.id in
     same_from _ _ _ c.self.view_is (same_touched _ _ f table id refl k.touches)

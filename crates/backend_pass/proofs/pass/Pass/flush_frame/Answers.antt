@@ -22,13 +22,13 @@ use Rattle.backend_pass.proofs.pass.Pass.flush_frame.Goals as goal
 pub returns-in-Ok-Written-clause-belongs : goal.returns-in-Ok-Written-clause-belongs
 returns-in-Ok-Written-clause-belongs g c =
     let e = c.in-Ok-Written.ensures in
-    belongs_held {L = g.row.L.Denot} {G = g.row.G.Denot} g.L.BlockLane.contents c.args.manager.now _ _ e.table refl (ap (λ (x : View). x.calls) e.works.kept) (ap (λ (x : View). x.front) e.works.kept) e.works.advances.end_seen (λ f h at. (h, at, refl))
+    belongs_held {L = g.row.L.Denot} {G = g.row.G.Denot} g.L.BlockLane.contents c.args.manager.now _ _ e.badge.table refl (ap (λ (x : View). x.calls) e.works.kept) (ap (λ (x : View). x.front) e.works.kept) e.works.advances.end_seen (λ f h at. (h, at, refl))
     (subst (Belongs {L = g.row.L.Denot} {G = g.row.G.Denot} g.L.BlockLane.contents c.args.manager.now) (sym c.self.view_is) c.requires.belongs)
 
 pub returns-in-Ok-Clean-clause-belongs : goal.returns-in-Ok-Clean-clause-belongs
 returns-in-Ok-Clean-clause-belongs g c =
     let e = c.in-Ok-Clean.ensures in
-    belongs_held {L = g.row.L.Denot} {G = g.row.G.Denot} g.L.BlockLane.contents c.args.manager.now _ _ e.table refl (ap (λ (x : View). x.calls) e.works.kept) (ap (λ (x : View). x.front) e.works.kept) e.works.advances.end_seen (λ f h at. (h, at, refl))
+    belongs_held {L = g.row.L.Denot} {G = g.row.G.Denot} g.L.BlockLane.contents c.args.manager.now _ _ e.badge.table refl (ap (λ (x : View). x.calls) e.works.kept) (ap (λ (x : View). x.front) e.works.kept) e.works.advances.end_seen (λ f h at. (h, at, refl))
     (subst (Belongs {L = g.row.L.Denot} {G = g.row.G.Denot} g.L.BlockLane.contents c.args.manager.now) (sym c.self.view_is) c.requires.belongs)
 
 pub returns-in-Ok-Written-clause-locks : goal.returns-in-Ok-Written-clause-locks
@@ -44,7 +44,7 @@ returns-in-Ok-Clean-clause-locks g c =
 pub returns-in-Err-clause-belongs : goal.returns-in-Err-clause-belongs
 returns-in-Err-clause-belongs g c =
     let e = c.in-Err.ensures in
-    belongs_held {L = g.row.L.Denot} {G = g.row.G.Denot} g.L.BlockLane.contents c.args.manager.now _ _ e.table refl (ap (λ (x : View). x.calls) e.works.kept) (ap (λ (x : View). x.front) e.works.kept) e.works.advances.end_seen (λ f h at. (h, at, refl))
+    belongs_held {L = g.row.L.Denot} {G = g.row.G.Denot} g.L.BlockLane.contents c.args.manager.now _ _ e.badge.table refl (ap (λ (x : View). x.calls) e.works.kept) (ap (λ (x : View). x.front) e.works.kept) e.works.advances.end_seen (λ f h at. (h, at, refl))
     (subst (Belongs {L = g.row.L.Denot} {G = g.row.G.Denot} g.L.BlockLane.contents c.args.manager.now) (sym c.self.view_is) c.requires.belongs)
 
 pub returns-in-Err-clause-locks : goal.returns-in-Err-clause-locks
@@ -85,9 +85,9 @@ invariant_of-self-in-Err g c =
     let w = view_in c.flush_seated.new.badge.views in
     let met : w.met ≡ met_flushing {A = Bool} (Err (frame_refusal c.refused-why.result)) v.met = e.met ∙ ap (λ (y : frames.FrameFlushError). met_flushing {A = Bool} (Err y) v.met) (sym c.refused-why.ensures) in
     let shown : padded_value c.new-self-inside.result ≡ shown_unflushed c.refused-why.result (padded_value c.self.inside.shown) = c.new-self-inside.ensures ∙ c.after_flush-shown.ensures ∙ ap (shown_unflushed c.refused-why.result) c.deref.ensures in (
-      e.view,
+      e.badge.one,
       e.rests,
-      subst (λ (id : ℕ). IsNumbered c.self.inside.number id w) (sym e.id) (numbered_kept c.self.inside.number c.self.inside.seat.id v w e.works.kept i.2),
+      subst (λ (id : ℕ). IsNumbered c.self.inside.number id w) (sym e.badge.id) (numbered_kept c.self.inside.number c.self.inside.seat.id v w e.works.kept i.2),
       subst (IsShown w) (sym shown) (shown_not_flushed v w (padded_value c.self.inside.shown) c.refused-why.result (ap (λ (x : View). x.front) e.works.kept) met i.3),
       i.4,
     )
@@ -98,7 +98,7 @@ same_from a p q same s = subst (λ (x : PassState). SamePass x q) same s
 pub returns-in-Err-clause-same : goal.returns-in-Err-clause-same
 returns-in-Err-clause-same g c =
     let e = c.in-Err.ensures in
-    same_from _ _ _ c.self.view_is (same_kept _ _ e.table e.id refl e.works.kept e.works.advances)
+    same_from _ _ _ c.self.view_is (same_kept _ _ e.badge.table e.badge.id refl e.works.kept e.works.advances)
 
 pub returns-in-Err-clause-ended : goal.returns-in-Err-clause-ended
 returns-in-Err-clause-ended g c = subst (λ (p : PassState). EndedInError c.args.pinned.now.frame p.view (view_in c.flush_seated.new.badge.views)) c.self.view_is c.in-Err.ensures.ended
@@ -118,9 +118,9 @@ invariant_of-self g c =
     let e = c.in-Ok-Written.ensures in
     let v = view_in c.self.inside.seat.views in
     let w = view_in c.flush_seated.new.badge.views in (
-      e.view,
+      e.badge.one,
       e.rests,
-      subst (λ (id : ℕ). IsNumbered c.self.inside.number id w) (sym e.id) (numbered_kept c.self.inside.number c.self.inside.seat.id v w e.works.kept i.2),
+      subst (λ (id : ℕ). IsNumbered c.self.inside.number id w) (sym e.badge.id) (numbered_kept c.self.inside.number c.self.inside.seat.id v w e.works.kept i.2),
       shown_met v w (padded_value c.self.inside.shown) (ap (λ (x : View). x.front) e.works.kept) e.met i.3,
       i.4,
     )
@@ -131,9 +131,9 @@ invariant_of-self-in-Ok-Clean g c =
     let e = c.in-Ok-Clean.ensures in
     let v = view_in c.self.inside.seat.views in
     let w = view_in c.flush_seated.new.badge.views in (
-      e.view,
+      e.badge.one,
       e.rests,
-      subst (λ (id : ℕ). IsNumbered c.self.inside.number id w) (sym e.id) (numbered_kept c.self.inside.number c.self.inside.seat.id v w e.works.kept i.2),
+      subst (λ (id : ℕ). IsNumbered c.self.inside.number id w) (sym e.badge.id) (numbered_kept c.self.inside.number c.self.inside.seat.id v w e.works.kept i.2),
       shown_met v w (padded_value c.self.inside.shown) (ap (λ (x : View). x.front) e.works.kept) e.met i.3,
       i.4,
     )
@@ -141,12 +141,12 @@ invariant_of-self-in-Ok-Clean g c =
 pub returns-in-Ok-Written-clause-same : goal.returns-in-Ok-Written-clause-same
 returns-in-Ok-Written-clause-same g c =
     let e = c.in-Ok-Written.ensures in
-    same_from _ _ _ c.self.view_is (same_kept _ _ e.table e.id refl e.works.kept e.works.advances)
+    same_from _ _ _ c.self.view_is (same_kept _ _ e.badge.table e.badge.id refl e.works.kept e.works.advances)
 
 pub returns-in-Ok-Clean-clause-same : goal.returns-in-Ok-Clean-clause-same
 returns-in-Ok-Clean-clause-same g c =
     let e = c.in-Ok-Clean.ensures in
-    same_from _ _ _ c.self.view_is (same_kept _ _ e.table e.id refl e.works.kept e.works.advances)
+    same_from _ _ _ c.self.view_is (same_kept _ _ e.badge.table e.badge.id refl e.works.kept e.works.advances)
 
 pub returns-in-Ok-Written-clause-others : goal.returns-in-Ok-Written-clause-others
 returns-in-Ok-Written-clause-others g c = subst (λ (p : PassState). (h : ℕ) → h ≢ c.args.pinned.now.frame → link (view_in c.flush_seated.new.badge.views) h ≡ link p.view h) c.self.view_is c.in-Ok-Written.ensures.works.others

@@ -1,6 +1,4 @@
-use Rattle.std.proofs.Common.{◌≡◌, ◌≢◌, ◌∙◌, ℕ, Some, refl, sym, ap, subst}
-use Rattle.atomic_table.specs.declared.badge.Badge.{Badge}
-use Rattle.pin_core.specs.declared.view.View.{View}
+use Rattle.std.proofs.Common.{◌≡◌, ◌≢◌, ◌∙◌, ℕ, Some, refl, sym, subst}
 use Rattle.pin_core.specs.State.{link}
 use Rattle.held_pins.specs.Rests.{SameLocks}
 use Rattle.held_pins.specs.Tokens.{IsPinnedFor, held_at}
@@ -10,7 +8,7 @@ use Rattle.backend_pass.specs.Passes.{IsNumbered, PassState, view_in}
 use Rattle.backend_pass.proofs.Releasing.{belongs_touched, numbered_self, same_touched, shown_self}
 use Rattle.backend_pass.proofs.CleanupLocks.{Cleans, cleans_tried, rests_cleaned, rests_tagged}
 use Rattle.backend_pass.proofs.Relocking.{held_same, kept_refused, kept_taken}
-use Rattle.backend_pass.proofs.Seated.{moved, one_view, same_from, view_of_seat}
+use Rattle.backend_pass.proofs.Seated.{moved, same_from}
 use Rattle.backend_pass.proofs.pass.Pass.lock_cleanup.Goals.{in-Ok, in-Err}
 use Rattle.backend_pass.proofs.pass.Pass.lock_cleanup.Goals as goal
 
@@ -18,13 +16,13 @@ pub invariant_of-self : goal.invariant_of-self
 invariant_of-self g c =
     let f = c.args.pinned.frame in
     let there = subst (λ (p : PassState). held_at p.tokens f ≡ Some c.requires.pinned.held) (sym c.self.view_is) c.requires.pinned.there in
-    let before = view_of_seat c.self.inside.seat c.replace.result c.into_seat-seat.result.me.0 c.replace.ensures.value c.into_seat-seat.ensures.2 in
-    let k : Cleans f (view_in c.self.inside.seat.views) (view_in c.into_badge.result.views) = moved (Cleans f) _ _ _ _ before (ap view_in c.into_badge.ensures.2) (cleans_tried f _ _ c.lock-answer.result c.lock-answer.ensures.touches c.lock-answer.ensures.marks c.lock-answer.ensures.locked c.lock-answer.ensures.left) in
+    let before = c.take_seat-seat.ensures.view in
+    let k : Cleans f (view_in c.self.inside.seat.views) (view_in c.return_seat.new.badge.views) = moved (Cleans f) _ _ _ _ before c.return_seat.ensures.view (cleans_tried f _ _ c.lock-answer.result c.lock-answer.ensures.touches c.lock-answer.ensures.marks c.lock-answer.ensures.locked c.lock-answer.ensures.left) in
     let i = c.self.invariant in
-    let same = c.into_badge.ensures.1 ∙ c.lock-answer.ensures.seat.id ∙ c.into_seat-seat.ensures.1 ∙ ap (λ (b : Badge View). b.id) c.replace.ensures.value in (
-      one_view c.into_badge.result c.lock-answer.new.seat.me.0 c.into_badge.ensures.2,
+    let same = sym c.return_seat.ensures.id ∙ c.lock-answer.ensures.seat.id ∙ c.take_seat-seat.ensures.id in (
+      c.return_seat.ensures.one,
       rests_cleaned f c.requires.pinned.held c.self.inside.held _ _ there k i.1,
-      subst (λ (id : ℕ). IsNumbered c.self.inside.number id (view_in c.into_badge.result.views)) (sym same) (numbered_self c.self.inside.number c.self.inside.seat.id _ _ k.touches.self i.2),
+      subst (λ (id : ℕ). IsNumbered c.self.inside.number id (view_in c.return_seat.new.badge.views)) (sym same) (numbered_self c.self.inside.number c.self.inside.seat.id _ _ k.touches.self i.2),
       shown_self _ _ _ k.touches.self i.3,
       i.4,
     )
@@ -32,37 +30,37 @@ invariant_of-self g c =
 pub returns-clause-belongs : goal.returns-clause-belongs
 returns-clause-belongs g c =
     let f = c.args.pinned.frame in
-    let before = view_of_seat c.self.inside.seat c.replace.result c.into_seat-seat.result.me.0 c.replace.ensures.value c.into_seat-seat.ensures.2 in
-    let k : Cleans f (view_in c.self.inside.seat.views) (view_in c.into_badge.result.views) = moved (Cleans f) _ _ _ _ before (ap view_in c.into_badge.ensures.2) (cleans_tried f _ _ c.lock-answer.result c.lock-answer.ensures.touches c.lock-answer.ensures.marks c.lock-answer.ensures.locked c.lock-answer.ensures.left) in
-    let table = c.into_badge.ensures.0 ∙ c.lock-answer.ensures.seat.table ∙ c.into_seat-seat.ensures.0 ∙ ap (λ (b : Badge View). b.table_id) c.replace.ensures.value in
+    let before = c.take_seat-seat.ensures.view in
+    let k : Cleans f (view_in c.self.inside.seat.views) (view_in c.return_seat.new.badge.views) = moved (Cleans f) _ _ _ _ before c.return_seat.ensures.view (cleans_tried f _ _ c.lock-answer.result c.lock-answer.ensures.touches c.lock-answer.ensures.marks c.lock-answer.ensures.locked c.lock-answer.ensures.left) in
+    let table = sym c.return_seat.ensures.table ∙ c.lock-answer.ensures.seat.table ∙ c.take_seat-seat.ensures.table in
     belongs_touched {L = g.row.L.Denot} {G = g.row.G.Denot} g.L.BlockLane.contents c.args.manager.now _ _ f table refl k.touches (held_same c.self.inside.held)
     (subst (Belongs {L = g.row.L.Denot} {G = g.row.G.Denot} g.L.BlockLane.contents c.args.manager.now) (sym c.self.view_is) c.requires.belongs)
 
 pub returns-clause-same : goal.returns-clause-same
 returns-clause-same g c =
     let f = c.args.pinned.frame in
-    let before = view_of_seat c.self.inside.seat c.replace.result c.into_seat-seat.result.me.0 c.replace.ensures.value c.into_seat-seat.ensures.2 in
-    let k : Cleans f (view_in c.self.inside.seat.views) (view_in c.into_badge.result.views) = moved (Cleans f) _ _ _ _ before (ap view_in c.into_badge.ensures.2) (cleans_tried f _ _ c.lock-answer.result c.lock-answer.ensures.touches c.lock-answer.ensures.marks c.lock-answer.ensures.locked c.lock-answer.ensures.left) in
-    let table = c.into_badge.ensures.0 ∙ c.lock-answer.ensures.seat.table ∙ c.into_seat-seat.ensures.0 ∙ ap (λ (b : Badge View). b.table_id) c.replace.ensures.value in
-    let id = c.into_badge.ensures.1 ∙ c.lock-answer.ensures.seat.id ∙ c.into_seat-seat.ensures.1 ∙ ap (λ (b : Badge View). b.id) c.replace.ensures.value in
+    let before = c.take_seat-seat.ensures.view in
+    let k : Cleans f (view_in c.self.inside.seat.views) (view_in c.return_seat.new.badge.views) = moved (Cleans f) _ _ _ _ before c.return_seat.ensures.view (cleans_tried f _ _ c.lock-answer.result c.lock-answer.ensures.touches c.lock-answer.ensures.marks c.lock-answer.ensures.locked c.lock-answer.ensures.left) in
+    let table = sym c.return_seat.ensures.table ∙ c.lock-answer.ensures.seat.table ∙ c.take_seat-seat.ensures.table in
+    let id = sym c.return_seat.ensures.id ∙ c.lock-answer.ensures.seat.id ∙ c.take_seat-seat.ensures.id in
     same_from _ _ _ c.self.view_is (same_touched _ _ f table id refl k.touches)
 
 pub returns-clause-tagged : goal.returns-clause-tagged
 returns-clause-tagged g c =
     let f = c.args.pinned.frame in
     let pinned = subst (λ (p : PassState). IsPinnedFor c.args.pinned.tag f p.tokens) (sym c.self.view_is) c.requires.pinned in
-    let before = view_of_seat c.self.inside.seat c.replace.result c.into_seat-seat.result.me.0 c.replace.ensures.value c.into_seat-seat.ensures.2 in
-    let k : Cleans f (view_in c.self.inside.seat.views) (view_in c.into_badge.result.views) = moved (Cleans f) _ _ _ _ before (ap view_in c.into_badge.ensures.2) (cleans_tried f _ _ c.lock-answer.result c.lock-answer.ensures.touches c.lock-answer.ensures.marks c.lock-answer.ensures.locked c.lock-answer.ensures.left) in
-    rests_tagged c.args.pinned.tag f c.self.inside.held _ pinned (rests_cleaned f pinned.held c.self.inside.held (view_in c.self.inside.seat.views) (view_in c.into_badge.result.views) pinned.there k c.self.invariant.1)
+    let before = c.take_seat-seat.ensures.view in
+    let k : Cleans f (view_in c.self.inside.seat.views) (view_in c.return_seat.new.badge.views) = moved (Cleans f) _ _ _ _ before c.return_seat.ensures.view (cleans_tried f _ _ c.lock-answer.result c.lock-answer.ensures.touches c.lock-answer.ensures.marks c.lock-answer.ensures.locked c.lock-answer.ensures.left) in
+    rests_tagged c.args.pinned.tag f c.self.inside.held _ pinned (rests_cleaned f pinned.held c.self.inside.held (view_in c.self.inside.seat.views) (view_in c.return_seat.new.badge.views) pinned.there k c.self.invariant.1)
 
 pub returns-clause-kept : goal.returns-clause-kept
 returns-clause-kept g c =
     let f = c.args.pinned.frame in
-    let before = view_of_seat c.self.inside.seat c.replace.result c.into_seat-seat.result.me.0 c.replace.ensures.value c.into_seat-seat.ensures.2 in
-    let others = moved (λ v w. (g : ℕ) → g ≢ f → link w g ≡ link v g) (view_in c.self.inside.seat.views) (view_in c.into_badge.result.views) _ _ before (ap view_in c.into_badge.ensures.2) c.lock-answer.ensures.touches.others in
+    let before = c.take_seat-seat.ensures.view in
+    let others = moved (λ v w. (g : ℕ) → g ≢ f → link w g ≡ link v g) (view_in c.self.inside.seat.views) (view_in c.return_seat.new.badge.views) _ _ before c.return_seat.ensures.view c.lock-answer.ensures.touches.others in
     elim c.match-answer.branch [
-      | in-Ok w ↦ kept_taken (SameLocks c.args.self.now.view (view_in c.into_badge.result.views)) c.match-answer.result _ w.result-is
+      | in-Ok w ↦ kept_taken (SameLocks c.args.self.now.view (view_in c.return_seat.new.badge.views)) c.match-answer.result _ w.result-is
       | in-Err w ↦
-          let here = moved (λ v w. (link w f).content ≡ (link v f).content) (view_in c.self.inside.seat.views) (view_in c.into_badge.result.views) _ _ before (ap view_in c.into_badge.ensures.2) w.in-Err.ensures.left.content in
-          kept_refused (SameLocks c.args.self.now.view (view_in c.into_badge.result.views)) c.match-answer.result _ w.result-is (subst (λ (p : PassState). SameLocks p.view (view_in c.into_badge.result.views)) c.self.view_is (same_locks_at f (view_in c.self.inside.seat.views) (view_in c.into_badge.result.views) others here))
+          let here = moved (λ v w. (link w f).content ≡ (link v f).content) (view_in c.self.inside.seat.views) (view_in c.return_seat.new.badge.views) _ _ before c.return_seat.ensures.view w.in-Err.ensures.left.content in
+          kept_refused (SameLocks c.args.self.now.view (view_in c.return_seat.new.badge.views)) c.match-answer.result _ w.result-is (subst (λ (p : PassState). SameLocks p.view (view_in c.return_seat.new.badge.views)) c.self.view_is (same_locks_at f (view_in c.self.inside.seat.views) (view_in c.return_seat.new.badge.views) others here))
     ]

@@ -40,9 +40,9 @@ invariant_of-self g c =
     let e = c.in-Ok.ensures in
     let v = (view_in c.self.inside.seat.views) in
     let w = (view_in c.put_seated.new.badge.views) in (
-      e.view,
+      e.badge.one,
       e.rests,
-      subst (λ (id : ℕ). IsNumbered c.self.inside.number id w) (sym e.id) (numbered_put c.args.exclusive.now.pinned.frame c.self.inside.number c.self.inside.seat.id v w e.puts i.2),
+      subst (λ (id : ℕ). IsNumbered c.self.inside.number id w) (sym e.badge.id) (numbered_put c.args.exclusive.now.pinned.frame c.self.inside.number c.self.inside.seat.id v w e.puts i.2),
       subst (IsShown w) (sym (c.new-self-inside.ensures ∙ ap (λ (s : Shown). record s { front = c.in-Ok.lsn }) c.deref.ensures)) (shown_put v w (padded_value c.self.inside.shown) c.in-Ok.lsn e.answer.front e.met i.3),
       i.4,
     )
@@ -54,9 +54,9 @@ invariant_of-self-in-Err g c =
     let v = (view_in c.self.inside.seat.views) in
     let w = (view_in c.put_seated.new.badge.views) in
     let shown : padded_value c.new-self-inside-in-Err.result ≡ shown_unput c.in-Err.why (padded_value c.self.inside.shown) = c.new-self-inside-in-Err.ensures ∙ c.after_put-shown.ensures ∙ ap (shown_unput c.in-Err.why) c.deref-in-Err.ensures in (
-      e.view,
+      e.badge.one,
       e.rests,
-      subst (λ (id : ℕ). IsNumbered c.self.inside.number id w) (sym e.id) (numbered_put c.args.exclusive.now.pinned.frame c.self.inside.number c.self.inside.seat.id v w e.puts i.2),
+      subst (λ (id : ℕ). IsNumbered c.self.inside.number id w) (sym e.badge.id) (numbered_put c.args.exclusive.now.pinned.frame c.self.inside.number c.self.inside.seat.id v w e.puts i.2),
       subst (IsShown w) (sym shown) (shown_not_put v w (padded_value c.self.inside.shown) c.in-Err.why e.answer.front e.met i.3),
       i.4,
     )
@@ -64,13 +64,13 @@ invariant_of-self-in-Err g c =
 pub returns-in-Ok-clause-belongs : goal.returns-in-Ok-clause-belongs
 returns-in-Ok-clause-belongs g c =
     let e = c.in-Ok.ensures in
-    belongs_put {L = g.row.L.Denot} {G = g.row.G.Denot} g.L.BlockLane.contents c.args.manager.now _ _ e.table refl refl (front_put (base_of c.args.manager.now.table) (relations_of c.args.manager.now.table) c.args.exclusive.now.pinned.frame c.args.exclusive.now.pinned.tag _ (view_in c.self.inside.seat.views) (view_in c.put_seated.new.badge.views) (Ok c.in-Ok.lsn) e.answer) e.puts.advances.end_seen
+    belongs_put {L = g.row.L.Denot} {G = g.row.G.Denot} g.L.BlockLane.contents c.args.manager.now _ _ e.badge.table refl refl (front_put (base_of c.args.manager.now.table) (relations_of c.args.manager.now.table) c.args.exclusive.now.pinned.frame c.args.exclusive.now.pinned.tag _ (view_in c.self.inside.seat.views) (view_in c.put_seated.new.badge.views) (Ok c.in-Ok.lsn) e.answer) e.puts.advances.end_seen
     (subst (Belongs {L = g.row.L.Denot} {G = g.row.G.Denot} g.L.BlockLane.contents c.args.manager.now) (sym c.self.view_is) c.requires.belongs)
 
 pub returns-in-Ok-clause-same : goal.returns-in-Ok-clause-same
 returns-in-Ok-clause-same g c =
     let e = c.in-Ok.ensures in
-    same_from _ _ _ c.self.view_is (same_put c.args.exclusive.now.pinned.frame _ _ e.table e.id refl e.puts)
+    same_from _ _ _ c.self.view_is (same_put c.args.exclusive.now.pinned.frame _ _ e.badge.table e.badge.id refl e.puts)
 
 pub returns-in-Ok-clause-locks : goal.returns-in-Ok-clause-locks
 returns-in-Ok-clause-locks g c =
@@ -91,13 +91,13 @@ returns-in-Ok-clause-complete g c =
 pub returns-in-Err-clause-belongs : goal.returns-in-Err-clause-belongs
 returns-in-Err-clause-belongs g c =
     let e = c.in-Err.ensures in
-    belongs_put {L = g.row.L.Denot} {G = g.row.G.Denot} g.L.BlockLane.contents c.args.manager.now _ _ e.table refl refl (front_put (base_of c.args.manager.now.table) (relations_of c.args.manager.now.table) c.args.exclusive.now.pinned.frame c.args.exclusive.now.pinned.tag _ (view_in c.self.inside.seat.views) (view_in c.put_seated.new.badge.views) (Err c.in-Err.why) e.answer) e.puts.advances.end_seen
+    belongs_put {L = g.row.L.Denot} {G = g.row.G.Denot} g.L.BlockLane.contents c.args.manager.now _ _ e.badge.table refl refl (front_put (base_of c.args.manager.now.table) (relations_of c.args.manager.now.table) c.args.exclusive.now.pinned.frame c.args.exclusive.now.pinned.tag _ (view_in c.self.inside.seat.views) (view_in c.put_seated.new.badge.views) (Err c.in-Err.why) e.answer) e.puts.advances.end_seen
     (subst (Belongs {L = g.row.L.Denot} {G = g.row.G.Denot} g.L.BlockLane.contents c.args.manager.now) (sym c.self.view_is) c.requires.belongs)
 
 pub returns-in-Err-clause-same : goal.returns-in-Err-clause-same
 returns-in-Err-clause-same g c =
     let e = c.in-Err.ensures in
-    same_from _ _ _ c.self.view_is (same_put c.args.exclusive.now.pinned.frame _ _ e.table e.id refl e.puts)
+    same_from _ _ _ c.self.view_is (same_put c.args.exclusive.now.pinned.frame _ _ e.badge.table e.badge.id refl e.puts)
 
 pub returns-in-Err-clause-locks : goal.returns-in-Err-clause-locks
 returns-in-Err-clause-locks g c =

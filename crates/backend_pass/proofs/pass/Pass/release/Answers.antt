@@ -1,5 +1,4 @@
-use Rattle.std.proofs.Common.{◌≡◌, ◌∙◌, ℕ, false, Some, None, refl, sym, ap, subst}
-use Rattle.atomic_table.specs.declared.badge.Badge.{Badge}
+use Rattle.std.proofs.Common.{◌≡◌, ◌∙◌, ℕ, false, Some, None, refl, sym, subst}
 use Rattle.pin_core.specs.declared.view.Content.TheVariants.{Unlocked}
 use Rattle.pin_core.specs.declared.view.View.{View}
 use Rattle.pin_core.specs.State.{link}
@@ -13,7 +12,7 @@ use Rattle.held_pins.proofs.Keeping.{same_locks_at, same_locks_none}
 use Rattle.backend_pass.specs.Managers.{Belongs}
 use Rattle.backend_pass.specs.Passes.{IsNumbered, PassState, view_in}
 use Rattle.backend_pass.proofs.Releasing.{AreHeld, Unpins, belongs_held, belongs_touched, held_last, held_several, may_unpin, numbered_self, rests_fewer, rests_unpinned, same_touched, shown_self, unpins_at}
-use Rattle.backend_pass.proofs.Seated.{one_view, same_from, view_of_seat}
+use Rattle.backend_pass.proofs.Seated.{same_from}
 use Rattle.backend_pass.proofs.pass.Pass.release.Goals as goal
 
 pub invariant_of-self : goal.invariant_of-self
@@ -28,29 +27,29 @@ returns-in_default-clause-belongs g c =
 pub unpin_and_wake-requires-clause-pinned : goal.unpin_and_wake-requires-clause-pinned
 unpin_and_wake-requires-clause-pinned g c =
     let f = c.args.pinned.frame in
-    let before = view_of_seat c.self.inside.seat c.replace.result c.into_seat-seat.result.me.0 c.replace.ensures.value c.into_seat-seat.ensures.2 in
+    let before = c.take_seat-seat.ensures.view in
     let last = c.in-Some.ensures.last in
     let there = subst (λ (p : PassState). held_at p.tokens f ≡ Some c.requires.pinned.held) (sym c.self.view_is) c.requires.pinned.there in
     let one = subst (λ (p : PassState). tokens_of (held_at p.tokens f) ≡ 1) c.self.view_is last.1 in
     let unlocked = subst (λ (p : PassState). (link p.view f).content ≡ Unlocked) (sym c.self.view_is) (c.requires.unlocked one) in
-    subst (λ (h : ℕ). MayUnpin (link c.into_seat-seat.result.me.0 h)) (sym last.0) (subst (λ (v : View). MayUnpin (link v f)) before
+    subst (λ (h : ℕ). MayUnpin (link c.take_seat-seat.result.me.0 h)) (sym last.0) (subst (λ (v : View). MayUnpin (link v f)) before
     (may_unpin (held_at c.self.inside.held f) c.requires.pinned.held (link (view_in c.self.inside.seat.views) f) there unlocked (c.self.invariant.1.links f)))
 
 pub invariant_of-self-2 : goal.invariant_of-self-2
 invariant_of-self-2 g c =
     let f = c.args.pinned.frame in
     let i = c.self.invariant in
-    let before = view_of_seat c.self.inside.seat c.replace.result c.into_seat-seat.result.me.0 c.replace.ensures.value c.into_seat-seat.ensures.2 in
-    let after = ap view_in c.into_badge.ensures.2 in
+    let before = c.take_seat-seat.ensures.view in
+    let after = c.return_seat.ensures.view in
     let last = c.in-Some.ensures.last in
-    let u : Unpins f (view_in c.self.inside.seat.views) (view_in c.into_badge.result.views) = unpins_at f c.in-Some.pin.frame _ _ _ _ last.0 before after record { touches = c.unpin_and_wake.ensures.touches; marks = c.unpin_and_wake.ensures.marks; unpinned = c.unpin_and_wake.ensures.unpinned } in
+    let u : Unpins f (view_in c.self.inside.seat.views) (view_in c.return_seat.new.badge.views) = unpins_at f c.in-Some.pin.frame _ _ _ _ last.0 before after record { touches = c.unpin_and_wake.ensures.touches; marks = c.unpin_and_wake.ensures.marks; unpinned = c.unpin_and_wake.ensures.unpinned } in
     let one = subst (λ (p : PassState). tokens_of (held_at p.tokens f) ≡ 1) c.self.view_is last.1 in
     let unlocked = subst (λ (p : PassState). (link p.view f).content ≡ Unlocked) (sym c.self.view_is) (c.requires.unlocked one) in
     let none = subst (λ (t : Tokens). held_at t f ≡ None) c.take_token.ensures.tokens last.2 in
-    let same = c.into_badge.ensures.1 ∙ c.unpin_and_wake.ensures.seat.id ∙ c.into_seat-seat.ensures.1 ∙ ap (λ (b : Badge View). b.id) c.replace.ensures.value in (
-      one_view c.into_badge.result c.unpin_and_wake.new.seat.me.0 c.into_badge.ensures.2,
-      subst (λ (t : Tokens). OnlyTokens t (view_in c.into_badge.result.views)) (sym c.take_token.ensures.tokens) (rests_unpinned f c.self.inside.held _ _ u unlocked none i.1),
-      subst (λ (id : ℕ). IsNumbered c.self.inside.number id (view_in c.into_badge.result.views)) (sym same) (numbered_self c.self.inside.number c.self.inside.seat.id _ _ u.touches.self i.2),
+    let same = sym c.return_seat.ensures.id ∙ c.unpin_and_wake.ensures.seat.id ∙ c.take_seat-seat.ensures.id in (
+      c.return_seat.ensures.one,
+      subst (λ (t : Tokens). OnlyTokens t (view_in c.return_seat.new.badge.views)) (sym c.take_token.ensures.tokens) (rests_unpinned f c.self.inside.held _ _ u unlocked none i.1),
+      subst (λ (id : ℕ). IsNumbered c.self.inside.number id (view_in c.return_seat.new.badge.views)) (sym same) (numbered_self c.self.inside.number c.self.inside.seat.id _ _ u.touches.self i.2),
       shown_self _ _ _ u.touches.self i.3,
       i.4,
     )
@@ -58,23 +57,23 @@ invariant_of-self-2 g c =
 pub returns-clause-belongs : goal.returns-clause-belongs
 returns-clause-belongs g c =
     let f = c.args.pinned.frame in
-    let before = view_of_seat c.self.inside.seat c.replace.result c.into_seat-seat.result.me.0 c.replace.ensures.value c.into_seat-seat.ensures.2 in
-    let after = ap view_in c.into_badge.ensures.2 in
+    let before = c.take_seat-seat.ensures.view in
+    let after = c.return_seat.ensures.view in
     let last = c.in-Some.ensures.last in
-    let u : Unpins f (view_in c.self.inside.seat.views) (view_in c.into_badge.result.views) = unpins_at f c.in-Some.pin.frame _ _ _ _ last.0 before after record { touches = c.unpin_and_wake.ensures.touches; marks = c.unpin_and_wake.ensures.marks; unpinned = c.unpin_and_wake.ensures.unpinned } in
+    let u : Unpins f (view_in c.self.inside.seat.views) (view_in c.return_seat.new.badge.views) = unpins_at f c.in-Some.pin.frame _ _ _ _ last.0 before after record { touches = c.unpin_and_wake.ensures.touches; marks = c.unpin_and_wake.ensures.marks; unpinned = c.unpin_and_wake.ensures.unpinned } in
     let none = subst (λ (t : Tokens). held_at t f ≡ None) c.take_token.ensures.tokens last.2 in
-    let table = c.into_badge.ensures.0 ∙ c.unpin_and_wake.ensures.seat.table ∙ c.into_seat-seat.ensures.0 ∙ ap (λ (b : Badge View). b.table_id) c.replace.ensures.value in
+    let table = sym c.return_seat.ensures.table ∙ c.unpin_and_wake.ensures.seat.table ∙ c.take_seat-seat.ensures.table in
     belongs_touched {L = g.row.L.Denot} {G = g.row.G.Denot} g.L.BlockLane.contents c.args.manager.now _ _ f table refl u.touches (subst (λ (t : Tokens). AreHeld c.self.inside.held t) (sym c.take_token.ensures.tokens) (held_last f c.self.inside.held none))
     (subst (Belongs {L = g.row.L.Denot} {G = g.row.G.Denot} g.L.BlockLane.contents c.args.manager.now) (sym c.self.view_is) c.requires.belongs)
 
 pub returns-clause-same : goal.returns-clause-same
 returns-clause-same g c =
     let f = c.args.pinned.frame in
-    let before = view_of_seat c.self.inside.seat c.replace.result c.into_seat-seat.result.me.0 c.replace.ensures.value c.into_seat-seat.ensures.2 in
-    let after = ap view_in c.into_badge.ensures.2 in
-    let u : Unpins f (view_in c.self.inside.seat.views) (view_in c.into_badge.result.views) = unpins_at f c.in-Some.pin.frame _ _ _ _ c.in-Some.ensures.last.0 before after record { touches = c.unpin_and_wake.ensures.touches; marks = c.unpin_and_wake.ensures.marks; unpinned = c.unpin_and_wake.ensures.unpinned } in
-    let table = c.into_badge.ensures.0 ∙ c.unpin_and_wake.ensures.seat.table ∙ c.into_seat-seat.ensures.0 ∙ ap (λ (b : Badge View). b.table_id) c.replace.ensures.value in
-    let id = c.into_badge.ensures.1 ∙ c.unpin_and_wake.ensures.seat.id ∙ c.into_seat-seat.ensures.1 ∙ ap (λ (b : Badge View). b.id) c.replace.ensures.value in
+    let before = c.take_seat-seat.ensures.view in
+    let after = c.return_seat.ensures.view in
+    let u : Unpins f (view_in c.self.inside.seat.views) (view_in c.return_seat.new.badge.views) = unpins_at f c.in-Some.pin.frame _ _ _ _ c.in-Some.ensures.last.0 before after record { touches = c.unpin_and_wake.ensures.touches; marks = c.unpin_and_wake.ensures.marks; unpinned = c.unpin_and_wake.ensures.unpinned } in
+    let table = sym c.return_seat.ensures.table ∙ c.unpin_and_wake.ensures.seat.table ∙ c.take_seat-seat.ensures.table in
+    let id = sym c.return_seat.ensures.id ∙ c.unpin_and_wake.ensures.seat.id ∙ c.take_seat-seat.ensures.id in
     same_from _ _ _ c.self.view_is (same_touched _ _ f table id refl u.touches)
 
 pub returns-clause-left : goal.returns-clause-left
@@ -86,17 +85,17 @@ returns-in_default-clause-locks g c = subst (λ (p : PassState). SameLocks p.vie
 pub returns-clause-locks : goal.returns-clause-locks
 returns-clause-locks g c =
     let f = c.args.pinned.frame in
-    let before = view_of_seat c.self.inside.seat c.replace.result c.into_seat-seat.result.me.0 c.replace.ensures.value c.into_seat-seat.ensures.2 in
-    let after = ap view_in c.into_badge.ensures.2 in
-    let u : Unpins f (view_in c.self.inside.seat.views) (view_in c.into_badge.result.views) = unpins_at f c.in-Some.pin.frame _ _ _ _ c.in-Some.ensures.last.0 before after record { touches = c.unpin_and_wake.ensures.touches; marks = c.unpin_and_wake.ensures.marks; unpinned = c.unpin_and_wake.ensures.unpinned } in
-    subst (λ (p : PassState). SameLocks p.view (view_in c.into_badge.result.views)) c.self.view_is (same_locks_at f (view_in c.self.inside.seat.views) (view_in c.into_badge.result.views) u.touches.others u.unpinned.content)
+    let before = c.take_seat-seat.ensures.view in
+    let after = c.return_seat.ensures.view in
+    let u : Unpins f (view_in c.self.inside.seat.views) (view_in c.return_seat.new.badge.views) = unpins_at f c.in-Some.pin.frame _ _ _ _ c.in-Some.ensures.last.0 before after record { touches = c.unpin_and_wake.ensures.touches; marks = c.unpin_and_wake.ensures.marks; unpinned = c.unpin_and_wake.ensures.unpinned } in
+    subst (λ (p : PassState). SameLocks p.view (view_in c.return_seat.new.badge.views)) c.self.view_is (same_locks_at f (view_in c.self.inside.seat.views) (view_in c.return_seat.new.badge.views) u.touches.others u.unpinned.content)
 
 pub unpin_and_wake-requires-clause-headless : goal.unpin_and_wake-requires-clause-headless
 unpin_and_wake-requires-clause-headless g c =
-    let before = view_of_seat c.self.inside.seat c.replace.result c.into_seat-seat.result.me.0 c.replace.ensures.value c.into_seat-seat.ensures.2 in
+    let before = c.take_seat-seat.ensures.view in
     subst HoldsNoHeader before (λ f. (c.self.invariant.1.links f).calm.no_header)
 
 pub unpin_and_wake-requires-clause-settled : goal.unpin_and_wake-requires-clause-settled
 unpin_and_wake-requires-clause-settled g c =
-    let before = view_of_seat c.self.inside.seat c.replace.result c.into_seat-seat.result.me.0 c.replace.ensures.value c.into_seat-seat.ensures.2 in
+    let before = c.take_seat-seat.ensures.view in
     subst (λ (v : View). (link v c.in-Some.pin.frame).pending ≡ false) before (c.self.invariant.1.links c.in-Some.pin.frame).calm.assigned

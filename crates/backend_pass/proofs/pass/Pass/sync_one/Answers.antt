@@ -2,10 +2,9 @@ use Rattle.std.proofs.Common.{◌≡◌, ◌≢◌, ◌∙◌, ℕ, refl, sym, a
 use Rattle.crossbeam_utils.specs.Padded.{padded_value}
 use Rattle.pin_core.specs.declared.view.View.{View}
 use Rattle.pin_core.specs.State.{link}
-use Rattle.held_pins.specs.Rests.{SameLocks}
-use Rattle.held_pins.proofs.Keeping.{same_locks_at, same_locks_linked}
+use Rattle.held_pins.proofs.Keeping.{same_locks_at}
 use Rattle.backend_pass.specs.Managers.{Belongs}
-use Rattle.backend_pass.specs.Passes.{IsNumbered, IsShown, KeepsCallers, PassState, SamePass, view_in}
+use Rattle.backend_pass.specs.Passes.{IsNumbered, IsShown, PassState, view_in}
 use Rattle.backend_pass.proofs.BlockReads.{numbered_kept, same_kept}
 use Rattle.backend_pass.proofs.Releasing.{belongs_held}
 use Rattle.backend_pass.proofs.Seated.{same_from}
@@ -20,66 +19,92 @@ use Rattle.buffer_sync.proofs.Passing.{pins_rest}
 use Rattle.backend_pass.specs.FrameFlushes.{frame_answer}
 use Rattle.backend_pass.specs.PassSyncs.{shown_synced}
 use Rattle.backend_pass.proofs.PassSyncing.{callers_from, callers_kept, pass_alone, shown_sync, sync_complete}
+use Rattle.held_pins.specs.Rests.{HasNoDevice, LinksRest}
+use Rattle.pin_core.specs.declared.view.Content.TheVariants.{Unlocked}
+use Rattle.buffer_sync.specs.Syncs.{SyncsOne}
+use Rattle.backend_pass.proofs.SeatWork.{frame_worked}
 use Rattle.backend_pass.proofs.pass.Pass.sync_one.Goals as goal
 
-pub sync_seated-frames_answer-requires-clause-alone : goal.sync_seated-frames_answer-requires-clause-alone
-sync_seated-frames_answer-requires-clause-alone g c =
+pub sync_one-frames_answer-requires-clause-stands : goal.sync_one-frames_answer-requires-clause-stands
+sync_one-frames_answer-requires-clause-stands g c =
+    record {
+      fits = c.take_seat-seat.ensures.table ∙ ap (λ (p : PassState). p.table) c.self.view_is ∙ c.requires.belongs.table;
+      hand = c.take_seat-seat.ensures.hand;
+      quiet = subst HasNoDevice c.take_seat-seat.ensures.view c.self.invariant.1.quiet;
+    }
+
+pub sync_one-frames_answer-requires-clause-rests : goal.sync_one-frames_answer-requires-clause-rests
+sync_one-frames_answer-requires-clause-rests g c = subst (LinksRest c.self.inside.held) c.take_seat-seat.ensures.view c.self.invariant.1.links
+
+pub sync_one-frames_answer-requires-clause-unlocked : goal.sync_one-frames_answer-requires-clause-unlocked
+sync_one-frames_answer-requires-clause-unlocked g c needed =
+    subst (λ (v : View). (link v c.args.frame).content ≡ Unlocked) c.take_seat-seat.ensures.view (subst (λ (p : PassState). (link p.view c.args.frame).content ≡ Unlocked) (sym c.self.view_is) (c.requires.unlocked needed))
+
+pub sync_one-frames_answer-requires-clause-alone : goal.sync_one-frames_answer-requires-clause-alone
+sync_one-frames_answer-requires-clause-alone g c =
     pass_alone {L = g.row.L.Denot} {G = g.row.G.Denot} g.L.BlockLane.contents c.args.manager.now _ (subst (Belongs {L = g.row.L.Denot} {G = g.row.G.Denot} g.L.BlockLane.contents c.args.manager.now) (sym c.self.view_is) c.requires.belongs)
 
 pub invariant_of-self : goal.invariant_of-self
 invariant_of-self g c =
     let i = c.self.invariant in
-    let e = c.sync_seated-frames_answer.ensures in
+    let e = frame_worked {L = g.row.L.Denot} {G = g.row.G.Denot} c.self.inside.held _ _ _ _ c.take_seat-seat.ensures c.sync_one-frames_answer.ensures.seat c.return_seat.ensures c.self.invariant.1 (λ v w. SyncsOne {L = g.row.L.Denot} {G = g.row.G.Denot} g.L.BlockLane.contents c.args.manager.now.table c.args.only c.args.frame v w c.sync_one-frames_answer.result) c.sync_one-frames_answer.ensures.stands.quiet c.sync_one-frames_answer.ensures.rests c.sync_one-frames_answer.ensures.one.works.partitions c.sync_one-frames_answer.ensures.one in
     let v = (view_in c.self.inside.seat.views) in
-    let w = (view_in c.sync_seated-frames_answer.new.badge.views) in (
-      e.view,
+    let w = (view_in c.return_seat.new.badge.views) in (
+      e.badge.one,
       e.rests,
-      subst (λ (id : ℕ). IsNumbered c.self.inside.number id w) (sym e.id) (numbered_kept c.self.inside.number c.self.inside.seat.id v w e.did.works.kept i.2),
+      subst (λ (id : ℕ). IsNumbered c.self.inside.number id w) (sym e.badge.id) (numbered_kept c.self.inside.number c.self.inside.seat.id v w e.did.works.kept i.2),
       subst (IsShown w) (sym (c.new-self-inside.ensures ∙ c.after_sync-shown.ensures ∙ ap (shown_synced c.told-answer.result) c.deref.ensures)) (shown_sync v w (padded_value c.self.inside.shown) c.told-answer.result (ap (λ (x : View). x.front) e.did.works.kept) (subst (λ (r : Result Synced frames.FrameFlushError). w.met ≡ met_flushing r v.met) (sym c.told-answer.ensures) (e.did.met)) i.3),
       i.4,
     )
 
 pub returns-clause-belongs : goal.returns-clause-belongs
 returns-clause-belongs g c =
-    let e = c.sync_seated-frames_answer.ensures in
-    belongs_held {L = g.row.L.Denot} {G = g.row.G.Denot} g.L.BlockLane.contents c.args.manager.now _ _ e.table refl (ap (λ (x : View). x.calls) e.did.works.kept) (ap (λ (x : View). x.front) e.did.works.kept) (e.did.works.advances.end_seen) (λ f h at. (h, at, refl))
+    let e = frame_worked {L = g.row.L.Denot} {G = g.row.G.Denot} c.self.inside.held _ _ _ _ c.take_seat-seat.ensures c.sync_one-frames_answer.ensures.seat c.return_seat.ensures c.self.invariant.1 (λ v w. SyncsOne {L = g.row.L.Denot} {G = g.row.G.Denot} g.L.BlockLane.contents c.args.manager.now.table c.args.only c.args.frame v w c.sync_one-frames_answer.result) c.sync_one-frames_answer.ensures.stands.quiet c.sync_one-frames_answer.ensures.rests c.sync_one-frames_answer.ensures.one.works.partitions c.sync_one-frames_answer.ensures.one in
+    belongs_held {L = g.row.L.Denot} {G = g.row.G.Denot} g.L.BlockLane.contents c.args.manager.now _ _ e.badge.table refl (ap (λ (x : View). x.calls) e.did.works.kept) (ap (λ (x : View). x.front) e.did.works.kept) (e.did.works.advances.end_seen) (λ f h at. (h, at, refl))
     (subst (Belongs {L = g.row.L.Denot} {G = g.row.G.Denot} g.L.BlockLane.contents c.args.manager.now) (sym c.self.view_is) c.requires.belongs)
 
 pub returns-clause-same : goal.returns-clause-same
 returns-clause-same g c =
-    let e = c.sync_seated-frames_answer.ensures in same_from _ _ _ c.self.view_is (same_kept _ _ e.table e.id refl e.did.works.kept e.did.works.advances)
+    let e = frame_worked {L = g.row.L.Denot} {G = g.row.G.Denot} c.self.inside.held _ _ _ _ c.take_seat-seat.ensures c.sync_one-frames_answer.ensures.seat c.return_seat.ensures c.self.invariant.1 (λ v w. SyncsOne {L = g.row.L.Denot} {G = g.row.G.Denot} g.L.BlockLane.contents c.args.manager.now.table c.args.only c.args.frame v w c.sync_one-frames_answer.result) c.sync_one-frames_answer.ensures.stands.quiet c.sync_one-frames_answer.ensures.rests c.sync_one-frames_answer.ensures.one.works.partitions c.sync_one-frames_answer.ensures.one in same_from _ _ _ c.self.view_is (same_kept _ _ e.badge.table e.badge.id refl e.did.works.kept e.did.works.advances)
 
 pub returns-clause-callers : goal.returns-clause-callers
 returns-clause-callers g c =
-    let e = c.sync_seated-frames_answer.ensures in callers_from _ _ _ c.self.view_is (callers_kept _ _ e.table e.id refl refl e.did.works.kept e.did.works.advances (same_locks_at c.args.frame (view_in c.self.inside.seat.views) (view_in c.sync_seated-frames_answer.new.badge.views) e.did.works.others e.did.lock))
+    let e = frame_worked {L = g.row.L.Denot} {G = g.row.G.Denot} c.self.inside.held _ _ _ _ c.take_seat-seat.ensures c.sync_one-frames_answer.ensures.seat c.return_seat.ensures c.self.invariant.1 (λ v w. SyncsOne {L = g.row.L.Denot} {G = g.row.G.Denot} g.L.BlockLane.contents c.args.manager.now.table c.args.only c.args.frame v w c.sync_one-frames_answer.result) c.sync_one-frames_answer.ensures.stands.quiet c.sync_one-frames_answer.ensures.rests c.sync_one-frames_answer.ensures.one.works.partitions c.sync_one-frames_answer.ensures.one in callers_from _ _ _ c.self.view_is (callers_kept _ _ e.badge.table e.badge.id refl refl e.did.works.kept e.did.works.advances (same_locks_at c.args.frame (view_in c.self.inside.seat.views) (view_in c.return_seat.new.badge.views) e.did.works.others e.did.lock))
 
 pub returns-clause-others : goal.returns-clause-others
 returns-clause-others g c =
-    subst (λ (p : PassState). (h : ℕ) → h ≢ c.args.frame → link (view_in c.sync_seated-frames_answer.new.badge.views) h ≡ link p.view h) c.self.view_is (c.sync_seated-frames_answer.ensures.did.works.others)
+    let e = frame_worked {L = g.row.L.Denot} {G = g.row.G.Denot} c.self.inside.held _ _ _ _ c.take_seat-seat.ensures c.sync_one-frames_answer.ensures.seat c.return_seat.ensures c.self.invariant.1 (λ v w. SyncsOne {L = g.row.L.Denot} {G = g.row.G.Denot} g.L.BlockLane.contents c.args.manager.now.table c.args.only c.args.frame v w c.sync_one-frames_answer.result) c.sync_one-frames_answer.ensures.stands.quiet c.sync_one-frames_answer.ensures.rests c.sync_one-frames_answer.ensures.one.works.partitions c.sync_one-frames_answer.ensures.one in
+    subst (λ (p : PassState). (h : ℕ) → h ≢ c.args.frame → link (view_in c.return_seat.new.badge.views) h ≡ link p.view h) c.self.view_is (e.did.works.others)
 
 pub returns-clause-pins : goal.returns-clause-pins
 returns-clause-pins g c =
-    subst (λ (p : PassState). SamePins p.view (view_in c.sync_seated-frames_answer.new.badge.views)) c.self.view_is (pins_rest c.self.inside.held (view_in c.self.inside.seat.views) (view_in c.sync_seated-frames_answer.new.badge.views) c.self.invariant.1.links c.sync_seated-frames_answer.ensures.rests.links)
+    let e = frame_worked {L = g.row.L.Denot} {G = g.row.G.Denot} c.self.inside.held _ _ _ _ c.take_seat-seat.ensures c.sync_one-frames_answer.ensures.seat c.return_seat.ensures c.self.invariant.1 (λ v w. SyncsOne {L = g.row.L.Denot} {G = g.row.G.Denot} g.L.BlockLane.contents c.args.manager.now.table c.args.only c.args.frame v w c.sync_one-frames_answer.result) c.sync_one-frames_answer.ensures.stands.quiet c.sync_one-frames_answer.ensures.rests c.sync_one-frames_answer.ensures.one.works.partitions c.sync_one-frames_answer.ensures.one in
+    subst (λ (p : PassState). SamePins p.view (view_in c.return_seat.new.badge.views)) c.self.view_is (pins_rest c.self.inside.held (view_in c.self.inside.seat.views) (view_in c.return_seat.new.badge.views) c.self.invariant.1.links e.rests.links)
 
 pub returns-clause-notes : goal.returns-clause-notes
 returns-clause-notes g c =
-    subst (λ (p : PassState). KeepsNotes (link p.view c.args.frame) (link (view_in c.sync_seated-frames_answer.new.badge.views) c.args.frame)) c.self.view_is (c.sync_seated-frames_answer.ensures.did.notes)
+    let e = frame_worked {L = g.row.L.Denot} {G = g.row.G.Denot} c.self.inside.held _ _ _ _ c.take_seat-seat.ensures c.sync_one-frames_answer.ensures.seat c.return_seat.ensures c.self.invariant.1 (λ v w. SyncsOne {L = g.row.L.Denot} {G = g.row.G.Denot} g.L.BlockLane.contents c.args.manager.now.table c.args.only c.args.frame v w c.sync_one-frames_answer.result) c.sync_one-frames_answer.ensures.stands.quiet c.sync_one-frames_answer.ensures.rests c.sync_one-frames_answer.ensures.one.works.partitions c.sync_one-frames_answer.ensures.one in
+    subst (λ (p : PassState). KeepsNotes (link p.view c.args.frame) (link (view_in c.return_seat.new.badge.views) c.args.frame)) c.self.view_is (e.did.notes)
 
 pub returns-clause-syncs : goal.returns-clause-syncs
 returns-clause-syncs g c =
-    subst (λ (r : Result Synced frames.FrameFlushError). SyncsFrame {L = g.row.L.Denot} {G = g.row.G.Denot} g.L.BlockLane.contents c.args.manager.now.table c.args.only c.args.frame c.args.self.now.view (view_in c.sync_seated-frames_answer.new.badge.views) r) (sym c.told-answer.ensures) (subst (λ (p : PassState). SyncsFrame {L = g.row.L.Denot} {G = g.row.G.Denot} g.L.BlockLane.contents c.args.manager.now.table c.args.only c.args.frame p.view (view_in c.sync_seated-frames_answer.new.badge.views) c.sync_seated-frames_answer.result) c.self.view_is (c.sync_seated-frames_answer.ensures.did.syncs))
+    let e = frame_worked {L = g.row.L.Denot} {G = g.row.G.Denot} c.self.inside.held _ _ _ _ c.take_seat-seat.ensures c.sync_one-frames_answer.ensures.seat c.return_seat.ensures c.self.invariant.1 (λ v w. SyncsOne {L = g.row.L.Denot} {G = g.row.G.Denot} g.L.BlockLane.contents c.args.manager.now.table c.args.only c.args.frame v w c.sync_one-frames_answer.result) c.sync_one-frames_answer.ensures.stands.quiet c.sync_one-frames_answer.ensures.rests c.sync_one-frames_answer.ensures.one.works.partitions c.sync_one-frames_answer.ensures.one in
+    subst (λ (r : Result Synced frames.FrameFlushError). SyncsFrame {L = g.row.L.Denot} {G = g.row.G.Denot} g.L.BlockLane.contents c.args.manager.now.table c.args.only c.args.frame c.args.self.now.view (view_in c.return_seat.new.badge.views) r) (sym c.told-answer.ensures) (subst (λ (p : PassState). SyncsFrame {L = g.row.L.Denot} {G = g.row.G.Denot} g.L.BlockLane.contents c.args.manager.now.table c.args.only c.args.frame p.view (view_in c.return_seat.new.badge.views) c.sync_one-frames_answer.result) c.self.view_is (e.did.syncs))
 
 pub returns-clause-met : goal.returns-clause-met
 returns-clause-met g c =
-    subst (λ (r : Result Synced frames.FrameFlushError). (view_in c.sync_seated-frames_answer.new.badge.views).met ≡ met_flushing r c.args.self.now.view.met) (sym c.told-answer.ensures) (subst (λ (p : PassState). (view_in c.sync_seated-frames_answer.new.badge.views).met ≡ met_flushing c.sync_seated-frames_answer.result p.view.met) c.self.view_is (c.sync_seated-frames_answer.ensures.did.met))
+    let e = frame_worked {L = g.row.L.Denot} {G = g.row.G.Denot} c.self.inside.held _ _ _ _ c.take_seat-seat.ensures c.sync_one-frames_answer.ensures.seat c.return_seat.ensures c.self.invariant.1 (λ v w. SyncsOne {L = g.row.L.Denot} {G = g.row.G.Denot} g.L.BlockLane.contents c.args.manager.now.table c.args.only c.args.frame v w c.sync_one-frames_answer.result) c.sync_one-frames_answer.ensures.stands.quiet c.sync_one-frames_answer.ensures.rests c.sync_one-frames_answer.ensures.one.works.partitions c.sync_one-frames_answer.ensures.one in
+    subst (λ (r : Result Synced frames.FrameFlushError). (view_in c.return_seat.new.badge.views).met ≡ met_flushing r c.args.self.now.view.met) (sym c.told-answer.ensures) (subst (λ (p : PassState). (view_in c.return_seat.new.badge.views).met ≡ met_flushing c.sync_one-frames_answer.result p.view.met) c.self.view_is (e.did.met))
 
 pub returns-clause-ended : goal.returns-clause-ended
 returns-clause-ended g c =
-    subst (λ (r : Result Synced frames.FrameFlushError). EndsSync c.args.frame c.args.self.now.view (view_in c.sync_seated-frames_answer.new.badge.views) r) (sym c.told-answer.ensures) (subst (λ (p : PassState). EndsSync c.args.frame p.view (view_in c.sync_seated-frames_answer.new.badge.views) c.sync_seated-frames_answer.result) c.self.view_is (c.sync_seated-frames_answer.ensures.did.ended))
+    let e = frame_worked {L = g.row.L.Denot} {G = g.row.G.Denot} c.self.inside.held _ _ _ _ c.take_seat-seat.ensures c.sync_one-frames_answer.ensures.seat c.return_seat.ensures c.self.invariant.1 (λ v w. SyncsOne {L = g.row.L.Denot} {G = g.row.G.Denot} g.L.BlockLane.contents c.args.manager.now.table c.args.only c.args.frame v w c.sync_one-frames_answer.result) c.sync_one-frames_answer.ensures.stands.quiet c.sync_one-frames_answer.ensures.rests c.sync_one-frames_answer.ensures.one.works.partitions c.sync_one-frames_answer.ensures.one in
+    subst (λ (r : Result Synced frames.FrameFlushError). EndsSync c.args.frame c.args.self.now.view (view_in c.return_seat.new.badge.views) r) (sym c.told-answer.ensures) (subst (λ (p : PassState). EndsSync c.args.frame p.view (view_in c.return_seat.new.badge.views) c.sync_one-frames_answer.result) c.self.view_is (e.did.ended))
 
 pub returns-clause-not_left_to_write : goal.returns-clause-not_left_to_write
 returns-clause-not_left_to_write g c =
-    λ skipped needed. c.sync_seated-frames_answer.ensures.did.not_left_to_write (sym c.told-answer.ensures ∙ ap frame_answer skipped) needed
+    let e = frame_worked {L = g.row.L.Denot} {G = g.row.G.Denot} c.self.inside.held _ _ _ _ c.take_seat-seat.ensures c.sync_one-frames_answer.ensures.seat c.return_seat.ensures c.self.invariant.1 (λ v w. SyncsOne {L = g.row.L.Denot} {G = g.row.G.Denot} g.L.BlockLane.contents c.args.manager.now.table c.args.only c.args.frame v w c.sync_one-frames_answer.result) c.sync_one-frames_answer.ensures.stands.quiet c.sync_one-frames_answer.ensures.rests c.sync_one-frames_answer.ensures.one.works.partitions c.sync_one-frames_answer.ensures.one in
+    λ skipped needed. e.did.not_left_to_write (sym c.told-answer.ensures ∙ ap frame_answer skipped) needed
 
 pub returns-clause-complete : goal.returns-clause-complete
 returns-clause-complete g c =

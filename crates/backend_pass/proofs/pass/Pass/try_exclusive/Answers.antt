@@ -1,7 +1,5 @@
 use Rattle.std.proofs.Common.{◌≡◌, ◌≢◌, ◌∙◌, ℕ, Some, refl, sym, ap, subst}
-use Rattle.atomic_table.specs.declared.badge.Badge.{Badge}
 use Rattle.pin_core.specs.declared.view.Link.{Link}
-use Rattle.pin_core.specs.declared.view.View.{View}
 use Rattle.pin_core.specs.State.{link}
 use Rattle.page_core.specs.Kinds as kinds
 use Rattle.content_locks.specs.Locks.{LocksContent}
@@ -13,7 +11,7 @@ use Rattle.backend_pass.specs.Managers.{Belongs}
 use Rattle.backend_pass.specs.Passes.{IsNumbered, PassState, view_in}
 use Rattle.backend_pass.proofs.Releasing.{belongs_touched, numbered_self, same_touched, shown_self}
 use Rattle.backend_pass.proofs.Relocking.{Relocks, held_same, kept_refused, kept_taken, lock_refused, lock_taken, relocks_tried, rests_relocked}
-use Rattle.backend_pass.proofs.Seated.{moved, one_view, same_from, view_of_seat}
+use Rattle.backend_pass.proofs.Seated.{moved, same_from}
 use Rattle.backend_pass.proofs.pass.Pass.try_exclusive.Goals.{in-Ok, in-Err}
 use Rattle.backend_pass.proofs.pass.Pass.try_exclusive.Goals as goal
 
@@ -21,13 +19,13 @@ pub invariant_of-self : goal.invariant_of-self
 invariant_of-self g c =
     let f = c.args.pinned.frame in
     let there = subst (λ (p : PassState). held_at p.tokens f ≡ Some c.requires.pinned.held) (sym c.self.view_is) c.requires.pinned.there in
-    let before = view_of_seat c.self.inside.seat c.replace.result c.into_seat-seat.result.me.0 c.replace.ensures.value c.into_seat-seat.ensures.2 in
-    let k : Relocks f (view_in c.self.inside.seat.views) (view_in c.into_badge.result.views) = moved (Relocks f) _ _ _ _ before (ap view_in c.into_badge.ensures.2) (relocks_tried exclusive_link f _ _ c.try_exclusive-answer.result (λ l. refl) c.try_exclusive-answer.ensures.touches c.try_exclusive-answer.ensures.marks c.try_exclusive-answer.ensures.exclusive c.try_exclusive-answer.ensures.left) in
+    let before = c.take_seat-seat.ensures.view in
+    let k : Relocks f (view_in c.self.inside.seat.views) (view_in c.return_seat.new.badge.views) = moved (Relocks f) _ _ _ _ before c.return_seat.ensures.view (relocks_tried exclusive_link f _ _ c.try_exclusive-answer.result (λ l. refl) c.try_exclusive-answer.ensures.touches c.try_exclusive-answer.ensures.marks c.try_exclusive-answer.ensures.exclusive c.try_exclusive-answer.ensures.left) in
     let i = c.self.invariant in
-    let same = c.into_badge.ensures.1 ∙ c.try_exclusive-answer.ensures.seat.id ∙ c.into_seat-seat.ensures.1 ∙ ap (λ (b : Badge View). b.id) c.replace.ensures.value in (
-      one_view c.into_badge.result c.try_exclusive-answer.new.seat.me.0 c.into_badge.ensures.2,
+    let same = sym c.return_seat.ensures.id ∙ c.try_exclusive-answer.ensures.seat.id ∙ c.take_seat-seat.ensures.id in (
+      c.return_seat.ensures.one,
       rests_relocked f c.requires.pinned.held c.self.inside.held _ _ there k i.1,
-      subst (λ (id : ℕ). IsNumbered c.self.inside.number id (view_in c.into_badge.result.views)) (sym same) (numbered_self c.self.inside.number c.self.inside.seat.id _ _ k.touches.self i.2),
+      subst (λ (id : ℕ). IsNumbered c.self.inside.number id (view_in c.return_seat.new.badge.views)) (sym same) (numbered_self c.self.inside.number c.self.inside.seat.id _ _ k.touches.self i.2),
       shown_self _ _ _ k.touches.self i.3,
       i.4,
     )
@@ -35,40 +33,40 @@ invariant_of-self g c =
 pub returns-clause-belongs : goal.returns-clause-belongs
 returns-clause-belongs g c =
     let f = c.args.pinned.frame in
-    let before = view_of_seat c.self.inside.seat c.replace.result c.into_seat-seat.result.me.0 c.replace.ensures.value c.into_seat-seat.ensures.2 in
-    let k : Relocks f (view_in c.self.inside.seat.views) (view_in c.into_badge.result.views) = moved (Relocks f) _ _ _ _ before (ap view_in c.into_badge.ensures.2) (relocks_tried exclusive_link f _ _ c.try_exclusive-answer.result (λ l. refl) c.try_exclusive-answer.ensures.touches c.try_exclusive-answer.ensures.marks c.try_exclusive-answer.ensures.exclusive c.try_exclusive-answer.ensures.left) in
-    let table = c.into_badge.ensures.0 ∙ c.try_exclusive-answer.ensures.seat.table ∙ c.into_seat-seat.ensures.0 ∙ ap (λ (b : Badge View). b.table_id) c.replace.ensures.value in
+    let before = c.take_seat-seat.ensures.view in
+    let k : Relocks f (view_in c.self.inside.seat.views) (view_in c.return_seat.new.badge.views) = moved (Relocks f) _ _ _ _ before c.return_seat.ensures.view (relocks_tried exclusive_link f _ _ c.try_exclusive-answer.result (λ l. refl) c.try_exclusive-answer.ensures.touches c.try_exclusive-answer.ensures.marks c.try_exclusive-answer.ensures.exclusive c.try_exclusive-answer.ensures.left) in
+    let table = sym c.return_seat.ensures.table ∙ c.try_exclusive-answer.ensures.seat.table ∙ c.take_seat-seat.ensures.table in
     belongs_touched {L = g.row.L.Denot} {G = g.row.G.Denot} g.L.BlockLane.contents c.args.manager.now _ _ f table refl k.touches (held_same c.self.inside.held)
     (subst (Belongs {L = g.row.L.Denot} {G = g.row.G.Denot} g.L.BlockLane.contents c.args.manager.now) (sym c.self.view_is) c.requires.belongs)
 
 pub returns-clause-same : goal.returns-clause-same
 returns-clause-same g c =
     let f = c.args.pinned.frame in
-    let before = view_of_seat c.self.inside.seat c.replace.result c.into_seat-seat.result.me.0 c.replace.ensures.value c.into_seat-seat.ensures.2 in
-    let k : Relocks f (view_in c.self.inside.seat.views) (view_in c.into_badge.result.views) = moved (Relocks f) _ _ _ _ before (ap view_in c.into_badge.ensures.2) (relocks_tried exclusive_link f _ _ c.try_exclusive-answer.result (λ l. refl) c.try_exclusive-answer.ensures.touches c.try_exclusive-answer.ensures.marks c.try_exclusive-answer.ensures.exclusive c.try_exclusive-answer.ensures.left) in
-    let table = c.into_badge.ensures.0 ∙ c.try_exclusive-answer.ensures.seat.table ∙ c.into_seat-seat.ensures.0 ∙ ap (λ (b : Badge View). b.table_id) c.replace.ensures.value in
-    let id = c.into_badge.ensures.1 ∙ c.try_exclusive-answer.ensures.seat.id ∙ c.into_seat-seat.ensures.1 ∙ ap (λ (b : Badge View). b.id) c.replace.ensures.value in
+    let before = c.take_seat-seat.ensures.view in
+    let k : Relocks f (view_in c.self.inside.seat.views) (view_in c.return_seat.new.badge.views) = moved (Relocks f) _ _ _ _ before c.return_seat.ensures.view (relocks_tried exclusive_link f _ _ c.try_exclusive-answer.result (λ l. refl) c.try_exclusive-answer.ensures.touches c.try_exclusive-answer.ensures.marks c.try_exclusive-answer.ensures.exclusive c.try_exclusive-answer.ensures.left) in
+    let table = sym c.return_seat.ensures.table ∙ c.try_exclusive-answer.ensures.seat.table ∙ c.take_seat-seat.ensures.table in
+    let id = sym c.return_seat.ensures.id ∙ c.try_exclusive-answer.ensures.seat.id ∙ c.take_seat-seat.ensures.id in
     same_from _ _ _ c.self.view_is (same_touched _ _ f table id refl k.touches)
 
 pub returns-clause-kept : goal.returns-clause-kept
 returns-clause-kept g c =
     let f = c.args.pinned.frame in
-    let before = view_of_seat c.self.inside.seat c.replace.result c.into_seat-seat.result.me.0 c.replace.ensures.value c.into_seat-seat.ensures.2 in
-    let others = moved (λ v w. (g : ℕ) → g ≢ f → link w g ≡ link v g) (view_in c.self.inside.seat.views) (view_in c.into_badge.result.views) _ _ before (ap view_in c.into_badge.ensures.2) c.try_exclusive-answer.ensures.touches.others in
+    let before = c.take_seat-seat.ensures.view in
+    let others = moved (λ v w. (g : ℕ) → g ≢ f → link w g ≡ link v g) (view_in c.self.inside.seat.views) (view_in c.return_seat.new.badge.views) _ _ before c.return_seat.ensures.view c.try_exclusive-answer.ensures.touches.others in
     elim c.match-answer.branch [
-      | in-Ok w ↦ kept_taken (SameLocks c.args.self.now.view (view_in c.into_badge.result.views)) c.match-answer.result _ w.result-is
+      | in-Ok w ↦ kept_taken (SameLocks c.args.self.now.view (view_in c.return_seat.new.badge.views)) c.match-answer.result _ w.result-is
       | in-Err w ↦
-          let here = moved (λ v w. (link w f).content ≡ (link v f).content) (view_in c.self.inside.seat.views) (view_in c.into_badge.result.views) _ _ before (ap view_in c.into_badge.ensures.2) (ap (λ (l : Link). l.content) w.in-Err.ensures.left) in
-          kept_refused (SameLocks c.args.self.now.view (view_in c.into_badge.result.views)) c.match-answer.result _ w.result-is (subst (λ (p : PassState). SameLocks p.view (view_in c.into_badge.result.views)) c.self.view_is (same_locks_at f (view_in c.self.inside.seat.views) (view_in c.into_badge.result.views) others here))
+          let here = moved (λ v w. (link w f).content ≡ (link v f).content) (view_in c.self.inside.seat.views) (view_in c.return_seat.new.badge.views) _ _ before c.return_seat.ensures.view (ap (λ (l : Link). l.content) w.in-Err.ensures.left) in
+          kept_refused (SameLocks c.args.self.now.view (view_in c.return_seat.new.badge.views)) c.match-answer.result _ w.result-is (subst (λ (p : PassState). SameLocks p.view (view_in c.return_seat.new.badge.views)) c.self.view_is (same_locks_at f (view_in c.self.inside.seat.views) (view_in c.return_seat.new.badge.views) others here))
     ]
 
 pub returns-clause-did : goal.returns-clause-did
 returns-clause-did g c =
     let f = c.args.pinned.frame in
-    let before = view_of_seat c.self.inside.seat c.replace.result c.into_seat-seat.result.me.0 c.replace.ensures.value c.into_seat-seat.ensures.2 in
+    let before = c.take_seat-seat.ensures.view in
     elim c.match-answer.branch [
       | in-Ok w ↦
-          let did = moved (LocksContent kinds.exclude f) (view_in c.self.inside.seat.views) (view_in c.into_badge.result.views) _ _ before (ap view_in c.into_badge.ensures.2) w.in-Ok.ensures.did in
-          lock_taken (LocksContent kinds.exclude f c.args.self.now.view (view_in c.into_badge.result.views)) c.match-answer.result _ w.result-is (subst (λ (p : PassState). LocksContent kinds.exclude f p.view (view_in c.into_badge.result.views)) c.self.view_is did)
-      | in-Err w ↦ lock_refused (LocksContent kinds.exclude f c.args.self.now.view (view_in c.into_badge.result.views)) c.match-answer.result _ w.result-is
+          let did = moved (LocksContent kinds.exclude f) (view_in c.self.inside.seat.views) (view_in c.return_seat.new.badge.views) _ _ before c.return_seat.ensures.view w.in-Ok.ensures.did in
+          lock_taken (LocksContent kinds.exclude f c.args.self.now.view (view_in c.return_seat.new.badge.views)) c.match-answer.result _ w.result-is (subst (λ (p : PassState). LocksContent kinds.exclude f p.view (view_in c.return_seat.new.badge.views)) c.self.view_is did)
+      | in-Err w ↦ lock_refused (LocksContent kinds.exclude f c.args.self.now.view (view_in c.return_seat.new.badge.views)) c.match-answer.result _ w.result-is
     ]

@@ -1,4 +1,4 @@
-use Rattle.std.proofs.Common.{arith, ◌∙◌, sym, ap, List, length, subst, ℕ, ◌≡◌, ◌+◌}
+use Rattle.std.proofs.Common.{arith, ◌∙◌, sym, ap, List, length, subst, ℕ, ◌≡◌}
 use Rattle.atomic_table.specs.Table.{Me}
 use Rattle.pin_core.specs.declared.view.View.{View}
 use Rattle.table_rule.specs.declared.opening.Opening.{Opening}

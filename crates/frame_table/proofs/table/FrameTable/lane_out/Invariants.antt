@@ -5,7 +5,7 @@ use Rattle.frame_table.proofs.table.FrameTable.lane_out.Given as goal
 -- the table's relations and frames, and the lane and its slot
 abbrev pub ghosts-lane_out_at : goal.ghosts-lane_out_at
 ghosts-lane_out_at g a = record {
-  known = was_known (lane_devices g.L.BlockLane.contents g.L.BlockLane.failed_writes g.L.BlockLane.unsynced g.L.BlockLane.read_faults g.L.BlockLane.write_faults g.L.BlockLane.calls) a.self.now.table.shared.key.lanes.value.items a._lane;
+  known = was_known (lane_devices g.L.BlockLane) a.self.now.table.shared.key.lanes.value.items a._lane;
   relations = a.self.now.table.shared.key.catalog.value;
   lanes = a.self.now.table.shared.key.config.lanes;
   frames = a.self.now.table.shared.key.config.frames;

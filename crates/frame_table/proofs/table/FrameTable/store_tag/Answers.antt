@@ -1,8 +1,11 @@
-use Rattle.std.proofs.Common.{None, Some, Option, subst, sym, ◌≡◌}
+use Rattle.std.proofs.Common.{ℕ, None, Some, Option, subst, sym, ◌≡◌}
 use Rattle.block_tag.specs.declared.tag.Tag.{Tag}
-use Rattle.frame_table.specs.Seats.{CanStoreAs, NamesStored, partitions_stored}
+use Rattle.block_tag.specs.Names.{packed_tag}
+use Rattle.pin_core.specs.declared.view.MapChange.TheVariants.{Entering}
+use Rattle.frame_table.specs.Seats.{CanStoreAs, MayStoreTag, NamesIn, NamesStored, partitions_stored}
 use Rattle.frame_table.specs.FrameSteps.{Did, storing}
-use Rattle.frame_table.proofs.Holding.{stored_partitions, names_erased}
+use Rattle.frame_table.proofs.Holding.{stored_partitions, names_entered, names_erased}
+use Rattle.frame_table.proofs.TagLoads.{packed_partition}
 use Rattle.frame_table.proofs.Marks.{did_marks}
 use Rattle.frame_table.proofs.table.FrameTable.store_tag.Goals as goal
 
@@ -24,3 +27,10 @@ returns-in-Some-clause-marks g c = did_marks (storing (Some c.in-Some.tag)) tt _
 
 pub returns-in-None-clause-marks : goal.returns-in-None-clause-marks
 returns-in-None-clause-marks g c = did_marks (storing None) tt _ _ _ _ c.store_none.ensures.did.1
+
+pub returns-in-Some-clause-names : goal.returns-in-Some-clause-names
+returns-in-Some-clause-names g c = let tag = c.in-Some.tag in let v = c.args.seat.now.me.0 in let w = c.store_packed.new.seat.me.0 in let may : MayStoreTag c.args.self.now.table.shared.key.catalog.value tag v c.args.frame = subst (λ (t : Option Tag). CanStoreAs c.args.self.now.table.shared.key.catalog.value t v c.args.frame) c.in-Some.is c.requires.tag in
+    subst (λ (t : Option Tag). NamesStored t c.args.frame v w) (sym c.in-Some.is) (subst (λ (p : ℕ). NamesIn p (Entering (packed_tag tag) c.args.frame) v w) (packed_partition tag may.named) (names_entered tag _ _ _ _ c.store_packed.ensures.did.1 (stored_partitions c.args.self.now.table.shared.key.catalog.value (Some tag) _ _ _ _ c.store_packed.ensures.did.1 may)))
+
+pub returns-in-None-clause-did : goal.returns-in-None-clause-did
+returns-in-None-clause-did g c = let d = c.store_none.ensures.did in (d.0, subst (λ (t : Option Tag). Did (storing t) c.args.frame c.args.seat.now.me.0 c.store_none.new.seat.me.0 d.0) (sym c.in-None.is) d.1)

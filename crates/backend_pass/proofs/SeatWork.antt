@@ -1,0 +1,125 @@
+-- What a call does of the background writer or of a checkpoint, and that the pass rests after it.
+use Rattle.std.proofs.Common.{◌≡◌, ℕ, ◌<◌, ◌≤◌, true, false, length, Option, Result, ap, sym, subst}
+use Rattle.std.specs.Prelude.{IfErr, IfNone, IfOk, IfSome, MatchResult}
+use Rattle.std.specs.Result.{is_ok}
+use Rattle.atomic_table.specs.declared.badge.Badge.{Badge}
+use Rattle.atomic_table.specs.declared.shared.Seat.{Seat}
+use Rattle.block_tag.specs.declared.tag.Tag.{Tag}
+use Rattle.block_tag.specs.Names.{names_block}
+use Rattle.log_device.specs.declared.device.Failed.{Failed}
+use Rattle.pin_core.specs.declared.view.View.{View}
+use Rattle.pin_core.specs.State.{lane_hold, link}
+use Rattle.page_core.specs.Kinds.{need_checkpoint}
+use Rattle.history_core.specs.Lanes.{swept_by}
+use Rattle.history_core.specs.Steps.{unmarked}
+use Rattle.table_rule.specs.declared.value.Value.{Value}
+use Rattle.frame_table.specs.FrameSteps.{Did}
+use Rattle.frame_table.specs.Kinds.{pages}
+use Rattle.frame_table.specs.Latches.{work_of}
+use Rattle.frame_table.specs.Seats.{OnlyRises, SameMarks, SameSeat, Touches}
+use Rattle.frame_table.specs.WordSteps.{DidWord, begin_checkpoint, load_hand, view_of}
+use Rattle.wal_flush.specs.declared.flushes.FlushLog.{FlushLog}
+use Rattle.wal_flush.specs.declared.flushes.FlushedBy.{FlushedBy}
+use Rattle.wal_flush.specs.Flushes.{FlushRefused, FlushSeesEnd, Flushed, as_looked, flushed_view, unflushed_view}
+use Rattle.wal_flush.specs.Latched.{KeepsWork}
+use Rattle.held_pins.specs.Rests.{HasNoDevice, HasNoLatch, LinkRests, LinksRest, OnlyTokens}
+use Rattle.held_pins.specs.Tokens.{Tokens, held_at}
+use Rattle.held_pins.proofs.Keeping.{devices_same, latches_same, links_same}
+use Rattle.buffer_frames.specs.Working.{Within}
+use Rattle.buffer_sync.specs.Syncs.{LeavesLane, NotesBlock, SeesNotDirty, synced_work}
+use Rattle.backend_pass.specs.Passes.{view_in}
+use Rattle.backend_pass.specs.Seats.{HasSeat}
+use Rattle.backend_pass.proofs.Seated.{Worked, worked}
+
+-- The clock's hand was loaded
+pub record LoadsHand (v w : View) (hand : ℕ) : Type 0 where
+  pub view : w ≡ view_of load_hand hand v
+  pub did : DidWord load_hand v w hand
+
+-- A checkpoint began where the log ended at `upto`
+pub record BeginsCheckpoint (v w : View) (upto : ℕ) : Type 0 where
+  pub view : w ≡ view_of begin_checkpoint upto v
+  pub unmarked : (f : ℕ) → link w f ≡ unmarked (link v f)
+  pub seen : (v.end_seen ≤ upto) × (upto ≤ w.end_seen)
+  pub did : DidWord begin_checkpoint v w upto
+
+-- The checkpoint of the view visited the frame f, which was noted for it where it was dirty
+pub record NeedsOne (f : ℕ) (v w : View) (r : Option Tag) : Type 0 where
+  pub touches : Touches f v w
+  pub marks : SameMarks v w
+  pub lock : (link w f).content ≡ (link v f).content
+  pub visited : (link w f).visited ≡ true
+  pub clean : IfNone r (SeesNotDirty f v w)
+  pub not_left_to_write : IfNone r ((link v f).left_to_write ≡ false → (link w f).left_to_write ≡ false)
+  pub needed : IfSome r (λ _. Within (λ a b. (word : ℕ) × Did (pages need_checkpoint) f a b word) v w)
+  pub noted : IfSome r (λ tag. NotesBlock f tag v w)
+  pub named : IfSome r (λ tag. names_block tag ≡ true)
+
+-- The log was flushed up to `lsn`, or this is why not
+pub record FlushesLog (lsn : ℕ) (v w : View) (r : Result Unit FlushLog) : Type 0 where
+  pub work : KeepsWork v w
+  pub rises : OnlyRises v w
+  pub flushed : MatchResult r (λ _. lsn ≤ w.flushed) (λ _. w.flushed < lsn)
+  pub view : IfOk r (λ _. (by : FlushedBy) × (w ≡ as_looked (flushed_view by v) w))
+  pub left : IfErr r (λ why. w ≡ as_looked (unflushed_view why v) w)
+  pub did : IfOk r (λ _. Flushed lsn v w)
+  pub seen : IfErr r (λ why. FlushSeesEnd why v w)
+  pub cause : IfErr r (FlushRefused lsn v w)
+
+-- The lane was synced, one of so many, of a pool of so many frames
+pub record SyncsLane (frames lanes lane : ℕ) (v w : View) (r : Result Unit Failed) : Type 0 where
+  pub rises : OnlyRises v w
+  pub view : work_of w ≡ synced_work lane (is_ok r) v
+  pub swept : IfOk r (λ _. swept_by v ≤ (lane_hold w lane).swept)
+  pub wide : length v.links ≡ frames
+  pub left : LeavesLane lanes lane w
+
+-- a checkpoint that begins leaves the frames at rest
+pub rests_unmarked : (t : Tokens) (v w : View) → ((f : ℕ) → link w f ≡ unmarked (link v f)) → LinksRest t v → LinksRest t w
+rests_unmarked t v w e rests f = let r = rests f in let c = r.calm in subst (LinkRests (held_at t f)) (sym (e f)) record {
+  calm = record { no_header = c.no_header; assigned = c.assigned; no_copy = c.no_copy; applied = c.applied; no_io = c.no_io; page_home = c.page_home; no_wait = c.no_wait };
+  role = r.role;
+  tag = r.tag;
+  seen = r.seen;
+  unlocked = r.unlocked;
+}
+
+module _ {L G : Type 0} (held : Tokens) (b d : Badge View) (s t : Seat (Value L G) View) (taken : HasSeat b s) (same : SameSeat s t) (back : HasSeat d t) (rests : OnlyTokens held (view_in b.views)) where
+  -- the pass rested as it took the seat
+  rested : OnlyTokens held s.me.0
+  rested = subst (OnlyTokens held) taken.view rests
+
+  latched : t.me.0.partitions ≡ s.me.0.partitions → HasNoLatch t.me.0
+  latched e = latches_same s.me.0 t.me.0 e rested.latches
+
+  pub hand_loaded : (hand : ℕ) → LoadsHand s.me.0 t.me.0 hand → Worked (λ v w. LoadsHand v w hand) held b d
+  hand_loaded hand e = worked b d s t taken same back (λ v w. LoadsHand v w hand) held record {
+    quiet = devices_same s.me.0 t.me.0 (ap (λ (x : View). x.emptied) e.view) (ap (λ (x : View). x.lanes) e.view) (ap (λ (x : View). x.log) e.view) rested.quiet;
+    links = links_same held s.me.0 t.me.0 (ap (λ (x : View). x.links) e.view) rested.links;
+    latches = latched (ap (λ (x : View). x.partitions) e.view);
+  } e
+
+  pub checkpoint_begun : (upto : ℕ) → BeginsCheckpoint s.me.0 t.me.0 upto → Worked (λ v w. BeginsCheckpoint v w upto) held b d
+  checkpoint_begun upto e = worked b d s t taken same back (λ v w. BeginsCheckpoint v w upto) held record {
+    quiet = devices_same s.me.0 t.me.0 (ap (λ (x : View). x.emptied) e.view) (ap (λ (x : View). x.lanes) e.view) (ap (λ (x : View). x.log) e.view) rested.quiet;
+    links = rests_unmarked held s.me.0 t.me.0 e.unmarked rested.links;
+    latches = latched (ap (λ (x : View). x.partitions) e.view);
+  } e
+
+  pub log_flushed : (lsn : ℕ) (r : Result Unit FlushLog) → FlushesLog lsn s.me.0 t.me.0 r → Worked (λ v w. FlushesLog lsn v w r) held b d
+  log_flushed lsn r e = worked b d s t taken same back (λ v w. FlushesLog lsn v w r) held record {
+    quiet = devices_same s.me.0 t.me.0 (ap (λ (x : View). x.emptied) e.work) (ap (λ (x : View). x.lanes) e.work) (ap (λ (x : View). x.log) e.work) rested.quiet;
+    links = links_same held s.me.0 t.me.0 (ap (λ (x : View). x.links) e.work) rested.links;
+    latches = latched (ap (λ (x : View). x.partitions) e.work);
+  } e
+
+  pub lane_synced : (frames lanes lane : ℕ) (r : Result Unit Failed) → HasNoDevice t.me.0 → t.me.0.partitions ≡ s.me.0.partitions → SyncsLane frames lanes lane s.me.0 t.me.0 r → Worked (λ v w. SyncsLane frames lanes lane v w r) held b d
+  lane_synced frames lanes lane r quiet partitions e = worked b d s t taken same back (λ v w. SyncsLane frames lanes lane v w r) held record {
+    quiet = quiet;
+    links = links_same held s.me.0 t.me.0 (ap (λ (x : View). x.links) e.view) rested.links;
+    latches = latched partitions;
+  } e
+
+  -- a call at one frame, which has the devices and links at rest
+  pub frame_worked : (D : View → View → Type 0) → HasNoDevice t.me.0 → LinksRest held t.me.0 → t.me.0.partitions ≡ s.me.0.partitions → D s.me.0 t.me.0 → Worked D held b d
+  frame_worked D quiet links partitions e = worked b d s t taken same back D held record { quiet = quiet; links = links; latches = latched partitions } e
